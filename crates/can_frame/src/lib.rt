@@ -1,0 +1,21 @@
+//! What travels on a CAN bus and where: identifiers, frames, error message frames, moments, and the
+//! interfaces of a bus with their names.
+//!
+//! A type here has private parts and one constructor for each way to make it, so a value that exists
+//! is within its limits. Contracts see a frame as an identifier with a payload, a moment and an
+//! interface as a number.
+#![tactic(auto)]
+
+pub mod error_frames;
+pub mod frames;
+pub mod identifiers;
+pub mod ifaces;
+pub mod items;
+pub mod moments;
+
+pub use error_frames::{ClassTooLarge, ErrorFrame};
+pub use frames::{Frame, TooLong};
+pub use identifiers::{CanId, IdTooLarge};
+pub use ifaces::{Iface, IfaceSet};
+pub use items::Item;
+pub use moments::{Moment, MomentTooLarge};

@@ -1,0 +1,4 @@
+//! canbusd: simulated CAN buses in user space.
+#![tactic(auto)]
+
+fn main() {}
