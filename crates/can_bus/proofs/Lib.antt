@@ -1,0 +1,17 @@
+pub mod Lists
+pub mod Opened
+pub mod Quiet
+pub mod Rising
+pub mod Lawful
+pub mod Reading
+pub mod LineFacts
+pub mod Keeping
+pub mod Sending
+pub mod Bounds
+pub mod Starting
+pub mod Running
+pub mod Closing
+pub mod Opening
+pub mod Attempting
+pub mod Receiving
+pub mod Ordered

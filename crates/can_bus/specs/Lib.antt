@@ -1,0 +1,15 @@
+pub mod Journal
+pub mod Sockets
+pub mod Transmit
+pub mod Attempts
+pub mod Posts
+pub mod Queues
+pub mod Legal
+pub mod Copies
+pub mod State
+pub mod Changes
+pub mod Answer
+pub mod Run
+pub use Rattle.can_frame.specs.Frames
+pub use Rattle.can_frame.specs.Sets
+pub use Rattle.can_filter.specs.Passing

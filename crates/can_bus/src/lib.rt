@@ -1,1 +1,29 @@
+//! A simulated CAN bus: interfaces with transmit queues, sockets with receive queues, and the record of
+//! all that was done.
+//!
+//! Each call is one event. Its reply is fixed by the events before it: `specs/Legal.antt` says which
+//! reply that is, by filtering and counting the one list of entries, and each call is proved to give it.
+//! `run` carries that over every list of events.
 #![tactic(auto)]
+
+pub mod buses;
+pub mod events;
+pub mod laws;
+
+mod line;
+mod lines;
+pub mod records;
+mod replies;
+pub mod runs;
+mod socket;
+mod sockets;
+
+pub use buses::{Bus, BusFault};
+pub use events::{
+    BusConfig, Class, Closed, Entry, Event, Pending, Received, Refusal, Reply, SocketId, Tried,
+};
+pub use records::Record;
+pub use runs::{RunFault, run};
+
+#[cfg(test)]
+mod tests;

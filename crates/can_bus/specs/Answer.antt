@@ -1,0 +1,52 @@
+use Rattle.std.specs.Prelude.{◌≡◌, ℕ, ◌+◌, ◌<◌, ◌≤◌, List, [], ◌∷◌, length, Option, Some, None, Result, Ok, Err}
+use Rattle.can_bus.specs.declared.events.Event.{Event}
+use Rattle.can_bus.specs.declared.events.Event.TheVariants.{Open}
+use Rattle.can_bus.specs.declared.events.Reply.{Reply}
+use Rattle.can_bus.specs.declared.events.Reply.TheVariants as reply
+use Rattle.can_bus.specs.declared.events.Refusal.{Refusal}
+use Rattle.can_bus.specs.declared.events.Refusal.TheVariants as refusal
+use Rattle.can_bus.specs.declared.events.Entry.{Entry}
+use Rattle.can_bus.specs.declared.events.BusConfig.{BusConfig}
+use Rattle.can_bus.specs.declared.events.SocketId.{SocketId}
+use Rattle.can_bus.specs.declared.events.Received.{Received}
+use Rattle.can_bus.specs.declared.events.Closed.{Closed}
+use Rattle.can_bus.specs.declared.events.Tried.{Tried}
+use Rattle.can_bus.specs.Journal.{Journal}
+use Rattle.can_bus.specs.Legal.{legal_reply}
+
+-- a call that is answered from the history, and noted there
+pub record Noted (old : Journal) (event : Event) (r : Reply) (new : Journal) : Type 0 where
+  pub room : length old.history < old.config.limit
+  pub lawful : r ≡ legal_reply old.config old.history event
+  pub new_is : new ≡ record old { history = record { event = event; reply = r } ∷ old.history }
+
+-- only these calls take memory, and only where nothing else refuses them
+abbrev pub TakesMemory : Event → Reply → Type 0
+TakesMemory (Open i capacity) (reply.Opened s) = Unit {0}
+TakesMemory _ _ = ⊥
+
+-- what a call answers, and what it leaves
+abbrev pub Refuses : Journal → Event → Refusal → Journal → Type 0
+Refuses old event refusal.RecordFull new = (old.config.limit ≤ length old.history) × (new ≡ old)
+Refuses old event refusal.NoMemory new = (length old.history < old.config.limit) × TakesMemory event (legal_reply old.config old.history event) × (new ≡ old)
+Refuses old event why new = Noted old event (reply.Refused why) new
+
+abbrev pub Answers : {A : Type 0} → (A → Reply) → Journal → Event → Result A Refusal → Journal → Type 0
+Answers told old event (Ok a) new = Noted old event (told a) new
+Answers told old event (Err why) new = Refuses old event why new
+
+abbrev pub told_attempt : Option Tried → Reply
+told_attempt None = reply.Idle
+told_attempt (Some t) = reply.Tried t
+
+abbrev pub told : {A : Type 0} → (A → Reply) → Result A Refusal → Reply
+told f (Ok a) = f a
+told f (Err why) = reply.Refused why
+
+abbrev pub counted : Option Tried → ℕ → ℕ
+counted None n = n
+counted (Some t) n = n + 1
+
+abbrev pub numbered : Result SocketId Refusal → ℕ → ℕ
+numbered (Ok s) n = n + 1
+numbered (Err why) n = n

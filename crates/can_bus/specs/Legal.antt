@@ -1,0 +1,31 @@
+use Rattle.std.specs.Prelude.{◌≡◌, ℕ, ◌-◌, ◌==◌, ◌<◌, nat_le, not, ◌&&◌, List, [], ◌∷◌, length, slice_get, if◌then◌else◌}
+use Rattle.can_bus.specs.declared.events.BusConfig.{BusConfig}
+use Rattle.can_bus.specs.declared.events.Entry.{Entry}
+use Rattle.can_bus.specs.declared.events.Event.{Event}
+use Rattle.can_bus.specs.declared.events.Event.TheVariants.{Open, Close, Send, Receive, Attempt}
+use Rattle.can_bus.specs.declared.events.Reply.{Reply}
+use Rattle.can_bus.specs.declared.events.Reply.TheVariants as reply
+use Rattle.can_bus.specs.declared.events.Refusal.TheVariants as refusal
+use Rattle.can_bus.specs.Sockets.{places, open_sockets, is_open, iface_of}
+use Rattle.can_bus.specs.Transmit.{sent_by, gone_count}
+use Rattle.can_bus.specs.Attempts.{winner, attempt_reply}
+use Rattle.can_bus.specs.Queues.{taken_from, queued_to, dropped_at}
+
+-- The one reply that an event has, by the entries before it.
+
+-- a call on a socket that is not open is refused
+abbrev pub if_open : List Entry → ℕ → Reply → Reply
+if_open past s r = if is_open past s then r else reply.Refused refusal.NoSocket
+
+-- the reply of an event after these entries
+abbrev pub legal_reply : BusConfig → List Entry → Event → Reply
+legal_reply c past (Open i capacity) = if nat_le c.ifaces i then reply.Refused refusal.NoInterface else if not (nat_le 1 capacity && nat_le capacity 65536) then reply.Refused refusal.BadCapacity else if nat_le 64 (length (open_sockets past)) then reply.Refused refusal.TooManySockets else reply.Opened (record { 0 = length (places past) })
+legal_reply c past (Close s) = if_open past s.0 (reply.Closed (record { unread = length (queued_to c past s.0) - length (taken_from past s.0); dropped = length (dropped_at c past s.0) }))
+legal_reply c past (Send s frame) = let i = iface_of past s.0 in if_open past s.0 (if length (sent_by past i) - gone_count past i == c.tx_capacity then reply.Refused refusal.NoBuffers else reply.Sent (length (sent_by past i)))
+legal_reply c past (Receive s) = if_open past s.0 (reply.Received (slice_get (queued_to c past s.0) (length (taken_from past s.0))))
+legal_reply c past (Attempt m) = attempt_reply c past m (winner c past)
+
+-- a legal history: no more entries than the limit, and each reply is the one that the entries before it give
+abbrev pub IsLegal : BusConfig → List Entry → Type 0
+IsLegal c [] = Unit {0}
+IsLegal c (e ∷ past) = (length past < c.limit) × (e.reply ≡ legal_reply c past e.event) × IsLegal c past

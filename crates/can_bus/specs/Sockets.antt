@@ -1,0 +1,65 @@
+use Rattle.std.specs.Prelude.{ℕ, ◌==◌, Bool, not, List, [], ◌∷◌, ◌++◌, length, filter, slice_get, Option, Some, None}
+use Rattle.std.specs.List.{list_any}
+use Rattle.can_filter.specs.declared.filters.Filter.{Filter}
+use Rattle.can_filter.specs.declared.filters.Options.{Options}
+use Rattle.can_filter.specs.Passing.{receives_all, default_options}
+use Rattle.can_bus.specs.declared.events.Event.{Event}
+use Rattle.can_bus.specs.declared.events.Event.TheVariants.{Open, Close}
+use Rattle.can_bus.specs.declared.events.Reply.{Reply}
+use Rattle.can_bus.specs.declared.events.Reply.TheVariants as reply
+use Rattle.can_bus.specs.declared.events.Entry.{Entry}
+
+-- The sockets of a bus, by its history. A history is the list of a bus's entries so far, the newest
+-- first: before an entry stands what came before it.
+
+-- where a socket was opened, and how many items may wait there
+pub record Place : Type 0 where
+  pub iface : ℕ
+  pub capacity : ℕ
+
+abbrev pub places_after : Event → Reply → List Place → List Place
+places_after (Open i capacity) (reply.Opened s) before = before ++ record { iface = i; capacity = capacity } ∷ []
+places_after _ _ before = before
+
+-- the sockets opened so far, the first one first: a socket's number is its place, never used again (own choice)
+abbrev pub places : List Entry → List Place
+places [] = []
+places (e ∷ past) = places_after e.event e.reply (places past)
+
+abbrev pub open_after : ℕ → Event → Reply → List ℕ → List ℕ
+open_after n (Open i capacity) (reply.Opened s) before = before ++ n ∷ []
+open_after n (Close s) (reply.Closed c) before = filter (λ k. not (k == s.0)) before
+open_after n _ _ before = before
+
+-- the numbers of the sockets that were opened and not closed, rising
+abbrev pub open_sockets : List Entry → List ℕ
+open_sockets [] = []
+open_sockets (e ∷ past) = open_after (length (places past)) e.event e.reply (open_sockets past)
+
+-- socket s was opened and not closed
+abbrev pub is_open : List Entry → ℕ → Bool
+is_open past s = list_any (λ k. k == s) (open_sockets past)
+
+abbrev pub iface_in : Option Place → ℕ
+iface_in None = 0
+iface_in (Some p) = p.iface
+
+abbrev pub capacity_in : Option Place → ℕ
+capacity_in None = 0
+capacity_in (Some p) = p.capacity
+
+-- the interface that socket s was opened on
+abbrev pub iface_of : List Entry → ℕ → ℕ
+iface_of past s = iface_in (slice_get (places past) s)
+
+-- how many items may wait on socket s
+abbrev pub capacity_of : List Entry → ℕ → ℕ
+capacity_of past s = capacity_in (slice_get (places past) s)
+
+-- the options of socket s as last set; as at its open, since no event sets them (linux/can/raw.h)
+abbrev pub options_of : List Entry → ℕ → Options
+options_of past s = default_options
+
+-- the filters of socket s as last set; as at its open, since no event sets them (linux/can/raw.h)
+abbrev pub filters_of : List Entry → ℕ → List Filter
+filters_of past s = receives_all

@@ -1,0 +1,51 @@
+use Rattle.std.specs.Prelude.{ℕ, ◌+◌, ◌==◌, Bool, true, false, ◌&&◌, List, [], ◌∷◌, ◌++◌, length, slice_get, Option, if◌then◌else◌}
+use Rattle.can_frame.specs.Sets.{is_in}
+use Rattle.can_bus.specs.declared.events.Event.{Event}
+use Rattle.can_bus.specs.declared.events.Event.TheVariants.{Send}
+use Rattle.can_bus.specs.declared.events.Reply.{Reply}
+use Rattle.can_bus.specs.declared.events.Reply.TheVariants as reply
+use Rattle.can_bus.specs.declared.events.Entry.{Entry}
+use Rattle.can_bus.specs.declared.events.Tried.{Tried}
+use Rattle.can_bus.specs.declared.events.Pending.{Pending}
+use Rattle.can_bus.specs.declared.events.Class.{Class}
+use Rattle.can_bus.specs.declared.events.Class.TheVariants as class
+use Rattle.can_bus.specs.Sockets.{iface_of, options_of}
+
+-- The transmit queues of a bus's interfaces, by its history.
+
+abbrev pub sent_after : List Entry → ℕ → Event → Reply → List Pending → List Pending
+sent_after past i (Send s frame) (reply.Sent n) before = if iface_of past s.0 == i then before ++ record { frame = frame; socket = s; loopback = (options_of past s.0).loopback } ∷ [] else before
+sent_after past i _ _ before = before
+
+-- the frames accepted for sending on interface i, in order: a frame's number is its place. Each keeps
+-- its sending socket, and that socket's loopback option as it was (own choice)
+abbrev pub sent_by : List Entry → ℕ → List Pending
+sent_by [] i = []
+sent_by (e ∷ past) i = sent_after past i e.event e.reply (sent_by past i)
+
+abbrev pub tape_after : Reply → List Tried → List Tried
+tape_after (reply.Tried t) before = before ++ t ∷ []
+tape_after _ before = before
+
+-- the attempts in which a frame was tried: an attempt's number is its place
+abbrev pub tape : List Entry → List Tried
+tape [] = []
+tape (e ∷ past) = tape_after e.reply (tape past)
+
+abbrev pub is_done : Class → Bool
+is_done class.Done = true
+is_done _ = false
+
+abbrev pub gone_after : Reply → ℕ → ℕ → ℕ → ℕ
+gone_after (reply.Tried t) i sent before = if is_in i t.off then sent else if (t.winner == i) && is_done t.class then before + 1 else before
+gone_after _ i sent before = before
+
+-- how many frames of interface i have left its transmit queue: one for each attempt that it won and
+-- that is done, and all that were sent where it went bus off
+abbrev pub gone_count : List Entry → ℕ → ℕ
+gone_count [] i = 0
+gone_count (e ∷ past) i = gone_after e.reply i (length (sent_by past i)) (gone_count past i)
+
+-- the oldest frame in the transmit queue of interface i
+abbrev pub head_of : List Entry → ℕ → Option Pending
+head_of past i = slice_get (sent_by past i) (gone_count past i)

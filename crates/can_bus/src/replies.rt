@@ -1,0 +1,81 @@
+ghost use Rattle.std.specs.Prelude.{◌≡◌, ◌+◌, ◌<◌, ◌^◌, ◌↔◌, IsTrue};
+ghost use Rattle.can_bus.specs.Answer.{told, told_attempt, counted, numbered};
+ghost use Rattle.can_bus.specs.declared.events.Reply.TheVariants as reply;
+
+use crate::events::{Closed, Received, Refusal, Reply, SocketId, Tried};
+
+// The reply that the record keeps of each call's answer.
+
+pub fn opened_reply(outcome: &Result<SocketId, Refusal>) -> Reply
+    ensures { result ≡ told reply.Opened outcome.now }
+{
+    match outcome {
+        Ok(id) => Reply::Opened(*id),
+        Err(why) => Reply::Refused(*why),
+    }
+}
+
+pub fn closed_reply(outcome: &Result<Closed, Refusal>) -> Reply
+    ensures { result ≡ told reply.Closed outcome.now }
+{
+    match outcome {
+        Ok(counts) => Reply::Closed(*counts),
+        Err(why) => Reply::Refused(*why),
+    }
+}
+
+pub fn sent_reply(outcome: &Result<u64, Refusal>) -> Reply
+    ensures { result ≡ told reply.Sent outcome.now }
+{
+    match outcome {
+        Ok(number) => Reply::Sent(*number),
+        Err(why) => Reply::Refused(*why),
+    }
+}
+
+pub fn received_reply(outcome: &Result<Option<Received>, Refusal>) -> Reply
+    ensures { result ≡ told reply.Received outcome.now }
+{
+    match outcome {
+        Ok(item) => Reply::Received(*item),
+        Err(why) => Reply::Refused(*why),
+    }
+}
+
+pub fn attempt_reply(outcome: &Option<Tried>) -> Reply
+    ensures { result ≡ told_attempt outcome.now }
+{
+    match outcome {
+        Some(tried) => Reply::Tried(*tried),
+        None => Reply::Idle,
+    }
+}
+
+/// How many attempts there are after one that answered this.
+pub fn counted(outcome: &Option<Tried>, before: u64) -> u64
+    requires { before + 1 < 2 ^ 64 }
+    ensures { result ≡ counted outcome.now before }
+{
+    match outcome {
+        Some(_) => before + 1,
+        None => before,
+    }
+}
+
+/// How many sockets were ever opened after a call that answered this.
+pub fn numbered(outcome: &Result<SocketId, Refusal>, before: u32) -> u32
+    requires { before + 1 < 2 ^ 32 }
+    ensures { result ≡ numbered outcome.now before }
+{
+    match outcome {
+        Ok(_) => before + 1,
+        Err(_) => before,
+    }
+}
+
+/// Whether memory was refused.
+pub fn is_no_memory(outcome: &Result<SocketId, Refusal>) -> bool
+    ensures { IsTrue result ↔ (outcome.now ≡ Err Refusal.NoMemory) }
+{
+    matches!(outcome, Err(Refusal::NoMemory))
+}

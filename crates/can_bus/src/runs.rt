@@ -1,0 +1,81 @@
+ghost use Rattle.std.specs.Prelude.{◌≡◌, ◌≤◌, ◌<◌, ◌++◌, ◌∷◌, [], vec_len, vec_capacity, IfOk, OnErr, OnOk, length};
+ghost use Rattle.can_bus.specs.Run.{IsAnswer, AreAnswers, history_after, history_after_all};
+ghost use Rattle.can_bus.specs.Legal.{IsLegal};
+
+use crate::buses::Bus;
+use crate::events::{Event, Pending, Received, Reply};
+use crate::replies::{attempt_reply, closed_reply, opened_reply, received_reply, sent_reply};
+use can_frame::Item;
+use can_queue::BoundedQueue;
+use std::alloc::Global;
+use thiserror::Error;
+
+/// Why no event of a list was done.
+#[derive(Debug, Clone, Copy, PartialEq, Eq, Error)]
+pub enum RunFault {
+    /// Memory for the list of replies was refused.
+    #[error("no memory")]
+    NoMemory,
+}
+
+/// Carries out one event.
+fn serve<T: BoundedQueue<Pending>, R: BoundedQueue<Received>>(
+    bus: &mut Bus<T, R>,
+    alloc: Global,
+    event: &Event,
+) -> Reply
+    ensures answer { IsAnswer bus.old.config bus.old.history event.now result }
+    ensures after { bus.new ≡ record bus.old { history = history_after event.now result bus.old.history } }
+{
+    match event {
+        Event::Open(iface, capacity) => opened_reply(&bus.open(alloc, *iface, *capacity)),
+        Event::Close(id) => closed_reply(&bus.close(*id)),
+        Event::Send(id, frame) => sent_reply(&bus.send(*id, *frame)),
+        Event::Receive(id) => received_reply(&bus.receive(*id)),
+        Event::Attempt(moment) => match bus.attempt(*moment) {
+            Ok(outcome) => attempt_reply(&outcome),
+            Err(why) => Reply::Refused(why),
+        },
+    }
+}
+
+/// Adds a reply where there is room for it.
+fn note(replies: &mut Vec<Reply>, reply: Reply)
+    requires { vec_len replies.old < vec_capacity replies.old }
+    ensures items { replies.new.items ≡ replies.old.items ++ reply ∷ [] }
+    ensures room { vec_capacity replies.old ≤ vec_capacity replies.new }
+{
+    // The checker has to meet the types inside a reply before a vector takes one.
+    let _types: Option<(Item, Received)> = None;
+    let _ = replies.push(reply);
+}
+
+/// Carries out events in order, and answers each one's reply.
+///
+/// Every accepted frame, exactly: the record is a legal history before and after, the entries added are
+/// the events with these replies, but for those that were refused for a full record or for want of
+/// memory, and each reply is the one that the entries before it allow. `RunFault` comes before the first
+/// event, and then nothing was done.
+pub fn run<T: BoundedQueue<Pending>, R: BoundedQueue<Received>>(
+    bus: &mut Bus<T, R>,
+    alloc: Global,
+    events: &[Event],
+) -> Result<Vec<Reply>, RunFault>
+    ensures count { IfOk result (λ replies. length replies.items ≡ length events.now) }
+    ensures answers { IfOk result (λ replies. AreAnswers bus.old.config bus.old.history events.now replies.items) }
+    ensures after { IfOk result (λ replies. bus.new ≡ record bus.old { history = history_after_all events.now replies.items bus.old.history }) }
+    ensures was_legal { IsLegal bus.old.config bus.old.history }
+    ensures legal { IsLegal bus.new.config bus.new.history }
+    ensures err { OnErr result (bus.new ≡ bus.old) }
+{
+    let _before = bus.record().len();
+    let Ok(mut replies) = Vec::with_capacity(alloc, events.len()) else {
+        return Err(RunFault::NoMemory);
+    };
+    for event in events {
+        let reply = serve(bus, alloc, event);
+        note(&mut replies, reply);
+    }
+    let _after = bus.record().len();
+    Ok(replies)
+}
