@@ -1,0 +1,23 @@
+use Rattle.std.specs.Prelude.{ℕ, ◌==◌, Bool, true, false, not, ◌&&◌, ◌||◌, List, bit_and}
+use Rattle.can_frame.specs.Frames.{word_of}
+use Rattle.can_frame.specs.declared.items.Item.{Item}
+use Rattle.can_frame.specs.declared.items.Item.TheVariants.{Data, Error}
+use Rattle.can_filter.specs.declared.socket_options.Options.{Options}
+pub use Rattle.can_filter.specs.Filters.{CanFilter, is_inverted, inverse_of, agrees, matches, passes, everything, receives_all}
+
+-- What a socket receives, as the kernel's networking/can document and linux/can/raw.h have it.
+
+-- an error class and an error mask share a bit (can_err_mask_t of linux/can.h)
+abbrev pub shares_class : ℕ → ℕ → Bool
+shares_class class mask = not (bit_and class mask == 0)
+
+-- A data frame, a remote one too, has to pass the filters, and the socket's own frames also need recv_own
+-- (CAN_RAW_RECV_OWN_MSGS). An error message frame passes by the error mask (CAN_RAW_ERR_FILTER) alone, without the
+-- filters (own choice).
+abbrev pub wants : List CanFilter → Options → Item → Bool → Bool
+wants filters options (Data frame) is_own = passes filters options.join (word_of frame) && (not is_own || options.recv_own)
+wants filters options (Error message) is_own = shares_class message.class options.err_mask
+
+-- the options of a socket just opened (linux/can/raw.h)
+abbrev pub default_options : Options
+default_options = record { loopback = true; recv_own = false; join = false; err_mask = 0 }
