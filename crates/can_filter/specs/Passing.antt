@@ -1,29 +1,23 @@
-use Rattle.std.specs.Prelude.{ℕ, ◌==◌, ◌+◌, ◌^◌, Bool, true, false, not, ◌&&◌, ◌||◌, List, [], ◌∷◌, length, bit_and, if◌then◌else◌}
-use Rattle.std.specs.List.{list_any, list_all}
-use Rattle.can_frame.specs.Frames.{CanFrame, ErrorMessage, word_of}
+use Rattle.std.specs.Prelude.{ℕ, ◌==◌, Bool, true, false, not, ◌&&◌, ◌||◌, List, bit_and}
+use Rattle.can_frame.specs.Frames.{word_of}
 use Rattle.can_frame.specs.declared.items.Item.{Item}
 use Rattle.can_frame.specs.declared.items.Item.TheVariants.{Data, Error}
-use Rattle.can_filter.specs.declared.filters.Filter.{Filter}
-use Rattle.can_filter.specs.declared.filters.Options.{Options}
+use Rattle.can_filter.specs.declared.socket_options.Options.{Options}
+pub use Rattle.can_filter.specs.Filters.{CanFilter, is_inverted, inverse_of, agrees, matches, passes, everything, receives_all}
 
--- a filter whose identifier has bit 29 set matches where the masked words differ
-abbrev pub is_inverted : Filter → Bool
-is_inverted f = not (bit_and f.id (2 ^ 29) == 0)
+-- What a socket receives, as the kernel's networking/can document and linux/can/raw.h have it.
 
-abbrev pub matches : Filter → ℕ → Bool
-matches f word = if is_inverted f then not (bit_and word f.mask == bit_and f.id f.mask) else bit_and word f.mask == bit_and f.id f.mask
+-- an error class and an error mask share a bit (can_err_mask_t of linux/can.h)
+abbrev pub shares_class : ℕ → ℕ → Bool
+shares_class class mask = not (bit_and class mask == 0)
 
--- some filter matches; joined: there is one, and all match
-abbrev pub passes : List Filter → Bool → ℕ → Bool
-passes filters join word = if join then not (length filters == 0) && list_all (λ f. matches f word) filters else list_any (λ f. matches f word) filters
+-- A data frame, a remote one too, has to pass the filters, and the socket's own frames also need recv_own
+-- (CAN_RAW_RECV_OWN_MSGS). An error message frame passes by the error mask (CAN_RAW_ERR_FILTER) alone, without the
+-- filters (own choice).
+abbrev pub wants : List CanFilter → Options → Item → Bool → Bool
+wants filters options (Data frame) is_own = passes filters options.join (word_of frame) && (not is_own || options.recv_own)
+wants filters options (Error message) is_own = shares_class message.class options.err_mask
 
--- whether a socket wants an item; own: the socket itself sent it
-abbrev pub wants : List Filter → Options → Item → Bool → Bool
-wants filters options (Data frame) own = passes filters options.join (word_of frame) && (not own || options.recv_own)
-wants filters options (Error e) own = not (bit_and e.class options.err_mask == 0)
-
+-- the options of a socket just opened (linux/can/raw.h)
 abbrev pub default_options : Options
 default_options = record { loopback = true; recv_own = false; join = false; err_mask = 0 }
-
-abbrev pub receives_all : List Filter
-receives_all = record { id = 0; mask = 0 } ∷ []
