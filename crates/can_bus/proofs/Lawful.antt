@@ -4,8 +4,8 @@ use Rattle.std.proofs.lemmas.Bool.{eqb-true, cases_Bool, leb-false, and_parts}
 use Rattle.std.proofs.lemmas.List.{length_push, length-append, length-take, length-drop}
 use Rattle.std.proofs.lemmas.Option.{slice_get_within, slice_get-get_or, same_Some}
 use Rattle.can_frame.specs.Sets.{is_in}
-use Rattle.can_filter.specs.declared.filters.Filter.{Filter}
-use Rattle.can_filter.specs.declared.filters.Options.{Options}
+use Rattle.can_filter.specs.Filters.{CanFilter}
+use Rattle.can_filter.specs.declared.socket_options.Options.{Options}
 use Rattle.can_filter.specs.Passing.{wants}
 use Rattle.can_bus.specs.declared.events.Entry.{Entry}
 use Rattle.can_bus.specs.declared.events.Event.{Event}
@@ -156,7 +156,7 @@ open-iface c past legal k o at = look (slice_get (places past) o) refl
 
 -- ---- no more items are dropped_at c than there are entries
 
-passing-le : (fs : List Filter) (o : Options) (s : ℕ) (ps : List Post) → length (passing fs o s ps) ≤ length ps
+passing-le : (fs : List CanFilter) (o : Options) (s : ℕ) (ps : List Post) → length (passing fs o s ps) ≤ length ps
 passing-le fs o s [] = omega arith
 passing-le fs o s (p ∷ ps) =
     elim (wants fs o p.received.item (is_own p.sender s)) as (λ b. length (if b then p.received ∷ passing fs o s ps else passing fs o s ps) ≤ suc (length ps))

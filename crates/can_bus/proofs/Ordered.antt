@@ -1,8 +1,8 @@
 use Rattle.std.proofs.Common.{◌≡◌, ℕ, zero, suc, ◌+◌, ◌-◌, ◌<◌, ◌≤◌, ◌==◌, Bool, true, false, ◌&&◌, ◌||◌, List, [], ◌∷◌, ◌++◌, length, take, slice_get, Option, Some, None, if◌then◌else◌, cond, refl, sym, ap, ◌∙◌, subst, arith}
 use Rattle.std.proofs.lemmas.Bool.{eqb-true, and_parts}
 use Rattle.can_frame.specs.Sets.{is_in}
-use Rattle.can_filter.specs.declared.filters.Filter.{Filter}
-use Rattle.can_filter.specs.declared.filters.Options.{Options}
+use Rattle.can_filter.specs.Filters.{CanFilter}
+use Rattle.can_filter.specs.declared.socket_options.Options.{Options}
 use Rattle.can_filter.specs.Passing.{wants}
 use Rattle.can_bus.specs.declared.events.Entry.{Entry}
 use Rattle.can_bus.specs.declared.events.Event.{Event}
@@ -74,7 +74,7 @@ abbrev PostsAs : ℕ → ℕ → List Post → Type 0
 PostsAs i n [] = Unit {0}
 PostsAs i n (p ∷ ps) = (is_from i p.received ≡ true → p.received.number ≡ n) × PostsAs i n ps
 
-ComeAs-passing : (fs : List Filter) (o : Options) (s i n : ℕ) (ps : List Post) → PostsAs i n ps → ComeAs i n (passing fs o s ps)
+ComeAs-passing : (fs : List CanFilter) (o : Options) (s i n : ℕ) (ps : List Post) → PostsAs i n ps → ComeAs i n (passing fs o s ps)
 ComeAs-passing fs o s i n [] h = tt
 ComeAs-passing fs o s i n (p ∷ ps) h =
     elim (wants fs o p.received.item (is_own p.sender s)) as (λ b. ComeAs i n (if b then p.received ∷ passing fs o s ps else passing fs o s ps))

@@ -1,7 +1,7 @@
 use Rattle.std.specs.Prelude.{ℕ, ◌+◌, ◌-◌, ◌==◌, List, [], ◌∷◌, ◌++◌, length, take, drop, Some, if◌then◌else◌}
 use Rattle.can_filter.specs.Passing.{wants}
-use Rattle.can_filter.specs.declared.filters.Filter.{Filter}
-use Rattle.can_filter.specs.declared.filters.Options.{Options}
+use Rattle.can_filter.specs.Filters.{CanFilter}
+use Rattle.can_filter.specs.declared.socket_options.Options.{Options}
 use Rattle.can_bus.specs.declared.events.BusConfig.{BusConfig}
 use Rattle.can_bus.specs.declared.events.Entry.{Entry}
 use Rattle.can_bus.specs.declared.events.Event.{Event}
@@ -15,7 +15,7 @@ use Rattle.can_bus.specs.Posts.{Post, posts_of, is_own}
 -- The receive queues of a bus's sockets, by its history.
 
 -- the posts that pass these filters and options
-abbrev pub passing : List Filter → Options → ℕ → List Post → List Received
+abbrev pub passing : List CanFilter → Options → ℕ → List Post → List Received
 passing filters options s [] = []
 passing filters options s (p ∷ ps) = if wants filters options p.received.item (is_own p.sender s) then p.received ∷ passing filters options s ps else passing filters options s ps
 

@@ -1,7 +1,7 @@
 use Rattle.std.specs.Prelude.{ℕ, ◌==◌, Bool, not, List, [], ◌∷◌, ◌++◌, length, filter, slice_get, Option, Some, None}
 use Rattle.std.specs.List.{list_any}
-use Rattle.can_filter.specs.declared.filters.Filter.{Filter}
-use Rattle.can_filter.specs.declared.filters.Options.{Options}
+use Rattle.can_filter.specs.Filters.{CanFilter}
+use Rattle.can_filter.specs.declared.socket_options.Options.{Options}
 use Rattle.can_filter.specs.Passing.{receives_all, default_options}
 use Rattle.can_bus.specs.declared.events.Event.{Event}
 use Rattle.can_bus.specs.declared.events.Event.TheVariants.{Open, Close}
@@ -61,5 +61,5 @@ abbrev pub options_of : List Entry → ℕ → Options
 options_of past s = default_options
 
 -- the filters of socket s as last set; as at its open, since no event sets them (linux/can/raw.h)
-abbrev pub filters_of : List Entry → ℕ → List Filter
+abbrev pub filters_of : List Entry → ℕ → List CanFilter
 filters_of past s = receives_all

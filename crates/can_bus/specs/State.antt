@@ -1,7 +1,7 @@
 use Rattle.std.specs.Prelude.{◌≡◌, ℕ, ◌+◌, ◌-◌, ◌≤◌, Bool, List, [], ◌∷◌, ◌++◌, length, map, take, drop, Option, Some}
 use Rattle.std.specs.List.{range_with_len}
-use Rattle.can_filter.specs.declared.filters.Filter.{Filter}
-use Rattle.can_filter.specs.declared.filters.Options.{Options}
+use Rattle.can_filter.specs.Filters.{CanFilter}
+use Rattle.can_filter.specs.declared.socket_options.Options.{Options}
 use Rattle.can_bus.specs.declared.events.Entry.{Entry}
 use Rattle.can_bus.specs.declared.events.Received.{Received}
 use Rattle.can_bus.specs.declared.events.Tried.{Tried}
@@ -26,7 +26,7 @@ pub record SocketState : Type 0 where
   pub number : ℕ
   pub iface : ℕ
   pub capacity : ℕ
-  pub filters : List Filter
+  pub filters : List CanFilter
   pub options : Options
   pub waiting : List Received
   pub dropped : ℕ
