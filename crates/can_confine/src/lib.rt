@@ -5,7 +5,11 @@
 #![tactic(auto)]
 
 pub mod counters;
+pub mod laws;
 pub mod states;
 
 pub use counters::{Counters, MAX_REC, MAX_TEC};
 pub use states::State;
+
+#[cfg(test)]
+mod tests;
