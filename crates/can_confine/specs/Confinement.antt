@@ -1,0 +1,55 @@
+use Rattle.std.specs.Prelude.{ℕ, ◌+◌, ◌-◌, nat_le, min, Bool, true, false, ◌||◌, List, [], ◌∷◌, if◌then◌else◌}
+use Rattle.can_confine.specs.declared.states.State.{State}
+use Rattle.can_confine.specs.declared.states.State.TheVariants.{Active, Warning, Passive, Off}
+
+-- Fault confinement: error counters, and the state that they give (Bosch CAN Specification 2.0, part B, section 8).
+
+-- a node's transmit error count and receive error count
+pub record ErrorCounts : Type 0 where
+  pub tec : ℕ
+  pub rec : ℕ
+
+-- what an attempt does to a node's counts
+pub data Step : Type 0 where
+  TransmitError : Step
+  ReceiveError : Step
+  GoodTransmission : Step
+  GoodReception : Step
+
+-- the counts after a step (rules 1, 3, 7 and 8); own choices: a receive count stops at 255, and a good
+-- reception sets one above 127 to 127
+abbrev pub stepped : ErrorCounts → Step → ErrorCounts
+stepped c TransmitError = record { tec = c.tec + 8; rec = c.rec }
+stepped c ReceiveError = record { tec = c.tec; rec = min 255 (c.rec + 1) }
+stepped c GoodTransmission = record { tec = c.tec - 1; rec = c.rec }
+stepped c GoodReception = record { tec = c.tec; rec = if nat_le 128 c.rec then 127 else c.rec - 1 }
+
+-- the counts after these steps, the first of them first
+abbrev pub all_stepped : ErrorCounts → List Step → ErrorCounts
+all_stepped c [] = c
+all_stepped c (s ∷ ss) = all_stepped (stepped c s) ss
+
+-- the counts at the start and after a restart
+abbrev pub at_start : ErrorCounts
+at_start = record { tec = 0; rec = 0 }
+
+-- bus off from transmit count 256, error passive from 128, the warning limit at 96 (linux/can/error.h)
+abbrev pub state_of : ErrorCounts → State
+state_of c = if nat_le 256 c.tec then Off else if nat_le 128 c.tec || nat_le 128 c.rec then Passive else if nat_le 96 c.tec || nat_le 96 c.rec then Warning else Active
+
+-- bus off: it neither sends nor hears anything
+abbrev pub is_off : State → Bool
+is_off Off = true
+is_off _ = false
+
+-- error passive
+abbrev pub is_passive : State → Bool
+is_passive Passive = true
+is_passive _ = false
+
+-- how far a state is from Active
+abbrev pub severity : State → ℕ
+severity Active = 0
+severity Warning = 1
+severity Passive = 2
+severity Off = 3

@@ -1,0 +1,155 @@
+ghost use Rattle.std.specs.Prelude.{◌≡◌, ◌<◌, ◌≤◌, SomeIff, if◌then◌else◌};
+ghost use Rattle.can_confine.specs.Confinement.{ErrorCounts, stepped, at_start, state_of, is_passive};
+ghost use Rattle.can_confine.specs.Confinement.Step.{TransmitError, ReceiveError, GoodTransmission, GoodReception};
+
+use crate::states::State;
+use std::marker::Model;
+
+/// The most that a transmit count reaches: bus off from 255 by one error more.
+pub const MAX_TEC: u16 = 263;
+
+/// The most that a receive count reaches.
+pub const MAX_REC: u16 = 255;
+
+/// The transmit count from which an interface is bus off.
+const BUS_OFF: u16 = 256;
+
+/// The count from which an interface is error passive.
+const ERROR_PASSIVE: u16 = 128;
+
+/// The count from which an interface is at its warning limit.
+const WARNING_LIMIT: u16 = 96;
+
+/// An interface's error counters: the transmit count, at most 263, and the receive count, at most 255.
+#[derive(Debug, Clone, Copy, PartialEq, Eq)]
+pub struct Counters {
+    tec: u16,
+    rec: u16,
+}
+
+impl Model for Counters {
+    ghost use Rattle.std.specs.Prelude.{◌≤◌};
+    ghost use Rattle.can_confine.specs.Confinement.{ErrorCounts};
+
+    ghost Value = { ErrorCounts };
+
+    ghost view = { λ c. record { tec = c.tec; rec = c.rec } };
+
+    ghost invariant = { λ c. (c.tec ≤ 263) × (c.rec ≤ 255) };
+
+    ghost inverse = { λ v. record { tec = v.tec; rec = v.rec } };
+}
+
+impl Counters {
+    /// Counters with these counts, or `None` for a transmit count above 263 or a receive count above 255.
+    pub fn new(tec: u16, rec: u16) -> Option<Counters>
+        ensures { SomeIff result ((tec ≤ 263) × (rec ≤ 255)) (record { tec = tec; rec = rec }) }
+    {
+        if tec > MAX_TEC || rec > MAX_REC {
+            return None;
+        }
+        Some(Counters { tec, rec })
+    }
+
+    /// Both counts 0, as at the start.
+    pub fn zero() -> Counters
+        ensures { result ≡ at_start }
+    {
+        Counters { tec: 0, rec: 0 }
+    }
+
+    /// The transmit error count.
+    pub fn tec(self) -> u16
+        ensures count { result ≡ self.tec }
+        ensures at_most { result ≤ 263 }
+    {
+        self.tec
+    }
+
+    /// The receive error count.
+    pub fn rec(self) -> u16
+        ensures count { result ≡ self.rec }
+        ensures at_most { result ≤ 255 }
+    {
+        self.rec
+    }
+
+    /// The fault confinement state that the counts give.
+    pub fn state(self) -> State
+        ensures { result ≡ state_of self }
+    {
+        if self.tec >= BUS_OFF {
+            State::Off
+        } else if self.tec >= ERROR_PASSIVE || self.rec >= ERROR_PASSIVE {
+            State::Passive
+        } else if self.tec >= WARNING_LIMIT || self.rec >= WARNING_LIMIT {
+            State::Warning
+        } else {
+            State::Active
+        }
+    }
+
+    /// The counters after a transmit error, which adds 8.
+    pub fn tx_error(self) -> Counters
+        requires { self.tec < 256 }
+        ensures { result ≡ stepped self TransmitError }
+    {
+        Counters {
+            tec: self.tec + 8,
+            rec: self.rec,
+        }
+    }
+
+    /// The counters after a missing acknowledgement: a transmit error, unless the interface is error
+    /// passive.
+    pub fn ack_error(self) -> Counters
+        requires { self.tec < 256 }
+        ensures { result ≡ (if is_passive (state_of self) then self else stepped self TransmitError) }
+    {
+        if self.state().is_passive() {
+            self
+        } else {
+            self.tx_error()
+        }
+    }
+
+    /// The counters after a receive error, which adds 1 up to 255.
+    pub fn rx_error(self) -> Counters
+        ensures { result ≡ stepped self ReceiveError }
+    {
+        Counters {
+            tec: self.tec,
+            rec: (self.rec + 1).min(MAX_REC),
+        }
+    }
+
+    /// The counters after a good transmission, which takes 1 off the transmit count.
+    pub fn tx_good(self) -> Counters
+        ensures { result ≡ stepped self GoodTransmission }
+    {
+        Counters {
+            tec: self.tec.saturating_sub(1),
+            rec: self.rec,
+        }
+    }
+
+    /// The counters after a good reception, which takes 1 off a receive count up to 127 and sets a
+    /// higher one to 127.
+    pub fn rx_good(self) -> Counters
+        ensures { result ≡ stepped self GoodReception }
+    {
+        let rec = if self.rec >= ERROR_PASSIVE {
+            ERROR_PASSIVE - 1
+        } else {
+            self.rec.saturating_sub(1)
+        };
+        Counters { tec: self.tec, rec }
+    }
+
+    /// The counters after a restart: both 0, whatever they were.
+    pub fn restart(self) -> Counters
+        ensures { result ≡ at_start }
+    {
+        Counters::zero()
+    }
+}
