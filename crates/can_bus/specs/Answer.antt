@@ -1,6 +1,6 @@
 use Rattle.std.specs.Prelude.{◌≡◌, ℕ, ◌+◌, ◌<◌, ◌≤◌, List, [], ◌∷◌, length, Option, Some, None, Result, Ok, Err}
 use Rattle.can_bus.specs.declared.events.Event.{Event}
-use Rattle.can_bus.specs.declared.events.Event.TheVariants.{Open}
+use Rattle.can_bus.specs.declared.events.Event.TheVariants.{Open, SetFilters}
 use Rattle.can_bus.specs.declared.events.Reply.{Reply}
 use Rattle.can_bus.specs.declared.events.Reply.TheVariants as reply
 use Rattle.can_bus.specs.declared.events.Refusal.{Refusal}
@@ -20,9 +20,11 @@ pub record Noted (old : Journal) (event : Event) (r : Reply) (new : Journal) : T
   pub lawful : r ≡ legal_reply old.config old.history event
   pub new_is : new ≡ record old { history = record { event = event; reply = r } ∷ old.history }
 
--- only these calls take memory, and only where nothing else refuses them
+-- only these calls take memory: an open that nothing else refuses, and the copies of a set of filters,
+-- which are made before the socket is looked up
 abbrev pub TakesMemory : Event → Reply → Type 0
 TakesMemory (Open i capacity) (reply.Opened s) = Unit {0}
+TakesMemory (SetFilters s filters) r = Unit {0}
 TakesMemory _ _ = ⊥
 
 -- what a call answers, and what it leaves
@@ -42,6 +44,13 @@ told_attempt (Some t) = reply.Tried t
 abbrev pub told : {A : Type 0} → (A → Reply) → Result A Refusal → Reply
 told f (Ok a) = f a
 told f (Err why) = reply.Refused why
+
+abbrev pub told_done : Result (Unit {0}) Refusal → Reply
+told_done (Ok done) = reply.Done
+told_done (Err why) = reply.Refused why
+
+abbrev pub done_reply : Unit {0} → Reply
+done_reply done = reply.Done
 
 abbrev pub counted : Option Tried → ℕ → ℕ
 counted None n = n

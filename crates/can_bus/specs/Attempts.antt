@@ -1,31 +1,49 @@
-use Rattle.std.specs.Prelude.{ℕ, ◌==◌, not, List, find, Option, Some, None, is_some}
-use Rattle.std.specs.List.{range_with_len}
+use Rattle.std.specs.Prelude.{ℕ, Bool, not, ◌&&◌, List, [], filter, find, Option, Some, None, is_some}
+use Rattle.std.specs.List.{list_any, range_with_len}
 use Rattle.can_frame.specs.Frames.{CanFrame}
-use Rattle.can_frame.specs.Sets.{set_where, no_ifaces}
+use Rattle.can_frame.specs.Arbitration.{arbitration_bits, goes_before}
+use Rattle.can_confine.specs.Confinement.{is_off}
+use Rattle.can_fault.specs.declared.verdicts.Verdict.{Verdict}
+use Rattle.can_attempt.specs.Attempts.{class_of, accepted_in, off_after, set_of}
 use Rattle.can_bus.specs.declared.events.BusConfig.{BusConfig}
-use Rattle.can_bus.specs.declared.events.Class.TheVariants as class
 use Rattle.can_bus.specs.declared.events.Entry.{Entry}
 use Rattle.can_bus.specs.declared.events.Pending.{Pending}
 use Rattle.can_bus.specs.declared.events.Reply.{Reply}
 use Rattle.can_bus.specs.declared.events.Reply.TheVariants as reply
 use Rattle.can_bus.specs.declared.events.Tried.{Tried}
 use Rattle.can_bus.specs.Transmit.{gone_count, head_of}
+use Rattle.can_bus.specs.Counters.{state_at, transmission}
 
 -- What an attempt answers: whose frame is tried, and what becomes of it.
 
--- the interface that wins the bus: the lowest one with a frame in its transmit queue
+-- the live interfaces with a frame to send: they take part in arbitration
+abbrev pub contenders : BusConfig → List Entry → List ℕ
+contenders c past = filter (λ i. is_some (head_of past i) && not (is_off (state_at c past i))) (range_with_len 0 c.ifaces)
+
+-- the bits of a frame that waits
+abbrev pub bits_in : Option Pending → List ℕ
+bits_in None = []
+bits_in (Some p) = arbitration_bits p.frame
+
+-- interface j's frame goes before interface i's (Bosch CAN Specification 2.0, arbitration)
+abbrev pub beats : List Entry → ℕ → ℕ → Bool
+beats past j i = goes_before (bits_in (head_of past j)) (bits_in (head_of past i))
+
+-- the interface that wins the bus: the lowest contender that no other one beats
 abbrev pub winner : BusConfig → List Entry → Option ℕ
-winner c past = find (λ i. is_some (head_of past i)) (range_with_len 0 c.ifaces)
+winner c past = find (λ i. not (list_any (λ j. beats past j i) (contenders c past))) (contenders c past)
 
--- the winner's frame is done, and every other interface accepts it
-abbrev pub tried_with : BusConfig → List Entry → ℕ → ℕ → CanFrame → Tried
-tried_with c past m w frame = record { moment = m; winner = w; number = gone_count past w; frame = frame; class = class.Done; accepted = set_where (λ i. not (i == w)) c.ifaces; off = no_ifaces }
+-- the winner sends its frame, and the attempt goes as its faults and the error counts have it
+abbrev pub tried_with : BusConfig → List Entry → ℕ → Verdict → ℕ → CanFrame → Tried
+tried_with c past m v w frame =
+    let t = transmission c past w v in
+    record { moment = m; winner = w; number = gone_count past w; frame = frame; class = class_of t; accepted = set_of (accepted_in (class_of t) t); off = set_of (off_after t) }
 
-abbrev pub tried_head : BusConfig → List Entry → ℕ → ℕ → Option Pending → Reply
-tried_head c past m w None = reply.Idle
-tried_head c past m w (Some p) = reply.Tried (tried_with c past m w p.frame)
+abbrev pub tried_head : BusConfig → List Entry → ℕ → Verdict → ℕ → Option Pending → Reply
+tried_head c past m v w None = reply.Idle
+tried_head c past m v w (Some p) = reply.Tried (tried_with c past m v w p.frame)
 
--- idle exactly where no interface has a frame to send
-abbrev pub attempt_reply : BusConfig → List Entry → ℕ → Option ℕ → Reply
-attempt_reply c past m None = reply.Idle
-attempt_reply c past m (Some w) = tried_head c past m w (head_of past w)
+-- idle exactly where no live interface has a frame to send
+abbrev pub attempt_reply : BusConfig → List Entry → ℕ → Verdict → Option ℕ → Reply
+attempt_reply c past m v None = reply.Idle
+attempt_reply c past m v (Some w) = tried_head c past m v w (head_of past w)

@@ -2,12 +2,14 @@ use Rattle.std.specs.Prelude.{◌≡◌, ℕ, ◌-◌, ◌==◌, ◌<◌, nat_le
 use Rattle.can_bus.specs.declared.events.BusConfig.{BusConfig}
 use Rattle.can_bus.specs.declared.events.Entry.{Entry}
 use Rattle.can_bus.specs.declared.events.Event.{Event}
-use Rattle.can_bus.specs.declared.events.Event.TheVariants.{Open, Close, Send, Receive, Attempt}
+use Rattle.can_bus.specs.declared.events.Event.TheVariants.{Open, Close, SetFilters, SetOption, Send, Receive, Attempt, Restart}
 use Rattle.can_bus.specs.declared.events.Reply.{Reply}
 use Rattle.can_bus.specs.declared.events.Reply.TheVariants as reply
 use Rattle.can_bus.specs.declared.events.Refusal.TheVariants as refusal
 use Rattle.can_bus.specs.Sockets.{places, open_sockets, is_open, iface_of}
 use Rattle.can_bus.specs.Transmit.{sent_by, gone_count}
+use Rattle.can_confine.specs.Confinement.{is_off}
+use Rattle.can_bus.specs.Counters.{state_at}
 use Rattle.can_bus.specs.Attempts.{winner, attempt_reply}
 use Rattle.can_bus.specs.Queues.{taken_from, queued_to, dropped_at}
 
@@ -21,9 +23,12 @@ if_open past s r = if is_open past s then r else reply.Refused refusal.NoSocket
 abbrev pub legal_reply : BusConfig → List Entry → Event → Reply
 legal_reply c past (Open i capacity) = if nat_le c.ifaces i then reply.Refused refusal.NoInterface else if not (nat_le 1 capacity && nat_le capacity 65536) then reply.Refused refusal.BadCapacity else if nat_le 64 (length (open_sockets past)) then reply.Refused refusal.TooManySockets else reply.Opened (record { 0 = length (places past) })
 legal_reply c past (Close s) = if_open past s.0 (reply.Closed (record { unread = length (queued_to c past s.0) - length (taken_from past s.0); dropped = length (dropped_at c past s.0) }))
-legal_reply c past (Send s frame) = let i = iface_of past s.0 in if_open past s.0 (if length (sent_by past i) - gone_count past i == c.tx_capacity then reply.Refused refusal.NoBuffers else reply.Sent (length (sent_by past i)))
+legal_reply c past (SetFilters s filters) = if_open past s.0 reply.Done
+legal_reply c past (SetOption s option) = if_open past s.0 reply.Done
+legal_reply c past (Send s frame) = let i = iface_of past s.0 in if_open past s.0 (if is_off (state_at c past i) then reply.Refused refusal.BusOff else if length (sent_by past i) - gone_count past i == c.tx_capacity then reply.Refused refusal.NoBuffers else reply.Sent (length (sent_by past i)))
 legal_reply c past (Receive s) = if_open past s.0 (reply.Received (slice_get (queued_to c past s.0) (length (taken_from past s.0))))
-legal_reply c past (Attempt m) = attempt_reply c past m (winner c past)
+legal_reply c past (Attempt m v) = attempt_reply c past m v (winner c past)
+legal_reply c past (Restart i m) = if nat_le c.ifaces i then reply.Refused refusal.NoInterface else if is_off (state_at c past i) then reply.Done else reply.Refused refusal.NotBusOff
 
 -- a legal history: no more entries than the limit, and each reply is the one that the entries before it give
 abbrev pub IsLegal : BusConfig → List Entry → Type 0

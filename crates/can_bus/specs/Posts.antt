@@ -1,17 +1,25 @@
-use Rattle.std.specs.Prelude.{ℕ, ◌==◌, Bool, false, ◌&&◌, ◌||◌, List, [], ◌∷◌, slice_get, Option, Some, None, if◌then◌else◌}
+use Rattle.std.specs.Prelude.{ℕ, ◌==◌, Bool, false, ◌&&◌, ◌||◌, List, [], ◌∷◌, ◌++◌, slice_get, Option, Some, None, if◌then◌else◌}
+use Rattle.can_frame.specs.Frames.{ErrorMessage}
 use Rattle.can_frame.specs.Sets.{is_in}
+use Rattle.can_frame.specs.declared.ifaces.IfaceSet.{IfaceSet}
 use Rattle.can_frame.specs.declared.items.Item.TheVariants as item
+use Rattle.can_fault.specs.declared.verdicts.Verdict.{Verdict}
+use Rattle.can_attempt.specs.declared.classes.Class.{Class}
+use Rattle.can_attempt.specs.Attempts.{Transmission, is_among, receivers, hit, counts_after}
+use Rattle.can_errframe.specs.Messages.{fault_message, state_message, restart_message}
+use Rattle.can_errframe.specs.declared.roles.Role.{Role}
+use Rattle.can_errframe.specs.declared.roles.Role.TheVariants as role
 use Rattle.can_bus.specs.declared.events.BusConfig.{BusConfig}
-use Rattle.can_bus.specs.declared.events.Class.{Class}
 use Rattle.can_bus.specs.declared.events.Entry.{Entry}
 use Rattle.can_bus.specs.declared.events.Event.{Event}
-use Rattle.can_bus.specs.declared.events.Event.TheVariants.{Attempt}
+use Rattle.can_bus.specs.declared.events.Event.TheVariants.{Attempt, Restart}
 use Rattle.can_bus.specs.declared.events.Pending.{Pending}
 use Rattle.can_bus.specs.declared.events.Received.{Received}
 use Rattle.can_bus.specs.declared.events.Reply.{Reply}
 use Rattle.can_bus.specs.declared.events.Reply.TheVariants as reply
 use Rattle.can_bus.specs.declared.events.Tried.{Tried}
 use Rattle.can_bus.specs.Transmit.{sent_by, is_done}
+use Rattle.can_bus.specs.Counters.{transmission}
 
 -- What an entry puts to the sockets of an interface.
 
@@ -34,9 +42,35 @@ sender_in (Some p) = Some p.socket.0
 abbrev pub data_posts : ℕ → Tried → Option Pending → List Post
 data_posts i t p = if is_in i t.accepted || ((i == t.winner) && is_looped_back t.class p) then record { received = record { item = item.Data t.frame; from = t.winner; number = t.number; moment = t.moment }; sender = sender_in p } ∷ [] else []
 
+-- an error message frame of interface i: it comes from nobody else, and has no number
+abbrev pub error_posts : ℕ → ℕ → Option ErrorMessage → List Post
+error_posts i m None = []
+error_posts i m (Some e) = record { received = record { item = item.Error e; from = i; number = 0; moment = m }; sender = None } ∷ []
+
+-- the part that interface i has in an attempt: none where it is bus off
+abbrev pub role_at : Transmission → ℕ → Option Role
+role_at t i = if i == t.winner then Some role.Winner else if is_among i (hit t) then Some role.Named else if is_among i (receivers t) then Some role.Other else None
+
+abbrev pub fault_message_for : Class → Verdict → Option Role → Option ErrorMessage
+fault_message_for k v None = None
+fault_message_for k v (Some r) = fault_message k v r
+
+-- what an attempt puts to the sockets of interface i, in order: the frame, the fault where faults are
+-- reported, and a change of state
+abbrev pub attempt_posts : IfaceSet → Transmission → Tried → Option Pending → ℕ → List Post
+attempt_posts reporting tr t p i =
+    data_posts i t p
+    ++ (if is_in i reporting then error_posts i t.moment (fault_message_for t.class tr.verdict (role_at tr i)) else [])
+    ++ error_posts i t.moment (state_message (tr.counts i) (counts_after tr i))
+
+-- a restart is told at the interface that was restarted
+abbrev pub restart_posts : ℕ → ℕ → ℕ → List Post
+restart_posts k m i = if i == k then error_posts i m (Some restart_message) else []
+
 -- what an entry puts to the sockets of interface i, in order
 abbrev pub posts_of : BusConfig → List Entry → ℕ → Event → Reply → List Post
-posts_of c past i (Attempt m) (reply.Tried t) = data_posts i t (slice_get (sent_by past t.winner) t.number)
+posts_of c past i (Attempt m v) (reply.Tried t) = attempt_posts c.reporting (transmission c past t.winner v) t (slice_get (sent_by past t.winner) t.number) i
+posts_of c past i (Restart k m) reply.Done = restart_posts k m i
 posts_of c past i _ _ = []
 
 -- socket s sent it

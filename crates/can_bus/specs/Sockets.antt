@@ -1,10 +1,12 @@
-use Rattle.std.specs.Prelude.{ℕ, ◌==◌, Bool, not, List, [], ◌∷◌, ◌++◌, length, filter, slice_get, Option, Some, None}
+use Rattle.std.specs.Prelude.{ℕ, ◌==◌, Bool, not, List, [], ◌∷◌, ◌++◌, length, filter, slice_get, Option, Some, None, if◌then◌else◌}
 use Rattle.std.specs.List.{list_any}
 use Rattle.can_filter.specs.Filters.{CanFilter}
 use Rattle.can_filter.specs.declared.socket_options.Options.{Options}
 use Rattle.can_filter.specs.Passing.{receives_all, default_options}
 use Rattle.can_bus.specs.declared.events.Event.{Event}
-use Rattle.can_bus.specs.declared.events.Event.TheVariants.{Open, Close}
+use Rattle.can_bus.specs.declared.events.Event.TheVariants.{Open, Close, SetFilters, SetOption}
+use Rattle.can_bus.specs.declared.events.Opt.{Opt}
+use Rattle.can_bus.specs.declared.events.Opt.TheVariants as opt
 use Rattle.can_bus.specs.declared.events.Reply.{Reply}
 use Rattle.can_bus.specs.declared.events.Reply.TheVariants as reply
 use Rattle.can_bus.specs.declared.events.Entry.{Entry}
@@ -56,10 +58,26 @@ iface_of past s = iface_in (slice_get (places past) s)
 abbrev pub capacity_of : List Entry → ℕ → ℕ
 capacity_of past s = capacity_in (slice_get (places past) s)
 
--- the options of socket s as last set; as at its open, since no event sets them (linux/can/raw.h)
-abbrev pub options_of : List Entry → ℕ → Options
-options_of past s = default_options
+abbrev pub with_option : Opt → Options → Options
+with_option (opt.Loopback on) o = record o { loopback = on }
+with_option (opt.RecvOwn on) o = record o { recv_own = on }
+with_option (opt.Join on) o = record o { join = on }
+with_option (opt.ErrMask mask) o = record o { err_mask = mask }
 
--- the filters of socket s as last set; as at its open, since no event sets them (linux/can/raw.h)
+abbrev pub options_after : Event → Reply → ℕ → Options → Options
+options_after (SetOption s option) reply.Done k before = if k == s.0 then with_option option before else before
+options_after _ _ k before = before
+
+-- the options of socket s as last set (linux/can/raw.h)
+abbrev pub options_of : List Entry → ℕ → Options
+options_of [] s = default_options
+options_of (e ∷ past) s = options_after e.event e.reply s (options_of past s)
+
+abbrev pub filters_after : Event → Reply → ℕ → List CanFilter → List CanFilter
+filters_after (SetFilters s filters) reply.Done k before = if k == s.0 then filters else before
+filters_after _ _ k before = before
+
+-- the filters of socket s as last set; at its open it receives everything (linux/can/raw.h)
 abbrev pub filters_of : List Entry → ℕ → List CanFilter
-filters_of past s = receives_all
+filters_of [] s = receives_all
+filters_of (e ∷ past) s = filters_after e.event e.reply s (filters_of past s)

@@ -1,18 +1,23 @@
-use Rattle.std.specs.Prelude.{◌≡◌, ℕ, ◌+◌, ◌-◌, ◌≤◌, Bool, List, [], ◌∷◌, ◌++◌, length, map, take, drop, Option, Some}
+use Rattle.std.specs.Prelude.{◌≡◌, ℕ, ◌+◌, ◌-◌, ◌≤◌, List, [], ◌∷◌, ◌++◌, length, map, take, drop, slice_get, Option, Some, None}
 use Rattle.std.specs.List.{range_with_len}
+use Rattle.std.specs.Option.{option_map}
 use Rattle.can_filter.specs.Filters.{CanFilter}
 use Rattle.can_filter.specs.declared.socket_options.Options.{Options}
+use Rattle.can_frame.specs.Arbitration.{key_of}
+use Rattle.can_attempt.specs.declared.nodes.Nodes.{Nodes}
 use Rattle.can_bus.specs.declared.events.Entry.{Entry}
 use Rattle.can_bus.specs.declared.events.Received.{Received}
-use Rattle.can_bus.specs.declared.events.Tried.{Tried}
 use Rattle.can_bus.specs.declared.events.Pending.{Pending}
 use Rattle.can_bus.specs.declared.events.BusConfig.{BusConfig}
 use Rattle.can_bus.specs.Journal.{Kept, IsConfig}
-use Rattle.can_bus.specs.Transmit.{sent_by, gone_count, tape}
 use Rattle.can_bus.specs.Sockets.{places, open_sockets, iface_of, capacity_of, filters_of, options_of}
+use Rattle.can_bus.specs.Transmit.{sent_by, gone_count, done_count, refused_count, head_of, tape}
+use Rattle.can_bus.specs.Counters.{counts_of}
+use Rattle.can_bus.specs.Posts.{Post}
 use Rattle.can_bus.specs.Queues.{queued_to, taken_from, dropped_at, passing}
 use Rattle.can_bus.specs.Legal.{IsLegal}
-use Rattle.can_bus.specs.Posts.{Post, data_posts}
+
+-- What a bus keeps so that each call is fast, and that it is what the history leaves.
 
 -- what is kept of an interface
 pub record LineState : Type 0 where
@@ -20,6 +25,8 @@ pub record LineState : Type 0 where
   pub room : ℕ
   pub sent : ℕ
   pub gone : ℕ
+  pub done : ℕ
+  pub refused : ℕ
 
 -- what is kept of an open socket
 pub record SocketState : Type 0 where
@@ -29,23 +36,28 @@ pub record SocketState : Type 0 where
   pub filters : List CanFilter
   pub options : Options
   pub waiting : List Received
+  pub taken : ℕ
   pub dropped : ℕ
 
 -- items come in: those that fit wait, the others are counted
 abbrev pub filled : SocketState → List Received → SocketState
 filled v rs = record v { waiting = v.waiting ++ take (v.capacity - length v.waiting) rs; dropped = v.dropped + length (drop (v.capacity - length v.waiting) rs) }
 
--- a frame that was tried comes to a socket
-abbrev pub reached : Tried → Pending → SocketState → SocketState
-reached t p v = filled v (passing v.filters v.options v.number (data_posts v.iface t (Some p)))
+-- the posts at the socket's interface come to it
+abbrev pub reached : (ℕ → List Post) → SocketState → SocketState
+reached posts v = filled v (passing v.filters v.options v.number (posts v.iface))
+
+-- the key by which a frame that waits competes
+abbrev pub key_in : Option Pending → Option ℕ
+key_in p = option_map (λ (q : Pending). key_of q.frame) p
 
 -- what a history leaves of an interface
 abbrev pub kept_line : BusConfig → List Entry → ℕ → LineState
-kept_line c past i = record { waiting = drop (gone_count past i) (sent_by past i); room = c.tx_capacity; sent = length (sent_by past i); gone = gone_count past i }
+kept_line c past i = record { waiting = drop (gone_count past i) (sent_by past i); room = c.tx_capacity; sent = length (sent_by past i); gone = gone_count past i; done = done_count past i; refused = refused_count past i }
 
 -- what a history leaves of an open socket
 abbrev pub kept_socket : BusConfig → List Entry → ℕ → SocketState
-kept_socket c past s = record { number = s; iface = iface_of past s; capacity = capacity_of past s; filters = filters_of past s; options = options_of past s; waiting = drop (length (taken_from past s)) (queued_to c past s); dropped = length (dropped_at c past s) }
+kept_socket c past s = record { number = s; iface = iface_of past s; capacity = capacity_of past s; filters = filters_of past s; options = options_of past s; waiting = drop (length (taken_from past s)) (queued_to c past s); taken = length (taken_from past s); dropped = length (dropped_at c past s) }
 
 unfoldable pub kept_lines : BusConfig → List Entry → List LineState
 kept_lines c past = map (kept_line c past) (range_with_len 0 c.ifaces)
@@ -53,12 +65,30 @@ kept_lines c past = map (kept_line c past) (range_with_len 0 c.ifaces)
 unfoldable pub kept_sockets : BusConfig → List Entry → List SocketState
 kept_sockets c past = map (kept_socket c past) (open_sockets past)
 
+-- the keys of the heads, by interface
+unfoldable pub kept_keys : List Entry → List (Option ℕ)
+kept_keys past = map (λ i. key_in (head_of past i)) (range_with_len 0 16)
+
+-- the error counts, by interface
+unfoldable pub kept_nodes : BusConfig → List Entry → Nodes
+kept_nodes c past = record { count = c.ifaces; counters = map (counts_of c past) (range_with_len 0 16) }
+
+-- the parts of a bus beside its record
+pub record Parts : Type 0 where
+  pub lines : List LineState
+  pub keys : List (Option ℕ)
+  pub nodes : Nodes
+  pub sockets : List SocketState
+  pub opened : ℕ
+  pub tried : ℕ
+
+-- what a history leaves
+abbrev pub kept_parts : BusConfig → List Entry → Parts
+kept_parts c past = record { lines = kept_lines c past; keys = kept_keys past; nodes = kept_nodes c past; sockets = kept_sockets c past; opened = length (places past); tried = length (tape past) }
+
 -- what is kept is what the history leaves, and there is memory for what may come
-pub record IsKept (j : Kept) (lines : List LineState) (sockets : List SocketState) (places_made opened tried : ℕ) : Type 0 where
-  pub of_lines : lines ≡ kept_lines j.config j.history
-  pub of_sockets : sockets ≡ kept_sockets j.config j.history
-  pub of_opened : opened ≡ length (places j.history)
-  pub of_tried : tried ≡ length (tape j.history)
+pub record IsKept (j : Kept) (parts : Parts) (places_made : ℕ) : Type 0 where
+  pub of_parts : parts ≡ kept_parts j.config j.history
   pub legal : IsLegal j.config j.history
   pub proper : IsConfig j.config
   pub room : j.config.limit ≤ j.room

@@ -1,14 +1,15 @@
-use Rattle.std.specs.Prelude.{ℕ, ◌+◌, ◌==◌, Bool, true, false, ◌&&◌, List, [], ◌∷◌, ◌++◌, length, slice_get, Option, if◌then◌else◌}
+use Rattle.std.specs.Prelude.{ℕ, ◌+◌, ◌==◌, Bool, true, false, ◌&&◌, List, [], ◌∷◌, ◌++◌, length, slice_get, Option, ◌-◌, if◌then◌else◌}
 use Rattle.can_frame.specs.Sets.{is_in}
 use Rattle.can_bus.specs.declared.events.Event.{Event}
 use Rattle.can_bus.specs.declared.events.Event.TheVariants.{Send}
 use Rattle.can_bus.specs.declared.events.Reply.{Reply}
 use Rattle.can_bus.specs.declared.events.Reply.TheVariants as reply
+use Rattle.can_bus.specs.declared.events.Refusal.TheVariants as refusal
 use Rattle.can_bus.specs.declared.events.Entry.{Entry}
 use Rattle.can_bus.specs.declared.events.Tried.{Tried}
 use Rattle.can_bus.specs.declared.events.Pending.{Pending}
-use Rattle.can_bus.specs.declared.events.Class.{Class}
-use Rattle.can_bus.specs.declared.events.Class.TheVariants as class
+use Rattle.can_attempt.specs.declared.classes.Class.{Class}
+use Rattle.can_attempt.specs.declared.classes.Class.TheVariants as class
 use Rattle.can_bus.specs.Sockets.{iface_of, options_of}
 
 -- The transmit queues of a bus's interfaces, by its history.
@@ -49,3 +50,25 @@ gone_count (e ∷ past) i = gone_after e.reply i (length (sent_by past i)) (gone
 -- the oldest frame in the transmit queue of interface i
 abbrev pub head_of : List Entry → ℕ → Option Pending
 head_of past i = slice_get (sent_by past i) (gone_count past i)
+
+abbrev pub done_after : Reply → ℕ → ℕ → ℕ
+done_after (reply.Tried t) i before = if (t.winner == i) && is_done t.class then before + 1 else before
+done_after _ i before = before
+
+-- how many frames of interface i are done: its attempts of class Done
+abbrev pub done_count : List Entry → ℕ → ℕ
+done_count [] i = 0
+done_count (e ∷ past) i = done_after e.reply i (done_count past i)
+
+-- how many frames of interface i were lost as it went bus off: they are gone, and not done
+abbrev pub lost_count : List Entry → ℕ → ℕ
+lost_count past i = gone_count past i - done_count past i
+
+abbrev pub refused_after : List Entry → ℕ → Event → Reply → ℕ → ℕ
+refused_after past i (Send s frame) (reply.Refused refusal.NoBuffers) before = if iface_of past s.0 == i then before + 1 else before
+refused_after past i _ _ before = before
+
+-- how many frames found the transmit queue of interface i full
+abbrev pub refused_count : List Entry → ℕ → ℕ
+refused_count [] i = 0
+refused_count (e ∷ past) i = refused_after past i e.event e.reply (refused_count past i)

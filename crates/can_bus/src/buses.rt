@@ -1,19 +1,27 @@
-ghost use Rattle.std.specs.Prelude.{◌≡◌, ◌+◌, ◌<◌, ◌≤◌, ◌^◌, [], ◌∷◌, length, IfOk, OnOk, IsTrue, ◌↔◌};
-ghost use Rattle.can_bus.specs.Answer.{Answers, told_attempt};
+ghost use Rattle.std.specs.Prelude.{◌≡◌, ◌+◌, ◌<◌, ◌≤◌, ◌^◌, [], length, IfOk, OnOk, IsTrue, ◌↔◌};
+ghost use Rattle.can_bus.specs.Answer.{Answers, done_reply, told_attempt};
 ghost use Rattle.can_bus.specs.Journal.{IsConfig};
 ghost use Rattle.can_bus.specs.Legal.{IsLegal};
+ghost use Rattle.can_bus.specs.Stats.{socket_stats_of, iface_stats_of};
 ghost use Rattle.can_bus.specs.Transmit.{tape};
 ghost use Rattle.can_bus.specs.declared.events.Event.TheVariants as event;
 ghost use Rattle.can_bus.specs.declared.events.Reply.TheVariants as reply;
 
-use crate::events::{BusConfig, Closed, Event, Pending, Received, Refusal, SocketId, Tried};
+use crate::events::{BusConfig, Closed, Event, Opt, Pending, Received, Refusal, SocketId, Tried};
 use crate::line::Line;
 use crate::records::Record;
 use crate::replies::{
-    attempt_reply, closed_reply, counted, is_no_memory, numbered, opened_reply, received_reply, sent_reply,
+    attempt_reply, closed_reply, counted, done_reply, is_no_memory, numbered, opened_reply,
+    received_reply, sent_reply,
 };
 use crate::socket::Socket;
-use crate::{lines, sockets};
+use crate::stats::{IfaceStats, SocketStats};
+use crate::{attempts, lines, sockets};
+use can_arbiter::Arbiter;
+use can_attempt::Nodes;
+use can_confine::Counters;
+use can_fault::Verdict;
+use can_filter::FilterSet;
 use can_frame::{Frame, Iface, Moment};
 use can_queue::BoundedQueue;
 use std::alloc::Global;
@@ -36,20 +44,22 @@ pub enum BusFault {
 /// Each event call is answered from the bus's record alone, and adds one entry to it; a call that is
 /// refused for a full record or for want of memory adds none and changes nothing. Contracts see a bus
 /// as its configuration and its history. The queues that frames and items wait in are known by the
-/// laws of `BoundedQueue` alone.
+/// laws of `BoundedQueue` alone, and the arbiter by those of `Arbiter`.
 ///
-/// No event but `open` takes memory: `new` reserves the record, the transmit queues and the places of
-/// 64 sockets. A call on a socket looks through the open sockets, at most 64.
+/// No event but `open` and `set_filters` takes memory: `new` reserves the record, the transmit queues
+/// and the places of 64 sockets. A call on a socket looks through the open sockets, at most 64.
 #[derive(Drop)]
-pub struct Bus<T: BoundedQueue<Pending>, R: BoundedQueue<Received>> {
+pub struct Bus<T: BoundedQueue<Pending>, R: BoundedQueue<Received>, A: Arbiter> {
     record: Record,
     lines: Vec<Line<T>>,
+    arbiter: A,
+    nodes: Nodes,
     sockets: Vec<Socket<R>>,
     opened: u32,
     tried: u64,
 }
 
-impl<T: BoundedQueue<Pending>, R: BoundedQueue<Received>> Model for Bus<T, R> {
+impl<T: BoundedQueue<Pending>, R: BoundedQueue<Received>, A: Arbiter> Model for Bus<T, R, A> {
     ghost use Rattle.std.specs.Prelude.{◌≤◌, vec_capacity};
     ghost use Rattle.can_bus.specs.Journal.{Journal};
     ghost use Rattle.can_bus.specs.State.{IsKept};
@@ -58,12 +68,12 @@ impl<T: BoundedQueue<Pending>, R: BoundedQueue<Received>> Model for Bus<T, R> {
 
     ghost view = { λ b. record { config = b.record.config; history = b.record.history } };
 
-    ghost invariant = { λ b. IsKept b.record b.lines.items b.sockets.items (vec_capacity b.sockets) b.opened b.tried };
+    ghost invariant = { λ b. IsKept b.record (record { lines = b.lines.items; keys = A.keys_of b.arbiter; nodes = b.nodes; sockets = b.sockets.items; opened = b.opened; tried = b.tried }) (vec_capacity b.sockets) };
 }
 
-impl<T: BoundedQueue<Pending>, R: BoundedQueue<Received>> Bus<T, R> {
+impl<T: BoundedQueue<Pending>, R: BoundedQueue<Received>, A: Arbiter> Bus<T, R, A> {
     /// A bus on which nothing was done. It takes memory for all of `limit` entries.
-    pub fn new(alloc: Global, config: BusConfig) -> Result<Bus<T, R>, BusFault>
+    pub fn new(alloc: Global, config: BusConfig) -> Result<Bus<T, R, A>, BusFault>
         ensures made { IfOk result (λ b. b ≡ record { config = config; history = [] }) }
         ensures proper { OnOk result (IsConfig config) }
         ensures bad { (result ≡ Err BusFault.BadConfig) ↔ (¬ IsConfig config) }
@@ -83,6 +93,11 @@ impl<T: BoundedQueue<Pending>, R: BoundedQueue<Received>> Bus<T, R> {
         Ok(Bus {
             record,
             lines,
+            arbiter: A::new(),
+            nodes: Nodes {
+                count: config.ifaces,
+                counters: [Counters::zero(); 16],
+            },
             sockets,
             opened: 0,
             tried: 0,
@@ -147,36 +162,67 @@ impl<T: BoundedQueue<Pending>, R: BoundedQueue<Received>> Bus<T, R> {
         outcome
     }
 
+    /// Sets the filters of a socket, to a copy of these.
+    ///
+    /// Refusals, in this order: `RecordFull`, `NoMemory` (the copies are made before the socket is
+    /// looked up), `NoSocket`. It costs the length of the set.
+    pub fn set_filters(
+        &mut self,
+        alloc: Global,
+        id: SocketId,
+        filters: &FilterSet,
+    ) -> Result<(), Refusal>
+        ensures { Answers done_reply self.old (event.SetFilters id filters.now) result self.new }
+    {
+        if self.record.is_full() {
+            return Err(Refusal::RecordFull);
+        }
+        let Ok(kept) = filters.try_copy(alloc) else {
+            return Err(Refusal::NoMemory);
+        };
+        let Ok(noted) = filters.try_copy(alloc) else {
+            return Err(Refusal::NoMemory);
+        };
+        let outcome = sockets::set_filters_on(&mut self.sockets, id, kept);
+        self.record
+            .push(Event::SetFilters(id, noted), done_reply(&outcome));
+        outcome
+    }
+
+    /// Sets an option of a socket. Refusals: `RecordFull`, `NoSocket`.
+    pub fn set_option(&mut self, id: SocketId, option: Opt) -> Result<(), Refusal>
+        ensures { Answers done_reply self.old (event.SetOption id option) result self.new }
+    {
+        if self.record.is_full() {
+            return Err(Refusal::RecordFull);
+        }
+        let outcome = sockets::set_option_on(&mut self.sockets, id, option);
+        self.record
+            .push(Event::SetOption(id, option), done_reply(&outcome));
+        outcome
+    }
+
     /// Puts a frame into the transmit queue of the socket's interface, and answers its number there.
     ///
-    /// Refusals, in this order: `RecordFull`, `NoSocket`, `NoBuffers` exactly where the queue is full.
+    /// Refusals, in this order: `RecordFull`, `NoSocket`, `BusOff`, `NoBuffers` exactly where the queue
+    /// is full.
     pub fn send(&mut self, id: SocketId, frame: Frame) -> Result<u64, Refusal>
         ensures { Answers reply.Sent self.old (event.Send id frame) result self.new }
     {
         if self.record.is_full() {
             return Err(Refusal::RecordFull);
         }
-        let outcome = lines::send_on(&mut self.lines, &self.sockets, id, frame);
+        let outcome = lines::send_on(
+            &mut self.lines,
+            &mut self.arbiter,
+            &self.nodes,
+            &self.sockets,
+            id,
+            frame,
+        );
         self.record
             .push(Event::Send(id, frame), sent_reply(&outcome));
         outcome
-    }
-
-    /// Tries the frame that wins the bus: `None` where no interface has one to send.
-    ///
-    /// It costs a look at each interface and at each open socket. Refusal: `RecordFull`.
-    pub fn attempt(&mut self, moment: Moment) -> Result<Option<Tried>, Refusal>
-        ensures { Answers told_attempt self.old (event.Attempt moment) result self.new }
-    {
-        if self.record.is_full() {
-            return Err(Refusal::RecordFull);
-        }
-        let count = self.record.config().ifaces;
-        let outcome = lines::try_on(&mut self.lines, &mut self.sockets, count, moment);
-        self.tried = counted(&outcome, self.tried);
-        self.record
-            .push(Event::Attempt(moment), attempt_reply(&outcome));
-        Ok(outcome)
     }
 
     /// Takes the oldest item of a socket: `None` where nothing waits.
@@ -192,6 +238,65 @@ impl<T: BoundedQueue<Pending>, R: BoundedQueue<Received>> Bus<T, R> {
         self.record
             .push(Event::Receive(id), received_reply(&outcome));
         outcome
+    }
+
+    /// Tries the frame that wins the bus, under these faults: `None` where no live interface has one to
+    /// send.
+    ///
+    /// It costs a look at each interface and at each open socket. Refusal: `RecordFull`.
+    pub fn attempt(
+        &mut self,
+        moment: Moment,
+        verdict: Verdict,
+    ) -> Result<Option<Tried>, Refusal>
+        ensures { Answers told_attempt self.old (event.Attempt moment verdict) result self.new }
+    {
+        if self.record.is_full() {
+            return Err(Refusal::RecordFull);
+        }
+        let config = self.record.config();
+        let outcome = attempts::try_on(
+            &mut self.lines,
+            &mut self.arbiter,
+            &mut self.nodes,
+            &mut self.sockets,
+            config,
+            moment,
+            verdict,
+        );
+        self.tried = counted(&outcome, self.tried);
+        self.record
+            .push(Event::Attempt(moment, verdict), attempt_reply(&outcome));
+        Ok(outcome)
+    }
+
+    /// Brings an interface that is bus off back, with both its error counts 0.
+    ///
+    /// Refusals, in this order: `RecordFull`, `NoInterface`, `NotBusOff`.
+    pub fn restart(&mut self, iface: Iface, moment: Moment) -> Result<(), Refusal>
+        ensures { Answers done_reply self.old (event.Restart iface moment) result self.new }
+    {
+        if self.record.is_full() {
+            return Err(Refusal::RecordFull);
+        }
+        let outcome = attempts::restart_on(&mut self.nodes, &mut self.sockets, iface, moment);
+        self.record
+            .push(Event::Restart(iface, moment), done_reply(&outcome));
+        outcome
+    }
+
+    /// How many items found room on an open socket, found none, and were taken. No event.
+    pub fn socket_stats(&self, id: SocketId) -> Option<SocketStats>
+        ensures { result ≡ socket_stats_of self.now.config self.now.history id.0 }
+    {
+        sockets::stats_of(&self.sockets, id)
+    }
+
+    /// What became of the frames of an interface, and its error counters. No event.
+    pub fn iface_stats(&self, iface: Iface) -> Option<IfaceStats>
+        ensures { result ≡ iface_stats_of self.now.config self.now.history iface }
+    {
+        lines::stats_of(&self.lines, &self.nodes, iface)
     }
 }
 

@@ -1,3 +1,6 @@
+use can_attempt::{AckMode, Class};
+use can_fault::Verdict;
+use can_filter::FilterSet;
 use can_frame::{Frame, Iface, IfaceSet, Item, Moment};
 use thiserror::Error;
 
@@ -6,6 +9,10 @@ use thiserror::Error;
 pub struct BusConfig {
     /// How many interfaces there are, 1 to 16.
     pub ifaces: u8,
+    /// Whether every frame is acknowledged, or only where a receiver has it whole.
+    pub ack: AckMode,
+    /// The interfaces whose sockets are told of each fault. Bits that name no interface have no effect.
+    pub reporting: IfaceSet,
     /// How many frames wait at most in each transmit queue, 1 to 1,024.
     pub tx_capacity: u32,
     /// How many events the bus is made for, 1 to 16,777,216.
@@ -17,6 +24,19 @@ pub struct BusConfig {
 #[derive(Debug, Clone, Copy, PartialEq, Eq)]
 pub struct SocketId(pub u32);
 
+/// One option of a socket, and what it is set to (linux/can/raw.h).
+#[derive(Debug, Clone, Copy, PartialEq, Eq)]
+pub enum Opt {
+    /// Whether frames sent from then on are looped back (CAN_RAW_LOOPBACK).
+    Loopback(bool),
+    /// Whether the socket gets its own frames (CAN_RAW_RECV_OWN_MSGS).
+    RecvOwn(bool),
+    /// Whether a frame has to match each filter (CAN_RAW_JOIN_FILTERS).
+    Join(bool),
+    /// The error classes whose message frames the socket gets (CAN_RAW_ERR_FILTER).
+    ErrMask(u32),
+}
+
 /// One call on a bus.
 #[derive(Debug, Drop)]
 pub enum Event {
@@ -24,12 +44,18 @@ pub enum Event {
     Open(Iface, u32),
     /// Close a socket.
     Close(SocketId),
+    /// Set the filters of a socket.
+    SetFilters(SocketId, FilterSet),
+    /// Set an option of a socket.
+    SetOption(SocketId, Opt),
     /// Send a frame on a socket.
     Send(SocketId, Frame),
     /// Take the oldest item of a socket.
     Receive(SocketId),
-    /// Try the next frame on the bus, at a moment.
-    Attempt(Moment),
+    /// Try the frame that wins the bus, at a moment, with these faults.
+    Attempt(Moment, Verdict),
+    /// Restart an interface that is bus off, at a moment.
+    Restart(Iface, Moment),
 }
 
 /// Why a call was refused.
@@ -50,29 +76,23 @@ pub enum Refusal {
     /// No such socket is open.
     #[error("no socket")]
     NoSocket,
+    /// The interface is bus off.
+    #[error("bus off")]
+    BusOff,
     /// The transmit queue is full.
     #[error("no buffers")]
     NoBuffers,
+    /// The interface is not bus off.
+    #[error("not bus off")]
+    NotBusOff,
     /// Memory was refused.
     #[error("no memory")]
     NoMemory,
 }
 
-/// How an attempt ended.
-#[derive(Debug, Clone, Copy, PartialEq, Eq)]
-pub enum Class {
-    /// The frame was sent, and has left its queue.
-    Done,
-    /// The receivers have the frame, and the transmitter saw a fault in the last bit.
-    LastBit,
-    /// An error flag destroyed the frame.
-    Destroyed,
-    /// Nobody acknowledged the frame.
-    NoAck,
-}
-
 /// An item that a socket received: the item, the interface that it comes from, its number there, and
-/// when it was put to the socket.
+/// when it was put to the socket. An error message frame comes from the socket's own interface, with
+/// number 0.
 #[derive(Debug, Clone, Copy, PartialEq, Eq)]
 pub struct Received {
     pub item: Item,
@@ -108,11 +128,13 @@ pub enum Reply {
     Opened(SocketId),
     /// A socket was closed.
     Closed(Closed),
+    /// Filters or an option were set, or an interface was restarted.
+    Done,
     /// A frame was accepted for sending, and has this number at its interface.
     Sent(u64),
     /// The oldest item, or none.
     Received(Option<Received>),
-    /// No interface had a frame to send.
+    /// No live interface had a frame to send.
     Idle,
     /// A frame was tried.
     Tried(Tried),

@@ -6,24 +6,28 @@
 //! `run` carries that over every list of events.
 #![tactic(auto)]
 
+mod attempts;
 pub mod buses;
 pub mod events;
 pub mod laws;
 
 mod line;
 mod lines;
+mod news;
 pub mod records;
 mod replies;
 pub mod runs;
 mod socket;
 mod sockets;
+pub mod stats;
 
 pub use buses::{Bus, BusFault};
 pub use events::{
-    BusConfig, Class, Closed, Entry, Event, Pending, Received, Refusal, Reply, SocketId, Tried,
+    BusConfig, Closed, Entry, Event, Opt, Pending, Received, Refusal, Reply, SocketId, Tried,
 };
 pub use records::Record;
 pub use runs::{RunFault, run};
+pub use stats::{IfaceStats, SocketStats};
 
 #[cfg(test)]
 mod tests;

@@ -1,5 +1,5 @@
 ghost use Rattle.std.specs.Prelude.{◌≡◌, ◌+◌, ◌<◌, ◌^◌, ◌↔◌, IsTrue};
-ghost use Rattle.can_bus.specs.Answer.{told, told_attempt, counted, numbered};
+ghost use Rattle.can_bus.specs.Answer.{told, told_done, told_attempt, counted, numbered};
 ghost use Rattle.can_bus.specs.declared.events.Reply.TheVariants as reply;
 
 use crate::events::{Closed, Received, Refusal, Reply, SocketId, Tried};
@@ -38,6 +38,15 @@ pub fn received_reply(outcome: &Result<Option<Received>, Refusal>) -> Reply
 {
     match outcome {
         Ok(item) => Reply::Received(*item),
+        Err(why) => Reply::Refused(*why),
+    }
+}
+
+pub fn done_reply(outcome: &Result<(), Refusal>) -> Reply
+    ensures { result ≡ told_done outcome.now }
+{
+    match outcome {
+        Ok(()) => Reply::Done,
         Err(why) => Reply::Refused(*why),
     }
 }

@@ -4,7 +4,10 @@ ghost use Rattle.can_bus.specs.Legal.{IsLegal};
 
 use crate::buses::Bus;
 use crate::events::{Event, Pending, Received, Reply};
-use crate::replies::{attempt_reply, closed_reply, opened_reply, received_reply, sent_reply};
+use crate::replies::{
+    attempt_reply, closed_reply, done_reply, opened_reply, received_reply, sent_reply,
+};
+use can_arbiter::Arbiter;
 use can_frame::Item;
 use can_queue::BoundedQueue;
 use std::alloc::Global;
@@ -19,8 +22,8 @@ pub enum RunFault {
 }
 
 /// Carries out one event.
-fn serve<T: BoundedQueue<Pending>, R: BoundedQueue<Received>>(
-    bus: &mut Bus<T, R>,
+fn serve<T: BoundedQueue<Pending>, R: BoundedQueue<Received>, A: Arbiter>(
+    bus: &mut Bus<T, R, A>,
     alloc: Global,
     event: &Event,
 ) -> Reply
@@ -30,12 +33,15 @@ fn serve<T: BoundedQueue<Pending>, R: BoundedQueue<Received>>(
     match event {
         Event::Open(iface, capacity) => opened_reply(&bus.open(alloc, *iface, *capacity)),
         Event::Close(id) => closed_reply(&bus.close(*id)),
+        Event::SetFilters(id, filters) => done_reply(&bus.set_filters(alloc, *id, filters)),
+        Event::SetOption(id, option) => done_reply(&bus.set_option(*id, *option)),
         Event::Send(id, frame) => sent_reply(&bus.send(*id, *frame)),
         Event::Receive(id) => received_reply(&bus.receive(*id)),
-        Event::Attempt(moment) => match bus.attempt(*moment) {
+        Event::Attempt(moment, verdict) => match bus.attempt(*moment, *verdict) {
             Ok(outcome) => attempt_reply(&outcome),
             Err(why) => Reply::Refused(why),
         },
+        Event::Restart(iface, moment) => done_reply(&bus.restart(*iface, *moment)),
     }
 }
 
@@ -56,8 +62,8 @@ fn note(replies: &mut Vec<Reply>, reply: Reply)
 /// the events with these replies, but for those that were refused for a full record or for want of
 /// memory, and each reply is the one that the entries before it allow. `RunFault` comes before the first
 /// event, and then nothing was done.
-pub fn run<T: BoundedQueue<Pending>, R: BoundedQueue<Received>>(
-    bus: &mut Bus<T, R>,
+pub fn run<T: BoundedQueue<Pending>, R: BoundedQueue<Received>, A: Arbiter>(
+    bus: &mut Bus<T, R, A>,
     alloc: Global,
     events: &[Event],
 ) -> Result<Vec<Reply>, RunFault>

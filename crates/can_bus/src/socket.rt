@@ -1,9 +1,12 @@
-ghost use Rattle.std.specs.Prelude.{◌≡◌, ◌+◌, ◌<◌, ◌^◌, ◌≤◌, [], ◌∷◌, ◌++◌, length, drop, slice_get, IfOk, Some};
-ghost use Rattle.can_bus.specs.State.{filled};
+ghost use Rattle.std.specs.Prelude.{◌≡◌, ◌+◌, ◌<◌, ◌^◌, ◌≤◌, [], ◌∷◌, ◌++◌, length, slice_get, IfOk, Some, None};
+ghost use Rattle.can_bus.specs.Changes.{fresh, relieved};
 ghost use Rattle.can_bus.specs.Queues.{passing};
-ghost use Rattle.can_filter.specs.Passing.{receives_all, default_options};
+ghost use Rattle.can_bus.specs.Sockets.{with_option};
+ghost use Rattle.can_bus.specs.State.{filled};
+ghost use Rattle.std.specs.Option.{option_map};
+ghost use Rattle.can_bus.specs.declared.events.SocketId.{SocketId};
 
-use crate::events::{Closed, Received, SocketId};
+use crate::events::{Closed, Opt, Received, SocketId};
 use can_filter::{FilterSet, Options, wants};
 use can_frame::Iface;
 use can_queue::{BoundedQueue, QueueError};
@@ -18,6 +21,7 @@ pub struct Socket<R: BoundedQueue<Received>> {
     filters: FilterSet,
     options: Options,
     queue: R,
+    taken: u64,
     dropped: u64,
 }
 
@@ -26,7 +30,7 @@ impl<R: BoundedQueue<Received>> Model for Socket<R> {
 
     ghost Value = { SocketState };
 
-    ghost view = { λ s. record { number = s.number; iface = s.iface; capacity = R.capacity_of s.queue; filters = s.filters; options = s.options; waiting = R.contents s.queue; dropped = s.dropped } };
+    ghost view = { λ s. record { number = s.number; iface = s.iface; capacity = R.capacity_of s.queue; filters = s.filters; options = s.options; waiting = R.contents s.queue; taken = s.taken; dropped = s.dropped } };
 }
 
 impl<R: BoundedQueue<Received>> Socket<R> {
@@ -36,7 +40,7 @@ impl<R: BoundedQueue<Received>> Socket<R> {
         iface: Iface,
         capacity: usize,
     ) -> Result<Socket<R>, QueueError>
-        ensures { IfOk result (λ s. s ≡ record { number = number; iface = iface; capacity = capacity; filters = receives_all; options = default_options; waiting = []; dropped = 0 }) }
+        ensures { IfOk result (λ s. s ≡ fresh number iface capacity) }
     {
         let Ok(filters) = FilterSet::all(alloc) else {
             return Err(QueueError::NoMemory);
@@ -47,6 +51,7 @@ impl<R: BoundedQueue<Received>> Socket<R> {
             filters,
             options: Options::at_open(),
             queue: R::with_capacity(alloc, capacity)?,
+            taken: 0,
             dropped: 0,
         })
     }
@@ -69,12 +74,44 @@ impl<R: BoundedQueue<Received>> Socket<R> {
         self.options
     }
 
+    pub fn taken(&self) -> u64
+        ensures { result ≡ self.now.taken }
+    {
+        self.taken
+    }
+
+    /// Puts other filters in place of its own.
+    pub fn set_filters(&mut self, filters: FilterSet)
+        ensures { self.new ≡ record self.old { filters = filters } }
+    {
+        self.filters = filters;
+    }
+
+    /// Sets an option.
+    pub fn set_option(&mut self, option: Opt)
+        ensures { self.new ≡ record self.old { options = with_option option self.old.options } }
+    {
+        match option {
+            Opt::Loopback(on) => self.options.loopback = on,
+            Opt::RecvOwn(on) => self.options.recv_own = on,
+            Opt::Join(on) => self.options.join = on,
+            Opt::ErrMask(mask) => self.options.err_mask = mask,
+        }
+    }
+
     /// Gives the oldest item.
     pub fn receive(&mut self) -> Option<Received>
+        requires { self.old.taken + 1 < 2 ^ 64 }
         ensures taken { result ≡ slice_get self.old.waiting 0 }
-        ensures rest { self.new ≡ record self.old { waiting = drop 1 self.old.waiting } }
+        ensures rest { self.new ≡ relieved result self.old }
     {
-        self.queue.pop()
+        match self.queue.pop() {
+            Some(received) => {
+                self.taken += 1;
+                Some(received)
+            }
+            None => None,
+        }
     }
 
     pub fn counts(&self) -> Closed
@@ -87,12 +124,15 @@ impl<R: BoundedQueue<Received>> Socket<R> {
     }
 
     /// Takes an item that it wants, or counts it as dropped where there is no room.
-    pub fn post(&mut self, received: Received, sender: SocketId)
+    pub fn post(&mut self, received: Received, sender: Option<SocketId>)
         requires { self.old.dropped + 1 < 2 ^ 64 }
-        ensures { self.new ≡ filled self.old (passing self.old.filters self.old.options self.old.number (record { received = received; sender = Some sender.0 } ∷ [])) }
+        ensures { self.new ≡ filled self.old (passing self.old.filters self.old.options self.old.number (record { received = received; sender = option_map (λ (s : SocketId). s.0) sender } ∷ [])) }
     {
-        let own = sender.0 == self.number;
-        if wants(&self.filters, &self.options, &received.item, own) {
+        let is_own = match sender {
+            Some(id) => id.0 == self.number,
+            None => false,
+        };
+        if wants(&self.filters, &self.options, &received.item, is_own) {
             if self.queue.try_push(received).is_err() {
                 self.dropped += 1;
             }

@@ -1,13 +1,14 @@
-ghost use Rattle.std.specs.Prelude.{◌≡◌, ◌+◌, ◌<◌, ◌≤◌, ◌^◌, ◌==◌, All, map, vec_capacity, IfSome, IfNone, IsSomeAnd, slice_get, length, false, ◌||◌, ◌&&◌, Some};
+ghost use Rattle.std.specs.Prelude.{◌≡◌, ◌+◌, ◌<◌, ◌≤◌, ◌^◌, ◌==◌, All, vec_capacity, IfSome, IfNone, IsSomeAnd, slice_get, length, false};
 ghost use Rattle.std.specs.List.{list_any};
-ghost use Rattle.can_bus.specs.State.{reached};
-ghost use Rattle.can_bus.specs.Changes.{Receives, Closes, Opens};
-ghost use Rattle.can_frame.specs.Sets.{is_in};
-ghost use Rattle.can_bus.specs.Posts.{is_looped_back};
+ghost use Rattle.can_bus.specs.Changes.{Receives, Sets, Closes, Opens};
+ghost use Rattle.can_bus.specs.Sockets.{with_option};
+ghost use Rattle.can_bus.specs.Stats.{TellsSocket};
 
-use crate::events::{Class, Closed, Pending, Received, Refusal, SocketId, Tried};
+use crate::events::{Closed, Opt, Received, Refusal, SocketId};
 use crate::socket::Socket;
-use can_frame::{Iface, Item};
+use crate::stats::SocketStats;
+use can_filter::FilterSet;
+use can_frame::Iface;
 use can_queue::BoundedQueue;
 use std::alloc::Global;
 
@@ -25,50 +26,12 @@ pub fn find<R: BoundedQueue<Received>>(sockets: &[Socket<R>], id: SocketId) -> O
     None
 }
 
-/// Whether a frame that was tried is put to the sockets of an interface.
-fn is_posted(tried: &Tried, pending: &Pending, iface: Iface) -> bool
-    ensures { result ≡ (is_in iface tried.now.accepted || ((iface == tried.now.winner) && is_looped_back tried.now.class (Some pending.now))) }
-{
-    if tried.accepted.contains(iface) {
-        return true;
-    }
-    match tried.class {
-        Class::Done => iface.number() == tried.winner.number() && pending.loopback,
-        _ => false,
-    }
-}
-
-/// Puts a frame that was tried to one socket.
-fn reach_one<R: BoundedQueue<Received>>(socket: &mut Socket<R>, tried: &Tried, pending: &Pending)
-    requires { socket.old.dropped + 1 < 2 ^ 64 }
-    ensures { socket.new ≡ reached tried.now pending.now socket.old }
-{
-    if is_posted(tried, pending, socket.iface()) {
-        let received = Received {
-            item: Item::Data(tried.frame),
-            from: tried.winner,
-            number: tried.number,
-            moment: tried.moment,
-        };
-        socket.post(received, pending.socket);
-    }
-}
-
-/// Puts a frame that was tried to every socket.
-pub fn reach<R: BoundedQueue<Received>>(sockets: &mut [Socket<R>], tried: &Tried, pending: &Pending)
-    requires { All (λ v. v.dropped + 1 < 2 ^ 64) sockets.old }
-    ensures { sockets.new ≡ map (reached tried.now pending.now) sockets.old }
-{
-    for socket in sockets.iter_mut() {
-        reach_one(socket, tried, pending);
-    }
-}
-
 /// Gives the oldest item of a socket.
 pub fn receive_from<R: BoundedQueue<Received>>(
     sockets: &mut Vec<Socket<R>>,
     id: SocketId,
 ) -> Result<Option<Received>, Refusal>
+    requires { All (λ v. v.taken + 1 < 2 ^ 64) sockets.old.items }
     ensures received { Receives sockets.old.items id.0 result sockets.new.items }
     ensures room { vec_capacity sockets.new ≡ vec_capacity sockets.old }
 {
@@ -77,6 +40,40 @@ pub fn receive_from<R: BoundedQueue<Received>>(
     };
     let socket = &mut sockets[k];
     Ok(socket.receive())
+}
+
+/// Sets the filters of a socket.
+pub fn set_filters_on<R: BoundedQueue<Received>>(
+    sockets: &mut Vec<Socket<R>>,
+    id: SocketId,
+    filters: FilterSet,
+) -> Result<(), Refusal>
+    ensures set { Sets sockets.old.items id.0 (λ v. record v { filters = filters }) result sockets.new.items }
+    ensures room { vec_capacity sockets.new ≡ vec_capacity sockets.old }
+{
+    let Some(k) = find(sockets, id) else {
+        return Err(Refusal::NoSocket);
+    };
+    let socket = &mut sockets[k];
+    socket.set_filters(filters);
+    Ok(())
+}
+
+/// Sets an option of a socket.
+pub fn set_option_on<R: BoundedQueue<Received>>(
+    sockets: &mut Vec<Socket<R>>,
+    id: SocketId,
+    option: Opt,
+) -> Result<(), Refusal>
+    ensures set { Sets sockets.old.items id.0 (λ v. record v { options = with_option option v.options }) result sockets.new.items }
+    ensures room { vec_capacity sockets.new ≡ vec_capacity sockets.old }
+{
+    let Some(k) = find(sockets, id) else {
+        return Err(Refusal::NoSocket);
+    };
+    let socket = &mut sockets[k];
+    socket.set_option(option);
+    Ok(())
 }
 
 /// Closes a socket.
@@ -123,4 +120,23 @@ pub fn open_in<R: BoundedQueue<Received>>(
         return Err(Refusal::NoMemory);
     }
     Ok(SocketId(number))
+}
+
+/// The counts of an open socket.
+pub fn stats_of<R: BoundedQueue<Received>>(
+    sockets: &Vec<Socket<R>>,
+    id: SocketId,
+) -> Option<SocketStats>
+    requires { All (λ v. v.taken + length v.waiting < 2 ^ 64) sockets.now.items }
+    ensures { TellsSocket sockets.now.items id.0 result }
+{
+    let k = find(sockets, id)?;
+    let socket = &sockets[k];
+    let counts = socket.counts();
+    let taken = socket.taken();
+    Some(SocketStats {
+        queued: taken + counts.unread,
+        dropped: counts.dropped,
+        taken,
+    })
 }

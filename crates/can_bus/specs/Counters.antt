@@ -1,0 +1,39 @@
+use Rattle.std.specs.Prelude.{ℕ, ◌==◌, List, [], ◌++◌, ◌∷◌, if◌then◌else◌}
+use Rattle.can_confine.specs.Confinement.{ErrorCounts, Step, all_stepped, at_start, state_of}
+use Rattle.can_confine.specs.declared.states.State.{State}
+use Rattle.can_fault.specs.declared.verdicts.Verdict.{Verdict}
+use Rattle.can_attempt.specs.Attempts.{Transmission, steps_at}
+use Rattle.can_bus.specs.declared.events.BusConfig.{BusConfig}
+use Rattle.can_bus.specs.declared.events.Entry.{Entry}
+use Rattle.can_bus.specs.declared.events.Event.{Event}
+use Rattle.can_bus.specs.declared.events.Event.TheVariants.{Attempt, Restart}
+use Rattle.can_bus.specs.declared.events.Reply.{Reply}
+use Rattle.can_bus.specs.declared.events.Reply.TheVariants as reply
+
+-- The error counters of a bus's interfaces, by its history (Bosch CAN Specification 2.0, fault confinement).
+
+-- interface w sends under this verdict, where the error counts are these
+abbrev pub sending : BusConfig → (ℕ → ErrorCounts) → ℕ → Verdict → Transmission
+sending c counts w v = record { count = c.ifaces; counts = counts; winner = w; verdict = v; ack = c.ack }
+
+abbrev pub steps_after : BusConfig → Event → Reply → (ℕ → ErrorCounts) → ℕ → List Step → List Step
+steps_after c (Attempt m v) (reply.Tried t) counts i before = before ++ steps_at i (sending c counts t.winner v)
+steps_after c (Restart k m) reply.Done counts i before = if k == i then [] else before
+steps_after c _ _ counts i before = before
+
+-- the steps of interface i's error counters since its last restart
+abbrev pub steps_of : BusConfig → List Entry → ℕ → List Step
+steps_of c [] i = []
+steps_of c (e ∷ past) i = steps_after c e.event e.reply (λ j. all_stepped at_start (steps_of c past j)) i (steps_of c past i)
+
+-- the error counts of interface i: what these steps make of 0/0
+abbrev pub counts_of : BusConfig → List Entry → ℕ → ErrorCounts
+counts_of c past i = all_stepped at_start (steps_of c past i)
+
+-- the fault confinement state of interface i
+abbrev pub state_at : BusConfig → List Entry → ℕ → State
+state_at c past i = state_of (counts_of c past i)
+
+-- interface w sends now, under this verdict
+abbrev pub transmission : BusConfig → List Entry → ℕ → Verdict → Transmission
+transmission c past w v = sending c (counts_of c past) w v

@@ -1,0 +1,36 @@
+use Rattle.std.specs.Prelude.{◌≡◌, ℕ, ◌+◌, ◌-◌, nat_lt, List, length, Option, Some, None, if◌then◌else◌}
+use Rattle.can_confine.specs.Confinement.{ErrorCounts}
+use Rattle.can_bus.specs.declared.events.BusConfig.{BusConfig}
+use Rattle.can_bus.specs.declared.events.Entry.{Entry}
+use Rattle.can_bus.specs.declared.stats.SocketStats.{SocketStats}
+use Rattle.can_bus.specs.declared.stats.IfaceStats.{IfaceStats}
+use Rattle.can_bus.specs.Sockets.{is_open}
+use Rattle.can_bus.specs.Transmit.{sent_by, gone_count, done_count, lost_count, refused_count}
+use Rattle.can_bus.specs.Counters.{counts_of}
+use Rattle.can_bus.specs.Queues.{queued_to, dropped_at, taken_from}
+use Rattle.can_bus.specs.Changes.{StandsAt, IsNowhere}
+use Rattle.can_bus.specs.State.{LineState, SocketState}
+
+-- The counts that a bus tells without an event.
+
+-- of an open socket: the items that found room, that found none, and that were taken
+abbrev pub socket_stats_of : BusConfig → List Entry → ℕ → Option SocketStats
+socket_stats_of c past s = if is_open past s then Some (record { queued = length (queued_to c past s); dropped = length (dropped_at c past s); taken = length (taken_from past s) }) else None
+
+-- of an interface that is there: the frames sent, done, waiting, lost and refused, and the error counts
+abbrev pub iface_stats_of : BusConfig → List Entry → ℕ → Option IfaceStats
+iface_stats_of c past i = if nat_lt i c.ifaces then Some (record { sent = length (sent_by past i); done = done_count past i; waiting = length (sent_by past i) - gone_count past i; lost = lost_count past i; refused = refused_count past i; counters = counts_of c past i }) else None
+
+-- the same, from what is kept
+abbrev pub told_line : ErrorCounts → LineState → IfaceStats
+told_line counts l = record { sent = l.sent; done = l.done; waiting = length l.waiting; lost = l.gone - l.done; refused = l.refused; counters = counts }
+
+pub record TellsOf (sockets : List SocketState) (s : ℕ) (stats : SocketStats) : Type 0 where
+  pub place : ℕ
+  pub socket : SocketState
+  pub stands : StandsAt sockets s place socket
+  pub told : stats ≡ record { queued = socket.taken + length socket.waiting; dropped = socket.dropped; taken = socket.taken }
+
+abbrev pub TellsSocket : List SocketState → ℕ → Option SocketStats → Type 0
+TellsSocket sockets s None = IsNowhere sockets s
+TellsSocket sockets s (Some stats) = TellsOf sockets s stats
