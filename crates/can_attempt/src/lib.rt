@@ -1,1 +1,19 @@
+//! One attempt to send a frame: what becomes of it, who accepts it, and what it does to each
+//! interface's error counters.
+//!
+//! `judge` answers exactly what the definitions in `specs/Attempts.antt` say of the winner, the live
+//! receivers, the verdict and the acknowledgement mode. It takes no memory.
 #![tactic(auto)]
+
+pub mod acks;
+pub mod classes;
+pub mod judgements;
+pub mod judging;
+pub mod nodes;
+mod surveys;
+
+pub use acks::AckMode;
+pub use classes::Class;
+pub use judgements::Judgement;
+pub use judging::judge;
+pub use nodes::Nodes;

@@ -1,0 +1,60 @@
+use Rattle.std.proofs.Common.{◌≡◌, ℕ, zero, suc, ◌+◌, ◌<◌, ◌≤◌, ◌==◌, nat_le, nat_lt, Bool, true, false, ◌&&◌, List, [], ◌∷◌, ◌++◌, filter, refl, ap, ◌∙◌, arith, inl, inr}
+use Rattle.std.proofs.lemmas.Bool.{cases_lt}
+use Rattle.std.specs.List.{range_with_len}
+use Rattle.std.proofs.lemmas.Map.Views.{any-filter_same}
+use Rattle.can_frame.specs.Sets.{bits_where}
+use Rattle.can_attempt.specs.declared.classes.Class.{Class}
+use Rattle.can_attempt.specs.Attempts.{is_among, Transmission, can_hear, receivers, is_named, steps_in, receiver_step}
+
+-- Lists of interfaces, and the bits of the sets that they make.
+
+-- a filter keeps what passes
+pub is_among-filter : (p : ℕ → Bool) (i : ℕ) (xs : List ℕ) → is_among i (filter p xs) ≡ (p i && is_among i xs)
+is_among-filter p i xs = any-filter_same (λ j. j == i) p (p i) (λ k same. ap p (grind arith)) xs
+
+-- the numbers from a on
+pub is_among-range : (i a n : ℕ) → is_among i (range_with_len a n) ≡ (nat_le a i && nat_lt i (a + n))
+is_among-range i a zero = grind arith
+is_among-range i a (suc n) = let later : is_among i (range_with_len (a + 1) n) ≡ (nat_le (a + 1) i && nat_lt i (a + 1 + n)) = is_among-range i (a + 1) n in grind (arith, later)
+
+-- one number more, at the end
+pub range_more : (a n j : ℕ) → a + n ≡ j → range_with_len a (suc n) ≡ range_with_len a n ++ j ∷ []
+range_more a zero j e = ap (λ k. k ∷ []) (omega (arith, e))
+range_more a (suc n) j e = ap (λ ks. a ∷ ks) (range_more (a + 1) n j (omega (arith, e)))
+
+-- tests that agree below n make the same bits
+pub bits_where_same : (p q : ℕ → Bool) (n : ℕ) → ((i : ℕ) → i < n → p i ≡ q i) → bits_where p n ≡ bits_where q n
+bits_where_same p q zero same = refl
+bits_where_same p q (suc n) same =
+    let here : p n ≡ q n = same n (omega arith) in
+    let below : bits_where p n ≡ bits_where q n = bits_where_same p q n (λ i h. same i (omega (arith, h))) in
+    rw (here, below) refl
+
+-- bits above the last place that passes are 0
+pub bits_where_below : (p q : ℕ → Bool) (c n : ℕ) → c ≤ n → ((i : ℕ) → p i ≡ (q i && nat_lt i c)) → bits_where p n ≡ bits_where q c
+bits_where_below p q c zero within same = let none : c ≡ 0 = omega (arith, within) in rw none refl
+bits_where_below p q c (suc n) within same =
+    elim (cases_lt n c) [
+      | inl below ↦
+          let all : c ≡ suc n = omega (arith, within, below) in
+          rw all (bits_where_same p q (suc n) (λ i h. let s : p i ≡ (q i && nat_lt i c) = same i in grind (arith, s)))
+      | inr past ↦
+          let above : p n ≡ false = let s : p n ≡ (q n && nat_lt n c) = same n in grind (arith, s) in
+          rw above (bits_where_below p q c n past same)
+    ]
+
+-- who is a receiver
+pub is_among-receivers : (t : Transmission) (i : ℕ) → is_among i (receivers t) ≡ (can_hear t i && nat_lt i t.count)
+is_among-receivers t i = rw (is_among-filter (can_hear t) i (range_with_len 0 t.count), is_among-range i 0 t.count) (grind arith)
+
+-- a receiver takes a receiver's step
+pub steps_in-receiver : (c : Class) (t : Transmission) (i : ℕ) → (i == t.winner) ≡ false → can_hear t i ≡ true → i < t.count → steps_in c t i ≡ receiver_step c (is_named t.verdict i)
+steps_in-receiver c t i other hears there =
+    let among : is_among i (receivers t) ≡ true = rw (is_among-receivers t i, hears) (grind arith) in
+    rw (other, among) refl
+
+-- any other interface takes none
+pub steps_in-none : (c : Class) (t : Transmission) (i : ℕ) → (i == t.winner) ≡ false → (can_hear t i && nat_lt i t.count) ≡ false → steps_in c t i ≡ []
+steps_in-none c t i other deaf =
+    let among : is_among i (receivers t) ≡ false = is_among-receivers t i ∙ deaf in
+    rw (other, among) refl

@@ -1,0 +1,140 @@
+use Rattle.std.specs.Prelude.{ℕ, ◌==◌, Bool, true, false, not, ◌&&◌, ◌||◌, List, [], ◌∷◌, length, filter, map, slice_index_or, if◌then◌else◌}
+use Rattle.std.specs.List.{list_any, range_with_len}
+use Rattle.can_frame.specs.Sets.{is_in, set_where}
+use Rattle.can_frame.specs.declared.ifaces.IfaceSet.{IfaceSet}
+use Rattle.can_confine.specs.Confinement.{ErrorCounts, Step, all_stepped, at_start, state_of, is_off, is_passive}
+use Rattle.can_confine.specs.Confinement.Step.{TransmitError, ReceiveError, GoodTransmission, GoodReception}
+use Rattle.can_confine.specs.declared.states.State.{State}
+use Rattle.can_fault.specs.declared.verdicts.Verdict.{Verdict}
+use Rattle.can_fault.specs.declared.verdicts.Verdict.TheVariants as verdict
+use Rattle.can_attempt.specs.declared.classes.Class.{Class}
+use Rattle.can_attempt.specs.declared.classes.Class.TheVariants as class
+use Rattle.can_attempt.specs.declared.acks.AckMode.{AckMode}
+use Rattle.can_attempt.specs.declared.acks.AckMode.TheVariants.{Always, Peers}
+use Rattle.can_attempt.specs.declared.nodes.Nodes.{Nodes}
+use Rattle.can_attempt.specs.declared.judgements.Judgement.{Judgement}
+
+-- One attempt to send a frame: who hears it, what becomes of it, and what it does to each interface's error
+-- counts. Own choice throughout, resting on the fault confinement and the message validation of the Bosch CAN
+-- Specification 2.0.
+
+-- interface i is one of these
+abbrev pub is_among : ℕ → List ℕ → Bool
+is_among i is = list_any (λ j. j == i) is
+
+-- the set of these interfaces: bit i exactly for each i among them
+abbrev pub set_of : List ℕ → IfaceSet
+set_of is = set_where (λ i. is_among i is) 16
+
+-- an attempt: how many interfaces there are, their error counts, who sends, the faults, and who acknowledges
+pub record Transmission : Type 0 where
+  pub count : ℕ
+  pub counts : ℕ → ErrorCounts
+  pub winner : ℕ
+  pub verdict : Verdict
+  pub ack : AckMode
+
+abbrev pub state_at : Transmission → ℕ → State
+state_at t i = state_of (t.counts i)
+
+-- another interface than the winner, and not bus off
+abbrev pub can_hear : Transmission → ℕ → Bool
+can_hear t i = not (i == t.winner) && not (is_off (state_at t i))
+
+-- the receivers: the live others
+abbrev pub receivers : Transmission → List ℕ
+receivers t = filter (can_hear t) (range_with_len 0 t.count)
+
+abbrev pub is_global : Verdict → Bool
+is_global (verdict.Global kind) = true
+is_global _ = false
+
+abbrev pub is_last_bit : Verdict → Bool
+is_last_bit verdict.LastBit = true
+is_last_bit _ = false
+
+-- a local fault strikes this interface
+abbrev pub is_named : Verdict → ℕ → Bool
+is_named (verdict.Local set kind) i = is_in i set
+is_named _ i = false
+
+-- the receivers that a local fault strikes
+abbrev pub hit : Transmission → List ℕ
+hit t = filter (is_named t.verdict) (receivers t)
+
+-- the receivers that got every bit right
+abbrev pub unhurt : Transmission → List ℕ
+unhurt t = filter (λ i. not (is_named t.verdict i)) (receivers t)
+
+-- an active error flag is seen by all: of a fault for the whole bus, or of a receiver that is not error passive
+abbrev pub is_destroyed : Transmission → Bool
+is_destroyed t = is_global t.verdict || list_any (λ i. not (is_passive (state_at t i))) (hit t)
+
+abbrev pub is_always : AckMode → Bool
+is_always Always = true
+is_always Peers = false
+
+-- the acknowledge slot is dominant: always, or where a receiver got every bit right
+abbrev pub is_acknowledged : Transmission → Bool
+is_acknowledged t = is_always t.ack || not (length (unhurt t) == 0)
+
+-- the first case that holds
+abbrev pub class_when : Bool → Bool → Bool → Class
+class_when destroyed acknowledged last_bit = if destroyed then class.Destroyed else if not acknowledged then class.NoAck else if last_bit then class.LastBit else class.Done
+
+-- what becomes of the frame
+abbrev pub class_of : Transmission → Class
+class_of t = class_when (is_destroyed t) (is_acknowledged t) (is_last_bit t.verdict)
+
+-- who accepts the frame in an attempt of this class
+abbrev pub accepted_in : Class → Transmission → List ℕ
+accepted_in class.Done t = unhurt t
+accepted_in class.LastBit t = unhurt t
+accepted_in class.Destroyed t = []
+accepted_in class.NoAck t = []
+
+-- the step of the winner, whose state is this; an error passive one doesn't count a missing acknowledgement
+abbrev pub winner_step : Class → State → List Step
+winner_step class.Done state = GoodTransmission ∷ []
+winner_step class.LastBit state = TransmitError ∷ []
+winner_step class.Destroyed state = TransmitError ∷ []
+winner_step class.NoAck state = if is_passive state then [] else TransmitError ∷ []
+
+-- the step of a receiver, hit or not
+abbrev pub receiver_step : Class → Bool → List Step
+receiver_step class.Done is_hit = if is_hit then ReceiveError ∷ [] else GoodReception ∷ []
+receiver_step class.LastBit is_hit = GoodReception ∷ []
+receiver_step class.Destroyed is_hit = ReceiveError ∷ []
+receiver_step class.NoAck is_hit = if is_hit then ReceiveError ∷ [] else []
+
+-- what an attempt of this class does to interface i
+abbrev pub steps_in : Class → Transmission → ℕ → List Step
+steps_in c t i = if i == t.winner then winner_step c (state_at t i) else if is_among i (receivers t) then receiver_step c (is_named t.verdict i) else []
+
+-- the error counts of interface i after an attempt of this class
+abbrev pub counts_in : Class → Transmission → ℕ → ErrorCounts
+counts_in c t i = all_stepped (t.counts i) (steps_in c t i)
+
+-- what the attempt does to interface i
+abbrev pub steps_at : ℕ → Transmission → List Step
+steps_at i t = steps_in (class_of t) t i
+
+-- the error counts of interface i after it
+abbrev pub counts_after : Transmission → ℕ → ErrorCounts
+counts_after t i = all_stepped (t.counts i) (steps_at i t)
+
+-- the winner, if the attempt takes it off
+abbrev pub off_after : Transmission → List ℕ
+off_after t = if is_off (state_of (counts_after t t.winner)) then t.winner ∷ [] else []
+
+-- the error counts of interface i of these nodes
+abbrev pub counts_at : Nodes → ℕ → ErrorCounts
+counts_at nodes i = slice_index_or nodes.counters i at_start
+
+-- an attempt between these nodes
+abbrev pub attempt_between : Nodes → ℕ → Verdict → AckMode → Transmission
+attempt_between nodes w v a = record { count = nodes.count; counts = counts_at nodes; winner = w; verdict = v; ack = a }
+
+-- all that follows from an attempt
+abbrev pub judged : Transmission → Judgement
+judged t = record { class = class_of t; accepted = set_of (accepted_in (class_of t) t); hit = set_of (hit t); counters = map (counts_after t) (range_with_len 0 16); off = set_of (off_after t) }

@@ -1,0 +1,140 @@
+ghost use Rattle.std.specs.Prelude.{◌≡◌, ◌<◌, ◌≤◌, ◌^◌, ◌||◌, ◌==◌, [], ◌∷◌, length, not, map, false, Bool, if◌then◌else◌, slice_index_or};
+ghost use Rattle.std.specs.List.{list_any, range_with_len};
+ghost use Rattle.can_frame.specs.Sets.{no_ifaces};
+ghost use Rattle.can_confine.specs.Confinement.{ErrorCounts, all_stepped, is_off, is_passive, state_of, at_start};
+ghost use Rattle.can_attempt.specs.Attempts.{Transmission, accepted_in, attempt_between, class_when, counts_in, counts_at, is_always, is_global, is_last_bit, judged, set_of, unhurt, winner_step, receiver_step};
+ghost use Rattle.can_attempt.specs.declared.acks.AckMode.{AckMode};
+
+use crate::acks::AckMode;
+use crate::classes::Class;
+use crate::judgements::Judgement;
+use crate::nodes::{Nodes, counters_at};
+use crate::surveys::{Survey, can_hear, is_named, survey_of};
+use can_confine::Counters;
+use can_fault::Verdict;
+use can_frame::{Iface, IfaceSet};
+
+/// What becomes of the frame.
+fn class_of(verdict: Verdict, ack: AckMode, seen: &Survey) -> Class
+    ensures { result ≡ class_when (is_global verdict || seen.now.is_hit_active) (is_always ack || seen.now.is_heard) (is_last_bit verdict) }
+{
+    if matches!(verdict, Verdict::Global(_)) || seen.is_hit_active {
+        Class::Destroyed
+    } else if ack == AckMode::Peers && !seen.is_heard {
+        Class::NoAck
+    } else if matches!(verdict, Verdict::LastBit) {
+        Class::LastBit
+    } else {
+        Class::Done
+    }
+}
+
+/// The winner's counters after an attempt of this class.
+fn winner_after(class: Class, counters: Counters) -> Counters
+    requires { counters.tec < 256 }
+    ensures { result ≡ all_stepped counters (winner_step class (state_of counters)) }
+{
+    match class {
+        Class::Done => counters.tx_good(),
+        Class::LastBit | Class::Destroyed => counters.tx_error(),
+        Class::NoAck => counters.ack_error(),
+    }
+}
+
+/// A receiver's counters after an attempt of this class, which a local fault struck or not.
+fn receiver_after(class: Class, is_hit: bool, counters: Counters) -> Counters
+    ensures { result ≡ all_stepped counters (receiver_step class is_hit) }
+{
+    match class {
+        Class::Done if is_hit => counters.rx_error(),
+        Class::Done | Class::LastBit => counters.rx_good(),
+        Class::Destroyed => counters.rx_error(),
+        Class::NoAck if is_hit => counters.rx_error(),
+        Class::NoAck => counters,
+    }
+}
+
+/// The counters at this place after an attempt of this class.
+fn counters_after(
+    nodes: &Nodes,
+    winner: Iface,
+    verdict: Verdict,
+    class: Class,
+    place: u8,
+) -> Counters
+    requires count { nodes.now.count ≤ 16 }
+    requires place { place < 16 }
+    requires winner { winner < nodes.now.count }
+    requires live { (counts_at nodes.now winner).tec < 256 }
+    ensures { (a : AckMode) → result ≡ counts_in class (attempt_between nodes.now winner verdict a) place }
+{
+    let counters = counters_at(nodes, place);
+    if place == winner.number() {
+        winner_after(class, counters)
+    } else if place < nodes.count && can_hear(nodes, winner, place) {
+        receiver_after(class, is_named(verdict, place), counters)
+    } else {
+        counters
+    }
+}
+
+/// All counters after an attempt of this class.
+fn all_counters_after(
+    nodes: &Nodes,
+    winner: Iface,
+    verdict: Verdict,
+    class: Class,
+) -> [Counters; 16]
+    requires count { nodes.now.count ≤ 16 }
+    requires winner { winner < nodes.now.count }
+    requires live { (counts_at nodes.now winner).tec < 256 }
+    ensures { (a : AckMode) → result ≡ map (counts_in class (attempt_between nodes.now winner verdict a)) (range_with_len 0 16) }
+{
+    let mut counters = nodes.counters;
+    for place in 0..16 {
+        counters[place as usize] = counters_after(nodes, winner, verdict, class, place);
+    }
+    counters
+}
+
+/// The receivers that accept the frame in an attempt of this class, of those that got every bit right.
+fn accepted_of(class: Class, unharmed: IfaceSet) -> IfaceSet
+    ensures { (t : Transmission) → unharmed ≡ set_of (unhurt t) → result ≡ set_of (accepted_in class t) }
+{
+    match class {
+        Class::Done | Class::LastBit => unharmed,
+        Class::Destroyed | Class::NoAck => IfaceSet::empty(),
+    }
+}
+
+/// The winner, if these are counters of an interface that is bus off.
+fn off_of(winner: Iface, counters: Counters) -> IfaceSet
+    ensures { result ≡ set_of (if is_off (state_of counters) then winner ∷ [] else []) }
+{
+    if counters.state().is_off() {
+        IfaceSet::empty().with(winner)
+    } else {
+        IfaceSet::empty()
+    }
+}
+
+/// Judges an attempt of the winner to send a frame: what becomes of it, who accepts it and who was hit, the
+/// error counters after it, and whether the winner went off the bus. The winner is below `count`, which is
+/// 1 to 16, and is not bus off.
+pub fn judge(nodes: &Nodes, winner: Iface, verdict: Verdict, ack: AckMode) -> Judgement
+    requires count { nodes.now.count ≤ 16 }
+    requires there { winner < nodes.now.count }
+    requires live { is_off (state_of (counts_at nodes.now winner)) ≡ false }
+    ensures { result ≡ judged (attempt_between nodes.now winner verdict ack) }
+{
+    let seen = survey_of(nodes, winner, verdict);
+    let class = class_of(verdict, ack, &seen);
+    let counters = all_counters_after(nodes, winner, verdict, class);
+    Judgement {
+        class,
+        accepted: accepted_of(class, seen.unhurt),
+        hit: seen.hit,
+        counters,
+        off: off_of(winner, counters[winner.number() as usize]),
+    }
+}

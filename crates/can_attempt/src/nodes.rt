@@ -1,0 +1,22 @@
+ghost use Rattle.std.specs.Prelude.{◌≡◌, ◌<◌};
+ghost use Rattle.can_attempt.specs.Attempts.{counts_at};
+
+use can_confine::Counters;
+
+/// The interfaces of a bus as an attempt finds them: how many there are, 1 to 16, and their error
+/// counters by interface number. What stands from place `count` on belongs to nobody.
+#[derive(Debug, Clone, Copy, PartialEq, Eq)]
+pub struct Nodes {
+    /// How many interfaces the bus has.
+    pub count: u8,
+    /// Their error counters.
+    pub counters: [Counters; 16],
+}
+
+/// The counters at this place.
+pub(crate) fn counters_at(nodes: &Nodes, place: u8) -> Counters
+    requires { place < 16 }
+    ensures { result ≡ counts_at nodes.now place }
+{
+    nodes.counters[place as usize]
+}

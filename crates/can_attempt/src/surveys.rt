@@ -1,0 +1,83 @@
+ghost use Rattle.std.specs.Prelude.{◌≡◌, ◌<◌, ◌≤◌, ◌^◌, ◌==◌, length, not, bit_or};
+ghost use Rattle.std.specs.List.{list_any};
+ghost use Rattle.can_confine.specs.Confinement.{is_passive};
+ghost use Rattle.can_attempt.specs.Attempts.{attempt_between, can_hear, hit, unhurt, is_named, set_of, state_at};
+ghost use Rattle.can_attempt.specs.declared.acks.AckMode.{AckMode};
+
+use crate::nodes::{Nodes, counters_at};
+use can_fault::Verdict;
+use can_frame::{Iface, IfaceSet};
+
+/// The receivers of an attempt, by what they see of its faults.
+#[derive(Debug, Drop)]
+pub(crate) struct Survey {
+    /// Those that a local fault strikes.
+    pub hit: IfaceSet,
+    /// The others.
+    pub unhurt: IfaceSet,
+    /// Whether one that is hit is not error passive.
+    pub is_hit_active: bool,
+    /// Whether there is one that is not hit.
+    pub is_heard: bool,
+}
+
+/// Whether the interface at this place is a receiver: not the winner, and not bus off.
+pub(crate) fn can_hear(nodes: &Nodes, winner: Iface, place: u8) -> bool
+    requires { place < 16 }
+    ensures { (v : _) → (a : AckMode) → result ≡ can_hear (attempt_between nodes.now winner v a) place }
+{
+    place != winner.number() && !counters_at(nodes, place).state().is_off()
+}
+
+/// Whether a local fault of the verdict strikes the interface at this place.
+pub(crate) fn is_named(verdict: Verdict, place: u8) -> bool
+    requires { place < 16 }
+    ensures { result ≡ is_named verdict place }
+{
+    match verdict {
+        Verdict::Local(named, _) => (named.0 >> place) & 1 == 1,
+        Verdict::Good | Verdict::Global(_) | Verdict::LastBit => false,
+    }
+}
+
+/// The set with the interface at this place too.
+fn with_place(set: IfaceSet, place: u8) -> IfaceSet
+    requires { place < 16 }
+    ensures { result.0 ≡ bit_or set.0 (2 ^ place) }
+{
+    IfaceSet(set.0 | (1 << place))
+}
+
+/// Asks each interface below `count` what it sees.
+pub(crate) fn survey_of(nodes: &Nodes, winner: Iface, verdict: Verdict) -> Survey
+    requires { nodes.now.count ≤ 16 }
+    ensures hit { (a : AckMode) → result.hit ≡ set_of (hit (attempt_between nodes.now winner verdict a)) }
+    ensures unhurt { (a : AckMode) → result.unhurt ≡ set_of (unhurt (attempt_between nodes.now winner verdict a)) }
+    ensures active { (a : AckMode) → result.is_hit_active ≡ list_any (λ i. not (is_passive (state_at (attempt_between nodes.now winner verdict a) i))) (hit (attempt_between nodes.now winner verdict a)) }
+    ensures heard { (a : AckMode) → result.is_heard ≡ not (length (unhurt (attempt_between nodes.now winner verdict a)) == 0) }
+{
+    let mut hit = IfaceSet::empty();
+    let mut unhurt = IfaceSet::empty();
+    let mut is_hit_active = false;
+    let mut is_heard = false;
+    for place in 0..nodes.count {
+        if !can_hear(nodes, winner, place) {
+            continue;
+        }
+        if is_named(verdict, place) {
+            hit = with_place(hit, place);
+            if !counters_at(nodes, place).state().is_passive() {
+                is_hit_active = true;
+            }
+        } else {
+            unhurt = with_place(unhurt, place);
+            is_heard = true;
+        }
+    }
+    Survey {
+        hit,
+        unhurt,
+        is_hit_active,
+        is_heard,
+    }
+}
