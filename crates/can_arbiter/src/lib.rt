@@ -1,1 +1,4 @@
+//! Stub.
 #![tactic(auto)]
+pub mod arbiters;
+pub use arbiters::Arbiter;

@@ -1,20 +1,22 @@
-use Rattle.std.proofs.Common.{◌≡◌, ◌≢◌, ℕ, ◌+◌, ◌<◌, ◌≤◌, List, [], ◌∷◌, ◌++◌, length, map, slice_get, Option, Some, None, Result, Ok, Err, refl, sym, ap, ◌∙◌, subst, arith}
+use Rattle.std.proofs.Common.{◌≡◌, ℕ, ◌+◌, ◌<◌, ◌≤◌, List, [], ◌∷◌, length, map, Option, Result, Ok, Err, refl, sym, ap, ◌∙◌, subst, arith}
+use Rattle.can_attempt.specs.declared.nodes.Nodes.{Nodes}
+use Rattle.can_bus.specs.declared.events.BusConfig.{BusConfig}
 use Rattle.can_bus.specs.declared.events.Entry.{Entry}
 use Rattle.can_bus.specs.declared.events.Event.{Event}
-use Rattle.can_bus.specs.declared.events.Event.TheVariants.{Open, Close, Send, Receive, Attempt}
+use Rattle.can_bus.specs.declared.events.Event.TheVariants.{Open, Close, SetFilters, SetOption, Send, Receive, Attempt, Restart}
 use Rattle.can_bus.specs.declared.events.Reply.{Reply}
 use Rattle.can_bus.specs.declared.events.Reply.TheVariants as reply
 use Rattle.can_bus.specs.declared.events.Refusal.{Refusal}
-use Rattle.can_bus.specs.declared.events.BusConfig.{BusConfig}
+use Rattle.can_bus.specs.declared.events.Refusal.TheVariants as refusal
+use Rattle.can_bus.specs.Answer.{Noted, Answers, Refuses, told}
 use Rattle.can_bus.specs.Journal.{Journal, Kept}
-use Rattle.can_bus.specs.Sockets.{places, open_sockets, iface_of}
-use Rattle.can_bus.specs.Transmit.{tape}
-use Rattle.can_bus.specs.Queues.{taken_from, queued_to, dropped_at}
+use Rattle.can_bus.specs.Sockets.{places, open_sockets, iface_of, filters_of, options_of}
 use Rattle.can_bus.specs.Posts.{posts_of}
+use Rattle.can_bus.specs.Queues.{taken_from, queued_to, dropped_at}
 use Rattle.can_bus.specs.Legal.{legal_reply}
-use Rattle.can_bus.specs.State.{LineState, SocketState, kept_line, kept_lines, kept_socket, kept_sockets, IsKept}
-use Rattle.can_bus.specs.Answer.{Noted}
+use Rattle.can_bus.specs.State.{LineState, SocketState, Parts, kept_socket, kept_sockets, kept_lines, kept_keys, kept_nodes, kept_parts, IsKept}
 use Rattle.can_bus.proofs.Quiet.{queued_to-quiet, dropped_at-quiet}
+use Rattle.can_bus.proofs.Refusing.{never_full, never_no_memory}
 
 -- a record with one entry more
 pub record IsLonger (j : Kept) (e : Entry) (new : Kept) : Type 0 where
@@ -22,80 +24,25 @@ pub record IsLonger (j : Kept) (e : Entry) (new : Kept) : Type 0 where
   pub history : new.history ≡ e ∷ j.history
   pub room : j.room ≤ new.room
 
--- one entry more is kept, where each part is what the longer history leaves
-pub kept_more : (j new : Kept) (e : Entry) (lines lines' : List LineState) (sockets sockets' : List SocketState) (p o t p' o' t' : ℕ) →
-    IsKept j lines sockets p o t → IsLonger j e new → length j.history < j.config.limit → e.reply ≡ legal_reply j.config j.history e.event →
-    lines' ≡ kept_lines j.config (e ∷ j.history) → sockets' ≡ kept_sockets j.config (e ∷ j.history) → o' ≡ length (places (e ∷ j.history)) → t' ≡ length (tape (e ∷ j.history)) → p' ≡ p →
-    IsKept new lines' sockets' p' o' t'
-kept_more j new e lines lines' sockets sockets' p o t p' o' t' kept longer room lawful lines_are sockets_are opened_is tried_is p_is =
+-- an entry's reply is the legal one, and the parts are what the longer history leaves
+pub record Follows (c : BusConfig) (past : List Entry) (e : Entry) (parts : Parts) : Type 0 where
+  pub lawful : e.reply ≡ legal_reply c past e.event
+  pub after : parts ≡ kept_parts c (e ∷ past)
+
+-- one entry more is kept
+pub kept_more : (j new : Kept) (e : Entry) (parts parts' : Parts) (p p' : ℕ) → IsKept j parts p → IsLonger j e new → length j.history < j.config.limit → Follows j.config j.history e parts' → p ≤ p' → IsKept new parts' p'
+kept_more j new e parts parts' p p' kept longer room follows le =
     let longer_config = longer.config in
     let longer_history = longer.history in
     let is : ◌≡◌ {A = Kept} (record { config = j.config; history = e ∷ j.history; room = new.room }) new = ap (λ (c : BusConfig). record { config = c; history = e ∷ j.history; room = new.room }) (sym longer_config) ∙ ap (λ (h : List Entry). record { config = new.config; history = h; room = new.room }) (sym longer_history) in
-    subst (λ k. IsKept k lines' sockets' p' o' t') is
+    subst (λ k. IsKept k parts' p') is
     (record {
-      of_lines = lines_are;
-      of_sockets = sockets_are;
-      of_opened = opened_is;
-      of_tried = tried_is;
-      legal = (room, lawful, kept.legal);
+      of_parts = follows.after;
+      legal = (room, follows.lawful, kept.legal);
       proper = kept.proper;
       room = omega (arith, kept.room, longer.room);
       sockets_room = omega (arith, kept.sockets_room);
     })
-
-pub map_same : {X : Type 0} (f g : ℕ → X) (xs : List ℕ) → ((o : ℕ) → g o ≡ f o) → map g xs ≡ map f xs
-map_same f g [] same = refl
-map_same f g (x ∷ xs) same = let here = same x in let rest = map_same f g xs same in cc
-
--- an entry that opens, closes, gives and posts nothing
-pub record IsQuiet (c : BusConfig) (past : List Entry) (e : Entry) : Type 0 where
-  pub of_places : places (e ∷ past) ≡ places past
-  pub of_open : open_sockets (e ∷ past) ≡ open_sockets past
-  pub of_taken : (o : ℕ) → taken_from (e ∷ past) o ≡ taken_from past o
-  pub of_posts : (o : ℕ) → posts_of c past (iface_of past o) e.event e.reply ≡ []
-
-pub kept_socket-quiet : (c : BusConfig) (past : List Entry) (e : Entry) → IsQuiet c past e → (o : ℕ) → kept_socket c (e ∷ past) o ≡ kept_socket c past o
-kept_socket-quiet c past e quiet o =
-    let p = quiet.of_places in
-    let t = quiet.of_taken o in
-    let q = queued_to-quiet c past e o (quiet.of_posts o) in
-    let d = dropped_at-quiet c past e o (quiet.of_posts o) in
-    cc
-
-pub kept_sockets-quiet : (c : BusConfig) (past : List Entry) (e : Entry) → IsQuiet c past e → kept_sockets c (e ∷ past) ≡ kept_sockets c past
-unfolding kept_sockets
-kept_sockets-quiet c past e quiet = ap (map (kept_socket c (e ∷ past))) quiet.of_open ∙ map_same (kept_socket c past) (kept_socket c (e ∷ past)) (open_sockets past) (kept_socket-quiet c past e quiet)
-
-abbrev pub refused : Event → Refusal → Entry
-refused event why = record { event = event; reply = reply.Refused why }
-
-refused-quiet : (c : BusConfig) (past : List Entry) (event : Event) (why : Refusal) → IsQuiet c past (refused event why)
-refused-quiet c past (Open i k) why = record { of_places = refl; of_open = refl; of_taken = λ o. refl; of_posts = λ o. refl }
-refused-quiet c past (Close s) why = record { of_places = refl; of_open = refl; of_taken = λ o. refl; of_posts = λ o. refl }
-refused-quiet c past (Send s f) why = record { of_places = refl; of_open = refl; of_taken = λ o. refl; of_posts = λ o. refl }
-refused-quiet c past (Receive s) why = record { of_places = refl; of_open = refl; of_taken = λ o. refl; of_posts = λ o. refl }
-refused-quiet c past (Attempt m) why = record { of_places = refl; of_open = refl; of_taken = λ o. refl; of_posts = λ o. refl }
-
-refused-lines : (c : BusConfig) (past : List Entry) (event : Event) (why : Refusal) → kept_lines c (refused event why ∷ past) ≡ kept_lines c past
-unfolding kept_lines
-refused-lines c past (Open i k) why = refl
-refused-lines c past (Close s) why = refl
-refused-lines c past (Send s f) why = refl
-refused-lines c past (Receive s) why = refl
-refused-lines c past (Attempt m) why = refl
-
--- a refusal that is noted changes nothing else
-pub kept_refused : (j new : Kept) (event : Event) (why : Refusal) (lines : List LineState) (sockets : List SocketState) (p o t : ℕ) →
-    IsKept j lines sockets p o t → IsLonger j (refused event why) new → length j.history < j.config.limit → reply.Refused why ≡ legal_reply j.config j.history event →
-    IsKept new lines sockets p o t
-kept_refused j new event why lines sockets p o t kept longer room lawful =
-    let quiet = refused-quiet j.config j.history event why in
-    kept_more j new (refused event why) lines lines sockets sockets p o t p o t kept longer room lawful
-    (kept.of_lines ∙ sym (refused-lines j.config j.history event why))
-    (kept.of_sockets ∙ sym (kept_sockets-quiet j.config j.history (refused event why) quiet))
-    (kept.of_opened ∙ ap length (sym quiet.of_places))
-    kept.of_tried
-    refl
 
 -- what the call's contract says of an entry that was added
 pub noted : (j new : Kept) (old : Journal) (e : Entry) → ◌≡◌ {A = Journal} (record { config = j.config; history = j.history }) old → IsLonger j e new → length j.history < j.config.limit → e.reply ≡ legal_reply j.config j.history e.event → Noted old e.event e.reply (record { config = new.config; history = new.history })
@@ -109,14 +56,98 @@ noted j new old e view longer room lawful =
       new_is = ap (λ (c : BusConfig). record { config = c; history = new.history }) longer_config ∙ ap (λ (h : List Entry). record { config = j.config; history = h }) longer_history;
     })
 
-pub more_room : (j : Kept) (lines : List LineState) (sockets : List SocketState) (p o t p' : ℕ) → IsKept j lines sockets p o t → p ≤ p' → IsKept j lines sockets p' o t
-more_room j lines sockets p o t p' kept le = record {
-  of_lines = kept.of_lines;
-  of_sockets = kept.of_sockets;
-  of_opened = kept.of_opened;
-  of_tried = kept.of_tried;
-  legal = kept.legal;
-  proper = kept.proper;
-  room = kept.room;
-  sockets_room = omega (arith, kept.sockets_room);
-}
+refuses : (before : Journal) (event : Event) (why : Refusal) (new : Journal) → Noted before event (reply.Refused why) new → Refuses before event why new
+refuses before event refusal.RecordFull new n = absurd (never_full before.config before.history event n.lawful)
+refuses before event refusal.NoMemory new n = absurd (never_no_memory before.config before.history event n.lawful)
+refuses before event _ new n = n
+
+-- an answer that was noted is the call's answer
+pub answered : {A : Type 0} (f : A → Reply) (before : Journal) (event : Event) (r : Result A Refusal) (new : Journal) → Noted before event (told f r) new → Answers f before event r new
+answered f before event (Ok a) new n = n
+answered f before event (Err why) new n = refuses before event why new n
+
+pub parts-are : (q : Parts) (lines : List LineState) (keys : List (Option ℕ)) (nodes : Nodes) (sockets : List SocketState) (opened tried : ℕ) → lines ≡ q.lines → keys ≡ q.keys → nodes ≡ q.nodes → sockets ≡ q.sockets → opened ≡ q.opened → tried ≡ q.tried → record { lines = lines; keys = keys; nodes = nodes; sockets = sockets; opened = opened; tried = tried } ≡ q
+parts-are q lines keys nodes sockets opened tried a b c d e f =
+    ap (λ (x : List LineState). record { lines = x; keys = keys; nodes = nodes; sockets = sockets; opened = opened; tried = tried }) a
+    ∙ ap (λ (x : List (Option ℕ)). record { lines = q.lines; keys = x; nodes = nodes; sockets = sockets; opened = opened; tried = tried }) b
+    ∙ ap (λ (x : Nodes). record { lines = q.lines; keys = q.keys; nodes = x; sockets = sockets; opened = opened; tried = tried }) c
+    ∙ ap (λ (x : List SocketState). record { lines = q.lines; keys = q.keys; nodes = q.nodes; sockets = x; opened = opened; tried = tried }) d
+    ∙ ap (λ (x : ℕ). record { lines = q.lines; keys = q.keys; nodes = q.nodes; sockets = q.sockets; opened = x; tried = tried }) e
+    ∙ ap (λ (x : ℕ). record { lines = q.lines; keys = q.keys; nodes = q.nodes; sockets = q.sockets; opened = q.opened; tried = x }) f
+
+pub map_same : {X : Type 0} (f g : ℕ → X) (xs : List ℕ) → ((o : ℕ) → g o ≡ f o) → map g xs ≡ map f xs
+map_same f g [] same = refl
+map_same f g (x ∷ xs) same = let here = same x in let rest = map_same f g xs same in cc
+
+-- an entry that opens, closes, sets, gives and posts nothing
+pub record IsQuiet (c : BusConfig) (past : List Entry) (e : Entry) : Type 0 where
+  pub of_places : places (e ∷ past) ≡ places past
+  pub of_open : open_sockets (e ∷ past) ≡ open_sockets past
+  pub of_filters : (o : ℕ) → filters_of (e ∷ past) o ≡ filters_of past o
+  pub of_options : (o : ℕ) → options_of (e ∷ past) o ≡ options_of past o
+  pub of_taken : (o : ℕ) → taken_from (e ∷ past) o ≡ taken_from past o
+  pub of_posts : (o : ℕ) → posts_of c past (iface_of past o) e.event e.reply ≡ []
+
+pub kept_socket-quiet : (c : BusConfig) (past : List Entry) (e : Entry) → IsQuiet c past e → (o : ℕ) → kept_socket c (e ∷ past) o ≡ kept_socket c past o
+kept_socket-quiet c past e quiet o =
+    let p = quiet.of_places in
+    let f = quiet.of_filters o in
+    let m = quiet.of_options o in
+    let t = quiet.of_taken o in
+    let q = queued_to-quiet c past e o (quiet.of_posts o) in
+    let d = dropped_at-quiet c past e o (quiet.of_posts o) in
+    cc
+
+pub kept_sockets-quiet : (c : BusConfig) (past : List Entry) (e : Entry) → IsQuiet c past e → kept_sockets c (e ∷ past) ≡ kept_sockets c past
+unfolding kept_sockets
+kept_sockets-quiet c past e quiet = ap (map (kept_socket c (e ∷ past))) quiet.of_open ∙ map_same (kept_socket c past) (kept_socket c (e ∷ past)) (open_sockets past) (kept_socket-quiet c past e quiet)
+
+abbrev pub refused : Event → Refusal → Entry
+refused event why = record { event = event; reply = reply.Refused why }
+
+pub refused-quiet : (c : BusConfig) (past : List Entry) (event : Event) (why : Refusal) → IsQuiet c past (refused event why)
+refused-quiet c past (Open i k) why = record { of_places = refl; of_open = refl; of_filters = λ o. refl; of_options = λ o. refl; of_taken = λ o. refl; of_posts = λ o. refl }
+refused-quiet c past (Close s) why = record { of_places = refl; of_open = refl; of_filters = λ o. refl; of_options = λ o. refl; of_taken = λ o. refl; of_posts = λ o. refl }
+refused-quiet c past (SetFilters s f) why = record { of_places = refl; of_open = refl; of_filters = λ o. refl; of_options = λ o. refl; of_taken = λ o. refl; of_posts = λ o. refl }
+refused-quiet c past (SetOption s f) why = record { of_places = refl; of_open = refl; of_filters = λ o. refl; of_options = λ o. refl; of_taken = λ o. refl; of_posts = λ o. refl }
+refused-quiet c past (Send s f) why = record { of_places = refl; of_open = refl; of_filters = λ o. refl; of_options = λ o. refl; of_taken = λ o. refl; of_posts = λ o. refl }
+refused-quiet c past (Receive s) why = record { of_places = refl; of_open = refl; of_filters = λ o. refl; of_options = λ o. refl; of_taken = λ o. refl; of_posts = λ o. refl }
+refused-quiet c past (Attempt m v) why = record { of_places = refl; of_open = refl; of_filters = λ o. refl; of_options = λ o. refl; of_taken = λ o. refl; of_posts = λ o. refl }
+refused-quiet c past (Restart i m) why = record { of_places = refl; of_open = refl; of_filters = λ o. refl; of_options = λ o. refl; of_taken = λ o. refl; of_posts = λ o. refl }
+
+-- an entry that concerns no interface
+pub record IsStill (c : BusConfig) (past : List Entry) (e : Entry) : Type 0 where
+  pub of_lines : kept_lines c (e ∷ past) ≡ kept_lines c past
+  pub of_keys : kept_keys (e ∷ past) ≡ kept_keys past
+  pub of_nodes : kept_nodes c (e ∷ past) ≡ kept_nodes c past
+
+-- a refusal that counts nothing
+abbrev pub IsUncounted : Event → Refusal → Type 0
+IsUncounted (Send s f) refusal.NoBuffers = ⊥
+IsUncounted event why = Unit {0}
+
+refused-still : (c : BusConfig) (past : List Entry) (event : Event) (why : Refusal) → IsUncounted event why → IsStill c past (refused event why)
+unfolding kept_lines kept_keys kept_nodes
+refused-still c past (Open i k) why u = record { of_lines = refl; of_keys = refl; of_nodes = refl }
+refused-still c past (Close s) why u = record { of_lines = refl; of_keys = refl; of_nodes = refl }
+refused-still c past (SetFilters s f) why u = record { of_lines = refl; of_keys = refl; of_nodes = refl }
+refused-still c past (SetOption s f) why u = record { of_lines = refl; of_keys = refl; of_nodes = refl }
+refused-still c past (Send s f) refusal.NoBuffers u = absurd u
+refused-still c past (Send s f) _ u = record { of_lines = refl; of_keys = refl; of_nodes = refl }
+refused-still c past (Receive s) why u = record { of_lines = refl; of_keys = refl; of_nodes = refl }
+refused-still c past (Attempt m v) why u = record { of_lines = refl; of_keys = refl; of_nodes = refl }
+refused-still c past (Restart i m) why u = record { of_lines = refl; of_keys = refl; of_nodes = refl }
+
+-- a refusal that counts nothing changes nothing
+pub follows_refused : (c : BusConfig) (past : List Entry) (event : Event) (why : Refusal) (parts : Parts) → IsUncounted event why → parts ≡ kept_parts c past → reply.Refused why ≡ legal_reply c past event → Follows c past (refused event why) parts
+follows_refused c past event why parts u are lawful =
+    let quiet = refused-quiet c past event why in
+    let still = refused-still c past event why u in
+    let l : parts.lines ≡ kept_lines c (refused event why ∷ past) = ap (λ (q : Parts). q.lines) are ∙ sym still.of_lines in
+    let k : parts.keys ≡ kept_keys (refused event why ∷ past) = ap (λ (q : Parts). q.keys) are ∙ sym still.of_keys in
+    let n : parts.nodes ≡ kept_nodes c (refused event why ∷ past) = ap (λ (q : Parts). q.nodes) are ∙ sym still.of_nodes in
+    let s : parts.sockets ≡ kept_sockets c (refused event why ∷ past) = ap (λ (q : Parts). q.sockets) are ∙ sym (kept_sockets-quiet c past (refused event why) quiet) in
+    record {
+      lawful = lawful;
+      after = parts-are (kept_parts c (refused event why ∷ past)) parts.lines parts.keys parts.nodes parts.sockets parts.opened parts.tried l k n s (ap (λ (q : Parts). q.opened) are ∙ ap length (sym quiet.of_places)) (ap (λ (q : Parts). q.tried) are);
+    }

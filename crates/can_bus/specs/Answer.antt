@@ -45,10 +45,6 @@ abbrev pub told : {A : Type 0} → (A → Reply) → Result A Refusal → Reply
 told f (Ok a) = f a
 told f (Err why) = reply.Refused why
 
-abbrev pub told_done : Result (Unit {0}) Refusal → Reply
-told_done (Ok done) = reply.Done
-told_done (Err why) = reply.Refused why
-
 abbrev pub done_reply : Unit {0} → Reply
 done_reply done = reply.Done
 

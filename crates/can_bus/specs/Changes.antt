@@ -4,6 +4,7 @@ use Rattle.can_filter.specs.Filters.{CanFilter}
 use Rattle.can_filter.specs.Passing.{receives_all, default_options}
 use Rattle.can_frame.specs.Sets.{is_in}
 use Rattle.can_frame.specs.declared.ifaces.IfaceSet.{IfaceSet}
+use Rattle.can_arbiter.specs.Keys.{IsLeast, AreNone}
 use Rattle.can_confine.specs.Confinement.{at_start, state_of, is_off}
 use Rattle.can_fault.specs.declared.verdicts.Verdict.{Verdict}
 use Rattle.can_attempt.specs.declared.acks.AckMode.{AckMode}
@@ -139,17 +140,6 @@ Sends old keys nodes sockets s pending (Ok n) new new_keys = Takes old keys node
 Sends old keys nodes sockets s pending (Err why) new new_keys = Declines old nodes sockets s why new × (new_keys ≡ keys)
 
 -- ---- attempts
-
--- the arbiter's answer: w holds a key, none holds a lesser one, and none below w an equal one
-pub record IsLeast (keys : List (Option ℕ)) (w : ℕ) : Type 0 where
-  pub key : ℕ
-  pub held : slice_get keys w ≡ Some (Some key)
-  pub least : (i k : ℕ) → slice_get keys i ≡ Some (Some k) → key ≤ k
-  pub first : (i : ℕ) → slice_get keys i ≡ Some (Some key) → w ≤ i
-
--- nobody holds a key
-abbrev pub AreNone : List (Option ℕ) → Type 0
-AreNone keys = (i k : ℕ) → slice_get keys i ≡ Some (Some k) → ⊥
 
 -- what an attempt of this class leaves of the winner's line, which went off or not
 abbrev pub settled : Class → Bool → LineState → LineState

@@ -46,17 +46,21 @@ pub fn try_on<T: BoundedQueue<Pending>, R: BoundedQueue<Received>, A: Arbiter>(
     };
     line.settle(tried.class, tried.off.contains(winner));
     lines::compete(arbiter, winner, line);
+    let before = *nodes;
+    *nodes = Nodes {
+        count: before.count,
+        counters: judgement.counters,
+    };
     let news = News {
         tried,
         pending,
         verdict,
         ack: config.ack,
-        nodes: *nodes,
+        nodes: before,
         judgement,
         reporting: config.reporting,
     };
     news::tell_all(sockets, &news);
-    nodes.counters = judgement.counters;
     Some(tried)
 }
 

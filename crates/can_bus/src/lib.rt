@@ -9,7 +9,6 @@
 mod attempts;
 pub mod buses;
 pub mod events;
-pub mod laws;
 
 mod line;
 mod lines;
@@ -29,5 +28,3 @@ pub use records::Record;
 pub use runs::{RunFault, run};
 pub use stats::{IfaceStats, SocketStats};
 
-#[cfg(test)]
-mod tests;

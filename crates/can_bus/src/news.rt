@@ -49,7 +49,7 @@ fn is_posted(news: &News, iface: Iface) -> bool
 
 /// The part that an interface has in the attempt: none where it is bus off.
 fn role_of(news: &News, iface: Iface) -> Option<Role>
-    requires { IsNews news.now }
+    requires news { IsNews news.now }
     requires few { news.now.nodes.count ≤ 16 }
     ensures { result ≡ role_at (transmission_of news.now) iface }
 {
@@ -70,7 +70,7 @@ fn role_of(news: &News, iface: Iface) -> Option<Role>
 
 /// The error message frame of the attempt's fault, as an interface sees it.
 fn fault_at(news: &News, iface: Iface) -> Option<ErrorFrame>
-    requires { IsNews news.now }
+    requires news { IsNews news.now }
     requires few { news.now.nodes.count ≤ 16 }
     ensures { result ≡ fault_message_for news.now.tried.class news.now.verdict (role_at (transmission_of news.now) iface) }
 {

@@ -1,5 +1,5 @@
 ghost use Rattle.std.specs.Prelude.{◌≡◌, ◌+◌, ◌<◌, ◌^◌, ◌↔◌, IsTrue};
-ghost use Rattle.can_bus.specs.Answer.{told, told_done, told_attempt, counted, numbered};
+ghost use Rattle.can_bus.specs.Answer.{told, done_reply, told_attempt, counted, numbered};
 ghost use Rattle.can_bus.specs.declared.events.Reply.TheVariants as reply;
 
 use crate::events::{Closed, Received, Refusal, Reply, SocketId, Tried};
@@ -43,7 +43,7 @@ pub fn received_reply(outcome: &Result<Option<Received>, Refusal>) -> Reply
 }
 
 pub fn done_reply(outcome: &Result<(), Refusal>) -> Reply
-    ensures { result ≡ told_done outcome.now }
+    ensures { result ≡ told done_reply outcome.now }
 {
     match outcome {
         Ok(()) => Reply::Done,

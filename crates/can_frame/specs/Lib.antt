@@ -2,3 +2,4 @@ pub mod Frames
 pub mod FrameFields
 pub mod Sets
 pub mod Names
+pub mod Arbitration

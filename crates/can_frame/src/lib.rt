@@ -6,6 +6,7 @@
 //! interface as a number.
 #![tactic(auto)]
 
+pub mod arbitration;
 pub mod error_frames;
 pub mod frames;
 pub mod identifiers;

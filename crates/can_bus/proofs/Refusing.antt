@@ -1,0 +1,51 @@
+use Rattle.std.proofs.Common.{◌≡◌, ℕ, ◌-◌, ◌==◌, nat_le, Bool, true, false, not, ◌&&◌, List, length, Option, Some, None, if◌then◌else◌, refl, sym, ap, ◌∙◌}
+use Rattle.can_confine.specs.Confinement.{is_off}
+use Rattle.can_fault.specs.declared.verdicts.Verdict.{Verdict}
+use Rattle.can_bus.specs.declared.events.BusConfig.{BusConfig}
+use Rattle.can_bus.specs.declared.events.Entry.{Entry}
+use Rattle.can_bus.specs.declared.events.Event.{Event}
+use Rattle.can_bus.specs.declared.events.Event.TheVariants.{Open, Close, SetFilters, SetOption, Send, Receive, Attempt, Restart}
+use Rattle.can_bus.specs.declared.events.Pending.{Pending}
+use Rattle.can_bus.specs.declared.events.Reply.{Reply}
+use Rattle.can_bus.specs.declared.events.Reply.TheVariants as reply
+use Rattle.can_bus.specs.declared.events.Refusal.TheVariants as refusal
+use Rattle.can_bus.specs.Sockets.{open_sockets, is_open, iface_of}
+use Rattle.can_bus.specs.Transmit.{sent_by, gone_count, head_of}
+use Rattle.can_bus.specs.Counters.{state_at}
+use Rattle.can_bus.specs.Attempts.{winner, attempt_reply, tried_head}
+use Rattle.can_bus.specs.Legal.{legal_reply}
+
+-- No legal reply is RecordFull or NoMemory.
+
+abbrev is_outside : Reply → Bool
+is_outside (reply.Refused refusal.RecordFull) = true
+is_outside (reply.Refused refusal.NoMemory) = true
+is_outside _ = false
+
+inside-if : (b : Bool) (x y : Reply) → is_outside x ≡ false → is_outside y ≡ false → is_outside (if b then x else y) ≡ false
+inside-if true x y hx hy = hx
+inside-if false x y hx hy = hy
+
+inside-head : (c : BusConfig) (past : List Entry) (m : ℕ) (v : Verdict) (w : ℕ) (p : Option Pending) → is_outside (tried_head c past m v w p) ≡ false
+inside-head c past m v w None = refl
+inside-head c past m v w (Some p) = refl
+
+inside-attempt : (c : BusConfig) (past : List Entry) (m : ℕ) (v : Verdict) (w : Option ℕ) → is_outside (attempt_reply c past m v w) ≡ false
+inside-attempt c past m v None = refl
+inside-attempt c past m v (Some w) = inside-head c past m v w (head_of past w)
+
+legal-inside : (c : BusConfig) (past : List Entry) (e : Event) → is_outside (legal_reply c past e) ≡ false
+legal-inside c past (Open i n) = inside-if (nat_le c.ifaces i) _ _ refl (inside-if (not (nat_le 1 n && nat_le n 65536)) _ _ refl (inside-if (nat_le 64 (length (open_sockets past))) _ _ refl refl))
+legal-inside c past (Close s) = inside-if (is_open past s.0) _ _ refl refl
+legal-inside c past (SetFilters s f) = inside-if (is_open past s.0) _ _ refl refl
+legal-inside c past (SetOption s o) = inside-if (is_open past s.0) _ _ refl refl
+legal-inside c past (Send s f) = inside-if (is_open past s.0) _ _ (inside-if (is_off (state_at c past (iface_of past s.0))) _ _ refl (inside-if (length (sent_by past (iface_of past s.0)) - gone_count past (iface_of past s.0) == c.tx_capacity) _ _ refl refl)) refl
+legal-inside c past (Receive s) = inside-if (is_open past s.0) _ _ refl refl
+legal-inside c past (Attempt m v) = inside-attempt c past m v (winner c past)
+legal-inside c past (Restart i m) = inside-if (nat_le c.ifaces i) _ _ refl (inside-if (is_off (state_at c past i)) _ _ refl refl)
+
+pub never_full : (c : BusConfig) (past : List Entry) (e : Event) → reply.Refused refusal.RecordFull ≡ legal_reply c past e → ⊥
+never_full c past e law = let both : true ≡ false = ap is_outside law ∙ legal-inside c past e in cc
+
+pub never_no_memory : (c : BusConfig) (past : List Entry) (e : Event) → reply.Refused refusal.NoMemory ≡ legal_reply c past e → ⊥
+never_no_memory c past e law = let both : true ≡ false = ap is_outside law ∙ legal-inside c past e in cc
