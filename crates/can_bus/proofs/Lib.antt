@@ -7,3 +7,4 @@ pub mod Refusing
 pub mod Keeping
 pub mod LineFacts
 pub mod Running
+pub mod Lawful

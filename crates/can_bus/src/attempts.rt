@@ -7,11 +7,18 @@ use crate::lines;
 use crate::news::{self, News};
 use crate::socket::Socket;
 use can_arbiter::Arbiter;
-use can_attempt::{Nodes, judge};
+use can_attempt::{Judgement, Nodes, judge};
 use can_confine::Counters;
 use can_fault::Verdict;
 use can_frame::{Iface, Moment};
 use can_queue::BoundedQueue;
+
+/// Takes the counters that an attempt leaves.
+fn count(nodes: &mut Nodes, judgement: &Judgement)
+    ensures { nodes.new ≡ record nodes.old { counters = judgement.now.counters } }
+{
+    nodes.counters = judgement.counters;
+}
 
 /// Tries the frame that wins the bus, and tells the sockets.
 pub fn try_on<T: BoundedQueue<Pending>, R: BoundedQueue<Received>, A: Arbiter>(
@@ -47,10 +54,7 @@ pub fn try_on<T: BoundedQueue<Pending>, R: BoundedQueue<Received>, A: Arbiter>(
     line.settle(tried.class, tried.off.contains(winner));
     lines::compete(arbiter, winner, line);
     let before = *nodes;
-    *nodes = Nodes {
-        count: before.count,
-        counters: judgement.counters,
-    };
+    count(nodes, &judgement);
     let news = News {
         tried,
         pending,

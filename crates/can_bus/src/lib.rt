@@ -9,6 +9,7 @@
 mod attempts;
 pub mod buses;
 pub mod events;
+pub mod laws;
 
 mod line;
 mod lines;
