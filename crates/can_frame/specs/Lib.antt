@@ -1,4 +1,5 @@
 pub mod Frames
 pub mod FrameFields
+pub mod Arbitration
 pub mod Sets
 pub mod Names

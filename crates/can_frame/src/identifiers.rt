@@ -1,4 +1,4 @@
-ghost use Rattle.std.specs.Prelude.{◌≡◌, ◌<◌, ◌^◌, ℕ, Bool, true, false, OkIff};
+ghost use Rattle.std.specs.Prelude.{◌≡◌, ◌<◌, ◌^◌, ℕ, Bool, true, false, OkIff, if◌then◌else◌};
 ghost use Rattle.can_frame.specs.Frames.{Identifier};
 
 use std::marker::Model;
@@ -65,7 +65,8 @@ impl CanId {
 
     /// The identifier's number, without marks.
     pub fn number(self) -> u32
-        ensures { result ≡ self.number }
+        ensures number { result ≡ self.number }
+        ensures below { result < (if self.extended then 2 ^ 29 else 2 ^ 11) }
     {
         self.number
     }

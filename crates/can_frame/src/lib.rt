@@ -6,11 +6,13 @@
 //! interface as a number.
 #![tactic(auto)]
 
+pub mod arbitration;
 pub mod error_frames;
 pub mod frames;
 pub mod identifiers;
 pub mod ifaces;
 pub mod items;
+pub mod laws;
 pub mod moments;
 pub mod names;
 

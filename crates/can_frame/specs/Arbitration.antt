@@ -1,0 +1,56 @@
+use Rattle.std.specs.Prelude.{◌≡◌, ◌≢◌, ◌<◌, ℕ, length, slice_index_or, zero, suc, ◌+◌, ◌*◌, ◌/◌, ◌^◌, ◌==◌, Bool, false, ◌&&◌, if◌then◌else◌, List, [], ◌∷◌, ◌++◌}
+use Rattle.std.specs.Int.{bit_at}
+use Rattle.std.specs.List.{AllPairs}
+use Rattle.can_frame.specs.Frames.{Payload, CanFrame, is_remote}
+
+-- Arbitration of the Bosch CAN Specification 2.0: all who send watch the bus bit by bit, and a dominant
+-- bit (0) overwrites a recessive one (1), whose sender then falls silent.
+
+-- the lowest k bits of a number, the highest of them first
+abbrev pub low_bits : ℕ → ℕ → List ℕ
+low_bits zero n = []
+low_bits (suc k) n = bit_at n k ∷ low_bits k n
+
+-- the RTR bit: dominant in data frames, recessive in remote frames
+abbrev pub rtr_of : Payload → ℕ
+rtr_of payload = if is_remote payload then 1 else 0
+
+-- with an identifier of 11 bits: its bits, RTR, and a dominant IDE bit
+abbrev pub standard_bits : ℕ → ℕ → List ℕ
+standard_bits number rtr = low_bits 11 number ++ rtr ∷ 0 ∷ []
+
+-- with an identifier of 29 bits: its upper 11, recessive SRR and IDE bits, its lower 18, and RTR
+abbrev pub extended_bits : ℕ → ℕ → List ℕ
+extended_bits number rtr = low_bits 11 (number / 2 ^ 18) ++ 1 ∷ 1 ∷ low_bits 18 number ++ rtr ∷ []
+
+-- the bits by which a frame competes, the first sent first
+unfoldable pub arbitration_bits : CanFrame → List ℕ
+arbitration_bits f = if f.id.extended then extended_bits f.id.number (rtr_of f.payload) else standard_bits f.id.number (rtr_of f.payload)
+
+-- after bits that both have, the first has 0 where the second has 1
+abbrev pub GoesBefore : List ℕ → List ℕ → Type 0
+GoesBefore xs ys = (shared : List ℕ) × (rest : List ℕ) × (others : List ℕ) × (xs ≡ shared ++ 0 ∷ rest) × (ys ≡ shared ++ 1 ∷ others)
+
+-- the same, as a test
+abbrev pub goes_before : List ℕ → List ℕ → Bool
+goes_before [] ys = false
+goes_before (x ∷ xs) [] = false
+goes_before (x ∷ xs) (y ∷ ys) = if x == y then goes_before xs ys else (x == 0 && y == 1)
+
+-- bits as a number of k bits: the first bit is the highest, and behind the last stand zeros
+abbrev pub bits_number : ℕ → List ℕ → ℕ
+bits_number zero bits = 0
+bits_number (suc k) [] = 0
+bits_number (suc k) (b ∷ bits) = b * 2 ^ k + bits_number k bits
+
+-- a frame's arbitration bits as a number of 32 bits, which no frame's exceed (own choice)
+unfoldable pub key_of : CanFrame → ℕ
+key_of f = bits_number 32 (arbitration_bits f)
+
+-- the frame at place w goes before all others
+abbrev pub Wins : List CanFrame → ℕ → Type 0
+Wins frames w = (w < length frames) × ((k : ℕ) (d : CanFrame) → k < length frames → k ≢ w → GoesBefore (arbitration_bits (slice_index_or frames w d)) (arbitration_bits (slice_index_or frames k d)))
+
+-- the frames' bits all differ
+abbrev pub DifferInBits : List CanFrame → Type 0
+DifferInBits frames = AllPairs (λ a b. arbitration_bits a ≢ arbitration_bits b) frames
