@@ -37,6 +37,10 @@ goes_before [] ys = false
 goes_before (x ∷ xs) [] = false
 goes_before (x ∷ xs) (y ∷ ys) = if x == y then goes_before xs ys else (x == 0 && y == 1)
 
+-- a wins arbitration against b
+abbrev pub Outranks : CanFrame → CanFrame → Type 0
+Outranks a b = GoesBefore (arbitration_bits a) (arbitration_bits b)
+
 -- bits as a number of k bits: the first bit is the highest, and behind the last stand zeros
 abbrev pub bits_number : ℕ → List ℕ → ℕ
 bits_number zero bits = 0
@@ -47,9 +51,9 @@ bits_number (suc k) (b ∷ bits) = b * 2 ^ k + bits_number k bits
 unfoldable pub key_of : CanFrame → ℕ
 key_of f = bits_number 32 (arbitration_bits f)
 
--- the frame at place w goes before all others
+-- the frame at place w outranks all others
 abbrev pub Wins : List CanFrame → ℕ → Type 0
-Wins frames w = (w < length frames) × ((k : ℕ) (d : CanFrame) → k < length frames → k ≢ w → GoesBefore (arbitration_bits (slice_index_or frames w d)) (arbitration_bits (slice_index_or frames k d)))
+Wins frames w = (w < length frames) × ((k : ℕ) (d : CanFrame) → k < length frames → k ≢ w → Outranks (slice_index_or frames w d) (slice_index_or frames k d))
 
 -- the frames' bits all differ
 abbrev pub DifferInBits : List CanFrame → Type 0

@@ -1,5 +1,5 @@
-ghost use Rattle.std.specs.Prelude.{◌≡◌, ◌<◌, ◌^◌, ℕ, Bool, true, false, OkIff, if◌then◌else◌};
-ghost use Rattle.can_frame.specs.Frames.{Identifier};
+ghost use Rattle.std.specs.Prelude.{◌≡◌, ◌<◌, ◌^◌, ℕ, Bool, true, false, OkIff};
+ghost use Rattle.can_frame.specs.Frames.{Identifier, IsIdentifier};
 
 use std::marker::Model;
 use thiserror::Error;
@@ -66,7 +66,7 @@ impl CanId {
     /// The identifier's number, without marks.
     pub fn number(self) -> u32
         ensures number { result ≡ self.number }
-        ensures below { result < (if self.extended then 2 ^ 29 else 2 ^ 11) }
+        ensures below { IsIdentifier self }
     {
         self.number
     }
