@@ -1,4 +1,16 @@
-//! Stub.
+//! Who goes first among the interfaces that hold a key: the one with the least key, and with equal keys the
+//! one with the lower number.
+//!
+//! An arbiter is a finite map from the 16 interfaces to keys. Callers know it by the trait alone: `set` and
+//! `clear` change one interface's key, and `winner` answers the one interface that goes first.
 #![tactic(auto)]
-pub mod arbiters;
-pub use arbiters::Arbiter;
+
+pub mod arbiter;
+pub mod laws;
+pub mod scan;
+
+pub use arbiter::Arbiter;
+pub use scan::ScanArbiter;
+
+#[cfg(test)]
+mod tests;

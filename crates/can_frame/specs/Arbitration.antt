@@ -1,7 +1,7 @@
-use Rattle.std.specs.Prelude.{◌≡◌, ◌≢◌, ◌<◌, ℕ, length, slice_index_or, zero, suc, ◌+◌, ◌*◌, ◌/◌, ◌^◌, ◌==◌, Bool, true, false, ◌&&◌, if◌then◌else◌, List, [], ◌∷◌, ◌++◌}
+use Rattle.std.specs.Prelude.{◌≡◌, ◌≢◌, ◌<◌, ℕ, length, slice_index_or, zero, suc, ◌+◌, ◌*◌, ◌/◌, ◌^◌, ◌==◌, Bool, false, ◌&&◌, if◌then◌else◌, List, [], ◌∷◌, ◌++◌}
 use Rattle.std.specs.Int.{bit_at}
 use Rattle.std.specs.List.{AllPairs}
-use Rattle.can_frame.specs.Frames.{Payload, CanFrame, is_remote, word_of}
+use Rattle.can_frame.specs.Frames.{Payload, CanFrame, is_remote}
 
 -- Arbitration of the Bosch CAN Specification 2.0: all who send watch the bus bit by bit, and a dominant
 -- bit (0) overwrites a recessive one (1), whose sender then falls silent.
@@ -37,6 +37,10 @@ goes_before [] ys = false
 goes_before (x ∷ xs) [] = false
 goes_before (x ∷ xs) (y ∷ ys) = if x == y then goes_before xs ys else (x == 0 && y == 1)
 
+-- a wins arbitration against b
+abbrev pub Outranks : CanFrame → CanFrame → Type 0
+Outranks a b = GoesBefore (arbitration_bits a) (arbitration_bits b)
+
 -- bits as a number of k bits: the first bit is the highest, and behind the last stand zeros
 abbrev pub bits_number : ℕ → List ℕ → ℕ
 bits_number zero bits = 0
@@ -44,5 +48,13 @@ bits_number (suc k) [] = 0
 bits_number (suc k) (b ∷ bits) = b * 2 ^ k + bits_number k bits
 
 -- a frame's arbitration bits as a number of 32 bits, which no frame's exceed (own choice)
-abbrev pub key_of : CanFrame → ℕ
-key_of f = word_of f
+unfoldable pub key_of : CanFrame → ℕ
+key_of f = bits_number 32 (arbitration_bits f)
+
+-- the frame at place w outranks all others
+abbrev pub Wins : List CanFrame → ℕ → Type 0
+Wins frames w = (w < length frames) × ((k : ℕ) (d : CanFrame) → k < length frames → k ≢ w → Outranks (slice_index_or frames w d) (slice_index_or frames k d))
+
+-- the frames' bits all differ
+abbrev pub DifferInBits : List CanFrame → Type 0
+DifferInBits frames = AllPairs (λ a b. arbitration_bits a ≢ arbitration_bits b) frames

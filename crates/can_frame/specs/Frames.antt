@@ -1,4 +1,4 @@
-use Rattle.std.specs.Prelude.{ℕ, Bool, true, false, List, [], length, ◌+◌, ◌^◌, if◌then◌else◌}
+use Rattle.std.specs.Prelude.{ℕ, Bool, true, false, List, [], length, ◌+◌, ◌^◌, ◌<◌, if◌then◌else◌}
 
 -- Frames as linux/can.h and the Bosch CAN Specification 2.0 know them.
 
@@ -6,6 +6,10 @@ use Rattle.std.specs.Prelude.{ℕ, Bool, true, false, List, [], length, ◌+◌,
 pub record Identifier : Type 0 where
   pub extended : Bool
   pub number : ℕ
+
+-- the number fits the identifier's bits
+abbrev pub IsIdentifier : Identifier → Type 0
+IsIdentifier id = id.number < (if id.extended then 2 ^ 29 else 2 ^ 11)
 
 -- what a frame carries: bytes, or in a remote frame a request for so many
 pub data Payload : Type 0 where

@@ -1,5 +1,6 @@
 pub mod Frames
 pub mod FrameFields
+pub mod Arbitration
 pub mod Sets
 pub mod Names
 pub mod Arbitration

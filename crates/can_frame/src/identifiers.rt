@@ -1,5 +1,5 @@
 ghost use Rattle.std.specs.Prelude.{◌≡◌, ◌<◌, ◌^◌, ℕ, Bool, true, false, OkIff};
-ghost use Rattle.can_frame.specs.Frames.{Identifier};
+ghost use Rattle.can_frame.specs.Frames.{Identifier, IsIdentifier};
 
 use std::marker::Model;
 use thiserror::Error;
@@ -65,7 +65,8 @@ impl CanId {
 
     /// The identifier's number, without marks.
     pub fn number(self) -> u32
-        ensures { result ≡ self.number }
+        ensures number { result ≡ self.number }
+        ensures below { IsIdentifier self }
     {
         self.number
     }

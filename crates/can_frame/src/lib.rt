@@ -3,7 +3,11 @@
 //!
 //! A type here has private parts and one constructor for each way to make it, so a value that exists
 //! is within its limits. Contracts see a frame as an identifier with a payload, a moment and an
-//! interface as a number.
+//! interface as a number, and the names of a bus as a list of texts.
+//!
+//! A frame's `arbitration_key` is a number whose order is that of the bits by which frames compete on the
+//! bus. The laws say what this order is: which frame wins, that one always does, and that only frames of
+//! one identifier and kind can have equal bits.
 #![tactic(auto)]
 
 pub mod arbitration;
@@ -12,6 +16,7 @@ pub mod frames;
 pub mod identifiers;
 pub mod ifaces;
 pub mod items;
+pub mod laws;
 pub mod moments;
 pub mod names;
 

@@ -1,4 +1,4 @@
-ghost use Rattle.std.specs.Prelude.{◌≡◌, ◌≢◌, ◌↔◌, ◌≤◌, ◌==◌, ◌-◌, ℕ, Bool, true, false, List, length, Option, Some, None, Ok, Err, IsTrue, IsNone, IfOk, IfSome, OnOk, slice_get};
+ghost use Rattle.std.specs.Prelude.{◌≡◌, ◌≢◌, ◌↔◌, ◌≤◌, length, Some, Err, IsTrue, IsNone, IfOk, IfSome, OnOk, slice_get};
 ghost use Rattle.std.specs.List.{Contains, AllPairs, list_all};
 ghost use Rattle.std.specs.Option.{option_map};
 ghost use Rattle.can_frame.specs.Names.{names_in, is_name_byte, is_name as is_name_of, AreNames, place_of};
@@ -11,8 +11,10 @@ use thiserror::Error;
 /// Why a text does not give the names of a bus.
 #[derive(Debug, Clone, Copy, PartialEq, Eq, Error)]
 pub enum NamesError {
+    /// No name, more than 16, two alike, or one that no interface may have.
     #[error("bad names")]
     BadNames,
+    /// The names are good, and there is no memory for them.
     #[error("no memory")]
     NoMemory,
 }

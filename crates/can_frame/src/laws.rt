@@ -1,0 +1,64 @@
+ghost use Rattle.std.specs.Prelude.{◌≡◌, ◌≢◌, ◌<◌, ◌≤◌, ◌↔◌, ◌⊎◌, ◌/◌, ◌^◌, ◌++◌, [], ℕ, List, length, true, false, IsTrue};
+ghost use Rattle.can_frame.specs.Frames.{CanFrame, Identifier, IsIdentifier, is_remote};
+ghost use Rattle.can_frame.specs.Frames.Payload.{Data, Remote};
+ghost use Rattle.can_frame.specs.Arbitration.{arbitration_bits, GoesBefore, goes_before, Outranks, key_of, Wins, DifferInBits};
+
+/// The frame with the lesser key outranks the other, and frames have one key exactly where their
+/// arbitration bits are equal.
+pub fn keys_order_frames()
+    ensures before { (a b : CanFrame) → (key_of a < key_of b) ↔ Outranks a b }
+    ensures same { (a b : CanFrame) →
+        (key_of a ≡ key_of b) ↔ (arbitration_bits a ≡ arbitration_bits b) }
+{}
+
+/// The test of bits is the rule.
+pub fn test_is_the_rule()
+    ensures { (xs ys : List ℕ) → IsTrue (goes_before xs ys) ↔ GoesBefore xs ys }
+{}
+
+/// Going before is a strict order, and of two frames with different bits one outranks the other.
+pub fn going_before_is_an_order()
+    ensures never_itself { (xs : List ℕ) → GoesBefore xs xs → ⊥ }
+    ensures passes_on { (xs ys zs : List ℕ) →
+        GoesBefore xs ys → GoesBefore ys zs → GoesBefore xs zs }
+    ensures one_of_two { (a b : CanFrame) →
+        arbitration_bits a ≢ arbitration_bits b → Outranks a b ⊎ Outranks b a }
+{}
+
+/// Arbitration is over before a frame's bits end: no frame's bits begin another's.
+pub fn no_bits_begin_others()
+    ensures { (a b : CanFrame) (rest : List ℕ) →
+        arbitration_bits b ≡ arbitration_bits a ++ rest → rest ≡ [] }
+{}
+
+/// Of frames whose bits all differ exactly one outranks all others.
+pub fn one_frame_wins()
+    ensures some { (frames : List CanFrame) →
+        1 ≤ length frames → DifferInBits frames → (w : ℕ) × Wins frames w }
+    ensures alone { (frames : List CanFrame) (v w : ℕ) →
+        Wins frames v → Wins frames w → v ≡ w }
+{}
+
+/// A data frame outranks the remote frame of its identifier.
+pub fn data_outranks_remote()
+    ensures { (id : Identifier) (bytes : List ℕ) (len : ℕ) →
+        Outranks
+        (record { id = id; payload = Data bytes })
+        (record { id = id; payload = Remote len }) }
+{}
+
+/// A frame with an identifier of 11 bits, data or remote, outranks each frame with an identifier of 29
+/// bits that begins with these 11.
+pub fn standard_outranks_extended()
+    ensures { (a b : CanFrame) →
+        a.id.extended ≡ false → b.id.extended ≡ true →
+        b.id.number / 2 ^ 18 ≡ a.id.number → Outranks a b }
+{}
+
+/// Frames with equal bits have one identifier, and both or neither are remote: they differ in length and
+/// bytes alone.
+pub fn equal_bits_mean_one_identifier()
+    ensures { (a b : CanFrame) →
+        IsIdentifier a.id → IsIdentifier b.id → arbitration_bits a ≡ arbitration_bits b →
+        (a.id ≡ b.id) × (is_remote a.payload ≡ is_remote b.payload) }
+{}
