@@ -1,0 +1,2 @@
+pub mod ErrorCodes
+pub mod ErrorMessages
