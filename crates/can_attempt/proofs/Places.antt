@@ -1,10 +1,10 @@
-use Rattle.std.proofs.Common.{◌≡◌, ℕ, zero, suc, ◌+◌, ◌<◌, ◌≤◌, ◌==◌, nat_le, nat_lt, Bool, true, false, ◌&&◌, List, [], ◌∷◌, ◌++◌, filter, refl, ap, ◌∙◌, arith, inl, inr}
-use Rattle.std.proofs.lemmas.Bool.{cases_lt}
-use Rattle.std.specs.List.{range_with_len}
+use Rattle.std.proofs.Common.{◌≡◌, ℕ, zero, suc, ◌+◌, ◌<◌, ◌≤◌, ◌==◌, nat_le, nat_lt, Bool, true, false, not, ◌&&◌, List, [], ◌∷◌, ◌++◌, filter, refl, ap, ◌∙◌, arith, inl, inr}
+use Rattle.std.proofs.lemmas.Bool.{cases_lt, cases_eq, false≢true}
+use Rattle.std.specs.List.{list_any, range_with_len}
 use Rattle.std.proofs.lemmas.Map.Views.{any-filter_same}
 use Rattle.can_frame.specs.Sets.{bits_where}
 use Rattle.can_attempt.specs.declared.classes.Class.{Class}
-use Rattle.can_attempt.specs.Attempts.{is_among, Transmission, can_hear, receivers, is_named, steps_in, receiver_step}
+use Rattle.can_attempt.specs.Attempts.{is_among, Transmission, can_hear, receivers, hit, unhurt, is_named, steps_in, receiver_step}
 
 -- Lists of interfaces, and the bits of the sets that they make.
 
@@ -58,3 +58,36 @@ pub steps_in-none : (c : Class) (t : Transmission) (i : ℕ) → (i == t.winner)
 steps_in-none c t i other deaf =
     let among : is_among i (receivers t) ≡ false = is_among-receivers t i ∙ deaf in
     rw (other, among) refl
+
+-- who is hit
+pub is_among-hit : (t : Transmission) (i : ℕ) → is_among i (hit t) ≡ (is_named t.verdict i && (can_hear t i && nat_lt i t.count))
+is_among-hit t i = is_among-filter (is_named t.verdict) i (receivers t) ∙ ap (λ b. is_named t.verdict i && b) (is_among-receivers t i)
+
+-- who got every bit right
+pub is_among-unhurt : (t : Transmission) (i : ℕ) → is_among i (unhurt t) ≡ (not (is_named t.verdict i) && (can_hear t i && nat_lt i t.count))
+is_among-unhurt t i = is_among-filter (λ k. not (is_named t.verdict k)) i (receivers t) ∙ ap (λ b. not (is_named t.verdict i) && b) (is_among-receivers t i)
+
+-- one of them passes
+pub any_among : (p : ℕ → Bool) (i : ℕ) (xs : List ℕ) → is_among i xs ≡ true → p i ≡ true → list_any p xs ≡ true
+any_among p i [] among passes = absurd (false≢true among)
+any_among p i (k ∷ ks) among passes =
+    elim (cases_eq k i) [
+      | inl same ↦ let here : p k ≡ true = ap p same ∙ passes in rw here refl
+      | inr other ↦
+          let later : is_among i ks ≡ true = grind (arith, among, other) in
+          let rest : list_any p ks ≡ true = any_among p i ks later passes in
+          rw rest (grind arith)
+    ]
+
+-- tests that agree on them
+pub any_same : (p q : ℕ → Bool) (xs : List ℕ) → ((i : ℕ) → is_among i xs ≡ true → p i ≡ q i) → list_any p xs ≡ list_any q xs
+any_same p q [] same = refl
+any_same p q (k ∷ ks) same =
+    let here : p k ≡ q k = same k (grind arith) in
+    let rest : list_any p ks ≡ list_any q ks = any_same p q ks (λ i among. same i (rw among (grind arith))) in
+    rw (here, rest) refl
+
+-- none of none
+pub any_none : (xs : List ℕ) → list_any (λ i. false) xs ≡ false
+any_none [] = refl
+any_none (k ∷ ks) = any_none ks

@@ -9,6 +9,7 @@ pub mod acks;
 pub mod classes;
 pub mod judgements;
 pub mod judging;
+pub mod laws;
 pub mod nodes;
 mod surveys;
 
@@ -17,3 +18,6 @@ pub use classes::Class;
 pub use judgements::Judgement;
 pub use judging::judge;
 pub use nodes::Nodes;
+
+#[cfg(test)]
+mod tests;

@@ -1,6 +1,16 @@
-//! Stub.
+//! Error message frames: which frames tell the sockets of an interface of its changes of state, of its
+//! restart, and of the faults that it saw.
+//!
+//! The numbers are those of linux/can/error.h. The contracts say each frame byte for byte, by the tables of
+//! `specs/ErrorMessages.antt`. Nothing here takes memory.
 #![tactic(auto)]
-pub mod messages;
+
+pub mod codes;
+pub mod fault_frames;
 pub mod roles;
-pub use messages::{fault_frame, restart_frame, state_frame};
+mod sides;
+pub mod state_frames;
+
+pub use fault_frames::fault_frame;
 pub use roles::Role;
+pub use state_frames::{restart_frame, state_frame};

@@ -1,0 +1,105 @@
+use Rattle.std.specs.Prelude.{ℕ, ◌+◌, ◌==◌, nat_le, Bool, Option, Some, None, option_map, List, [], ◌∷◌, replicate, bit_or, if◌then◌else◌}
+use Rattle.can_frame.specs.Frames.{ErrorMessage}
+use Rattle.can_confine.specs.Confinement.{ErrorCounts, state_of, is_off, severity}
+use Rattle.can_fault.specs.declared.verdicts.Verdict.{Verdict}
+use Rattle.can_fault.specs.declared.verdicts.Verdict.TheVariants as verdict
+use Rattle.can_fault.specs.declared.verdicts.GlobalKind.{GlobalKind}
+use Rattle.can_fault.specs.declared.verdicts.GlobalKind.TheVariants as global
+use Rattle.can_fault.specs.declared.verdicts.LocalKind.{LocalKind}
+use Rattle.can_fault.specs.declared.verdicts.LocalKind.TheVariants as local
+use Rattle.can_attempt.specs.declared.classes.Class.{Class}
+use Rattle.can_attempt.specs.declared.classes.Class.TheVariants as class
+use Rattle.can_errframe.specs.declared.sides.Side.{Side}
+use Rattle.can_errframe.specs.declared.sides.Side.TheVariants as side
+use Rattle.can_errframe.specs.declared.roles.Role.{Role}
+use Rattle.can_errframe.specs.declared.roles.Role.TheVariants.{Winner, Named, Other}
+use Rattle.can_errframe.specs.ErrorCodes.{err_crtl, err_prot, err_ack, err_busoff, err_buserror, err_restarted, err_cnt, crtl_rx_warning, crtl_tx_warning, crtl_rx_passive, crtl_tx_passive, crtl_active, prot_unspec, prot_bit, prot_form, prot_stuff, prot_tx, loc_unspec, loc_crc_seq, loc_data, loc_ack, loc_eof, loc_ack_del}
+
+-- Which error message frames tell of what. The numbers are those of linux/can/error.h, the choice of frames is
+-- an own one.
+
+-- eight bytes that tell nothing
+abbrev pub no_bytes : List ℕ
+no_bytes = replicate 8 0
+
+-- Changes of state.
+
+-- the state that one count gives by itself
+abbrev pub side_of : ℕ → Side
+side_of n = if nat_le 128 n then side.Passive else if nat_le 96 n then side.Warning else side.Active
+
+-- how far a side is from Active
+abbrev pub level : Side → ℕ
+level side.Active = 0
+level side.Warning = 1
+level side.Passive = 2
+
+-- the transmit side's code
+abbrev pub tx_code : Side → ℕ
+tx_code side.Active = crtl_active
+tx_code side.Warning = crtl_tx_warning
+tx_code side.Passive = crtl_tx_passive
+
+-- the receive side's code
+abbrev pub rx_code : Side → ℕ
+rx_code side.Active = crtl_active
+rx_code side.Warning = crtl_rx_warning
+rx_code side.Passive = crtl_rx_passive
+
+-- a side's code stands if the side is as far as the other
+abbrev pub controller_code : Side → Side → ℕ
+controller_code tx rx = bit_or (if nat_le (level rx) (level tx) then tx_code tx else 0) (if nat_le (level tx) (level rx) then rx_code rx else 0)
+
+-- the state and both counts, of an interface that is not bus off
+abbrev pub controller_message : ErrorCounts → ErrorMessage
+controller_message c = record { class = err_crtl + err_cnt; bytes = 0 ∷ controller_code (side_of c.tec) (side_of c.rec) ∷ 0 ∷ 0 ∷ 0 ∷ 0 ∷ c.tec ∷ c.rec ∷ [] }
+
+abbrev pub bus_off_message : ErrorMessage
+bus_off_message = record { class = err_busoff; bytes = no_bytes }
+
+-- what tells of a change of counts: nothing where the state stays
+abbrev pub state_message : ErrorCounts → ErrorCounts → Option ErrorMessage
+state_message old new = if severity (state_of old) == severity (state_of new) then None else if is_off (state_of new) then Some bus_off_message else Some (controller_message new)
+
+-- Restarts.
+
+abbrev pub restart_message : ErrorMessage
+restart_message = record { class = err_restarted; bytes = no_bytes }
+
+-- Faults.
+
+-- the kind and the place of a local fault, bytes 2 and 3
+abbrev pub local_codes : LocalKind → ℕ × ℕ
+local_codes local.Stuff = (prot_stuff, loc_data)
+local_codes local.Crc = (prot_unspec, loc_crc_seq)
+local_codes local.Form = (prot_form, loc_ack_del)
+
+-- the kind and the place of a fault for the whole bus, as its transmitter sees it
+abbrev pub global_codes : GlobalKind → ℕ × ℕ
+global_codes global.Bit = (prot_tx + prot_bit, loc_data)
+global_codes global.Form = (prot_tx + prot_form, loc_ack_del)
+
+-- the kind and the place of the fault that an interface sees, bytes 2 and 3
+abbrev pub fault_codes : Class → Verdict → Role → Option (ℕ × ℕ)
+fault_codes class.Destroyed (verdict.Global kind) Winner = Some (global_codes kind)
+fault_codes class.Destroyed (verdict.Global kind) Named = Some (prot_stuff, loc_unspec)
+fault_codes class.Destroyed (verdict.Global kind) Other = Some (prot_stuff, loc_unspec)
+fault_codes class.Destroyed (verdict.Local set kind) Winner = Some (prot_tx + prot_bit, loc_unspec)
+fault_codes class.Destroyed (verdict.Local set kind) Named = Some (local_codes kind)
+fault_codes class.Destroyed (verdict.Local set kind) Other = Some (prot_stuff, loc_unspec)
+fault_codes class.Done (verdict.Local set kind) Named = Some (local_codes kind)
+fault_codes class.LastBit verdict.LastBit Winner = Some (prot_tx + prot_form, loc_eof)
+fault_codes class.NoAck (verdict.Local set kind) Winner = Some (prot_tx, loc_ack)
+fault_codes class.NoAck (verdict.Local set kind) Named = Some (local_codes kind)
+fault_codes class.NoAck verdict.Good Winner = Some (prot_tx, loc_ack)
+fault_codes class.NoAck verdict.LastBit Winner = Some (prot_tx, loc_ack)
+fault_codes _ _ _ = None
+
+-- a bus error: of the protocol, or for the transmitter a missing acknowledgement
+abbrev pub fault_class : Class → Role → ℕ
+fault_class class.NoAck Winner = err_buserror + err_ack
+fault_class _ _ = err_buserror + err_prot
+
+-- what tells an interface of the fault that it saw
+abbrev pub fault_message : Class → Verdict → Role → Option ErrorMessage
+fault_message c v r = option_map (λ codes. record { class = fault_class c r; bytes = 0 ∷ 0 ∷ codes.0 ∷ codes.1 ∷ 0 ∷ 0 ∷ 0 ∷ 0 ∷ [] }) (fault_codes c v r)

@@ -1,0 +1,104 @@
+ghost use Rattle.std.specs.Prelude.{◌≡◌, ◌<◌, ◌^◌};
+ghost use Rattle.can_errframe.specs.ErrorMessages.{fault_message, fault_codes, fault_class, local_codes, global_codes};
+ghost use Rattle.can_errframe.specs.declared.roles.Role.TheVariants.{Winner, Named, Other};
+
+use crate::codes::*;
+use crate::roles::Role;
+use crate::state_frames::frame_of;
+use can_attempt::Class;
+use can_fault::{GlobalKind, LocalKind, Verdict};
+use can_frame::ErrorFrame;
+
+/// The kind and the place of a local fault.
+fn local_codes(kind: LocalKind) -> (u8, u8)
+    ensures { result ≡ local_codes kind }
+{
+    match kind {
+        LocalKind::Stuff => (CAN_ERR_PROT_STUFF, CAN_ERR_PROT_LOC_DATA),
+        LocalKind::Crc => (CAN_ERR_PROT_UNSPEC, CAN_ERR_PROT_LOC_CRC_SEQ),
+        LocalKind::Form => (CAN_ERR_PROT_FORM, CAN_ERR_PROT_LOC_ACK_DEL),
+    }
+}
+
+/// The kind and the place of a fault for the whole bus, as its transmitter sees it.
+fn global_codes(kind: GlobalKind) -> (u8, u8)
+    ensures { result ≡ global_codes kind }
+{
+    match kind {
+        GlobalKind::Bit => (CAN_ERR_PROT_TX | CAN_ERR_PROT_BIT, CAN_ERR_PROT_LOC_DATA),
+        GlobalKind::Form => (
+            CAN_ERR_PROT_TX | CAN_ERR_PROT_FORM,
+            CAN_ERR_PROT_LOC_ACK_DEL,
+        ),
+    }
+}
+
+/// The kind and the place of the fault that a transmitter sees.
+fn winner_codes(class: Class, verdict: Verdict) -> Option<(u8, u8)>
+    ensures { result ≡ fault_codes class verdict Winner }
+{
+    match (class, verdict) {
+        (Class::Destroyed, Verdict::Global(kind)) => Some(global_codes(kind)),
+        (Class::Destroyed, Verdict::Local(_, _)) => {
+            Some((CAN_ERR_PROT_TX | CAN_ERR_PROT_BIT, CAN_ERR_PROT_LOC_UNSPEC))
+        }
+        (Class::LastBit, Verdict::LastBit) => {
+            Some((CAN_ERR_PROT_TX | CAN_ERR_PROT_FORM, CAN_ERR_PROT_LOC_EOF))
+        }
+        (Class::NoAck, Verdict::Good | Verdict::LastBit | Verdict::Local(_, _)) => {
+            Some((CAN_ERR_PROT_TX, CAN_ERR_PROT_LOC_ACK))
+        }
+        _ => None,
+    }
+}
+
+/// The kind and the place of the fault that a receiver sees which a local fault strikes.
+fn named_codes(class: Class, verdict: Verdict) -> Option<(u8, u8)>
+    ensures { result ≡ fault_codes class verdict Named }
+{
+    match verdict {
+        Verdict::Local(_, kind) if class != Class::LastBit => Some(local_codes(kind)),
+        Verdict::Global(_) if class == Class::Destroyed => {
+            Some((CAN_ERR_PROT_STUFF, CAN_ERR_PROT_LOC_UNSPEC))
+        }
+        _ => None,
+    }
+}
+
+/// The kind and the place of the fault that any other receiver sees: the error flag of another.
+fn other_codes(class: Class, verdict: Verdict) -> Option<(u8, u8)>
+    ensures { result ≡ fault_codes class verdict Other }
+{
+    match (class, verdict) {
+        (Class::Destroyed, Verdict::Global(_) | Verdict::Local(_, _)) => {
+            Some((CAN_ERR_PROT_STUFF, CAN_ERR_PROT_LOC_UNSPEC))
+        }
+        _ => None,
+    }
+}
+
+/// The class of a fault frame.
+fn fault_class(class: Class, role: Role) -> u32
+    ensures class { result ≡ fault_class class role }
+    ensures fits { result < 2 ^ 29 }
+{
+    if class == Class::NoAck && role == Role::Winner {
+        CAN_ERR_BUSERROR | CAN_ERR_ACK
+    } else {
+        CAN_ERR_BUSERROR | CAN_ERR_PROT
+    }
+}
+
+/// The frame that tells an interface of the fault that it saw in an attempt, by the attempt's class, its
+/// verdict and the interface's part in it: `None` where it saw none.
+pub fn fault_frame(class: Class, verdict: Verdict, role: Role) -> Option<ErrorFrame>
+    ensures { result ≡ fault_message class verdict role }
+{
+    let (kind, place) = match role {
+        Role::Winner => winner_codes(class, verdict),
+        Role::Named => named_codes(class, verdict),
+        Role::Other => other_codes(class, verdict),
+    }?;
+    let bytes = [0, 0, kind, place, 0, 0, 0, 0];
+    Some(frame_of(fault_class(class, role), bytes))
+}

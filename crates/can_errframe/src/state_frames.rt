@@ -1,0 +1,41 @@
+ghost use Rattle.std.specs.Prelude.{◌≡◌, ◌<◌, ◌^◌};
+ghost use Rattle.can_errframe.specs.ErrorMessages.{state_message, restart_message};
+
+use crate::codes::{CAN_ERR_BUSOFF, CAN_ERR_CNT, CAN_ERR_CRTL, CAN_ERR_RESTARTED};
+use crate::sides::{Side, controller_code};
+use can_confine::{Counters, State};
+use can_frame::ErrorFrame;
+
+/// An error message frame of a class that fits 29 bits.
+pub(crate) fn frame_of(class: u32, bytes: [u8; 8]) -> ErrorFrame
+    requires { class < 2 ^ 29 }
+    ensures { result ≡ record { class = class; bytes = bytes } }
+{
+    match ErrorFrame::new(class, bytes) {
+        Ok(frame) => frame,
+        Err(_) => unreachable!(),
+    }
+}
+
+/// The frame that tells of a change of an interface's counters: `None` where its state stays, a bus off
+/// frame where it went off, else a controller frame with both counts.
+pub fn state_frame(old: Counters, new: Counters) -> Option<ErrorFrame>
+    ensures { result ≡ state_message old new }
+{
+    if old.state() == new.state() {
+        return None;
+    }
+    if new.state() == State::Off {
+        return Some(frame_of(CAN_ERR_BUSOFF, [0; 8]));
+    }
+    let code = controller_code(Side::of_count(new.tec()), Side::of_count(new.rec()));
+    let bytes = [0, code, 0, 0, 0, 0, new.tec() as u8, new.rec() as u8];
+    Some(frame_of(CAN_ERR_CRTL | CAN_ERR_CNT, bytes))
+}
+
+/// The frame that tells of an interface's restart.
+pub fn restart_frame() -> ErrorFrame
+    ensures { result ≡ restart_message }
+{
+    frame_of(CAN_ERR_RESTARTED, [0; 8])
+}
