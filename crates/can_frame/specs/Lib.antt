@@ -1,3 +1,4 @@
 pub mod Frames
 pub mod FrameFields
 pub mod Sets
+pub mod Names

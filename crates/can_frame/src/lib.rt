@@ -12,6 +12,7 @@ pub mod identifiers;
 pub mod ifaces;
 pub mod items;
 pub mod moments;
+pub mod names;
 
 pub use error_frames::{ClassTooLarge, ErrorFrame};
 pub use frames::{Frame, TooLong};
@@ -19,3 +20,7 @@ pub use identifiers::{CanId, IdTooLarge};
 pub use ifaces::{Iface, IfaceSet};
 pub use items::Item;
 pub use moments::{Moment, MomentTooLarge};
+pub use names::{Names, NamesError, is_name};
+
+#[cfg(test)]
+mod tests;

@@ -1,0 +1,135 @@
+ghost use Rattle.std.specs.Prelude.{◌≡◌, ◌≢◌, ◌↔◌, ◌≤◌, ◌==◌, ◌-◌, ℕ, Bool, true, false, List, length, Option, Some, None, Ok, Err, IsTrue, IsNone, IfOk, IfSome, OnOk, slice_get};
+ghost use Rattle.std.specs.List.{Contains, AllPairs, list_all};
+ghost use Rattle.std.specs.Option.{option_map};
+ghost use Rattle.can_frame.specs.Names.{names_in, is_name_byte, is_name as is_name_of, AreNames, place_of};
+
+use crate::ifaces::Iface;
+use std::alloc::Global;
+use std::marker::Model;
+use thiserror::Error;
+
+/// Why a text does not give the names of a bus.
+#[derive(Debug, Clone, Copy, PartialEq, Eq, Error)]
+pub enum NamesError {
+    #[error("bad names")]
+    BadNames,
+    #[error("no memory")]
+    NoMemory,
+}
+
+/// The names of a bus's interfaces, 1 to 16 of them and all different; the first is interface 0's. They
+/// are kept as they were read, joined by commas, in at most 255 bytes: a look-up reads these bytes.
+#[derive(Debug, Drop)]
+pub struct Names {
+    text: String,
+}
+
+impl Model for Names {
+    ghost use Rattle.std.specs.Prelude.{ℕ, List, string_bytes};
+
+    ghost Value = { List (List ℕ) };
+
+    ghost use Rattle.can_frame.specs.Names.{names_in, AreNames};
+
+    ghost view = { λ n. names_in (string_bytes n.text) };
+
+    ghost invariant = { λ n. AreNames (names_in (string_bytes n.text)) };
+}
+
+impl Names {
+    /// The names that a text joins by commas: 1 to 16, each of 1 to 15 ASCII letters, digits, `_`, `-`
+    /// and `.`, all different. Memory is asked for only where the names are good.
+    pub fn read(alloc: Global, text: &str) -> Result<Names, NamesError>
+        ensures names { IfOk result (λ names. names ≡ names_in text.now) }
+        ensures good { OnOk result (AreNames (names_in text.now)) }
+        ensures bad { (result ≡ Err NamesError.BadNames) ↔ (AreNames (names_in text.now) → ⊥) }
+        ensures no_memory { result ≡ Err NamesError.NoMemory → AreNames (names_in text.now) }
+    {
+        if !are_names(text) {
+            return Err(NamesError::BadNames);
+        }
+        let text = String::from_str(alloc, text).map_err(|_| NamesError::NoMemory)?;
+        Ok(Names { text })
+    }
+
+    /// How many names there are, 1 to 16.
+    pub fn count(&self) -> u8
+        ensures count { result ≡ length self.now }
+        ensures some { 1 ≤ result }
+        ensures few { result ≤ 16 }
+        ensures good { AreNames self.now }
+    {
+        count_in(&self.text) as u8
+    }
+
+    /// The interface with this name, or `None` where no interface has it.
+    pub fn find(&self, name: &str) -> Option<Iface>
+        ensures place { result ≡ place_of self.now name.now }
+        ensures found { IfSome result (λ iface. slice_get self.now iface ≡ Some name.now) }
+        ensures missing { IsNone result ↔ (Contains self.now name.now → ⊥) }
+    {
+        let place = place_in(&self.text, name)?;
+        Iface::new(place as u8)
+    }
+
+    /// The interface's name, or `None` where the bus has no such interface.
+    pub fn name(&self, iface: Iface) -> Option<&str>
+        ensures { option_map (λ name. name.now) result ≡ slice_get self.now iface }
+    {
+        piece_at(&self.text, iface.number() as usize)
+    }
+}
+
+/// Whether the text is a name that an interface may have: 1 to 15 ASCII letters, digits, `_`, `-` and `.`.
+pub fn is_name(text: &str) -> bool
+    ensures { result ≡ is_name_of text.now }
+{
+    1 <= text.len() && text.len() <= 15 && text.bytes().all(|byte| may_stand_in_name(byte))
+}
+
+fn may_stand_in_name(byte: u8) -> bool
+    ensures { result ≡ is_name_byte byte }
+{
+    byte.is_ascii_alphanumeric() || matches!(byte, b'_' | b'-' | b'.')
+}
+
+// Whether the pieces between the commas are names that a bus may have.
+fn are_names(text: &str) -> bool
+    ensures { IsTrue result ↔ AreNames (names_in text.now) }
+{
+    count_in(text) <= 16 && are_good(text) && are_distinct(text)
+}
+
+fn are_good(text: &str) -> bool
+    ensures { result ≡ list_all is_name_of (names_in text.now) }
+{
+    text.split(',').all(|name| is_name(name))
+}
+
+// Each piece stands first at its own place.
+fn are_distinct(text: &str) -> bool
+    ensures { IsTrue result ↔ AllPairs ◌≢◌ (names_in text.now) }
+{
+    text.split(',')
+        .enumerate()
+        .all(|(place, name)| place_in(text, name) == Some(place))
+}
+
+fn count_in(text: &str) -> usize
+    ensures { result ≡ length (names_in text.now) }
+{
+    text.split(',').count()
+}
+
+fn piece_at(text: &str, place: usize) -> Option<&str>
+    ensures { option_map (λ name. name.now) result ≡ slice_get (names_in text.now) place }
+{
+    text.split(',').nth(place)
+}
+
+// The first place of a name among the pieces between the commas.
+fn place_in(text: &str, name: &str) -> Option<usize>
+    ensures { result ≡ place_of (names_in text.now) name.now }
+{
+    text.split(',').position(|piece| piece == name)
+}
