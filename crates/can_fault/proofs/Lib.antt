@@ -1,0 +1,3 @@
+pub mod VerdictMaps
+pub mod NamedSets
+pub mod Sayings

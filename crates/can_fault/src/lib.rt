@@ -4,8 +4,11 @@
 //! the attempt's number, and `Good` elsewhere, however often it is asked.
 #![tactic(auto)]
 
+mod script_lines;
+pub mod scripts;
 pub mod sources;
 pub mod verdicts;
 
+pub use scripts::{Script, ScriptError};
 pub use sources::{FaultSource, Perfect};
 pub use verdicts::{GlobalKind, LocalKind, Verdict};
