@@ -1,3 +1,4 @@
 pub mod VerdictMaps
 pub mod NamedSets
 pub mod Sayings
+pub mod ScriptLaws

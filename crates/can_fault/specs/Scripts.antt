@@ -1,4 +1,4 @@
-use Rattle.std.specs.Prelude.{◌≡◌, ℕ, ◌+◌, Bool, true, false, IsTrue, ◌&&◌, ◌==◌, nat_le, nat_eq, if◌then◌else◌, List, [], ◌∷◌, map, length, Option, Some, None, is_some, Result, Ok, Err, codes}
+use Rattle.std.specs.Prelude.{◌≡◌, ℕ, ◌+◌, Bool, true, false, IsTrue, ◌&&◌, ◌==◌, nat_le, nat_eq, if◌then◌else◌, List, [], ◌∷◌, map, length, Option, Some, None, is_some, Result, Ok, Err, IsOk, codes, slice_get, take}
 use Rattle.std.specs.List.{list_all, list_any, slice_split, before_first, after_first}
 use Rattle.std.specs.Option.{option_eq, ok_or}
 use Rattle.std.specs.Char.{is_ascii_digit}
@@ -125,3 +125,18 @@ takes_memory (Ok (Some entry) ∷ more) = true
 abbrev pub Reads : List (List ℕ) → List ℕ → Result VerdictMap ScriptError → Type 0
 Reads names text (Err script.NoMemory) = IsTrue (takes_memory (sayings names text))
 Reads names text answer = script_spelling names text ≡ answer
+
+-- some line gives an attempt this verdict
+abbrev pub Gives : List Saying → ℕ → Verdict → Type 0
+Gives lines attempt verdict = (place : ℕ) × (slice_get lines place ≡ Some (Ok (Some (attempt, verdict))))
+
+-- the line at a place, counted from 0, has this fault, which tells the line by its number, from 1
+abbrev pub HasFault : List Saying → ℕ → ScriptError → Type 0
+HasFault lines place (script.BadLine n) = (n ≡ place + 1) × (slice_get lines place ≡ Some (Err line.BadLine))
+HasFault lines place (script.UnknownInterface n) = (n ≡ place + 1) × (slice_get lines place ≡ Some (Err line.UnknownInterface))
+HasFault lines place (script.RepeatedAttempt n) = (n ≡ place + 1) × ((attempt : ℕ) × (now : Verdict) × (before : Verdict) × (slice_get lines place ≡ Some (Ok (Some (attempt, now)))) × Gives (take place lines) attempt before)
+HasFault lines place script.NoMemory = ⊥
+
+-- the first faulty line has this fault: the lines before it are a script
+abbrev pub IsFirstFault : List Saying → ScriptError → Type 0
+IsFirstFault lines fault = (place : ℕ) × IsOk (spelled_after no_verdicts 1 (take place lines)) × HasFault lines place fault

@@ -4,6 +4,7 @@
 //! the attempt's number, and `Good` elsewhere, however often it is asked.
 #![tactic(auto)]
 
+pub mod laws;
 mod script_lines;
 pub mod scripts;
 pub mod sources;
@@ -12,3 +13,6 @@ pub mod verdicts;
 pub use scripts::{Script, ScriptError};
 pub use sources::{FaultSource, Perfect};
 pub use verdicts::{GlobalKind, LocalKind, Verdict};
+
+#[cfg(test)]
+mod tests;
