@@ -2,3 +2,4 @@ pub mod VerdictMaps
 pub mod NamedSets
 pub mod Sayings
 pub mod ScriptLaws
+pub mod LineGrammar

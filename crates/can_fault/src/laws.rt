@@ -1,9 +1,16 @@
 ghost use Rattle.std.specs.Prelude.{◌≡◌, ◌↔◌, ℕ, List, [], Ok, Err, Some, slice_get};
 ghost use Rattle.std.specs.FinMap.{get};
+ghost use Rattle.can_fault.specs.Grammar.{SpellsEntry};
 ghost use Rattle.can_fault.specs.Sources.{VerdictMap, no_verdicts};
-ghost use Rattle.can_fault.specs.Scripts.{sayings, script_spelling, Gives, IsFirstFault};
+ghost use Rattle.can_fault.specs.Scripts.{line_spelling, sayings, script_spelling, Gives, IsFirstFault};
 ghost use Rattle.can_fault.specs.declared.scripts.ScriptError.{ScriptError};
 ghost use Rattle.can_fault.specs.declared.verdicts.Verdict.{Verdict};
+
+/// A line gives an attempt a verdict exactly where it is the attempt's number, a space, and one of the
+/// verdict's spellings.
+pub fn a_line_is_read_as_it_is_spelled()
+    ensures { (names : List (List ℕ)) (line : List ℕ) (attempt : ℕ) (verdict : Verdict) → (line_spelling names line ≡ Ok (Some (attempt, verdict))) ↔ SpellsEntry names line attempt verdict }
+{}
 
 /// A script has for an attempt exactly the verdict that one of its lines gives.
 pub fn a_script_is_what_its_lines_say()
