@@ -1,0 +1,5 @@
+pub mod VerdictMaps
+pub mod NamedSets
+pub mod Sayings
+pub mod ScriptLaws
+pub mod LineGrammar

@@ -1,6 +1,18 @@
 //! The faults of a bus: the verdict of each attempt, and the sources that verdicts come from.
+//!
+//! A source is a finite map from the numbers of attempts to verdicts. What it answers is that map at
+//! the attempt's number, and `Good` elsewhere, however often it is asked.
 #![tactic(auto)]
 
+pub mod laws;
+mod script_lines;
+pub mod scripts;
+pub mod sources;
 pub mod verdicts;
 
+pub use scripts::{Script, ScriptError};
+pub use sources::{FaultSource, Perfect};
 pub use verdicts::{GlobalKind, LocalKind, Verdict};
+
+#[cfg(test)]
+mod tests;

@@ -1,0 +1,36 @@
+use Rattle.std.specs.Prelude.{◌≡◌, ℕ, IsTrue, List, ◌∷◌, ◌++◌, is_some, codes}
+use Rattle.std.specs.List.{list_all}
+use Rattle.std.specs.Str.Parse.{digits_value}
+use Rattle.can_frame.specs.Names.{names_in, is_name, place_of}
+use Rattle.can_frame.specs.declared.ifaces.IfaceSet.{IfaceSet}
+use Rattle.can_fault.specs.Scripts.{is_number, set_named}
+use Rattle.can_fault.specs.declared.verdicts.GlobalKind.TheVariants as global
+use Rattle.can_fault.specs.declared.verdicts.LocalKind.{LocalKind}
+use Rattle.can_fault.specs.declared.verdicts.LocalKind.TheVariants as local
+use Rattle.can_fault.specs.declared.verdicts.Verdict.{Verdict}
+use Rattle.can_fault.specs.declared.verdicts.Verdict.TheVariants.{Good, Global, Local, LastBit}
+
+-- The grammar of a script's lines, from what a line says to its texts (own choice).
+
+-- the word of a fault that only some interfaces see
+abbrev pub kind_word : LocalKind → List ℕ
+kind_word local.Stuff = codes "stuff"
+kind_word local.Crc = codes "crc"
+kind_word local.Form = codes "form"
+
+-- names of the bus's interfaces, joined by commas, spell the set of these interfaces
+abbrev pub SpellsSet : List (List ℕ) → List ℕ → IfaceSet → Type 0
+SpellsSet names text set = IsTrue (list_all is_name (names_in text)) × IsTrue (list_all (λ piece. is_some (place_of names piece)) (names_in text)) × (set ≡ set_named names (names_in text))
+
+-- how a verdict is spelled: `good`, `lastbit`, `global bit`, `global form`, or `local`, the fault's word
+-- and the interfaces that see it, with one space between them
+abbrev pub SpellsVerdict : List (List ℕ) → List ℕ → Verdict → Type 0
+SpellsVerdict names text Good = text ≡ codes "good"
+SpellsVerdict names text LastBit = text ≡ codes "lastbit"
+SpellsVerdict names text (Global global.Bit) = text ≡ codes "global bit"
+SpellsVerdict names text (Global global.Form) = text ≡ codes "global form"
+SpellsVerdict names text (Local set kind) = (list : List ℕ) × (text ≡ codes "local " ++ (kind_word kind ++ 32 ∷ list)) × SpellsSet names list set
+
+-- how a line gives an attempt its verdict: 1 to 8 decimal digits, a space, and the verdict
+abbrev pub SpellsEntry : List (List ℕ) → List ℕ → ℕ → Verdict → Type 0
+SpellsEntry names text attempt verdict = (digits : List ℕ) × (rest : List ℕ) × (text ≡ digits ++ 32 ∷ rest) × IsTrue (is_number digits) × (attempt ≡ digits_value 10 digits) × SpellsVerdict names rest verdict

@@ -1,0 +1,142 @@
+use Rattle.std.specs.Prelude.{◌≡◌, ℕ, ◌+◌, Bool, true, false, IsTrue, ◌&&◌, ◌==◌, nat_le, nat_eq, if◌then◌else◌, List, [], ◌∷◌, map, length, Option, Some, None, is_some, Result, Ok, Err, IsOk, codes, slice_get, take}
+use Rattle.std.specs.List.{list_all, list_any, slice_split, before_first, after_first}
+use Rattle.std.specs.Option.{option_eq, ok_or}
+use Rattle.std.specs.Char.{is_ascii_digit}
+use Rattle.std.specs.Str.{bytes_eq}
+use Rattle.std.specs.Str.Parse.{digits_value}
+use Rattle.std.specs.FinMap.{contains_key, insert}
+use Rattle.can_frame.specs.Names.{names_in, is_name, place_of}
+use Rattle.can_frame.specs.Sets.{set_where}
+use Rattle.can_frame.specs.declared.ifaces.IfaceSet.{IfaceSet}
+use Rattle.can_fault.specs.Sources.{VerdictMap, no_verdicts}
+use Rattle.can_fault.specs.declared.script_lines.LineFault.{LineFault}
+use Rattle.can_fault.specs.declared.script_lines.LineFault.TheVariants as line
+use Rattle.can_fault.specs.declared.scripts.ScriptError.{ScriptError}
+use Rattle.can_fault.specs.declared.scripts.ScriptError.TheVariants as script
+use Rattle.can_fault.specs.declared.verdicts.GlobalKind.TheVariants as global
+use Rattle.can_fault.specs.declared.verdicts.LocalKind.{LocalKind}
+use Rattle.can_fault.specs.declared.verdicts.LocalKind.TheVariants as local
+use Rattle.can_fault.specs.declared.verdicts.Verdict.{Verdict}
+use Rattle.can_fault.specs.declared.verdicts.Verdict.TheVariants.{Good, Global, Local, LastBit}
+
+-- Fault scripts: the verdicts of attempts as a text of lines (own choice).
+
+infixl 10 ◌>>=◌
+abbrev pub ◌>>=◌ : {A B : Type 0} → Result A LineFault → (A → Result B LineFault) → Result B LineFault
+(Ok x) >>= f = f x
+(Err e) >>= f = Err e
+
+-- the text before its first space, or all of it
+abbrev pub word : List ℕ → List ℕ
+word text = before_first (λ b. b == 32) text
+
+-- the text behind its first space, or nothing
+abbrev pub after : List ℕ → List ℕ
+after text = after_first (λ b. b == 32) text
+
+-- 1 to 8 decimal digits
+abbrev pub is_number : List ℕ → Bool
+is_number text = nat_le 1 (length text) && nat_le (length text) 8 && list_all is_ascii_digit text
+
+-- the number of an attempt
+abbrev pub number_spelling : List ℕ → Option ℕ
+number_spelling text = if is_number text then Some (digits_value 10 text) else None
+
+-- the interfaces whose names are among the pieces
+unfoldable pub set_named : List (List ℕ) → List (List ℕ) → IfaceSet
+set_named names pieces = set_where (λ i. list_any (λ piece. option_eq nat_eq (place_of names piece) (Some i)) pieces) (length names)
+
+-- a set of interfaces: their names joined by commas. A piece that no name can be makes a bad line
+-- before any name is looked up
+abbrev pub set_spelling : List (List ℕ) → List ℕ → Result IfaceSet LineFault
+set_spelling names text =
+    if list_all is_name (names_in text) then (if list_all (λ piece. is_some (place_of names piece)) (names_in text) then Ok (set_named names (names_in text)) else Err line.UnknownInterface) else Err line.BadLine
+
+-- a fault that only some interfaces see
+abbrev pub kind_spelling : List ℕ → Option LocalKind
+kind_spelling text = if bytes_eq text (codes "stuff") then Some local.Stuff else if bytes_eq text (codes "crc") then Some local.Crc else if bytes_eq text (codes "form") then Some local.Form else None
+
+-- behind `local`: the fault, a space, and the interfaces that see it
+unfoldable pub local_spelling : List (List ℕ) → List ℕ → Result Verdict LineFault
+local_spelling names text = do
+  kind ← ok_or (kind_spelling (word text)) line.BadLine
+  set ← set_spelling names (after text)
+  Ok (Local set kind)
+
+-- a verdict
+unfoldable pub verdict_spelling : List (List ℕ) → List ℕ → Result Verdict LineFault
+verdict_spelling names text =
+    if bytes_eq text (codes "good") then Ok Good
+    else if bytes_eq text (codes "lastbit") then Ok LastBit
+    else if bytes_eq text (codes "global bit") then Ok (Global global.Bit)
+    else if bytes_eq text (codes "global form") then Ok (Global global.Form)
+    else if bytes_eq (word text) (codes "local") then local_spelling names (after text)
+    else Err line.BadLine
+
+-- what a line says: nothing, or a number with its verdict
+abbrev pub Saying : Type 0
+Saying = Result (Option (ℕ × Verdict)) LineFault
+
+-- a number, a space, and its verdict
+unfoldable pub entry_spelling : List (List ℕ) → List ℕ → Saying
+entry_spelling names text = do
+  number ← ok_or (number_spelling (word text)) line.BadLine
+  verdict ← verdict_spelling names (after text)
+  Ok (Some (number, verdict))
+
+-- a line: it says nothing where it is empty or begins with `#`
+abbrev pub line_spelling : List (List ℕ) → List ℕ → Saying
+line_spelling names [] = Ok None
+line_spelling names (b ∷ bs) = if b == 35 then Ok None else entry_spelling names (b ∷ bs)
+
+-- the lines of a text: the pieces between its line feeds. Behind a last line feed stands an empty
+-- one, which says nothing
+abbrev pub lines_in : List ℕ → List (List ℕ)
+lines_in text = slice_split (λ b. b == 10) text
+
+-- what the lines of a text say
+abbrev pub sayings : List (List ℕ) → List ℕ → List Saying
+sayings names text = map (line_spelling names) (lines_in text)
+
+-- a line's fault with the line's number
+abbrev pub at_line : ℕ → LineFault → ScriptError
+at_line n line.BadLine = script.BadLine n
+at_line n line.UnknownInterface = script.UnknownInterface n
+
+-- what lines spell, the first of them with number `n`, where the lines before them gave `known`
+abbrev pub spelled_after : VerdictMap → ℕ → List Saying → Result VerdictMap ScriptError
+spelled_after known n [] = Ok known
+spelled_after known n (Err fault ∷ more) = Err (at_line n fault)
+spelled_after known n (Ok None ∷ more) = spelled_after known (n + 1) more
+spelled_after known n (Ok (Some entry) ∷ more) = if contains_key known entry.0 then Err (script.RepeatedAttempt n) else spelled_after (insert known entry.0 entry.1) (n + 1) more
+
+-- the verdicts that a text spells, or its first fault
+abbrev pub script_spelling : List (List ℕ) → List ℕ → Result VerdictMap ScriptError
+script_spelling names text = spelled_after no_verdicts 1 (sayings names text)
+
+-- before any fault a line gives a verdict, and to keep it takes memory
+abbrev pub takes_memory : List Saying → Bool
+takes_memory [] = false
+takes_memory (Err fault ∷ more) = false
+takes_memory (Ok None ∷ more) = takes_memory more
+takes_memory (Ok (Some entry) ∷ more) = true
+
+-- what reading a text answers: what the text spells, or NoMemory where that takes memory
+abbrev pub Reads : List (List ℕ) → List ℕ → Result VerdictMap ScriptError → Type 0
+Reads names text (Err script.NoMemory) = IsTrue (takes_memory (sayings names text))
+Reads names text answer = script_spelling names text ≡ answer
+
+-- some line gives an attempt this verdict
+abbrev pub Gives : List Saying → ℕ → Verdict → Type 0
+Gives lines attempt verdict = (place : ℕ) × (slice_get lines place ≡ Some (Ok (Some (attempt, verdict))))
+
+-- the line at a place, counted from 0, has this fault, which tells the line by its number, from 1
+abbrev pub HasFault : List Saying → ℕ → ScriptError → Type 0
+HasFault lines place (script.BadLine n) = (n ≡ place + 1) × (slice_get lines place ≡ Some (Err line.BadLine))
+HasFault lines place (script.UnknownInterface n) = (n ≡ place + 1) × (slice_get lines place ≡ Some (Err line.UnknownInterface))
+HasFault lines place (script.RepeatedAttempt n) = (n ≡ place + 1) × ((attempt : ℕ) × (now : Verdict) × (before : Verdict) × (slice_get lines place ≡ Some (Ok (Some (attempt, now)))) × Gives (take place lines) attempt before)
+HasFault lines place script.NoMemory = ⊥
+
+-- the first faulty line has this fault: the lines before it are a script
+abbrev pub IsFirstFault : List Saying → ScriptError → Type 0
+IsFirstFault lines fault = (place : ℕ) × IsOk (spelled_after no_verdicts 1 (take place lines)) × HasFault lines place fault

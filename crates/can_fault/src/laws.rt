@@ -1,0 +1,33 @@
+ghost use Rattle.std.specs.Prelude.{◌≡◌, ◌↔◌, ℕ, List, [], Ok, Err, Some, slice_get};
+ghost use Rattle.std.specs.FinMap.{get};
+ghost use Rattle.can_fault.specs.Grammar.{SpellsEntry};
+ghost use Rattle.can_fault.specs.Sources.{VerdictMap, no_verdicts};
+ghost use Rattle.can_fault.specs.Scripts.{line_spelling, sayings, script_spelling, Gives, IsFirstFault};
+ghost use Rattle.can_fault.specs.declared.scripts.ScriptError.{ScriptError};
+ghost use Rattle.can_fault.specs.declared.verdicts.Verdict.{Verdict};
+
+/// A line gives an attempt a verdict exactly where it is the attempt's number, a space, and one of the
+/// verdict's spellings.
+pub fn a_line_is_read_as_it_is_spelled()
+    ensures { (names : List (List ℕ)) (line : List ℕ) (attempt : ℕ) (verdict : Verdict) → (line_spelling names line ≡ Ok (Some (attempt, verdict))) ↔ SpellsEntry names line attempt verdict }
+{}
+
+/// A script has for an attempt exactly the verdict that one of its lines gives.
+pub fn a_script_is_what_its_lines_say()
+    ensures { (names : List (List ℕ)) (text : List ℕ) (verdicts : VerdictMap) (attempt : ℕ) (verdict : Verdict) → script_spelling names text ≡ Ok verdicts → (get verdicts attempt ≡ Some verdict) ↔ Gives (sayings names text) attempt verdict }
+{}
+
+/// No two lines of a script give a verdict to one attempt.
+pub fn no_attempt_stands_twice()
+    ensures { (names : List (List ℕ)) (text : List ℕ) (verdicts : VerdictMap) (first second attempt : ℕ) (one other : Verdict) → script_spelling names text ≡ Ok verdicts → slice_get (sayings names text) first ≡ Some (Ok (Some (attempt, one))) → slice_get (sayings names text) second ≡ Some (Ok (Some (attempt, other))) → first ≡ second }
+{}
+
+/// The fault that is told is that of the first faulty line.
+pub fn the_first_fault_is_told()
+    ensures { (names : List (List ℕ)) (text : List ℕ) (fault : ScriptError) → script_spelling names text ≡ Err fault → IsFirstFault (sayings names text) fault }
+{}
+
+/// The empty text spells the perfect source.
+pub fn the_empty_text_is_perfect()
+    ensures { (names : List (List ℕ)) → script_spelling names [] ≡ Ok no_verdicts }
+{}

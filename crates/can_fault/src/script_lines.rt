@@ -1,0 +1,134 @@
+ghost use Rattle.std.specs.Prelude.{◌≡◌, ◌<◌, Some, None};
+ghost use Rattle.std.specs.List.{list_all};
+ghost use Rattle.std.specs.Char.{is_ascii_digit};
+ghost use Rattle.can_frame.specs.Names.{names_in, is_name as is_name_of};
+ghost use Rattle.can_fault.specs.Scripts.{word, after, is_number as is_number_of, number_spelling, set_spelling, kind_spelling, local_spelling, verdict_spelling, entry_spelling, line_spelling};
+
+use crate::verdicts::{GlobalKind, LocalKind, Verdict};
+use can_frame::{IfaceSet, Names, is_name};
+
+/// What is wrong with a line of a script by itself.
+#[derive(Debug, Clone, Copy, PartialEq, Eq)]
+pub enum LineFault {
+    BadLine,
+    UnknownInterface,
+}
+
+/// What a line of a script says: nothing, or the verdict of the attempt with a number.
+pub fn read_line(line: &str, names: &Names) -> Result<Option<(u64, Verdict)>, LineFault>
+    ensures { result ≡ line_spelling names.now line.now }
+{
+    match line.as_bytes() {
+        [] | [b'#', ..] => Ok(None),
+        _ => read_entry(line, names),
+    }
+}
+
+#[tactic(auto, unfolding(crate::specs::Scripts::entry_spelling))]
+fn read_entry(line: &str, names: &Names) -> Result<Option<(u64, Verdict)>, LineFault>
+    ensures { result ≡ entry_spelling names.now line.now }
+{
+    let (number, verdict) = cut(line);
+    let number = read_number(number).ok_or(LineFault::BadLine)?;
+    let verdict = read_verdict(verdict, names)?;
+    Ok(Some((number, verdict)))
+}
+
+#[tactic(auto, unfolding(crate::specs::Scripts::verdict_spelling))]
+fn read_verdict(text: &str, names: &Names) -> Result<Verdict, LineFault>
+    ensures { result ≡ verdict_spelling names.now text.now }
+{
+    let (first, rest) = cut(text);
+    if text == "good" {
+        Ok(Verdict::Good)
+    } else if text == "lastbit" {
+        Ok(Verdict::LastBit)
+    } else if text == "global bit" {
+        Ok(Verdict::Global(GlobalKind::Bit))
+    } else if text == "global form" {
+        Ok(Verdict::Global(GlobalKind::Form))
+    } else if first == "local" {
+        read_local(rest, names)
+    } else {
+        Err(LineFault::BadLine)
+    }
+}
+
+// What stands behind `local`.
+#[tactic(auto, unfolding(crate::specs::Scripts::local_spelling))]
+fn read_local(text: &str, names: &Names) -> Result<Verdict, LineFault>
+    ensures { result ≡ local_spelling names.now text.now }
+{
+    let (kind, list) = cut(text);
+    let kind = read_kind(kind).ok_or(LineFault::BadLine)?;
+    let set = read_set(list, names)?;
+    Ok(Verdict::Local(set, kind))
+}
+
+fn read_kind(word: &str) -> Option<LocalKind>
+    ensures { result ≡ kind_spelling word.now }
+{
+    if word == "stuff" {
+        Some(LocalKind::Stuff)
+    } else if word == "crc" {
+        Some(LocalKind::Crc)
+    } else if word == "form" {
+        Some(LocalKind::Form)
+    } else {
+        None
+    }
+}
+
+// The interfaces whose names the text joins by commas.
+fn read_set(list: &str, names: &Names) -> Result<IfaceSet, LineFault>
+    ensures { result ≡ set_spelling names.now list.now }
+{
+    if !are_good(list) {
+        return Err(LineFault::BadLine);
+    }
+    let mut set = IfaceSet::empty();
+    for name in list.split(',') {
+        let Some(iface) = names.find(name) else {
+            return Err(LineFault::UnknownInterface);
+        };
+        set = set.with(iface);
+    }
+    Ok(set)
+}
+
+// Whether the pieces between the commas are names that interfaces may have.
+fn are_good(list: &str) -> bool
+    ensures { result ≡ list_all is_name_of (names_in list.now) }
+{
+    list.split(',').all(|name| is_name(name))
+}
+
+// 1 to 8 decimal digits.
+fn read_number(text: &str) -> Option<u64>
+    ensures { result ≡ number_spelling text.now }
+{
+    if !is_number(text) {
+        return None;
+    }
+    text.parse().ok()
+}
+
+fn is_number(text: &str) -> bool
+    ensures { result ≡ is_number_of text.now }
+{
+    1 <= text.len() && text.len() <= 8 && has_digits_alone(text)
+}
+
+fn has_digits_alone(text: &str) -> bool
+    ensures { result ≡ list_all is_ascii_digit text.now }
+{
+    text.bytes().all(|byte| byte.is_ascii_digit())
+}
+
+// The text before the first space, and the text after it; the whole and nothing where there is no space.
+fn cut(text: &str) -> (&str, &str)
+    ensures word { result.0.now ≡ word text.now }
+    ensures after { result.1.now ≡ after text.now }
+{
+    text.split_once(' ').unwrap_or((text, ""))
+}

@@ -1,0 +1,112 @@
+use crate::{FaultSource, GlobalKind, LocalKind, Perfect, Script, ScriptError, Verdict};
+use can_frame::{IfaceSet, Names};
+use std::fmt::Write;
+use std::test::Fail;
+
+#[test]
+fn a_script_gives_the_verdicts_of_its_lines(rt: HostRuntime) -> Result<(), Fail> {
+    let names = Names::read(rt.alloc(), "can0,can1")?;
+    let text = "0 lastbit\n# a remark\n\n00000002 global bit\n3 global form\n\
+        4 local stuff can1,can0,can1\n5 local crc can1\n6 local form can0\n99999999 good";
+    let mut script = Script::read(rt.alloc(), text, &names)?;
+    let verdicts = [
+        (0, Verdict::LastBit),
+        (1, Verdict::Good),
+        (2, Verdict::Global(GlobalKind::Bit)),
+        (3, Verdict::Global(GlobalKind::Form)),
+        (4, Verdict::Local(IfaceSet(3), LocalKind::Stuff)),
+        (5, Verdict::Local(IfaceSet(2), LocalKind::Crc)),
+        (6, Verdict::Local(IfaceSet(1), LocalKind::Form)),
+        (7, Verdict::Good),
+        (99_999_999, Verdict::Good),
+        (u64::MAX, Verdict::Good),
+        (0, Verdict::LastBit),
+    ];
+    for (attempt, verdict) in verdicts {
+        assert_eq!(rt; script.verdict(attempt), verdict, "at {attempt}");
+    }
+    Ok(())
+}
+
+#[test]
+fn the_empty_text_and_the_perfect_source_are_good_everywhere(rt: HostRuntime) -> Result<(), Fail> {
+    let names = Names::read(rt.alloc(), "can0")?;
+    let mut script = Script::read(rt.alloc(), "", &names)?;
+    for attempt in [0, 1, u64::MAX] {
+        assert_eq!(rt; script.verdict(attempt), Verdict::Good, "at {attempt}");
+        assert_eq!(rt; Perfect.verdict(attempt), Verdict::Good, "at {attempt}");
+    }
+    Ok(())
+}
+
+#[test]
+fn the_first_fault_of_a_text_is_told(rt: HostRuntime) -> Result<(), Fail> {
+    let names = Names::read(rt.alloc(), "can0,can1")?;
+    let faults = [
+        (
+            "0 good\n5 local crc can1\n5 good",
+            ScriptError::RepeatedAttempt(3),
+        ),
+        (
+            "0 good\n5 local crc can2\n5 good",
+            ScriptError::UnknownInterface(2),
+        ),
+        ("0 good\n5 local crc\n5 good", ScriptError::BadLine(2)),
+        ("1 good\n01 good", ScriptError::RepeatedAttempt(2)),
+        (
+            "1 good\n1 local form can2",
+            ScriptError::UnknownInterface(2),
+        ),
+        ("1 local form can2,", ScriptError::BadLine(1)),
+        ("1 good\r\n", ScriptError::BadLine(1)),
+        ("1 good ", ScriptError::BadLine(1)),
+        ("1  good", ScriptError::BadLine(1)),
+        ("\n#\n +1 good", ScriptError::BadLine(3)),
+        ("+1 good", ScriptError::BadLine(1)),
+        ("123456789 good", ScriptError::BadLine(1)),
+        ("1", ScriptError::BadLine(1)),
+        ("1 global crc", ScriptError::BadLine(1)),
+        ("1 local bit can0", ScriptError::BadLine(1)),
+    ];
+    for (text, fault) in faults {
+        let found = Script::read(rt.alloc(), text, &names).err();
+        assert_eq!(rt; found, Some(fault), "at {text}");
+    }
+    Ok(())
+}
+
+#[test]
+fn faults_are_told_in_words(rt: HostRuntime) -> Result<(), Fail> {
+    let words = [
+        (ScriptError::BadLine(1), "script line 1: bad line"),
+        (
+            ScriptError::UnknownInterface(20),
+            "script line 20: unknown interface",
+        ),
+        (
+            ScriptError::RepeatedAttempt(3),
+            "script line 3: repeated attempt",
+        ),
+        (ScriptError::NoMemory, "no memory"),
+    ];
+    for (fault, text) in words {
+        let mut told = String::new(rt.alloc());
+        write!(told, "{fault}")?;
+        assert_eq!(rt; told.as_str(), text);
+    }
+    Ok(())
+}
+
+#[test]
+fn a_long_script_is_read_and_asked_quickly(rt: HostRuntime) -> Result<(), Fail> {
+    let names = Names::read(rt.alloc(), "can0")?;
+    let mut text = String::new(rt.alloc());
+    for attempt in 0..100_000u32 {
+        writeln!(text, "{attempt} lastbit")?;
+    }
+    let mut script = Script::read(rt.alloc(), &text, &names)?;
+    for attempt in 0..100_000u64 {
+        assert_eq!(rt; script.verdict(attempt), Verdict::LastBit);
+    }
+    Ok(())
+}
