@@ -1,10 +1,10 @@
-use Rattle.std.proofs.Common.{◌≡◌, ◌<◌, ◌≤◌, ◌+◌, ◌*◌, ◌%◌, ◌^◌, ℕ, zero, suc, Bool, true, false, not, refl, sym, ap, ◌∙◌, bit_and, bit_xor, if◌then◌else◌, arith}
+use Rattle.std.proofs.Common.{◌≡◌, ◌<◌, ◌+◌, ◌*◌, ◌%◌, ◌^◌, ℕ, zero, suc, Bool, true, false, not, refl, sym, ap, ◌∙◌, bit_and, bit_xor, if◌then◌else◌, arith}
 use Rattle.std.specs.Prelude.{◌==◌}
 use Rattle.std.specs.Int.{bit_at}
 use Rattle.std.proofs.lemmas.Nat.{and_comm, and_xor_apart, and_mod, and_le_l}
 use Rattle.std.proofs.lemmas.Nat.Bits.{and_pow, bit_at_xor, bit_at-pow_same, bit_at-lt}
 use Rattle.std.proofs.Math.Nat.{mod-eq_of_lt}
-use Rattle.can_filter.specs.Filters.{CanFilter, is_inverted, inverse_of, agrees, matches}
+use Rattle.can_filter.specs.Filters.{CanFilter, inverse_of, agrees, matches}
 
 -- Of a filter and its inverse, and of the bits of an error mask.
 
