@@ -1,0 +1,76 @@
+use crate::filter_sets::{FilterError, FilterSet};
+use crate::filters::{Filter, InvalidFilter};
+use crate::socket_options::Options;
+use crate::wanted::wants;
+use can_frame::{CanId, ErrorFrame, Frame, Item};
+use std::test::Fail;
+
+#[test]
+fn a_filter_compares_the_masked_bits(rt: HostRuntime) -> Result<(), Fail> {
+    let filter = Filter::new(0x123, 0x7FF)?;
+    assert_eq!(rt; (filter.id(), filter.mask()), (0x123, 0x7FF));
+    let set = FilterSet::from_slice(rt.alloc(), &[filter])?;
+    assert_eq!(rt; set.filters().len(), 1);
+    for (word, want) in [(0x123, true), (0x8000_0123, true), (0x124, false)] {
+        assert_eq!(rt; set.passes(word, false), want, "at {word}");
+    }
+    assert_eq!(rt; Filter::new(0x123, 0x2000_0000), Err(InvalidFilter));
+    Ok(())
+}
+
+#[test]
+fn inverted_filters_join_by_or_and_by_and(rt: HostRuntime) -> Result<(), Fail> {
+    let one = Filter::new(0x2000_0123, 0x7FF)?;
+    let other = Filter::new(0x2000_0124, 0x7FF)?;
+    let set = FilterSet::from_slice(rt.alloc(), &[one, other])?;
+    assert_eq!(rt; set.passes(0x123, false), true);
+    assert_eq!(rt; set.passes(0x123, true), false);
+    let none = FilterSet::none(rt.alloc());
+    assert_eq!(rt; none.passes(0x123, false), false);
+    assert_eq!(rt; none.passes(0x123, true), false);
+    Ok(())
+}
+
+#[test]
+fn a_set_has_at_most_512_filters(rt: HostRuntime) -> Result<(), Fail> {
+    let filter = Filter::new(0x123, 0x7FF)?;
+    let many = vec![in rt.alloc(); filter; 513]?;
+    let most = FilterSet::from_slice(rt.alloc(), &many[..512])?;
+    assert_eq!(rt; most.filters().len(), 512);
+    assert_eq!(rt; most.try_copy(rt.alloc())?.filters().len(), 512);
+    let over = FilterSet::from_slice(rt.alloc(), &many);
+    assert_eq!(rt; over.err(), Some(FilterError::TooManyFilters));
+    Ok(())
+}
+
+#[test]
+fn own_frames_and_error_masks(rt: HostRuntime) -> Result<(), Fail> {
+    let filters = FilterSet::all(rt.alloc())?;
+    let frame = Item::Data(Frame::data(CanId::standard(0x123)?, &[])?);
+    let error = Item::Error(ErrorFrame::new(0x204, [0; 8])?);
+    let opened = Options::at_open();
+    assert_eq!(rt; opened, Options::default());
+    let own = Options {
+        recv_own: true,
+        ..opened
+    };
+    let marks = Options {
+        err_mask: 0xE000_0000,
+        ..opened
+    };
+    let counts = Options {
+        err_mask: 0x200,
+        ..opened
+    };
+    for (options, item, is_own, want) in [
+        (opened, frame, false, true),
+        (opened, frame, true, false),
+        (own, frame, true, true),
+        (opened, error, false, false),
+        (marks, error, false, false),
+        (counts, error, false, true),
+    ] {
+        assert_eq!(rt; wants(&filters, &options, &item, is_own), want);
+    }
+    Ok(())
+}
