@@ -3,4 +3,3 @@ pub mod FrameFields
 pub mod Arbitration
 pub mod Sets
 pub mod Names
-pub mod Arbitration
