@@ -12,7 +12,7 @@ use Rattle.can_filter.specs.Passing.{wants}
 use Rattle.can_confine.specs.Confinement.{is_off}
 use Rattle.can_fault.specs.declared.verdicts.Verdict.{Verdict}
 use Rattle.can_attempt.specs.Attempts.{Transmission, counts_after}
-use Rattle.can_errframe.specs.Messages.{state_message, restart_message}
+use Rattle.can_errframe.specs.ErrorMessages.{state_message, restart_message}
 use Rattle.can_bus.specs.declared.events.Entry.{Entry}
 use Rattle.can_bus.specs.declared.events.Event.{Event}
 use Rattle.can_bus.specs.declared.events.Event.TheVariants.{Open, Close, SetFilters, SetOption, Send, Receive, Attempt, Restart}

@@ -4,7 +4,7 @@ use Rattle.can_filter.specs.Filters.{CanFilter}
 use Rattle.can_filter.specs.Passing.{receives_all, default_options}
 use Rattle.can_frame.specs.Sets.{is_in}
 use Rattle.can_frame.specs.declared.ifaces.IfaceSet.{IfaceSet}
-use Rattle.can_arbiter.specs.Keys.{IsLeast, AreNone}
+use Rattle.can_arbiter.specs.Keys.{IsWinner, IsIdle}
 use Rattle.can_confine.specs.Confinement.{at_start, state_of, is_off}
 use Rattle.can_fault.specs.declared.verdicts.Verdict.{Verdict}
 use Rattle.can_attempt.specs.declared.acks.AckMode.{AckMode}
@@ -149,7 +149,7 @@ pub record Carries (old : List LineState) (keys : List (Option ℕ)) (nodes : No
   pub place : ℕ
   pub line : LineState
   pub pending : Pending
-  pub wins : IsLeast keys place
+  pub wins : IsWinner keys place
   pub there : slice_get old place ≡ Some line
   pub oldest : slice_get line.waiting 0 ≡ Some pending
   pub tried : t ≡ record { moment = m; winner = place; number = line.gone; frame = pending.frame; class = (judged (attempt_between nodes place v ack)).class; accepted = (judged (attempt_between nodes place v ack)).accepted; off = (judged (attempt_between nodes place v ack)).off }
@@ -160,7 +160,7 @@ pub record Carries (old : List LineState) (keys : List (Option ℕ)) (nodes : No
 
 -- a frame is tried, if a live interface has one
 abbrev pub Tries : List LineState → List (Option ℕ) → Nodes → List SocketState → AckMode → IfaceSet → ℕ → Verdict → Option Tried → List LineState → List (Option ℕ) → Nodes → List SocketState → Type 0
-Tries old keys nodes sockets ack reporting m v None new new_keys new_nodes after = AreNone keys × (new ≡ old) × (new_keys ≡ keys) × (new_nodes ≡ nodes) × (after ≡ sockets)
+Tries old keys nodes sockets ack reporting m v None new new_keys new_nodes after = IsIdle keys × (new ≡ old) × (new_keys ≡ keys) × (new_nodes ≡ nodes) × (after ≡ sockets)
 Tries old keys nodes sockets ack reporting m v (Some t) new new_keys new_nodes after = Carries old keys nodes sockets ack reporting m v t new new_keys new_nodes after
 
 -- an interface with a key is there, is live, and has a frame to send

@@ -6,7 +6,7 @@ use Rattle.can_frame.specs.declared.items.Item.TheVariants as item
 use Rattle.can_fault.specs.declared.verdicts.Verdict.{Verdict}
 use Rattle.can_attempt.specs.declared.classes.Class.{Class}
 use Rattle.can_attempt.specs.Attempts.{Transmission, is_among, receivers, hit, counts_after}
-use Rattle.can_errframe.specs.Messages.{fault_message, state_message, restart_message}
+use Rattle.can_errframe.specs.ErrorMessages.{fault_message, state_message, restart_message}
 use Rattle.can_errframe.specs.declared.roles.Role.{Role}
 use Rattle.can_errframe.specs.declared.roles.Role.TheVariants as role
 use Rattle.can_bus.specs.declared.events.BusConfig.{BusConfig}

@@ -1,7 +1,7 @@
 ghost use Rattle.std.specs.Prelude.{◌≡◌, ◌<◌, ◌≤◌, ◌+◌, ◌^◌, ◌||◌, ◌&&◌, ◌==◌, [], ◌∷◌, All, None, Some, map};
 ghost use Rattle.can_frame.specs.Sets.{is_in};
 ghost use Rattle.can_attempt.specs.Attempts.{counts_after};
-ghost use Rattle.can_errframe.specs.Messages.{state_message};
+ghost use Rattle.can_errframe.specs.ErrorMessages.{state_message};
 ghost use Rattle.can_bus.specs.News.{told_news, transmission_of, IsNews};
 ghost use Rattle.can_bus.specs.Posts.{is_looped_back, role_at, fault_message_for, restart_posts, data_posts, error_posts};
 ghost use Rattle.can_bus.specs.Queues.{passing};
