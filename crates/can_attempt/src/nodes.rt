@@ -2,6 +2,7 @@ ghost use Rattle.std.specs.Prelude.{◌≡◌, ◌<◌};
 ghost use Rattle.can_attempt.specs.Attempts.{counts_at};
 
 use can_confine::Counters;
+use can_frame::Iface;
 
 /// The interfaces of a bus as an attempt finds them: how many there are, 1 to 16, and their error
 /// counters by interface number. What stands from place `count` on belongs to nobody.
@@ -19,4 +20,24 @@ pub(crate) fn counters_at(nodes: &Nodes, place: u8) -> Counters
     ensures { result ≡ counts_at nodes.now place }
 {
     nodes.counters[place as usize]
+}
+
+impl Nodes {
+    ghost use Rattle.std.specs.Prelude.{◌≡◌};
+    ghost use Rattle.can_confine.specs.Confinement.{is_off, state_of};
+    ghost use Rattle.can_attempt.specs.Attempts.{counts_at};
+
+    /// The error counters of an interface.
+    pub fn counters_of(&self, iface: Iface) -> Counters
+        ensures { result ≡ counts_at self.now iface }
+    {
+        counters_at(self, iface.number())
+    }
+
+    /// Whether an interface is bus off.
+    pub fn is_off(&self, iface: Iface) -> bool
+        ensures { result ≡ is_off (state_of (counts_at self.now iface)) }
+    {
+        self.counters_of(iface).state().is_off()
+    }
 }

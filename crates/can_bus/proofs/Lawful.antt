@@ -214,20 +214,20 @@ open-iface c past legal k o at = look (slice_get (places past) o) refl
 
 -- ---- no more items are dropped_at c than there are entries
 
-passing-le : (fs : List CanFilter) (o : Options) (s : ℕ) (ps : List Post) → length (passing fs o s ps) ≤ length ps
+pub passing-le : (fs : List CanFilter) (o : Options) (s : ℕ) (ps : List Post) → length (passing fs o s ps) ≤ length ps
 passing-le fs o s [] = omega arith
 passing-le fs o s (p ∷ ps) =
     elim (wants fs o p.received.item (is_own p.sender s)) as (λ b. length (if b then p.received ∷ passing fs o s ps else passing fs o s ps) ≤ suc (length ps))
     [ true ↦ omega (arith, passing-le fs o s ps) | false ↦ omega (arith, passing-le fs o s ps) ]
 
-data_posts-le : (i : ℕ) (t : Tried) (p : Option Pending) → length (data_posts i t p) ≤ 1
+pub data_posts-le : (i : ℕ) (t : Tried) (p : Option Pending) → length (data_posts i t p) ≤ 1
 data_posts-le i t p = one (is_in i t.accepted || ((i == t.winner) && is_looped_back t.class p)) _
   where
     one : (b : Bool) (x : Post) → length (if b then x ∷ [] else []) ≤ 1
     one true x = omega arith
     one false x = omega arith
 
-error_posts-le : (i m : ℕ) (e : Option ErrorMessage) → length (error_posts i m e) ≤ 1
+pub error_posts-le : (i m : ℕ) (e : Option ErrorMessage) → length (error_posts i m e) ≤ 1
 error_posts-le i m None = omega arith
 error_posts-le i m (Some e) = omega arith
 

@@ -8,3 +8,6 @@ pub mod Keeping
 pub mod LineFacts
 pub mod Running
 pub mod Lawful
+pub mod SetFacts
+pub mod Roles
+pub mod Filling

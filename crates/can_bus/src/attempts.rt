@@ -83,7 +83,7 @@ pub fn restart_on<R: BoundedQueue<Received>>(
     if place >= nodes.count {
         return Err(Refusal::NoInterface);
     }
-    if !nodes.counters[place as usize].state().is_off() {
+    if !nodes.is_off(iface) {
         return Err(Refusal::NotBusOff);
     }
     nodes.counters[place as usize] = Counters::zero();

@@ -60,12 +60,13 @@ fn role_of(news: &News, iface: Iface) -> Option<Role>
     if news.judgement.hit.contains(iface) {
         return Some(Role::Named);
     }
-    let is_live = !news.nodes.counters[place as usize].state().is_off();
-    if place < news.nodes.count && is_live {
-        Some(Role::Other)
-    } else {
-        None
+    if place >= news.nodes.count {
+        return None;
     }
+    if news.nodes.is_off(iface) {
+        return None;
+    }
+    Some(Role::Other)
 }
 
 /// The error message frame of the attempt's fault, as an interface sees it.
@@ -85,8 +86,8 @@ fn state_change_at(news: &News, iface: Iface) -> Option<ErrorFrame>
     requires { IsNews news.now }
     ensures { result ≡ state_message ((transmission_of news.now).counts iface) (counts_after (transmission_of news.now) iface) }
 {
-    let place = iface.number() as usize;
-    state_frame(news.nodes.counters[place], news.judgement.counters[place])
+    let after = news.judgement.counters[iface.number() as usize];
+    state_frame(news.nodes.counters_of(iface), after)
 }
 
 /// Puts an error message frame of its interface to a socket, if there is one.

@@ -1,0 +1,10 @@
+use Rattle.std.proofs.Common.{◌≡◌, ◌<◌, length, slice_set, ap, sym, ◌∙◌, arith}
+use Rattle.std.proofs.lemmas.List.Edits.{map_over_more}
+use Rattle.can_bus.specs.News.{told_news}
+use Rattle.can_bus.specs.State.{reached}
+use Rattle.can_bus.proofs.news.tell_all.Goals as goal
+
+pub loop-socket-preserved : goal.loop-socket-preserved
+loop-socket-preserved g c =
+    ap (slice_set c.loop-socket.sockets c.loop-socket.socket-index) (c.tell.ensures ∙ ap (reached (told_news c.args.news.now)) (sym c.socket-item.is))
+    ∙ map_over_more (reached (told_news c.args.news.now)) c.args.sockets.now c.loop-socket.sockets c.loop-socket.socket-index c.socket-item.result (omega arith) c.loop-socket.invariant c.socket-item.is
