@@ -1,4 +1,4 @@
-ghost use Rattle.std.specs.Prelude.{◌≡◌, ◌+◌, ◌<◌, ◌≤◌, ◌^◌, ◌↔◌, length, vec_capacity, All};
+ghost use Rattle.std.specs.Prelude.{◌≡◌, ◌+◌, ◌<◌, ◌≤◌, ◌^◌, Some, length, vec_capacity, All};
 ghost use Rattle.can_bus.specs.Changes.{AreReady, Restarts, Tries};
 
 use crate::events::{BusConfig, Pending, Received, Refusal, Tried};
@@ -18,6 +18,56 @@ fn count(nodes: &mut Nodes, judgement: &Judgement)
     ensures { nodes.new ≡ record nodes.old { counters = judgement.now.counters } }
 {
     nodes.counters = judgement.counters;
+}
+
+/// What an attempt answers of the frame that was tried.
+fn tried_as(
+    moment: Moment,
+    winner: Iface,
+    number: u64,
+    pending: &Pending,
+    judgement: &Judgement,
+) -> Tried
+    ensures { result ≡ record { moment = moment; winner = winner; number = number; frame = pending.now.frame; class = judgement.now.class; accepted = judgement.now.accepted; off = judgement.now.off } }
+{
+    Tried {
+        moment,
+        winner,
+        number,
+        frame: pending.frame,
+        class: judgement.class,
+        accepted: judgement.accepted,
+        off: judgement.off,
+    }
+}
+
+/// What the sockets are told of an attempt.
+fn news_of(
+    tried: Tried,
+    pending: Pending,
+    verdict: Verdict,
+    config: BusConfig,
+    nodes: Nodes,
+    judgement: Judgement,
+) -> News
+    ensures { result ≡ record { tried = tried; pending = pending; verdict = verdict; ack = config.ack; nodes = nodes; judgement = judgement; reporting = config.reporting } }
+{
+    News {
+        tried,
+        pending,
+        verdict,
+        ack: config.ack,
+        nodes,
+        judgement,
+        reporting: config.reporting,
+    }
+}
+
+/// The answer of the attempt that the news is of.
+fn answer_of(news: &News) -> Option<Tried>
+    ensures { result ≡ Some news.now.tried }
+{
+    Some(news.tried)
 }
 
 /// Tries the frame that wins the bus, and tells the sockets.
@@ -42,30 +92,13 @@ pub fn try_on<T: BoundedQueue<Pending>, R: BoundedQueue<Received>, A: Arbiter>(
     let line = &mut lines[winner.number() as usize];
     let pending = line.head()?;
     let judgement = judge(nodes, winner, verdict, config.ack);
-    let tried = Tried {
-        moment,
-        winner,
-        number: line.gone(),
-        frame: pending.frame,
-        class: judgement.class,
-        accepted: judgement.accepted,
-        off: judgement.off,
-    };
+    let tried = tried_as(moment, winner, line.gone(), &pending, &judgement);
     line.settle(tried.class, tried.off.contains(winner));
     lines::compete(arbiter, winner, line);
-    let before = *nodes;
-    count(nodes, &judgement);
-    let news = News {
-        tried,
-        pending,
-        verdict,
-        ack: config.ack,
-        nodes: before,
-        judgement,
-        reporting: config.reporting,
-    };
-    news::tell_all(sockets, &news);
-    Some(tried)
+    let told = news_of(tried, pending, verdict, config, *nodes, judgement);
+    count(nodes, &told.judgement);
+    news::tell_all(sockets, &told);
+    answer_of(&told)
 }
 
 /// Restarts an interface that is bus off, and tells the sockets.
