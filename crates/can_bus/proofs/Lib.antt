@@ -6,5 +6,11 @@ pub mod Reading
 pub mod Refusing
 pub mod Keeping
 pub mod LineFacts
+pub mod KeyFacts
+pub mod NodeFacts
+pub mod SocketFacts
 pub mod Running
 pub mod Lawful
+pub mod Bounds
+pub mod Starting
+pub mod Receiving
