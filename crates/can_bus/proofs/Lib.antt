@@ -14,3 +14,5 @@ pub mod Lawful
 pub mod Bounds
 pub mod Starting
 pub mod Receiving
+pub mod Closing
+pub mod Setting
