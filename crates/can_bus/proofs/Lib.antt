@@ -16,3 +16,4 @@ pub mod Starting
 pub mod Receiving
 pub mod Closing
 pub mod Setting
+pub mod Opening
