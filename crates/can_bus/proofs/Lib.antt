@@ -17,3 +17,4 @@ pub mod Receiving
 pub mod Closing
 pub mod Setting
 pub mod Opening
+pub mod Sending
