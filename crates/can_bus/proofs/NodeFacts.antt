@@ -1,0 +1,30 @@
+use Rattle.std.proofs.Common.{◌≡◌, ◌≢◌, ℕ, zero, suc, ◌+◌, ◌<◌, ◌≤◌, Bool, List, [], ◌∷◌, length, map, slice_get, slice_index_or, Option, Some, None, refl, sym, ap, ◌∙◌, arith}
+use Rattle.std.specs.List.{range_with_len}
+use Rattle.std.specs.Option.{option_map}
+use Rattle.std.proofs.lemmas.Option.{slice_get-map}
+use Rattle.can_confine.specs.Confinement.{ErrorCounts, at_start, state_of, is_off}
+use Rattle.can_attempt.specs.declared.nodes.Nodes.{Nodes}
+use Rattle.can_attempt.specs.Attempts.{counts_at}
+use Rattle.can_bus.specs.declared.events.BusConfig.{BusConfig}
+use Rattle.can_bus.specs.declared.events.Entry.{Entry}
+use Rattle.can_bus.specs.Counters.{counts_of, state_at}
+use Rattle.can_bus.specs.State.{kept_nodes}
+use Rattle.can_bus.specs.Changes.{is_off_at}
+use Rattle.can_bus.proofs.Lists.{slice_get-range}
+
+index-map : {X : Type 0} (f : ℕ → X) (a n k : ℕ) (d : X) → k < n → slice_index_or (map f (range_with_len a n)) k d ≡ f (a + k)
+index-map f a zero k d lt = absurd (omega arith)
+index-map f a (suc n) zero d lt = ap f (omega arith)
+index-map f a (suc n) (suc k) d lt = index-map f (a + 1) n k d (omega arith) ∙ ap f (omega arith)
+
+-- the kept error counts of an interface
+pub counts_at-kept : (c : BusConfig) (past : List Entry) (i : ℕ) → i < 16 → counts_at (kept_nodes c past) i ≡ counts_of c past i
+unfolding kept_nodes
+counts_at-kept c past i below = at 16 below
+  where
+    at : (n : ℕ) → i < n → slice_index_or (map (counts_of c past) (range_with_len 0 n)) i at_start ≡ counts_of c past i
+    at n lt = index-map (counts_of c past) 0 n i at_start lt ∙ ap (counts_of c past) (omega arith)
+
+-- whether an interface is bus off
+pub is_off_at-kept : (c : BusConfig) (past : List Entry) (i : ℕ) → i < 16 → is_off_at (kept_nodes c past) i ≡ is_off (state_at c past i)
+is_off_at-kept c past i below = ap (λ (k : ErrorCounts). is_off (state_of k)) (counts_at-kept c past i below)

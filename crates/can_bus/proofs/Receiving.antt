@@ -1,0 +1,73 @@
+use Rattle.std.proofs.Common.{◌≡◌, ◌≢◌, ℕ, ◌+◌, ◌==◌, Bool, true, false, List, [], ◌∷◌, ◌++◌, length, drop, slice_get, Option, Some, None, Result, Ok, Err, refl, sym, ap, ◌∙◌, subst}
+use Rattle.std.proofs.lemmas.Bool.{eq-eqb, ne_eqb, cond-true, cond-false}
+use Rattle.std.proofs.lemmas.List.{drop-drop, length_push}
+use Rattle.can_bus.specs.declared.events.Entry.{Entry}
+use Rattle.can_bus.specs.declared.events.BusConfig.{BusConfig}
+use Rattle.can_bus.specs.declared.events.Received.{Received}
+use Rattle.can_bus.specs.declared.events.Refusal.{Refusal}
+use Rattle.can_bus.specs.declared.events.SocketId.{SocketId}
+use Rattle.can_bus.specs.declared.events.Event.TheVariants.{Receive}
+use Rattle.can_bus.specs.declared.events.Reply.TheVariants as reply
+use Rattle.can_bus.specs.Answer.{told}
+use Rattle.can_bus.specs.Sockets.{is_open}
+use Rattle.can_bus.specs.Queues.{taken_from, queued_to, dropped_at}
+use Rattle.can_bus.specs.Legal.{legal_reply}
+use Rattle.can_bus.specs.State.{SocketState, Parts, kept_socket, kept_sockets, kept_lines, kept_keys, kept_nodes, kept_parts}
+use Rattle.can_bus.specs.Changes.{StandsAt, Gives, Receives, relieved}
+use Rattle.can_bus.proofs.Keeping.{Follows, IsStill, follows_refused}
+use Rattle.can_bus.proofs.Lists.{slice_get-drop}
+use Rattle.can_bus.proofs.Opened.{IsThere, IsThere-stands, closed-nowhere}
+use Rattle.can_bus.proofs.Quiet.{queued_to-quiet, dropped_at-quiet}
+use Rattle.can_bus.proofs.SocketFacts.{kept_sockets-one, follows_at_sockets}
+
+abbrev pub entry : SocketId → Result (Option Received) Refusal → Entry
+entry s r = record { event = Receive s; reply = told reply.Received r }
+
+abbrev given : SocketId → Option Received → Entry
+given s item = record { event = Receive s; reply = reply.Received item }
+
+taken_from-other : (past : List Entry) (s : SocketId) (item : Option Received) (o : ℕ) → o ≢ s.0 → taken_from (given s item ∷ past) o ≡ taken_from past o
+taken_from-other past s None o differ = refl
+taken_from-other past s (Some r) o differ = cond-false (o == s.0) _ _ (ne_eqb o s.0 differ)
+
+other : (c : BusConfig) (past : List Entry) (s : SocketId) (item : Option Received) (o : ℕ) → o ≢ s.0 → kept_socket c (given s item ∷ past) o ≡ kept_socket c past o
+other c past s item o differ =
+    let t : taken_from (given s item ∷ past) o ≡ taken_from past o = taken_from-other past s item o differ in
+    let q : queued_to c (given s item ∷ past) o ≡ queued_to c past o = queued_to-quiet c past (given s item) o refl in
+    let d : dropped_at c (given s item ∷ past) o ≡ dropped_at c past o = dropped_at-quiet c past (given s item) o refl in
+    cc
+
+-- the socket that gave an item, by the history
+same : (c : BusConfig) (past : List Entry) (s : SocketId) (item : Option Received) → relieved item (kept_socket c past s.0) ≡ kept_socket c (given s item ∷ past) s.0
+same c past s None =
+    let q : queued_to c (given s None ∷ past) s.0 ≡ queued_to c past s.0 = queued_to-quiet c past (given s None) s.0 refl in
+    let d : dropped_at c (given s None ∷ past) s.0 ≡ dropped_at c past s.0 = dropped_at-quiet c past (given s None) s.0 refl in
+    cc
+same c past s (Some r) =
+    let q : queued_to c (given s (Some r) ∷ past) s.0 ≡ queued_to c past s.0 = queued_to-quiet c past (given s (Some r)) s.0 refl in
+    let d : dropped_at c (given s (Some r) ∷ past) s.0 ≡ dropped_at c past s.0 = dropped_at-quiet c past (given s (Some r)) s.0 refl in
+    let t : taken_from (given s (Some r) ∷ past) s.0 ≡ taken_from past s.0 ++ r ∷ [] = cond-true (s.0 == s.0) _ _ (eq-eqb s.0 s.0 refl) in
+    let n : length (taken_from (given s (Some r) ∷ past) s.0) ≡ length (taken_from past s.0) + 1 = ap (λ (rs : List Received). length rs) t ∙ length_push (taken_from past s.0) r in
+    let w : drop (length (taken_from past s.0) + 1) (queued_to c past s.0) ≡ drop 1 (drop (length (taken_from past s.0)) (queued_to c past s.0)) = sym (drop-drop 1 (length (taken_from past s.0)) (queued_to c past s.0)) in
+    cc
+
+still : (c : BusConfig) (past : List Entry) (s : SocketId) (item : Option Received) → IsStill c past (given s item)
+unfolding kept_lines kept_keys kept_nodes
+still c past s item = record { of_lines = refl; of_keys = refl; of_nodes = refl }
+
+reply-given : (c : BusConfig) (past : List Entry) (old new : List SocketState) (s : SocketId) (item : Option Received) → old ≡ kept_sockets c past → Gives old s.0 item new → reply.Received item ≡ legal_reply c past (Receive s)
+reply-given c past old new s item are gives =
+    let at = IsThere-stands c past old s.0 gives.place gives.socket are gives.stands in
+    let oldest : item ≡ slice_get (queued_to c past s.0) (length (taken_from past s.0)) = gives.oldest ∙ ap (λ (v : SocketState). slice_get v.waiting 0) at.left ∙ slice_get-drop (length (taken_from past s.0)) (queued_to c past s.0) in
+    ap (λ (i : Option Received). reply.Received i) oldest ∙ sym (cond-true (is_open past s.0) _ _ at.is_there)
+
+-- an item that was given, or a refusal, leaves what its entry leaves
+pub received_follows : (c : BusConfig) (past : List Entry) (parts : Parts) (new : List SocketState) (s : SocketId) (r : Result (Option Received) Refusal) → parts ≡ kept_parts c past → Receives parts.sockets s.0 r new → Follows c past (entry s r) (record parts { sockets = new })
+received_follows c past parts new s (Ok item) are gives =
+    let sockets_are : parts.sockets ≡ kept_sockets c past = ap (λ (q : Parts). q.sockets) are in
+    follows_at_sockets c past (given s item) parts new parts.opened are (reply-given c past parts.sockets new s item sockets_are gives) (still c past s item) refl (ap (λ (q : Parts). q.opened) are)
+    (kept_sockets-one c past (given s item) parts.sockets new s.0 gives.place gives.socket (relieved item) sockets_are refl gives.stands (other c past s item) (same c past s item) gives.after)
+received_follows c past parts new s (Err why) are refuses =
+    let shut = closed-nowhere c past parts.sockets s.0 (ap (λ (q : Parts). q.sockets) are) refuses.1 in
+    let law : reply.Refused why ≡ legal_reply c past (Receive s) = ap (λ (w : Refusal). reply.Refused w) refuses.0 ∙ sym (cond-false (is_open past s.0) _ _ shut) in
+    subst (λ (vs : List SocketState). Follows c past (entry s (Err why)) (record parts { sockets = vs })) (sym refuses.2) (follows_refused c past (Receive s) why parts tt are law)

@@ -1,0 +1,105 @@
+use Rattle.std.proofs.Common.{◌≡◌, ◌≢◌, ℕ, ◌==◌, Bool, List, ◌∷◌, length, Result, Ok, Err, if◌then◌else◌, refl, sym, ap, ◌∙◌, subst}
+use Rattle.std.proofs.lemmas.Bool.{eq-eqb, ne_eqb, cond-true, cond-false}
+use Rattle.can_filter.specs.Filters.{CanFilter}
+use Rattle.can_filter.specs.declared.socket_options.Options.{Options}
+use Rattle.can_bus.specs.declared.events.Entry.{Entry}
+use Rattle.can_bus.specs.declared.events.BusConfig.{BusConfig}
+use Rattle.can_bus.specs.declared.events.Event.{Event}
+use Rattle.can_bus.specs.declared.events.Event.TheVariants.{SetFilters, SetOption}
+use Rattle.can_bus.specs.declared.events.Opt.{Opt}
+use Rattle.can_bus.specs.declared.events.Refusal.{Refusal}
+use Rattle.can_bus.specs.declared.events.Reply.TheVariants as reply
+use Rattle.can_bus.specs.declared.events.Refusal.TheVariants as refusal
+use Rattle.can_bus.specs.declared.events.SocketId.{SocketId}
+use Rattle.can_bus.specs.Answer.{told, done_reply}
+use Rattle.can_bus.specs.Sockets.{places, open_sockets, is_open, filters_of, options_of, with_option}
+use Rattle.can_bus.specs.Transmit.{tape}
+use Rattle.can_bus.specs.Queues.{queued_to, taken_from, dropped_at}
+use Rattle.can_bus.specs.Legal.{legal_reply}
+use Rattle.can_bus.specs.State.{SocketState, Parts, kept_socket, kept_sockets, kept_lines, kept_keys, kept_nodes, kept_parts}
+use Rattle.can_bus.specs.Changes.{StandsAt, Alters, Sets}
+use Rattle.can_bus.proofs.Keeping.{Follows, IsStill, IsUncounted, refused, follows_refused}
+use Rattle.can_bus.proofs.Opened.{IsThere, IsThere-stands, closed-nowhere}
+use Rattle.can_bus.proofs.Quiet.{queued_to-quiet, dropped_at-quiet}
+use Rattle.can_bus.proofs.SocketFacts.{kept_sockets-one, follows_at_sockets}
+
+abbrev pub entry : Event → Result (Unit {0}) Refusal → Entry
+entry e r = record { event = e; reply = told done_reply r }
+
+abbrev done_entry : Event → Entry
+done_entry e = record { event = e; reply = reply.Done }
+
+-- an event that changes one open socket in this way, and answers no more than whether it was open
+record IsSetting (c : BusConfig) (past : List Entry) (e : Event) (s : ℕ) (change : SocketState → SocketState) : Type 0 where
+  answers : legal_reply c past e ≡ (if is_open past s then reply.Done else reply.Refused refusal.NoSocket)
+  still : IsStill c past (done_entry e)
+  uncounted : (why : Refusal) → IsUncounted e why
+  of_open : open_sockets (done_entry e ∷ past) ≡ open_sockets past
+  of_places : places (done_entry e ∷ past) ≡ places past
+  others : (o : ℕ) → o ≢ s → kept_socket c (done_entry e ∷ past) o ≡ kept_socket c past o
+  here : change (kept_socket c past s) ≡ kept_socket c (done_entry e ∷ past) s
+
+set_follows : (c : BusConfig) (past : List Entry) (parts : Parts) (new : List SocketState) (e : Event) (s : ℕ) (change : SocketState → SocketState) (r : Result (Unit {0}) Refusal) → IsSetting c past e s change → parts ≡ kept_parts c past → Sets parts.sockets s change r new → Follows c past (entry e r) (record parts { sockets = new })
+set_follows c past parts new e s change (Ok done) is are alters =
+    let sockets_are : parts.sockets ≡ kept_sockets c past = ap (λ (q : Parts). q.sockets) are in
+    let at = IsThere-stands c past parts.sockets s alters.place alters.socket sockets_are alters.stands in
+    follows_at_sockets c past (done_entry e) parts new parts.opened are (sym (is.answers ∙ cond-true (is_open past s) _ _ at.is_there)) is.still refl (ap (λ (q : Parts). q.opened) are ∙ ap length (sym is.of_places))
+    (kept_sockets-one c past (done_entry e) parts.sockets new s alters.place alters.socket change sockets_are is.of_open alters.stands is.others is.here alters.after)
+set_follows c past parts new e s change (Err why) is are refuses =
+    let shut = closed-nowhere c past parts.sockets s (ap (λ (q : Parts). q.sockets) are) refuses.1 in
+    let law : reply.Refused why ≡ legal_reply c past e = ap (λ (w : Refusal). reply.Refused w) refuses.0 ∙ sym (is.answers ∙ cond-false (is_open past s) _ _ shut) in
+    subst (λ (vs : List SocketState). Follows c past (entry e (Err why)) (record parts { sockets = vs })) (sym refuses.2) (follows_refused c past e why parts (is.uncounted why) are law)
+
+-- ---- filters
+
+still-filters : (c : BusConfig) (past : List Entry) (s : SocketId) (fs : List CanFilter) → IsStill c past (done_entry (SetFilters s fs))
+unfolding kept_lines kept_keys kept_nodes
+still-filters c past s fs = record { of_lines = refl; of_keys = refl; of_nodes = refl }
+
+others-filters : (c : BusConfig) (past : List Entry) (s : SocketId) (fs : List CanFilter) (o : ℕ) → o ≢ s.0 → kept_socket c (done_entry (SetFilters s fs) ∷ past) o ≡ kept_socket c past o
+others-filters c past s fs o differ =
+    let f : filters_of (done_entry (SetFilters s fs) ∷ past) o ≡ filters_of past o = cond-false (o == s.0) _ _ (ne_eqb o s.0 differ) in
+    let q = queued_to-quiet c past (done_entry (SetFilters s fs)) o refl in
+    let d = dropped_at-quiet c past (done_entry (SetFilters s fs)) o refl in
+    cc
+
+here-filters : (c : BusConfig) (past : List Entry) (s : SocketId) (fs : List CanFilter) → record (kept_socket c past s.0) { filters = fs } ≡ kept_socket c (done_entry (SetFilters s fs) ∷ past) s.0
+here-filters c past s fs =
+    let f : filters_of (done_entry (SetFilters s fs) ∷ past) s.0 ≡ fs = cond-true (s.0 == s.0) _ _ (eq-eqb s.0 s.0 refl) in
+    let q = queued_to-quiet c past (done_entry (SetFilters s fs)) s.0 refl in
+    let d = dropped_at-quiet c past (done_entry (SetFilters s fs)) s.0 refl in
+    cc
+
+sets-filters : (c : BusConfig) (past : List Entry) (s : SocketId) (fs : List CanFilter) → IsSetting c past (SetFilters s fs) s.0 (λ v. record v { filters = fs })
+sets-filters c past s fs = record { answers = refl; still = still-filters c past s fs; uncounted = λ why. tt; of_open = refl; of_places = refl; others = others-filters c past s fs; here = here-filters c past s fs }
+
+-- filters that were set, or a refusal, leave what their entry leaves
+pub filters_follow : (c : BusConfig) (past : List Entry) (parts : Parts) (new : List SocketState) (s : SocketId) (fs : List CanFilter) (r : Result (Unit {0}) Refusal) → parts ≡ kept_parts c past → Sets parts.sockets s.0 (λ v. record v { filters = fs }) r new → Follows c past (entry (SetFilters s fs) r) (record parts { sockets = new })
+filters_follow c past parts new s fs r are sets = set_follows c past parts new (SetFilters s fs) s.0 (λ v. record v { filters = fs }) r (sets-filters c past s fs) are sets
+
+-- ---- options
+
+still-option : (c : BusConfig) (past : List Entry) (s : SocketId) (option : Opt) → IsStill c past (done_entry (SetOption s option))
+unfolding kept_lines kept_keys kept_nodes
+still-option c past s option = record { of_lines = refl; of_keys = refl; of_nodes = refl }
+
+others-option : (c : BusConfig) (past : List Entry) (s : SocketId) (option : Opt) (o : ℕ) → o ≢ s.0 → kept_socket c (done_entry (SetOption s option) ∷ past) o ≡ kept_socket c past o
+others-option c past s option o differ =
+    let m : options_of (done_entry (SetOption s option) ∷ past) o ≡ options_of past o = cond-false (o == s.0) _ _ (ne_eqb o s.0 differ) in
+    let q = queued_to-quiet c past (done_entry (SetOption s option)) o refl in
+    let d = dropped_at-quiet c past (done_entry (SetOption s option)) o refl in
+    cc
+
+here-option : (c : BusConfig) (past : List Entry) (s : SocketId) (option : Opt) → record (kept_socket c past s.0) { options = with_option option (options_of past s.0) } ≡ kept_socket c (done_entry (SetOption s option) ∷ past) s.0
+here-option c past s option =
+    let m : options_of (done_entry (SetOption s option) ∷ past) s.0 ≡ with_option option (options_of past s.0) = cond-true (s.0 == s.0) _ _ (eq-eqb s.0 s.0 refl) in
+    let q = queued_to-quiet c past (done_entry (SetOption s option)) s.0 refl in
+    let d = dropped_at-quiet c past (done_entry (SetOption s option)) s.0 refl in
+    cc
+
+sets-option : (c : BusConfig) (past : List Entry) (s : SocketId) (option : Opt) → IsSetting c past (SetOption s option) s.0 (λ v. record v { options = with_option option v.options })
+sets-option c past s option = record { answers = refl; still = still-option c past s option; uncounted = λ why. tt; of_open = refl; of_places = refl; others = others-option c past s option; here = here-option c past s option }
+
+-- an option that was set, or a refusal, leaves what its entry leaves
+pub option_follows : (c : BusConfig) (past : List Entry) (parts : Parts) (new : List SocketState) (s : SocketId) (option : Opt) (r : Result (Unit {0}) Refusal) → parts ≡ kept_parts c past → Sets parts.sockets s.0 (λ v. record v { options = with_option option v.options }) r new → Follows c past (entry (SetOption s option) r) (record parts { sockets = new })
+option_follows c past parts new s option r are sets = set_follows c past parts new (SetOption s option) s.0 (λ v. record v { options = with_option option v.options }) r (sets-option c past s option) are sets

@@ -1,0 +1,49 @@
+use Rattle.std.proofs.Common.{◌≡◌, ℕ, zero, suc, ◌+◌, ◌<◌, ◌≤◌, List, [], ◌∷◌, length, map, replicate, Option, None, refl, sym, ap, ◌∙◌, subst, arith}
+use Rattle.std.specs.List.{range_with_len}
+use Rattle.can_arbiter.specs.Keys.{no_keys}
+use Rattle.can_confine.specs.Confinement.{ErrorCounts, at_start}
+use Rattle.can_attempt.specs.declared.nodes.Nodes.{Nodes}
+use Rattle.can_bus.specs.declared.events.Entry.{Entry}
+use Rattle.can_bus.specs.declared.events.BusConfig.{BusConfig}
+use Rattle.can_bus.specs.Journal.{Kept, IsConfig}
+use Rattle.can_bus.specs.State.{LineState, SocketState, Parts, kept_line, kept_lines, kept_socket, kept_sockets, kept_keys, kept_nodes, kept_parts, IsKept}
+use Rattle.can_bus.proofs.Keeping.{parts-are}
+
+abbrev fresh : BusConfig → LineState
+fresh c = record { waiting = []; room = c.tx_capacity; sent = 0; gone = 0; done = 0; refused = 0 }
+
+all_fresh : (c : BusConfig) (a n : ℕ) → replicate n (fresh c) ≡ map (kept_line c []) (range_with_len a n)
+all_fresh c a zero = refl
+all_fresh c a (suc n) = ap (λ (ls : List LineState). fresh c ∷ ls) (all_fresh c (a + 1) n)
+
+none_open : (c : BusConfig) → ◌≡◌ {A = List SocketState} [] (kept_sockets c [])
+unfolding kept_sockets
+none_open c = refl
+
+first_lines : (c : BusConfig) → replicate c.ifaces (fresh c) ≡ kept_lines c []
+unfolding kept_lines
+first_lines c = all_fresh c 0 c.ifaces
+
+first_keys : no_keys ≡ kept_keys []
+unfolding kept_keys
+first_keys = refl
+
+abbrev all_at : BusConfig → ErrorCounts → Nodes
+all_at c z = record { count = c.ifaces; counters = z ∷ z ∷ z ∷ z ∷ z ∷ z ∷ z ∷ z ∷ z ∷ z ∷ z ∷ z ∷ z ∷ z ∷ z ∷ z ∷ [] }
+
+first_nodes : (c : BusConfig) → all_at c at_start ≡ kept_nodes c []
+unfolding kept_nodes
+first_nodes c = refl
+
+-- a bus on which nothing was done
+pub made : (j : Kept) (lines : List LineState) (keys : List (Option ℕ)) (z : ErrorCounts) (sockets : List SocketState) (p : ℕ) (c : BusConfig) → j.config ≡ c → j.history ≡ [] → c.limit ≤ j.room → IsConfig c → lines ≡ replicate c.ifaces (fresh c) → keys ≡ no_keys → z ≡ at_start → sockets ≡ [] → 64 ≤ p → IsKept j (record { lines = lines; keys = keys; nodes = all_at c z; sockets = sockets; opened = 0; tried = 0 }) p
+made j lines keys z sockets p c config history room proper lines_are keys_are zero_is sockets_are places_room =
+    let is : ◌≡◌ {A = Kept} (record { config = c; history = []; room = j.room }) j = ap (λ (k : BusConfig). record { config = k; history = []; room = j.room }) (sym config) ∙ ap (λ (h : List Entry). record { config = j.config; history = h; room = j.room }) (sym history) in
+    subst (λ k. IsKept k (record { lines = lines; keys = keys; nodes = all_at c z; sockets = sockets; opened = 0; tried = 0 }) p) is
+    (record {
+      of_parts = parts-are (kept_parts c []) lines keys (all_at c z) sockets 0 0 (lines_are ∙ first_lines c) (keys_are ∙ first_keys) (ap (all_at c) zero_is ∙ first_nodes c) (sockets_are ∙ none_open c) refl refl;
+      legal = tt;
+      proper = proper;
+      room = room;
+      sockets_room = places_room;
+    })
