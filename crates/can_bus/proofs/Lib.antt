@@ -8,3 +8,4 @@ pub mod Keeping
 pub mod LineFacts
 pub mod Running
 pub mod Lawful
+pub mod OffFacts

@@ -1,5 +1,8 @@
-ghost use Rattle.std.specs.Prelude.{◌≡◌, ◌+◌, ◌-◌, ℕ, List, length};
-ghost use Rattle.can_bus.specs.Transmit.{sent_by, gone_count, done_count, lost_count};
+ghost use Rattle.std.specs.Prelude.{◌≡◌, ◌≢◌, ◌+◌, ◌-◌, ◌≤◌, ◌<◌, ℕ, true, List, length, Some, None};
+ghost use Rattle.can_confine.specs.Confinement.{is_off, at_start};
+ghost use Rattle.can_bus.specs.Journal.{IsConfig};
+ghost use Rattle.can_bus.specs.Transmit.{sent_by, gone_count, done_count, lost_count, head_of};
+ghost use Rattle.can_bus.specs.Counters.{state_at, counts_of};
 ghost use Rattle.can_bus.specs.Legal.{IsLegal};
 ghost use Rattle.can_bus.specs.declared.events.Entry.{Entry};
 
@@ -10,5 +13,19 @@ use crate::events::BusConfig;
 /// Each frame that was accepted for sending is done, waits, or was lost as its interface went bus off.
 pub fn no_frame_is_forgotten(config: BusConfig)
     ensures { (past : List Entry) → IsLegal config past → (i : ℕ) → length (sent_by past i) ≡ done_count past i + (length (sent_by past i) - gone_count past i) + lost_count past i }
+{
+}
+
+/// An interface that is bus off has no frame waiting: all that was accepted there is gone.
+pub fn off_interfaces_have_nothing_to_send(config: BusConfig)
+    ensures gone { IsConfig config → (past : List Entry) → IsLegal config past → (i : ℕ) → is_off (state_at config past i) ≡ true → gone_count past i ≡ length (sent_by past i) }
+    ensures idle { IsConfig config → (past : List Entry) → IsLegal config past → (i : ℕ) → is_off (state_at config past i) ≡ true → head_of past i ≡ None }
+{
+}
+
+/// Nothing is sent on an interface that is not there, and its error counts stay 0/0.
+pub fn no_interface_beyond_the_last(config: BusConfig)
+    ensures sent { (past : List Entry) → IsLegal config past → (i : ℕ) → config.ifaces ≤ i → head_of past i ≡ None }
+    ensures counts { (past : List Entry) → IsLegal config past → (i : ℕ) → config.ifaces ≤ i → counts_of config past i ≡ at_start }
 {
 }
