@@ -9,3 +9,4 @@ pub mod LineFacts
 pub mod Running
 pub mod Lawful
 pub mod OffFacts
+pub mod CopyFacts
