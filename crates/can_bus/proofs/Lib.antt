@@ -10,3 +10,4 @@ pub mod Running
 pub mod Lawful
 pub mod OffFacts
 pub mod CopyFacts
+pub mod TurnFacts

@@ -62,11 +62,11 @@ one_if : (x : Bool) → ((if x then 1 else 0) == 1) ≡ x
 one_if true = refl
 one_if false = refl
 
+pub is_in-of : (is : List ℕ) (i : ℕ) → is_in i (set_of is) ≡ (nat_lt i 16 && is_among i is)
+is_in-of is i = ap (λ (b : ℕ). b == 1) (bit_at-bits_where (λ k. is_among k is) 16 i) ∙ one_if (nat_lt i 16 && is_among i is)
+
 pub is_in-set_of : (is : List ℕ) (i : ℕ) → i < 16 → is_in i (set_of is) ≡ is_among i is
-is_in-set_of is i within =
-    let below : nat_lt i 16 ≡ true = grind (arith, within) in
-    let bit : bit_at (bits_where (λ k. is_among k is) 16) i ≡ (if is_among i is then 1 else 0) = bit_at-bits_where (λ k. is_among k is) 16 i ∙ rw below refl in
-    ap (λ (b : ℕ). b == 1) bit ∙ one_if (is_among i is)
+is_in-set_of is i within = let below : nat_lt i 16 ≡ true = grind (arith, within) in is_in-of is i ∙ ap (λ b. b && is_among i is) below
 
 -- ---- no attempt takes anybody but its winner off the bus
 
@@ -259,7 +259,7 @@ off-no-head c past legal few i off = slice_get_past (sent_by past i) (gone_count
 
 -- ---- frames are sent on interfaces that are there
 
-open-place : (s : ℕ) (xs : List ℕ) → list_any (λ k. k == s) xs ≡ true → (k : ℕ) × (slice_get xs k ≡ Some s)
+pub open-place : (s : ℕ) (xs : List ℕ) → list_any (λ k. k == s) xs ≡ true → (k : ℕ) × (slice_get xs k ≡ Some s)
 open-place s [] h = cc
 open-place s (x ∷ xs) h = when (x == s) refl h (open-place s xs)
   where

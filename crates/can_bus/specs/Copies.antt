@@ -1,4 +1,5 @@
-use Rattle.std.specs.Prelude.{◌≡◌, ℕ, ◌+◌, ◌≤◌, ◌<◌, ◌==◌, nat_lt, Bool, true, false, ◌&&◌, ◌||◌, ◌⊎◌, List, [], ◌∷◌, ◌++◌, length, map, filter, slice_get, Option, if◌then◌else◌}
+use Rattle.std.specs.Prelude.{◌≡◌, ℕ, ◌+◌, ◌≤◌, ◌<◌, ◌==◌, nat_lt, Bool, true, false, ◌&&◌, ◌||◌, ◌⊎◌, List, [], ◌∷◌, ◌++◌, length, map, filter, slice_get, Option, Some, if◌then◌else◌}
+use Rattle.std.specs.Option.{option_map}
 use Rattle.can_frame.specs.Sets.{is_in}
 use Rattle.can_frame.specs.declared.items.Item.{Item}
 use Rattle.can_frame.specs.declared.items.Item.TheVariants as item
@@ -75,17 +76,13 @@ went_over class.Done = true
 went_over class.LastBit = true
 went_over _ = false
 
--- the number that the next attempt may have at least: a frame that is done is not tried again
-abbrev pub number_after : Tried → ℕ
-number_after t = if is_done t.class then t.number + 1 else t.number
-
--- attempts of frames numbered from a on and below b, each number done at most once and not tried again after it
-abbrev pub Follow : ℕ → ℕ → List Tried → Type 0
-Follow a b [] = a ≤ b
-Follow a b (t ∷ ts) = (a ≤ t.number) × (went_over t.class ≡ true) × Follow (number_after t) b ts
-
 -- what holds of two attempts in turn that copied frames of one interface to one socket: the numbers never fall,
 -- and where the number is the same the earlier attempt failed at the last bit alone
 pub record InTurn (earlier later : Tried) : Type 0 where
   pub rising : earlier.number ≤ later.number
   pub again : earlier.number ≡ later.number → earlier.class ≡ class.LastBit
+
+-- the frame of an attempt of interface i is the one that was accepted there under the attempt's number
+pub record IsOfSent (past : List Entry) (i : ℕ) (t : Tried) : Type 0 where
+  pub winner : t.winner ≡ i
+  pub frame : option_map (λ (p : Pending). p.frame) (slice_get (sent_by past i) t.number) ≡ Some t.frame

@@ -1,11 +1,13 @@
-ghost use Rattle.std.specs.Prelude.{◌≡◌, ◌≢◌, ◌+◌, ◌-◌, ◌≤◌, ◌<◌, ℕ, true, List, length, map, Some, None};
+ghost use Rattle.std.specs.Prelude.{◌≡◌, ◌≢◌, ◌+◌, ◌-◌, ◌≤◌, ◌<◌, ◌==◌, ℕ, true, List, length, map, count_by, All, AllPairs, Some, None};
 ghost use Rattle.can_confine.specs.Confinement.{is_off, at_start};
 ghost use Rattle.can_bus.specs.Journal.{IsConfig};
 ghost use Rattle.can_bus.specs.Transmit.{sent_by, gone_count, done_count, lost_count, head_of};
 ghost use Rattle.can_bus.specs.Counters.{state_at, counts_of};
-ghost use Rattle.can_bus.specs.Copies.{received_from, copying, copy_of};
+ghost use Rattle.can_bus.specs.Copies.{received_from, copying, copy_of, numbers_from, NeverFall, went_over, InTurn};
+ghost use Rattle.can_bus.specs.Queues.{queued_to};
 ghost use Rattle.can_bus.specs.Legal.{IsLegal};
 ghost use Rattle.can_bus.specs.declared.events.Entry.{Entry};
+ghost use Rattle.can_bus.specs.declared.events.Tried.{Tried};
 
 use crate::events::BusConfig;
 
@@ -36,5 +38,21 @@ pub fn no_interface_beyond_the_last(config: BusConfig)
 /// options, and found room.
 pub fn each_copy_comes_of_one_attempt(config: BusConfig)
     ensures { (past : List Entry) → IsLegal config past → (i s : ℕ) → received_from config past i s ≡ map copy_of (copying config past i s) }
+{
+}
+
+/// The numbers of one interface's frames never fall on a socket. Each copy comes of an attempt that was done
+/// or failed at the last bit alone; of the attempts that copied one number at most one is done, and it is
+/// the last.
+pub fn copies_come_in_turn(config: BusConfig)
+    ensures numbers { (past : List Entry) → IsLegal config past → (i s : ℕ) → NeverFall 0 (numbers_from i (queued_to config past s)) }
+    ensures classes { (past : List Entry) → IsLegal config past → (i s : ℕ) → All (λ t. went_over t.class ≡ true) (copying config past i s) }
+    ensures turns { (past : List Entry) → IsLegal config past → (i s : ℕ) → AllPairs InTurn (copying config past i s) }
+{
+}
+
+/// A number stands on a socket as often as there are attempts that copied the frame of that number.
+pub fn each_number_stands_once_for_each_attempt(config: BusConfig)
+    ensures { (past : List Entry) → IsLegal config past → (i s n : ℕ) → count_by (λ m. m == n) (numbers_from i (queued_to config past s)) ≡ count_by (λ (t : Tried). t.number == n) (copying config past i s) }
 {
 }
