@@ -21,3 +21,6 @@ pub mod Closing
 pub mod Setting
 pub mod Opening
 pub mod Sending
+pub mod OffFacts
+pub mod CopyFacts
+pub mod TurnFacts

@@ -1,9 +1,24 @@
-use Rattle.std.specs.Prelude.{ℕ, ◌≤◌, ◌==◌, Bool, true, false, ◌&&◌, List, [], ◌∷◌, if◌then◌else◌}
+use Rattle.std.specs.Prelude.{◌≡◌, ℕ, ◌+◌, ◌≤◌, ◌<◌, ◌==◌, nat_lt, Bool, true, false, ◌&&◌, ◌||◌, ◌⊎◌, List, [], ◌∷◌, ◌++◌, length, map, filter, slice_get, Option, Some, if◌then◌else◌}
+use Rattle.std.specs.Option.{option_map}
+use Rattle.can_frame.specs.Sets.{is_in}
 use Rattle.can_frame.specs.declared.items.Item.{Item}
 use Rattle.can_frame.specs.declared.items.Item.TheVariants as item
+use Rattle.can_filter.specs.Passing.{wants}
+use Rattle.can_attempt.specs.declared.classes.Class.{Class}
+use Rattle.can_attempt.specs.declared.classes.Class.TheVariants as class
+use Rattle.can_bus.specs.declared.events.BusConfig.{BusConfig}
+use Rattle.can_bus.specs.declared.events.Entry.{Entry}
+use Rattle.can_bus.specs.declared.events.Pending.{Pending}
 use Rattle.can_bus.specs.declared.events.Received.{Received}
+use Rattle.can_bus.specs.declared.events.Reply.{Reply}
+use Rattle.can_bus.specs.declared.events.Reply.TheVariants as reply
+use Rattle.can_bus.specs.declared.events.Tried.{Tried}
+use Rattle.can_bus.specs.Sockets.{is_open, iface_of, capacity_of, filters_of, options_of}
+use Rattle.can_bus.specs.Transmit.{sent_by, is_done}
+use Rattle.can_bus.specs.Posts.{is_looped_back, is_own, sender_in}
+use Rattle.can_bus.specs.Queues.{queued_to, taken_from}
 
--- The copies of frames that reach a socket.
+-- The copies of frames that reach a socket, and the attempts that made them.
 
 abbrev pub is_data : Item → Bool
 is_data (item.Data f) = true
@@ -13,12 +28,61 @@ is_data (item.Error e) = false
 abbrev pub is_from : ℕ → Received → Bool
 is_from i r = is_data r.item && (r.from == i)
 
+-- the data frames that interface i sent and socket s got, in order
+abbrev pub received_from : BusConfig → List Entry → ℕ → ℕ → List Received
+received_from c past i s = filter (is_from i) (queued_to c past s)
+
 -- the numbers of the data frames that interface i sent, in order
 abbrev pub numbers_from : ℕ → List Received → List ℕ
-numbers_from i [] = []
-numbers_from i (r ∷ rs) = if is_from i r then r.number ∷ numbers_from i rs else numbers_from i rs
+numbers_from i rs = map (λ (r : Received). r.number) (filter (is_from i) rs)
 
 -- each number is at least the one before it, and the first at least a
 abbrev pub NeverFall : ℕ → List ℕ → Type 0
 NeverFall a [] = Unit {0}
 NeverFall a (n ∷ ns) = (a ≤ n) × NeverFall n ns
+
+-- ---- the attempts that made them
+
+-- the frame of an attempt comes to interface i: it was accepted there, or is looped back to its own
+-- (the kernel's networking/can document, local loopback of sent frames)
+abbrev pub comes_to : ℕ → Tried → Option Pending → Bool
+comes_to i t p = is_in i t.accepted || ((i == t.winner) && is_looped_back t.class p)
+
+-- fewer items wait on socket s than may
+abbrev pub has_room : BusConfig → List Entry → ℕ → Bool
+has_room c past s = nat_lt (length (queued_to c past s)) (capacity_of past s + length (taken_from past s))
+
+-- an attempt copies its frame to socket s: the socket is open, the frame comes to its interface, passes its
+-- filters and options, and finds room
+abbrev pub is_copied : BusConfig → List Entry → ℕ → Tried → Option Pending → Bool
+is_copied c past s t p = is_open past s && (comes_to (iface_of past s) t p && (wants (filters_of past s) (options_of past s) (item.Data t.frame) (is_own (sender_in p) s) && has_room c past s))
+
+abbrev pub copying_after : BusConfig → List Entry → ℕ → ℕ → Reply → List Tried → List Tried
+copying_after c past i s (reply.Tried t) before = if is_copied c past s t (slice_get (sent_by past t.winner) t.number) && (t.winner == i) then before ++ t ∷ [] else before
+copying_after c past i s _ before = before
+
+-- the attempts won by interface i that copied their frame to socket s, in order
+abbrev pub copying : BusConfig → List Entry → ℕ → ℕ → List Tried
+copying c [] i s = []
+copying c (e ∷ past) i s = copying_after c past i s e.reply (copying c past i s)
+
+-- what an attempt's copy is: its frame, the interface that won, the frame's number and the moment
+abbrev pub copy_of : Tried → Received
+copy_of t = record { item = item.Data t.frame; from = t.winner; number = t.number; moment = t.moment }
+
+-- the frame went over the bus whole, to all that got every bit right
+abbrev pub went_over : Class → Bool
+went_over class.Done = true
+went_over class.LastBit = true
+went_over _ = false
+
+-- what holds of two attempts in turn that copied frames of one interface to one socket: the numbers never fall,
+-- and where the number is the same the earlier attempt failed at the last bit alone
+pub record InTurn (earlier later : Tried) : Type 0 where
+  pub rising : earlier.number ≤ later.number
+  pub again : earlier.number ≡ later.number → earlier.class ≡ class.LastBit
+
+-- the frame of an attempt of interface i is the one that was accepted there under the attempt's number
+pub record IsOfSent (past : List Entry) (i : ℕ) (t : Tried) : Type 0 where
+  pub winner : t.winner ≡ i
+  pub frame : option_map (λ (p : Pending). p.frame) (slice_get (sent_by past i) t.number) ≡ Some t.frame

@@ -1,7 +1,13 @@
-ghost use Rattle.std.specs.Prelude.{◌≡◌, ◌+◌, ◌-◌, ℕ, List, length};
-ghost use Rattle.can_bus.specs.Transmit.{sent_by, gone_count, done_count, lost_count};
+ghost use Rattle.std.specs.Prelude.{◌≡◌, ◌≢◌, ◌+◌, ◌-◌, ◌≤◌, ◌<◌, ◌==◌, ℕ, true, List, length, map, count_by, All, AllPairs, Some, None};
+ghost use Rattle.can_confine.specs.Confinement.{is_off, at_start};
+ghost use Rattle.can_bus.specs.Journal.{IsConfig};
+ghost use Rattle.can_bus.specs.Transmit.{sent_by, gone_count, done_count, lost_count, head_of};
+ghost use Rattle.can_bus.specs.Counters.{state_at, counts_of};
+ghost use Rattle.can_bus.specs.Copies.{received_from, copying, copy_of, numbers_from, NeverFall, went_over, InTurn};
+ghost use Rattle.can_bus.specs.Queues.{queued_to};
 ghost use Rattle.can_bus.specs.Legal.{IsLegal};
 ghost use Rattle.can_bus.specs.declared.events.Entry.{Entry};
+ghost use Rattle.can_bus.specs.declared.events.Tried.{Tried};
 
 use crate::events::BusConfig;
 
@@ -10,5 +16,43 @@ use crate::events::BusConfig;
 /// Each frame that was accepted for sending is done, waits, or was lost as its interface went bus off.
 pub fn no_frame_is_forgotten(config: BusConfig)
     ensures { (past : List Entry) → IsLegal config past → (i : ℕ) → length (sent_by past i) ≡ done_count past i + (length (sent_by past i) - gone_count past i) + lost_count past i }
+{
+}
+
+/// An interface that is bus off has no frame waiting: all that was accepted there is gone.
+pub fn off_interfaces_have_nothing_to_send(config: BusConfig)
+    ensures gone { IsConfig config → (past : List Entry) → IsLegal config past → (i : ℕ) → is_off (state_at config past i) ≡ true → gone_count past i ≡ length (sent_by past i) }
+    ensures idle { IsConfig config → (past : List Entry) → IsLegal config past → (i : ℕ) → is_off (state_at config past i) ≡ true → head_of past i ≡ None }
+{
+}
+
+/// Nothing is sent on an interface that is not there, and its error counts stay 0/0.
+pub fn no_interface_beyond_the_last(config: BusConfig)
+    ensures sent { (past : List Entry) → IsLegal config past → (i : ℕ) → config.ifaces ≤ i → head_of past i ≡ None }
+    ensures counts { (past : List Entry) → IsLegal config past → (i : ℕ) → config.ifaces ≤ i → counts_of config past i ≡ at_start }
+{
+}
+
+/// The data frames of an interface that a socket got are, in order, one copy for each attempt of that
+/// interface whose frame came to the socket's interface while the socket was open, passed its filters and
+/// options, and found room.
+pub fn each_copy_comes_of_one_attempt(config: BusConfig)
+    ensures { (past : List Entry) → IsLegal config past → (i s : ℕ) → received_from config past i s ≡ map copy_of (copying config past i s) }
+{
+}
+
+/// The numbers of one interface's frames never fall on a socket. Each copy comes of an attempt that was done
+/// or failed at the last bit alone; of the attempts that copied one number at most one is done, and it is
+/// the last.
+pub fn copies_come_in_turn(config: BusConfig)
+    ensures numbers { (past : List Entry) → IsLegal config past → (i s : ℕ) → NeverFall 0 (numbers_from i (queued_to config past s)) }
+    ensures classes { (past : List Entry) → IsLegal config past → (i s : ℕ) → All (λ t. went_over t.class ≡ true) (copying config past i s) }
+    ensures turns { (past : List Entry) → IsLegal config past → (i s : ℕ) → AllPairs InTurn (copying config past i s) }
+{
+}
+
+/// A number stands on a socket as often as there are attempts that copied the frame of that number.
+pub fn each_number_stands_once_for_each_attempt(config: BusConfig)
+    ensures { (past : List Entry) → IsLegal config past → (i s n : ℕ) → count_by (λ m. m == n) (numbers_from i (queued_to config past s)) ≡ count_by (λ (t : Tried). t.number == n) (copying config past i s) }
 {
 }

@@ -1,0 +1,339 @@
+use Rattle.std.proofs.Common.{◌≡◌, ◌≢◌, ◌⊎◌, ℕ, zero, suc, ◌+◌, ◌-◌, ◌^◌, ◌<◌, ◌≤◌, ◌==◌, nat_le, nat_lt, Bool, true, false, not, ◌||◌, ◌&&◌, List, [], ◌∷◌, ◌++◌, length, find, filter, bit_or, slice_get, Option, Some, None, is_some, if◌then◌else◌, cond, refl, sym, ap, ◌∙◌, subst, arith, inl, inr, append-nil}
+use Rattle.std.specs.List.{list_any, range_with_len}
+use Rattle.std.specs.Int.{bit_at}
+use Rattle.std.proofs.lemmas.Bool.{eqb-true, eq-eqb, ne_eqb, cases_eq, leb-false, and_parts, or_left, or_right}
+use Rattle.std.proofs.lemmas.Nat.Bits.{bit_at_or, bit_at-pow_same, bit_at-pow_other, bit_at_above}
+use Rattle.std.proofs.lemmas.Option.{slice_get_past, slice_get_within}
+use Rattle.can_frame.specs.Sets.{is_in, bits_where}
+use Rattle.can_confine.specs.Confinement.{ErrorCounts, Step, all_stepped, stepped, at_start, state_of, is_off}
+use Rattle.can_fault.specs.declared.verdicts.Verdict.{Verdict}
+use Rattle.can_attempt.specs.declared.classes.Class.{Class}
+use Rattle.can_attempt.specs.declared.classes.Class.TheVariants.{Done, LastBit, Destroyed, NoAck}
+use Rattle.can_attempt.specs.Attempts.{Transmission, is_among, set_of, receivers, can_hear, is_named, receiver_step, winner_step, class_of, steps_at, steps_in, counts_after, off_after}
+use Rattle.can_attempt.specs.Attempts as attempts
+use Rattle.can_attempt.proofs.Places.{is_among-filter, is_among-range, is_among-receivers}
+use Rattle.can_bus.specs.declared.events.Entry.{Entry}
+use Rattle.can_bus.specs.declared.events.Event.{Event}
+use Rattle.can_bus.specs.declared.events.Event.TheVariants.{Open, Close, SetFilters, SetOption, Send, Receive, Attempt, Restart}
+use Rattle.can_bus.specs.declared.events.Reply.{Reply}
+use Rattle.can_bus.specs.declared.events.Reply.TheVariants as reply
+use Rattle.can_bus.specs.declared.events.Refusal.TheVariants as refusal
+use Rattle.can_bus.specs.declared.events.BusConfig.{BusConfig}
+use Rattle.can_bus.specs.declared.events.Tried.{Tried}
+use Rattle.can_bus.specs.declared.events.Pending.{Pending}
+use Rattle.can_bus.specs.Sockets.{places, open_sockets, is_open, iface_of}
+use Rattle.can_bus.specs.Transmit.{sent_by, sent_after, gone_count, gone_after, head_of, is_done}
+use Rattle.can_bus.specs.Counters.{counts_of, steps_of, steps_after, state_at, transmission}
+use Rattle.can_bus.specs.Attempts.{winner, contenders, beats, tried_with, attempt_reply}
+use Rattle.can_bus.specs.Legal.{legal_reply, IsLegal}
+use Rattle.can_bus.proofs.Lawful.{WasTried, was_tried, open-iface}
+
+-- ---- an interface is in the set of some interfaces exactly where it is one of them
+
+set_bit : (x : Bool) (b n i : ℕ) → i ≡ n → bit_at b i ≡ 0 → bit_at (if x then bit_or b (2 ^ n) else b) i ≡ (if x then 1 else 0)
+set_bit false b n i same clear = clear
+set_bit true b n i same clear =
+    let one : bit_at (2 ^ n) i ≡ 1 = rw same (bit_at-pow_same n) in
+    bit_at_or b (2 ^ n) i ∙ rw (clear, one) refl
+
+other_bit : (x : Bool) (b n i : ℕ) → i ≢ n → bit_at (if x then bit_or b (2 ^ n) else b) i ≡ bit_at b i
+other_bit false b n i other = refl
+other_bit true b n i other =
+    let none : bit_at (2 ^ n) i ≡ 0 = bit_at-pow_other n i other in
+    bit_at_or b (2 ^ n) i ∙ rw none (omega arith)
+
+bit_at-bits_where : (p : ℕ → Bool) (n i : ℕ) → bit_at (bits_where p n) i ≡ (if nat_lt i n && p i then 1 else 0)
+bit_at-bits_where p zero i =
+    let past : nat_lt i 0 ≡ false = grind arith in
+    bit_at_above 0 0 i (omega arith) (omega arith) ∙ rw past refl
+bit_at-bits_where p (suc n) i =
+    elim (cases_eq i n) [
+      | inl same ↦
+          let past : nat_lt i n ≡ false = grind (arith, same) in
+          let now : nat_lt i (suc n) ≡ true = grind (arith, same) in
+          let clear : bit_at (bits_where p n) i ≡ 0 = bit_at-bits_where p n i ∙ rw past refl in
+          set_bit (p n) (bits_where p n) n i same clear ∙ rw (now, same) refl
+      | inr other ↦
+          let alike : nat_lt i (suc n) ≡ nat_lt i n = grind (arith, other) in
+          other_bit (p n) (bits_where p n) n i other ∙ bit_at-bits_where p n i ∙ rw alike refl
+    ]
+
+one_if : (x : Bool) → ((if x then 1 else 0) == 1) ≡ x
+one_if true = refl
+one_if false = refl
+
+pub is_in-of : (is : List ℕ) (i : ℕ) → is_in i (set_of is) ≡ (nat_lt i 16 && is_among i is)
+is_in-of is i = ap (λ (b : ℕ). b == 1) (bit_at-bits_where (λ k. is_among k is) 16 i) ∙ one_if (nat_lt i 16 && is_among i is)
+
+pub is_in-set_of : (is : List ℕ) (i : ℕ) → i < 16 → is_in i (set_of is) ≡ is_among i is
+is_in-set_of is i within = let below : nat_lt i 16 ≡ true = grind (arith, within) in is_in-of is i ∙ ap (λ b. b && is_among i is) below
+
+-- ---- no attempt takes anybody but its winner off the bus
+
+receivers_stay : (k : Class) (b : Bool) (c : ErrorCounts) → is_off (state_of (all_stepped c (receiver_step k b))) ≡ is_off (state_of c)
+receivers_stay Done true c = grind arith
+receivers_stay Done false c = grind arith
+receivers_stay LastBit b c = grind arith
+receivers_stay Destroyed b c = grind arith
+receivers_stay NoAck true c = grind arith
+receivers_stay NoAck false c = refl
+
+others_stay : (x : Bool) (k : Class) (b : Bool) (c : ErrorCounts) → is_off (state_of (all_stepped c (if x then receiver_step k b else []))) ≡ is_off (state_of c)
+others_stay true k b c = receivers_stay k b c
+others_stay false k b c = refl
+
+pub winner-alone-off : (t : Transmission) (i : ℕ) → i ≢ t.winner → is_off (state_of (counts_after t i)) ≡ is_off (attempts.state_at t i)
+winner-alone-off t i other =
+    let apart : (i == t.winner) ≡ false = ne_eqb i t.winner other in
+    rw apart (others_stay (is_among i (receivers t)) (class_of t) (is_named t.verdict i) (t.counts i))
+
+-- ---- the winner is live, and there
+
+pub record Found (p : ℕ → Bool) (xs : List ℕ) (w : ℕ) : Type 0 where
+  pub among : is_among w xs ≡ true
+  pub passes : p w ≡ true
+
+found-later : (p : ℕ → Bool) (x : ℕ) (xs : List ℕ) (w : ℕ) → Found p xs w → Found p (x ∷ xs) w
+found-later p x xs w f = record { among = or_right (x == w) (is_among w xs) f.among; passes = f.passes }
+
+pub find-found : (p : ℕ → Bool) (xs : List ℕ) (w : ℕ) → find p xs ≡ Some w → Found p xs w
+find-found p [] w is = cc
+find-found p (x ∷ xs) w is = when (p x) refl is (find-found p xs w)
+  where
+    when : (b : Bool) → p x ≡ b → (if b then Some x else find p xs) ≡ Some w → (find p xs ≡ Some w → Found p xs w) → Found p (x ∷ xs) w
+    when true passes at later =
+        let same : x ≡ w = cc in
+        record { among = or_left (x == w) (is_among w xs) (eq-eqb x w same); passes = ap p (sym same) ∙ passes }
+    when false fails at later = found-later p x xs w (later at)
+
+pub record IsContender (c : BusConfig) (past : List Entry) (w : ℕ) : Type 0 where
+  pub below : w < c.ifaces
+  pub live : is_off (state_at c past w) ≡ false
+
+not-true : (b : Bool) → not b ≡ true → b ≡ false
+not-true true h = cc
+not-true false h = refl
+
+lt-of : (w n : ℕ) → (nat_le 0 w && nat_lt w (0 + n)) ≡ true → w < n
+lt-of w n h = grind (arith, h)
+
+pub winner-contends : (c : BusConfig) (past : List Entry) (w : ℕ) → winner c past ≡ Some w → IsContender c past w
+winner-contends c past w won =
+    let f : Found (λ i. not (list_any (λ j. beats past j i) (contenders c past))) (contenders c past) w = find-found _ (contenders c past) w won in
+    let is_live : ℕ → Bool = λ i. is_some (head_of past i) && not (is_off (state_at c past i)) in
+    let parts : (is_live w && is_among w (range_with_len 0 c.ifaces)) ≡ true = sym (is_among-filter is_live w (range_with_len 0 c.ifaces)) ∙ f.among in
+    let both = and_parts (is_live w) (is_among w (range_with_len 0 c.ifaces)) parts in
+    record {
+      below = lt-of w c.ifaces (sym (is_among-range w 0 c.ifaces) ∙ both.1);
+      live = not-true (is_off (state_at c past w)) (and_parts (is_some (head_of past w)) (not (is_off (state_at c past w))) both.0).1;
+    }
+
+-- ---- only an attempt answers with a tried frame
+
+abbrev is_tried : Reply → Bool
+is_tried (reply.Tried t) = true
+is_tried _ = false
+
+untried-if : (b : Bool) (x y : Reply) → is_tried x ≡ false → is_tried y ≡ false → is_tried (if b then x else y) ≡ false
+untried-if true x y hx hy = hx
+untried-if false x y hx hy = hy
+
+never : {P : Type 0} (t : Tried) (r : Reply) → reply.Tried t ≡ r → is_tried r ≡ false → P
+never t r law untried = let e : true ≡ false = ap is_tried law ∙ untried in cc
+
+pub by_attempt : (P : Event → Type 0) (c : BusConfig) (past : List Entry) (e : Event) (t : Tried) → reply.Tried t ≡ legal_reply c past e → ((m : ℕ) (v : Verdict) → WasTried c past m v t → P (Attempt m v)) → P e
+by_attempt P c past (Attempt m v) t law k = k m v (was_tried c past m v t law)
+by_attempt P c past (Open i n) t law k = never t _ law (untried-if (nat_le c.ifaces i) _ _ refl (untried-if (not (nat_le 1 n && nat_le n 65536)) _ _ refl (untried-if (nat_le 64 (length (open_sockets past))) _ _ refl refl)))
+by_attempt P c past (Close s) t law k = never t _ law (untried-if (is_open past s.0) _ _ refl refl)
+by_attempt P c past (SetFilters s f) t law k = never t _ law (untried-if (is_open past s.0) _ _ refl refl)
+by_attempt P c past (SetOption s o) t law k = never t _ law (untried-if (is_open past s.0) _ _ refl refl)
+by_attempt P c past (Send s f) t law k = never t _ law (untried-if (is_open past s.0) _ _ (untried-if (is_off (state_at c past (iface_of past s.0))) _ _ refl (untried-if (length (sent_by past (iface_of past s.0)) - gone_count past (iface_of past s.0) == c.tx_capacity) _ _ refl refl)) refl)
+by_attempt P c past (Receive s) t law k = never t _ law (untried-if (is_open past s.0) _ _ refl refl)
+by_attempt P c past (Restart i m) t law k = never t _ law (untried-if (nat_le c.ifaces i) _ _ refl (untried-if (is_off (state_at c past i)) _ _ refl refl))
+
+-- ---- a frame is accepted on an open socket, of an interface that is not bus off
+
+pub record WasSent (c : BusConfig) (past : List Entry) (s : ℕ) : Type 0 where
+  pub is_there : is_open past s ≡ true
+  pub live : is_off (state_at c past (iface_of past s)) ≡ false
+
+sent-if : (c : BusConfig) (past : List Entry) (s n : ℕ) (opened off : Bool) (r : Reply) → is_open past s ≡ opened → is_off (state_at c past (iface_of past s)) ≡ off → reply.Sent n ≡ (if opened then (if off then reply.Refused refusal.BusOff else r) else reply.Refused refusal.NoSocket) → WasSent c past s
+sent-if c past s n true false r is at law = record { is_there = is; live = at }
+sent-if c past s n true true r is at law = cc
+sent-if c past s n false off r is at law = cc
+
+-- ---- where an interface is bus off, all its frames are gone
+
+all_stepped-append : (c : ErrorCounts) (xs ys : List Step) → all_stepped c (xs ++ ys) ≡ all_stepped (all_stepped c xs) ys
+all_stepped-append c [] ys = refl
+all_stepped-append c (x ∷ xs) ys = all_stepped-append (stepped c x) xs ys
+
+gone-here : (sent gone : ℕ) (off here : Bool) → off ≡ true → (if off then sent else if here then gone + 1 else gone) ≡ sent
+gone-here sent gone true here is = refl
+gone-here sent gone false here is = cc
+
+gone-there : (sent gone : ℕ) (off here : Bool) → here ≡ false → gone ≡ sent → (if off then sent else if here then gone + 1 else gone) ≡ sent
+gone-there sent gone true here is same = refl
+gone-there sent gone false true is same = cc
+gone-there sent gone false false is same = same
+
+and-false : (a b : Bool) → a ≡ false → (a && b) ≡ false
+and-false true b h = cc
+and-false false b h = refl
+
+abbrev pub GoneIfOff : BusConfig → List Entry → ℕ → Type 0
+GoneIfOff c past i = is_off (state_at c past i) ≡ true → gone_count past i ≡ length (sent_by past i)
+
+-- the winner that went off is in the set of those that went off
+off-is-in : (t : Transmission) → t.winner < 16 → is_off (state_of (counts_after t t.winner)) ≡ true → is_in t.winner (set_of (off_after t)) ≡ true
+off-is-in t below off = is_in-set_of (off_after t) t.winner below ∙ listed (is_off (state_of (counts_after t t.winner))) off
+  where
+    listed : (b : Bool) → b ≡ true → is_among t.winner (if b then t.winner ∷ [] else []) ≡ true
+    listed true h = or_left (t.winner == t.winner) false (eq-eqb t.winner t.winner refl)
+    listed false h = cc
+
+off-tried : (c : BusConfig) (past : List Entry) (m : ℕ) (v : Verdict) (t : Tried) (i : ℕ) → c.ifaces ≤ 16 → WasTried c past m v t → GoneIfOff c past i → is_off (state_of (counts_after (transmission c past t.winner v) i)) ≡ true → (if is_in i t.off then length (sent_by past i) else if (t.winner == i) && is_done t.class then gone_count past i + 1 else gone_count past i) ≡ length (sent_by past i)
+off-tried c past m v t i few w before off = choose (cases_eq i t.winner)
+  where
+    who : t.winner ≡ w.place
+    who = ap (λ (u : Tried). u.winner) w.is
+
+    below : w.place < 16
+    below = let b = (winner-contends c past w.place w.won).below in omega (arith, b, few)
+
+    here : i ≡ t.winner → is_in i t.off ≡ true
+    here same =
+        let off' : is_off (state_of (counts_after (transmission c past w.place v) w.place)) ≡ true = subst (λ k. is_off (state_of (counts_after (transmission c past k v) k)) ≡ true) who (subst (λ k. is_off (state_of (counts_after (transmission c past t.winner v) k)) ≡ true) same off) in
+        let in_it : is_in w.place t.off ≡ true = ap (λ (u : Tried). is_in w.place u.off) w.is ∙ off-is-in (transmission c past w.place v) below off' in
+        subst (λ k. is_in k t.off ≡ true) (sym (same ∙ who)) in_it
+
+    choose : (i ≡ t.winner) ⊎ (i ≢ t.winner) → (if is_in i t.off then length (sent_by past i) else if (t.winner == i) && is_done t.class then gone_count past i + 1 else gone_count past i) ≡ length (sent_by past i)
+    choose (inl same) = gone-here (length (sent_by past i)) (gone_count past i) (is_in i t.off) ((t.winner == i) && is_done t.class) (here same)
+    choose (inr other) =
+        let was : is_off (state_at c past i) ≡ true = sym (winner-alone-off (transmission c past t.winner v) i other) ∙ off in
+        gone-there (length (sent_by past i)) (gone_count past i) (is_in i t.off) ((t.winner == i) && is_done t.class) (and-false (t.winner == i) (is_done t.class) (ne_eqb t.winner i (λ e. other (sym e)))) (before was)
+
+abbrev off_with : BusConfig → List Entry → ℕ → Event → Reply → Bool
+off_with c past i e r = is_off (state_of (all_stepped at_start (steps_after c e r (counts_of c past) i (steps_of c past i))))
+
+abbrev AllGone : List Entry → ℕ → Event → Reply → Type 0
+AllGone past i e r = gone_after r i (length (sent_by past i)) (gone_count past i) ≡ length (sent_after past i e r (sent_by past i))
+
+off-step : (c : BusConfig) (past : List Entry) (i : ℕ) (e : Event) (r : Reply) → c.ifaces ≤ 16 → r ≡ legal_reply c past e → GoneIfOff c past i → off_with c past i e r ≡ true → AllGone past i e r
+off-step c past i e (reply.Tried t) few law before off =
+    by_attempt (λ k. off_with c past i k (reply.Tried t) ≡ true → AllGone past i k (reply.Tried t)) c past e t law
+    (λ m v w h. off-tried c past m v t i few w before (ap (λ (x : ErrorCounts). is_off (state_of x)) (sym (all_stepped-append at_start (steps_of c past i) (steps_at i (transmission c past t.winner v)))) ∙ h))
+    off
+off-step c past i (Restart k m) reply.Done few law before off = when (k == i) off
+  where
+    when : (b : Bool) → is_off (state_of (all_stepped at_start (if b then [] else steps_of c past i))) ≡ true → gone_count past i ≡ length (sent_by past i)
+    when true h = cc
+    when false h = before h
+off-step c past i (Send s f) (reply.Sent n) few law before off = when (iface_of past s.0 == i) refl _
+  where
+    live : is_off (state_at c past (iface_of past s.0)) ≡ false
+    live = (sent-if c past s.0 n (is_open past s.0) (is_off (state_at c past (iface_of past s.0))) _ refl refl law).live
+
+    when : (b : Bool) → (iface_of past s.0 == i) ≡ b → (p : Pending) → gone_count past i ≡ length (if b then sent_by past i ++ p ∷ [] else sent_by past i)
+    when true here p =
+        let same : is_off (state_at c past i) ≡ false = subst (λ k. is_off (state_at c past k) ≡ false) (eqb-true (iface_of past s.0) i here) live in
+        let clash : true ≡ false = sym off ∙ same in
+        cc
+    when false there p = before off
+off-step c past i (Open j n) _ few law before off = before off
+off-step c past i (Close s) _ few law before off = before off
+off-step c past i (SetFilters s f) _ few law before off = before off
+off-step c past i (SetOption s o) _ few law before off = before off
+off-step c past i (Send s f) _ few law before off = before off
+off-step c past i (Receive s) _ few law before off = before off
+off-step c past i (Attempt m v) _ few law before off = before off
+off-step c past i (Restart k m) _ few law before off = before off
+
+pub off-all-gone : (c : BusConfig) (past : List Entry) → IsLegal c past → c.ifaces ≤ 16 → (i : ℕ) → is_off (state_at c past i) ≡ true → gone_count past i ≡ length (sent_by past i)
+off-all-gone c [] legal few i off = refl
+off-all-gone c (e ∷ past) legal few i off = off-step c past i e.event e.reply few legal.1 (off-all-gone c past legal.2 few i) off
+
+-- an interface that is bus off has no frame waiting
+pub off-no-head : (c : BusConfig) (past : List Entry) → IsLegal c past → c.ifaces ≤ 16 → (i : ℕ) → is_off (state_at c past i) ≡ true → head_of past i ≡ None
+off-no-head c past legal few i off = slice_get_past (sent_by past i) (gone_count past i) (let all = off-all-gone c past legal few i off in omega (arith, all))
+
+-- ---- frames are sent on interfaces that are there
+
+pub open-place : (s : ℕ) (xs : List ℕ) → list_any (λ k. k == s) xs ≡ true → (k : ℕ) × (slice_get xs k ≡ Some s)
+open-place s [] h = cc
+open-place s (x ∷ xs) h = when (x == s) refl h (open-place s xs)
+  where
+    when : (b : Bool) → (x == s) ≡ b → (b || list_any (λ k. k == s) xs) ≡ true → (list_any (λ k. k == s) xs ≡ true → (k : ℕ) × (slice_get xs k ≡ Some s)) → (k : ℕ) × (slice_get (x ∷ xs) k ≡ Some s)
+    when true is at later = (0, ap (λ (n : ℕ). Some n) (eqb-true x s is))
+    when false is at later = (suc (later at).0, (later at).1)
+
+-- the interface of an open socket is there
+pub is_open-iface : (c : BusConfig) (past : List Entry) → IsLegal c past → (s : ℕ) → is_open past s ≡ true → iface_of past s < c.ifaces
+is_open-iface c past legal s is = let at = open-place s (open_sockets past) is in open-iface c past legal at.0 s at.1
+
+sent-step : (c : BusConfig) (past : List Entry) (i : ℕ) (e : Event) (r : Reply) → IsLegal c past → r ≡ legal_reply c past e → c.ifaces ≤ i → sent_by past i ≡ [] → sent_after past i e r (sent_by past i) ≡ []
+sent-step c past i (Send s f) (reply.Sent n) legal law above none = when (iface_of past s.0 == i) refl _
+  where
+    below : iface_of past s.0 < c.ifaces
+    below = is_open-iface c past legal s.0 (sent-if c past s.0 n (is_open past s.0) (is_off (state_at c past (iface_of past s.0))) _ refl refl law).is_there
+
+    when : (b : Bool) → (iface_of past s.0 == i) ≡ b → (p : Pending) → (if b then sent_by past i ++ p ∷ [] else sent_by past i) ≡ []
+    when true here p = let same = eqb-true (iface_of past s.0) i here in absurd (omega (arith, same, below, above))
+    when false there p = none
+sent-step c past i _ _ legal law above none = none
+
+pub sent-beyond : (c : BusConfig) (past : List Entry) → IsLegal c past → (i : ℕ) → c.ifaces ≤ i → sent_by past i ≡ []
+sent-beyond c [] legal i above = refl
+sent-beyond c (e ∷ past) legal i above = sent-step c past i e.event e.reply legal.2 legal.1 above (sent-beyond c past legal.2 i above)
+
+-- a frame that waits is of an interface that is there
+pub head-below : (c : BusConfig) (past : List Entry) → IsLegal c past → (i : ℕ) → (p : Pending) → head_of past i ≡ Some p → i < c.ifaces
+head-below c past legal i p head = when (nat_le c.ifaces i) refl
+  where
+    when : (b : Bool) → nat_le c.ifaces i ≡ b → i < c.ifaces
+    when true above =
+        let none : sent_by past i ≡ [] = sent-beyond c past legal i (grind (arith, above)) in
+        let gone : slice_get (sent_by past i) (gone_count past i) ≡ None = ap (λ (ps : List Pending). slice_get ps (gone_count past i)) none in
+        cc
+    when false below = leb-false c.ifaces i below
+
+-- ---- no step reaches an interface that is not there
+
+steps-nowhere : (t : Transmission) (i : ℕ) → (i == t.winner) ≡ false → t.count ≤ i → steps_at i t ≡ []
+steps-nowhere t i other above =
+    let deaf : nat_lt i t.count ≡ false = grind (arith, above) in
+    let among : is_among i (receivers t) ≡ false = is_among-receivers t i ∙ and-false-right (can_hear t i) (nat_lt i t.count) deaf in
+    rw (other, among) refl
+  where
+    and-false-right : (a b : Bool) → b ≡ false → (a && b) ≡ false
+    and-false-right true b h = h
+    and-false-right false b h = refl
+
+steps-step : (c : BusConfig) (past : List Entry) (i : ℕ) (e : Event) (r : Reply) → r ≡ legal_reply c past e → c.ifaces ≤ i → steps_of c past i ≡ [] → steps_after c e r (counts_of c past) i (steps_of c past i) ≡ []
+steps-step c past i e (reply.Tried t) law above none =
+    by_attempt (λ k. steps_after c k (reply.Tried t) (counts_of c past) i (steps_of c past i) ≡ []) c past e t law
+    (λ m v w.
+      let who : t.winner ≡ w.place = ap (λ (u : Tried). u.winner) w.is in
+      let below = (winner-contends c past w.place w.won).below in
+      let other : (i == t.winner) ≡ false = ne_eqb i t.winner (λ same. absurd (omega (arith, same, who, below, above))) in
+      ap (λ ss. steps_of c past i ++ ss) (steps-nowhere (transmission c past t.winner v) i other above) ∙ append-nil (steps_of c past i) ∙ none)
+steps-step c past i (Restart k m) reply.Done law above none = when (k == i)
+  where
+    when : (b : Bool) → (if b then [] else steps_of c past i) ≡ []
+    when true = refl
+    when false = none
+steps-step c past i (Open j n) _ law above none = none
+steps-step c past i (Close s) _ law above none = none
+steps-step c past i (SetFilters s f) _ law above none = none
+steps-step c past i (SetOption s o) _ law above none = none
+steps-step c past i (Send s f) _ law above none = none
+steps-step c past i (Receive s) _ law above none = none
+steps-step c past i (Attempt m v) _ law above none = none
+steps-step c past i (Restart k m) _ law above none = none
+
+steps-beyond : (c : BusConfig) (past : List Entry) → IsLegal c past → (i : ℕ) → c.ifaces ≤ i → steps_of c past i ≡ []
+steps-beyond c [] legal i above = refl
+steps-beyond c (e ∷ past) legal i above = steps-step c past i e.event e.reply legal.1 above (steps-beyond c past legal.2 i above)
+
+pub counts-beyond : (c : BusConfig) (past : List Entry) → IsLegal c past → (i : ℕ) → c.ifaces ≤ i → counts_of c past i ≡ at_start
+counts-beyond c past legal i above = ap (all_stepped at_start) (steps-beyond c past legal i above)
