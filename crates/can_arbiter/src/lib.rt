@@ -2,7 +2,8 @@
 //! one with the lower number.
 //!
 //! An arbiter is a finite map from the 16 interfaces to keys. Callers know it by the trait alone: `set` and
-//! `clear` change one interface's key, and `winner` answers the one interface that goes first.
+//! `clear` change one interface's key, and `winner` answers the one interface that goes first. Where the keys
+//! are those of frames, the laws say the same of the frames' arbitration bits.
 #![tactic(auto)]
 
 pub mod arbiter;

@@ -6,8 +6,8 @@
 //! interface as a number, and the names of a bus as a list of texts.
 //!
 //! A frame's `arbitration_key` is a number whose order is that of the bits by which frames compete on the
-//! bus. The laws say what this order is: which frame wins, that one always does, and that only frames of
-//! one identifier and kind can have equal bits.
+//! bus. The laws say what this order is: who wins, that exactly one does where all bits differ, and that only
+//! frames of one identifier and kind can have equal bits.
 #![tactic(auto)]
 
 pub mod arbitration;
