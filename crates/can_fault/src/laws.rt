@@ -1,15 +1,23 @@
 ghost use Rattle.std.specs.Prelude.{◌≡◌, ◌↔◌, ℕ, List, [], Ok, Err, Some, slice_get};
 ghost use Rattle.std.specs.FinMap.{get};
-ghost use Rattle.can_fault.specs.Grammar.{SpellsEntry};
+ghost use Rattle.can_fault.specs.Grammar.{SpellsEntry, LacksInterface};
 ghost use Rattle.can_fault.specs.Sources.{VerdictMap, no_verdicts};
 ghost use Rattle.can_fault.specs.Scripts.{line_spelling, sayings, script_spelling, Gives, IsFirstFault};
 ghost use Rattle.can_fault.specs.declared.scripts.ScriptError.{ScriptError};
 ghost use Rattle.can_fault.specs.declared.verdicts.Verdict.{Verdict};
 
+use crate::script_lines::LineFault;
+
 /// A line gives an attempt a verdict exactly where it is the attempt's number, a space, and one of the
 /// verdict's spellings.
 pub fn a_line_is_read_as_it_is_spelled()
     ensures { (names : List (List ℕ)) (line : List ℕ) (attempt : ℕ) (verdict : Verdict) → (line_spelling names line ≡ Ok (Some (attempt, verdict))) ↔ SpellsEntry names line attempt verdict }
+{}
+
+/// A line names an unknown interface exactly where all else is right: a number, a local fault, and
+/// well-formed names, of which the bus lacks some.
+pub fn an_unknown_interface_is_the_only_fault_of_its_line()
+    ensures { (names : List (List ℕ)) (line : List ℕ) → (line_spelling names line ≡ Err LineFault.UnknownInterface) ↔ LacksInterface names line }
 {}
 
 /// A script has for an attempt exactly the verdict that one of its lines gives.
