@@ -30,9 +30,9 @@ pub fn no_attempt_stands_twice()
     ensures { (names : List (List ℕ)) (text : List ℕ) (verdicts : VerdictMap) (first second attempt : ℕ) (one other : Verdict) → script_spelling names text ≡ Ok verdicts → slice_get (sayings names text) first ≡ Some (Ok (Some (attempt, one))) → slice_get (sayings names text) second ≡ Some (Ok (Some (attempt, other))) → first ≡ second }
 {}
 
-/// The fault that is told is that of the first faulty line.
+/// A text has a fault exactly where this is the fault of its first faulty line.
 pub fn the_first_fault_is_told()
-    ensures { (names : List (List ℕ)) (text : List ℕ) (fault : ScriptError) → script_spelling names text ≡ Err fault → IsFirstFault (sayings names text) fault }
+    ensures { (names : List (List ℕ)) (text : List ℕ) (fault : ScriptError) → (script_spelling names text ≡ Err fault) ↔ IsFirstFault (sayings names text) fault }
 {}
 
 /// The empty text spells the perfect source.
