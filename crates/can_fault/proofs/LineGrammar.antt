@@ -1,4 +1,4 @@
-use Rattle.std.proofs.Common.{◌≡◌, ◌≢◌, ◌⊎◌, ◌↔◌, ◌<◌, ◌≤◌, ℕ, zero, suc, ◌+◌, Bool, true, false, cond, not, ◌&&◌, ◌==◌, List, [], ◌∷◌, ◌++◌, take, drop, length, get_or, Option, Some, None, Result, Ok, Err, refl, sym, ap, ◌∙◌, subst, inl, inr, ⊎_elim, arith, rules, tests, if◌then◌else◌, append_assoc, is_some, codes}
+use Rattle.std.proofs.Common.{◌≡◌, ◌⊎◌, ◌<◌, ◌≤◌, ℕ, ◌+◌, Bool, true, false, cond, not, ◌==◌, List, [], ◌∷◌, ◌++◌, take, drop, length, get_or, Option, Some, None, Result, Ok, Err, refl, sym, ap, ◌∙◌, subst, inl, inr, ⊎_elim, arith, rules, tests, if◌then◌else◌, append_assoc, is_some, codes}
 use Rattle.std.specs.Char.{is_ascii_digit}
 use Rattle.std.specs.List.{list_all, position_or_len}
 use Rattle.std.specs.Option.{ok_or}
@@ -11,7 +11,7 @@ use Rattle.std.proofs.lemmas.List.Sums.{split_at_first, passes_at_first}
 use Rattle.std.proofs.lemmas.Slice.Eq.{bytes_eq-Decides}
 use Rattle.can_frame.specs.Names.{names_in, is_name, place_of}
 use Rattle.can_frame.specs.declared.ifaces.IfaceSet.{IfaceSet}
-use Rattle.can_fault.specs.Grammar.{kind_word, SpellsSet, SpellsVerdict, SpellsEntry}
+use Rattle.can_fault.specs.Grammar.{kind_word, SpellsSet, SpellsVerdict, SpellsEntry, LacksInterface}
 use Rattle.can_fault.specs.Scripts.{◌>>=◌, word, after, is_number, number_spelling, set_named, set_spelling, kind_spelling, local_spelling, verdict_spelling, Saying, entry_spelling, line_spelling}
 use Rattle.can_fault.specs.declared.script_lines.LineFault.{LineFault}
 use Rattle.can_fault.specs.declared.script_lines.LineFault.TheVariants as line
@@ -131,11 +131,11 @@ set-read names text set (good, known, same) =
     ∙ ap (λ b. if b then Ok (set_named names (names_in text)) else Err line.UnknownInterface) known
     ∙ ap (λ (s : IfaceSet). Ok s) (sym same)
 
-local-read : (names : List (List ℕ)) (list : List ℕ) (kind : LocalKind) (set : IfaceSet) → set_spelling names list ≡ Ok set → verdict_spelling names (codes "local " ++ (kind_word kind ++ 32 ∷ list)) ≡ Ok (Local set kind)
+local-gives : (names : List (List ℕ)) (list : List ℕ) (kind : LocalKind) → verdict_spelling names (codes "local " ++ (kind_word kind ++ 32 ∷ list)) ≡ (set_spelling names list >>= λ set. Ok (Local set kind))
 unfolding verdict_spelling local_spelling
-local-read names list local.Stuff set e = ap (λ (r : Result IfaceSet LineFault). r >>= λ s. Ok (Local s local.Stuff)) e
-local-read names list local.Crc set e = ap (λ (r : Result IfaceSet LineFault). r >>= λ s. Ok (Local s local.Crc)) e
-local-read names list local.Form set e = ap (λ (r : Result IfaceSet LineFault). r >>= λ s. Ok (Local s local.Form)) e
+local-gives names list local.Stuff = refl
+local-gives names list local.Crc = refl
+local-gives names list local.Form = refl
 
 verdict-read : (names : List (List ℕ)) (text : List ℕ) (v : Verdict) → SpellsVerdict names text v → verdict_spelling names text ≡ Ok v
 unfolding verdict_spelling
@@ -143,7 +143,7 @@ verdict-read names text Good e = ap (verdict_spelling names) e
 verdict-read names text LastBit e = ap (verdict_spelling names) e
 verdict-read names text (Global global.Bit) e = ap (verdict_spelling names) e
 verdict-read names text (Global global.Form) e = ap (verdict_spelling names) e
-verdict-read names text (Local set kind) (list, e, of_set) = ap (verdict_spelling names) e ∙ local-read names list kind set (set-read names list set of_set)
+verdict-read names text (Local set kind) (list, e, of_set) = ap (verdict_spelling names) e ∙ local-gives names list kind ∙ ap (λ (r : Result IfaceSet LineFault). r >>= λ s. Ok (Local s kind)) (set-read names list set of_set)
 
 digit_apart : (d : ℕ) → is_ascii_digit d ≡ true → (is_space d ≡ false) × ((d == 35) ≡ false)
 digit_apart d h =
@@ -167,22 +167,97 @@ after-digits digits rest h =
     ∙ ap (drop (length digits + 1)) (sym (append_assoc digits (32 ∷ []) rest))
     ∙ drop_at (digits ++ 32 ∷ []) rest (length digits + 1) (length-append digits (32 ∷ []))
 
-entry-read : (names : List (List ℕ)) (digits rest : List ℕ) (v : Verdict) → is_number digits ≡ true → verdict_spelling names rest ≡ Ok v → entry_spelling names (digits ++ 32 ∷ rest) ≡ Ok (Some (digits_value 10 digits, v))
+entry-gives : (names : List (List ℕ)) (digits rest : List ℕ) → is_number digits ≡ true → entry_spelling names (digits ++ 32 ∷ rest) ≡ entry_from (Some (digits_value 10 digits)) (verdict_spelling names rest)
 unfolding entry_spelling
-entry-read names digits rest v is e =
+entry-gives names digits rest is =
     let all : list_all is_ascii_digit digits ≡ true = search (rules, tests) in
     let text : List ℕ = digits ++ 32 ∷ rest in
     let number : number_spelling (word text) ≡ Some (digits_value 10 digits) = ap number_spelling (word-digits digits rest all) ∙ ap (λ b. if b then Some (digits_value 10 digits) else None) is in
-    let verdict : verdict_spelling names (after text) ≡ Ok v = ap (verdict_spelling names) (after-digits digits rest all) ∙ e in
-    ap (λ o. entry_from o (verdict_spelling names (after text))) number ∙ ap (entry_from (Some (digits_value 10 digits))) verdict
+    ap (λ o. entry_from o (verdict_spelling names (after text))) number ∙ ap (λ (r : List ℕ). entry_from (Some (digits_value 10 digits)) (verdict_spelling names r)) (after-digits digits rest all)
 
-pub line-read : (names : List (List ℕ)) (digits rest : List ℕ) (v : Verdict) → is_number digits ≡ true → verdict_spelling names rest ≡ Ok v → line_spelling names (digits ++ 32 ∷ rest) ≡ Ok (Some (digits_value 10 digits, v))
-line-read names [] rest v is e = cc
-line-read names (d ∷ ds) rest v is e =
+line-gives : (names : List (List ℕ)) (digits rest : List ℕ) → is_number digits ≡ true → line_spelling names (digits ++ 32 ∷ rest) ≡ entry_from (Some (digits_value 10 digits)) (verdict_spelling names rest)
+line-gives names [] rest is = cc
+line-gives names (d ∷ ds) rest is =
     let all : list_all is_ascii_digit (d ∷ ds) ≡ true = search (rules, tests) in
     let head : is_ascii_digit d ≡ true = search (rules, tests) in
-    ap (λ b. if b then Ok None else entry_spelling names (d ∷ (ds ++ 32 ∷ rest))) (digit_apart d head).1 ∙ entry-read names (d ∷ ds) rest v is e
+    ap (λ b. if b then Ok None else entry_spelling names (d ∷ (ds ++ 32 ∷ rest))) (digit_apart d head).1 ∙ entry-gives names (d ∷ ds) rest is
+
+-- ---- the other fault
+
+one_missing : (a b : Bool) (s : IfaceSet) → (if a then (if b then Ok s else Err line.UnknownInterface) else Err line.BadLine) ≡ Err line.UnknownInterface → (a ≡ true) × (b ≡ false)
+one_missing true true s e = cc
+one_missing true false s e = (refl, refl)
+one_missing false b s e = cc
+
+local_missing : (o : Option LocalKind) (r : Result IfaceSet LineFault) → (ok_or o line.BadLine >>= λ kind. r >>= λ set. Ok (Local set kind)) ≡ Err line.UnknownInterface → (kind : LocalKind) × (o ≡ Some kind) × (r ≡ Err line.UnknownInterface)
+local_missing None r e = cc
+local_missing (Some kind) (Err line.BadLine) e = cc
+local_missing (Some kind) (Err line.UnknownInterface) e = (kind, refl, refl)
+local_missing (Some kind) (Ok set) e = cc
+
+-- a text behind which nothing is missing but an interface
+abbrev LacksAfter : List (List ℕ) → List ℕ → Type 0
+LacksAfter names text = (kind : LocalKind) × (list : List ℕ) × (text ≡ kind_word kind ++ 32 ∷ list) × (list_all is_name (names_in list) ≡ true) × (list_all (λ piece. is_some (place_of names piece)) (names_in list) ≡ false)
+
+local-lacks : (names : List (List ℕ)) (text : List ℕ) → local_spelling names text ≡ Err line.UnknownInterface → LacksAfter names text
+unfolding local_spelling
+local-lacks names text e =
+    let (kind, k, missing) = local_missing (kind_spelling (word text)) (set_spelling names (after text)) e in
+    let whole : text ≡ word text ++ 32 ∷ after text = ⊎_elim (λ h. h) (λ none. let bad = ap (set_spelling names) none in cc) (spaced text) in
+    let (good, lacks) = one_missing _ _ (set_named names (names_in (after text))) missing in
+    (kind, after text, whole ∙ ap (λ (w : List ℕ). w ++ 32 ∷ after text) (kind-spelled (word text) kind k), good, lacks)
+
+verdict-lacks : (names : List (List ℕ)) (text : List ℕ) → verdict_spelling names text ≡ Err line.UnknownInterface → (rest : List ℕ) × (text ≡ codes "local " ++ rest) × LacksAfter names rest
+unfolding verdict_spelling local_spelling
+verdict-lacks names text e = choice _ _ _ _ _ (local_spelling names (after text)) e behind
+  where
+    choice : (a b c d f : Bool) (r : Result Verdict LineFault) → (if a then Ok Good else if b then Ok LastBit else if c then Ok (Global global.Bit) else if d then Ok (Global global.Form) else if f then r else Err line.BadLine) ≡ Err line.UnknownInterface → (f ≡ true → r ≡ Err line.UnknownInterface → (rest : List ℕ) × (text ≡ codes "local " ++ rest) × LacksAfter names rest) → (rest : List ℕ) × (text ≡ codes "local " ++ rest) × LacksAfter names rest
+    choice true b c d f r e k = cc
+    choice false true c d f r e k = cc
+    choice false false true d f r e k = cc
+    choice false false false true f r e k = cc
+    choice false false false false true r e k = k refl e
+    choice false false false false false r e k = cc
+
+    behind : bytes_eq (word text) (codes "local") ≡ true → local_spelling names (after text) ≡ Err line.UnknownInterface → (rest : List ℕ) × (text ≡ codes "local " ++ rest) × LacksAfter names rest
+    behind is r =
+        let first : word text ≡ codes "local" = (bytes_eq-Decides (word text) (codes "local")).0 is in
+        let whole : text ≡ word text ++ 32 ∷ after text = ⊎_elim (λ h. h) (λ none. let bad = ap (local_spelling names) none in cc) (spaced text) in
+        (after text, whole ∙ ap (λ (w : List ℕ). w ++ 32 ∷ after text) first, local-lacks names (after text) r)
+
+entry_missing : (o : Option ℕ) (r : Result Verdict LineFault) → entry_from o r ≡ Err line.UnknownInterface → (n : ℕ) × (o ≡ Some n) × (r ≡ Err line.UnknownInterface)
+entry_missing None r e = cc
+entry_missing (Some n) (Err line.BadLine) e = cc
+entry_missing (Some n) (Err line.UnknownInterface) e = (n, refl, refl)
+entry_missing (Some n) (Ok v) e = cc
+
+entry-lacks : (names : List (List ℕ)) (text : List ℕ) → entry_spelling names text ≡ Err line.UnknownInterface → LacksInterface names text
+unfolding entry_spelling verdict_spelling
+entry-lacks names text e =
+    let (n, number, missing) = entry_missing (number_spelling (word text)) (verdict_spelling names (after text)) e in
+    let digits = number-spelled (word text) n number in
+    let whole : text ≡ word text ++ 32 ∷ after text = ⊎_elim (λ h. h) (λ none. let bad = ap (verdict_spelling names) none in cc) (spaced text) in
+    let (rest, local, (kind, list, spelled, good, lacks)) = verdict-lacks names (after text) missing in
+    (word text, kind, list, whole ∙ ap (λ (r : List ℕ). word text ++ 32 ∷ r) (local ∙ ap (λ (r : List ℕ). codes "local " ++ r) spelled), digits.0, good, lacks)
+
+pub line-lacks : (names : List (List ℕ)) (text : List ℕ) → line_spelling names text ≡ Err line.UnknownInterface → LacksInterface names text
+line-lacks names [] e = cc
+line-lacks names (b ∷ bs) e = choice (b == 35) e
+  where
+    choice : (a : Bool) → (if a then Ok None else entry_spelling names (b ∷ bs)) ≡ Err line.UnknownInterface → LacksInterface names (b ∷ bs)
+    choice true e = cc
+    choice false e = entry-lacks names (b ∷ bs) e
+
+pub lacks-read : (names : List (List ℕ)) (text : List ℕ) → LacksInterface names text → line_spelling names text ≡ Err line.UnknownInterface
+lacks-read names text (digits, kind, list, whole, is, good, lacks) =
+    let missing : set_spelling names list ≡ Err line.UnknownInterface =
+    ap (λ b. if b then (if list_all (λ piece. is_some (place_of names piece)) (names_in list) then Ok (set_named names (names_in list)) else Err line.UnknownInterface) else Err line.BadLine) good
+    ∙ ap (λ b. if b then Ok (set_named names (names_in list)) else Err line.UnknownInterface) lacks in
+    ap (line_spelling names) whole ∙ line-gives names digits (codes "local " ++ (kind_word kind ++ 32 ∷ list)) is ∙ ap (entry_from (Some (digits_value 10 digits))) (local-gives names list kind ∙ ap (λ (r : Result IfaceSet LineFault). r >>= λ s. Ok (Local s kind)) missing)
 
 pub grammar-read : (names : List (List ℕ)) (text : List ℕ) (n : ℕ) (v : Verdict) → SpellsEntry names text n v → line_spelling names text ≡ Ok (Some (n, v))
 grammar-read names text n v (digits, rest, whole, is, value, spelled) =
-    ap (line_spelling names) whole ∙ line-read names digits rest v is (verdict-read names rest v spelled) ∙ ap (λ (m : ℕ). Ok (Some (m, v))) (sym value)
+    ap (line_spelling names) whole
+    ∙ line-gives names digits rest is
+    ∙ ap (entry_from (Some (digits_value 10 digits))) (verdict-read names rest v spelled)
+    ∙ ap (λ (m : ℕ). Ok (Some (m, v))) (sym value)

@@ -1,4 +1,4 @@
-use Rattle.std.proofs.Common.{◌≡◌, ◌≢◌, ◌⊎◌, ℕ, ◌+◌, ◌<◌, ◌≤◌, ◌^◌, zero, suc, max, Bool, true, false, ◌||◌, ◌&&◌, nat_eq, List, [], ◌∷◌, length, Option, Some, None, is_some, Result, Ok, Err, refl, ap, sym, ◌∙◌, arith, rules, if◌then◌else◌, bit_or, ⊎_elim, drop, get_or, eq-eqb}
+use Rattle.std.proofs.Common.{◌≡◌, ◌≢◌, ℕ, ◌+◌, ◌<◌, ◌≤◌, ◌^◌, zero, suc, max, Bool, true, false, ◌||◌, ◌&&◌, nat_eq, ◌==◌, List, [], ◌∷◌, length, Some, None, is_some, Result, Ok, Err, refl, ap, sym, ◌∙◌, arith, if◌then◌else◌, bit_or, ⊎_elim, drop, get_or, eq-eqb}
 use Rattle.std.specs.Int.{bit_at}
 use Rattle.std.specs.List.{list_any, list_all}
 use Rattle.std.specs.Option.{option_eq, option_map_or}
@@ -9,7 +9,7 @@ use Rattle.std.proofs.lemmas.List.{at_drop_more}
 use Rattle.std.proofs.lemmas.List.Quantifiers.{position-Some}
 use Rattle.std.proofs.lemmas.Nat.Bits.{bit_at-zero, bit_at_or, bit_at-pow_same, bit_at-pow_other, same_from_bits}
 use Rattle.can_frame.specs.Names.{place_of, names_in, is_name}
-use Rattle.can_frame.specs.Sets.{bits_where, set_where, no_ifaces}
+use Rattle.can_frame.specs.Sets.{is_in, bits_where, set_where, no_ifaces}
 use Rattle.can_frame.specs.declared.ifaces.IfaceSet.{IfaceSet}
 use Rattle.can_fault.specs.Scripts.{set_named, set_spelling}
 use Rattle.can_fault.specs.declared.script_lines.LineFault.{LineFault}
@@ -146,3 +146,14 @@ set_spelling-added names text good =
     ap (λ b. if b then (if list_all (is_known names) pieces then Ok (set_named names pieces) else Err UnknownInterface) else Err BadLine) good
     ∙ ap (λ (n : ℕ). if list_all (is_known names) pieces then Ok (record { 0 = n }) else Err UnknownInterface) (sym (none-or (set_named names pieces).0))
     ∙ sym (added-named names no_ifaces pieces)
+
+-- an interface is in the set where a piece names it
+pub is_in-set_named : (names pieces : List (List ℕ)) (iface : ℕ) → iface < length names → is_in iface (set_named names pieces) ≡ list_any (λ piece. option_eq nat_eq (place_of names piece) (Some iface)) pieces
+unfolding set_named
+is_in-set_named names pieces iface h =
+    let named : ℕ → Bool = λ i. list_any (λ piece. option_eq nat_eq (place_of names piece) (Some i)) pieces in
+    ap (λ n. n == 1) (below named (length names) iface h) ∙ bit_test (named iface)
+  where
+    bit_test : (b : Bool) → (bit b == 1) ≡ b
+    bit_test true = refl
+    bit_test false = refl

@@ -1,4 +1,4 @@
-use Rattle.std.proofs.Common.{◌≡◌, ◌≢◌, ◌⊎◌, ◌↔◌, ℕ, zero, suc, ◌+◌, Bool, true, false, cond, List, [], ◌∷◌, take, Option, Some, None, is_some, Result, Ok, Err, refl, sym, ap, ◌∙◌, inl, inr, ⊎_elim, subst, arith, if◌then◌else◌, slice_get}
+use Rattle.std.proofs.Common.{◌≡◌, ◌≢◌, ◌⊎◌, ℕ, zero, suc, ◌+◌, Bool, true, false, cond, List, [], ◌∷◌, take, Option, Some, None, is_some, Result, Ok, Err, refl, sym, ap, ◌∙◌, inl, inr, ⊎_elim, subst, arith, if◌then◌else◌, slice_get}
 use Rattle.std.specs.Prelude.{IsOk}
 use Rattle.std.specs.Ordering.{nat_cmp, eq_by_cmp}
 use Rattle.std.specs.Cmp.{nat_cmp_total, eq_by_cmp_equiv}
@@ -167,3 +167,75 @@ from_start lines place (script.RepeatedAttempt m) (number, (attempt, now, there,
 from_start lines place (script.RepeatedAttempt m) (number, (attempt, now, there, inr (before, given))) =
     (omega (arith, number), (attempt, now, before, there, given))
 from_start lines place script.NoMemory h = h
+
+-- behind a line that says nothing
+before_silent : (known : VerdictMap) (n : ℕ) (more : List Saying) (place : ℕ) (fault : ScriptError) → HasFaultAfter known n (Ok None ∷ more) (suc place) fault → HasFaultAfter known (n + 1) more place fault
+before_silent known n more place (script.BadLine m) h = (omega (arith, h.0), h.1)
+before_silent known n more place (script.UnknownInterface m) h = (omega (arith, h.0), h.1)
+before_silent known n more place (script.RepeatedAttempt m) (number, (attempt, now, there, inl has)) = (omega (arith, number), (attempt, now, there, inl has))
+before_silent known n more place (script.RepeatedAttempt m) (number, (attempt, now, there, inr (before, given))) =
+    (omega (arith, number), (attempt, now, there, ⊎_elim (λ other. cc) (λ later. inr (before, later)) (Gives-cons (Ok None) (take place more) attempt before given)))
+before_silent known n more place script.NoMemory h = h
+
+-- behind a line that gives a verdict
+before_entry : (known : VerdictMap) (n a : ℕ) (w : Verdict) (more : List Saying) (place : ℕ) (fault : ScriptError) → HasFaultAfter known n (Ok (Some (a, w)) ∷ more) (suc place) fault → HasFaultAfter (insert known a w) (n + 1) more place fault
+before_entry known n a w more place (script.BadLine m) h = (omega (arith, h.0), h.1)
+before_entry known n a w more place (script.UnknownInterface m) h = (omega (arith, h.0), h.1)
+before_entry known n a w more place (script.RepeatedAttempt m) (number, (attempt, now, there, inl has)) =
+    (omega (arith, number), (attempt, now, there, inl (⊎_elim (λ same. ap (contains_key (insert known a w)) same ∙ contains-here known a w) (λ apart. ap is_some (get-apart known a w attempt apart) ∙ has) (cases_eq attempt a))))
+before_entry known n a w more place (script.RepeatedAttempt m) (number, (attempt, now, there, inr (before, given))) =
+    (omega (arith, number), (attempt, now, there, ⊎_elim (λ same. inl (ap (λ (x : ℕ × Verdict). contains_key (insert known a w) x.0) (sym (same_entry (a, w) (attempt, before) same)) ∙ contains-here known a w)) (λ later. inr (before, later)) (Gives-cons (Ok (Some (a, w))) (take place more) attempt before given)))
+before_entry known n a w more place script.NoMemory h = h
+
+own_fault : (known : VerdictMap) (n : ℕ) (own : LineFault) (more : List Saying) (fault : ScriptError) → HasFaultAfter known n (Err own ∷ more) zero fault → at_line n own ≡ fault
+own_fault known n line.BadLine more (script.BadLine m) h = ap script.BadLine (omega (arith, h.0))
+own_fault known n line.UnknownInterface more (script.BadLine m) h = cc
+own_fault known n line.BadLine more (script.UnknownInterface m) h = cc
+own_fault known n line.UnknownInterface more (script.UnknownInterface m) h = ap script.UnknownInterface (omega (arith, h.0))
+own_fault known n own more (script.RepeatedAttempt m) (number, (attempt, now, there, had)) = cc
+own_fault known n own more script.NoMemory h = absurd h
+
+no_line : (known : VerdictMap) (n place : ℕ) (fault : ScriptError) → HasFaultAfter known n [] place fault → ⊥
+no_line known n place (script.BadLine m) h = cc
+no_line known n place (script.UnknownInterface m) h = cc
+no_line known n place (script.RepeatedAttempt m) (number, (attempt, now, there, had)) = cc
+no_line known n place script.NoMemory h = h
+
+no_silent : (known : VerdictMap) (n : ℕ) (more : List Saying) (fault : ScriptError) → HasFaultAfter known n (Ok None ∷ more) zero fault → ⊥
+no_silent known n more (script.BadLine m) h = cc
+no_silent known n more (script.UnknownInterface m) h = cc
+no_silent known n more (script.RepeatedAttempt m) (number, (attempt, now, there, had)) = cc
+no_silent known n more script.NoMemory h = h
+
+again : (known : VerdictMap) (n a : ℕ) (w : Verdict) (more : List Saying) (fault : ScriptError) → HasFaultAfter known n (Ok (Some (a, w)) ∷ more) zero fault → (contains_key known a ≡ true) × (script.RepeatedAttempt n ≡ fault)
+again known n a w more (script.BadLine m) h = cc
+again known n a w more (script.UnknownInterface m) h = cc
+again known n a w more (script.RepeatedAttempt m) (number, (attempt, now, there, inl has)) =
+    (ap (contains_key known) (same_place (a, w) (attempt, now) there) ∙ has, ap script.RepeatedAttempt (omega (arith, number)))
+again known n a w more (script.RepeatedAttempt m) (number, (attempt, now, there, inr (before, given))) = let none : ◌≡◌ {A = Option Saying} None (Some (Ok (Some (attempt, before)))) = given.1 in cc
+again known n a w more script.NoMemory h = absurd h
+
+-- what the first faulty line has is what is told
+pub fault_told : (known : VerdictMap) (n : ℕ) (lines : List Saying) (place : ℕ) (fault : ScriptError) → IsOk (spelled_after known n (take place lines)) → HasFaultAfter known n lines place fault → spelled_after known n lines ≡ Err fault
+fault_told known n [] place fault good has = absurd (no_line known n place fault has)
+fault_told known n (Err own ∷ more) zero fault good has = ap Err (own_fault known n own more fault has)
+fault_told known n (Err own ∷ more) (suc place) fault good has = absurd (false≢true good)
+fault_told known n (Ok None ∷ more) zero fault good has = absurd (no_silent known n more fault has)
+fault_told known n (Ok None ∷ more) (suc place) fault good has = fault_told known (n + 1) more place fault good (before_silent known n more place fault has)
+fault_told known n (Ok (Some (a, w)) ∷ more) zero fault good has =
+    let (there, same) = again known n a w more fault has in
+    ap (λ b. if b then Err (script.RepeatedAttempt n) else spelled_after (insert known a w) (n + 1) more) there ∙ ap Err same
+fault_told known n (Ok (Some (a, w)) ∷ more) (suc place) fault good has =
+    let (none, rest) = good_entry (contains_key known a) (spelled_after (insert known a w) (n + 1) (take place more)) good in
+    ap (λ b. if b then Err (script.RepeatedAttempt n) else spelled_after (insert known a w) (n + 1) more) none
+    ∙ fault_told (insert known a w) (n + 1) more place fault rest (before_entry known n a w more place fault has)
+  where
+    good_entry : (b : Bool) (r : Result VerdictMap ScriptError) → IsOk (if b then Err (script.RepeatedAttempt n) else r) → (b ≡ false) × IsOk r
+    good_entry true r h = absurd (false≢true h)
+    good_entry false r h = (refl, h)
+
+pub to_start : (lines : List Saying) (place : ℕ) (fault : ScriptError) → HasFault lines place fault → HasFaultAfter no_verdicts 1 lines place fault
+to_start lines place (script.BadLine m) h = (omega (arith, h.0), h.1)
+to_start lines place (script.UnknownInterface m) h = (omega (arith, h.0), h.1)
+to_start lines place (script.RepeatedAttempt m) (number, (attempt, now, before, there, given)) = (omega (arith, number), (attempt, now, there, inr (before, given)))
+to_start lines place script.NoMemory h = h

@@ -1,4 +1,4 @@
-use Rattle.std.specs.Prelude.{◌≡◌, ℕ, IsTrue, List, ◌∷◌, ◌++◌, is_some, codes}
+use Rattle.std.specs.Prelude.{◌≡◌, ℕ, false, IsTrue, List, ◌∷◌, ◌++◌, is_some, codes}
 use Rattle.std.specs.List.{list_all}
 use Rattle.std.specs.Str.Parse.{digits_value}
 use Rattle.can_frame.specs.Names.{names_in, is_name, place_of}
@@ -34,3 +34,7 @@ SpellsVerdict names text (Local set kind) = (list : List ℕ) × (text ≡ codes
 -- how a line gives an attempt its verdict: 1 to 8 decimal digits, a space, and the verdict
 abbrev pub SpellsEntry : List (List ℕ) → List ℕ → ℕ → Verdict → Type 0
 SpellsEntry names text attempt verdict = (digits : List ℕ) × (rest : List ℕ) × (text ≡ digits ++ 32 ∷ rest) × IsTrue (is_number digits) × (attempt ≡ digits_value 10 digits) × SpellsVerdict names rest verdict
+
+-- a line that is a number and a local fault for well-formed names, of which the bus lacks some
+abbrev pub LacksInterface : List (List ℕ) → List ℕ → Type 0
+LacksInterface names text = (digits : List ℕ) × (kind : LocalKind) × (list : List ℕ) × (text ≡ digits ++ 32 ∷ (codes "local " ++ (kind_word kind ++ 32 ∷ list))) × IsTrue (is_number digits) × IsTrue (list_all is_name (names_in list)) × (list_all (λ piece. is_some (place_of names piece)) (names_in list) ≡ false)

@@ -2,11 +2,8 @@ use Rattle.std.specs.Prelude.{◌≡◌, ℕ, ◌==◌, unwrap_or, if◌then◌e
 use Rattle.std.specs.Ordering.{nat_cmp}
 use Rattle.std.specs.FinMap.{FinMap, get, empty, code}
 use Rattle.std.specs.Coded.{Coded, code_by, coded×, coded_ℕ}
-use Rattle.can_frame.specs.Sets.{no_ifaces}
 use Rattle.can_frame.specs.declared.ifaces.IfaceSet.{IfaceSet}
-use Rattle.can_fault.specs.declared.verdicts.GlobalKind.{GlobalKind}
 use Rattle.can_fault.specs.declared.verdicts.GlobalKind.TheVariants as global
-use Rattle.can_fault.specs.declared.verdicts.LocalKind.{LocalKind}
 use Rattle.can_fault.specs.declared.verdicts.LocalKind.TheVariants as local
 use Rattle.can_fault.specs.declared.verdicts.Verdict.{Verdict}
 use Rattle.can_fault.specs.declared.verdicts.Verdict.TheVariants.{Good, Global, Local, LastBit}
@@ -25,9 +22,10 @@ no_verdicts = empty
 abbrev pub verdict_in : VerdictMap → ℕ → Verdict
 verdict_in verdicts attempt = unwrap_or (get verdicts attempt) Good
 
--- How the logic stores a map of verdicts: each verdict as the number of its kind and its set. No
--- clause reads these words.
+-- How the logic stores a map of verdicts, so that a model may have one as its value. No clause reads
+-- these words.
 
+-- the number of a kind of verdict
 abbrev pub kind_number : Verdict → ℕ
 kind_number Good = 0
 kind_number (Global global.Bit) = 1
@@ -37,10 +35,12 @@ kind_number (Local set local.Crc) = 4
 kind_number (Local set local.Form) = 5
 kind_number LastBit = 6
 
+-- the set that a verdict names, as a number
 abbrev pub set_in : Verdict → ℕ
 set_in (Local set kind) = set.0
 set_in _ = 0
 
+-- the verdict of a kind's number and a set
 abbrev pub verdict_from : ℕ × ℕ → Verdict
 verdict_from p =
     let set : IfaceSet = record { 0 = p.1 } in
@@ -55,6 +55,7 @@ verdict_back (Local set local.Crc) = refl
 verdict_back (Local set local.Form) = refl
 verdict_back LastBit = refl
 
+-- verdicts and their maps, as the logic stores them
 abbrev pub verdict_code : Coded Verdict
 verdict_code = code_by (ℕ × ℕ) (coded× coded_ℕ coded_ℕ) (λ v. (kind_number v, set_in v)) verdict_from verdict_back
 

@@ -3,6 +3,10 @@ use can_frame::{IfaceSet, Names};
 use std::fmt::Write;
 use std::test::Fail;
 
+fn asked<F: FaultSource>(source: &mut F, attempt: u64) -> Verdict {
+    source.verdict(attempt)
+}
+
 #[test]
 fn a_script_gives_the_verdicts_of_its_lines(rt: HostRuntime) -> Result<(), Fail> {
     let names = Names::read(rt.alloc(), "can0,can1")?;
@@ -33,8 +37,8 @@ fn the_empty_text_and_the_perfect_source_are_good_everywhere(rt: HostRuntime) ->
     let names = Names::read(rt.alloc(), "can0")?;
     let mut script = Script::read(rt.alloc(), "", &names)?;
     for attempt in [0, 1, u64::MAX] {
-        assert_eq!(rt; script.verdict(attempt), Verdict::Good, "at {attempt}");
-        assert_eq!(rt; Perfect.verdict(attempt), Verdict::Good, "at {attempt}");
+        assert_eq!(rt; asked(&mut script, attempt), Verdict::Good, "at {attempt}");
+        assert_eq!(rt; asked(&mut Perfect, attempt), Verdict::Good, "at {attempt}");
     }
     Ok(())
 }

@@ -1,11 +1,11 @@
-use Rattle.std.proofs.Common.{◌≡◌, ◌<◌, ◌≤◌, ◌^◌, ℕ, ◌&&◌, Bool, true, List, [], ◌∷◌, length, Option, Some, None, Result, Ok, sym, ap, ◌∙◌, refl, arith, rules, tests, if◌then◌else◌}
+use Rattle.std.proofs.Common.{◌≡◌, ◌<◌, ◌≤◌, ◌^◌, ℕ, ◌&&◌, true, List, [], ◌∷◌, length, Some, None, Result, Ok, sym, ap, ◌∙◌, refl, arith, rules, tests, if◌then◌else◌}
 use Rattle.std.specs.Char.{is_ascii_digit}
 use Rattle.std.specs.List.{list_all}
 use Rattle.std.specs.Str.{all_ascii_digits}
 use Rattle.std.specs.Str.Parse.{digits_value, ParsesUnsigned}
 use Rattle.std.specs.Result.{result_ok}
 use Rattle.std.proofs.lemmas.Str.Parse.{IsNumeralModel, numerals_by_value, tells_all_ascii_digits, digits_value_short, parse_gives}
-use Rattle.can_fault.specs.Scripts.{is_number, number_spelling}
+use Rattle.can_fault.specs.Scripts.{is_number}
 use Rattle.can_fault.proofs.script_lines.read_number.Goals as goal
 
 own : IsNumeralModel (λ ds. all_ascii_digits ds ≡ true) (digits_value 10)

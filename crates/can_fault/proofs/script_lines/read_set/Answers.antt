@@ -1,12 +1,10 @@
-use Rattle.std.proofs.Common.{◌≡◌, ◌<◌, ◌+◌, ℕ, true, List, length, drop, get_or, Some, None, Ok, Err, sym, ap, ◌∙◌, lit<, arith, if◌then◌else◌}
+use Rattle.std.proofs.Common.{◌≡◌, ◌+◌, ℕ, true, length, drop, Err, sym, ap, ◌∙◌, lit<, arith}
 use Rattle.std.specs.List.{list_all}
 use Rattle.std.specs.Option.{option_map_or}
 use Rattle.std.proofs.lemmas.List.{length_push, at_drop_all}
 use Rattle.std.proofs.lemmas.Iterator.Consumers.{YieldsList-turn, YieldsList-end}
 use Rattle.std.proofs.lemmas.Iterator.Splits.{YieldsList-from_str_split}
-use Rattle.can_frame.specs.Names.{names_in, is_name, place_of}
-use Rattle.can_frame.specs.Sets.{no_ifaces}
-use Rattle.can_fault.specs.Scripts.{set_spelling}
+use Rattle.can_frame.specs.Names.{names_in, is_name}
 use Rattle.can_fault.specs.declared.script_lines.LineFault.TheVariants.{UnknownInterface}
 use Rattle.can_fault.proofs.NamedSets.{added, added-turn, with_iface, set_spelling-added}
 use Rattle.can_fault.proofs.script_lines.read_set.Goals as goal

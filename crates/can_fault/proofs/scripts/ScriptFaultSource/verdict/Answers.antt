@@ -1,6 +1,4 @@
-use Rattle.std.proofs.Common.{◌≡◌, sym, ap, ◌∙◌, unwrap_or}
-use Rattle.std.specs.Ordering.{nat_cmp}
-use Rattle.std.specs.BTreeMap as tree
+use Rattle.std.proofs.Common.{sym, ap, ◌∙◌, unwrap_or}
 use Rattle.std.specs.FinMap.{get}
 use Rattle.can_fault.specs.declared.verdicts.Verdict.TheVariants.{Good}
 use Rattle.can_fault.proofs.VerdictMaps.{get-from_tree}
