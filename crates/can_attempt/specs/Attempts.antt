@@ -86,6 +86,11 @@ class_when destroyed acknowledged last_bit = if destroyed then class.Destroyed e
 abbrev pub class_of : Transmission → Class
 class_of t = class_when (is_destroyed t) (is_acknowledged t) (is_last_bit t.verdict)
 
+-- the frame went over the bus whole
+abbrev pub is_done : Class → Bool
+is_done class.Done = true
+is_done _ = false
+
 -- who accepts the frame in an attempt of this class
 abbrev pub accepted_in : Class → Transmission → List ℕ
 accepted_in class.Done t = unhurt t

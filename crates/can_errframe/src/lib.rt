@@ -7,6 +7,7 @@
 
 pub mod codes;
 pub mod fault_frames;
+pub mod laws;
 pub mod roles;
 mod sides;
 pub mod state_frames;
