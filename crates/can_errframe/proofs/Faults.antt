@@ -3,8 +3,7 @@ use Rattle.std.specs.List.{list_any}
 use Rattle.std.proofs.lemmas.Bool.{true≢false}
 use Rattle.can_fault.specs.declared.verdicts.Verdict.{Verdict}
 use Rattle.can_fault.specs.declared.verdicts.Verdict.TheVariants as verdict
-use Rattle.can_attempt.specs.Attempts.{Transmission, is_global, is_named, is_destroyed, receivers, state_at}
-use Rattle.can_confine.specs.Confinement.{is_passive}
+use Rattle.can_attempt.specs.Attempts.{Transmission, is_global, is_named, is_destroyed, receivers}
 
 -- Which faults destroy a frame.
 
