@@ -1,4 +1,4 @@
-use Rattle.std.specs.Prelude.{◌≡◌, ℕ, ◌==◌, Bool, true, false, not, ◌&&◌, ◌||◌, List, [], ◌∷◌, length, filter, map, slice_index_or, if◌then◌else◌}
+use Rattle.std.specs.Prelude.{◌≡◌, ◌<◌, ◌≤◌, ℕ, ◌==◌, Bool, true, false, not, ◌&&◌, ◌||◌, List, [], ◌∷◌, length, filter, map, slice_index_or, if◌then◌else◌}
 use Rattle.std.specs.List.{list_any, range_with_len}
 use Rattle.can_frame.specs.Sets.{is_in, set_where}
 use Rattle.can_frame.specs.declared.ifaces.IfaceSet.{IfaceSet}
@@ -132,14 +132,24 @@ counts_after t i = all_stepped (t.counts i) (steps_at i t)
 abbrev pub off_after : Transmission → List ℕ
 off_after t = if is_off (state_of (counts_after t t.winner)) then t.winner ∷ [] else []
 
--- two attempts that differ at most in the counts of interfaces that are bus off in both
+-- two attempts on one bus that differ at most in the counts of interfaces that are bus off in both
 pub record SameToTheLive (t u : Transmission) : Type 0 where
   pub count : t.count ≡ u.count
   pub winner : t.winner ≡ u.winner
   pub verdict : t.verdict ≡ u.verdict
   pub ack : t.ack ≡ u.ack
-  pub off : (i : ℕ) → is_off (state_at t i) ≡ is_off (state_at u i)
-  pub live : (i : ℕ) → is_off (state_at t i) ≡ false → t.counts i ≡ u.counts i
+  pub off : (i : ℕ) → i < t.count → is_off (state_at t i) ≡ is_off (state_at u i)
+  pub live : (i : ℕ) → i < t.count → is_off (state_at t i) ≡ false → t.counts i ≡ u.counts i
+
+-- two attempts that differ at most in counts from place 16 on, where no interface is
+pub record SameToSixteen (t u : Transmission) : Type 0 where
+  pub within : t.count ≤ 16
+  pub count : t.count ≡ u.count
+  pub winner : t.winner ≡ u.winner
+  pub winner_there : t.winner < t.count
+  pub verdict : t.verdict ≡ u.verdict
+  pub ack : t.ack ≡ u.ack
+  pub counts : (i : ℕ) → i < 16 → t.counts i ≡ u.counts i
 
 -- the error counts of interface i of these nodes
 abbrev pub counts_at : Nodes → ℕ → ErrorCounts
