@@ -34,6 +34,7 @@ pub record Transmission : Type 0 where
   pub verdict : Verdict
   pub ack : AckMode
 
+-- the fault confinement state of interface i
 abbrev pub state_at : Transmission → ℕ → State
 state_at t i = state_of (t.counts i)
 
@@ -45,10 +46,12 @@ can_hear t i = not (i == t.winner) && not (is_off (state_at t i))
 abbrev pub receivers : Transmission → List ℕ
 receivers t = filter (can_hear t) (range_with_len 0 t.count)
 
+-- a fault for the whole bus
 abbrev pub is_global : Verdict → Bool
 is_global (verdict.Global kind) = true
 is_global _ = false
 
+-- a fault that the transmitter alone sees, in the last bit of end of frame
 abbrev pub is_last_bit : Verdict → Bool
 is_last_bit verdict.LastBit = true
 is_last_bit _ = false
@@ -70,6 +73,7 @@ unhurt t = filter (λ i. not (is_named t.verdict i)) (receivers t)
 abbrev pub is_destroyed : Transmission → Bool
 is_destroyed t = is_global t.verdict || list_any (λ i. not (is_passive (state_at t i))) (hit t)
 
+-- frames are acknowledged whoever is there
 abbrev pub is_always : AckMode → Bool
 is_always Always = true
 is_always Peers = false

@@ -56,6 +56,7 @@ controller_code tx rx = bit_or (if nat_le (level rx) (level tx) then tx_code tx 
 abbrev pub controller_message : ErrorCounts → ErrorMessage
 controller_message c = record { class = err_crtl + err_cnt; bytes = 0 ∷ controller_code (side_of c.tec) (side_of c.rec) ∷ 0 ∷ 0 ∷ 0 ∷ 0 ∷ c.tec ∷ c.rec ∷ [] }
 
+-- bus off
 abbrev pub bus_off_message : ErrorMessage
 bus_off_message = record { class = err_busoff; bytes = no_bytes }
 
@@ -65,6 +66,7 @@ state_message old new = if severity (state_of old) == severity (state_of new) th
 
 -- Restarts.
 
+-- a restarted interface
 abbrev pub restart_message : ErrorMessage
 restart_message = record { class = err_restarted; bytes = no_bytes }
 
