@@ -1,3 +1,4 @@
 pub mod Places
 pub mod Seeing
+pub mod Same
 pub mod Judged

@@ -1,4 +1,4 @@
-use Rattle.std.proofs.Common.{◌≡◌, ℕ, zero, suc, ◌+◌, ◌<◌, ◌≤◌, ◌==◌, nat_le, nat_lt, Bool, true, false, not, ◌&&◌, List, [], ◌∷◌, ◌++◌, filter, refl, ap, ◌∙◌, arith, inl, inr}
+use Rattle.std.proofs.Common.{◌≡◌, ℕ, zero, suc, ◌+◌, ◌<◌, ◌≤◌, ◌==◌, nat_le, nat_lt, Bool, true, false, not, ◌&&◌, List, [], ◌∷◌, ◌++◌, filter, refl, ap, sym, ◌∙◌, arith, inl, inr}
 use Rattle.std.proofs.lemmas.Bool.{cases_lt, cases_eq, false≢true}
 use Rattle.std.specs.List.{list_any, range_with_len}
 use Rattle.std.proofs.lemmas.Map.Views.{any-filter_same}
@@ -91,3 +91,15 @@ any_same p q (k ∷ ks) same =
 pub any_none : (xs : List ℕ) → list_any (λ i. false) xs ≡ false
 any_none [] = refl
 any_none (k ∷ ks) = any_none ks
+
+-- tests that agree on them keep the same
+pub filter_same : (p q : ℕ → Bool) (xs : List ℕ) → ((i : ℕ) → is_among i xs ≡ true → p i ≡ q i) → filter p xs ≡ filter q xs
+filter_same p q [] same = refl
+filter_same p q (k ∷ ks) same =
+    let here : p k ≡ q k = same k (grind arith) in
+    let rest : filter p ks ≡ filter q ks = filter_same p q ks (λ i among. same i (rw among (grind arith))) in
+    rw (here, rest) refl
+
+-- the interfaces of a bus of n
+pub below_among : (i n : ℕ) → is_among i (range_with_len 0 n) ≡ true → i < n
+below_among i n among = let e : (nat_le 0 i && nat_lt i (0 + n)) ≡ true = sym (is_among-range i 0 n) ∙ among in grind (arith, e)

@@ -1,4 +1,4 @@
-use Rattle.std.specs.Prelude.{◌≡◌, ℕ, ◌==◌, Bool, true, false, not, ◌&&◌, ◌||◌, List, [], ◌∷◌, length, filter, map, slice_index_or, if◌then◌else◌}
+use Rattle.std.specs.Prelude.{◌≡◌, ◌<◌, ◌≤◌, ℕ, ◌==◌, Bool, true, false, not, ◌&&◌, ◌||◌, List, [], ◌∷◌, length, filter, map, slice_index_or, if◌then◌else◌}
 use Rattle.std.specs.List.{list_any, range_with_len}
 use Rattle.can_frame.specs.Sets.{is_in, set_where}
 use Rattle.can_frame.specs.declared.ifaces.IfaceSet.{IfaceSet}
@@ -34,6 +34,7 @@ pub record Transmission : Type 0 where
   pub verdict : Verdict
   pub ack : AckMode
 
+-- the fault confinement state of interface i
 abbrev pub state_at : Transmission → ℕ → State
 state_at t i = state_of (t.counts i)
 
@@ -45,10 +46,12 @@ can_hear t i = not (i == t.winner) && not (is_off (state_at t i))
 abbrev pub receivers : Transmission → List ℕ
 receivers t = filter (can_hear t) (range_with_len 0 t.count)
 
+-- a fault for the whole bus
 abbrev pub is_global : Verdict → Bool
 is_global (verdict.Global kind) = true
 is_global _ = false
 
+-- a fault that the transmitter alone sees, in the last bit of end of frame
 abbrev pub is_last_bit : Verdict → Bool
 is_last_bit verdict.LastBit = true
 is_last_bit _ = false
@@ -70,6 +73,7 @@ unhurt t = filter (λ i. not (is_named t.verdict i)) (receivers t)
 abbrev pub is_destroyed : Transmission → Bool
 is_destroyed t = is_global t.verdict || list_any (λ i. not (is_passive (state_at t i))) (hit t)
 
+-- frames are acknowledged whoever is there
 abbrev pub is_always : AckMode → Bool
 is_always Always = true
 is_always Peers = false
@@ -85,6 +89,11 @@ class_when destroyed acknowledged last_bit = if destroyed then class.Destroyed e
 -- what becomes of the frame
 abbrev pub class_of : Transmission → Class
 class_of t = class_when (is_destroyed t) (is_acknowledged t) (is_last_bit t.verdict)
+
+-- the frame went over the bus whole
+abbrev pub is_done : Class → Bool
+is_done class.Done = true
+is_done _ = false
 
 -- who accepts the frame in an attempt of this class
 abbrev pub accepted_in : Class → Transmission → List ℕ
@@ -127,14 +136,24 @@ counts_after t i = all_stepped (t.counts i) (steps_at i t)
 abbrev pub off_after : Transmission → List ℕ
 off_after t = if is_off (state_of (counts_after t t.winner)) then t.winner ∷ [] else []
 
--- two attempts that differ at most in the counts of interfaces that are bus off in both
+-- two attempts on one bus that differ at most in the counts of interfaces that are bus off in both
 pub record SameToTheLive (t u : Transmission) : Type 0 where
   pub count : t.count ≡ u.count
   pub winner : t.winner ≡ u.winner
   pub verdict : t.verdict ≡ u.verdict
   pub ack : t.ack ≡ u.ack
-  pub off : (i : ℕ) → is_off (state_at t i) ≡ is_off (state_at u i)
-  pub live : (i : ℕ) → is_off (state_at t i) ≡ false → t.counts i ≡ u.counts i
+  pub off : (i : ℕ) → i < t.count → is_off (state_at t i) ≡ is_off (state_at u i)
+  pub live : (i : ℕ) → i < t.count → is_off (state_at t i) ≡ false → t.counts i ≡ u.counts i
+
+-- two attempts that differ at most in counts from place 16 on, where no interface is
+pub record SameToSixteen (t u : Transmission) : Type 0 where
+  pub within : t.count ≤ 16
+  pub count : t.count ≡ u.count
+  pub winner : t.winner ≡ u.winner
+  pub winner_there : t.winner < t.count
+  pub verdict : t.verdict ≡ u.verdict
+  pub ack : t.ack ≡ u.ack
+  pub counts : (i : ℕ) → i < 16 → t.counts i ≡ u.counts i
 
 -- the error counts of interface i of these nodes
 abbrev pub counts_at : Nodes → ℕ → ErrorCounts

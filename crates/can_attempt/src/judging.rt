@@ -1,7 +1,6 @@
-ghost use Rattle.std.specs.Prelude.{◌≡◌, ◌<◌, ◌≤◌, ◌^◌, ◌||◌, ◌==◌, [], ◌∷◌, length, not, map, false, Bool, if◌then◌else◌, slice_index_or};
-ghost use Rattle.std.specs.List.{list_any, range_with_len};
-ghost use Rattle.can_frame.specs.Sets.{no_ifaces};
-ghost use Rattle.can_confine.specs.Confinement.{ErrorCounts, all_stepped, is_off, is_passive, state_of, at_start};
+ghost use Rattle.std.specs.Prelude.{◌≡◌, ◌<◌, ◌≤◌, ◌||◌, [], ◌∷◌, map, false, if◌then◌else◌};
+ghost use Rattle.std.specs.List.{range_with_len};
+ghost use Rattle.can_confine.specs.Confinement.{all_stepped, is_off, state_of};
 ghost use Rattle.can_attempt.specs.Attempts.{Transmission, accepted_in, attempt_between, class_when, counts_in, counts_at, is_always, is_global, is_last_bit, judged, set_of, unhurt, winner_step, receiver_step};
 ghost use Rattle.can_attempt.specs.declared.acks.AckMode.{AckMode};
 
@@ -120,7 +119,7 @@ fn off_of(winner: Iface, counters: Counters) -> IfaceSet
 
 /// Judges an attempt of the winner to send a frame: what becomes of it, who accepts it and who was hit, the
 /// error counters after it, and whether the winner went off the bus. The winner is below `count`, which is
-/// 1 to 16, and is not bus off.
+/// 1 to 16, and is not bus off. It looks at 16 places at most and takes no memory.
 pub fn judge(nodes: &Nodes, winner: Iface, verdict: Verdict, ack: AckMode) -> Judgement
     requires count { nodes.now.count ≤ 16 }
     requires there { winner < nodes.now.count }

@@ -1,7 +1,7 @@
 ghost use Rattle.std.specs.Prelude.{◌≡◌, ◌≢◌, ◌<◌, ℕ, List, length, true, false};
 ghost use Rattle.can_frame.specs.Sets.{is_in};
 ghost use Rattle.can_confine.specs.Confinement.{is_off, is_passive, state_of};
-ghost use Rattle.can_attempt.specs.Attempts.{Transmission, SameToTheLive, is_among, set_of, state_at, receivers, hit, unhurt, is_global, class_of, accepted_in, counts_after};
+ghost use Rattle.can_attempt.specs.Attempts.{Transmission, SameToSixteen, SameToTheLive, is_among, set_of, state_at, receivers, hit, unhurt, is_global, class_of, accepted_in, counts_after, judged};
 ghost use Rattle.can_attempt.specs.declared.acks.AckMode.TheVariants.{Peers};
 ghost use Rattle.can_attempt.specs.declared.classes.Class.TheVariants.{Done, LastBit, Destroyed, NoAck};
 
@@ -29,7 +29,7 @@ pub fn passive_transmitter_waits()
 pub fn off_interfaces_have_no_say()
     ensures class { (t u : Transmission) → SameToTheLive t u → class_of t ≡ class_of u }
     ensures receivers { (t u : Transmission) → SameToTheLive t u → receivers t ≡ receivers u }
-    ensures counts { (t u : Transmission) → SameToTheLive t u → (i : ℕ) → is_off (state_at t i) ≡ false → counts_after t i ≡ counts_after u i }
+    ensures counts { (t u : Transmission) → SameToTheLive t u → (i : ℕ) → i < t.count → is_off (state_at t i) ≡ false → counts_after t i ≡ counts_after u i }
 {}
 
 /// Who accepts the frame was not hit, and the winner is neither.
@@ -48,4 +48,9 @@ pub fn acknowledged_frames_are_accepted()
 /// No attempt takes anybody but its winner off the bus.
 pub fn winner_alone_goes_off()
     ensures { (t : Transmission) (i : ℕ) → i ≢ t.winner → is_off (state_of (counts_after t i)) ≡ is_off (state_at t i) }
+{}
+
+/// What follows from an attempt hangs on the counts of sixteen places alone.
+pub fn sixteen_places_decide()
+    ensures { (t u : Transmission) → SameToSixteen t u → judged t ≡ judged u }
 {}

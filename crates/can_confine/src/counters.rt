@@ -1,5 +1,5 @@
 ghost use Rattle.std.specs.Prelude.{◌≡◌, ◌<◌, ◌≤◌, SomeIff, if◌then◌else◌};
-ghost use Rattle.can_confine.specs.Confinement.{ErrorCounts, stepped, at_start, state_of, is_passive};
+ghost use Rattle.can_confine.specs.Confinement.{stepped, at_start, state_of, is_passive};
 ghost use Rattle.can_confine.specs.Confinement.Step.{TransmitError, ReceiveError, GoodTransmission, GoodReception};
 
 use crate::states::State;

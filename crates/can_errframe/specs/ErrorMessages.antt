@@ -1,6 +1,7 @@
-use Rattle.std.specs.Prelude.{ℕ, ◌+◌, ◌==◌, nat_le, Bool, Option, Some, None, option_map, List, [], ◌∷◌, replicate, bit_or, if◌then◌else◌}
+use Rattle.std.specs.Prelude.{ℕ, ◌+◌, ◌==◌, nat_le, Bool, true, false, Option, Some, None, option_map, List, [], ◌∷◌, replicate, bit_or, if◌then◌else◌}
 use Rattle.can_frame.specs.Frames.{ErrorMessage}
-use Rattle.can_confine.specs.Confinement.{ErrorCounts, state_of, is_off, severity}
+use Rattle.can_confine.specs.Confinement.{ErrorCounts, Step, state_of, is_off, severity}
+use Rattle.can_confine.specs.Confinement.Step.{ReceiveError}
 use Rattle.can_fault.specs.declared.verdicts.Verdict.{Verdict}
 use Rattle.can_fault.specs.declared.verdicts.Verdict.TheVariants as verdict
 use Rattle.can_fault.specs.declared.verdicts.GlobalKind.{GlobalKind}
@@ -9,6 +10,7 @@ use Rattle.can_fault.specs.declared.verdicts.LocalKind.{LocalKind}
 use Rattle.can_fault.specs.declared.verdicts.LocalKind.TheVariants as local
 use Rattle.can_attempt.specs.declared.classes.Class.{Class}
 use Rattle.can_attempt.specs.declared.classes.Class.TheVariants as class
+use Rattle.can_attempt.specs.Attempts.{Transmission, is_named}
 use Rattle.can_errframe.specs.declared.sides.Side.{Side}
 use Rattle.can_errframe.specs.declared.sides.Side.TheVariants as side
 use Rattle.can_errframe.specs.declared.roles.Role.{Role}
@@ -54,6 +56,7 @@ controller_code tx rx = bit_or (if nat_le (level rx) (level tx) then tx_code tx 
 abbrev pub controller_message : ErrorCounts → ErrorMessage
 controller_message c = record { class = err_crtl + err_cnt; bytes = 0 ∷ controller_code (side_of c.tec) (side_of c.rec) ∷ 0 ∷ 0 ∷ 0 ∷ 0 ∷ c.tec ∷ c.rec ∷ [] }
 
+-- bus off
 abbrev pub bus_off_message : ErrorMessage
 bus_off_message = record { class = err_busoff; bytes = no_bytes }
 
@@ -63,6 +66,7 @@ state_message old new = if severity (state_of old) == severity (state_of new) th
 
 -- Restarts.
 
+-- a restarted interface
 abbrev pub restart_message : ErrorMessage
 restart_message = record { class = err_restarted; bytes = no_bytes }
 
@@ -103,3 +107,12 @@ fault_class _ _ = err_buserror + err_prot
 -- what tells an interface of the fault that it saw
 abbrev pub fault_message : Class → Verdict → Role → Option ErrorMessage
 fault_message c v r = option_map (λ codes. record { class = fault_class c r; bytes = 0 ∷ 0 ∷ codes.0 ∷ codes.1 ∷ 0 ∷ 0 ∷ 0 ∷ 0 ∷ [] }) (fault_codes c v r)
+
+-- the part of receiver i
+abbrev pub receiver_role : Transmission → ℕ → Role
+receiver_role t i = if is_named t.verdict i then Named else Other
+
+-- these steps are a receive error
+abbrev pub is_receive_error : List Step → Bool
+is_receive_error (ReceiveError ∷ []) = true
+is_receive_error _ = false

@@ -7,6 +7,7 @@
 
 pub mod codes;
 pub mod fault_frames;
+pub mod laws;
 pub mod roles;
 mod sides;
 pub mod state_frames;
@@ -14,3 +15,6 @@ pub mod state_frames;
 pub use fault_frames::fault_frame;
 pub use roles::Role;
 pub use state_frames::{restart_frame, state_frame};
+
+#[cfg(test)]
+mod tests;

@@ -1,4 +1,4 @@
-ghost use Rattle.std.specs.Prelude.{◌≡◌, ◌<◌};
+ghost use Rattle.std.specs.Prelude.{◌≡◌};
 ghost use Rattle.can_errframe.specs.ErrorMessages.{side_of, level, tx_code, rx_code, controller_code};
 
 use crate::codes::*;

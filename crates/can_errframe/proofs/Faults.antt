@@ -1,0 +1,25 @@
+use Rattle.std.proofs.Common.{◌≡◌, ℕ, Bool, true, false, ◌||◌, List, [], ◌∷◌, filter, refl}
+use Rattle.std.specs.List.{list_any}
+use Rattle.std.proofs.lemmas.Bool.{true≢false}
+use Rattle.can_fault.specs.declared.verdicts.Verdict.{Verdict}
+use Rattle.can_fault.specs.declared.verdicts.Verdict.TheVariants as verdict
+use Rattle.can_attempt.specs.Attempts.{Transmission, is_global, is_named, is_destroyed, receivers}
+
+-- Which faults destroy a frame.
+
+-- a fault at receivers alone
+abbrev pub is_local : Verdict → Bool
+is_local (verdict.Local set kind) = true
+is_local _ = false
+
+destroyed_by : (v : Verdict) (p : ℕ → Bool) (xs : List ℕ) → is_global v ≡ false → is_local v ≡ false → (is_global v || list_any p (filter (is_named v) xs)) ≡ false
+destroyed_by verdict.Good p [] global local = refl
+destroyed_by verdict.Good p (k ∷ ks) global local = destroyed_by verdict.Good p ks global local
+destroyed_by verdict.LastBit p [] global local = refl
+destroyed_by verdict.LastBit p (k ∷ ks) global local = destroyed_by verdict.LastBit p ks global local
+destroyed_by (verdict.Global kind) p xs global local = global
+destroyed_by (verdict.Local set kind) p xs global local = absurd (true≢false local)
+
+-- without a fault for the whole bus or at receivers nothing is destroyed
+pub not_destroyed : (t : Transmission) → is_global t.verdict ≡ false → is_local t.verdict ≡ false → is_destroyed t ≡ false
+not_destroyed t = destroyed_by t.verdict _ (receivers t)

@@ -1,0 +1,46 @@
+ghost use Rattle.std.specs.Prelude.{◌≡◌, ◌↔◌, ℕ, true, false, IsNone, IfSome, None, is_some, slice_index, not};
+ghost use Rattle.can_frame.specs.declared.ifaces.IfaceSet.{IfaceSet};
+ghost use Rattle.can_confine.specs.Confinement.{ErrorCounts, state_of, is_off};
+ghost use Rattle.can_fault.specs.declared.verdicts.LocalKind.{LocalKind};
+ghost use Rattle.can_fault.specs.declared.verdicts.Verdict.TheVariants.{Good, Local};
+ghost use Rattle.can_attempt.specs.declared.classes.Class.{Class};
+ghost use Rattle.can_attempt.specs.declared.classes.Class.TheVariants.{Done};
+ghost use Rattle.can_attempt.specs.Attempts.{Transmission, class_of, is_done, is_among, receivers, steps_at};
+ghost use Rattle.can_errframe.specs.ErrorMessages.{state_message, fault_message, is_receive_error, receiver_role};
+ghost use Rattle.can_errframe.specs.declared.roles.Role.{Role};
+ghost use Rattle.can_errframe.specs.declared.roles.Role.TheVariants.{Winner};
+
+/// There is no state frame exactly where the state stays.
+pub fn state_frames_tell_changes()
+    ensures { (old new : ErrorCounts) → IsNone (state_message old new) ↔ (state_of old ≡ state_of new) }
+{}
+
+/// A state frame is a bus off frame, class 0x040, exactly where the new state is bus off.
+pub fn bus_off_has_its_own_class()
+    ensures { (old new : ErrorCounts) → IfSome (state_message old new) (λ e. (e.class ≡ 0x040) ↔ (is_off (state_of new) ≡ true)) }
+{}
+
+/// Any other state frame has the transmit count in byte 6 and the receive count in byte 7.
+pub fn counts_stand_in_their_bytes()
+    ensures { (old new : ErrorCounts) → is_off (state_of new) ≡ false → IfSome (state_message old new) (λ e. (slice_index e.bytes 6 ≡ new.tec) × (slice_index e.bytes 7 ≡ new.rec)) }
+{}
+
+/// An attempt without a fault tells nobody of one.
+pub fn good_attempts_tell_nothing()
+    ensures { (role : Role) → fault_message Done Good role ≡ None }
+{}
+
+/// Which interfaces a local fault names has no say in its frames.
+pub fn named_set_has_no_say()
+    ensures { (class : Class) (s z : IfaceSet) (kind : LocalKind) (role : Role) → fault_message class (Local s kind) role ≡ fault_message class (Local z kind) role }
+{}
+
+/// The winner of an attempt is told of a fault exactly where its frame did not go over the bus whole.
+pub fn winner_is_told_of_each_failure()
+    ensures { (t : Transmission) → is_some (fault_message (class_of t) t.verdict Winner) ≡ not (is_done (class_of t)) }
+{}
+
+/// A receiver is told of a fault exactly where the attempt gives it a receive error.
+pub fn receivers_are_told_of_each_error()
+    ensures { (t : Transmission) (i : ℕ) → is_among i (receivers t) ≡ true → is_some (fault_message (class_of t) t.verdict (receiver_role t i)) ≡ is_receive_error (steps_at i t) }
+{}
