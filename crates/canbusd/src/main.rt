@@ -1,4 +1,48 @@
 //! canbusd: simulated CAN buses in user space.
+//!
+//! `canbusd bench BUS` reads lines that open sessions, feed them commands and put frames on one bus, and
+//! writes what the sessions are told. The modules stand in this order: `program` carries out a command
+//! line, whose words `options` reads; `bench` carries out the `lines` of the input, each an order of
+//! `orders`; a `session` takes the `commands` in the `messages` that it is fed and calls the bus through
+//! its `port`; `texts` are what it writes, and `words` and `numbers` what all of these read.
+//!
+//! What is proved: no input makes a function fail or run on for ever, and numbers, identifiers, moments
+//! and bytes are read exactly as the definitions in `specs/` say.
 #![tactic(auto)]
 
-fn main() {}
+mod bench;
+mod commands;
+mod faults;
+mod lines;
+mod messages;
+mod numbers;
+mod options;
+mod orders;
+mod port;
+mod program;
+mod session;
+mod texts;
+mod voice;
+mod words;
+
+use program::run_words;
+use std::process::ExitCode;
+use std::rt::Env;
+use std::{env, io};
+
+fn main(rt: HostRuntime) -> ExitCode {
+    let alloc = rt.alloc();
+    let Ok(words) = read_words(&rt) else {
+        let _ = eprintln!(rt; "error: the command line cannot be read as UTF-8 text");
+        return ExitCode::from(2);
+    };
+    let status = run_words(alloc, &words, rt.stdin(), rt.stdout(), &mut rt.stderr());
+    ExitCode::from(status)
+}
+
+fn read_words(rt: &(impl Env + AllocGlobal)) -> io::Result<Vec<String>> {
+    Ok(env::args(rt)?.collect(rt.alloc())?)
+}
+
+#[cfg(test)]
+mod tests;
