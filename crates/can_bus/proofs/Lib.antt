@@ -24,3 +24,5 @@ pub mod Sending
 pub mod OffFacts
 pub mod CopyFacts
 pub mod TurnFacts
+pub mod Winning
+pub mod Attempting

@@ -1,0 +1,6 @@
+use Rattle.can_bus.proofs.Winning.{winner-is, idle-is}
+use Rattle.can_bus.proofs.Attempting.{entry}
+use Rattle.can_bus.proofs.laws.probe.Goals as goal
+
+pub returns : goal.returns
+returns c past legal = legal
