@@ -25,9 +25,9 @@ use Rattle.can_bus.specs.declared.events.Tried.{Tried}
 use Rattle.can_bus.specs.Answer.{told_attempt, counted}
 use Rattle.can_bus.specs.Sockets.{places, open_sockets, is_open, iface_of, capacity_of, filters_of, options_of}
 use Rattle.can_bus.specs.Transmit.{sent_by, gone_count, done_count, head_of, tape, is_done}
-use Rattle.can_bus.specs.Counters.{counts_of, steps_of, transmission, sending}
+use Rattle.can_bus.specs.Counters.{counts_of, steps_of, state_at, transmission, sending}
 use Rattle.can_bus.specs.Attempts.{winner, tried_with, attempt_reply, tried_head}
-use Rattle.can_bus.specs.Posts.{Post, attempt_posts}
+use Rattle.can_bus.specs.Posts.{Post, attempt_posts, posts_of}
 use Rattle.can_bus.specs.Queues.{passing, candidates_of, queued_to, dropped_at, taken_from}
 use Rattle.can_bus.specs.Legal.{legal_reply, IsLegal}
 use Rattle.can_bus.specs.State.{LineState, SocketState, Parts, filled, reached, key_in, kept_line, kept_lines, kept_socket, kept_sockets, kept_keys, kept_nodes, kept_parts}
@@ -154,3 +154,149 @@ line-tried c past m v t w l p is =
     ap (settled t.class (is_in w t.off)) is.is_line.left
     ∙ settle-kept c.tx_capacity (kept_line c past w).refused (gone_count past w) (done_count past w) (sent_by past w) (is_in w t.off) (is_done t.class)
     ∙ ap (line-by c past w (is_in w t.off)) (sym won)
+
+lines-tried : (c : BusConfig) (past : List Entry) (m : ℕ) (v : Verdict) (t : Tried) (old new : List LineState) (w : ℕ) (l : LineState) (p : Pending) → old ≡ kept_lines c past → IsCarried c past m v t w l p → new ≡ slice_set old w (settled t.class (is_in w t.off) l) → new ≡ kept_lines c (entry m v (Some t) ∷ past)
+lines-tried c past m v t old new w l p are is after =
+    after
+    ∙ ap (λ (ls : List LineState). slice_set ls w (settled t.class (is_in w t.off) l)) are
+    ∙ ap (slice_set (kept_lines c past) w) (line-tried c past m v t w l p is)
+    ∙ sym (kept_lines-one c past (entry m v (Some t)) w is.is_line.below (λ j ne. line-other c past m v t w j p.frame is.tried_is ne))
+
+-- ---- the keys
+
+keys-tried : (c : BusConfig) (past : List Entry) (m : ℕ) (v : Verdict) (t : Tried) (old new : List (Option ℕ)) (w : ℕ) (l : LineState) (p : Pending) → c.ifaces ≤ 16 → old ≡ kept_keys past → IsCarried c past m v t w l p → new ≡ slice_set old w (key_in (slice_get (settled t.class (is_in w t.off) l).waiting 0)) → new ≡ kept_keys (entry m v (Some t) ∷ past)
+keys-tried c past m v t old new w l p few are is after =
+    let e = entry m v (Some t) in
+    let below : w < 16 = omega (arith, is.is_line.below) in
+    let front : slice_get (settled t.class (is_in w t.off) l).waiting 0 ≡ head_of (e ∷ past) w = ap (λ (k : LineState). slice_get k.waiting 0) (line-tried c past m v t w l p is) ∙ slice_get-drop (gone_count (e ∷ past) w) (sent_by past w) in
+    after
+    ∙ ap (λ (ks : List (Option ℕ)). slice_set ks w (key_in (slice_get (settled t.class (is_in w t.off) l).waiting 0))) are
+    ∙ ap (λ (q : Option Pending). slice_set (kept_keys past) w (key_in q)) front
+    ∙ sym (kept_keys-one past e w below (λ j ne. ap (λ (n : ℕ). slice_get (sent_by past j) n) (gone-other c past m v t w j p.frame is.tried_is ne)))
+
+-- ---- the error counts
+
+all_stepped-append : (k : ErrorCounts) (xs ys : List Step) → all_stepped k (xs ++ ys) ≡ all_stepped (all_stepped k xs) ys
+all_stepped-append k [] ys = refl
+all_stepped-append k (x ∷ xs) ys = all_stepped-append (stepped k x) xs ys
+
+counts-tried : (c : BusConfig) (past : List Entry) (m : ℕ) (v : Verdict) (t : Tried) (i : ℕ) → counts_of c (entry m v (Some t) ∷ past) i ≡ counts_after (transmission c past t.winner v) i
+counts-tried c past m v t i = all_stepped-append at_start (steps_of c past i) (steps_at i (transmission c past t.winner v))
+
+map_all : (f g : ℕ → ErrorCounts) (xs : List ℕ) → ((i : ℕ) → f i ≡ g i) → map f xs ≡ map g xs
+map_all f g xs same = ap (λ (h : ℕ → ErrorCounts). map h xs) (fun_ext same)
+
+nodes-tried : (c : BusConfig) (past : List Entry) (m : ℕ) (v : Verdict) (t : Tried) (old new : Nodes) (w : ℕ) (l : LineState) (p : Pending) → IsLegal c past → c.ifaces ≤ 16 → old ≡ kept_nodes c past → IsCarried c past m v t w l p → new ≡ record old { counters = (judged (attempt_between old w v c.ack)).counters } → new ≡ kept_nodes c (entry m v (Some t) ∷ past)
+unfolding kept_nodes
+nodes-tried c past m v t old new w l p legal few are is after =
+    let who : t.winner ≡ w = ap (λ (u : Tried). u.winner) is.tried_is in
+    let now : (i : ℕ) → counts_after (transmission c past w v) i ≡ counts_of c (entry m v (Some t) ∷ past) i = λ i. ap (λ (k : ℕ). counts_after (transmission c past k v) i) (sym who) ∙ sym (counts-tried c past m v t i) in
+    after
+    ∙ ap (λ (n : Nodes). record n { counters = (judged (attempt_between n w v c.ack)).counters }) are
+    ∙ ap (λ (tr : Transmission). record { count = c.ifaces; counters = (judged tr).counters }) (between-is c past w v legal few)
+    ∙ ap (λ (cs : List ErrorCounts). record { count = c.ifaces; counters = cs }) (map_all (counts_after (transmission c past w v)) (counts_of c (entry m v (Some t) ∷ past)) (range_with_len 0 16) now)
+
+-- ---- what the sockets become
+
+-- items that come in are what the longer history leaves
+pub filled_at : (c : BusConfig) (past : List Entry) (e : Entry) (o : ℕ) → length (taken_from past o) ≤ length (queued_to c past o) → places (e ∷ past) ≡ places past → filters_of (e ∷ past) o ≡ filters_of past o → options_of (e ∷ past) o ≡ options_of past o → taken_from (e ∷ past) o ≡ taken_from past o → filled (kept_socket c past o) (candidates_of c past o e.event e.reply) ≡ kept_socket c (e ∷ past) o
+filled_at c past e o le same_places same_filters same_options same_taken =
+    let cs = candidates_of c past o e.event e.reply in
+    let room : capacity_of past o - length (drop (length (taken_from past o)) (queued_to c past o)) ≡ capacity_of past o + length (taken_from past o) - length (queued_to c past o) = omega (arith, length-drop {A = Received}) in
+    let waits : drop (length (taken_from past o)) (queued_to c past o ++ take (capacity_of past o + length (taken_from past o) - length (queued_to c past o)) cs) ≡ drop (length (taken_from past o)) (queued_to c past o) ++ take (capacity_of past o + length (taken_from past o) - length (queued_to c past o)) cs = drop-append-le (length (taken_from past o)) (queued_to c past o) _ le in
+    let counts : length (dropped_at c past o ++ drop (capacity_of past o + length (taken_from past o) - length (queued_to c past o)) cs) ≡ length (dropped_at c past o) + length (drop (capacity_of past o + length (taken_from past o) - length (queued_to c past o)) cs) = length-append (dropped_at c past o) _ in
+    ap (λ n. record (kept_socket c past o) { waiting = drop (length (taken_from past o)) (queued_to c past o) ++ take n cs; dropped = length (dropped_at c past o) + length (drop n cs) }) room
+    ∙ ap (λ (rs : List Received). record (kept_socket c past o) { waiting = rs; dropped = length (dropped_at c past o) + length (drop (capacity_of past o + length (taken_from past o) - length (queued_to c past o)) cs) }) (sym waits)
+    ∙ ap (λ n. record (kept_socket c past o) { waiting = drop (length (taken_from past o)) (queued_to c (e ∷ past) o); dropped = n }) (sym counts)
+    ∙ cc
+
+pub map_open : (c : BusConfig) (past : List Entry) (f : SocketState → SocketState) (g : ℕ → SocketState) (xs : List ℕ) → ((k o : ℕ) → slice_get xs k ≡ Some o → f (kept_socket c past o) ≡ g o) → map f (map (kept_socket c past) xs) ≡ map g xs
+map_open c past f g [] same = refl
+map_open c past f g (x ∷ xs) same =
+    let here : f (kept_socket c past x) ≡ g x = same zero x refl in
+    let rest : map f (map (kept_socket c past) xs) ≡ map g xs = map_open c past f g xs (λ k o at. same (suc k) o at) in
+    cc
+
+-- every open socket is told the posts of an entry
+pub sockets-told : (c : BusConfig) (past : List Entry) (e : Entry) (posts : ℕ → List Post) (old after : List SocketState) → IsLegal c past → old ≡ kept_sockets c past → ((i : ℕ) → posts i ≡ posts_of c past i e.event e.reply) → places (e ∷ past) ≡ places past → open_sockets (e ∷ past) ≡ open_sockets past → ((o : ℕ) → filters_of (e ∷ past) o ≡ filters_of past o) → ((o : ℕ) → options_of (e ∷ past) o ≡ options_of past o) → ((o : ℕ) → taken_from (e ∷ past) o ≡ taken_from past o) → after ≡ map (reached posts) old → after ≡ kept_sockets c (e ∷ past)
+unfolding kept_sockets
+sockets-told c past e posts old after legal are posts_are same_places same_open same_filters same_options same_taken told =
+    told
+    ∙ ap (map (reached posts)) are
+    ∙ map_open c past (reached posts) (kept_socket c (e ∷ past)) (open_sockets past) (λ k o at.
+    let there : is_open past o ≡ true = list_any_there (λ n. n == o) (open_sockets past) k o at (eq-eqb o o refl) in
+    ap (λ (ps : List Post). filled (kept_socket c past o) (passing (filters_of past o) (options_of past o) o ps)) (posts_are (iface_of past o))
+    ∙ ap (filled (kept_socket c past o)) (sym (cond-true (is_open past o) _ _ there))
+    ∙ filled_at c past e o (taken_from-le-queued c past legal o) same_places (same_filters o) (same_options o) (same_taken o))
+    ∙ ap (map (kept_socket c (e ∷ past))) (sym same_open)
+
+posts-tried : (c : BusConfig) (past : List Entry) (nodes : Nodes) (m : ℕ) (v : Verdict) (t : Tried) (w : ℕ) (l : LineState) (p : Pending) → IsLegal c past → c.ifaces ≤ 16 → nodes ≡ kept_nodes c past → IsCarried c past m v t w l p → (i : ℕ) → attempt_posts c.reporting (attempt_between nodes w v c.ack) t (Some p) i ≡ posts_of c past i (Attempt m v) (reply.Tried t)
+posts-tried c past nodes m v t w l p legal few are is i =
+    let who : w ≡ t.winner = sym (ap (λ (u : Tried). u.winner) is.tried_is) in
+    let frame : Some p ≡ slice_get (sent_by past t.winner) t.number = sym is.head_is ∙ ap (λ (u : Tried). slice_get (sent_by past u.winner) u.number) (sym is.tried_is) in
+    ap (λ (n : Nodes). attempt_posts c.reporting (attempt_between n w v c.ack) t (Some p) i) are
+    ∙ ap (λ (tr : Transmission). attempt_posts c.reporting tr t (Some p) i) (between-is c past w v legal few)
+    ∙ ap (λ (k : ℕ). attempt_posts c.reporting (transmission c past k v) t (Some p) i) who
+    ∙ ap (λ (q : Option Pending). attempt_posts c.reporting (transmission c past t.winner v) t q i) frame
+
+-- ---- the call
+
+idle-quiet : (c : BusConfig) (past : List Entry) (m : ℕ) (v : Verdict) → IsQuiet c past (entry m v None)
+idle-quiet c past m v = record { of_places = refl; of_open = refl; of_filters = λ o. refl; of_options = λ o. refl; of_taken = λ o. refl; of_posts = λ o. refl }
+
+idle-same : (c : BusConfig) (past : List Entry) (m : ℕ) (v : Verdict) → (kept_lines c (entry m v None ∷ past) ≡ kept_lines c past) × (kept_keys (entry m v None ∷ past) ≡ kept_keys past) × (kept_nodes c (entry m v None ∷ past) ≡ kept_nodes c past)
+unfolding kept_lines kept_keys kept_nodes
+idle-same c past m v = (refl, refl, refl)
+
+pub tried_follows : (c : BusConfig) (past : List Entry) (parts : Parts) (m : ℕ) (v : Verdict) (r : Option Tried) (new : List LineState) (new_keys : List (Option ℕ)) (new_nodes : Nodes) (after : List SocketState) (tried : ℕ) → IsLegal c past → c.ifaces ≤ 16 → parts ≡ kept_parts c past → Tries parts.lines parts.keys parts.nodes parts.sockets c.ack c.reporting m v r new new_keys new_nodes after → tried ≡ counted r parts.tried → Follows c past (entry m v r) (record { lines = new; keys = new_keys; nodes = new_nodes; sockets = after; opened = parts.opened; tried = tried })
+tried_follows c past parts m v None new new_keys new_nodes after tried legal few are tries tried_is =
+    let e = entry m v None in
+    let same = idle-same c past m v in
+    let nobody : winner c past ≡ None = idle-is c past few (subst (λ (ks : List (Option ℕ)). IsIdle ks) (ap (λ (q : Parts). q.keys) are) tries.0) in
+    record {
+      lawful = ap (attempt_reply c past m v) (sym nobody);
+      after = parts-are (kept_parts c (e ∷ past)) new new_keys new_nodes after parts.opened tried
+      (tries.1 ∙ ap (λ (q : Parts). q.lines) are ∙ sym same.0)
+      (tries.2 ∙ ap (λ (q : Parts). q.keys) are ∙ sym same.1)
+      (tries.3 ∙ ap (λ (q : Parts). q.nodes) are ∙ sym same.2)
+      (tries.4 ∙ ap (λ (q : Parts). q.sockets) are ∙ sym (kept_sockets-quiet c past e (idle-quiet c past m v)))
+      (ap (λ (q : Parts). q.opened) are)
+      (tried_is ∙ ap (λ (q : Parts). q.tried) are);
+    }
+tried_follows c past parts m v (Some t) new new_keys new_nodes after tried legal few are k tried_is =
+    let e = entry m v (Some t) in
+    let is = the_winner c past parts m v t new new_keys new_nodes after legal few are k in
+    record {
+      lawful = reply-tried c past m v t k.place k.line k.pending is;
+      after = parts-are (kept_parts c (e ∷ past)) new new_keys new_nodes after parts.opened tried
+      (lines-tried c past m v t parts.lines new k.place k.line k.pending (ap (λ (q : Parts). q.lines) are) is k.lines_after)
+      (keys-tried c past m v t parts.keys new_keys k.place k.line k.pending few (ap (λ (q : Parts). q.keys) are) is k.keys_after)
+      (nodes-tried c past m v t parts.nodes new_nodes k.place k.line k.pending legal few (ap (λ (q : Parts). q.nodes) are) is k.nodes_after)
+      (sockets-told c past e (attempt_posts c.reporting (attempt_between parts.nodes k.place v c.ack) t (Some k.pending)) parts.sockets after legal (ap (λ (q : Parts). q.sockets) are) (posts-tried c past parts.nodes m v t k.place k.line k.pending legal few (ap (λ (q : Parts). q.nodes) are) is) refl refl (λ o. refl) (λ o. refl) (λ o. refl) k.sockets_after)
+      (ap (λ (q : Parts). q.opened) are)
+      (tried_is ∙ ap (λ (q : Parts). q.tried + 1) are ∙ sym (length_push (tape past) t));
+    }
+
+-- each interface with a key is there, is live, and has a frame to send
+pub ready : (c : BusConfig) (past : List Entry) (parts : Parts) → IsLegal c past → c.ifaces ≤ 16 → parts ≡ kept_parts c past → AreReady parts.keys parts.lines parts.nodes
+ready c past parts legal few are w k at =
+    let held : slice_get (kept_keys past) w ≡ Some (Some k) = ap (λ (q : Parts). slice_get q.keys w) (sym are) ∙ at in
+    let has = holds_key past w k held in
+    let below : w < c.ifaces = head-below c past legal w has.pending has.head in
+    let long : length parts.lines ≡ c.ifaces = ap (λ (q : Parts). length q.lines) are ∙ length-kept_lines c past in
+    let count : parts.nodes.count ≡ c.ifaces = ap (λ (q : Parts). q.nodes.count) are ∙ count-kept c past in
+    record {
+      there = omega arith;
+      counted = omega arith;
+      live = ap (λ (q : Parts). is_off_at q.nodes w) are ∙ is_off_at-kept c past w has.few ∙ not_true (is_off (state_at c past w)) (λ off. let none = off-no-head c past legal few w off in clash has.pending (head_of past w) has.head none);
+      has_head = λ l at_w.
+      let line = IsLine-at c past parts.lines w l (ap (λ (q : Parts). q.lines) are) at_w in
+      ap (λ (x : LineState). is_some (slice_get x.waiting 0)) line.left ∙ ap (λ (q : Option Pending). is_some q) (slice_get-drop (gone_count past w) (sent_by past w) ∙ has.head);
+    }
+  where
+    not_true : (b : Bool) → (b ≡ true → ⊥) → b ≡ false
+    not_true true h = absurd (h refl)
+    not_true false h = refl
+
+    clash : (p : Pending) (q : Option Pending) → q ≡ Some p → q ≡ None → ⊥
+    clash p q some none = cc

@@ -26,3 +26,4 @@ pub mod CopyFacts
 pub mod TurnFacts
 pub mod Winning
 pub mod Attempting
+pub mod Restarting

@@ -1,5 +1,5 @@
 use Rattle.can_bus.proofs.Winning.{winner-is, idle-is}
-use Rattle.can_bus.proofs.Attempting.{entry}
+use Rattle.can_bus.proofs.Restarting.{entry}
 use Rattle.can_bus.proofs.laws.probe.Goals as goal
 
 pub returns : goal.returns
