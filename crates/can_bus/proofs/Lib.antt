@@ -18,3 +18,4 @@ pub mod Closing
 pub mod Setting
 pub mod Opening
 pub mod Sending
+pub mod Telling
