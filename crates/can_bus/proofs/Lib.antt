@@ -27,3 +27,4 @@ pub mod TurnFacts
 pub mod Winning
 pub mod Attempting
 pub mod Restarting
+pub mod Telling

@@ -190,15 +190,18 @@ unopened i n k old new o refusal.TooManySockets opens = opens.3
 unopened i n k old new o refusal.NoMemory opens = opens.3
 unopened i n k old new o _ opens = absurd opens
 
--- a socket that was opened, or a refusal but for want of memory, leaves what its entry leaves
-pub opened_follows : (c : BusConfig) (past : List Entry) (parts : Parts) (new : List SocketState) (i k : ℕ) (r : Result SocketId Refusal) → (r ≡ Err refusal.NoMemory → ⊥) → IsLegal c past → parts ≡ kept_parts c past → Opens c.ifaces parts.sockets parts.opened i k r new → Follows c past (entry i k r) (record parts { sockets = new; opened = numbered r parts.opened })
-opened_follows c past parts new i k (Ok s) remembers legal are opens =
+opened_leaves : (c : BusConfig) (past : List Entry) (parts : Parts) (new : List SocketState) (i k : ℕ) (r : Result SocketId Refusal) → (r ≡ Err refusal.NoMemory → ⊥) → IsLegal c past → parts ≡ kept_parts c past → Opens c.ifaces parts.sockets parts.opened i k r new → Follows c past (entry i k r) (record parts { sockets = new; opened = numbered r parts.opened })
+opened_leaves c past parts new i k (Ok s) remembers legal are opens =
     let opened_is : parts.opened ≡ length (places past) = ap (λ (q : Parts). q.opened) are in
     follows_at_sockets c past (entry i k (Ok s)) parts new (parts.opened + 1) are (lawful c past parts new i k (Ok s) remembers are opens) (still c past i k s) refl
     (ap (λ n. n + 1) opened_is ∙ sym (length_push (places past) (record { iface = i; capacity = k })))
     (sockets-opened c past parts.sockets new parts.opened i k s legal (ap (λ (q : Parts). q.sockets) are) opened_is opens.4)
-opened_follows c past parts new i k (Err why) remembers legal are opens =
+opened_leaves c past parts new i k (Err why) remembers legal are opens =
     subst (λ (vs : List SocketState). Follows c past (entry i k (Err why)) (record parts { sockets = vs })) (sym (unopened i c.ifaces k parts.sockets new parts.opened why opens)) (follows_refused c past (Open i k) why parts tt are (lawful c past parts new i k (Err why) remembers are opens))
+
+-- a socket that was opened, or a refusal but for want of memory, leaves what its entry leaves
+pub opened_follows : (c : BusConfig) (past : List Entry) (parts : Parts) (new : List SocketState) (opened i k : ℕ) (r : Result SocketId Refusal) → (r ≡ Err refusal.NoMemory → ⊥) → IsLegal c past → parts ≡ kept_parts c past → Opens c.ifaces parts.sockets parts.opened i k r new → opened ≡ numbered r parts.opened → Follows c past (entry i k r) (record parts { sockets = new; opened = opened })
+opened_follows c past parts new opened i k r remembers legal are opens opened_is = subst (λ n. Follows c past (entry i k r) (record parts { sockets = new; opened = n })) (sym opened_is) (opened_leaves c past parts new i k r remembers legal are opens)
 
 -- memory was refused: nothing changed, and nothing else refuses the call
 pub no_memory : (j : Kept) (before : Journal) (parts : Parts) (new : List SocketState) (p i k : ℕ) → ◌≡◌ {A = Journal} (record { config = j.config; history = j.history }) before → IsKept j parts p → length j.history < j.config.limit → Opens j.config.ifaces parts.sockets parts.opened i k (Err refusal.NoMemory) new → Refuses before (Open i k) refusal.NoMemory (record { config = j.config; history = j.history })
