@@ -63,7 +63,7 @@ counts_at-all c past legal few i =
       | inr le ↦ beyond (kept_nodes c past).counters 16 i (length-counters c past) le ∙ sym (counts-beyond c past legal i (omega arith))
     ]
 
-count-kept : (c : BusConfig) (past : List Entry) → (kept_nodes c past).count ≡ c.ifaces
+pub count-kept : (c : BusConfig) (past : List Entry) → (kept_nodes c past).count ≡ c.ifaces
 unfolding kept_nodes
 count-kept c past = refl
 

@@ -16,7 +16,7 @@ use Rattle.can_bus.specs.Posts.{restart_posts}
 use Rattle.can_bus.specs.Legal.{legal_reply, IsLegal}
 use Rattle.can_bus.specs.State.{SocketState, Parts, kept_lines, kept_keys, kept_nodes, kept_sockets, kept_parts}
 use Rattle.can_bus.specs.Changes.{Restarts, is_off_at}
-use Rattle.can_bus.proofs.Attempting.{sockets-told}
+use Rattle.can_bus.proofs.Attempting.{sockets-told, count-kept}
 use Rattle.can_bus.proofs.Keeping.{Follows, IsUncounted, follows_refused, parts-are}
 use Rattle.can_bus.proofs.KeyFacts.{sixteen-one}
 use Rattle.can_bus.proofs.NodeFacts.{is_off_at-kept}
@@ -41,10 +41,6 @@ nodes-restarted c past i m old new lt are after =
     ∙ ap (λ (n : Nodes). record n { counters = slice_set n.counters i at_start }) are
     ∙ ap (λ (k : ErrorCounts). record { count = c.ifaces; counters = slice_set (map (counts_of c past) (range_with_len 0 16)) i k }) (sym (counts-restarted c past i m))
     ∙ ap (λ (ks : List ErrorCounts). record { count = c.ifaces; counters = ks }) (sym (sixteen-one (counts_of c past) (counts_of c (entry i m (Ok tt) ∷ past)) i 16 lt (counts-other c past i m)))
-
-count-kept : (c : BusConfig) (past : List Entry) → (kept_nodes c past).count ≡ c.ifaces
-unfolding kept_nodes
-count-kept c past = refl
 
 refused_as : (c : BusConfig) (past : List Entry) (parts : Parts) (i m : ℕ) (why : Refusal) (new : Nodes) (after : List SocketState) → parts ≡ kept_parts c past → IsUncounted (Restart i m) why → new ≡ parts.nodes → after ≡ parts.sockets → reply.Refused why ≡ legal_reply c past (Restart i m) → Follows c past (entry i m (Err why)) (record parts { nodes = new; sockets = after })
 refused_as c past parts i m why new after are u nodes_same sockets_same law =

@@ -56,9 +56,3 @@ pub fn each_number_stands_once_for_each_attempt(config: BusConfig)
     ensures { (past : List Entry) → IsLegal config past → (i s n : ℕ) → count_by (λ m. m == n) (numbers_from i (queued_to config past s)) ≡ count_by (λ (t : Tried). t.number == n) (copying config past i s) }
 {
 }
-
-/// probe
-pub fn probe(config: BusConfig)
-    ensures { (past : List Entry) → IsLegal config past → IsLegal config past }
-{
-}
