@@ -1,4 +1,4 @@
-use Rattle.std.proofs.Common.{◌≡◌, ◌≢◌, ℕ, ◌+◌, ◌-◌, ◌<◌, ◌≤◌, ◌==◌, Bool, true, false, List, [], ◌∷◌, ◌++◌, length, take, drop, slice_get, slice_set, Option, Some, None, Result, Ok, Err, if◌then◌else◌, refl, sym, ap, ◌∙◌, arith, subst}
+use Rattle.std.proofs.Common.{◌≡◌, ◌≢◌, ℕ, ◌+◌, ◌-◌, ◌<◌, ◌==◌, true, false, List, [], ◌∷◌, ◌++◌, length, drop, slice_get, slice_set, Option, Result, Ok, Err, refl, sym, ap, ◌∙◌, arith, subst}
 use Rattle.std.proofs.lemmas.Bool.{eq-eqb, ne_eqb, cond-true, cond-false}
 use Rattle.std.proofs.lemmas.List.{length_push, length-drop, drop-append-le}
 use Rattle.can_frame.specs.Frames.{CanFrame}
@@ -11,23 +11,22 @@ use Rattle.can_bus.specs.declared.events.Refusal.{Refusal}
 use Rattle.can_bus.specs.declared.events.Refusal.TheVariants as refusal
 use Rattle.can_bus.specs.declared.events.SocketId.{SocketId}
 use Rattle.can_bus.specs.declared.events.Event.TheVariants.{Send}
-use Rattle.can_bus.specs.declared.events.Reply.{Reply}
 use Rattle.can_bus.specs.declared.events.Reply.TheVariants as reply
 use Rattle.can_bus.specs.Answer.{told}
 use Rattle.can_bus.specs.Counters.{state_at}
 use Rattle.can_bus.specs.Journal.{IsConfig}
 use Rattle.can_bus.specs.Legal.{legal_reply, IsLegal}
-use Rattle.can_bus.specs.Sockets.{iface_of, options_of, is_open}
-use Rattle.can_bus.specs.Transmit.{sent_by, gone_count, refused_count, head_of}
+use Rattle.can_bus.specs.Sockets.{iface_of, is_open}
+use Rattle.can_bus.specs.Transmit.{sent_by, gone_count, head_of}
 use Rattle.can_bus.specs.State.{LineState, SocketState, Parts, key_in, kept_line, kept_lines, kept_keys, kept_nodes, kept_socket, kept_sockets, kept_parts}
-use Rattle.can_bus.specs.Changes.{StandsAt, IsLineOf, Takes, FindsFull, IsOffFor, Sends, is_off_at}
+use Rattle.can_bus.specs.Changes.{IsLineOf, Takes, FindsFull, IsOffFor, Sends, is_off_at}
 use Rattle.can_bus.proofs.Keeping.{Follows, IsQuiet, kept_sockets-quiet, refused-quiet, follows_refused, parts-are}
 use Rattle.can_bus.proofs.KeyFacts.{kept_keys-one}
 use Rattle.can_bus.proofs.Lawful.{gone-le-sent, open-iface}
-use Rattle.can_bus.proofs.LineFacts.{IsLine, IsLine-at, kept_lines-one}
+use Rattle.can_bus.proofs.LineFacts.{IsLine-at, kept_lines-one}
 use Rattle.can_bus.proofs.Lists.{slice_get-drop}
 use Rattle.can_bus.proofs.NodeFacts.{is_off_at-kept}
-use Rattle.can_bus.proofs.Opened.{IsThere, IsThere-stands, closed-nowhere}
+use Rattle.can_bus.proofs.Opened.{IsThere-stands, closed-nowhere}
 
 abbrev pub of_frame : CanFrame → SocketId → SocketState → Pending
 of_frame f s v = record { frame = f; socket = s; loopback = v.options.loopback }

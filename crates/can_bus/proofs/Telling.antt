@@ -1,4 +1,4 @@
-use Rattle.std.proofs.Common.{◌≡◌, ℕ, ◌+◌, ◌-◌, ◌<◌, ◌≤◌, nat_lt, Bool, true, false, List, length, drop, slice_get, Option, Some, None, if◌then◌else◌, refl, sym, ap, ◌∙◌, arith}
+use Rattle.std.proofs.Common.{◌≡◌, ℕ, ◌+◌, ◌-◌, ◌<◌, ◌≤◌, nat_lt, Bool, true, false, List, length, drop, slice_get, Option, Some, None, refl, sym, ap, ◌∙◌, arith}
 use Rattle.std.specs.Option.{option_map}
 use Rattle.std.specs.List.{range_with_len}
 use Rattle.std.proofs.lemmas.Bool.{cond-true, cond-false, ltb-true}
@@ -17,13 +17,13 @@ use Rattle.can_bus.specs.Legal.{IsLegal}
 use Rattle.can_bus.specs.Queues.{queued_to, taken_from, dropped_at}
 use Rattle.can_bus.specs.Sockets.{is_open}
 use Rattle.can_bus.specs.Transmit.{sent_by, gone_count}
-use Rattle.can_bus.specs.State.{LineState, SocketState, kept_line, kept_lines, kept_nodes, kept_socket, kept_sockets}
-use Rattle.can_bus.specs.Stats.{TellsOf, TellsSocket, socket_stats_of, told_line, iface_stats_of}
+use Rattle.can_bus.specs.State.{LineState, SocketState, kept_line, kept_lines, kept_nodes, kept_sockets}
+use Rattle.can_bus.specs.Stats.{TellsSocket, socket_stats_of, told_line, iface_stats_of}
 use Rattle.can_bus.proofs.Lawful.{taken_from-le-queued}
 use Rattle.can_bus.proofs.LineFacts.{length-kept_lines}
 use Rattle.can_bus.proofs.Lists.{slice_get-range}
 use Rattle.can_bus.proofs.NodeFacts.{counts_at-kept}
-use Rattle.can_bus.proofs.Opened.{IsThere, IsThere-stands, closed-nowhere}
+use Rattle.can_bus.proofs.Opened.{IsThere-stands, closed-nowhere}
 
 -- What the counts that are kept tell is what the history says.
 

@@ -1,7 +1,6 @@
-use Rattle.std.proofs.Common.{◌≡◌, ℕ, ◌+◌, ◌<◌, ◌==◌, List, length, slice_get, Option, IsSomeAnd, ◌∙◌, sym, ap, subst}
+use Rattle.std.proofs.Common.{◌≡◌, ℕ, ◌+◌, ◌<◌, ◌==◌, List, length, slice_get, IsSomeAnd, ◌∙◌, sym, ap, subst}
 use Rattle.std.specs.List.{list_any}
 use Rattle.can_bus.specs.declared.events.Closed.{Closed}
-use Rattle.can_bus.specs.declared.stats.SocketStats.{SocketStats}
 use Rattle.can_bus.specs.State.{SocketState}
 use Rattle.can_bus.specs.Stats.{TellsSocket}
 use Rattle.can_bus.proofs.Reading.{stands-at}

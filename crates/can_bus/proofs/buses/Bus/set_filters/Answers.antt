@@ -1,4 +1,4 @@
-use Rattle.std.proofs.Common.{◌≡◌, ◌<◌, ◌∷◌, length, List, arith, sym, ap, ◌∙◌, subst}
+use Rattle.std.proofs.Common.{◌<◌, ◌∷◌, length, List, arith, ap, ◌∙◌, subst}
 use Rattle.can_filter.specs.Filters.{CanFilter}
 use Rattle.can_bus.specs.Answer.{done_reply, told}
 use Rattle.can_bus.specs.declared.events.Event.TheVariants as event
