@@ -11,3 +11,4 @@ pub mod Lawful
 pub mod OffFacts
 pub mod CopyFacts
 pub mod TurnFacts
+pub mod LifeFacts

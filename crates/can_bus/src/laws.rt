@@ -1,10 +1,15 @@
-ghost use Rattle.std.specs.Prelude.{◌≡◌, ◌≢◌, ◌+◌, ◌-◌, ◌≤◌, ◌<◌, ◌==◌, ℕ, true, List, length, map, count_by, All, AllPairs, Some, None};
+ghost use Rattle.std.specs.Prelude.{◌≡◌, ◌≢◌, ◌+◌, ◌-◌, ◌≤◌, ◌<◌, ◌==◌, ℕ, true, List, [], ◌∷◌, ◌++◌, length, map, count_by, All, AllPairs, Some, None};
 ghost use Rattle.can_confine.specs.Confinement.{is_off, at_start};
 ghost use Rattle.can_bus.specs.Journal.{IsConfig};
 ghost use Rattle.can_bus.specs.Transmit.{sent_by, gone_count, done_count, lost_count, head_of};
 ghost use Rattle.can_bus.specs.Counters.{state_at, counts_of};
 ghost use Rattle.can_bus.specs.Copies.{received_from, copying, copy_of, numbers_from, NeverFall, went_over, InTurn};
-ghost use Rattle.can_bus.specs.Queues.{queued_to};
+ghost use Rattle.std.specs.List.{range_with_len};
+ghost use Rattle.can_bus.specs.Queues.{queued_to, dropped_at, taken_from, candidates_for};
+ghost use Rattle.can_bus.specs.Sockets.{places, open_sockets};
+ghost use Rattle.can_bus.specs.Fates.{numbers_given, opening, closing};
+ghost use Rattle.can_bus.specs.declared.events.Closed.{Closed};
+ghost use Rattle.can_bus.specs.declared.events.SocketId.{SocketId};
 ghost use Rattle.can_bus.specs.Legal.{IsLegal};
 ghost use Rattle.can_bus.specs.declared.events.Entry.{Entry};
 ghost use Rattle.can_bus.specs.declared.events.Tried.{Tried};
@@ -54,5 +59,33 @@ pub fn copies_come_in_turn(config: BusConfig)
 /// A number stands on a socket as often as there are attempts that copied the frame of that number.
 pub fn each_number_stands_once_for_each_attempt(config: BusConfig)
     ensures { (past : List Entry) → IsLegal config past → (i s n : ℕ) → count_by (λ m. m == n) (numbers_from i (queued_to config past s)) ≡ count_by (λ (t : Tried). t.number == n) (copying config past i s) }
+{
+}
+
+/// What is offered to a socket is queued or dropped, and what is queued is taken or left unread at its
+/// close, which tells both counts.
+pub fn each_item_is_counted(config: BusConfig)
+    ensures offered { (past : List Entry) → (s : ℕ) → length (candidates_for config past s) ≡ length (queued_to config past s) + length (dropped_at config past s) }
+    ensures queued { (past : List Entry) → (s : SocketId) → (k : Closed) → IsLegal config (closing s k ∷ past) → length (queued_to config past s.0) ≡ length (taken_from past s.0) + k.unread }
+    ensures dropped { (past : List Entry) → (s : SocketId) → (k : Closed) → IsLegal config (closing s k ∷ past) → k.dropped ≡ length (dropped_at config past s.0) }
+{
+}
+
+/// Nothing is queued to a socket before its open, nor after its close, whatever comes later.
+pub fn only_open_sockets_receive(config: BusConfig)
+    ensures before { (past : List Entry) → (i capacity : ℕ) → (s : SocketId) → IsLegal config (opening i capacity s ∷ past) → queued_to config past s.0 ≡ [] }
+    ensures after { (later past : List Entry) → (s : SocketId) → (k : Closed) → IsLegal config (later ++ closing s k ∷ past) → queued_to config (later ++ closing s k ∷ past) s.0 ≡ queued_to config past s.0 }
+{
+}
+
+/// At most 64 sockets are open.
+pub fn few_sockets_are_open(config: BusConfig)
+    ensures { (past : List Entry) → IsLegal config past → length (open_sockets past) ≤ 64 }
+{
+}
+
+/// Sockets are numbered 0, 1, 2 and so on as they are opened, so no number is used again.
+pub fn socket_numbers_are_never_used_again(config: BusConfig)
+    ensures { (past : List Entry) → IsLegal config past → numbers_given past ≡ range_with_len 0 (length (places past)) }
 {
 }
