@@ -12,3 +12,4 @@ pub mod OffFacts
 pub mod CopyFacts
 pub mod TurnFacts
 pub mod LifeFacts
+pub mod OwnFacts

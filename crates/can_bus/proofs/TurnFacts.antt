@@ -97,10 +97,10 @@ Follow-numbers a b (t ∷ ts) h = (h.0, weaker (number_after t) t.number (map (�
 
 -- ---- what a tried frame says of its interface
 
-record Facts (past : List Entry) (i : ℕ) (t : Tried) : Type 0 where
-  number : t.number ≡ gone_count past i
-  waits : gone_count past i < length (sent_by past i)
-  frame : option_map (λ (p : Pending). p.frame) (slice_get (sent_by past i) (gone_count past i)) ≡ Some t.frame
+pub record Facts (past : List Entry) (i : ℕ) (t : Tried) : Type 0 where
+  pub number : t.number ≡ gone_count past i
+  pub waits : gone_count past i < length (sent_by past i)
+  pub frame : option_map (λ (p : Pending). p.frame) (slice_get (sent_by past i) (gone_count past i)) ≡ Some t.frame
 
 within : {X : Type 0} (xs : List X) (k : ℕ) (x : X) → slice_get xs k ≡ Some x → k < length xs
 within [] k x at = cc
@@ -114,7 +114,7 @@ facts-at c past m v t w = record {
   frame = ap (option_map (λ (p : Pending). p.frame)) w.head ∙ ap (λ (u : Tried). Some u.frame) (sym w.is);
 }
 
-facts : (c : BusConfig) (past : List Entry) (m : ℕ) (v : Verdict) (t : Tried) (i : ℕ) → WasTried c past m v t → t.winner ≡ i → Facts past i t
+pub facts : (c : BusConfig) (past : List Entry) (m : ℕ) (v : Verdict) (t : Tried) (i : ℕ) → WasTried c past m v t → t.winner ≡ i → Facts past i t
 facts c past m v t i w same = subst (λ k. Facts past k t) (sym (ap (λ (u : Tried). u.winner) w.is) ∙ same) (facts-at c past m v t w)
 
 -- ---- a frame that comes to an interface went over
@@ -129,7 +129,7 @@ accepted-over class.LastBit tr j h = refl
 accepted-over class.Destroyed tr j h = let e : true ≡ false = sym h ∙ is_in-of [] j ∙ and-false (nat_lt j 16) in cc
 accepted-over class.NoAck tr j h = let e : true ≡ false = sym h ∙ is_in-of [] j ∙ and-false (nat_lt j 16) in cc
 
-looped-done : (k : Class) (p : Option Pending) → is_looped_back k p ≡ true → k ≡ class.Done
+pub looped-done : (k : Class) (p : Option Pending) → is_looped_back k p ≡ true → k ≡ class.Done
 looped-done class.Done p h = refl
 looped-done class.LastBit None h = cc
 looped-done class.LastBit (Some p) h = cc
@@ -152,11 +152,11 @@ comes-over c past m v t j p w h =
       ap (λ (u : Tried). went_over u.class) w.is ∙ accepted-over (class_of tr) tr j same)
 
 -- a copy's frame came to the socket's interface
-record IsCopied (past : List Entry) (s : ℕ) (t : Tried) : Type 0 where
-  is_there : is_open past s ≡ true
-  comes : comes_to (iface_of past s) t (slice_get (sent_by past t.winner) t.number) ≡ true
+pub record IsCopied (past : List Entry) (s : ℕ) (t : Tried) : Type 0 where
+  pub is_there : is_open past s ≡ true
+  pub comes : comes_to (iface_of past s) t (slice_get (sent_by past t.winner) t.number) ≡ true
 
-copied : (c : BusConfig) (past : List Entry) (s : ℕ) (t : Tried) → is_copied c past s t (slice_get (sent_by past t.winner) t.number) ≡ true → IsCopied past s t
+pub copied : (c : BusConfig) (past : List Entry) (s : ℕ) (t : Tried) → is_copied c past s t (slice_get (sent_by past t.winner) t.number) ≡ true → IsCopied past s t
 copied c past s t h =
     let p = slice_get (sent_by past t.winner) t.number in
     let room = wants (filters_of past s) (options_of past s) (item.Data t.frame) (is_own (sender_in p) s) && has_room c past s in
@@ -165,7 +165,7 @@ copied c past s t h =
 
 -- ---- in every legal history they come in turn
 
-abbrev here : BusConfig → List Entry → ℕ → ℕ → Tried → Bool
+abbrev pub here : BusConfig → List Entry → ℕ → ℕ → Tried → Bool
 here c past i s t = is_copied c past s t (slice_get (sent_by past t.winner) t.number) && (t.winner == i)
 
 after-le : (n sent gone : ℕ) (off mine done : Bool) → n ≡ gone → gone < sent → mine ≡ true → (if done then n + 1 else n) ≤ (if off then sent else if mine && done then gone + 1 else gone)

@@ -3,11 +3,12 @@ ghost use Rattle.can_confine.specs.Confinement.{is_off, at_start};
 ghost use Rattle.can_bus.specs.Journal.{IsConfig};
 ghost use Rattle.can_bus.specs.Transmit.{sent_by, gone_count, done_count, lost_count, head_of};
 ghost use Rattle.can_bus.specs.Counters.{state_at, counts_of};
-ghost use Rattle.can_bus.specs.Copies.{received_from, copying, copy_of, numbers_from, NeverFall, went_over, InTurn};
+ghost use Rattle.can_bus.specs.Copies.{received_from, copying, copy_of, numbers_from, NeverFall, went_over, InTurn, IsOfSent};
 ghost use Rattle.std.specs.List.{range_with_len};
 ghost use Rattle.can_bus.specs.Queues.{queued_to, dropped_at, taken_from, candidates_for};
-ghost use Rattle.can_bus.specs.Sockets.{places, open_sockets};
+ghost use Rattle.can_bus.specs.Sockets.{places, open_sockets, iface_of};
 ghost use Rattle.can_bus.specs.Fates.{numbers_given, opening, closing};
+ghost use Rattle.can_attempt.specs.declared.classes.Class.TheVariants.{Done};
 ghost use Rattle.can_bus.specs.declared.events.Closed.{Closed};
 ghost use Rattle.can_bus.specs.declared.events.SocketId.{SocketId};
 ghost use Rattle.can_bus.specs.Legal.{IsLegal};
@@ -87,5 +88,19 @@ pub fn few_sockets_are_open(config: BusConfig)
 /// Sockets are numbered 0, 1, 2 and so on as they are opened, so no number is used again.
 pub fn socket_numbers_are_never_used_again(config: BusConfig)
     ensures { (past : List Entry) → IsLegal config past → numbers_given past ≡ range_with_len 0 (length (places past)) }
+{
+}
+
+/// A socket of the sending interface itself gets a frame by loopback alone, once it is done: a number
+/// stands there at most once.
+pub fn own_copies_are_single(config: BusConfig)
+    ensures done { (past : List Entry) → IsLegal config past → (s : ℕ) → All (λ t. t.class ≡ Done) (copying config past (iface_of past s) s) }
+    ensures single { (past : List Entry) → IsLegal config past → (s : ℕ) → AllPairs (λ (x y : Tried). x.number < y.number) (copying config past (iface_of past s) s) }
+{
+}
+
+/// The frame of each copy is the one that the sending interface accepted under the copy's number.
+pub fn copies_are_of_frames_sent(config: BusConfig)
+    ensures { (past : List Entry) → IsLegal config past → (i s : ℕ) → All (IsOfSent past i) (copying config past i s) }
 {
 }
