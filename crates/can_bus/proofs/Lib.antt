@@ -13,3 +13,4 @@ pub mod CopyFacts
 pub mod TurnFacts
 pub mod LifeFacts
 pub mod OwnFacts
+pub mod FateFacts

@@ -168,7 +168,7 @@ copied c past s t h =
 abbrev pub here : BusConfig → List Entry → ℕ → ℕ → Tried → Bool
 here c past i s t = is_copied c past s t (slice_get (sent_by past t.winner) t.number) && (t.winner == i)
 
-after-le : (n sent gone : ℕ) (off mine done : Bool) → n ≡ gone → gone < sent → mine ≡ true → (if done then n + 1 else n) ≤ (if off then sent else if mine && done then gone + 1 else gone)
+pub after-le : (n sent gone : ℕ) (off mine done : Bool) → n ≡ gone → gone < sent → mine ≡ true → (if done then n + 1 else n) ≤ (if off then sent else if mine && done then gone + 1 else gone)
 after-le n sent gone true mine true is lt h = omega (arith, is, lt)
 after-le n sent gone true mine false is lt h = omega (arith, is, lt)
 after-le n sent gone false true true is lt h = omega (arith, is)
@@ -176,7 +176,7 @@ after-le n sent gone false true false is lt h = omega (arith, is)
 after-le n sent gone false false true is lt h = cc
 after-le n sent gone false false false is lt h = omega (arith, is)
 
-gone-grows-if : (sent gone : ℕ) (off mine : Bool) → gone ≤ sent → gone ≤ (if off then sent else if mine then gone + 1 else gone)
+pub gone-grows-if : (sent gone : ℕ) (off mine : Bool) → gone ≤ sent → gone ≤ (if off then sent else if mine then gone + 1 else gone)
 gone-grows-if sent gone true mine le = le
 gone-grows-if sent gone false true le = omega arith
 gone-grows-if sent gone false false le = omega arith

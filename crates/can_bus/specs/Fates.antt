@@ -1,5 +1,5 @@
-use Rattle.std.specs.Prelude.{ℕ, ◌==◌, nat_le, Bool, true, false, ◌&&◌, List, [], ◌∷◌, ◌++◌, if◌then◌else◌}
-use Rattle.std.specs.List.{list_any}
+use Rattle.std.specs.Prelude.{ℕ, ◌==◌, nat_le, Bool, true, false, ◌&&◌, List, [], ◌∷◌, ◌++◌, length, count_by, if◌then◌else◌}
+use Rattle.std.specs.List.{list_any, range_with_len}
 use Rattle.can_bus.specs.declared.events.Entry.{Entry}
 use Rattle.can_bus.specs.declared.events.Event.{Event}
 use Rattle.can_bus.specs.declared.events.Event.TheVariants.{Open, Close, Restart}
@@ -8,7 +8,7 @@ use Rattle.can_bus.specs.declared.events.Reply.TheVariants as reply
 use Rattle.can_bus.specs.declared.events.Closed.{Closed}
 use Rattle.can_bus.specs.declared.events.SocketId.{SocketId}
 use Rattle.can_bus.specs.declared.events.Tried.{Tried}
-use Rattle.can_bus.specs.Transmit.{gone_count, tape, is_done}
+use Rattle.can_bus.specs.Transmit.{sent_by, gone_count, tape, is_done}
 
 -- What becomes of frames and sockets, in the words of the laws.
 
@@ -53,3 +53,7 @@ closing s counts = record { event = Close s; reply = reply.Closed counts }
 abbrev pub is_restart_of : ℕ → Event → Bool
 is_restart_of i (Restart k m) = k == i
 is_restart_of i _ = false
+
+-- how many of the frames that were accepted on interface i have this fate
+abbrev pub frames_with : Fate → List Entry → ℕ → ℕ
+frames_with fate past i = count_by (λ n. is_fate (fate_of past i n) fate) (range_with_len 0 (length (sent_by past i)))

@@ -7,8 +7,9 @@ ghost use Rattle.can_bus.specs.Copies.{received_from, copying, copy_of, numbers_
 ghost use Rattle.std.specs.List.{range_with_len};
 ghost use Rattle.can_bus.specs.Queues.{queued_to, dropped_at, taken_from, candidates_for};
 ghost use Rattle.can_bus.specs.Sockets.{places, open_sockets, iface_of};
-ghost use Rattle.can_bus.specs.Fates.{numbers_given, opening, closing};
-ghost use Rattle.can_attempt.specs.declared.classes.Class.TheVariants.{Done};
+ghost use Rattle.can_bus.specs.Fates.{numbers_given, opening, closing, frames_with};
+ghost use Rattle.can_bus.specs.Fates.Fate as fate;
+ghost use Rattle.can_attempt.specs.declared.classes.Class.TheVariants as class;
 ghost use Rattle.can_bus.specs.declared.events.Closed.{Closed};
 ghost use Rattle.can_bus.specs.declared.events.SocketId.{SocketId};
 ghost use Rattle.can_bus.specs.Legal.{IsLegal};
@@ -94,7 +95,7 @@ pub fn socket_numbers_are_never_used_again(config: BusConfig)
 /// A socket of the sending interface itself gets a frame by loopback alone, once it is done: a number
 /// stands there at most once.
 pub fn own_copies_are_single(config: BusConfig)
-    ensures done { (past : List Entry) → IsLegal config past → (s : ℕ) → All (λ t. t.class ≡ Done) (copying config past (iface_of past s) s) }
+    ensures done { (past : List Entry) → IsLegal config past → (s : ℕ) → All (λ t. t.class ≡ class.Done) (copying config past (iface_of past s) s) }
     ensures single { (past : List Entry) → IsLegal config past → (s : ℕ) → AllPairs (λ (x y : Tried). x.number < y.number) (copying config past (iface_of past s) s) }
 {
 }
@@ -102,5 +103,14 @@ pub fn own_copies_are_single(config: BusConfig)
 /// The frame of each copy is the one that the sending interface accepted under the copy's number.
 pub fn copies_are_of_frames_sent(config: BusConfig)
     ensures { (past : List Entry) → IsLegal config past → (i s : ℕ) → All (IsOfSent past i) (copying config past i s) }
+{
+}
+
+/// Each frame that was accepted for sending has one fate, and the counts that an interface tells are how
+/// many frames have each.
+pub fn counts_tell_the_fates(config: BusConfig)
+    ensures waiting { (past : List Entry) → IsLegal config past → (i : ℕ) → frames_with fate.Waiting past i ≡ length (sent_by past i) - gone_count past i }
+    ensures done { (past : List Entry) → IsLegal config past → (i : ℕ) → frames_with fate.Done past i ≡ done_count past i }
+    ensures lost { (past : List Entry) → IsLegal config past → (i : ℕ) → frames_with fate.Lost past i ≡ lost_count past i }
 {
 }
