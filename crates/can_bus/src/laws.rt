@@ -8,7 +8,7 @@ ghost use Rattle.std.specs.List.{range_with_len};
 ghost use Rattle.can_bus.specs.Queues.{queued_to, dropped_at, taken_from, candidates_for};
 ghost use Rattle.can_bus.specs.Sockets.{places, open_sockets, iface_of};
 ghost use Rattle.can_bus.specs.Fates.{numbers_given, opening, closing, frames_with};
-ghost use Rattle.can_bus.specs.Fates.Fate as fate;
+ghost use Rattle.can_bus.specs.Fates.Fate.{Waiting, Done, Lost};
 ghost use Rattle.can_attempt.specs.declared.classes.Class.TheVariants as class;
 ghost use Rattle.can_bus.specs.declared.events.Closed.{Closed};
 ghost use Rattle.can_bus.specs.declared.events.SocketId.{SocketId};
@@ -109,8 +109,8 @@ pub fn copies_are_of_frames_sent(config: BusConfig)
 /// Each frame that was accepted for sending has one fate, and the counts that an interface tells are how
 /// many frames have each.
 pub fn counts_tell_the_fates(config: BusConfig)
-    ensures waiting { (past : List Entry) → IsLegal config past → (i : ℕ) → frames_with fate.Waiting past i ≡ length (sent_by past i) - gone_count past i }
-    ensures done { (past : List Entry) → IsLegal config past → (i : ℕ) → frames_with fate.Done past i ≡ done_count past i }
-    ensures lost { (past : List Entry) → IsLegal config past → (i : ℕ) → frames_with fate.Lost past i ≡ lost_count past i }
+    ensures waiting { (past : List Entry) → IsLegal config past → (i : ℕ) → frames_with Waiting past i ≡ length (sent_by past i) - gone_count past i }
+    ensures done { (past : List Entry) → IsLegal config past → (i : ℕ) → frames_with Done past i ≡ done_count past i }
+    ensures lost { (past : List Entry) → IsLegal config past → (i : ℕ) → frames_with Lost past i ≡ lost_count past i }
 {
 }
