@@ -14,3 +14,4 @@ pub mod TurnFacts
 pub mod LifeFacts
 pub mod OwnFacts
 pub mod FateFacts
+pub mod SilentFacts

@@ -1,4 +1,4 @@
-ghost use Rattle.std.specs.Prelude.{◌≡◌, ◌≢◌, ◌+◌, ◌-◌, ◌≤◌, ◌<◌, ◌==◌, ℕ, true, List, [], ◌∷◌, ◌++◌, length, map, count_by, All, AllPairs, Some, None};
+ghost use Rattle.std.specs.Prelude.{◌≡◌, ◌≢◌, ◌+◌, ◌-◌, ◌≤◌, ◌<◌, ◌==◌, ℕ, true, false, List, [], ◌∷◌, ◌++◌, length, map, count_by, All, AllPairs, Some, None};
 ghost use Rattle.can_confine.specs.Confinement.{is_off, at_start};
 ghost use Rattle.can_bus.specs.Journal.{IsConfig};
 ghost use Rattle.can_bus.specs.Transmit.{sent_by, gone_count, done_count, lost_count, head_of};
@@ -6,13 +6,19 @@ ghost use Rattle.can_bus.specs.Counters.{state_at, counts_of};
 ghost use Rattle.can_bus.specs.Copies.{received_from, copying, copy_of, numbers_from, NeverFall, went_over, InTurn, IsOfSent};
 ghost use Rattle.std.specs.List.{range_with_len};
 ghost use Rattle.can_bus.specs.Queues.{queued_to, dropped_at, taken_from, candidates_for};
-ghost use Rattle.can_bus.specs.Sockets.{places, open_sockets, iface_of};
-ghost use Rattle.can_bus.specs.Fates.{numbers_given, opening, closing, frames_with};
+ghost use Rattle.can_bus.specs.Sockets.{places, open_sockets, is_open, iface_of};
+ghost use Rattle.can_bus.specs.Fates.{numbers_given, opening, closing, is_restart_of, frames_with};
 ghost use Rattle.can_bus.specs.Fates.Fate.{Waiting, Done, Lost};
 ghost use Rattle.can_attempt.specs.declared.classes.Class.TheVariants as class;
 ghost use Rattle.can_bus.specs.declared.events.Closed.{Closed};
 ghost use Rattle.can_bus.specs.declared.events.SocketId.{SocketId};
-ghost use Rattle.can_bus.specs.Legal.{IsLegal};
+ghost use Rattle.can_bus.specs.Legal.{legal_reply, IsLegal};
+ghost use Rattle.can_bus.specs.declared.events.Event.TheVariants as event;
+ghost use Rattle.can_bus.specs.declared.events.Reply.TheVariants as reply;
+ghost use Rattle.can_bus.specs.declared.events.Refusal.TheVariants as refusal;
+ghost use Rattle.can_fault.specs.declared.verdicts.Verdict.{Verdict};
+ghost use Rattle.can_frame.specs.Frames.{CanFrame};
+ghost use Rattle.can_frame.specs.Sets.{is_in};
 ghost use Rattle.can_bus.specs.declared.events.Entry.{Entry};
 ghost use Rattle.can_bus.specs.declared.events.Tried.{Tried};
 
@@ -112,5 +118,15 @@ pub fn counts_tell_the_fates(config: BusConfig)
     ensures waiting { (past : List Entry) → IsLegal config past → (i : ℕ) → frames_with Waiting past i ≡ length (sent_by past i) - gone_count past i }
     ensures done { (past : List Entry) → IsLegal config past → (i : ℕ) → frames_with Done past i ≡ done_count past i }
     ensures lost { (past : List Entry) → IsLegal config past → (i : ℕ) → frames_with Lost past i ≡ lost_count past i }
+{
+}
+
+/// An interface that is bus off takes part in no attempt, and a frame sent on one of its sockets is
+/// refused; its error counts stay until it is restarted.
+pub fn off_interfaces_take_no_part(config: BusConfig)
+    ensures wins { (past : List Entry) → (m : ℕ) → (v : Verdict) → (t : Tried) → reply.Tried t ≡ legal_reply config past (event.Attempt m v) → (i : ℕ) → is_off (state_at config past i) ≡ true → t.winner ≢ i }
+    ensures accepts { (past : List Entry) → (m : ℕ) → (v : Verdict) → (t : Tried) → reply.Tried t ≡ legal_reply config past (event.Attempt m v) → (i : ℕ) → is_off (state_at config past i) ≡ true → is_in i t.accepted ≡ false }
+    ensures sends { (past : List Entry) → (s : SocketId) → (f : CanFrame) → is_open past s.0 ≡ true → is_off (state_at config past (iface_of past s.0)) ≡ true → legal_reply config past (event.Send s f) ≡ reply.Refused refusal.BusOff }
+    ensures counts { (past : List Entry) → (e : Entry) → IsLegal config (e ∷ past) → (i : ℕ) → is_off (state_at config past i) ≡ true → is_restart_of i e.event ≡ false → counts_of config (e ∷ past) i ≡ counts_of config past i }
 {
 }
