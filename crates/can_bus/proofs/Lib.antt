@@ -15,3 +15,4 @@ pub mod LifeFacts
 pub mod OwnFacts
 pub mod FateFacts
 pub mod SilentFacts
+pub mod QueueFacts

@@ -40,7 +40,7 @@ slice_get-push [] y k lt = absurd (omega (arith, lt))
 slice_get-push (x ∷ xs) y zero lt = refl
 slice_get-push (x ∷ xs) y (suc k) lt = slice_get-push xs y k (omega (arith, lt))
 
-places-kept : (e : Event) (r : Reply) (ps : List Place) (s : ℕ) → s < length ps → slice_get (places_after e r ps) s ≡ slice_get ps s
+pub places-kept : (e : Event) (r : Reply) (ps : List Place) (s : ℕ) → s < length ps → slice_get (places_after e r ps) s ≡ slice_get ps s
 places-kept (Open i n) (reply.Opened o) ps s made = slice_get-push ps _ s made
 places-kept _ _ ps s made = refl
 

@@ -1,4 +1,4 @@
-ghost use Rattle.std.specs.Prelude.{◌≡◌, ◌≢◌, ◌+◌, ◌-◌, ◌≤◌, ◌<◌, ◌==◌, ℕ, true, false, List, [], ◌∷◌, ◌++◌, length, map, count_by, All, AllPairs, Some, None};
+ghost use Rattle.std.specs.Prelude.{◌≡◌, ◌≢◌, ◌+◌, ◌-◌, ◌≤◌, ◌<◌, ◌==◌, ℕ, true, false, List, [], ◌∷◌, ◌++◌, length, map, take, count_by, All, AllPairs, Some, None};
 ghost use Rattle.can_confine.specs.Confinement.{is_off, at_start};
 ghost use Rattle.can_bus.specs.Journal.{IsConfig};
 ghost use Rattle.can_bus.specs.Transmit.{sent_by, gone_count, done_count, lost_count, head_of};
@@ -6,7 +6,7 @@ ghost use Rattle.can_bus.specs.Counters.{state_at, counts_of};
 ghost use Rattle.can_bus.specs.Copies.{received_from, copying, copy_of, numbers_from, NeverFall, went_over, InTurn, IsOfSent};
 ghost use Rattle.std.specs.List.{range_with_len};
 ghost use Rattle.can_bus.specs.Queues.{queued_to, dropped_at, taken_from, candidates_for};
-ghost use Rattle.can_bus.specs.Sockets.{places, open_sockets, is_open, iface_of};
+ghost use Rattle.can_bus.specs.Sockets.{places, open_sockets, is_open, iface_of, capacity_of};
 ghost use Rattle.can_bus.specs.Fates.{numbers_given, opening, closing, is_restart_of, frames_with};
 ghost use Rattle.can_bus.specs.Fates.Fate.{Waiting, Done, Lost};
 ghost use Rattle.can_attempt.specs.declared.classes.Class.TheVariants as class;
@@ -128,5 +128,18 @@ pub fn off_interfaces_take_no_part(config: BusConfig)
     ensures accepts { (past : List Entry) → (m : ℕ) → (v : Verdict) → (t : Tried) → reply.Tried t ≡ legal_reply config past (event.Attempt m v) → (i : ℕ) → is_off (state_at config past i) ≡ true → is_in i t.accepted ≡ false }
     ensures sends { (past : List Entry) → (s : SocketId) → (f : CanFrame) → is_open past s.0 ≡ true → is_off (state_at config past (iface_of past s.0)) ≡ true → legal_reply config past (event.Send s f) ≡ reply.Refused refusal.BusOff }
     ensures counts { (past : List Entry) → (e : Entry) → IsLegal config (e ∷ past) → (i : ℕ) → is_off (state_at config past i) ≡ true → is_restart_of i e.event ≡ false → counts_of config (e ∷ past) i ≡ counts_of config past i }
+{
+}
+
+/// The items that receive gave are the first that were queued, in order.
+pub fn items_are_taken_in_order(config: BusConfig)
+    ensures { (past : List Entry) → IsLegal config past → (s : ℕ) → taken_from past s ≡ take (length (taken_from past s)) (queued_to config past s) }
+{
+}
+
+/// No queue ever holds more than it may: neither a socket's nor an interface's.
+pub fn queues_stay_within_their_capacity(config: BusConfig)
+    ensures receive { (past : List Entry) → IsLegal config past → (s : ℕ) → length (queued_to config past s) - length (taken_from past s) ≤ capacity_of past s }
+    ensures transmit { (past : List Entry) → IsLegal config past → (i : ℕ) → length (sent_by past i) - gone_count past i ≤ config.tx_capacity }
 {
 }
