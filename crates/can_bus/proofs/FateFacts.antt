@@ -1,6 +1,6 @@
-use Rattle.std.proofs.Common.{◌≡◌, ◌≢◌, ◌⊎◌, ℕ, zero, suc, ◌+◌, ◌-◌, ◌<◌, ◌≤◌, ◌==◌, nat_le, nat_lt, Bool, true, false, not, ◌||◌, ◌&&◌, List, [], ◌∷◌, ◌++◌, length, filter, count_by, if◌then◌else◌, cond, refl, sym, ap, ◌∙◌, subst, arith, inl, inr}
+use Rattle.std.proofs.Common.{◌≡◌, ◌≢◌, ◌⊎◌, ℕ, zero, suc, ◌+◌, ◌-◌, ◌<◌, ◌≤◌, ◌==◌, nat_le, Bool, true, false, ◌||◌, ◌&&◌, List, [], ◌∷◌, ◌++◌, length, filter, count_by, if◌then◌else◌, cond, refl, sym, ap, ◌∙◌, arith, inl, inr}
 use Rattle.std.specs.List.{list_any, range_with_len}
-use Rattle.std.proofs.lemmas.Bool.{eqb-true, eq-eqb, ne_eqb, cases_lt, cases_eq, and_parts}
+use Rattle.std.proofs.lemmas.Bool.{eqb-true, eq-eqb, ne_eqb, cases_eq, and_parts}
 use Rattle.std.proofs.lemmas.List.{length-append}
 use Rattle.std.proofs.lemmas.List.Elements.{filter-append}
 use Rattle.std.proofs.lemmas.List.Folds.{list_any-append}
@@ -123,11 +123,11 @@ done-gone-tried c past m v t i n w le before h =
     or-cases (was_done past i n) (does i n t) (sym (was_done-more past t i n) ∙ h)
     (λ was. let grows = gone-grows-if (length (sent_by past i)) (gone_count past i) (is_in i t.off) ((t.winner == i) && is_done t.class) le in let lt = before was in omega (arith, grows, lt))
     (λ does_it.
-      let a = and_parts (t.winner == i) (is_done t.class && (t.number == n)) does_it in
-      let b = and_parts (is_done t.class) (t.number == n) a.1 in
-      let lt = gone-tried c past m v t i w (eqb-true t.winner i a.0) b.0 in
-      let same = eqb-true t.number n b.1 in
-      omega (arith, lt, same))
+    let a = and_parts (t.winner == i) (is_done t.class && (t.number == n)) does_it in
+    let b = and_parts (is_done t.class) (t.number == n) a.1 in
+    let lt = gone-tried c past m v t i w (eqb-true t.winner i a.0) b.0 in
+    let same = eqb-true t.number n b.1 in
+    omega (arith, lt, same))
 
 done-gone-step : (c : BusConfig) (past : List Entry) (i n : ℕ) (e : Event) (r : Reply) → r ≡ legal_reply c past e → gone_count past i ≤ length (sent_by past i) → (was_done past i n ≡ true → n < gone_count past i) → list_any (does i n) (tape_after r (tape past)) ≡ true → n < gone_after r i (length (sent_by past i)) (gone_count past i)
 done-gone-step c past i n e (reply.Tried t) law le before h = tried_by c past e t law (λ m v w. done-gone-tried c past m v t i n w le before h)

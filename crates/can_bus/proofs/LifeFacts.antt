@@ -1,25 +1,23 @@
-use Rattle.std.proofs.Common.{◌≡◌, ◌≢◌, ◌⊎◌, ℕ, zero, suc, ◌+◌, ◌-◌, ◌<◌, ◌≤◌, ◌==◌, nat_le, nat_lt, Bool, true, false, not, ◌||◌, ◌&&◌, List, [], ◌∷◌, ◌++◌, length, map, filter, take, drop, slice_get, Option, Some, None, if◌then◌else◌, cond, refl, sym, ap, ◌∙◌, subst, arith, inl, inr}
+use Rattle.std.proofs.Common.{◌≡◌, ℕ, zero, suc, ◌+◌, ◌-◌, ◌<◌, ◌≤◌, ◌==◌, nat_le, Bool, true, false, not, ◌||◌, ◌&&◌, List, [], ◌∷◌, ◌++◌, length, filter, take, drop, slice_get, Some, if◌then◌else◌, cond, refl, sym, ap, ◌∙◌, arith}
 use Rattle.std.specs.List.{list_any, range_with_len}
-use Rattle.std.proofs.lemmas.Bool.{eqb-true, ne_eqb, cases_lt, leb-false}
+use Rattle.std.proofs.lemmas.Bool.{ne_eqb, leb-false}
 use Rattle.std.proofs.lemmas.List.{length_push, length-append, length-take, length-drop}
 use Rattle.can_attempt.proofs.Places.{range_more}
-use Rattle.can_confine.specs.Confinement.{is_off}
 use Rattle.can_bus.specs.declared.events.Entry.{Entry}
 use Rattle.can_bus.specs.declared.events.Event.{Event}
-use Rattle.can_bus.specs.declared.events.Event.TheVariants.{Open, Close, SetFilters, SetOption, Send, Receive, Attempt, Restart}
+use Rattle.can_bus.specs.declared.events.Event.TheVariants.{Open, Close}
 use Rattle.can_bus.specs.declared.events.Reply.{Reply}
 use Rattle.can_bus.specs.declared.events.Reply.TheVariants as reply
 use Rattle.can_bus.specs.declared.events.Refusal.TheVariants as refusal
 use Rattle.can_bus.specs.declared.events.BusConfig.{BusConfig}
 use Rattle.can_bus.specs.declared.events.Closed.{Closed}
 use Rattle.can_bus.specs.declared.events.SocketId.{SocketId}
-use Rattle.can_bus.specs.declared.events.Received.{Received}
 use Rattle.can_bus.specs.Sockets.{Place, places, places_after, open_sockets, open_after, is_open, iface_of, capacity_of, filters_of, options_of}
 use Rattle.can_bus.specs.Posts.{posts_of}
 use Rattle.can_bus.specs.Queues.{queued_to, dropped_at, taken_from, candidates_of, candidates_for, passing}
 use Rattle.can_bus.specs.Legal.{legal_reply, IsLegal}
 use Rattle.can_bus.specs.Fates.{numbers_given, given_after, closing}
-use Rattle.can_bus.proofs.Lists.{Rises, Rises-slice_get}
+use Rattle.can_bus.proofs.Lists.{Rises}
 use Rattle.can_bus.proofs.Rising.{open_sockets-rise}
 use Rattle.can_bus.proofs.Lawful.{taken_from-le-queued}
 use Rattle.can_bus.proofs.Quiet.{queued_to-unoffered, queued_to-quiet}

@@ -1,4 +1,4 @@
-use Rattle.std.proofs.Common.{◌≡◌, ◌≢◌, ◌⊎◌, ℕ, zero, suc, ◌+◌, ◌-◌, ◌<◌, ◌≤◌, ◌==◌, nat_le, nat_lt, Bool, true, false, not, ◌||◌, ◌&&◌, List, [], ◌∷◌, ◌++◌, length, map, filter, slice_get, get_or, Option, Some, None, All, AllPairs, if◌then◌else◌, cond, refl, sym, ap, ◌∙◌, subst, arith, inl, inr}
+use Rattle.std.proofs.Common.{◌≡◌, ◌⊎◌, ℕ, zero, suc, ◌<◌, ◌≤◌, ◌==◌, nat_lt, Bool, true, false, not, ◌||◌, ◌&&◌, List, [], ◌∷◌, ◌++◌, length, map, filter, slice_get, get_or, Some, All, AllPairs, if◌then◌else◌, refl, sym, ap, ◌∙◌, subst, arith, inl, inr}
 use Rattle.std.specs.Option.{option_map}
 use Rattle.std.proofs.lemmas.Bool.{eqb-true, eq-eqb, cases_lt, and_parts}
 use Rattle.std.proofs.lemmas.List.Elements.{All-nil, All-push, All-weaker}
@@ -13,24 +13,23 @@ use Rattle.can_confine.specs.Confinement.{is_off}
 use Rattle.can_attempt.specs.Attempts as attempts
 use Rattle.can_bus.specs.declared.events.Entry.{Entry}
 use Rattle.can_bus.specs.declared.events.Event.{Event}
-use Rattle.can_bus.specs.declared.events.Event.TheVariants.{Open, Close, SetFilters, SetOption, Send, Receive, Attempt, Restart}
+use Rattle.can_bus.specs.declared.events.Event.TheVariants.{Open, Send}
 use Rattle.can_bus.specs.declared.events.Reply.{Reply}
 use Rattle.can_bus.specs.declared.events.Reply.TheVariants as reply
 use Rattle.can_bus.specs.declared.events.BusConfig.{BusConfig}
-use Rattle.can_bus.specs.declared.events.Received.{Received}
 use Rattle.can_bus.specs.declared.events.Tried.{Tried}
 use Rattle.can_bus.specs.declared.events.Pending.{Pending}
-use Rattle.can_bus.specs.Sockets.{Place, places, places_after, is_open, iface_of, iface_in}
-use Rattle.can_bus.specs.Transmit.{sent_by, sent_after, gone_count}
+use Rattle.can_bus.specs.Sockets.{Place, places, places_after, iface_of, iface_in}
+use Rattle.can_bus.specs.Transmit.{sent_by, sent_after}
 use Rattle.can_bus.specs.Counters.{transmission}
 use Rattle.can_bus.specs.Posts.{is_looped_back}
 use Rattle.can_bus.specs.Queues.{queued_to}
 use Rattle.can_bus.specs.Legal.{legal_reply, IsLegal}
-use Rattle.can_bus.specs.Copies.{is_from, comes_to, is_copied, copying, copying_after, copy_of, InTurn, IsOfSent}
+use Rattle.can_bus.specs.Copies.{is_from, is_copied, copying, copying_after, copy_of, InTurn, IsOfSent}
 use Rattle.can_bus.proofs.Lawful.{WasTried, tried_by}
 use Rattle.can_bus.proofs.OffFacts.{is_in-of}
 use Rattle.can_bus.proofs.CopyFacts.{received-copies}
-use Rattle.can_bus.proofs.TurnFacts.{Facts, facts, looped-done, IsCopied, copied, here, copying-turns}
+use Rattle.can_bus.proofs.TurnFacts.{Facts, facts, looped-done, copied, here, copying-turns}
 use Rattle.can_bus.proofs.LifeFacts.{unmade-closed, queued-shut, queued-unmade}
 
 -- ---- a socket's interface stays

@@ -1,8 +1,8 @@
-use Rattle.std.proofs.Common.{◌≡◌, ◌≢◌, ℕ, ◌<◌, ◌≤◌, ◌==◌, nat_lt, Bool, true, false, not, ◌&&◌, List, [], ◌∷◌, ◌++◌, if◌then◌else◌, refl, sym, ap, ◌∙◌, append-nil}
+use Rattle.std.proofs.Common.{◌≡◌, ◌≢◌, ℕ, ◌==◌, nat_lt, Bool, true, false, not, ◌&&◌, List, [], ◌∷◌, ◌++◌, if◌then◌else◌, refl, sym, ap, ◌∙◌, append-nil}
 use Rattle.std.proofs.lemmas.Bool.{ne_eqb}
 use Rattle.can_frame.specs.Frames.{CanFrame}
 use Rattle.can_frame.specs.Sets.{is_in}
-use Rattle.can_confine.specs.Confinement.{Step, all_stepped, at_start, is_off}
+use Rattle.can_confine.specs.Confinement.{all_stepped, at_start, is_off}
 use Rattle.can_fault.specs.declared.verdicts.Verdict.{Verdict}
 use Rattle.can_attempt.specs.declared.classes.Class.{Class}
 use Rattle.can_attempt.specs.declared.classes.Class.TheVariants as class
@@ -80,8 +80,8 @@ steps-stay : (c : BusConfig) (past : List Entry) (i : ℕ) (e : Event) (r : Repl
 steps-stay c past i e (reply.Tried t) law off other =
     by_attempt (λ k. steps_after c k (reply.Tried t) (counts_of c past) i (steps_of c past i) ≡ steps_of c past i) c past e t law
     (λ m v w.
-      let apart : (i == t.winner) ≡ false = ne_eqb i t.winner (λ same. silent-at c past m v t i w off (sym same)) in
-      ap (λ ss. steps_of c past i ++ ss) (steps-none (transmission c past t.winner v) i apart (no_receiver (transmission c past t.winner v) i off)) ∙ append-nil (steps_of c past i))
+    let apart : (i == t.winner) ≡ false = ne_eqb i t.winner (λ same. silent-at c past m v t i w off (sym same)) in
+    ap (λ ss. steps_of c past i ++ ss) (steps-none (transmission c past t.winner v) i apart (no_receiver (transmission c past t.winner v) i off)) ∙ append-nil (steps_of c past i))
 steps-stay c past i (Restart k m) reply.Done law off other = ap (λ b. if b then [] else steps_of c past i) other
 steps-stay c past i (Open j n) _ law off other = refl
 steps-stay c past i (Close s) _ law off other = refl

@@ -1,41 +1,33 @@
-use Rattle.std.proofs.Common.{◌≡◌, ◌≢◌, ◌⊎◌, ℕ, zero, suc, ◌+◌, ◌-◌, ◌<◌, ◌≤◌, ◌==◌, nat_le, nat_lt, Bool, true, false, not, ◌||◌, ◌&&◌, List, [], ◌∷◌, ◌++◌, length, map, filter, count_by, slice_get, get_or, Option, Some, None, All, AllPairs, if◌then◌else◌, cond, refl, sym, ap, ◌∙◌, subst, arith, inl, inr}
-use Rattle.std.specs.List.{list_any}
+use Rattle.std.proofs.Common.{◌≡◌, ℕ, zero, suc, ◌+◌, ◌<◌, ◌≤◌, ◌==◌, nat_lt, Bool, true, false, ◌||◌, ◌&&◌, List, [], ◌∷◌, ◌++◌, length, map, filter, count_by, slice_get, Option, Some, None, All, AllPairs, if◌then◌else◌, cond, refl, sym, ap, ◌∙◌, subst, arith}
 use Rattle.std.specs.Option.{option_map}
-use Rattle.std.proofs.lemmas.Bool.{eqb-true, cases_lt, and_parts}
-use Rattle.std.proofs.lemmas.List.{length_push}
-use Rattle.std.proofs.lemmas.List.Elements.{All-nil, All-cons, All-push, All-weaker}
+use Rattle.std.proofs.lemmas.Bool.{eqb-true, and_parts}
+use Rattle.std.proofs.lemmas.List.Elements.{All-nil, All-cons, All-weaker}
 use Rattle.std.proofs.lemmas.List.Kept.{AllPairs-cons}
 use Rattle.std.proofs.lemmas.List.Sums.{length-filter}
-use Rattle.can_frame.specs.Frames.{CanFrame}
 use Rattle.can_frame.specs.Sets.{is_in}
 use Rattle.can_frame.specs.declared.items.Item.TheVariants as item
 use Rattle.can_filter.specs.Passing.{wants}
 use Rattle.can_fault.specs.declared.verdicts.Verdict.{Verdict}
 use Rattle.can_attempt.specs.declared.classes.Class.{Class}
 use Rattle.can_attempt.specs.declared.classes.Class.TheVariants as class
-use Rattle.can_attempt.specs.Attempts.{Transmission, is_among, set_of, receivers, can_hear, is_named, unhurt, accepted_in, class_of}
-use Rattle.can_attempt.proofs.Places.{is_among-unhurt}
+use Rattle.can_attempt.specs.Attempts.{Transmission, set_of, accepted_in, class_of}
 use Rattle.can_bus.specs.declared.events.Entry.{Entry}
 use Rattle.can_bus.specs.declared.events.Event.{Event}
-use Rattle.can_bus.specs.declared.events.Event.TheVariants.{Open, Close, SetFilters, SetOption, Send, Receive, Attempt, Restart}
 use Rattle.can_bus.specs.declared.events.Reply.{Reply}
 use Rattle.can_bus.specs.declared.events.Reply.TheVariants as reply
 use Rattle.can_bus.specs.declared.events.BusConfig.{BusConfig}
 use Rattle.can_bus.specs.declared.events.Received.{Received}
 use Rattle.can_bus.specs.declared.events.Tried.{Tried}
 use Rattle.can_bus.specs.declared.events.Pending.{Pending}
-use Rattle.can_bus.specs.Sockets.{Place, places, places_after, open_sockets, is_open, iface_of, iface_in, filters_of, options_of}
-use Rattle.can_bus.specs.Transmit.{sent_by, sent_after, gone_count, gone_after, head_of, is_done}
+use Rattle.can_bus.specs.Sockets.{is_open, iface_of, filters_of, options_of}
+use Rattle.can_bus.specs.Transmit.{sent_by, gone_count, gone_after, is_done}
 use Rattle.can_bus.specs.Counters.{transmission}
 use Rattle.can_bus.specs.Posts.{is_looped_back, is_own, sender_in}
 use Rattle.can_bus.specs.Queues.{queued_to}
-use Rattle.can_bus.specs.Attempts.{tried_with}
 use Rattle.can_bus.specs.Legal.{legal_reply, IsLegal}
-use Rattle.can_bus.specs.Copies.{is_from, numbers_from, NeverFall, comes_to, has_room, is_copied, copying, copying_after, copy_of, went_over, InTurn, IsOfSent}
-use Rattle.can_bus.proofs.Lists.{Rises}
-use Rattle.can_bus.proofs.Rising.{open_sockets-rise}
+use Rattle.can_bus.specs.Copies.{numbers_from, NeverFall, comes_to, has_room, is_copied, copying, copying_after, copy_of, went_over, InTurn}
 use Rattle.can_bus.proofs.Lawful.{WasTried, tried_by, gone-le-sent}
-use Rattle.can_bus.proofs.OffFacts.{is_in-of, open-place}
+use Rattle.can_bus.proofs.OffFacts.{is_in-of}
 use Rattle.can_bus.proofs.CopyFacts.{received-copies}
 
 -- ---- attempts in turn
@@ -147,9 +139,9 @@ comes-over : (c : BusConfig) (past : List Entry) (m : ℕ) (v : Verdict) (t : Tr
 comes-over c past m v t j p w h =
     comes-over-if t.class (is_in j t.accepted) (j == t.winner) p h
     (λ a.
-      let tr = transmission c past w.place v in
-      let same : is_in j (set_of (accepted_in (class_of tr) tr)) ≡ true = ap (λ (u : Tried). is_in j u.accepted) (sym w.is) ∙ a in
-      ap (λ (u : Tried). went_over u.class) w.is ∙ accepted-over (class_of tr) tr j same)
+    let tr = transmission c past w.place v in
+    let same : is_in j (set_of (accepted_in (class_of tr) tr)) ≡ true = ap (λ (u : Tried). is_in j u.accepted) (sym w.is) ∙ a in
+    ap (λ (u : Tried). went_over u.class) w.is ∙ accepted-over (class_of tr) tr j same)
 
 -- a copy's frame came to the socket's interface
 pub record IsCopied (past : List Entry) (s : ℕ) (t : Tried) : Type 0 where
