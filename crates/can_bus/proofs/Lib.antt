@@ -28,3 +28,8 @@ pub mod Winning
 pub mod Attempting
 pub mod Restarting
 pub mod Telling
+pub mod LifeFacts
+pub mod OwnFacts
+pub mod FateFacts
+pub mod SilentFacts
+pub mod QueueFacts

@@ -1,9 +1,9 @@
-use Rattle.std.proofs.Common.{◌≡◌, ◌≢◌, ◌⊎◌, ℕ, zero, suc, ◌+◌, ◌-◌, ◌^◌, ◌<◌, ◌≤◌, ◌==◌, nat_le, nat_lt, Bool, true, false, not, ◌||◌, ◌&&◌, List, [], ◌∷◌, ◌++◌, length, find, filter, bit_or, slice_get, Option, Some, None, is_some, if◌then◌else◌, cond, refl, sym, ap, ◌∙◌, subst, arith, inl, inr, append-nil}
+use Rattle.std.proofs.Common.{◌≡◌, ◌≢◌, ◌⊎◌, ℕ, zero, suc, ◌+◌, ◌-◌, ◌^◌, ◌<◌, ◌≤◌, ◌==◌, nat_le, nat_lt, Bool, true, false, not, ◌||◌, ◌&&◌, List, [], ◌∷◌, ◌++◌, length, find, bit_or, slice_get, Some, None, is_some, if◌then◌else◌, refl, sym, ap, ◌∙◌, subst, arith, inl, inr, append-nil}
 use Rattle.std.specs.List.{list_any, range_with_len}
 use Rattle.std.specs.Int.{bit_at}
 use Rattle.std.proofs.lemmas.Bool.{eqb-true, eq-eqb, ne_eqb, cases_eq, leb-false, and_parts, or_left, or_right}
 use Rattle.std.proofs.lemmas.Nat.Bits.{bit_at_or, bit_at-pow_same, bit_at-pow_other, bit_at_above}
-use Rattle.std.proofs.lemmas.Option.{slice_get_past, slice_get_within}
+use Rattle.std.proofs.lemmas.Option.{slice_get_past}
 use Rattle.can_frame.specs.Sets.{is_in, bits_where}
 use Rattle.can_confine.specs.Confinement.{ErrorCounts, Step, all_stepped, stepped, at_start, state_of, is_off}
 use Rattle.can_fault.specs.declared.verdicts.Verdict.{Verdict}
@@ -21,10 +21,10 @@ use Rattle.can_bus.specs.declared.events.Refusal.TheVariants as refusal
 use Rattle.can_bus.specs.declared.events.BusConfig.{BusConfig}
 use Rattle.can_bus.specs.declared.events.Tried.{Tried}
 use Rattle.can_bus.specs.declared.events.Pending.{Pending}
-use Rattle.can_bus.specs.Sockets.{places, open_sockets, is_open, iface_of}
+use Rattle.can_bus.specs.Sockets.{open_sockets, is_open, iface_of}
 use Rattle.can_bus.specs.Transmit.{sent_by, sent_after, gone_count, gone_after, head_of, is_done}
 use Rattle.can_bus.specs.Counters.{counts_of, steps_of, steps_after, state_at, transmission}
-use Rattle.can_bus.specs.Attempts.{winner, contenders, beats, tried_with, attempt_reply}
+use Rattle.can_bus.specs.Attempts.{winner, contenders, beats}
 use Rattle.can_bus.specs.Legal.{legal_reply, IsLegal}
 use Rattle.can_bus.proofs.Lawful.{WasTried, was_tried, open-iface}
 
@@ -313,10 +313,10 @@ steps-step : (c : BusConfig) (past : List Entry) (i : ℕ) (e : Event) (r : Repl
 steps-step c past i e (reply.Tried t) law above none =
     by_attempt (λ k. steps_after c k (reply.Tried t) (counts_of c past) i (steps_of c past i) ≡ []) c past e t law
     (λ m v w.
-      let who : t.winner ≡ w.place = ap (λ (u : Tried). u.winner) w.is in
-      let below = (winner-contends c past w.place w.won).below in
-      let other : (i == t.winner) ≡ false = ne_eqb i t.winner (λ same. absurd (omega (arith, same, who, below, above))) in
-      ap (λ ss. steps_of c past i ++ ss) (steps-nowhere (transmission c past t.winner v) i other above) ∙ append-nil (steps_of c past i) ∙ none)
+    let who : t.winner ≡ w.place = ap (λ (u : Tried). u.winner) w.is in
+    let below = (winner-contends c past w.place w.won).below in
+    let other : (i == t.winner) ≡ false = ne_eqb i t.winner (λ same. absurd (omega (arith, same, who, below, above))) in
+    ap (λ ss. steps_of c past i ++ ss) (steps-nowhere (transmission c past t.winner v) i other above) ∙ append-nil (steps_of c past i) ∙ none)
 steps-step c past i (Restart k m) reply.Done law above none = when (k == i)
   where
     when : (b : Bool) → (if b then [] else steps_of c past i) ≡ []
