@@ -1,37 +1,33 @@
-use Rattle.std.proofs.Common.{◌≡◌, ◌≢◌, ℕ, zero, suc, ◌+◌, ◌-◌, ◌<◌, ◌≤◌, ◌==◌, nat_lt, Bool, true, false, not, ◌||◌, ◌&&◌, List, [], ◌∷◌, ◌++◌, length, map, take, drop, slice_get, slice_set, slice_index_or, Option, Some, None, is_some, if◌then◌else◌, cond, inl, inr, refl, sym, ap, ◌∙◌, arith, subst}
-use Rattle.std.specs.List.{range_with_len, list_any}
+use Rattle.std.proofs.Common.{◌≡◌, ◌≢◌, ℕ, zero, suc, ◌+◌, ◌-◌, ◌<◌, ◌≤◌, ◌==◌, nat_lt, Bool, true, false, ◌||◌, ◌&&◌, List, [], ◌∷◌, ◌++◌, length, map, take, drop, slice_get, slice_set, slice_index_or, Option, Some, None, is_some, if◌then◌else◌, inl, inr, refl, sym, ap, ◌∙◌, arith, subst}
+use Rattle.std.specs.List.{range_with_len}
 use mathlib.Core.Path.{fun_ext}
 use Rattle.std.proofs.lemmas.Bool.{eq-eqb, ne_eqb, cond-true, cond-false, and_right, cases_lt}
 use Rattle.std.proofs.lemmas.List.{length_push, length-append, length-drop, drop-append-le, drop-drop, get_or_past, length-map}
 use Rattle.std.proofs.lemmas.List.FromFn.{length-range_with_len}
 use Rattle.can_frame.specs.Frames.{CanFrame}
 use Rattle.can_frame.specs.Sets.{is_in}
-use Rattle.can_frame.specs.declared.ifaces.IfaceSet.{IfaceSet}
 use Rattle.can_arbiter.specs.Keys.{IsWinner, IsIdle}
 use Rattle.can_confine.specs.Confinement.{ErrorCounts, Step, all_stepped, stepped, at_start, state_of, is_off}
 use Rattle.can_fault.specs.declared.verdicts.Verdict.{Verdict}
 use Rattle.can_attempt.specs.declared.nodes.Nodes.{Nodes}
-use Rattle.can_attempt.specs.declared.classes.Class.{Class}
-use Rattle.can_attempt.specs.declared.judgements.Judgement.{Judgement}
 use Rattle.can_attempt.specs.Attempts.{Transmission, attempt_between, counts_at, judged, set_of, is_among, off_after, counts_after, steps_at}
 use Rattle.can_bus.specs.declared.events.BusConfig.{BusConfig}
 use Rattle.can_bus.specs.declared.events.Entry.{Entry}
 use Rattle.can_bus.specs.declared.events.Event.TheVariants.{Attempt}
 use Rattle.can_bus.specs.declared.events.Pending.{Pending}
 use Rattle.can_bus.specs.declared.events.Received.{Received}
-use Rattle.can_bus.specs.declared.events.Reply.{Reply}
 use Rattle.can_bus.specs.declared.events.Reply.TheVariants as reply
 use Rattle.can_bus.specs.declared.events.Tried.{Tried}
 use Rattle.can_bus.specs.Answer.{told_attempt, counted}
 use Rattle.can_bus.specs.Sockets.{places, open_sockets, is_open, iface_of, capacity_of, filters_of, options_of}
 use Rattle.can_bus.specs.Transmit.{sent_by, gone_count, done_count, head_of, tape, is_done}
-use Rattle.can_bus.specs.Counters.{counts_of, steps_of, state_at, transmission, sending}
+use Rattle.can_bus.specs.Counters.{counts_of, steps_of, state_at, transmission}
 use Rattle.can_bus.specs.Attempts.{winner, tried_with, attempt_reply, tried_head}
 use Rattle.can_bus.specs.Posts.{Post, attempt_posts, posts_of}
 use Rattle.can_bus.specs.Queues.{passing, candidates_of, queued_to, dropped_at, taken_from}
 use Rattle.can_bus.specs.Legal.{legal_reply, IsLegal}
 use Rattle.can_bus.specs.State.{LineState, SocketState, Parts, filled, reached, key_in, kept_line, kept_lines, kept_socket, kept_sockets, kept_keys, kept_nodes, kept_parts}
-use Rattle.can_bus.specs.Changes.{Carries, Tries, settled, IsReady, AreReady, is_off_at}
+use Rattle.can_bus.specs.Changes.{Carries, Tries, settled, AreReady, is_off_at}
 use Rattle.can_bus.proofs.Keeping.{Follows, IsQuiet, kept_sockets-quiet, parts-are}
 use Rattle.can_bus.proofs.KeyFacts.{kept_keys-one}
 use Rattle.can_bus.proofs.LineFacts.{IsLine, IsLine-at, kept_lines-one, length-kept_lines}
@@ -256,12 +252,12 @@ tried_follows c past parts m v None new new_keys new_nodes after tried legal few
     record {
       lawful = ap (attempt_reply c past m v) (sym nobody);
       after = parts-are (kept_parts c (e ∷ past)) new new_keys new_nodes after parts.opened tried
-      (tries.1 ∙ ap (λ (q : Parts). q.lines) are ∙ sym same.0)
-      (tries.2 ∙ ap (λ (q : Parts). q.keys) are ∙ sym same.1)
-      (tries.3 ∙ ap (λ (q : Parts). q.nodes) are ∙ sym same.2)
-      (tries.4 ∙ ap (λ (q : Parts). q.sockets) are ∙ sym (kept_sockets-quiet c past e (idle-quiet c past m v)))
-      (ap (λ (q : Parts). q.opened) are)
-      (tried_is ∙ ap (λ (q : Parts). q.tried) are);
+          (tries.1 ∙ ap (λ (q : Parts). q.lines) are ∙ sym same.0)
+          (tries.2 ∙ ap (λ (q : Parts). q.keys) are ∙ sym same.1)
+          (tries.3 ∙ ap (λ (q : Parts). q.nodes) are ∙ sym same.2)
+          (tries.4 ∙ ap (λ (q : Parts). q.sockets) are ∙ sym (kept_sockets-quiet c past e (idle-quiet c past m v)))
+          (ap (λ (q : Parts). q.opened) are)
+          (tried_is ∙ ap (λ (q : Parts). q.tried) are);
     }
 tried_follows c past parts m v (Some t) new new_keys new_nodes after tried legal few are k tried_is =
     let e = entry m v (Some t) in
@@ -269,12 +265,12 @@ tried_follows c past parts m v (Some t) new new_keys new_nodes after tried legal
     record {
       lawful = reply-tried c past m v t k.place k.line k.pending is;
       after = parts-are (kept_parts c (e ∷ past)) new new_keys new_nodes after parts.opened tried
-      (lines-tried c past m v t parts.lines new k.place k.line k.pending (ap (λ (q : Parts). q.lines) are) is k.lines_after)
-      (keys-tried c past m v t parts.keys new_keys k.place k.line k.pending few (ap (λ (q : Parts). q.keys) are) is k.keys_after)
-      (nodes-tried c past m v t parts.nodes new_nodes k.place k.line k.pending legal few (ap (λ (q : Parts). q.nodes) are) is k.nodes_after)
-      (sockets-told c past e (attempt_posts c.reporting (attempt_between parts.nodes k.place v c.ack) t (Some k.pending)) parts.sockets after legal (ap (λ (q : Parts). q.sockets) are) (posts-tried c past parts.nodes m v t k.place k.line k.pending legal few (ap (λ (q : Parts). q.nodes) are) is) refl refl (λ o. refl) (λ o. refl) (λ o. refl) k.sockets_after)
-      (ap (λ (q : Parts). q.opened) are)
-      (tried_is ∙ ap (λ (q : Parts). q.tried + 1) are ∙ sym (length_push (tape past) t));
+          (lines-tried c past m v t parts.lines new k.place k.line k.pending (ap (λ (q : Parts). q.lines) are) is k.lines_after)
+          (keys-tried c past m v t parts.keys new_keys k.place k.line k.pending few (ap (λ (q : Parts). q.keys) are) is k.keys_after)
+          (nodes-tried c past m v t parts.nodes new_nodes k.place k.line k.pending legal few (ap (λ (q : Parts). q.nodes) are) is k.nodes_after)
+          (sockets-told c past e (attempt_posts c.reporting (attempt_between parts.nodes k.place v c.ack) t (Some k.pending)) parts.sockets after legal (ap (λ (q : Parts). q.sockets) are) (posts-tried c past parts.nodes m v t k.place k.line k.pending legal few (ap (λ (q : Parts). q.nodes) are) is) refl refl (λ o. refl) (λ o. refl) (λ o. refl) k.sockets_after)
+          (ap (λ (q : Parts). q.opened) are)
+          (tried_is ∙ ap (λ (q : Parts). q.tried + 1) are ∙ sym (length_push (tape past) t));
     }
 
 -- each interface with a key is there, is live, and has a frame to send
@@ -290,8 +286,8 @@ ready c past parts legal few are w k at =
       counted = omega arith;
       live = ap (λ (q : Parts). is_off_at q.nodes w) are ∙ is_off_at-kept c past w has.few ∙ not_true (is_off (state_at c past w)) (λ off. let none = off-no-head c past legal few w off in clash has.pending (head_of past w) has.head none);
       has_head = λ l at_w.
-      let line = IsLine-at c past parts.lines w l (ap (λ (q : Parts). q.lines) are) at_w in
-      ap (λ (x : LineState). is_some (slice_get x.waiting 0)) line.left ∙ ap (λ (q : Option Pending). is_some q) (slice_get-drop (gone_count past w) (sent_by past w) ∙ has.head);
+          let line = IsLine-at c past parts.lines w l (ap (λ (q : Parts). q.lines) are) at_w in
+          ap (λ (x : LineState). is_some (slice_get x.waiting 0)) line.left ∙ ap (λ (q : Option Pending). is_some q) (slice_get-drop (gone_count past w) (sent_by past w) ∙ has.head);
     }
   where
     not_true : (b : Bool) → (b ≡ true → ⊥) → b ≡ false

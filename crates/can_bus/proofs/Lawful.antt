@@ -1,8 +1,7 @@
-use Rattle.std.proofs.Common.{◌≡◌, ◌≢◌, ℕ, zero, suc, ◌+◌, ◌-◌, ◌<◌, ◌≤◌, ◌==◌, nat_le, Bool, true, false, not, ◌||◌, ◌&&◌, List, [], ◌∷◌, ◌++◌, length, map, take, drop, find, slice_get, Option, Some, None, is_some, if◌then◌else◌, cond, All, refl, sym, ap, ◌∙◌, ◌*◌, subst, arith}
-use Rattle.std.specs.List.{range_with_len}
-use Rattle.std.proofs.lemmas.Bool.{eqb-true, cases_Bool, leb-false, and_parts}
+use Rattle.std.proofs.Common.{◌≡◌, ℕ, zero, suc, ◌+◌, ◌-◌, ◌<◌, ◌≤◌, ◌==◌, nat_le, Bool, true, false, not, ◌||◌, ◌&&◌, List, [], ◌∷◌, ◌++◌, length, slice_get, Option, Some, None, if◌then◌else◌, refl, sym, ap, ◌∙◌, ◌*◌, subst, arith}
+use Rattle.std.proofs.lemmas.Bool.{eqb-true, leb-false, and_parts}
 use Rattle.std.proofs.lemmas.List.{length_push, length-append, length-take, length-drop}
-use Rattle.std.proofs.lemmas.Option.{slice_get_within, slice_get-get_or, same_Some}
+use Rattle.std.proofs.lemmas.Option.{slice_get_within, slice_get-get_or}
 use Rattle.can_frame.specs.Frames.{ErrorMessage}
 use Rattle.can_frame.specs.Sets.{is_in}
 use Rattle.can_frame.specs.declared.ifaces.IfaceSet.{IfaceSet}

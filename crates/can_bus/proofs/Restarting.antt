@@ -1,20 +1,19 @@
-use Rattle.std.proofs.Common.{◌≡◌, ◌≢◌, ℕ, ◌+◌, ◌<◌, ◌≤◌, ◌==◌, nat_le, Bool, true, false, List, [], ◌∷◌, length, map, slice_set, Result, Ok, Err, if◌then◌else◌, refl, sym, ap, ◌∙◌, arith, subst}
+use Rattle.std.proofs.Common.{◌≡◌, ◌≢◌, ℕ, ◌<◌, ◌≤◌, ◌==◌, nat_le, true, false, List, [], ◌∷◌, map, slice_set, Result, Ok, Err, refl, sym, ap, ◌∙◌, arith, subst}
 use Rattle.std.specs.List.{range_with_len}
 use Rattle.std.proofs.lemmas.Bool.{eq-eqb, ne_eqb, cond-true, cond-false, le-leb, lt-leb}
-use Rattle.can_confine.specs.Confinement.{ErrorCounts, Step, all_stepped, at_start, state_of, is_off}
+use Rattle.can_confine.specs.Confinement.{ErrorCounts, Step, all_stepped, at_start, is_off}
 use Rattle.can_attempt.specs.declared.nodes.Nodes.{Nodes}
 use Rattle.can_bus.specs.declared.events.BusConfig.{BusConfig}
 use Rattle.can_bus.specs.declared.events.Entry.{Entry}
 use Rattle.can_bus.specs.declared.events.Event.TheVariants.{Restart}
 use Rattle.can_bus.specs.declared.events.Refusal.{Refusal}
 use Rattle.can_bus.specs.declared.events.Refusal.TheVariants as refusal
-use Rattle.can_bus.specs.declared.events.Reply.{Reply}
 use Rattle.can_bus.specs.declared.events.Reply.TheVariants as reply
 use Rattle.can_bus.specs.Answer.{told, done_reply}
 use Rattle.can_bus.specs.Counters.{counts_of, steps_of, state_at}
 use Rattle.can_bus.specs.Posts.{restart_posts}
 use Rattle.can_bus.specs.Legal.{legal_reply, IsLegal}
-use Rattle.can_bus.specs.State.{SocketState, Parts, kept_lines, kept_keys, kept_nodes, kept_sockets, kept_parts}
+use Rattle.can_bus.specs.State.{SocketState, Parts, kept_lines, kept_keys, kept_nodes, kept_parts}
 use Rattle.can_bus.specs.Changes.{Restarts, is_off_at}
 use Rattle.can_bus.proofs.Attempting.{sockets-told, count-kept}
 use Rattle.can_bus.proofs.Keeping.{Follows, IsUncounted, follows_refused, parts-are}
@@ -60,12 +59,12 @@ restarted_follows c past parts i m (Ok done) new after legal few are restarts =
     record {
       lawful = sym (cond-false (nat_le c.ifaces i) _ _ (lt-leb c.ifaces i below) ∙ cond-true (is_off (state_at c past i)) _ _ off);
       after = parts-are (kept_parts c (e ∷ past)) parts.lines parts.keys new after parts.opened parts.tried
-      (ap (λ (q : Parts). q.lines) are ∙ sym same.0)
-      (ap (λ (q : Parts). q.keys) are ∙ sym same.1)
-      (nodes-restarted c past i m parts.nodes new few_i nodes_are restarts.2)
-      (sockets-told c past e (restart_posts i m) parts.sockets after legal (ap (λ (q : Parts). q.sockets) are) (λ j. refl) refl refl (λ o. refl) (λ o. refl) (λ o. refl) restarts.3)
-      (ap (λ (q : Parts). q.opened) are)
-      (ap (λ (q : Parts). q.tried) are);
+          (ap (λ (q : Parts). q.lines) are ∙ sym same.0)
+          (ap (λ (q : Parts). q.keys) are ∙ sym same.1)
+          (nodes-restarted c past i m parts.nodes new few_i nodes_are restarts.2)
+          (sockets-told c past e (restart_posts i m) parts.sockets after legal (ap (λ (q : Parts). q.sockets) are) (λ j. refl) refl refl (λ o. refl) (λ o. refl) (λ o. refl) restarts.3)
+          (ap (λ (q : Parts). q.opened) are)
+          (ap (λ (q : Parts). q.tried) are);
     }
 restarted_follows c past parts i m (Err refusal.NoInterface) new after legal few are restarts =
     let nodes_are : parts.nodes ≡ kept_nodes c past = ap (λ (q : Parts). q.nodes) are in

@@ -153,12 +153,12 @@ taken_follows c past parts new new_keys s f n proper legal are takes =
     record {
       lawful = ap (λ (m : ℕ). reply.Sent m) takes.number ∙ reply-sent c past s f takes.socket takes.line is live takes.room;
       after = parts-are (kept_parts c (entry s f (Ok n) ∷ past)) new new_keys parts.nodes parts.sockets parts.opened parts.tried
-        (lines-sent c past parts.lines new s f n takes.socket takes.line legal lines_are is takes.after)
-        (keys-sent c past parts.keys new_keys s f n takes.socket takes.line legal few (ap (λ (q : Parts). q.keys) are) is takes.keys_after)
-        (nodes_are ∙ sym (nodes-sent c past s f n))
-        (sockets_are ∙ sym (kept_sockets-quiet c past (entry s f (Ok n)) (sent-quiet c past s f n)))
-        (ap (λ (q : Parts). q.opened) are)
-        (ap (λ (q : Parts). q.tried) are);
+          (lines-sent c past parts.lines new s f n takes.socket takes.line legal lines_are is takes.after)
+          (keys-sent c past parts.keys new_keys s f n takes.socket takes.line legal few (ap (λ (q : Parts). q.keys) are) is takes.keys_after)
+          (nodes_are ∙ sym (nodes-sent c past s f n))
+          (sockets_are ∙ sym (kept_sockets-quiet c past (entry s f (Ok n)) (sent-quiet c past s f n)))
+          (ap (λ (q : Parts). q.opened) are)
+          (ap (λ (q : Parts). q.tried) are);
     }
 
 -- ---- a frame that found the queue full
@@ -199,12 +199,12 @@ full_follows c past parts new s f proper are full =
     record {
       lawful = reply-full c past s f full.socket full.line is live full.full;
       after = parts-are (kept_parts c (full_entry s f ∷ past)) new parts.keys parts.nodes parts.sockets parts.opened parts.tried
-        (lines-full c past parts.lines new s f full.socket full.line lines_are is full.after)
-        (ap (λ (q : Parts). q.keys) are ∙ sym (keys-full past s f))
-        (nodes_are ∙ sym (nodes-full c past s f))
-        (sockets_are ∙ sym (kept_sockets-quiet c past (full_entry s f) (refused-quiet c past (Send s f) refusal.NoBuffers)))
-        (ap (λ (q : Parts). q.opened) are)
-        (ap (λ (q : Parts). q.tried) are);
+          (lines-full c past parts.lines new s f full.socket full.line lines_are is full.after)
+          (ap (λ (q : Parts). q.keys) are ∙ sym (keys-full past s f))
+          (nodes_are ∙ sym (nodes-full c past s f))
+          (sockets_are ∙ sym (kept_sockets-quiet c past (full_entry s f) (refused-quiet c past (Send s f) refusal.NoBuffers)))
+          (ap (λ (q : Parts). q.opened) are)
+          (ap (λ (q : Parts). q.tried) are);
     }
 
 -- ---- refusals that count nothing
