@@ -16,3 +16,4 @@ pub mod OwnFacts
 pub mod FateFacts
 pub mod SilentFacts
 pub mod QueueFacts
+pub mod LostFacts
