@@ -33,3 +33,4 @@ pub mod OwnFacts
 pub mod FateFacts
 pub mod SilentFacts
 pub mod QueueFacts
+pub mod LostFacts

@@ -1,7 +1,7 @@
 use Rattle.std.proofs.Common.{◌≡◌, ◌≢◌, ◌⊎◌, ℕ, zero, suc, ◌+◌, ◌-◌, ◌^◌, ◌<◌, ◌≤◌, ◌==◌, nat_le, nat_lt, Bool, true, false, not, ◌||◌, ◌&&◌, List, [], ◌∷◌, ◌++◌, length, find, bit_or, slice_get, Some, None, is_some, if◌then◌else◌, refl, sym, ap, ◌∙◌, subst, arith, inl, inr, append-nil}
 use Rattle.std.specs.List.{list_any, range_with_len}
 use Rattle.std.specs.Int.{bit_at}
-use Rattle.std.proofs.lemmas.Bool.{eqb-true, eq-eqb, ne_eqb, cases_eq, leb-false, and_parts, or_left, or_right}
+use Rattle.std.proofs.lemmas.Bool.{eqb-true, eq-eqb, ne_eqb, cases_eq, leb-false, and_parts, or_left, or_right, and_left, and_right}
 use Rattle.std.proofs.lemmas.Nat.Bits.{bit_at_or, bit_at-pow_same, bit_at-pow_other, bit_at_above}
 use Rattle.std.proofs.lemmas.Option.{slice_get_past}
 use Rattle.can_frame.specs.Sets.{is_in, bits_where}
@@ -177,10 +177,6 @@ gone-there sent gone true here is same = refl
 gone-there sent gone false true is same = cc
 gone-there sent gone false false is same = same
 
-and-false : (a b : Bool) → a ≡ false → (a && b) ≡ false
-and-false true b h = cc
-and-false false b h = refl
-
 abbrev pub GoneIfOff : BusConfig → List Entry → ℕ → Type 0
 GoneIfOff c past i = is_off (state_at c past i) ≡ true → gone_count past i ≡ length (sent_by past i)
 
@@ -211,7 +207,7 @@ off-tried c past m v t i few w before off = choose (cases_eq i t.winner)
     choose (inl same) = gone-here (length (sent_by past i)) (gone_count past i) (is_in i t.off) ((t.winner == i) && is_done t.class) (here same)
     choose (inr other) =
         let was : is_off (state_at c past i) ≡ true = sym (winner-alone-off (transmission c past t.winner v) i other) ∙ off in
-        gone-there (length (sent_by past i)) (gone_count past i) (is_in i t.off) ((t.winner == i) && is_done t.class) (and-false (t.winner == i) (is_done t.class) (ne_eqb t.winner i (λ e. other (sym e)))) (before was)
+        gone-there (length (sent_by past i)) (gone_count past i) (is_in i t.off) ((t.winner == i) && is_done t.class) (and_left (t.winner == i) (is_done t.class) (ne_eqb t.winner i (λ e. other (sym e)))) (before was)
 
 abbrev off_with : BusConfig → List Entry → ℕ → Event → Reply → Bool
 off_with c past i e r = is_off (state_of (all_stepped at_start (steps_after c e r (counts_of c past) i (steps_of c past i))))
@@ -302,12 +298,8 @@ head-below c past legal i p head = when (nat_le c.ifaces i) refl
 steps-nowhere : (t : Transmission) (i : ℕ) → (i == t.winner) ≡ false → t.count ≤ i → steps_at i t ≡ []
 steps-nowhere t i other above =
     let deaf : nat_lt i t.count ≡ false = grind (arith, above) in
-    let among : is_among i (receivers t) ≡ false = is_among-receivers t i ∙ and-false-right (can_hear t i) (nat_lt i t.count) deaf in
+    let among : is_among i (receivers t) ≡ false = is_among-receivers t i ∙ and_right (can_hear t i) (nat_lt i t.count) deaf in
     rw (other, among) refl
-  where
-    and-false-right : (a b : Bool) → b ≡ false → (a && b) ≡ false
-    and-false-right true b h = h
-    and-false-right false b h = refl
 
 steps-step : (c : BusConfig) (past : List Entry) (i : ℕ) (e : Event) (r : Reply) → r ≡ legal_reply c past e → c.ifaces ≤ i → steps_of c past i ≡ [] → steps_after c e r (counts_of c past) i (steps_of c past i) ≡ []
 steps-step c past i e (reply.Tried t) law above none =

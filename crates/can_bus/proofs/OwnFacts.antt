@@ -1,6 +1,6 @@
 use Rattle.std.proofs.Common.{◌≡◌, ◌⊎◌, ℕ, zero, suc, ◌<◌, ◌≤◌, ◌==◌, nat_lt, Bool, true, false, not, ◌||◌, ◌&&◌, List, [], ◌∷◌, ◌++◌, length, map, filter, slice_get, get_or, Some, All, AllPairs, if◌then◌else◌, refl, sym, ap, ◌∙◌, subst, arith, inl, inr}
 use Rattle.std.specs.Option.{option_map}
-use Rattle.std.proofs.lemmas.Bool.{eqb-true, eq-eqb, cases_lt, and_parts}
+use Rattle.std.proofs.lemmas.Bool.{eqb-true, eq-eqb, cases_lt, and_parts, and_right}
 use Rattle.std.proofs.lemmas.List.Elements.{All-nil, All-push, All-weaker}
 use Rattle.can_frame.specs.Frames.{CanFrame}
 use Rattle.can_frame.specs.Sets.{is_in}
@@ -56,15 +56,11 @@ deaf a false c d h = cc
 unhurt-not : (tr : Transmission) (j : ℕ) → (j == tr.winner) ≡ true → is_among j (unhurt tr) ≡ false
 unhurt-not tr j wins = is_among-unhurt tr j ∙ deaf (not (is_named tr.verdict j)) (j == tr.winner) (not (is_off (attempts.state_at tr j))) (nat_lt j tr.count) wins
 
-and-none : (a b : Bool) → b ≡ false → (a && b) ≡ false
-and-none true b h = h
-and-none false b h = refl
-
 pub not-accepted : (k : Class) (tr : Transmission) (j : ℕ) → (j == tr.winner) ≡ true → is_in j (set_of (accepted_in k tr)) ≡ false
-not-accepted class.Done tr j wins = is_in-of (unhurt tr) j ∙ and-none (nat_lt j 16) (is_among j (unhurt tr)) (unhurt-not tr j wins)
-not-accepted class.LastBit tr j wins = is_in-of (unhurt tr) j ∙ and-none (nat_lt j 16) (is_among j (unhurt tr)) (unhurt-not tr j wins)
-not-accepted class.Destroyed tr j wins = is_in-of [] j ∙ and-none (nat_lt j 16) false refl
-not-accepted class.NoAck tr j wins = is_in-of [] j ∙ and-none (nat_lt j 16) false refl
+not-accepted class.Done tr j wins = is_in-of (unhurt tr) j ∙ and_right (nat_lt j 16) (is_among j (unhurt tr)) (unhurt-not tr j wins)
+not-accepted class.LastBit tr j wins = is_in-of (unhurt tr) j ∙ and_right (nat_lt j 16) (is_among j (unhurt tr)) (unhurt-not tr j wins)
+not-accepted class.Destroyed tr j wins = is_in-of [] j ∙ and_right (nat_lt j 16) false refl
+not-accepted class.NoAck tr j wins = is_in-of [] j ∙ and_right (nat_lt j 16) false refl
 
 looped : (x y z : Bool) → x ≡ false → (x || (y && z)) ≡ true → z ≡ true
 looped true y z off h = cc

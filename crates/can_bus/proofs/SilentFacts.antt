@@ -1,5 +1,5 @@
 use Rattle.std.proofs.Common.{◌≡◌, ◌≢◌, ℕ, ◌==◌, nat_lt, Bool, true, false, not, ◌&&◌, List, [], ◌∷◌, ◌++◌, if◌then◌else◌, refl, sym, ap, ◌∙◌, append-nil}
-use Rattle.std.proofs.lemmas.Bool.{ne_eqb}
+use Rattle.std.proofs.lemmas.Bool.{ne_eqb, and_left, and_right}
 use Rattle.can_frame.specs.Frames.{CanFrame}
 use Rattle.can_frame.specs.Sets.{is_in}
 use Rattle.can_confine.specs.Confinement.{all_stepped, at_start, is_off}
@@ -35,25 +35,17 @@ cannot_hear t i off = deaf (not (i == t.winner)) (is_off (attempts.state_at t i)
     deaf false true h = refl
     deaf a false h = cc
 
-and-left : (a b : Bool) → a ≡ false → (a && b) ≡ false
-and-left true b h = cc
-and-left false b h = refl
-
-and-right : (a b : Bool) → b ≡ false → (a && b) ≡ false
-and-right true b h = h
-and-right false b h = refl
-
 no_receiver : (t : Transmission) (i : ℕ) → is_off (attempts.state_at t i) ≡ true → is_among i (receivers t) ≡ false
-no_receiver t i off = is_among-receivers t i ∙ and-left (can_hear t i) (nat_lt i t.count) (cannot_hear t i off)
+no_receiver t i off = is_among-receivers t i ∙ and_left (can_hear t i) (nat_lt i t.count) (cannot_hear t i off)
 
 not_unhurt : (t : Transmission) (i : ℕ) → is_off (attempts.state_at t i) ≡ true → is_among i (unhurt t) ≡ false
-not_unhurt t i off = is_among-unhurt t i ∙ and-right (not (is_named t.verdict i)) (can_hear t i && nat_lt i t.count) (and-left (can_hear t i) (nat_lt i t.count) (cannot_hear t i off))
+not_unhurt t i off = is_among-unhurt t i ∙ and_right (not (is_named t.verdict i)) (can_hear t i && nat_lt i t.count) (and_left (can_hear t i) (nat_lt i t.count) (cannot_hear t i off))
 
 off-not-accepted : (k : Class) (t : Transmission) (i : ℕ) → is_off (attempts.state_at t i) ≡ true → is_in i (set_of (accepted_in k t)) ≡ false
-off-not-accepted class.Done t i off = is_in-of (unhurt t) i ∙ and-right (nat_lt i 16) (is_among i (unhurt t)) (not_unhurt t i off)
-off-not-accepted class.LastBit t i off = is_in-of (unhurt t) i ∙ and-right (nat_lt i 16) (is_among i (unhurt t)) (not_unhurt t i off)
-off-not-accepted class.Destroyed t i off = is_in-of [] i ∙ and-right (nat_lt i 16) false refl
-off-not-accepted class.NoAck t i off = is_in-of [] i ∙ and-right (nat_lt i 16) false refl
+off-not-accepted class.Done t i off = is_in-of (unhurt t) i ∙ and_right (nat_lt i 16) (is_among i (unhurt t)) (not_unhurt t i off)
+off-not-accepted class.LastBit t i off = is_in-of (unhurt t) i ∙ and_right (nat_lt i 16) (is_among i (unhurt t)) (not_unhurt t i off)
+off-not-accepted class.Destroyed t i off = is_in-of [] i ∙ and_right (nat_lt i 16) false refl
+off-not-accepted class.NoAck t i off = is_in-of [] i ∙ and_right (nat_lt i 16) false refl
 
 silent-at : (c : BusConfig) (past : List Entry) (m : ℕ) (v : Verdict) (t : Tried) (i : ℕ) → WasTried c past m v t → is_off (state_at c past i) ≡ true → t.winner ≢ i
 silent-at c past m v t i w off same =

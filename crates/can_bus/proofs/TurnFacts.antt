@@ -1,6 +1,7 @@
-use Rattle.std.proofs.Common.{◌≡◌, ℕ, zero, suc, ◌+◌, ◌<◌, ◌≤◌, ◌==◌, nat_lt, Bool, true, false, ◌||◌, ◌&&◌, List, [], ◌∷◌, ◌++◌, length, map, filter, count_by, slice_get, Option, Some, None, All, AllPairs, if◌then◌else◌, cond, refl, sym, ap, ◌∙◌, subst, arith}
+use Rattle.std.proofs.Common.{◌≡◌, ℕ, suc, ◌+◌, ◌<◌, ◌≤◌, ◌==◌, nat_lt, Bool, true, false, ◌||◌, ◌&&◌, List, [], ◌∷◌, ◌++◌, length, map, filter, count_by, slice_get, Option, Some, None, All, AllPairs, if◌then◌else◌, cond, refl, sym, ap, ◌∙◌, subst, arith}
 use Rattle.std.specs.Option.{option_map}
-use Rattle.std.proofs.lemmas.Bool.{eqb-true, and_parts}
+use Rattle.std.proofs.lemmas.Bool.{eqb-true, and_parts, and_right}
+use Rattle.std.proofs.lemmas.Option.{slice_get_within}
 use Rattle.std.proofs.lemmas.List.Elements.{All-nil, All-cons, All-weaker}
 use Rattle.std.proofs.lemmas.List.Kept.{AllPairs-cons}
 use Rattle.std.proofs.lemmas.List.Sums.{length-filter}
@@ -94,15 +95,10 @@ pub record Facts (past : List Entry) (i : ℕ) (t : Tried) : Type 0 where
   pub waits : gone_count past i < length (sent_by past i)
   pub frame : option_map (λ (p : Pending). p.frame) (slice_get (sent_by past i) (gone_count past i)) ≡ Some t.frame
 
-within : {X : Type 0} (xs : List X) (k : ℕ) (x : X) → slice_get xs k ≡ Some x → k < length xs
-within [] k x at = cc
-within (y ∷ ys) zero x at = omega arith
-within (y ∷ ys) (suc k) x at = let lt = within ys k x at in omega (arith, lt)
-
 facts-at : (c : BusConfig) (past : List Entry) (m : ℕ) (v : Verdict) (t : Tried) → (w : WasTried c past m v t) → Facts past w.place t
 facts-at c past m v t w = record {
   number = ap (λ (u : Tried). u.number) w.is;
-  waits = within (sent_by past w.place) (gone_count past w.place) w.pending w.head;
+  waits = slice_get_within (sent_by past w.place) (gone_count past w.place) w.pending w.head;
   frame = ap (option_map (λ (p : Pending). p.frame)) w.head ∙ ap (λ (u : Tried). Some u.frame) (sym w.is);
 }
 
@@ -111,15 +107,11 @@ facts c past m v t i w same = subst (λ k. Facts past k t) (sym (ap (λ (u : Tri
 
 -- ---- a frame that comes to an interface went over
 
-and-false : (b : Bool) → (b && false) ≡ false
-and-false true = refl
-and-false false = refl
-
 accepted-over : (k : Class) (tr : Transmission) (j : ℕ) → is_in j (set_of (accepted_in k tr)) ≡ true → went_over k ≡ true
 accepted-over class.Done tr j h = refl
 accepted-over class.LastBit tr j h = refl
-accepted-over class.Destroyed tr j h = let e : true ≡ false = sym h ∙ is_in-of [] j ∙ and-false (nat_lt j 16) in cc
-accepted-over class.NoAck tr j h = let e : true ≡ false = sym h ∙ is_in-of [] j ∙ and-false (nat_lt j 16) in cc
+accepted-over class.Destroyed tr j h = let e : true ≡ false = sym h ∙ is_in-of [] j ∙ and_right (nat_lt j 16) false refl in cc
+accepted-over class.NoAck tr j h = let e : true ≡ false = sym h ∙ is_in-of [] j ∙ and_right (nat_lt j 16) false refl in cc
 
 pub looped-done : (k : Class) (p : Option Pending) → is_looped_back k p ≡ true → k ≡ class.Done
 looped-done class.Done p h = refl
@@ -172,9 +164,6 @@ pub gone-grows-if : (sent gone : ℕ) (off mine : Bool) → gone ≤ sent → go
 gone-grows-if sent gone true mine le = le
 gone-grows-if sent gone false true le = omega arith
 gone-grows-if sent gone false false le = omega arith
-
-eq-true : (n : ℕ) (i : ℕ) → n ≡ i → (n == i) ≡ true
-eq-true n i e = grind (arith, e)
 
 follow-tried : (c : BusConfig) (past : List Entry) (i s m : ℕ) (v : Verdict) (t : Tried) → WasTried c past m v t → gone_count past i ≤ length (sent_by past i) → Follow 0 (gone_count past i) (copying c past i s) → Follow 0 (gone_after (reply.Tried t) i (length (sent_by past i)) (gone_count past i)) (copying_after c past i s (reply.Tried t) (copying c past i s))
 follow-tried c past i s m v t w le before = when (here c past i s t) refl

@@ -1,5 +1,6 @@
 use Rattle.std.specs.Prelude.{ℕ, ◌==◌, nat_le, Bool, true, false, ◌&&◌, List, [], ◌∷◌, ◌++◌, length, count_by, if◌then◌else◌}
 use Rattle.std.specs.List.{list_any, range_with_len}
+use Rattle.can_frame.specs.Sets.{is_in}
 use Rattle.can_bus.specs.declared.events.Entry.{Entry}
 use Rattle.can_bus.specs.declared.events.Event.{Event}
 use Rattle.can_bus.specs.declared.events.Event.TheVariants.{Open, Close, Restart}
@@ -32,6 +33,15 @@ was_done past i n = list_any (λ (t : Tried). (t.winner == i) && (is_done t.clas
 abbrev pub fate_of : List Entry → ℕ → ℕ → Fate
 fate_of past i n = if nat_le (gone_count past i) n then Waiting else if was_done past i n then Done else Lost
 
+-- how many of the frames that were accepted on interface i have this fate
+abbrev pub frames_with : Fate → List Entry → ℕ → ℕ
+frames_with fate past i = count_by (λ n. is_fate (fate_of past i n) fate) (range_with_len 0 (length (sent_by past i)))
+
+-- interface i goes bus off in an attempt
+abbrev pub goes_off : ℕ → Reply → Bool
+goes_off i (reply.Tried t) = is_in i t.off
+goes_off i _ = false
+
 abbrev pub given_after : Event → Reply → List ℕ → List ℕ
 given_after (Open i capacity) (reply.Opened s) before = before ++ s.0 ∷ []
 given_after _ _ before = before
@@ -53,7 +63,3 @@ closing s counts = record { event = Close s; reply = reply.Closed counts }
 abbrev pub is_restart_of : ℕ → Event → Bool
 is_restart_of i (Restart k m) = k == i
 is_restart_of i _ = false
-
--- how many of the frames that were accepted on interface i have this fate
-abbrev pub frames_with : Fate → List Entry → ℕ → ℕ
-frames_with fate past i = count_by (λ n. is_fate (fate_of past i n) fate) (range_with_len 0 (length (sent_by past i)))
