@@ -11,6 +11,7 @@ use Rattle.can_confine.specs.Confinement.{ErrorCounts, Step, all_stepped, steppe
 use Rattle.can_fault.specs.declared.verdicts.Verdict.{Verdict}
 use Rattle.can_attempt.specs.declared.nodes.Nodes.{Nodes}
 use Rattle.can_attempt.specs.Attempts.{Transmission, attempt_between, counts_at, judged, set_of, is_among, off_after, counts_after, steps_at}
+use Rattle.can_attempt.proofs.Standing.{is_in-of}
 use Rattle.can_bus.specs.declared.events.BusConfig.{BusConfig}
 use Rattle.can_bus.specs.declared.events.Entry.{Entry}
 use Rattle.can_bus.specs.declared.events.Event.TheVariants.{Attempt}
@@ -34,7 +35,7 @@ use Rattle.can_bus.proofs.LineFacts.{IsLine, IsLine-at, kept_lines-one, length-k
 use Rattle.can_bus.proofs.Lists.{slice_get-drop, list_any_there}
 use Rattle.can_bus.proofs.Lawful.{taken_from-le-queued}
 use Rattle.can_bus.proofs.NodeFacts.{counts_at-kept, is_off_at-kept}
-use Rattle.can_bus.proofs.OffFacts.{is_in-of, head-below, counts-beyond, off-no-head}
+use Rattle.can_bus.proofs.OffFacts.{all_stepped-append, head-below, counts-beyond, off-no-head}
 use Rattle.can_bus.proofs.Winning.{winner-is, idle-is, holds_key}
 
 abbrev pub entry : ℕ → Verdict → Option Tried → Entry
@@ -171,10 +172,6 @@ keys-tried c past m v t old new w l p few are is after =
     ∙ sym (kept_keys-one past e w below (λ j ne. ap (λ (n : ℕ). slice_get (sent_by past j) n) (gone-other c past m v t w j p.frame is.tried_is ne)))
 
 -- ---- the error counts
-
-all_stepped-append : (k : ErrorCounts) (xs ys : List Step) → all_stepped k (xs ++ ys) ≡ all_stepped (all_stepped k xs) ys
-all_stepped-append k [] ys = refl
-all_stepped-append k (x ∷ xs) ys = all_stepped-append (stepped k x) xs ys
 
 counts-tried : (c : BusConfig) (past : List Entry) (m : ℕ) (v : Verdict) (t : Tried) (i : ℕ) → counts_of c (entry m v (Some t) ∷ past) i ≡ counts_after (transmission c past t.winner v) i
 counts-tried c past m v t i = all_stepped-append at_start (steps_of c past i) (steps_at i (transmission c past t.winner v))

@@ -26,13 +26,10 @@ use Rattle.can_bus.specs.Posts.{Post, is_own, sender_in, posts_of, data_posts, e
 use Rattle.can_bus.specs.Queues.{taken_from, queued_to, candidates_of, passing}
 use Rattle.can_bus.specs.Legal.{legal_reply, IsLegal}
 use Rattle.can_bus.specs.Copies.{is_data, is_from, received_from, comes_to, has_room, is_copied, copying, copying_after, copy_of}
-use Rattle.can_bus.proofs.OffFacts.{by_attempt}
+use Rattle.can_bus.proofs.Lawful.{by_attempt}
+use Rattle.can_bus.proofs.Quiet.{take_nil}
 
 -- ---- error message frames are no data frames
-
-take_nil : {X : Type 0} (n : ℕ) → ◌≡◌ {A = List X} (take n []) []
-take_nil zero = refl
-take_nil (suc n) = refl
 
 abbrev AreErrors : List Post → Type 0
 AreErrors [] = Unit {0}

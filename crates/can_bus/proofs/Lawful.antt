@@ -93,15 +93,18 @@ never : {P : Type 0} (t : Tried) (r : Reply) → reply.Tried t ≡ r → is_trie
 never t r law untried = let e : true ≡ false = ap is_tried law ∙ untried in cc
 
 -- only an attempt answers with a tried frame
+pub by_attempt : (P : Event → Type 0) (c : BusConfig) (past : List Entry) (e : Event) (t : Tried) → reply.Tried t ≡ legal_reply c past e → ((m : ℕ) (v : Verdict) → WasTried c past m v t → P (Attempt m v)) → P e
+by_attempt P c past (Attempt m v) t law k = k m v (was_tried c past m v t law)
+by_attempt P c past (Open i n) t law k = never t _ law (untried-if (nat_le c.ifaces i) _ _ refl (untried-if (not (nat_le 1 n && nat_le n 65536)) _ _ refl (untried-if (nat_le 64 (length (open_sockets past))) _ _ refl refl)))
+by_attempt P c past (Close s) t law k = never t _ law (untried-if (is_open past s.0) _ _ refl refl)
+by_attempt P c past (SetFilters s f) t law k = never t _ law (untried-if (is_open past s.0) _ _ refl refl)
+by_attempt P c past (SetOption s o) t law k = never t _ law (untried-if (is_open past s.0) _ _ refl refl)
+by_attempt P c past (Send s f) t law k = never t _ law (untried-if (is_open past s.0) _ _ (untried-if (is_off (state_at c past (iface_of past s.0))) _ _ refl (untried-if (length (sent_by past (iface_of past s.0)) - gone_count past (iface_of past s.0) == c.tx_capacity) _ _ refl refl)) refl)
+by_attempt P c past (Receive s) t law k = never t _ law (untried-if (is_open past s.0) _ _ refl refl)
+by_attempt P c past (Restart i m) t law k = never t _ law (untried-if (nat_le c.ifaces i) _ _ refl (untried-if (is_off (state_at c past i)) _ _ refl refl))
+
 pub tried_by : {P : Type 0} (c : BusConfig) (past : List Entry) (e : Event) (t : Tried) → reply.Tried t ≡ legal_reply c past e → ((m : ℕ) (v : Verdict) → WasTried c past m v t → P) → P
-tried_by c past (Attempt m v) t law k = k m v (was_tried c past m v t law)
-tried_by c past (Open i n) t law k = never t _ law (untried-if (nat_le c.ifaces i) _ _ refl (untried-if (not (nat_le 1 n && nat_le n 65536)) _ _ refl (untried-if (nat_le 64 (length (open_sockets past))) _ _ refl refl)))
-tried_by c past (Close s) t law k = never t _ law (untried-if (is_open past s.0) _ _ refl refl)
-tried_by c past (SetFilters s f) t law k = never t _ law (untried-if (is_open past s.0) _ _ refl refl)
-tried_by c past (SetOption s o) t law k = never t _ law (untried-if (is_open past s.0) _ _ refl refl)
-tried_by c past (Send s f) t law k = never t _ law (untried-if (is_open past s.0) _ _ (untried-if (is_off (state_at c past (iface_of past s.0))) _ _ refl (untried-if (length (sent_by past (iface_of past s.0)) - gone_count past (iface_of past s.0) == c.tx_capacity) _ _ refl refl)) refl)
-tried_by c past (Receive s) t law k = never t _ law (untried-if (is_open past s.0) _ _ refl refl)
-tried_by c past (Restart i m) t law k = never t _ law (untried-if (nat_le c.ifaces i) _ _ refl (untried-if (is_off (state_at c past i)) _ _ refl refl))
+tried_by {P = P} c past e t law k = by_attempt (λ f. P) c past e t law k
 
 -- ---- no more frames are gone than were sent, and no more are done than are gone
 

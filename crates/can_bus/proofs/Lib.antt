@@ -11,7 +11,6 @@ pub mod NodeFacts
 pub mod SocketFacts
 pub mod Running
 pub mod Lawful
-pub mod SetFacts
 pub mod Roles
 pub mod Filling
 pub mod Bounds

@@ -19,7 +19,8 @@ use Rattle.can_bus.specs.Counters.{state_at, transmission}
 use Rattle.can_bus.specs.Legal.{legal_reply, IsLegal}
 use Rattle.can_bus.specs.Fates.{goes_off}
 use Rattle.can_bus.proofs.Lawful.{WasTried, tried_by, gone-le-sent, done-le-gone}
-use Rattle.can_bus.proofs.OffFacts.{is_in-of, winner-contends}
+use Rattle.can_attempt.proofs.Standing.{is_in-of}
+use Rattle.can_bus.proofs.OffFacts.{winner-contends}
 
 -- ---- where no interface goes off, none is lost
 

@@ -27,7 +27,7 @@ use Rattle.can_bus.specs.Queues.{queued_to}
 use Rattle.can_bus.specs.Legal.{legal_reply, IsLegal}
 use Rattle.can_bus.specs.Copies.{is_from, is_copied, copying, copying_after, copy_of, InTurn, IsOfSent}
 use Rattle.can_bus.proofs.Lawful.{WasTried, tried_by}
-use Rattle.can_bus.proofs.OffFacts.{is_in-of}
+use Rattle.can_attempt.proofs.Standing.{is_in-of}
 use Rattle.can_bus.proofs.CopyFacts.{received-copies}
 use Rattle.can_bus.proofs.TurnFacts.{Facts, facts, looped-done, copied, here, copying-turns}
 use Rattle.can_bus.proofs.LifeFacts.{unmade-closed, queued-shut, queued-unmade}

@@ -5,7 +5,7 @@ use Rattle.can_bus.specs.Sockets.{is_open, iface_of, capacity_of, filters_of, op
 use Rattle.can_bus.specs.Posts.{posts_of}
 use Rattle.can_bus.specs.Queues.{passing, candidates_of, queued_to, dropped_at, taken_from}
 
-take_nil : {X : Type 0} (n : ℕ) → ◌≡◌ {A = List X} (take n []) []
+pub take_nil : {X : Type 0} (n : ℕ) → ◌≡◌ {A = List X} (take n []) []
 take_nil zero = refl
 take_nil (suc n) = refl
 

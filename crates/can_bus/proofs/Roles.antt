@@ -7,7 +7,7 @@ use Rattle.can_attempt.proofs.Places.{is_among-receivers}
 use Rattle.can_errframe.specs.declared.roles.Role.{Role}
 use Rattle.can_errframe.specs.declared.roles.Role.TheVariants as role
 use Rattle.can_bus.specs.Posts.{role_at}
-use Rattle.can_bus.proofs.SetFacts.{is_in-set_of}
+use Rattle.can_attempt.proofs.Standing.{is_in-set_of}
 
 abbrev not_hit : Transmission → ℕ → Option Role
 not_hit t i = if is_among i (receivers t) then Some role.Other else None

@@ -23,7 +23,9 @@ use Rattle.can_bus.specs.Counters.{counts_of, steps_of, steps_after, state_at, t
 use Rattle.can_bus.specs.Legal.{legal_reply, IsLegal}
 use Rattle.can_bus.specs.Fates.{is_restart_of}
 use Rattle.can_bus.proofs.Lawful.{WasTried, was_tried}
-use Rattle.can_bus.proofs.OffFacts.{is_in-of, winner-contends, by_attempt}
+use Rattle.can_attempt.proofs.Standing.{is_in-of}
+use Rattle.can_bus.proofs.Lawful.{by_attempt}
+use Rattle.can_bus.proofs.OffFacts.{winner-contends}
 
 -- ---- an interface that is bus off hears nothing
 

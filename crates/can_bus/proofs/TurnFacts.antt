@@ -28,7 +28,7 @@ use Rattle.can_bus.specs.Queues.{queued_to}
 use Rattle.can_bus.specs.Legal.{legal_reply, IsLegal}
 use Rattle.can_bus.specs.Copies.{numbers_from, NeverFall, comes_to, has_room, is_copied, copying, copying_after, copy_of, went_over, InTurn}
 use Rattle.can_bus.proofs.Lawful.{WasTried, tried_by, gone-le-sent}
-use Rattle.can_bus.proofs.OffFacts.{is_in-of}
+use Rattle.can_attempt.proofs.Standing.{is_in-of}
 use Rattle.can_bus.proofs.CopyFacts.{received-copies}
 
 -- ---- attempts in turn
