@@ -82,7 +82,12 @@ impl<F: FaultSource + Drop> Bench<F> {
     }
 
     // Carries out the line of this number.
-    fn take_line<W: Write>(&mut self, number: u32, line: &[u8], out: &mut W) -> Result<(), BenchFault> {
+    fn take_line<W: Write>(
+        &mut self,
+        number: u32,
+        line: &[u8],
+        out: &mut W,
+    ) -> Result<(), BenchFault> {
         let bad_line = BenchFault::BadLine(number);
         let Some(order) = read_order(line) else {
             return Err(bad_line);

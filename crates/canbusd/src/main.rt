@@ -36,7 +36,14 @@ use std::{env, io};
 fn main(rt: HostRuntime) -> ExitCode {
     let alloc = rt.alloc();
     let status = match read_words(&rt) {
-        Ok(words) => run_words(&rt, alloc, &words, rt.stdin(), rt.stdout(), &mut rt.stderr()),
+        Ok(words) => run_words(
+            &rt,
+            alloc,
+            &words,
+            rt.stdin(),
+            rt.stdout(),
+            &mut rt.stderr(),
+        ),
         Err(error) if error.kind() == ErrorKind::OutOfMemory => {
             fail(Fault::NoMemory, &mut rt.stderr())
         }

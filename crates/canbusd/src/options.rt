@@ -20,7 +20,8 @@ const LIMIT: &str = "limit";
 
 const BUS: &str = "BUS";
 
-const PROGRAM_HELP: &str = "`canbusd help bench` explains the options of bench and the lines that it reads.
+const PROGRAM_HELP: &str =
+    "`canbusd help bench` explains the options of bench and the lines that it reads.
 
 Example:
   canbusd bench can0,can1 < examples/first_frame.bench";
@@ -148,14 +149,18 @@ fn ack_option<'a>(alloc: Global) -> Arg<'a> {
         .value_name("MODE")
         .value_parser([ALWAYS, PEERS].as_slice())
         .default_value(ALWAYS)
-        .help("Who acknowledges frames: a silent node that is always there, or other interfaces alone")
+        .help(
+            "Who acknowledges frames: a silent node that is always there, or other interfaces alone",
+        )
 }
 
 fn report_option<'a>(alloc: Global) -> Arg<'a> {
     Arg::new(alloc, REPORT)
         .long(REPORT)
         .action(ArgAction::SetTrue)
-        .help("Make error message frames for each fault (classes 088 and 0A0), not for changes of state alone")
+        .help(
+            "Make error message frames for each fault (classes 088 and 0A0), not for changes of state alone",
+        )
 }
 
 fn number_option<'a>(alloc: Global, name: &'a str, default: &'a str, help: &'a str) -> Arg<'a> {
@@ -167,7 +172,7 @@ fn number_option<'a>(alloc: Global, name: &'a str, default: &'a str, help: &'a s
 }
 
 fn bus_argument<'a>(alloc: Global) -> Arg<'a> {
-    Arg::new(alloc, BUS)
-        .required(true)
-        .help("Names of 1 to 16 interfaces, joined by commas, or NAMES@FILE with a script of faults")
+    Arg::new(alloc, BUS).required(true).help(
+        "Names of 1 to 16 interfaces, joined by commas, or NAMES@FILE with a script of faults",
+    )
 }

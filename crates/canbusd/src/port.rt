@@ -73,11 +73,7 @@ impl Port {
     }
 
     /// Puts the next frame on the bus, if a live interface has one, under these faults.
-    pub fn attempt(
-        &mut self,
-        moment: Moment,
-        verdict: Verdict,
-    ) -> Result<Option<Tried>, Refusal> {
+    pub fn attempt(&mut self, moment: Moment, verdict: Verdict) -> Result<Option<Tried>, Refusal> {
         self.bus.attempt(moment, verdict)
     }
 }
