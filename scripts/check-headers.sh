@@ -32,31 +32,53 @@ CAN_RAW_FILTER_MAX       512        crates/can_filter/src/filter_sets.rt   MAX_F
 CAN_RAW_FILTER_MAX       512        crates/can_filter/src/filter_sets.rt   (512 < length filters.now)
 CAN_ERR_TX_TIMEOUT       0x001      -
 CAN_ERR_LOSTARB          0x002      -
-CAN_ERR_CRTL             0x004      -
-CAN_ERR_PROT             0x008      -
+CAN_ERR_CRTL             0x004      crates/can_errframe/specs/ErrorCodes.antt  err_crtl = 0x004
+CAN_ERR_CRTL             0x004      crates/can_errframe/src/codes.rt           CAN_ERR_CRTL: u32 = 0x004;
+CAN_ERR_PROT             0x008      crates/can_errframe/specs/ErrorCodes.antt  err_prot = 0x008
+CAN_ERR_PROT             0x008      crates/can_errframe/src/codes.rt           CAN_ERR_PROT: u32 = 0x008;
 CAN_ERR_TRX              0x010      -
-CAN_ERR_ACK              0x020      -
-CAN_ERR_BUSOFF           0x040      -
-CAN_ERR_BUSERROR         0x080      -
-CAN_ERR_RESTARTED        0x100      -
-CAN_ERR_CNT              0x200      -
+CAN_ERR_ACK              0x020      crates/can_errframe/specs/ErrorCodes.antt  err_ack = 0x020
+CAN_ERR_ACK              0x020      crates/can_errframe/src/codes.rt           CAN_ERR_ACK: u32 = 0x020;
+CAN_ERR_BUSOFF           0x040      crates/can_errframe/specs/ErrorCodes.antt  err_busoff = 0x040
+CAN_ERR_BUSOFF           0x040      crates/can_errframe/src/codes.rt           CAN_ERR_BUSOFF: u32 = 0x040;
+CAN_ERR_BUSERROR         0x080      crates/can_errframe/specs/ErrorCodes.antt  err_buserror = 0x080
+CAN_ERR_BUSERROR         0x080      crates/can_errframe/src/codes.rt           CAN_ERR_BUSERROR: u32 = 0x080;
+CAN_ERR_RESTARTED        0x100      crates/can_errframe/specs/ErrorCodes.antt  err_restarted = 0x100
+CAN_ERR_RESTARTED        0x100      crates/can_errframe/src/codes.rt           CAN_ERR_RESTARTED: u32 = 0x100;
+CAN_ERR_CNT              0x200      crates/can_errframe/specs/ErrorCodes.antt  err_cnt = 0x200
+CAN_ERR_CNT              0x200      crates/can_errframe/src/codes.rt           CAN_ERR_CNT: u32 = 0x200;
 CAN_ERR_CRTL_RX_OVERFLOW 0x01       -
 CAN_ERR_CRTL_TX_OVERFLOW 0x02       -
-CAN_ERR_CRTL_RX_WARNING  0x04       -
-CAN_ERR_CRTL_TX_WARNING  0x08       -
-CAN_ERR_CRTL_RX_PASSIVE  0x10       -
-CAN_ERR_CRTL_TX_PASSIVE  0x20       -
-CAN_ERR_CRTL_ACTIVE      0x40       -
-CAN_ERR_PROT_BIT         0x01       -
-CAN_ERR_PROT_FORM        0x02       -
-CAN_ERR_PROT_STUFF       0x04       -
-CAN_ERR_PROT_TX          0x80       -
-CAN_ERR_PROT_LOC_UNSPEC  0x00       -
-CAN_ERR_PROT_LOC_CRC_SEQ 0x08       -
-CAN_ERR_PROT_LOC_DATA    0x0A       -
-CAN_ERR_PROT_LOC_ACK     0x19       -
-CAN_ERR_PROT_LOC_EOF     0x1A       -
-CAN_ERR_PROT_LOC_ACK_DEL 0x1B       -
+CAN_ERR_CRTL_RX_WARNING  0x04       crates/can_errframe/specs/ErrorCodes.antt  crtl_rx_warning = 0x04
+CAN_ERR_CRTL_RX_WARNING  0x04       crates/can_errframe/src/codes.rt           CAN_ERR_CRTL_RX_WARNING: u8 = 0x04;
+CAN_ERR_CRTL_TX_WARNING  0x08       crates/can_errframe/specs/ErrorCodes.antt  crtl_tx_warning = 0x08
+CAN_ERR_CRTL_TX_WARNING  0x08       crates/can_errframe/src/codes.rt           CAN_ERR_CRTL_TX_WARNING: u8 = 0x08;
+CAN_ERR_CRTL_RX_PASSIVE  0x10       crates/can_errframe/specs/ErrorCodes.antt  crtl_rx_passive = 0x10
+CAN_ERR_CRTL_RX_PASSIVE  0x10       crates/can_errframe/src/codes.rt           CAN_ERR_CRTL_RX_PASSIVE: u8 = 0x10;
+CAN_ERR_CRTL_TX_PASSIVE  0x20       crates/can_errframe/specs/ErrorCodes.antt  crtl_tx_passive = 0x20
+CAN_ERR_CRTL_TX_PASSIVE  0x20       crates/can_errframe/src/codes.rt           CAN_ERR_CRTL_TX_PASSIVE: u8 = 0x20;
+CAN_ERR_CRTL_ACTIVE      0x40       crates/can_errframe/specs/ErrorCodes.antt  crtl_active = 0x40
+CAN_ERR_CRTL_ACTIVE      0x40       crates/can_errframe/src/codes.rt           CAN_ERR_CRTL_ACTIVE: u8 = 0x40;
+CAN_ERR_PROT_BIT         0x01       crates/can_errframe/specs/ErrorCodes.antt  prot_bit = 0x01
+CAN_ERR_PROT_BIT         0x01       crates/can_errframe/src/codes.rt           CAN_ERR_PROT_BIT: u8 = 0x01;
+CAN_ERR_PROT_FORM        0x02       crates/can_errframe/specs/ErrorCodes.antt  prot_form = 0x02
+CAN_ERR_PROT_FORM        0x02       crates/can_errframe/src/codes.rt           CAN_ERR_PROT_FORM: u8 = 0x02;
+CAN_ERR_PROT_STUFF       0x04       crates/can_errframe/specs/ErrorCodes.antt  prot_stuff = 0x04
+CAN_ERR_PROT_STUFF       0x04       crates/can_errframe/src/codes.rt           CAN_ERR_PROT_STUFF: u8 = 0x04;
+CAN_ERR_PROT_TX          0x80       crates/can_errframe/specs/ErrorCodes.antt  prot_tx = 0x80
+CAN_ERR_PROT_TX          0x80       crates/can_errframe/src/codes.rt           CAN_ERR_PROT_TX: u8 = 0x80;
+CAN_ERR_PROT_LOC_UNSPEC  0x00       crates/can_errframe/specs/ErrorCodes.antt  loc_unspec = 0x00
+CAN_ERR_PROT_LOC_UNSPEC  0x00       crates/can_errframe/src/codes.rt           CAN_ERR_PROT_LOC_UNSPEC: u8 = 0x00;
+CAN_ERR_PROT_LOC_CRC_SEQ 0x08       crates/can_errframe/specs/ErrorCodes.antt  loc_crc_seq = 0x08
+CAN_ERR_PROT_LOC_CRC_SEQ 0x08       crates/can_errframe/src/codes.rt           CAN_ERR_PROT_LOC_CRC_SEQ: u8 = 0x08;
+CAN_ERR_PROT_LOC_DATA    0x0A       crates/can_errframe/specs/ErrorCodes.antt  loc_data = 0x0A
+CAN_ERR_PROT_LOC_DATA    0x0A       crates/can_errframe/src/codes.rt           CAN_ERR_PROT_LOC_DATA: u8 = 0x0A;
+CAN_ERR_PROT_LOC_ACK     0x19       crates/can_errframe/specs/ErrorCodes.antt  loc_ack = 0x19
+CAN_ERR_PROT_LOC_ACK     0x19       crates/can_errframe/src/codes.rt           CAN_ERR_PROT_LOC_ACK: u8 = 0x19;
+CAN_ERR_PROT_LOC_EOF     0x1A       crates/can_errframe/specs/ErrorCodes.antt  loc_eof = 0x1A
+CAN_ERR_PROT_LOC_EOF     0x1A       crates/can_errframe/src/codes.rt           CAN_ERR_PROT_LOC_EOF: u8 = 0x1A;
+CAN_ERR_PROT_LOC_ACK_DEL 0x1B       crates/can_errframe/specs/ErrorCodes.antt  loc_ack_del = 0x1B
+CAN_ERR_PROT_LOC_ACK_DEL 0x1B       crates/can_errframe/src/codes.rt           CAN_ERR_PROT_LOC_ACK_DEL: u8 = 0x1B;
 ROWS
 }
 

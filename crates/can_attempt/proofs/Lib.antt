@@ -2,3 +2,4 @@ pub mod Places
 pub mod Seeing
 pub mod Same
 pub mod Judged
+pub mod Standing

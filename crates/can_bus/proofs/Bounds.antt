@@ -1,4 +1,4 @@
-use Rattle.std.proofs.Common.{◌≡◌, ℕ, zero, suc, ◌+◌, ◌*◌, ◌^◌, ◌<◌, ◌≤◌, List, [], ◌∷◌, length, map, get_or, slice_get, Some, All, refl, sym, ap, ◌∙◌, subst, arith}
+use Rattle.std.proofs.Common.{◌≡◌, ℕ, ◌+◌, ◌^◌, ◌<◌, ◌≤◌, List, [], ◌∷◌, length, get_or, slice_get, Some, All, sym, ap, ◌∙◌, subst, arith}
 use Rattle.std.specs.List.{range_with_len}
 use Rattle.std.proofs.lemmas.List.Elements.{All-map}
 use Rattle.std.proofs.lemmas.Option.{slice_get-get_or}
@@ -12,7 +12,7 @@ use Rattle.can_bus.specs.declared.events.Reply.{Reply}
 use Rattle.can_bus.specs.declared.events.Reply.TheVariants as reply
 use Rattle.can_bus.specs.Journal.{Kept}
 use Rattle.can_bus.specs.Sockets.{Place, places, places_after, open_sockets, iface_of}
-use Rattle.can_bus.specs.Transmit.{sent_by, gone_count, tape, tape_after}
+use Rattle.can_bus.specs.Transmit.{tape, tape_after}
 use Rattle.can_bus.specs.Queues.{queued_to, taken_from}
 use Rattle.can_bus.specs.Legal.{IsLegal}
 use Rattle.can_bus.specs.State.{LineState, SocketState, Parts, kept_line, kept_lines, kept_socket, kept_sockets, IsKept}

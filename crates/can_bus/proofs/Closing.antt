@@ -1,4 +1,4 @@
-use Rattle.std.proofs.Common.{◌≡◌, ℕ, ◌-◌, ◌==◌, Bool, not, List, ◌∷◌, length, map, filter, drop, remove, Result, Ok, Err, refl, sym, ap, ◌∙◌, subst}
+use Rattle.std.proofs.Common.{◌≡◌, ℕ, ◌==◌, not, List, ◌∷◌, length, map, filter, drop, remove, Result, Ok, Err, refl, sym, ap, ◌∙◌, subst}
 use Rattle.std.proofs.lemmas.Bool.{cond-true, cond-false}
 use Rattle.std.proofs.lemmas.List.{length-drop}
 use Rattle.can_bus.specs.declared.events.Entry.{Entry}
@@ -13,10 +13,10 @@ use Rattle.can_bus.specs.Sockets.{places, open_sockets, is_open}
 use Rattle.can_bus.specs.Queues.{queued_to, taken_from, dropped_at}
 use Rattle.can_bus.specs.Legal.{legal_reply}
 use Rattle.can_bus.specs.State.{SocketState, Parts, kept_socket, kept_sockets, kept_lines, kept_keys, kept_nodes, kept_parts}
-use Rattle.can_bus.specs.Changes.{StandsAt, Removes, Closes}
+use Rattle.can_bus.specs.Changes.{Removes, Closes}
 use Rattle.can_bus.proofs.Keeping.{Follows, IsStill, follows_refused, map_same}
 use Rattle.can_bus.proofs.Lists.{filter_one, map-remove}
-use Rattle.can_bus.proofs.Opened.{IsThere, IsThere-stands, closed-nowhere}
+use Rattle.can_bus.proofs.Opened.{IsThere-stands, closed-nowhere}
 use Rattle.can_bus.proofs.Quiet.{queued_to-quiet, dropped_at-quiet}
 use Rattle.can_bus.proofs.Rising.{open_sockets-rise}
 use Rattle.can_bus.proofs.SocketFacts.{follows_at_sockets}

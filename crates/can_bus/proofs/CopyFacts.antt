@@ -1,5 +1,4 @@
-use Rattle.std.proofs.Common.{◌≡◌, ◌≢◌, ◌⊎◌, ℕ, zero, suc, ◌+◌, ◌-◌, ◌<◌, ◌≤◌, ◌==◌, nat_le, nat_lt, Bool, true, false, not, ◌||◌, ◌&&◌, List, [], ◌∷◌, ◌++◌, length, map, take, filter, slice_get, Option, Some, None, if◌then◌else◌, cond, refl, sym, ap, ◌∙◌, subst, arith, inl, inr, append-nil}
-use Rattle.std.proofs.lemmas.Bool.{eqb-true, eq-eqb, ne_eqb, and_parts}
+use Rattle.std.proofs.Common.{◌≡◌, ℕ, zero, suc, ◌+◌, ◌-◌, ◌==◌, nat_lt, Bool, true, false, ◌&&◌, List, [], ◌∷◌, ◌++◌, length, map, take, filter, slice_get, Option, Some, None, if◌then◌else◌, cond, refl, sym, ap, ◌∙◌, arith, append-nil}
 use Rattle.std.proofs.lemmas.List.Elements.{filter-append}
 use Rattle.can_frame.specs.Frames.{ErrorMessage}
 use Rattle.can_frame.specs.Sets.{is_in}
@@ -9,8 +8,6 @@ use Rattle.can_filter.specs.Filters.{CanFilter}
 use Rattle.can_filter.specs.declared.socket_options.Options.{Options}
 use Rattle.can_filter.specs.Passing.{wants}
 use Rattle.can_fault.specs.declared.verdicts.Verdict.{Verdict}
-use Rattle.can_attempt.specs.declared.classes.Class.{Class}
-use Rattle.can_attempt.specs.declared.classes.Class.TheVariants as class
 use Rattle.can_attempt.specs.Attempts.{Transmission, counts_after}
 use Rattle.can_errframe.specs.ErrorMessages.{state_message, restart_message}
 use Rattle.can_bus.specs.declared.events.Entry.{Entry}
@@ -25,17 +22,14 @@ use Rattle.can_bus.specs.declared.events.Pending.{Pending}
 use Rattle.can_bus.specs.Sockets.{is_open, iface_of, capacity_of, filters_of, options_of}
 use Rattle.can_bus.specs.Transmit.{sent_by}
 use Rattle.can_bus.specs.Counters.{transmission}
-use Rattle.can_bus.specs.Posts.{Post, is_looped_back, is_own, sender_in, posts_of, data_posts, error_posts, attempt_posts, restart_posts, fault_message_for, role_at}
+use Rattle.can_bus.specs.Posts.{Post, is_own, sender_in, posts_of, data_posts, error_posts, attempt_posts, restart_posts, fault_message_for, role_at}
 use Rattle.can_bus.specs.Queues.{taken_from, queued_to, candidates_of, passing}
 use Rattle.can_bus.specs.Legal.{legal_reply, IsLegal}
 use Rattle.can_bus.specs.Copies.{is_data, is_from, received_from, comes_to, has_room, is_copied, copying, copying_after, copy_of}
-use Rattle.can_bus.proofs.OffFacts.{by_attempt}
+use Rattle.can_bus.proofs.Lawful.{by_attempt}
+use Rattle.can_bus.proofs.Quiet.{take_nil}
 
 -- ---- error message frames are no data frames
-
-take_nil : {X : Type 0} (n : ℕ) → ◌≡◌ {A = List X} (take n []) []
-take_nil zero = refl
-take_nil (suc n) = refl
 
 abbrev AreErrors : List Post → Type 0
 AreErrors [] = Unit {0}

@@ -1,4 +1,4 @@
-use Rattle.std.proofs.Common.{◌≡◌, ℕ, ◌+◌, ◌<◌, ◌≤◌, List, [], ◌∷◌, length, map, Option, Result, Ok, Err, refl, sym, ap, ◌∙◌, subst, arith}
+use Rattle.std.proofs.Common.{◌≡◌, ℕ, ◌<◌, ◌≤◌, List, [], ◌∷◌, length, map, Option, Result, Ok, Err, refl, sym, ap, ◌∙◌, subst, arith}
 use Rattle.can_attempt.specs.declared.nodes.Nodes.{Nodes}
 use Rattle.can_bus.specs.declared.events.BusConfig.{BusConfig}
 use Rattle.can_bus.specs.declared.events.Entry.{Entry}
@@ -12,7 +12,7 @@ use Rattle.can_bus.specs.Answer.{Noted, Answers, Refuses, told}
 use Rattle.can_bus.specs.Journal.{Journal, Kept}
 use Rattle.can_bus.specs.Sockets.{places, open_sockets, iface_of, filters_of, options_of}
 use Rattle.can_bus.specs.Posts.{posts_of}
-use Rattle.can_bus.specs.Queues.{taken_from, queued_to, dropped_at}
+use Rattle.can_bus.specs.Queues.{taken_from}
 use Rattle.can_bus.specs.Legal.{legal_reply}
 use Rattle.can_bus.specs.State.{LineState, SocketState, Parts, kept_socket, kept_sockets, kept_lines, kept_keys, kept_nodes, kept_parts, IsKept}
 use Rattle.can_bus.proofs.Quiet.{queued_to-quiet, dropped_at-quiet}

@@ -1,4 +1,4 @@
-use Rattle.std.proofs.Common.{◌≡◌, ◌≢◌, ℕ, ◌+◌, ◌<◌, ◌≤◌, List, [], ◌∷◌, length, map, slice_get, slice_set, Option, Some, None, refl, sym, ap, ◌∙◌, arith}
+use Rattle.std.proofs.Common.{◌≡◌, ◌≢◌, ℕ, ◌<◌, List, ◌∷◌, map, slice_set, Option, Some, ap, ◌∙◌, arith}
 use Rattle.std.specs.List.{range_with_len}
 use Rattle.can_bus.specs.declared.events.Entry.{Entry}
 use Rattle.can_bus.specs.declared.events.Pending.{Pending}
@@ -7,7 +7,7 @@ use Rattle.can_bus.specs.State.{key_in, kept_keys}
 use Rattle.can_bus.proofs.Lists.{map_one, range-rises, slice_get-range}
 
 -- two maps over the numbers of the 16 interfaces that differ at one of them
-sixteen-one : {X : Type 0} (f g : ℕ → X) (i n : ℕ) → i < n → ((j : ℕ) → j ≢ i → g j ≡ f j) → map g (range_with_len 0 n) ≡ slice_set (map f (range_with_len 0 n)) i (g i)
+pub sixteen-one : {X : Type 0} (f g : ℕ → X) (i n : ℕ) → i < n → ((j : ℕ) → j ≢ i → g j ≡ f j) → map g (range_with_len 0 n) ≡ slice_set (map f (range_with_len 0 n)) i (g i)
 sixteen-one f g i n below others = map_one f g i i 0 n (range_with_len 0 n) (slice_get-range 0 n i below ∙ ap (λ (m : ℕ). Some m) (omega arith)) (range-rises 0 n n (omega arith)) others
 
 -- an entry that concerns the head of one interface

@@ -1,8 +1,7 @@
-use Rattle.std.proofs.Common.{◌≡◌, ◌≢◌, ℕ, zero, suc, ◌+◌, ◌-◌, ◌<◌, ◌≤◌, ◌==◌, nat_le, Bool, true, false, not, ◌||◌, ◌&&◌, List, [], ◌∷◌, ◌++◌, length, map, take, drop, find, slice_get, Option, Some, None, is_some, if◌then◌else◌, cond, All, refl, sym, ap, ◌∙◌, ◌*◌, subst, arith}
-use Rattle.std.specs.List.{range_with_len}
-use Rattle.std.proofs.lemmas.Bool.{eqb-true, cases_Bool, leb-false, and_parts}
+use Rattle.std.proofs.Common.{◌≡◌, ℕ, zero, suc, ◌+◌, ◌-◌, ◌<◌, ◌≤◌, ◌==◌, nat_le, Bool, true, false, not, ◌||◌, ◌&&◌, List, [], ◌∷◌, ◌++◌, length, slice_get, Option, Some, None, if◌then◌else◌, refl, sym, ap, ◌∙◌, ◌*◌, subst, arith}
+use Rattle.std.proofs.lemmas.Bool.{eqb-true, leb-false, and_parts}
 use Rattle.std.proofs.lemmas.List.{length_push, length-append, length-take, length-drop}
-use Rattle.std.proofs.lemmas.Option.{slice_get_within, slice_get-get_or, same_Some}
+use Rattle.std.proofs.lemmas.Option.{slice_get_within, slice_get-get_or}
 use Rattle.can_frame.specs.Frames.{ErrorMessage}
 use Rattle.can_frame.specs.Sets.{is_in}
 use Rattle.can_frame.specs.declared.ifaces.IfaceSet.{IfaceSet}
@@ -94,15 +93,18 @@ never : {P : Type 0} (t : Tried) (r : Reply) → reply.Tried t ≡ r → is_trie
 never t r law untried = let e : true ≡ false = ap is_tried law ∙ untried in cc
 
 -- only an attempt answers with a tried frame
+pub by_attempt : (P : Event → Type 0) (c : BusConfig) (past : List Entry) (e : Event) (t : Tried) → reply.Tried t ≡ legal_reply c past e → ((m : ℕ) (v : Verdict) → WasTried c past m v t → P (Attempt m v)) → P e
+by_attempt P c past (Attempt m v) t law k = k m v (was_tried c past m v t law)
+by_attempt P c past (Open i n) t law k = never t _ law (untried-if (nat_le c.ifaces i) _ _ refl (untried-if (not (nat_le 1 n && nat_le n 65536)) _ _ refl (untried-if (nat_le 64 (length (open_sockets past))) _ _ refl refl)))
+by_attempt P c past (Close s) t law k = never t _ law (untried-if (is_open past s.0) _ _ refl refl)
+by_attempt P c past (SetFilters s f) t law k = never t _ law (untried-if (is_open past s.0) _ _ refl refl)
+by_attempt P c past (SetOption s o) t law k = never t _ law (untried-if (is_open past s.0) _ _ refl refl)
+by_attempt P c past (Send s f) t law k = never t _ law (untried-if (is_open past s.0) _ _ (untried-if (is_off (state_at c past (iface_of past s.0))) _ _ refl (untried-if (length (sent_by past (iface_of past s.0)) - gone_count past (iface_of past s.0) == c.tx_capacity) _ _ refl refl)) refl)
+by_attempt P c past (Receive s) t law k = never t _ law (untried-if (is_open past s.0) _ _ refl refl)
+by_attempt P c past (Restart i m) t law k = never t _ law (untried-if (nat_le c.ifaces i) _ _ refl (untried-if (is_off (state_at c past i)) _ _ refl refl))
+
 pub tried_by : {P : Type 0} (c : BusConfig) (past : List Entry) (e : Event) (t : Tried) → reply.Tried t ≡ legal_reply c past e → ((m : ℕ) (v : Verdict) → WasTried c past m v t → P) → P
-tried_by c past (Attempt m v) t law k = k m v (was_tried c past m v t law)
-tried_by c past (Open i n) t law k = never t _ law (untried-if (nat_le c.ifaces i) _ _ refl (untried-if (not (nat_le 1 n && nat_le n 65536)) _ _ refl (untried-if (nat_le 64 (length (open_sockets past))) _ _ refl refl)))
-tried_by c past (Close s) t law k = never t _ law (untried-if (is_open past s.0) _ _ refl refl)
-tried_by c past (SetFilters s f) t law k = never t _ law (untried-if (is_open past s.0) _ _ refl refl)
-tried_by c past (SetOption s o) t law k = never t _ law (untried-if (is_open past s.0) _ _ refl refl)
-tried_by c past (Send s f) t law k = never t _ law (untried-if (is_open past s.0) _ _ (untried-if (is_off (state_at c past (iface_of past s.0))) _ _ refl (untried-if (length (sent_by past (iface_of past s.0)) - gone_count past (iface_of past s.0) == c.tx_capacity) _ _ refl refl)) refl)
-tried_by c past (Receive s) t law k = never t _ law (untried-if (is_open past s.0) _ _ refl refl)
-tried_by c past (Restart i m) t law k = never t _ law (untried-if (nat_le c.ifaces i) _ _ refl (untried-if (is_off (state_at c past i)) _ _ refl refl))
+tried_by {P = P} c past e t law k = by_attempt (λ f. P) c past e t law k
 
 -- ---- no more frames are gone than were sent, and no more are done than are gone
 

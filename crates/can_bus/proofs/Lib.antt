@@ -11,7 +11,6 @@ pub mod NodeFacts
 pub mod SocketFacts
 pub mod Running
 pub mod Lawful
-pub mod SetFacts
 pub mod Roles
 pub mod Filling
 pub mod Bounds
@@ -24,3 +23,13 @@ pub mod Sending
 pub mod OffFacts
 pub mod CopyFacts
 pub mod TurnFacts
+pub mod Winning
+pub mod Attempting
+pub mod Restarting
+pub mod Telling
+pub mod LifeFacts
+pub mod OwnFacts
+pub mod FateFacts
+pub mod SilentFacts
+pub mod QueueFacts
+pub mod LostFacts

@@ -1,9 +1,9 @@
-use Rattle.std.proofs.Common.{◌≡◌, ◌≢◌, ◌⊎◌, ℕ, zero, suc, ◌+◌, ◌-◌, ◌^◌, ◌<◌, ◌≤◌, ◌==◌, nat_le, nat_lt, Bool, true, false, not, ◌||◌, ◌&&◌, List, [], ◌∷◌, ◌++◌, length, find, filter, bit_or, slice_get, Option, Some, None, is_some, if◌then◌else◌, cond, refl, sym, ap, ◌∙◌, subst, arith, inl, inr, append-nil}
+use Rattle.std.proofs.Common.{◌≡◌, ◌≢◌, ◌⊎◌, ℕ, zero, suc, ◌+◌, ◌-◌, ◌^◌, ◌<◌, ◌≤◌, ◌==◌, nat_le, nat_lt, Bool, true, false, not, ◌||◌, ◌&&◌, List, [], ◌∷◌, ◌++◌, length, find, bit_or, slice_get, Some, None, is_some, if◌then◌else◌, refl, sym, ap, ◌∙◌, subst, arith, inl, inr, append-nil}
 use Rattle.std.specs.List.{list_any, range_with_len}
 use Rattle.std.specs.Int.{bit_at}
-use Rattle.std.proofs.lemmas.Bool.{eqb-true, eq-eqb, ne_eqb, cases_eq, leb-false, and_parts, or_left, or_right}
+use Rattle.std.proofs.lemmas.Bool.{eqb-true, eq-eqb, ne_eqb, cases_eq, leb-false, and_parts, or_left, or_right, and_left, and_right}
 use Rattle.std.proofs.lemmas.Nat.Bits.{bit_at_or, bit_at-pow_same, bit_at-pow_other, bit_at_above}
-use Rattle.std.proofs.lemmas.Option.{slice_get_past, slice_get_within}
+use Rattle.std.proofs.lemmas.Option.{slice_get_past}
 use Rattle.can_frame.specs.Sets.{is_in, bits_where}
 use Rattle.can_confine.specs.Confinement.{ErrorCounts, Step, all_stepped, stepped, at_start, state_of, is_off}
 use Rattle.can_fault.specs.declared.verdicts.Verdict.{Verdict}
@@ -21,71 +21,13 @@ use Rattle.can_bus.specs.declared.events.Refusal.TheVariants as refusal
 use Rattle.can_bus.specs.declared.events.BusConfig.{BusConfig}
 use Rattle.can_bus.specs.declared.events.Tried.{Tried}
 use Rattle.can_bus.specs.declared.events.Pending.{Pending}
-use Rattle.can_bus.specs.Sockets.{places, open_sockets, is_open, iface_of}
+use Rattle.can_bus.specs.Sockets.{open_sockets, is_open, iface_of}
 use Rattle.can_bus.specs.Transmit.{sent_by, sent_after, gone_count, gone_after, head_of, is_done}
 use Rattle.can_bus.specs.Counters.{counts_of, steps_of, steps_after, state_at, transmission}
-use Rattle.can_bus.specs.Attempts.{winner, contenders, beats, tried_with, attempt_reply}
+use Rattle.can_bus.specs.Attempts.{winner, contenders, beats}
 use Rattle.can_bus.specs.Legal.{legal_reply, IsLegal}
-use Rattle.can_bus.proofs.Lawful.{WasTried, was_tried, open-iface}
-
--- ---- an interface is in the set of some interfaces exactly where it is one of them
-
-set_bit : (x : Bool) (b n i : ℕ) → i ≡ n → bit_at b i ≡ 0 → bit_at (if x then bit_or b (2 ^ n) else b) i ≡ (if x then 1 else 0)
-set_bit false b n i same clear = clear
-set_bit true b n i same clear =
-    let one : bit_at (2 ^ n) i ≡ 1 = rw same (bit_at-pow_same n) in
-    bit_at_or b (2 ^ n) i ∙ rw (clear, one) refl
-
-other_bit : (x : Bool) (b n i : ℕ) → i ≢ n → bit_at (if x then bit_or b (2 ^ n) else b) i ≡ bit_at b i
-other_bit false b n i other = refl
-other_bit true b n i other =
-    let none : bit_at (2 ^ n) i ≡ 0 = bit_at-pow_other n i other in
-    bit_at_or b (2 ^ n) i ∙ rw none (omega arith)
-
-bit_at-bits_where : (p : ℕ → Bool) (n i : ℕ) → bit_at (bits_where p n) i ≡ (if nat_lt i n && p i then 1 else 0)
-bit_at-bits_where p zero i =
-    let past : nat_lt i 0 ≡ false = grind arith in
-    bit_at_above 0 0 i (omega arith) (omega arith) ∙ rw past refl
-bit_at-bits_where p (suc n) i =
-    elim (cases_eq i n) [
-      | inl same ↦
-          let past : nat_lt i n ≡ false = grind (arith, same) in
-          let now : nat_lt i (suc n) ≡ true = grind (arith, same) in
-          let clear : bit_at (bits_where p n) i ≡ 0 = bit_at-bits_where p n i ∙ rw past refl in
-          set_bit (p n) (bits_where p n) n i same clear ∙ rw (now, same) refl
-      | inr other ↦
-          let alike : nat_lt i (suc n) ≡ nat_lt i n = grind (arith, other) in
-          other_bit (p n) (bits_where p n) n i other ∙ bit_at-bits_where p n i ∙ rw alike refl
-    ]
-
-one_if : (x : Bool) → ((if x then 1 else 0) == 1) ≡ x
-one_if true = refl
-one_if false = refl
-
-pub is_in-of : (is : List ℕ) (i : ℕ) → is_in i (set_of is) ≡ (nat_lt i 16 && is_among i is)
-is_in-of is i = ap (λ (b : ℕ). b == 1) (bit_at-bits_where (λ k. is_among k is) 16 i) ∙ one_if (nat_lt i 16 && is_among i is)
-
-pub is_in-set_of : (is : List ℕ) (i : ℕ) → i < 16 → is_in i (set_of is) ≡ is_among i is
-is_in-set_of is i within = let below : nat_lt i 16 ≡ true = grind (arith, within) in is_in-of is i ∙ ap (λ b. b && is_among i is) below
-
--- ---- no attempt takes anybody but its winner off the bus
-
-receivers_stay : (k : Class) (b : Bool) (c : ErrorCounts) → is_off (state_of (all_stepped c (receiver_step k b))) ≡ is_off (state_of c)
-receivers_stay Done true c = grind arith
-receivers_stay Done false c = grind arith
-receivers_stay LastBit b c = grind arith
-receivers_stay Destroyed b c = grind arith
-receivers_stay NoAck true c = grind arith
-receivers_stay NoAck false c = refl
-
-others_stay : (x : Bool) (k : Class) (b : Bool) (c : ErrorCounts) → is_off (state_of (all_stepped c (if x then receiver_step k b else []))) ≡ is_off (state_of c)
-others_stay true k b c = receivers_stay k b c
-others_stay false k b c = refl
-
-pub winner-alone-off : (t : Transmission) (i : ℕ) → i ≢ t.winner → is_off (state_of (counts_after t i)) ≡ is_off (attempts.state_at t i)
-winner-alone-off t i other =
-    let apart : (i == t.winner) ≡ false = ne_eqb i t.winner other in
-    rw apart (others_stay (is_among i (receivers t)) (class_of t) (is_named t.verdict i) (t.counts i))
+use Rattle.can_attempt.proofs.Standing.{is_in-set_of, winner-alone-off}
+use Rattle.can_bus.proofs.Lawful.{WasTried, was_tried, by_attempt, open-iface}
 
 -- ---- the winner is live, and there
 
@@ -128,29 +70,6 @@ winner-contends c past w won =
       live = not-true (is_off (state_at c past w)) (and_parts (is_some (head_of past w)) (not (is_off (state_at c past w))) both.0).1;
     }
 
--- ---- only an attempt answers with a tried frame
-
-abbrev is_tried : Reply → Bool
-is_tried (reply.Tried t) = true
-is_tried _ = false
-
-untried-if : (b : Bool) (x y : Reply) → is_tried x ≡ false → is_tried y ≡ false → is_tried (if b then x else y) ≡ false
-untried-if true x y hx hy = hx
-untried-if false x y hx hy = hy
-
-never : {P : Type 0} (t : Tried) (r : Reply) → reply.Tried t ≡ r → is_tried r ≡ false → P
-never t r law untried = let e : true ≡ false = ap is_tried law ∙ untried in cc
-
-pub by_attempt : (P : Event → Type 0) (c : BusConfig) (past : List Entry) (e : Event) (t : Tried) → reply.Tried t ≡ legal_reply c past e → ((m : ℕ) (v : Verdict) → WasTried c past m v t → P (Attempt m v)) → P e
-by_attempt P c past (Attempt m v) t law k = k m v (was_tried c past m v t law)
-by_attempt P c past (Open i n) t law k = never t _ law (untried-if (nat_le c.ifaces i) _ _ refl (untried-if (not (nat_le 1 n && nat_le n 65536)) _ _ refl (untried-if (nat_le 64 (length (open_sockets past))) _ _ refl refl)))
-by_attempt P c past (Close s) t law k = never t _ law (untried-if (is_open past s.0) _ _ refl refl)
-by_attempt P c past (SetFilters s f) t law k = never t _ law (untried-if (is_open past s.0) _ _ refl refl)
-by_attempt P c past (SetOption s o) t law k = never t _ law (untried-if (is_open past s.0) _ _ refl refl)
-by_attempt P c past (Send s f) t law k = never t _ law (untried-if (is_open past s.0) _ _ (untried-if (is_off (state_at c past (iface_of past s.0))) _ _ refl (untried-if (length (sent_by past (iface_of past s.0)) - gone_count past (iface_of past s.0) == c.tx_capacity) _ _ refl refl)) refl)
-by_attempt P c past (Receive s) t law k = never t _ law (untried-if (is_open past s.0) _ _ refl refl)
-by_attempt P c past (Restart i m) t law k = never t _ law (untried-if (nat_le c.ifaces i) _ _ refl (untried-if (is_off (state_at c past i)) _ _ refl refl))
-
 -- ---- a frame is accepted on an open socket, of an interface that is not bus off
 
 pub record WasSent (c : BusConfig) (past : List Entry) (s : ℕ) : Type 0 where
@@ -164,7 +83,7 @@ sent-if c past s n false off r is at law = cc
 
 -- ---- where an interface is bus off, all its frames are gone
 
-all_stepped-append : (c : ErrorCounts) (xs ys : List Step) → all_stepped c (xs ++ ys) ≡ all_stepped (all_stepped c xs) ys
+pub all_stepped-append : (c : ErrorCounts) (xs ys : List Step) → all_stepped c (xs ++ ys) ≡ all_stepped (all_stepped c xs) ys
 all_stepped-append c [] ys = refl
 all_stepped-append c (x ∷ xs) ys = all_stepped-append (stepped c x) xs ys
 
@@ -176,10 +95,6 @@ gone-there : (sent gone : ℕ) (off here : Bool) → here ≡ false → gone ≡
 gone-there sent gone true here is same = refl
 gone-there sent gone false true is same = cc
 gone-there sent gone false false is same = same
-
-and-false : (a b : Bool) → a ≡ false → (a && b) ≡ false
-and-false true b h = cc
-and-false false b h = refl
 
 abbrev pub GoneIfOff : BusConfig → List Entry → ℕ → Type 0
 GoneIfOff c past i = is_off (state_at c past i) ≡ true → gone_count past i ≡ length (sent_by past i)
@@ -211,7 +126,7 @@ off-tried c past m v t i few w before off = choose (cases_eq i t.winner)
     choose (inl same) = gone-here (length (sent_by past i)) (gone_count past i) (is_in i t.off) ((t.winner == i) && is_done t.class) (here same)
     choose (inr other) =
         let was : is_off (state_at c past i) ≡ true = sym (winner-alone-off (transmission c past t.winner v) i other) ∙ off in
-        gone-there (length (sent_by past i)) (gone_count past i) (is_in i t.off) ((t.winner == i) && is_done t.class) (and-false (t.winner == i) (is_done t.class) (ne_eqb t.winner i (λ e. other (sym e)))) (before was)
+        gone-there (length (sent_by past i)) (gone_count past i) (is_in i t.off) ((t.winner == i) && is_done t.class) (and_left (t.winner == i) (is_done t.class) (ne_eqb t.winner i (λ e. other (sym e)))) (before was)
 
 abbrev off_with : BusConfig → List Entry → ℕ → Event → Reply → Bool
 off_with c past i e r = is_off (state_of (all_stepped at_start (steps_after c e r (counts_of c past) i (steps_of c past i))))
@@ -302,21 +217,17 @@ head-below c past legal i p head = when (nat_le c.ifaces i) refl
 steps-nowhere : (t : Transmission) (i : ℕ) → (i == t.winner) ≡ false → t.count ≤ i → steps_at i t ≡ []
 steps-nowhere t i other above =
     let deaf : nat_lt i t.count ≡ false = grind (arith, above) in
-    let among : is_among i (receivers t) ≡ false = is_among-receivers t i ∙ and-false-right (can_hear t i) (nat_lt i t.count) deaf in
+    let among : is_among i (receivers t) ≡ false = is_among-receivers t i ∙ and_right (can_hear t i) (nat_lt i t.count) deaf in
     rw (other, among) refl
-  where
-    and-false-right : (a b : Bool) → b ≡ false → (a && b) ≡ false
-    and-false-right true b h = h
-    and-false-right false b h = refl
 
 steps-step : (c : BusConfig) (past : List Entry) (i : ℕ) (e : Event) (r : Reply) → r ≡ legal_reply c past e → c.ifaces ≤ i → steps_of c past i ≡ [] → steps_after c e r (counts_of c past) i (steps_of c past i) ≡ []
 steps-step c past i e (reply.Tried t) law above none =
     by_attempt (λ k. steps_after c k (reply.Tried t) (counts_of c past) i (steps_of c past i) ≡ []) c past e t law
     (λ m v w.
-      let who : t.winner ≡ w.place = ap (λ (u : Tried). u.winner) w.is in
-      let below = (winner-contends c past w.place w.won).below in
-      let other : (i == t.winner) ≡ false = ne_eqb i t.winner (λ same. absurd (omega (arith, same, who, below, above))) in
-      ap (λ ss. steps_of c past i ++ ss) (steps-nowhere (transmission c past t.winner v) i other above) ∙ append-nil (steps_of c past i) ∙ none)
+    let who : t.winner ≡ w.place = ap (λ (u : Tried). u.winner) w.is in
+    let below = (winner-contends c past w.place w.won).below in
+    let other : (i == t.winner) ≡ false = ne_eqb i t.winner (λ same. absurd (omega (arith, same, who, below, above))) in
+    ap (λ ss. steps_of c past i ++ ss) (steps-nowhere (transmission c past t.winner v) i other above) ∙ append-nil (steps_of c past i) ∙ none)
 steps-step c past i (Restart k m) reply.Done law above none = when (k == i)
   where
     when : (b : Bool) → (if b then [] else steps_of c past i) ≡ []

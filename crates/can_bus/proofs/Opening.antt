@@ -1,23 +1,20 @@
-use Rattle.std.proofs.Common.{◌≡◌, ◌≢◌, ℕ, zero, suc, ◌+◌, ◌-◌, ◌<◌, ◌≤◌, ◌==◌, nat_le, Bool, true, false, not, ◌||◌, ◌&&◌, List, [], ◌∷◌, ◌++◌, length, map, take, drop, slice_get, Option, Some, None, Result, Ok, Err, if◌then◌else◌, cond, refl, sym, ap, ◌∙◌, arith, subst}
+use Rattle.std.proofs.Common.{◌≡◌, ℕ, zero, suc, ◌+◌, ◌<◌, ◌≤◌, ◌==◌, nat_le, Bool, true, false, not, ◌&&◌, List, [], ◌∷◌, ◌++◌, length, map, slice_get, Some, Result, Ok, Err, if◌then◌else◌, refl, sym, ap, ◌∙◌, arith, subst}
 use Rattle.std.specs.List.{list_any}
-use Rattle.std.proofs.lemmas.Bool.{eq-eqb, ne_eqb, cond-true, cond-false, le-leb, lt-leb, and_from, leb-true, eqb-true, or_from, false_from_ne_true, cases_Bool}
+use Rattle.std.proofs.lemmas.Bool.{ne_eqb, cond-true, cond-false, le-leb, lt-leb, and_from, leb-true, eqb-true, or_from, false_from_ne_true}
 use Rattle.std.proofs.lemmas.List.{length_push, map_push}
-use Rattle.can_filter.specs.Filters.{CanFilter}
-use Rattle.can_filter.specs.declared.socket_options.Options.{Options}
 use Rattle.can_filter.specs.Passing.{receives_all, default_options}
 use Rattle.can_bus.specs.declared.events.Entry.{Entry}
-use Rattle.can_bus.specs.declared.events.Received.{Received}
 use Rattle.can_bus.specs.declared.events.SocketId.{SocketId}
 use Rattle.can_bus.specs.declared.events.Refusal.{Refusal}
 use Rattle.can_bus.specs.declared.events.Refusal.TheVariants as refusal
 use Rattle.can_bus.specs.declared.events.BusConfig.{BusConfig}
 use Rattle.can_bus.specs.declared.events.Event.{Event}
-use Rattle.can_bus.specs.declared.events.Event.TheVariants.{Open, Close, SetFilters, SetOption, Send, Receive, Attempt, Restart}
+use Rattle.can_bus.specs.declared.events.Event.TheVariants.{Open, SetFilters, SetOption, Receive}
 use Rattle.can_bus.specs.declared.events.Reply.{Reply}
 use Rattle.can_bus.specs.declared.events.Reply.TheVariants as reply
 use Rattle.can_bus.specs.Journal.{Journal, Kept}
 use Rattle.can_bus.specs.Answer.{Refuses, TakesMemory, told, numbered}
-use Rattle.can_bus.specs.Sockets.{Place, places, places_after, open_sockets, is_open, iface_of, capacity_of, filters_of, filters_after, options_of, options_after}
+use Rattle.can_bus.specs.Sockets.{Place, places, places_after, open_sockets, is_open, filters_of, filters_after, options_of, options_after}
 use Rattle.can_bus.specs.Queues.{queued_to, dropped_at, taken_from, taken_after, candidates_of}
 use Rattle.can_bus.specs.Legal.{legal_reply, IsLegal}
 use Rattle.can_bus.specs.State.{SocketState, Parts, kept_lines, kept_keys, kept_nodes, kept_socket, kept_sockets, kept_parts, IsKept}
@@ -190,15 +187,18 @@ unopened i n k old new o refusal.TooManySockets opens = opens.3
 unopened i n k old new o refusal.NoMemory opens = opens.3
 unopened i n k old new o _ opens = absurd opens
 
--- a socket that was opened, or a refusal but for want of memory, leaves what its entry leaves
-pub opened_follows : (c : BusConfig) (past : List Entry) (parts : Parts) (new : List SocketState) (i k : ℕ) (r : Result SocketId Refusal) → (r ≡ Err refusal.NoMemory → ⊥) → IsLegal c past → parts ≡ kept_parts c past → Opens c.ifaces parts.sockets parts.opened i k r new → Follows c past (entry i k r) (record parts { sockets = new; opened = numbered r parts.opened })
-opened_follows c past parts new i k (Ok s) remembers legal are opens =
+opened_leaves : (c : BusConfig) (past : List Entry) (parts : Parts) (new : List SocketState) (i k : ℕ) (r : Result SocketId Refusal) → (r ≡ Err refusal.NoMemory → ⊥) → IsLegal c past → parts ≡ kept_parts c past → Opens c.ifaces parts.sockets parts.opened i k r new → Follows c past (entry i k r) (record parts { sockets = new; opened = numbered r parts.opened })
+opened_leaves c past parts new i k (Ok s) remembers legal are opens =
     let opened_is : parts.opened ≡ length (places past) = ap (λ (q : Parts). q.opened) are in
     follows_at_sockets c past (entry i k (Ok s)) parts new (parts.opened + 1) are (lawful c past parts new i k (Ok s) remembers are opens) (still c past i k s) refl
     (ap (λ n. n + 1) opened_is ∙ sym (length_push (places past) (record { iface = i; capacity = k })))
     (sockets-opened c past parts.sockets new parts.opened i k s legal (ap (λ (q : Parts). q.sockets) are) opened_is opens.4)
-opened_follows c past parts new i k (Err why) remembers legal are opens =
+opened_leaves c past parts new i k (Err why) remembers legal are opens =
     subst (λ (vs : List SocketState). Follows c past (entry i k (Err why)) (record parts { sockets = vs })) (sym (unopened i c.ifaces k parts.sockets new parts.opened why opens)) (follows_refused c past (Open i k) why parts tt are (lawful c past parts new i k (Err why) remembers are opens))
+
+-- a socket that was opened, or a refusal but for want of memory, leaves what its entry leaves
+pub opened_follows : (c : BusConfig) (past : List Entry) (parts : Parts) (new : List SocketState) (opened i k : ℕ) (r : Result SocketId Refusal) → (r ≡ Err refusal.NoMemory → ⊥) → IsLegal c past → parts ≡ kept_parts c past → Opens c.ifaces parts.sockets parts.opened i k r new → opened ≡ numbered r parts.opened → Follows c past (entry i k r) (record parts { sockets = new; opened = opened })
+opened_follows c past parts new opened i k r remembers legal are opens opened_is = subst (λ n. Follows c past (entry i k r) (record parts { sockets = new; opened = n })) (sym opened_is) (opened_leaves c past parts new i k r remembers legal are opens)
 
 -- memory was refused: nothing changed, and nothing else refuses the call
 pub no_memory : (j : Kept) (before : Journal) (parts : Parts) (new : List SocketState) (p i k : ℕ) → ◌≡◌ {A = Journal} (record { config = j.config; history = j.history }) before → IsKept j parts p → length j.history < j.config.limit → Opens j.config.ifaces parts.sockets parts.opened i k (Err refusal.NoMemory) new → Refuses before (Open i k) refusal.NoMemory (record { config = j.config; history = j.history })

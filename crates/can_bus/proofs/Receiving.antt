@@ -1,4 +1,4 @@
-use Rattle.std.proofs.Common.{◌≡◌, ◌≢◌, ℕ, ◌+◌, ◌==◌, Bool, true, false, List, [], ◌∷◌, ◌++◌, length, drop, slice_get, Option, Some, None, Result, Ok, Err, refl, sym, ap, ◌∙◌, subst}
+use Rattle.std.proofs.Common.{◌≡◌, ◌≢◌, ℕ, ◌+◌, ◌==◌, List, [], ◌∷◌, ◌++◌, length, drop, slice_get, Option, Some, None, Result, Ok, Err, refl, sym, ap, ◌∙◌, subst}
 use Rattle.std.proofs.lemmas.Bool.{eq-eqb, ne_eqb, cond-true, cond-false}
 use Rattle.std.proofs.lemmas.List.{drop-drop, length_push}
 use Rattle.can_bus.specs.declared.events.Entry.{Entry}
@@ -13,10 +13,10 @@ use Rattle.can_bus.specs.Sockets.{is_open}
 use Rattle.can_bus.specs.Queues.{taken_from, queued_to, dropped_at}
 use Rattle.can_bus.specs.Legal.{legal_reply}
 use Rattle.can_bus.specs.State.{SocketState, Parts, kept_socket, kept_sockets, kept_lines, kept_keys, kept_nodes, kept_parts}
-use Rattle.can_bus.specs.Changes.{StandsAt, Gives, Receives, relieved}
+use Rattle.can_bus.specs.Changes.{Gives, Receives, relieved}
 use Rattle.can_bus.proofs.Keeping.{Follows, IsStill, follows_refused}
 use Rattle.can_bus.proofs.Lists.{slice_get-drop}
-use Rattle.can_bus.proofs.Opened.{IsThere, IsThere-stands, closed-nowhere}
+use Rattle.can_bus.proofs.Opened.{IsThere-stands, closed-nowhere}
 use Rattle.can_bus.proofs.Quiet.{queued_to-quiet, dropped_at-quiet}
 use Rattle.can_bus.proofs.SocketFacts.{kept_sockets-one, follows_at_sockets}
 

@@ -1,4 +1,4 @@
-use Rattle.std.proofs.Common.{◌≡◌, ℕ, ◌<◌, ◌≤◌, ◌==◌, nat_lt, Bool, true, false, not, ◌&&◌, Option, Some, None, if◌then◌else◌, refl, sym, ap, ◌∙◌, arith}
+use Rattle.std.proofs.Common.{◌≡◌, ℕ, ◌<◌, ◌≤◌, ◌==◌, nat_lt, Bool, true, false, not, Option, Some, None, if◌then◌else◌, sym, ap, ◌∙◌}
 use Rattle.std.proofs.lemmas.Bool.{cond-true, cond-false, and_from, and_left, and_right, lt-ltb, le-ltb}
 use Rattle.can_frame.specs.Sets.{is_in}
 use Rattle.can_confine.specs.Confinement.{is_off}
@@ -7,7 +7,7 @@ use Rattle.can_attempt.proofs.Places.{is_among-receivers}
 use Rattle.can_errframe.specs.declared.roles.Role.{Role}
 use Rattle.can_errframe.specs.declared.roles.Role.TheVariants as role
 use Rattle.can_bus.specs.Posts.{role_at}
-use Rattle.can_bus.proofs.SetFacts.{is_in-set_of}
+use Rattle.can_attempt.proofs.Standing.{is_in-set_of}
 
 abbrev not_hit : Transmission → ℕ → Option Role
 not_hit t i = if is_among i (receivers t) then Some role.Other else None

@@ -1,4 +1,4 @@
-use Rattle.std.proofs.Common.{◌≡◌, ◌≢◌, ℕ, ◌+◌, ◌-◌, ◌<◌, ◌≤◌, ◌==◌, Bool, true, false, List, [], ◌∷◌, ◌++◌, length, take, drop, slice_get, slice_set, Option, Some, None, Result, Ok, Err, if◌then◌else◌, refl, sym, ap, ◌∙◌, arith, subst}
+use Rattle.std.proofs.Common.{◌≡◌, ◌≢◌, ℕ, ◌+◌, ◌-◌, ◌<◌, ◌==◌, true, false, List, [], ◌∷◌, ◌++◌, length, drop, slice_get, slice_set, Option, Result, Ok, Err, refl, sym, ap, ◌∙◌, arith, subst}
 use Rattle.std.proofs.lemmas.Bool.{eq-eqb, ne_eqb, cond-true, cond-false}
 use Rattle.std.proofs.lemmas.List.{length_push, length-drop, drop-append-le}
 use Rattle.can_frame.specs.Frames.{CanFrame}
@@ -11,23 +11,22 @@ use Rattle.can_bus.specs.declared.events.Refusal.{Refusal}
 use Rattle.can_bus.specs.declared.events.Refusal.TheVariants as refusal
 use Rattle.can_bus.specs.declared.events.SocketId.{SocketId}
 use Rattle.can_bus.specs.declared.events.Event.TheVariants.{Send}
-use Rattle.can_bus.specs.declared.events.Reply.{Reply}
 use Rattle.can_bus.specs.declared.events.Reply.TheVariants as reply
 use Rattle.can_bus.specs.Answer.{told}
 use Rattle.can_bus.specs.Counters.{state_at}
 use Rattle.can_bus.specs.Journal.{IsConfig}
 use Rattle.can_bus.specs.Legal.{legal_reply, IsLegal}
-use Rattle.can_bus.specs.Sockets.{iface_of, options_of, is_open}
-use Rattle.can_bus.specs.Transmit.{sent_by, gone_count, refused_count, head_of}
+use Rattle.can_bus.specs.Sockets.{iface_of, is_open}
+use Rattle.can_bus.specs.Transmit.{sent_by, gone_count, head_of}
 use Rattle.can_bus.specs.State.{LineState, SocketState, Parts, key_in, kept_line, kept_lines, kept_keys, kept_nodes, kept_socket, kept_sockets, kept_parts}
-use Rattle.can_bus.specs.Changes.{StandsAt, IsLineOf, Takes, FindsFull, IsOffFor, Sends, is_off_at}
+use Rattle.can_bus.specs.Changes.{IsLineOf, Takes, FindsFull, IsOffFor, Sends, is_off_at}
 use Rattle.can_bus.proofs.Keeping.{Follows, IsQuiet, kept_sockets-quiet, refused-quiet, follows_refused, parts-are}
 use Rattle.can_bus.proofs.KeyFacts.{kept_keys-one}
 use Rattle.can_bus.proofs.Lawful.{gone-le-sent, open-iface}
-use Rattle.can_bus.proofs.LineFacts.{IsLine, IsLine-at, kept_lines-one}
+use Rattle.can_bus.proofs.LineFacts.{IsLine-at, kept_lines-one}
 use Rattle.can_bus.proofs.Lists.{slice_get-drop}
 use Rattle.can_bus.proofs.NodeFacts.{is_off_at-kept}
-use Rattle.can_bus.proofs.Opened.{IsThere, IsThere-stands, closed-nowhere}
+use Rattle.can_bus.proofs.Opened.{IsThere-stands, closed-nowhere}
 
 abbrev pub of_frame : CanFrame → SocketId → SocketState → Pending
 of_frame f s v = record { frame = f; socket = s; loopback = v.options.loopback }
@@ -154,12 +153,12 @@ taken_follows c past parts new new_keys s f n proper legal are takes =
     record {
       lawful = ap (λ (m : ℕ). reply.Sent m) takes.number ∙ reply-sent c past s f takes.socket takes.line is live takes.room;
       after = parts-are (kept_parts c (entry s f (Ok n) ∷ past)) new new_keys parts.nodes parts.sockets parts.opened parts.tried
-        (lines-sent c past parts.lines new s f n takes.socket takes.line legal lines_are is takes.after)
-        (keys-sent c past parts.keys new_keys s f n takes.socket takes.line legal few (ap (λ (q : Parts). q.keys) are) is takes.keys_after)
-        (nodes_are ∙ sym (nodes-sent c past s f n))
-        (sockets_are ∙ sym (kept_sockets-quiet c past (entry s f (Ok n)) (sent-quiet c past s f n)))
-        (ap (λ (q : Parts). q.opened) are)
-        (ap (λ (q : Parts). q.tried) are);
+          (lines-sent c past parts.lines new s f n takes.socket takes.line legal lines_are is takes.after)
+          (keys-sent c past parts.keys new_keys s f n takes.socket takes.line legal few (ap (λ (q : Parts). q.keys) are) is takes.keys_after)
+          (nodes_are ∙ sym (nodes-sent c past s f n))
+          (sockets_are ∙ sym (kept_sockets-quiet c past (entry s f (Ok n)) (sent-quiet c past s f n)))
+          (ap (λ (q : Parts). q.opened) are)
+          (ap (λ (q : Parts). q.tried) are);
     }
 
 -- ---- a frame that found the queue full
@@ -200,12 +199,12 @@ full_follows c past parts new s f proper are full =
     record {
       lawful = reply-full c past s f full.socket full.line is live full.full;
       after = parts-are (kept_parts c (full_entry s f ∷ past)) new parts.keys parts.nodes parts.sockets parts.opened parts.tried
-        (lines-full c past parts.lines new s f full.socket full.line lines_are is full.after)
-        (ap (λ (q : Parts). q.keys) are ∙ sym (keys-full past s f))
-        (nodes_are ∙ sym (nodes-full c past s f))
-        (sockets_are ∙ sym (kept_sockets-quiet c past (full_entry s f) (refused-quiet c past (Send s f) refusal.NoBuffers)))
-        (ap (λ (q : Parts). q.opened) are)
-        (ap (λ (q : Parts). q.tried) are);
+          (lines-full c past parts.lines new s f full.socket full.line lines_are is full.after)
+          (ap (λ (q : Parts). q.keys) are ∙ sym (keys-full past s f))
+          (nodes_are ∙ sym (nodes-full c past s f))
+          (sockets_are ∙ sym (kept_sockets-quiet c past (full_entry s f) (refused-quiet c past (Send s f) refusal.NoBuffers)))
+          (ap (λ (q : Parts). q.opened) are)
+          (ap (λ (q : Parts). q.tried) are);
     }
 
 -- ---- refusals that count nothing

@@ -1,14 +1,14 @@
-use Rattle.std.proofs.Common.{◌≡◌, ◌≢◌, ℕ, ◌+◌, ◌<◌, ◌≤◌, List, [], ◌∷◌, length, map, slice_get, slice_set, Option, Some, None, refl, sym, ap, ◌∙◌}
+use Rattle.std.proofs.Common.{◌≡◌, ◌≢◌, ℕ, List, ◌∷◌, length, map, slice_set, sym, ap, ◌∙◌}
 use Rattle.std.proofs.lemmas.List.{length-map}
 use Rattle.can_bus.specs.declared.events.Entry.{Entry}
 use Rattle.can_bus.specs.declared.events.BusConfig.{BusConfig}
 use Rattle.can_bus.specs.Sockets.{places, open_sockets}
 use Rattle.can_bus.specs.Transmit.{tape}
 use Rattle.can_bus.specs.Legal.{legal_reply}
-use Rattle.can_bus.specs.State.{LineState, SocketState, Parts, kept_socket, kept_sockets, kept_lines, kept_keys, kept_nodes, kept_parts}
+use Rattle.can_bus.specs.State.{SocketState, Parts, kept_socket, kept_sockets, kept_lines, kept_keys, kept_nodes, kept_parts}
 use Rattle.can_bus.specs.Changes.{StandsAt}
 use Rattle.can_bus.proofs.Lists.{map_one}
-use Rattle.can_bus.proofs.Opened.{IsThere, IsThere-stands}
+use Rattle.can_bus.proofs.Opened.{IsThere-stands}
 use Rattle.can_bus.proofs.Rising.{open_sockets-rise}
 use Rattle.can_bus.proofs.Keeping.{Follows, IsStill, parts-are}
 

@@ -1,4 +1,4 @@
-use Rattle.std.proofs.Common.{◌≡◌, ℕ, zero, suc, ◌+◌, ◌<◌, ◌≤◌, List, [], ◌∷◌, length, map, replicate, Option, None, refl, sym, ap, ◌∙◌, subst, arith}
+use Rattle.std.proofs.Common.{◌≡◌, ℕ, zero, suc, ◌+◌, ◌≤◌, List, [], ◌∷◌, map, replicate, Option, refl, sym, ap, ◌∙◌, subst}
 use Rattle.std.specs.List.{range_with_len}
 use Rattle.can_arbiter.specs.Keys.{no_keys}
 use Rattle.can_confine.specs.Confinement.{ErrorCounts, at_start}
@@ -6,7 +6,7 @@ use Rattle.can_attempt.specs.declared.nodes.Nodes.{Nodes}
 use Rattle.can_bus.specs.declared.events.Entry.{Entry}
 use Rattle.can_bus.specs.declared.events.BusConfig.{BusConfig}
 use Rattle.can_bus.specs.Journal.{Kept, IsConfig}
-use Rattle.can_bus.specs.State.{LineState, SocketState, Parts, kept_line, kept_lines, kept_socket, kept_sockets, kept_keys, kept_nodes, kept_parts, IsKept}
+use Rattle.can_bus.specs.State.{LineState, SocketState, kept_line, kept_lines, kept_sockets, kept_keys, kept_nodes, kept_parts, IsKept}
 use Rattle.can_bus.proofs.Keeping.{parts-are}
 
 abbrev fresh : BusConfig → LineState

@@ -1,41 +1,34 @@
-use Rattle.std.proofs.Common.{◌≡◌, ◌≢◌, ◌⊎◌, ℕ, zero, suc, ◌+◌, ◌-◌, ◌<◌, ◌≤◌, ◌==◌, nat_le, nat_lt, Bool, true, false, not, ◌||◌, ◌&&◌, List, [], ◌∷◌, ◌++◌, length, map, filter, count_by, slice_get, get_or, Option, Some, None, All, AllPairs, if◌then◌else◌, cond, refl, sym, ap, ◌∙◌, subst, arith, inl, inr}
-use Rattle.std.specs.List.{list_any}
+use Rattle.std.proofs.Common.{◌≡◌, ℕ, suc, ◌+◌, ◌<◌, ◌≤◌, ◌==◌, nat_lt, Bool, true, false, ◌||◌, ◌&&◌, List, [], ◌∷◌, ◌++◌, length, map, filter, count_by, slice_get, Option, Some, None, All, AllPairs, if◌then◌else◌, cond, refl, sym, ap, ◌∙◌, subst, arith}
 use Rattle.std.specs.Option.{option_map}
-use Rattle.std.proofs.lemmas.Bool.{eqb-true, cases_lt, and_parts}
-use Rattle.std.proofs.lemmas.List.{length_push}
-use Rattle.std.proofs.lemmas.List.Elements.{All-nil, All-cons, All-push, All-weaker}
+use Rattle.std.proofs.lemmas.Bool.{eqb-true, and_parts, and_right}
+use Rattle.std.proofs.lemmas.Option.{slice_get_within}
+use Rattle.std.proofs.lemmas.List.Elements.{All-nil, All-cons, All-weaker}
 use Rattle.std.proofs.lemmas.List.Kept.{AllPairs-cons}
 use Rattle.std.proofs.lemmas.List.Sums.{length-filter}
-use Rattle.can_frame.specs.Frames.{CanFrame}
 use Rattle.can_frame.specs.Sets.{is_in}
 use Rattle.can_frame.specs.declared.items.Item.TheVariants as item
 use Rattle.can_filter.specs.Passing.{wants}
 use Rattle.can_fault.specs.declared.verdicts.Verdict.{Verdict}
 use Rattle.can_attempt.specs.declared.classes.Class.{Class}
 use Rattle.can_attempt.specs.declared.classes.Class.TheVariants as class
-use Rattle.can_attempt.specs.Attempts.{Transmission, is_among, set_of, receivers, can_hear, is_named, unhurt, accepted_in, class_of}
-use Rattle.can_attempt.proofs.Places.{is_among-unhurt}
+use Rattle.can_attempt.specs.Attempts.{Transmission, set_of, accepted_in, class_of}
 use Rattle.can_bus.specs.declared.events.Entry.{Entry}
 use Rattle.can_bus.specs.declared.events.Event.{Event}
-use Rattle.can_bus.specs.declared.events.Event.TheVariants.{Open, Close, SetFilters, SetOption, Send, Receive, Attempt, Restart}
 use Rattle.can_bus.specs.declared.events.Reply.{Reply}
 use Rattle.can_bus.specs.declared.events.Reply.TheVariants as reply
 use Rattle.can_bus.specs.declared.events.BusConfig.{BusConfig}
 use Rattle.can_bus.specs.declared.events.Received.{Received}
 use Rattle.can_bus.specs.declared.events.Tried.{Tried}
 use Rattle.can_bus.specs.declared.events.Pending.{Pending}
-use Rattle.can_bus.specs.Sockets.{Place, places, places_after, open_sockets, is_open, iface_of, iface_in, filters_of, options_of}
-use Rattle.can_bus.specs.Transmit.{sent_by, sent_after, gone_count, gone_after, head_of, is_done}
+use Rattle.can_bus.specs.Sockets.{is_open, iface_of, filters_of, options_of}
+use Rattle.can_bus.specs.Transmit.{sent_by, gone_count, gone_after, is_done}
 use Rattle.can_bus.specs.Counters.{transmission}
 use Rattle.can_bus.specs.Posts.{is_looped_back, is_own, sender_in}
 use Rattle.can_bus.specs.Queues.{queued_to}
-use Rattle.can_bus.specs.Attempts.{tried_with}
 use Rattle.can_bus.specs.Legal.{legal_reply, IsLegal}
-use Rattle.can_bus.specs.Copies.{is_from, numbers_from, NeverFall, comes_to, has_room, is_copied, copying, copying_after, copy_of, went_over, InTurn, IsOfSent}
-use Rattle.can_bus.proofs.Lists.{Rises}
-use Rattle.can_bus.proofs.Rising.{open_sockets-rise}
+use Rattle.can_bus.specs.Copies.{numbers_from, NeverFall, comes_to, has_room, is_copied, copying, copying_after, copy_of, went_over, InTurn}
 use Rattle.can_bus.proofs.Lawful.{WasTried, tried_by, gone-le-sent}
-use Rattle.can_bus.proofs.OffFacts.{is_in-of, open-place}
+use Rattle.can_attempt.proofs.Standing.{is_in-of}
 use Rattle.can_bus.proofs.CopyFacts.{received-copies}
 
 -- ---- attempts in turn
@@ -97,39 +90,30 @@ Follow-numbers a b (t ∷ ts) h = (h.0, weaker (number_after t) t.number (map (�
 
 -- ---- what a tried frame says of its interface
 
-record Facts (past : List Entry) (i : ℕ) (t : Tried) : Type 0 where
-  number : t.number ≡ gone_count past i
-  waits : gone_count past i < length (sent_by past i)
-  frame : option_map (λ (p : Pending). p.frame) (slice_get (sent_by past i) (gone_count past i)) ≡ Some t.frame
-
-within : {X : Type 0} (xs : List X) (k : ℕ) (x : X) → slice_get xs k ≡ Some x → k < length xs
-within [] k x at = cc
-within (y ∷ ys) zero x at = omega arith
-within (y ∷ ys) (suc k) x at = let lt = within ys k x at in omega (arith, lt)
+pub record Facts (past : List Entry) (i : ℕ) (t : Tried) : Type 0 where
+  pub number : t.number ≡ gone_count past i
+  pub waits : gone_count past i < length (sent_by past i)
+  pub frame : option_map (λ (p : Pending). p.frame) (slice_get (sent_by past i) (gone_count past i)) ≡ Some t.frame
 
 facts-at : (c : BusConfig) (past : List Entry) (m : ℕ) (v : Verdict) (t : Tried) → (w : WasTried c past m v t) → Facts past w.place t
 facts-at c past m v t w = record {
   number = ap (λ (u : Tried). u.number) w.is;
-  waits = within (sent_by past w.place) (gone_count past w.place) w.pending w.head;
+  waits = slice_get_within (sent_by past w.place) (gone_count past w.place) w.pending w.head;
   frame = ap (option_map (λ (p : Pending). p.frame)) w.head ∙ ap (λ (u : Tried). Some u.frame) (sym w.is);
 }
 
-facts : (c : BusConfig) (past : List Entry) (m : ℕ) (v : Verdict) (t : Tried) (i : ℕ) → WasTried c past m v t → t.winner ≡ i → Facts past i t
+pub facts : (c : BusConfig) (past : List Entry) (m : ℕ) (v : Verdict) (t : Tried) (i : ℕ) → WasTried c past m v t → t.winner ≡ i → Facts past i t
 facts c past m v t i w same = subst (λ k. Facts past k t) (sym (ap (λ (u : Tried). u.winner) w.is) ∙ same) (facts-at c past m v t w)
 
 -- ---- a frame that comes to an interface went over
 
-and-false : (b : Bool) → (b && false) ≡ false
-and-false true = refl
-and-false false = refl
-
 accepted-over : (k : Class) (tr : Transmission) (j : ℕ) → is_in j (set_of (accepted_in k tr)) ≡ true → went_over k ≡ true
 accepted-over class.Done tr j h = refl
 accepted-over class.LastBit tr j h = refl
-accepted-over class.Destroyed tr j h = let e : true ≡ false = sym h ∙ is_in-of [] j ∙ and-false (nat_lt j 16) in cc
-accepted-over class.NoAck tr j h = let e : true ≡ false = sym h ∙ is_in-of [] j ∙ and-false (nat_lt j 16) in cc
+accepted-over class.Destroyed tr j h = let e : true ≡ false = sym h ∙ is_in-of [] j ∙ and_right (nat_lt j 16) false refl in cc
+accepted-over class.NoAck tr j h = let e : true ≡ false = sym h ∙ is_in-of [] j ∙ and_right (nat_lt j 16) false refl in cc
 
-looped-done : (k : Class) (p : Option Pending) → is_looped_back k p ≡ true → k ≡ class.Done
+pub looped-done : (k : Class) (p : Option Pending) → is_looped_back k p ≡ true → k ≡ class.Done
 looped-done class.Done p h = refl
 looped-done class.LastBit None h = cc
 looped-done class.LastBit (Some p) h = cc
@@ -147,16 +131,16 @@ comes-over : (c : BusConfig) (past : List Entry) (m : ℕ) (v : Verdict) (t : Tr
 comes-over c past m v t j p w h =
     comes-over-if t.class (is_in j t.accepted) (j == t.winner) p h
     (λ a.
-      let tr = transmission c past w.place v in
-      let same : is_in j (set_of (accepted_in (class_of tr) tr)) ≡ true = ap (λ (u : Tried). is_in j u.accepted) (sym w.is) ∙ a in
-      ap (λ (u : Tried). went_over u.class) w.is ∙ accepted-over (class_of tr) tr j same)
+    let tr = transmission c past w.place v in
+    let same : is_in j (set_of (accepted_in (class_of tr) tr)) ≡ true = ap (λ (u : Tried). is_in j u.accepted) (sym w.is) ∙ a in
+    ap (λ (u : Tried). went_over u.class) w.is ∙ accepted-over (class_of tr) tr j same)
 
 -- a copy's frame came to the socket's interface
-record IsCopied (past : List Entry) (s : ℕ) (t : Tried) : Type 0 where
-  is_there : is_open past s ≡ true
-  comes : comes_to (iface_of past s) t (slice_get (sent_by past t.winner) t.number) ≡ true
+pub record IsCopied (past : List Entry) (s : ℕ) (t : Tried) : Type 0 where
+  pub is_there : is_open past s ≡ true
+  pub comes : comes_to (iface_of past s) t (slice_get (sent_by past t.winner) t.number) ≡ true
 
-copied : (c : BusConfig) (past : List Entry) (s : ℕ) (t : Tried) → is_copied c past s t (slice_get (sent_by past t.winner) t.number) ≡ true → IsCopied past s t
+pub copied : (c : BusConfig) (past : List Entry) (s : ℕ) (t : Tried) → is_copied c past s t (slice_get (sent_by past t.winner) t.number) ≡ true → IsCopied past s t
 copied c past s t h =
     let p = slice_get (sent_by past t.winner) t.number in
     let room = wants (filters_of past s) (options_of past s) (item.Data t.frame) (is_own (sender_in p) s) && has_room c past s in
@@ -165,10 +149,10 @@ copied c past s t h =
 
 -- ---- in every legal history they come in turn
 
-abbrev here : BusConfig → List Entry → ℕ → ℕ → Tried → Bool
+abbrev pub here : BusConfig → List Entry → ℕ → ℕ → Tried → Bool
 here c past i s t = is_copied c past s t (slice_get (sent_by past t.winner) t.number) && (t.winner == i)
 
-after-le : (n sent gone : ℕ) (off mine done : Bool) → n ≡ gone → gone < sent → mine ≡ true → (if done then n + 1 else n) ≤ (if off then sent else if mine && done then gone + 1 else gone)
+pub after-le : (n sent gone : ℕ) (off mine done : Bool) → n ≡ gone → gone < sent → mine ≡ true → (if done then n + 1 else n) ≤ (if off then sent else if mine && done then gone + 1 else gone)
 after-le n sent gone true mine true is lt h = omega (arith, is, lt)
 after-le n sent gone true mine false is lt h = omega (arith, is, lt)
 after-le n sent gone false true true is lt h = omega (arith, is)
@@ -176,13 +160,10 @@ after-le n sent gone false true false is lt h = omega (arith, is)
 after-le n sent gone false false true is lt h = cc
 after-le n sent gone false false false is lt h = omega (arith, is)
 
-gone-grows-if : (sent gone : ℕ) (off mine : Bool) → gone ≤ sent → gone ≤ (if off then sent else if mine then gone + 1 else gone)
+pub gone-grows-if : (sent gone : ℕ) (off mine : Bool) → gone ≤ sent → gone ≤ (if off then sent else if mine then gone + 1 else gone)
 gone-grows-if sent gone true mine le = le
 gone-grows-if sent gone false true le = omega arith
 gone-grows-if sent gone false false le = omega arith
-
-eq-true : (n : ℕ) (i : ℕ) → n ≡ i → (n == i) ≡ true
-eq-true n i e = grind (arith, e)
 
 follow-tried : (c : BusConfig) (past : List Entry) (i s m : ℕ) (v : Verdict) (t : Tried) → WasTried c past m v t → gone_count past i ≤ length (sent_by past i) → Follow 0 (gone_count past i) (copying c past i s) → Follow 0 (gone_after (reply.Tried t) i (length (sent_by past i)) (gone_count past i)) (copying_after c past i s (reply.Tried t) (copying c past i s))
 follow-tried c past i s m v t w le before = when (here c past i s t) refl

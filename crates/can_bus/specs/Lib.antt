@@ -7,6 +7,7 @@ pub mod Posts
 pub mod Queues
 pub mod Legal
 pub mod Copies
+pub mod Fates
 pub mod State
 pub mod News
 pub mod Changes

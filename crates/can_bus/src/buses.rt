@@ -244,11 +244,7 @@ impl<T: BoundedQueue<Pending>, R: BoundedQueue<Received>, A: Arbiter> Bus<T, R, 
     /// send.
     ///
     /// It costs a look at each interface and at each open socket. Refusal: `RecordFull`.
-    pub fn attempt(
-        &mut self,
-        moment: Moment,
-        verdict: Verdict,
-    ) -> Result<Option<Tried>, Refusal>
+    pub fn attempt(&mut self, moment: Moment, verdict: Verdict) -> Result<Option<Tried>, Refusal>
         ensures { Answers told_attempt self.old (event.Attempt moment verdict) result self.new }
     {
         if self.record.is_full() {

@@ -10,7 +10,6 @@ mod attempts;
 pub mod buses;
 pub mod events;
 pub mod laws;
-
 mod line;
 mod lines;
 mod news;
@@ -28,4 +27,3 @@ pub use events::{
 pub use records::Record;
 pub use runs::{RunFault, run};
 pub use stats::{IfaceStats, SocketStats};
-

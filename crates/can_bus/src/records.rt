@@ -5,7 +5,8 @@ use can_frame::Item;
 use std::alloc::{AllocError, Global};
 use std::marker::Model;
 
-/// A bus's configuration, and each event on it with its reply. Contracts see the entries newest first.
+/// A bus's configuration, and each event on it with its reply. A bus alone makes one and adds to it.
+/// Contracts see the entries newest first.
 #[derive(Drop)]
 pub struct Record {
     config: BusConfig,
@@ -24,7 +25,8 @@ impl Model for Record {
 impl Record {
     ghost use Rattle.std.specs.Prelude.{reverse};
 
-    pub fn new(alloc: Global, config: BusConfig) -> Result<Record, AllocError>
+    /// An empty record, with memory for all the entries that its limit allows.
+    pub(crate) fn new(alloc: Global, config: BusConfig) -> Result<Record, AllocError>
         ensures config { IfOk result (λ r. r.config ≡ config) }
         ensures empty { IfOk result (λ r. r.history ≡ []) }
         ensures room { IfOk result (λ r. config.limit ≤ r.room) }
@@ -33,6 +35,7 @@ impl Record {
         Ok(Record { config, entries })
     }
 
+    /// What the bus was made with.
     pub fn config(&self) -> BusConfig
         ensures { result ≡ self.now.config }
     {
@@ -46,12 +49,14 @@ impl Record {
         &self.entries
     }
 
+    /// How many entries there are.
     pub fn len(&self) -> usize
         ensures { result ≡ length self.now.history }
     {
         self.entries.len()
     }
 
+    /// Whether nothing was done yet.
     pub fn is_empty(&self) -> bool
         ensures { result ≡ (length self.now.history == 0) }
     {
@@ -65,8 +70,8 @@ impl Record {
         self.entries.len() >= self.config.limit as usize
     }
 
-    /// Adds an entry.
-    pub fn push(&mut self, event: Event, reply: Reply)
+    /// Adds an entry. No memory is taken.
+    pub(crate) fn push(&mut self, event: Event, reply: Reply)
         requires { length self.old.history < self.old.room }
         ensures config { self.new.config ≡ self.old.config }
         ensures history { self.new.history ≡ record { event = event; reply = reply } ∷ self.old.history }

@@ -1,4 +1,4 @@
-use Rattle.std.proofs.Common.{◌≡◌, ◌≤◌, arith}
+use Rattle.std.proofs.Common.{arith}
 use Rattle.can_bus.proofs.Lawful.{gone-le-sent, done-le-gone}
 use Rattle.can_bus.proofs.laws.no_frame_is_forgotten.Goals as goal
 

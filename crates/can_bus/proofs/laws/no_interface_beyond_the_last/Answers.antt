@@ -1,6 +1,6 @@
-use Rattle.std.proofs.Common.{◌≡◌, None, [], List, ap, ◌∙◌, slice_get}
+use Rattle.std.proofs.Common.{List, ap, slice_get}
 use Rattle.can_bus.specs.declared.events.Pending.{Pending}
-use Rattle.can_bus.specs.Transmit.{gone_count, sent_by}
+use Rattle.can_bus.specs.Transmit.{gone_count}
 use Rattle.can_bus.proofs.OffFacts.{sent-beyond, counts-beyond}
 use Rattle.can_bus.proofs.laws.no_interface_beyond_the_last.Goals as goal
 

@@ -1,8 +1,7 @@
-use Rattle.std.proofs.Common.{◌≡◌, ◌<◌, ◌≤◌, ◌==◌, Bool, true, false, ap, sym, ◌∙◌, arith}
+use Rattle.std.proofs.Common.{◌≡◌, ◌<◌, ◌==◌, true, false, ap, sym, ◌∙◌, arith}
 use Rattle.std.proofs.lemmas.Bool.{ne_eqb}
 use Rattle.can_frame.specs.Sets.{is_in}
-use Rattle.can_confine.specs.Confinement.{is_off}
-use Rattle.can_attempt.specs.Attempts.{hit, set_of, state_at}
+use Rattle.can_attempt.specs.Attempts.{hit, set_of}
 use Rattle.can_attempt.specs.declared.judgements.Judgement.{Judgement}
 use Rattle.can_bus.specs.News.{transmission_of}
 use Rattle.can_bus.proofs.Roles.{role-named, role-other, role-beyond, role-off}

@@ -1,8 +1,7 @@
-use Rattle.std.proofs.Common.{◌≡◌, ◌<◌, ◌≤◌, ◌+◌, [], List, length, Option, Some, Bool, true, false, if◌then◌else◌, refl, ap, sym, ◌∙◌, arith, subst}
-use Rattle.can_frame.specs.Frames.{ErrorMessage}
+use Rattle.std.proofs.Common.{◌≡◌, [], Some, Bool, true, false, if◌then◌else◌, refl, ap, sym, ◌∙◌, arith}
 use Rattle.can_frame.specs.Sets.{is_in}
 use Rattle.can_bus.specs.News.{transmission_of}
-use Rattle.can_bus.specs.Posts.{Post, data_posts, error_posts, fault_message_for, role_at}
+use Rattle.can_bus.specs.Posts.{data_posts, error_posts, fault_message_for, role_at}
 use Rattle.can_bus.specs.State.{SocketState, filled}
 use Rattle.can_bus.proofs.Filling.{wanted, filled-nil, filled-dropped, told}
 use Rattle.can_bus.proofs.Lawful.{data_posts-le, error_posts-le}

@@ -1,4 +1,4 @@
-use Rattle.std.proofs.Common.{◌≡◌, ◌<◌, length, slice_set, ap, sym, ◌∙◌, arith}
+use Rattle.std.proofs.Common.{slice_set, ap, sym, ◌∙◌, arith}
 use Rattle.std.proofs.lemmas.List.Edits.{map_over_more}
 use Rattle.can_bus.specs.Posts.{restart_posts}
 use Rattle.can_bus.specs.State.{reached}

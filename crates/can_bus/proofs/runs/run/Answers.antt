@@ -1,6 +1,5 @@
-use Rattle.std.proofs.Common.{◌≡◌, ◌+◌, ◌<◌, ◌≤◌, length, List, ap, sym, subst, ◌∙◌, arith}
-use Rattle.std.proofs.lemmas.List.{length_push}
-use Rattle.can_bus.proofs.Running.{ran_more, ran_none, RanSoFar}
+use Rattle.std.proofs.Common.{length, List, ap, sym, subst, arith}
+use Rattle.can_bus.proofs.Running.{ran_more, ran_none, counted_more, RanSoFar}
 use Rattle.can_bus.specs.declared.events.Reply.{Reply}
 use Rattle.can_bus.proofs.runs.run.Goals as goal
 
@@ -8,7 +7,7 @@ pub loop-event-preserved : goal.loop-event-preserved
 loop-event-preserved g c =
     let so_far = c.loop-event.invariant in
     record {
-      count = ap length c.note.ensures.items ∙ length_push _ _ ∙ ap (λ n. n + 1) so_far.count;
+      count = counted_more c.loop-event.replies.items c.note.new.replies.items c.serve-reply.result c.loop-event.event-index c.note.ensures.items so_far.count;
       room = omega (arith, so_far.room, c.note.ensures.room);
       ran = ran_more c.args.bus.now c.loop-event.bus c.serve-reply.new.bus c.args.events.now c.loop-event.event-index c.loop-event.replies.items c.note.new.replies.items c.event-item.result c.serve-reply.result so_far.ran c.loop-event-test.true c.event-item.is c.serve-reply.ensures.answer c.serve-reply.ensures.after c.note.ensures.items;
     }

@@ -1,4 +1,4 @@
-use Rattle.std.proofs.Common.{◌≡◌, ◌<◌, ◌∷◌, length, arith, sym, ap, ◌∙◌}
+use Rattle.std.proofs.Common.{◌<◌, ◌∷◌, length, arith, ap, ◌∙◌}
 use Rattle.can_bus.specs.declared.events.Event.TheVariants as event
 use Rattle.can_bus.specs.declared.events.Reply.{Reply}
 use Rattle.can_bus.specs.declared.events.Reply.TheVariants as reply

@@ -1,4 +1,4 @@
-use Rattle.std.proofs.Common.{◌≡◌, ◌<◌, ◌∷◌, length, List, arith, sym, ap, ◌∙◌, subst}
+use Rattle.std.proofs.Common.{◌<◌, ◌∷◌, length, List, arith, ap, ◌∙◌, subst}
 use Rattle.can_filter.specs.Filters.{CanFilter}
 use Rattle.can_bus.specs.Answer.{done_reply, told}
 use Rattle.can_bus.specs.declared.events.Event.TheVariants as event
@@ -14,8 +14,8 @@ longer : (g : given.Over) (c : goal.After-push g) → IsLonger c.self.inside.rec
 longer g c = record {
   config = c.push.ensures.config;
   history = c.push.ensures.history
-    ∙ ap (λ (r : Reply). record { event = event.SetFilters c.args.id c.in-Ok-try_copy.noted; reply = r } ∷ c.self.inside.record.history) c.done_reply.ensures
-    ∙ ap (λ (fs : List CanFilter). record { event = event.SetFilters c.args.id fs; reply = told done_reply c.set_filters_on-outcome.result } ∷ c.self.inside.record.history) c.in-Ok-try_copy.ensures;
+      ∙ ap (λ (r : Reply). record { event = event.SetFilters c.args.id c.in-Ok-try_copy.noted; reply = r } ∷ c.self.inside.record.history) c.done_reply.ensures
+      ∙ ap (λ (fs : List CanFilter). record { event = event.SetFilters c.args.id fs; reply = told done_reply c.set_filters_on-outcome.result } ∷ c.self.inside.record.history) c.in-Ok-try_copy.ensures;
   room = c.push.ensures.room;
 }
 

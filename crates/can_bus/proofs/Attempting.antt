@@ -1,0 +1,295 @@
+use Rattle.std.proofs.Common.{◌≡◌, ◌≢◌, ℕ, zero, suc, ◌+◌, ◌-◌, ◌<◌, ◌≤◌, ◌==◌, nat_lt, Bool, true, false, ◌||◌, ◌&&◌, List, [], ◌∷◌, ◌++◌, length, map, take, drop, slice_get, slice_set, slice_index_or, Option, Some, None, is_some, if◌then◌else◌, inl, inr, refl, sym, ap, ◌∙◌, arith, subst}
+use Rattle.std.specs.List.{range_with_len}
+use mathlib.Core.Path.{fun_ext}
+use Rattle.std.proofs.lemmas.Bool.{eq-eqb, ne_eqb, cond-true, cond-false, and_right, cases_lt}
+use Rattle.std.proofs.lemmas.List.{length_push, length-append, length-drop, drop-append-le, drop-drop, get_or_past, length-map}
+use Rattle.std.proofs.lemmas.List.FromFn.{length-range_with_len}
+use Rattle.can_frame.specs.Frames.{CanFrame}
+use Rattle.can_frame.specs.Sets.{is_in}
+use Rattle.can_arbiter.specs.Keys.{IsWinner, IsIdle}
+use Rattle.can_confine.specs.Confinement.{ErrorCounts, Step, all_stepped, stepped, at_start, state_of, is_off}
+use Rattle.can_fault.specs.declared.verdicts.Verdict.{Verdict}
+use Rattle.can_attempt.specs.declared.nodes.Nodes.{Nodes}
+use Rattle.can_attempt.specs.Attempts.{Transmission, attempt_between, counts_at, judged, set_of, is_among, off_after, counts_after, steps_at}
+use Rattle.can_attempt.proofs.Standing.{is_in-of}
+use Rattle.can_bus.specs.declared.events.BusConfig.{BusConfig}
+use Rattle.can_bus.specs.declared.events.Entry.{Entry}
+use Rattle.can_bus.specs.declared.events.Event.TheVariants.{Attempt}
+use Rattle.can_bus.specs.declared.events.Pending.{Pending}
+use Rattle.can_bus.specs.declared.events.Received.{Received}
+use Rattle.can_bus.specs.declared.events.Reply.TheVariants as reply
+use Rattle.can_bus.specs.declared.events.Tried.{Tried}
+use Rattle.can_bus.specs.Answer.{told_attempt, counted}
+use Rattle.can_bus.specs.Sockets.{places, open_sockets, is_open, iface_of, capacity_of, filters_of, options_of}
+use Rattle.can_bus.specs.Transmit.{sent_by, gone_count, done_count, head_of, tape, is_done}
+use Rattle.can_bus.specs.Counters.{counts_of, steps_of, state_at, transmission}
+use Rattle.can_bus.specs.Attempts.{winner, tried_with, attempt_reply, tried_head}
+use Rattle.can_bus.specs.Posts.{Post, attempt_posts, posts_of}
+use Rattle.can_bus.specs.Queues.{passing, candidates_of, queued_to, dropped_at, taken_from}
+use Rattle.can_bus.specs.Legal.{legal_reply, IsLegal}
+use Rattle.can_bus.specs.State.{LineState, SocketState, Parts, filled, reached, key_in, kept_line, kept_lines, kept_socket, kept_sockets, kept_keys, kept_nodes, kept_parts}
+use Rattle.can_bus.specs.Changes.{Carries, Tries, settled, AreReady, is_off_at}
+use Rattle.can_bus.proofs.Keeping.{Follows, IsQuiet, kept_sockets-quiet, parts-are}
+use Rattle.can_bus.proofs.KeyFacts.{kept_keys-one}
+use Rattle.can_bus.proofs.LineFacts.{IsLine, IsLine-at, kept_lines-one, length-kept_lines}
+use Rattle.can_bus.proofs.Lists.{slice_get-drop, list_any_there}
+use Rattle.can_bus.proofs.Lawful.{taken_from-le-queued}
+use Rattle.can_bus.proofs.NodeFacts.{counts_at-kept, is_off_at-kept}
+use Rattle.can_bus.proofs.OffFacts.{all_stepped-append, head-below, counts-beyond, off-no-head}
+use Rattle.can_bus.proofs.Winning.{winner-is, idle-is, holds_key}
+
+abbrev pub entry : ℕ → Verdict → Option Tried → Entry
+entry m v r = record { event = Attempt m v; reply = told_attempt r }
+
+-- ---- the attempt as the kept parts have it, and as the history has it
+
+beyond : (xs : List ErrorCounts) (n i : ℕ) → length xs ≡ n → n ≤ i → slice_index_or xs i at_start ≡ at_start
+beyond xs n i long le = get_or_past xs i at_start (omega arith)
+
+length-counters : (c : BusConfig) (past : List Entry) → length (kept_nodes c past).counters ≡ 16
+unfolding kept_nodes
+length-counters c past = long 16
+  where
+    long : (n : ℕ) → length (map (counts_of c past) (range_with_len 0 n)) ≡ n
+    long n = length-map (range_with_len 0 n) (counts_of c past) ∙ length-range_with_len 0 n
+
+counts_at-all : (c : BusConfig) (past : List Entry) → IsLegal c past → c.ifaces ≤ 16 → (i : ℕ) → counts_at (kept_nodes c past) i ≡ counts_of c past i
+counts_at-all c past legal few i =
+    elim (cases_lt i 16) [
+      | inl lt ↦ counts_at-kept c past i lt
+      | inr le ↦ beyond (kept_nodes c past).counters 16 i (length-counters c past) le ∙ sym (counts-beyond c past legal i (omega arith))
+    ]
+
+pub count-kept : (c : BusConfig) (past : List Entry) → (kept_nodes c past).count ≡ c.ifaces
+unfolding kept_nodes
+count-kept c past = refl
+
+between-is : (c : BusConfig) (past : List Entry) (w : ℕ) (v : Verdict) → IsLegal c past → c.ifaces ≤ 16 → attempt_between (kept_nodes c past) w v c.ack ≡ transmission c past w v
+between-is c past w v legal few =
+    ap (λ (n : ℕ). record { count = n; counts = counts_at (kept_nodes c past); winner = w; verdict = v; ack = c.ack }) (count-kept c past)
+    ∙ ap (λ (f : ℕ → ErrorCounts). record { count = c.ifaces; counts = f; winner = w; verdict = v; ack = c.ack }) (fun_ext (counts_at-all c past legal few))
+
+-- ---- what the attempt was
+
+-- the winner's line and frame, by the history
+record IsCarried (c : BusConfig) (past : List Entry) (m : ℕ) (v : Verdict) (t : Tried) (w : ℕ) (l : LineState) (p : Pending) : Type 0 where
+  is_line : IsLine c past w l
+  won : winner c past ≡ Some w
+  head_is : head_of past w ≡ Some p
+  tried_is : t ≡ tried_with c past m v w p.frame
+
+abbrev carried : BusConfig → Parts → ℕ → Verdict → Tried → List LineState → List (Option ℕ) → Nodes → List SocketState → Type 0
+carried c parts m v t new new_keys new_nodes after = Carries parts.lines parts.keys parts.nodes parts.sockets c.ack c.reporting m v t new new_keys new_nodes after
+
+abbrev tried_from : ℕ → ℕ → ℕ → CanFrame → Transmission → Tried
+tried_from m w n f tr = record { moment = m; winner = w; number = n; frame = f; class = (judged tr).class; accepted = (judged tr).accepted; off = (judged tr).off }
+
+the_winner : (c : BusConfig) (past : List Entry) (parts : Parts) (m : ℕ) (v : Verdict) (t : Tried) (new : List LineState) (new_keys : List (Option ℕ)) (new_nodes : Nodes) (after : List SocketState) → IsLegal c past → c.ifaces ≤ 16 → parts ≡ kept_parts c past → (k : carried c parts m v t new new_keys new_nodes after) → IsCarried c past m v t k.place k.line k.pending
+the_winner c past parts m v t new new_keys new_nodes after legal few are k =
+    let line = IsLine-at c past parts.lines k.place k.line (ap (λ (q : Parts). q.lines) are) k.there in
+    let number : k.line.gone ≡ gone_count past k.place = ap (λ (l : LineState). l.gone) line.left in
+    let same : attempt_between parts.nodes k.place v c.ack ≡ transmission c past k.place v = ap (λ (q : Parts). attempt_between q.nodes k.place v c.ack) are ∙ between-is c past k.place v legal few in
+    record {
+      is_line = line;
+      won = winner-is c past legal few k.place (subst (λ (ks : List (Option ℕ)). IsWinner ks k.place) (ap (λ (q : Parts). q.keys) are) k.wins);
+      head_is = sym (slice_get-drop (gone_count past k.place) (sent_by past k.place)) ∙ ap (λ (l : LineState). slice_get l.waiting 0) (sym line.left) ∙ k.oldest;
+      tried_is = k.tried ∙ ap (λ (n : ℕ). tried_from m k.place n k.pending.frame (attempt_between parts.nodes k.place v c.ack)) number ∙ ap (tried_from m k.place (gone_count past k.place) k.pending.frame) same;
+    }
+
+reply-tried : (c : BusConfig) (past : List Entry) (m : ℕ) (v : Verdict) (t : Tried) (w : ℕ) (l : LineState) (p : Pending) → IsCarried c past m v t w l p → reply.Tried t ≡ legal_reply c past (Attempt m v)
+reply-tried c past m v t w l p is =
+    ap (λ (u : Tried). reply.Tried u) is.tried_is
+    ∙ ap (tried_head c past m v w) (sym is.head_is)
+    ∙ ap (attempt_reply c past m v) (sym is.won)
+
+-- ---- the lines
+
+off-alone : (tr : Transmission) (j : ℕ) → j ≢ tr.winner → is_in j (set_of (off_after tr)) ≡ false
+off-alone tr j ne = is_in-of (off_after tr) j ∙ and_right (nat_lt j 16) (is_among j (off_after tr)) (alone (is_off (state_of (counts_after tr tr.winner))))
+  where
+    alone : (b : Bool) → is_among j (if b then tr.winner ∷ [] else []) ≡ false
+    alone false = refl
+    alone true = ap (λ (b : Bool). b || false) (ne_eqb tr.winner j (λ e. ne (sym e)))
+
+not-off : (c : BusConfig) (past : List Entry) (m : ℕ) (v : Verdict) (t : Tried) (w j : ℕ) (f : CanFrame) → t ≡ tried_with c past m v w f → j ≢ w → is_in j t.off ≡ false
+not-off c past m v t w j f is ne = ap (λ (u : Tried). is_in j u.off) is ∙ off-alone (transmission c past w v) j ne
+
+other-winner : (c : BusConfig) (past : List Entry) (m : ℕ) (v : Verdict) (t : Tried) (w j : ℕ) (f : CanFrame) → t ≡ tried_with c past m v w f → j ≢ w → ((t.winner == j) && is_done t.class) ≡ false
+other-winner c past m v t w j f is ne = ap (λ (b : Bool). b && is_done t.class) (ap (λ (u : Tried). u.winner == j) is ∙ ne_eqb w j (λ e. ne (sym e)))
+
+gone-other : (c : BusConfig) (past : List Entry) (m : ℕ) (v : Verdict) (t : Tried) (w j : ℕ) (f : CanFrame) → t ≡ tried_with c past m v w f → j ≢ w → gone_count (entry m v (Some t) ∷ past) j ≡ gone_count past j
+gone-other c past m v t w j f is ne =
+    cond-false (is_in j t.off) (length (sent_by past j)) (if (t.winner == j) && is_done t.class then gone_count past j + 1 else gone_count past j) (not-off c past m v t w j f is ne)
+    ∙ cond-false ((t.winner == j) && is_done t.class) (gone_count past j + 1) (gone_count past j) (other-winner c past m v t w j f is ne)
+
+done-other : (c : BusConfig) (past : List Entry) (m : ℕ) (v : Verdict) (t : Tried) (w j : ℕ) (f : CanFrame) → t ≡ tried_with c past m v w f → j ≢ w → done_count (entry m v (Some t) ∷ past) j ≡ done_count past j
+done-other c past m v t w j f is ne = cond-false ((t.winner == j) && is_done t.class) (done_count past j + 1) (done_count past j) (other-winner c past m v t w j f is ne)
+
+line-other : (c : BusConfig) (past : List Entry) (m : ℕ) (v : Verdict) (t : Tried) (w j : ℕ) (f : CanFrame) → t ≡ tried_with c past m v w f → j ≢ w → kept_line c (entry m v (Some t) ∷ past) j ≡ kept_line c past j
+line-other c past m v t w j f is ne =
+    let g = gone-other c past m v t w j f is ne in
+    let d = done-other c past m v t w j f is ne in
+    cc
+
+drop-all : {X : Type 0} (xs : List X) → drop (length xs) xs ≡ []
+drop-all [] = refl
+drop-all (x ∷ xs) = drop-all xs
+
+-- the winner's line, by whether it is done and whether it went off
+settle-kept : (room refused gone done : ℕ) (sent : List Pending) (off is_done' : Bool) → ◌≡◌ {A = LineState} (record { waiting = if off then [] else if is_done' then drop 1 (drop gone sent) else drop gone sent; room = room; sent = length sent; gone = if off then length sent else if is_done' then gone + 1 else gone; done = if is_done' then done + 1 else done; refused = refused }) (record { waiting = drop (if off then length sent else if is_done' then gone + 1 else gone) sent; room = room; sent = length sent; gone = if off then length sent else if is_done' then gone + 1 else gone; done = if is_done' then done + 1 else done; refused = refused })
+settle-kept room refused gone done sent true is_done' = ap (λ (ps : List Pending). record { waiting = ps; room = room; sent = length sent; gone = length sent; done = if is_done' then done + 1 else done; refused = refused }) (sym (drop-all sent))
+settle-kept room refused gone done sent false true = ap (λ (ps : List Pending). record { waiting = ps; room = room; sent = length sent; gone = gone + 1; done = done + 1; refused = refused }) (drop-drop 1 gone sent)
+settle-kept room refused gone done sent false false = refl
+
+abbrev line-by : BusConfig → List Entry → ℕ → Bool → Bool → LineState
+line-by c past w off here = record { waiting = drop (if off then length (sent_by past w) else if here then gone_count past w + 1 else gone_count past w) (sent_by past w); room = c.tx_capacity; sent = length (sent_by past w); gone = if off then length (sent_by past w) else if here then gone_count past w + 1 else gone_count past w; done = if here then done_count past w + 1 else done_count past w; refused = (kept_line c past w).refused }
+
+line-tried : (c : BusConfig) (past : List Entry) (m : ℕ) (v : Verdict) (t : Tried) (w : ℕ) (l : LineState) (p : Pending) → IsCarried c past m v t w l p → settled t.class (is_in w t.off) l ≡ kept_line c (entry m v (Some t) ∷ past) w
+line-tried c past m v t w l p is =
+    let who : (t.winner == w) ≡ true = eq-eqb t.winner w (ap (λ (u : Tried). u.winner) is.tried_is) in
+    let won : ((t.winner == w) && is_done t.class) ≡ is_done t.class = ap (λ (b : Bool). b && is_done t.class) who in
+    ap (settled t.class (is_in w t.off)) is.is_line.left
+    ∙ settle-kept c.tx_capacity (kept_line c past w).refused (gone_count past w) (done_count past w) (sent_by past w) (is_in w t.off) (is_done t.class)
+    ∙ ap (line-by c past w (is_in w t.off)) (sym won)
+
+lines-tried : (c : BusConfig) (past : List Entry) (m : ℕ) (v : Verdict) (t : Tried) (old new : List LineState) (w : ℕ) (l : LineState) (p : Pending) → old ≡ kept_lines c past → IsCarried c past m v t w l p → new ≡ slice_set old w (settled t.class (is_in w t.off) l) → new ≡ kept_lines c (entry m v (Some t) ∷ past)
+lines-tried c past m v t old new w l p are is after =
+    after
+    ∙ ap (λ (ls : List LineState). slice_set ls w (settled t.class (is_in w t.off) l)) are
+    ∙ ap (slice_set (kept_lines c past) w) (line-tried c past m v t w l p is)
+    ∙ sym (kept_lines-one c past (entry m v (Some t)) w is.is_line.below (λ j ne. line-other c past m v t w j p.frame is.tried_is ne))
+
+-- ---- the keys
+
+keys-tried : (c : BusConfig) (past : List Entry) (m : ℕ) (v : Verdict) (t : Tried) (old new : List (Option ℕ)) (w : ℕ) (l : LineState) (p : Pending) → c.ifaces ≤ 16 → old ≡ kept_keys past → IsCarried c past m v t w l p → new ≡ slice_set old w (key_in (slice_get (settled t.class (is_in w t.off) l).waiting 0)) → new ≡ kept_keys (entry m v (Some t) ∷ past)
+keys-tried c past m v t old new w l p few are is after =
+    let e = entry m v (Some t) in
+    let below : w < 16 = omega (arith, is.is_line.below) in
+    let front : slice_get (settled t.class (is_in w t.off) l).waiting 0 ≡ head_of (e ∷ past) w = ap (λ (k : LineState). slice_get k.waiting 0) (line-tried c past m v t w l p is) ∙ slice_get-drop (gone_count (e ∷ past) w) (sent_by past w) in
+    after
+    ∙ ap (λ (ks : List (Option ℕ)). slice_set ks w (key_in (slice_get (settled t.class (is_in w t.off) l).waiting 0))) are
+    ∙ ap (λ (q : Option Pending). slice_set (kept_keys past) w (key_in q)) front
+    ∙ sym (kept_keys-one past e w below (λ j ne. ap (λ (n : ℕ). slice_get (sent_by past j) n) (gone-other c past m v t w j p.frame is.tried_is ne)))
+
+-- ---- the error counts
+
+counts-tried : (c : BusConfig) (past : List Entry) (m : ℕ) (v : Verdict) (t : Tried) (i : ℕ) → counts_of c (entry m v (Some t) ∷ past) i ≡ counts_after (transmission c past t.winner v) i
+counts-tried c past m v t i = all_stepped-append at_start (steps_of c past i) (steps_at i (transmission c past t.winner v))
+
+map_all : (f g : ℕ → ErrorCounts) (xs : List ℕ) → ((i : ℕ) → f i ≡ g i) → map f xs ≡ map g xs
+map_all f g xs same = ap (λ (h : ℕ → ErrorCounts). map h xs) (fun_ext same)
+
+nodes-tried : (c : BusConfig) (past : List Entry) (m : ℕ) (v : Verdict) (t : Tried) (old new : Nodes) (w : ℕ) (l : LineState) (p : Pending) → IsLegal c past → c.ifaces ≤ 16 → old ≡ kept_nodes c past → IsCarried c past m v t w l p → new ≡ record old { counters = (judged (attempt_between old w v c.ack)).counters } → new ≡ kept_nodes c (entry m v (Some t) ∷ past)
+unfolding kept_nodes
+nodes-tried c past m v t old new w l p legal few are is after =
+    let who : t.winner ≡ w = ap (λ (u : Tried). u.winner) is.tried_is in
+    let now : (i : ℕ) → counts_after (transmission c past w v) i ≡ counts_of c (entry m v (Some t) ∷ past) i = λ i. ap (λ (k : ℕ). counts_after (transmission c past k v) i) (sym who) ∙ sym (counts-tried c past m v t i) in
+    after
+    ∙ ap (λ (n : Nodes). record n { counters = (judged (attempt_between n w v c.ack)).counters }) are
+    ∙ ap (λ (tr : Transmission). record { count = c.ifaces; counters = (judged tr).counters }) (between-is c past w v legal few)
+    ∙ ap (λ (cs : List ErrorCounts). record { count = c.ifaces; counters = cs }) (map_all (counts_after (transmission c past w v)) (counts_of c (entry m v (Some t) ∷ past)) (range_with_len 0 16) now)
+
+-- ---- what the sockets become
+
+-- items that come in are what the longer history leaves
+pub filled_at : (c : BusConfig) (past : List Entry) (e : Entry) (o : ℕ) → length (taken_from past o) ≤ length (queued_to c past o) → places (e ∷ past) ≡ places past → filters_of (e ∷ past) o ≡ filters_of past o → options_of (e ∷ past) o ≡ options_of past o → taken_from (e ∷ past) o ≡ taken_from past o → filled (kept_socket c past o) (candidates_of c past o e.event e.reply) ≡ kept_socket c (e ∷ past) o
+filled_at c past e o le same_places same_filters same_options same_taken =
+    let cs = candidates_of c past o e.event e.reply in
+    let room : capacity_of past o - length (drop (length (taken_from past o)) (queued_to c past o)) ≡ capacity_of past o + length (taken_from past o) - length (queued_to c past o) = omega (arith, length-drop {A = Received}) in
+    let waits : drop (length (taken_from past o)) (queued_to c past o ++ take (capacity_of past o + length (taken_from past o) - length (queued_to c past o)) cs) ≡ drop (length (taken_from past o)) (queued_to c past o) ++ take (capacity_of past o + length (taken_from past o) - length (queued_to c past o)) cs = drop-append-le (length (taken_from past o)) (queued_to c past o) _ le in
+    let counts : length (dropped_at c past o ++ drop (capacity_of past o + length (taken_from past o) - length (queued_to c past o)) cs) ≡ length (dropped_at c past o) + length (drop (capacity_of past o + length (taken_from past o) - length (queued_to c past o)) cs) = length-append (dropped_at c past o) _ in
+    ap (λ n. record (kept_socket c past o) { waiting = drop (length (taken_from past o)) (queued_to c past o) ++ take n cs; dropped = length (dropped_at c past o) + length (drop n cs) }) room
+    ∙ ap (λ (rs : List Received). record (kept_socket c past o) { waiting = rs; dropped = length (dropped_at c past o) + length (drop (capacity_of past o + length (taken_from past o) - length (queued_to c past o)) cs) }) (sym waits)
+    ∙ ap (λ n. record (kept_socket c past o) { waiting = drop (length (taken_from past o)) (queued_to c (e ∷ past) o); dropped = n }) (sym counts)
+    ∙ cc
+
+pub map_open : (c : BusConfig) (past : List Entry) (f : SocketState → SocketState) (g : ℕ → SocketState) (xs : List ℕ) → ((k o : ℕ) → slice_get xs k ≡ Some o → f (kept_socket c past o) ≡ g o) → map f (map (kept_socket c past) xs) ≡ map g xs
+map_open c past f g [] same = refl
+map_open c past f g (x ∷ xs) same =
+    let here : f (kept_socket c past x) ≡ g x = same zero x refl in
+    let rest : map f (map (kept_socket c past) xs) ≡ map g xs = map_open c past f g xs (λ k o at. same (suc k) o at) in
+    cc
+
+-- every open socket is told the posts of an entry
+pub sockets-told : (c : BusConfig) (past : List Entry) (e : Entry) (posts : ℕ → List Post) (old after : List SocketState) → IsLegal c past → old ≡ kept_sockets c past → ((i : ℕ) → posts i ≡ posts_of c past i e.event e.reply) → places (e ∷ past) ≡ places past → open_sockets (e ∷ past) ≡ open_sockets past → ((o : ℕ) → filters_of (e ∷ past) o ≡ filters_of past o) → ((o : ℕ) → options_of (e ∷ past) o ≡ options_of past o) → ((o : ℕ) → taken_from (e ∷ past) o ≡ taken_from past o) → after ≡ map (reached posts) old → after ≡ kept_sockets c (e ∷ past)
+unfolding kept_sockets
+sockets-told c past e posts old after legal are posts_are same_places same_open same_filters same_options same_taken told =
+    told
+    ∙ ap (map (reached posts)) are
+    ∙ map_open c past (reached posts) (kept_socket c (e ∷ past)) (open_sockets past) (λ k o at.
+    let there : is_open past o ≡ true = list_any_there (λ n. n == o) (open_sockets past) k o at (eq-eqb o o refl) in
+    ap (λ (ps : List Post). filled (kept_socket c past o) (passing (filters_of past o) (options_of past o) o ps)) (posts_are (iface_of past o))
+    ∙ ap (filled (kept_socket c past o)) (sym (cond-true (is_open past o) _ _ there))
+    ∙ filled_at c past e o (taken_from-le-queued c past legal o) same_places (same_filters o) (same_options o) (same_taken o))
+    ∙ ap (map (kept_socket c (e ∷ past))) (sym same_open)
+
+posts-tried : (c : BusConfig) (past : List Entry) (nodes : Nodes) (m : ℕ) (v : Verdict) (t : Tried) (w : ℕ) (l : LineState) (p : Pending) → IsLegal c past → c.ifaces ≤ 16 → nodes ≡ kept_nodes c past → IsCarried c past m v t w l p → (i : ℕ) → attempt_posts c.reporting (attempt_between nodes w v c.ack) t (Some p) i ≡ posts_of c past i (Attempt m v) (reply.Tried t)
+posts-tried c past nodes m v t w l p legal few are is i =
+    let who : w ≡ t.winner = sym (ap (λ (u : Tried). u.winner) is.tried_is) in
+    let frame : Some p ≡ slice_get (sent_by past t.winner) t.number = sym is.head_is ∙ ap (λ (u : Tried). slice_get (sent_by past u.winner) u.number) (sym is.tried_is) in
+    ap (λ (n : Nodes). attempt_posts c.reporting (attempt_between n w v c.ack) t (Some p) i) are
+    ∙ ap (λ (tr : Transmission). attempt_posts c.reporting tr t (Some p) i) (between-is c past w v legal few)
+    ∙ ap (λ (k : ℕ). attempt_posts c.reporting (transmission c past k v) t (Some p) i) who
+    ∙ ap (λ (q : Option Pending). attempt_posts c.reporting (transmission c past t.winner v) t q i) frame
+
+-- ---- the call
+
+idle-quiet : (c : BusConfig) (past : List Entry) (m : ℕ) (v : Verdict) → IsQuiet c past (entry m v None)
+idle-quiet c past m v = record { of_places = refl; of_open = refl; of_filters = λ o. refl; of_options = λ o. refl; of_taken = λ o. refl; of_posts = λ o. refl }
+
+idle-same : (c : BusConfig) (past : List Entry) (m : ℕ) (v : Verdict) → (kept_lines c (entry m v None ∷ past) ≡ kept_lines c past) × (kept_keys (entry m v None ∷ past) ≡ kept_keys past) × (kept_nodes c (entry m v None ∷ past) ≡ kept_nodes c past)
+unfolding kept_lines kept_keys kept_nodes
+idle-same c past m v = (refl, refl, refl)
+
+pub tried_follows : (c : BusConfig) (past : List Entry) (parts : Parts) (m : ℕ) (v : Verdict) (r : Option Tried) (new : List LineState) (new_keys : List (Option ℕ)) (new_nodes : Nodes) (after : List SocketState) (tried : ℕ) → IsLegal c past → c.ifaces ≤ 16 → parts ≡ kept_parts c past → Tries parts.lines parts.keys parts.nodes parts.sockets c.ack c.reporting m v r new new_keys new_nodes after → tried ≡ counted r parts.tried → Follows c past (entry m v r) (record { lines = new; keys = new_keys; nodes = new_nodes; sockets = after; opened = parts.opened; tried = tried })
+tried_follows c past parts m v None new new_keys new_nodes after tried legal few are tries tried_is =
+    let e = entry m v None in
+    let same = idle-same c past m v in
+    let nobody : winner c past ≡ None = idle-is c past few (subst (λ (ks : List (Option ℕ)). IsIdle ks) (ap (λ (q : Parts). q.keys) are) tries.0) in
+    record {
+      lawful = ap (attempt_reply c past m v) (sym nobody);
+      after = parts-are (kept_parts c (e ∷ past)) new new_keys new_nodes after parts.opened tried
+          (tries.1 ∙ ap (λ (q : Parts). q.lines) are ∙ sym same.0)
+          (tries.2 ∙ ap (λ (q : Parts). q.keys) are ∙ sym same.1)
+          (tries.3 ∙ ap (λ (q : Parts). q.nodes) are ∙ sym same.2)
+          (tries.4 ∙ ap (λ (q : Parts). q.sockets) are ∙ sym (kept_sockets-quiet c past e (idle-quiet c past m v)))
+          (ap (λ (q : Parts). q.opened) are)
+          (tried_is ∙ ap (λ (q : Parts). q.tried) are);
+    }
+tried_follows c past parts m v (Some t) new new_keys new_nodes after tried legal few are k tried_is =
+    let e = entry m v (Some t) in
+    let is = the_winner c past parts m v t new new_keys new_nodes after legal few are k in
+    record {
+      lawful = reply-tried c past m v t k.place k.line k.pending is;
+      after = parts-are (kept_parts c (e ∷ past)) new new_keys new_nodes after parts.opened tried
+          (lines-tried c past m v t parts.lines new k.place k.line k.pending (ap (λ (q : Parts). q.lines) are) is k.lines_after)
+          (keys-tried c past m v t parts.keys new_keys k.place k.line k.pending few (ap (λ (q : Parts). q.keys) are) is k.keys_after)
+          (nodes-tried c past m v t parts.nodes new_nodes k.place k.line k.pending legal few (ap (λ (q : Parts). q.nodes) are) is k.nodes_after)
+          (sockets-told c past e (attempt_posts c.reporting (attempt_between parts.nodes k.place v c.ack) t (Some k.pending)) parts.sockets after legal (ap (λ (q : Parts). q.sockets) are) (posts-tried c past parts.nodes m v t k.place k.line k.pending legal few (ap (λ (q : Parts). q.nodes) are) is) refl refl (λ o. refl) (λ o. refl) (λ o. refl) k.sockets_after)
+          (ap (λ (q : Parts). q.opened) are)
+          (tried_is ∙ ap (λ (q : Parts). q.tried + 1) are ∙ sym (length_push (tape past) t));
+    }
+
+-- each interface with a key is there, is live, and has a frame to send
+pub ready : (c : BusConfig) (past : List Entry) (parts : Parts) → IsLegal c past → c.ifaces ≤ 16 → parts ≡ kept_parts c past → AreReady parts.keys parts.lines parts.nodes
+ready c past parts legal few are w k at =
+    let held : slice_get (kept_keys past) w ≡ Some (Some k) = ap (λ (q : Parts). slice_get q.keys w) (sym are) ∙ at in
+    let has = holds_key past w k held in
+    let below : w < c.ifaces = head-below c past legal w has.pending has.head in
+    let long : length parts.lines ≡ c.ifaces = ap (λ (q : Parts). length q.lines) are ∙ length-kept_lines c past in
+    let count : parts.nodes.count ≡ c.ifaces = ap (λ (q : Parts). q.nodes.count) are ∙ count-kept c past in
+    record {
+      there = omega arith;
+      counted = omega arith;
+      live = ap (λ (q : Parts). is_off_at q.nodes w) are ∙ is_off_at-kept c past w has.few ∙ not_true (is_off (state_at c past w)) (λ off. let none = off-no-head c past legal few w off in clash has.pending (head_of past w) has.head none);
+      has_head = λ l at_w.
+          let line = IsLine-at c past parts.lines w l (ap (λ (q : Parts). q.lines) are) at_w in
+          ap (λ (x : LineState). is_some (slice_get x.waiting 0)) line.left ∙ ap (λ (q : Option Pending). is_some q) (slice_get-drop (gone_count past w) (sent_by past w) ∙ has.head);
+    }
+  where
+    not_true : (b : Bool) → (b ≡ true → ⊥) → b ≡ false
+    not_true true h = absurd (h refl)
+    not_true false h = refl
+
+    clash : (p : Pending) (q : Option Pending) → q ≡ Some p → q ≡ None → ⊥
+    clash p q some none = cc

@@ -1,0 +1,93 @@
+use Rattle.std.proofs.Common.{◌≡◌, ℕ, ◌+◌, ◌-◌, ◌≤◌, ◌==◌, nat_lt, Bool, true, false, ◌&&◌, List, [], ◌∷◌, length, if◌then◌else◌, refl, sym, ap, ◌∙◌, arith}
+use Rattle.std.proofs.lemmas.Bool.{eq-eqb, and_parts}
+use Rattle.can_frame.specs.Sets.{is_in}
+use Rattle.can_confine.specs.Confinement.{ErrorCounts, stepped, all_stepped, state_of, is_off}
+use Rattle.can_confine.specs.Confinement.Step.{GoodTransmission}
+use Rattle.can_fault.specs.declared.verdicts.Verdict.{Verdict}
+use Rattle.can_attempt.specs.declared.classes.Class.{Class}
+use Rattle.can_attempt.specs.declared.classes.Class.TheVariants as class
+use Rattle.can_attempt.specs.Attempts.{Transmission, is_among, set_of, class_of, steps_at, winner_step, counts_after, off_after}
+use Rattle.can_attempt.specs.Attempts as attempts
+use Rattle.can_bus.specs.declared.events.Entry.{Entry}
+use Rattle.can_bus.specs.declared.events.Event.{Event}
+use Rattle.can_bus.specs.declared.events.Reply.{Reply}
+use Rattle.can_bus.specs.declared.events.Reply.TheVariants as reply
+use Rattle.can_bus.specs.declared.events.BusConfig.{BusConfig}
+use Rattle.can_bus.specs.declared.events.Tried.{Tried}
+use Rattle.can_bus.specs.Transmit.{sent_by, gone_count, gone_after, done_count, done_after, lost_count, is_done}
+use Rattle.can_bus.specs.Counters.{state_at, transmission}
+use Rattle.can_bus.specs.Legal.{legal_reply, IsLegal}
+use Rattle.can_bus.specs.Fates.{goes_off}
+use Rattle.can_bus.proofs.Lawful.{WasTried, tried_by, gone-le-sent, done-le-gone}
+use Rattle.can_attempt.proofs.Standing.{is_in-of}
+use Rattle.can_bus.proofs.OffFacts.{winner-contends}
+
+-- ---- where no interface goes off, none is lost
+
+kept-if : (sent gone done : ℕ) (off here : Bool) → off ≡ false → (if off then sent else if here then gone + 1 else gone) - (if here then done + 1 else done) ≡ gone - done
+kept-if sent gone done true here is = cc
+kept-if sent gone done false true is = omega arith
+kept-if sent gone done false false is = refl
+
+lost-step : (past : List Entry) (i : ℕ) (r : Reply) → goes_off i r ≡ false → gone_after r i (length (sent_by past i)) (gone_count past i) - done_after r i (done_count past i) ≡ gone_count past i - done_count past i
+lost-step past i (reply.Tried t) live = kept-if (length (sent_by past i)) (gone_count past i) (done_count past i) (is_in i t.off) ((t.winner == i) && is_done t.class) live
+lost-step past i _ live = refl
+
+pub lost-kept : (past : List Entry) (e : Entry) (i : ℕ) → goes_off i e.reply ≡ false → lost_count (e ∷ past) i ≡ lost_count past i
+lost-kept past e i live = lost-step past i e.reply live
+
+-- ---- an attempt that was done takes nobody off
+
+off-before : (c : ErrorCounts) → is_off (state_of (stepped c GoodTransmission)) ≡ true → is_off (state_of c) ≡ true
+off-before c h = grind (arith, h)
+
+-- in an attempt that was done, the winner takes the step of a good transmission
+good_step : (t : Transmission) → class_of t ≡ class.Done → counts_after t t.winner ≡ stepped (t.counts t.winner) GoodTransmission
+good_step t done =
+    let here : (t.winner == t.winner) ≡ true = eq-eqb t.winner t.winner refl in
+    let steps : steps_at t.winner t ≡ GoodTransmission ∷ [] = rw here (ap (λ (k : Class). winner_step k (attempts.state_at t t.winner)) done) in
+    ap (all_stepped (t.counts t.winner)) steps
+
+is_done-Done : (k : Class) → is_done k ≡ true → k ≡ class.Done
+is_done-Done class.Done h = refl
+is_done-Done class.LastBit h = cc
+is_done-Done class.Destroyed h = cc
+is_done-Done class.NoAck h = cc
+
+-- who goes off is the winner, whose counts took it there
+went_off : (t : Transmission) (i : ℕ) → is_in i (set_of (off_after t)) ≡ true → is_off (state_of (counts_after t t.winner)) ≡ true
+went_off t i h = when (is_off (state_of (counts_after t t.winner))) (and_parts (nat_lt i 16) (is_among i (off_after t)) (sym (is_in-of (off_after t) i) ∙ h)).1
+  where
+    when : (b : Bool) → is_among i (if b then t.winner ∷ [] else []) ≡ true → b ≡ true
+    when true among = refl
+    when false among = cc
+
+not-done-off : (c : BusConfig) (past : List Entry) (m : ℕ) (v : Verdict) (t : Tried) (i : ℕ) → WasTried c past m v t → is_in i t.off ≡ true → is_done t.class ≡ false
+not-done-off c past m v t i w off = when (is_done t.class) refl
+  where
+    when : (b : Bool) → is_done t.class ≡ b → b ≡ false
+    when false is = refl
+    when true is =
+        let tr = transmission c past w.place v in
+        let done : class_of tr ≡ class.Done = sym (ap (λ (u : Tried). u.class) w.is) ∙ is_done-Done t.class is in
+        let gone_off : is_off (state_of (counts_after tr w.place)) ≡ true = went_off tr i (sym (ap (λ (u : Tried). is_in i u.off) w.is) ∙ off) in
+        let stepped_off : is_off (state_of (stepped (tr.counts w.place) GoodTransmission)) ≡ true = ap (λ (x : ErrorCounts). is_off (state_of x)) (sym (good_step tr done)) ∙ gone_off in
+        let was : is_off (state_at c past w.place) ≡ true = off-before (tr.counts w.place) stepped_off in
+        let clash : true ≡ false = sym was ∙ (winner-contends c past w.place w.won).live in
+        cc
+
+-- ---- where it goes off, all that wait are lost
+
+lost-if : (sent gone done : ℕ) (off mine fine : Bool) → off ≡ true → fine ≡ false → done ≤ gone → gone ≤ sent → (if off then sent else if mine && fine then gone + 1 else gone) - (if mine && fine then done + 1 else done) ≡ gone - done + (sent - gone)
+lost-if sent gone done true true true is bad le le' = cc
+lost-if sent gone done true true false is bad le le' = omega (arith, le, le')
+lost-if sent gone done true false fine is bad le le' = omega (arith, le, le')
+lost-if sent gone done false mine fine is bad le le' = cc
+
+lost-more : (c : BusConfig) (past : List Entry) (i : ℕ) (e : Event) (r : Reply) → IsLegal c past → r ≡ legal_reply c past e → goes_off i r ≡ true → gone_after r i (length (sent_by past i)) (gone_count past i) - done_after r i (done_count past i) ≡ lost_count past i + (length (sent_by past i) - gone_count past i)
+lost-more c past i e (reply.Tried t) legal law off =
+    tried_by c past e t law (λ m v w. lost-if (length (sent_by past i)) (gone_count past i) (done_count past i) (is_in i t.off) (t.winner == i) (is_done t.class) off (not-done-off c past m v t i w off) (done-le-gone c past legal i) (gone-le-sent c past legal i))
+lost-more c past i e _ legal law off = cc
+
+pub lost-at-off : (c : BusConfig) (past : List Entry) (e : Entry) (i : ℕ) → IsLegal c (e ∷ past) → goes_off i e.reply ≡ true → lost_count (e ∷ past) i ≡ lost_count past i + (length (sent_by past i) - gone_count past i)
+lost-at-off c past e i legal off = lost-more c past i e.event e.reply legal.2 legal.1 off

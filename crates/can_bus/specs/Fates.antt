@@ -1,0 +1,65 @@
+use Rattle.std.specs.Prelude.{ℕ, ◌==◌, nat_le, Bool, true, false, ◌&&◌, List, [], ◌∷◌, ◌++◌, length, count_by, if◌then◌else◌}
+use Rattle.std.specs.List.{list_any, range_with_len}
+use Rattle.can_frame.specs.Sets.{is_in}
+use Rattle.can_bus.specs.declared.events.Entry.{Entry}
+use Rattle.can_bus.specs.declared.events.Event.{Event}
+use Rattle.can_bus.specs.declared.events.Event.TheVariants.{Open, Close, Restart}
+use Rattle.can_bus.specs.declared.events.Reply.{Reply}
+use Rattle.can_bus.specs.declared.events.Reply.TheVariants as reply
+use Rattle.can_bus.specs.declared.events.Closed.{Closed}
+use Rattle.can_bus.specs.declared.events.SocketId.{SocketId}
+use Rattle.can_bus.specs.declared.events.Tried.{Tried}
+use Rattle.can_bus.specs.Transmit.{sent_by, gone_count, tape, is_done}
+
+-- What becomes of frames and sockets, in the words of the laws.
+
+-- what has become of a frame that was accepted for sending
+pub data Fate : Type 0 where
+  Waiting : Fate
+  Done : Fate
+  Lost : Fate
+
+abbrev pub is_fate : Fate → Fate → Bool
+is_fate Waiting Waiting = true
+is_fate Done Done = true
+is_fate Lost Lost = true
+is_fate _ _ = false
+
+-- an attempt of interface i with this number was done
+abbrev pub was_done : List Entry → ℕ → ℕ → Bool
+was_done past i n = list_any (λ (t : Tried). (t.winner == i) && (is_done t.class && (t.number == n))) (tape past)
+
+-- frame n of interface i waits while it has not left the queue; then it was done, or it is lost
+abbrev pub fate_of : List Entry → ℕ → ℕ → Fate
+fate_of past i n = if nat_le (gone_count past i) n then Waiting else if was_done past i n then Done else Lost
+
+-- how many of the frames that were accepted on interface i have this fate
+abbrev pub frames_with : Fate → List Entry → ℕ → ℕ
+frames_with fate past i = count_by (λ n. is_fate (fate_of past i n) fate) (range_with_len 0 (length (sent_by past i)))
+
+-- interface i goes bus off in an attempt
+abbrev pub goes_off : ℕ → Reply → Bool
+goes_off i (reply.Tried t) = is_in i t.off
+goes_off i _ = false
+
+abbrev pub given_after : Event → Reply → List ℕ → List ℕ
+given_after (Open i capacity) (reply.Opened s) before = before ++ s.0 ∷ []
+given_after _ _ before = before
+
+-- the numbers that sockets were opened under, in order
+abbrev pub numbers_given : List Entry → List ℕ
+numbers_given [] = []
+numbers_given (e ∷ past) = given_after e.event e.reply (numbers_given past)
+
+-- a socket is opened
+abbrev pub opening : ℕ → ℕ → SocketId → Entry
+opening i capacity s = record { event = Open i capacity; reply = reply.Opened s }
+
+-- a socket is closed
+abbrev pub closing : SocketId → Closed → Entry
+closing s counts = record { event = Close s; reply = reply.Closed counts }
+
+-- a restart of interface i
+abbrev pub is_restart_of : ℕ → Event → Bool
+is_restart_of i (Restart k m) = k == i
+is_restart_of i _ = false
