@@ -30,20 +30,32 @@ pub fn run_words<H: Files, R: Read + Drop, W: Write + Drop, E: Write>(
     let Ok(mut output) = BufWriter::new(alloc, output) else {
         return fail(Fault::NoMemory, errors);
     };
-    let outcome = match read_options(alloc, words) {
-        Ok(options) => bench(rt, alloc, options, input, &mut output),
-        Err(error) if error.kind() == ErrorKind::OutOfMemory => Err(Fault::NoMemory),
+    match read_options(alloc, words) {
+        Ok(options) => {
+            let outcome = bench(rt, alloc, options, input, &mut output);
+            finish(outcome, &mut output, errors)
+        }
+        Err(error) if error.kind() == ErrorKind::OutOfMemory => fail(Fault::NoMemory, errors),
         Err(error) if error.use_stderr() => {
             let _ = write!(errors, "{error}");
-            return BAD_WORDS;
+            BAD_WORDS
         }
-        Err(help) => write!(output, "{help}").map_err(|_| Fault::Write),
-    };
-    // What was put out before a fault is written too, and a fault of that comes first.
-    let outcome = match output.flush() {
-        Ok(()) => outcome,
-        Err(_) => Err(Fault::Write),
-    };
+        Err(help) => {
+            let outcome = write!(output, "{help}").map_err(|_| Fault::Write);
+            finish(outcome, &mut output, errors)
+        }
+    }
+}
+
+// Writes what was put out, also before a fault; a fault of that comes first. Answers the status.
+fn finish<W: Write, E: Write>(
+    outcome: Result<(), Fault<'_>>,
+    output: &mut W,
+    errors: &mut E,
+) -> u8 {
+    if output.flush().is_err() {
+        return fail(Fault::Write, errors);
+    }
     match outcome {
         Ok(()) => DONE,
         Err(fault) => fail(fault, errors),

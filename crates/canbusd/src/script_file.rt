@@ -17,18 +17,22 @@ pub fn read_script<'a, H: Files>(
     names: &Names,
 ) -> Result<Script, Fault<'a>> {
     let mut file = fs::open(rt, path).map_err(|_| Fault::CannotOpen(path))?;
-    let text = read_text(alloc, &mut file)?;
+    let text = read_text(alloc, &mut file, MOST_READS)?;
     Script::read(alloc, &text, names).map_err(|error| match error {
         ScriptError::NoMemory => Fault::NoMemory,
         fault => Fault::Script(fault),
     })
 }
 
-/// All that a reader has, as UTF-8 text.
-pub fn read_text<'a, R: Read>(alloc: Global, file: &mut R) -> Result<String, Fault<'a>> {
+/// All that a reader has, as UTF-8 text, which it gives in at most so many reads; the last finds its end.
+pub fn read_text<'a, R: Read>(
+    alloc: Global,
+    file: &mut R,
+    most_reads: u32,
+) -> Result<String, Fault<'a>> {
     let mut bytes = Vec::new(alloc);
     let mut piece = [0; 8192];
-    for _ in 0..MOST_READS {
+    for _ in 0..most_reads {
         let read = file.read(&mut piece).map_err(|_| Fault::Read)?;
         if read == 0 {
             return String::from_utf8(bytes).map_err(|_| Fault::Read);

@@ -303,16 +303,6 @@ fn keeps_limits_of_the_input(rt: HostRuntime) -> Result<(), Fail> {
             ("", errors, status),
         )?;
     }
-    // A file takes as many reads, and the last of them finds its end.
-    for len in [16_777_215, 16_777_216] {
-        let mut pieces = Pieces {
-            rest: &remarks.as_bytes()[..len],
-            size: 1,
-            is_broken: false,
-        };
-        let text = read_text(alloc, &mut pieces);
-        assert_eq!(rt; matches!(text, Err(Fault::Read)), len == 16_777_216);
-    }
     Ok(())
 }
 
@@ -487,6 +477,21 @@ fn tells_faults_of_scripts(rt: HostRuntime) -> Result<(), Fail> {
         runs(&rt, alloc, &line, input, ("", &errors, 1))?;
     }
     fs::remove_file(&rt, "faulty.script")?;
+    // Three bytes take three reads, and one more finds the end.
+    for (most_reads, is_broken, is_read) in [
+        (4, false, true),
+        (3, false, false),
+        (9, true, false),
+    ] {
+        let mut file = Pieces {
+            rest: b"abc",
+            size: 1,
+            is_broken,
+        };
+        let text = read_text(alloc, &mut file, most_reads);
+        assert_eq!(rt; text.is_ok(), is_read);
+        assert_eq!(rt; matches!(text, Err(Fault::Read)), !is_read);
+    }
     Ok(())
 }
 
