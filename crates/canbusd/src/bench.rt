@@ -1,5 +1,5 @@
 use crate::commands::read_command;
-use crate::faults::Fault;
+use crate::faults::BenchFault;
 use crate::lines::{LONGEST_INPUT, LineFault, Lines};
 use crate::messages::Messages;
 use crate::numbers::SessionNumber;
@@ -9,77 +9,86 @@ use crate::session::{GREETING, Session};
 use crate::texts::{Text, class_word, item_text, refusal_text};
 use crate::voice::{Voice, put};
 use can_bus::{BusConfig, BusFault, Tried};
+use can_fault::FaultSource;
 use can_frame::{Iface, IfaceSet, Moment, Names};
 use std::alloc::Global;
 use std::io::{Read, Write};
 
-/// What a bench is made with. The bus has an interface for each name.
+/// What a bench is made with.
 #[derive(Drop)]
 pub struct BenchConfig {
+    /// The names of the interfaces, as many as the bus has.
     pub names: Names,
-    pub tx_capacity: u32,
+    pub bus: BusConfig,
+    /// How many items a socket keeps, 1 to 65,536.
     pub rx_capacity: u32,
-    pub limit: u32,
 }
 
-/// Carries out the lines of an input, and writes what the sessions are told. Where a line is faulty, the
-/// lines before it have been carried out, and nothing of it.
-pub fn run_bench<R: Read + Drop, W: Write>(
+/// Carries out the lines of an input, and writes what the sessions are told. Each attempt has the verdict
+/// that the source gives its number. Where a line is faulty, the lines before it have been carried out, and
+/// nothing of it.
+pub fn run_bench<F: FaultSource + Drop, R: Read + Drop, W: Write>(
     alloc: Global,
     config: BenchConfig,
+    source: F,
     input: R,
     out: &mut W,
-) -> Result<(), Fault> {
-    let mut bench = Bench::new(alloc, config)?;
-    let mut lines = Lines::new(alloc, input).map_err(|_| Fault::NoMemory)?;
+) -> Result<(), BenchFault> {
+    let mut bench = Bench::new(alloc, config, source)?;
+    let mut lines = Lines::new(alloc, input).map_err(|_| BenchFault::NoMemory)?;
     // An input has no more lines than bytes, and one look more finds its end.
     for number in 1..=LONGEST_INPUT as u32 + 1 {
         match lines.next_line() {
             Ok(Some(line)) => bench.take_line(number, line, out)?,
             Ok(None) => return Ok(()),
-            Err(LineFault::LineTooLong) => return Err(Fault::BadLine(number)),
-            Err(LineFault::InputTooLong) => return Err(Fault::InputTooLong),
-            Err(LineFault::Read) => return Err(Fault::Read),
+            Err(LineFault::LineTooLong) => return Err(BenchFault::BadLine(number)),
+            Err(LineFault::InputTooLong) => return Err(BenchFault::InputTooLong),
+            Err(LineFault::Read) => return Err(BenchFault::Read),
         }
     }
-    Err(Fault::InputTooLong)
+    Err(BenchFault::InputTooLong)
 }
 
-/// One bus with up to 64 sessions, at a moment.
+/// One bus with up to 64 sessions, at a moment, and the source of its faults.
 #[derive(Drop)]
-struct Bench {
+struct Bench<F> {
     port: Port,
+    source: F,
     sessions: [Option<Session>; 64],
     moment: Moment,
 }
 
-impl Bench {
-    fn new(alloc: Global, config: BenchConfig) -> Result<Bench, Fault> {
+impl<F: FaultSource + Drop> Bench<F> {
+    fn new(alloc: Global, config: BenchConfig, source: F) -> Result<Bench<F>, BenchFault> {
         if config.rx_capacity < 1 || config.rx_capacity > 65_536 {
-            return Err(Fault::BadBus);
+            return Err(BenchFault::BadConfig);
+        }
+        if config.bus.ifaces != config.names.count() {
+            return Err(BenchFault::BadConfig);
         }
         let Ok(moment) = Moment::new(0) else {
-            return Err(Fault::BadBus);
+            return Err(BenchFault::BadConfig);
         };
-        let bus = BusConfig {
-            ifaces: config.names.count(),
-            tx_capacity: config.tx_capacity,
-            limit: config.limit,
-        };
-        match Port::new(alloc, config.names, bus, config.rx_capacity) {
+        match Port::new(alloc, config.names, config.bus, config.rx_capacity) {
             Ok(port) => Ok(Bench {
                 port,
+                source,
                 sessions: [None; 64],
                 moment,
             }),
-            Err(BusFault::BadConfig) => Err(Fault::BadBus),
-            Err(BusFault::NoMemory) => Err(Fault::NoMemory),
+            Err(BusFault::BadConfig) => Err(BenchFault::BadConfig),
+            Err(BusFault::NoMemory) => Err(BenchFault::NoMemory),
         }
     }
 
     // Carries out the line of this number.
-    fn take_line<W: Write>(&mut self, number: u32, line: &[u8], out: &mut W) -> Result<(), Fault> {
-        let bad_line = Fault::BadLine(number);
+    fn take_line<W: Write>(
+        &mut self,
+        number: u32,
+        line: &[u8],
+        out: &mut W,
+    ) -> Result<(), BenchFault> {
+        let bad_line = BenchFault::BadLine(number);
         let Some(order) = read_order(line) else {
             return Err(bad_line);
         };
@@ -135,7 +144,7 @@ impl Bench {
         state: Session,
         bytes: &[u8],
         out: &mut W,
-    ) -> Result<(), Fault> {
+    ) -> Result<(), BenchFault> {
         let mut state = state;
         let mut voice = Voice::new(out, session.number);
         for message in Messages::of(bytes) {
@@ -153,7 +162,7 @@ impl Bench {
         session: SessionNumber,
         state: Session,
         out: &mut W,
-    ) -> Result<(), Fault> {
+    ) -> Result<(), BenchFault> {
         let Session::Raw(socket) = state else {
             return Ok(());
         };
@@ -172,8 +181,10 @@ impl Bench {
         voice.end()
     }
 
-    fn attempt<W: Write>(&mut self, out: &mut W) -> Result<(), Fault> {
-        match self.port.attempt(self.moment) {
+    // Puts the next frame on the bus. The next attempt's number is used up only where a frame is tried.
+    fn attempt<W: Write>(&mut self, out: &mut W) -> Result<(), BenchFault> {
+        let verdict = self.source.verdict(self.port.next_attempt());
+        match self.port.attempt(self.moment, verdict) {
             Ok(Some(tried)) => put_tried(out, self.port.names(), &tried),
             Ok(None) => put(out, b"idle\n"),
             Err(_) => put(out, b"record full\n"),
@@ -191,7 +202,7 @@ fn are_commands(bytes: &[u8]) -> bool {
     true
 }
 
-fn put_tried<W: Write>(out: &mut W, names: &Names, tried: &Tried) -> Result<(), Fault> {
+fn put_tried<W: Write>(out: &mut W, names: &Names, tried: &Tried) -> Result<(), BenchFault> {
     put(out, b"tried ")?;
     put_name(out, names, tried.winner)?;
     let mut number = Text::new();
@@ -207,12 +218,12 @@ fn put_tried<W: Write>(out: &mut W, names: &Names, tried: &Tried) -> Result<(), 
     put(out, b"\n")
 }
 
-fn put_name<W: Write>(out: &mut W, names: &Names, iface: Iface) -> Result<(), Fault> {
+fn put_name<W: Write>(out: &mut W, names: &Names, iface: Iface) -> Result<(), BenchFault> {
     put(out, names.name(iface).unwrap_or("?").as_bytes())
 }
 
 // The names by rising number, joined by commas, or a dash.
-fn put_set<W: Write>(out: &mut W, names: &Names, set: IfaceSet) -> Result<(), Fault> {
+fn put_set<W: Write>(out: &mut W, names: &Names, set: IfaceSet) -> Result<(), BenchFault> {
     let mut is_empty = true;
     for iface in (0..16).filter_map(|number| Iface::new(number)) {
         if set.contains(iface) {

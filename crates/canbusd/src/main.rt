@@ -20,23 +20,38 @@ mod options;
 mod orders;
 mod port;
 mod program;
+mod script_file;
 mod session;
 mod texts;
 mod voice;
 mod words;
 
-use program::run_words;
+use faults::Fault;
+use program::{fail, run_words};
+use std::io::ErrorKind;
 use std::process::ExitCode;
 use std::rt::Env;
 use std::{env, io};
 
 fn main(rt: HostRuntime) -> ExitCode {
     let alloc = rt.alloc();
-    let Ok(words) = read_words(&rt) else {
-        let _ = eprintln!(rt; "error: the command line cannot be read as UTF-8 text");
-        return ExitCode::from(2);
+    let status = match read_words(&rt) {
+        Ok(words) => run_words(
+            &rt,
+            alloc,
+            &words,
+            rt.stdin(),
+            rt.stdout(),
+            &mut rt.stderr(),
+        ),
+        Err(error) if error.kind() == ErrorKind::OutOfMemory => {
+            fail(Fault::NoMemory, &mut rt.stderr())
+        }
+        Err(_) => {
+            let _ = eprintln!(rt; "error: the command line is no UTF-8 text");
+            2
+        }
     };
-    let status = run_words(alloc, &words, rt.stdin(), rt.stdout(), &mut rt.stderr());
     ExitCode::from(status)
 }
 

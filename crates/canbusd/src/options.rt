@@ -1,7 +1,16 @@
 use crate::numbers::read_count;
+use can_attempt::AckMode;
 use clap::error::ErrorKind;
-use clap::{Arg, ArgMatches, Command, Error};
+use clap::{Arg, ArgAction, ArgMatches, Command, Error};
 use std::alloc::{AllocError, Global};
+
+const ACK: &str = "ack";
+
+const ALWAYS: &str = "always";
+
+const PEERS: &str = "peers";
+
+const REPORT: &str = "report";
 
 const TXQUEUE: &str = "txqueue";
 
@@ -11,9 +20,33 @@ const LIMIT: &str = "limit";
 
 const BUS: &str = "BUS";
 
+const PROGRAM_HELP: &str =
+    "`canbusd help bench` explains the options of bench and the lines that it reads.
+
+Example:
+  canbusd bench can0,can1 < examples/first_frame.bench";
+
+const BENCH_HELP: &str = "Lines of standard input, carried out one after the other:
+  at SECONDS.MICROS  Set the moment, at first 0.000000: 1 to 10 digits, a point, 6 digits
+  session S          Start session S, 1 to 64
+  feed S MESSAGES    Feed a session messages: < open NAME >, < rawmode >, < send ID LEN BYTES >
+  drain S            Give a session what its socket received
+  attempt            Put the next frame on the bus
+Empty lines and lines that begin with # do nothing. A line has at most 4096 bytes, and all lines 16777216.
+
+Lines of FILE: NUMBER VERDICT, for the attempt of that number, from 0. VERDICT is good, lastbit,
+global bit, global form, local stuff NAMES, local crc NAMES or local form NAMES.
+
+Example:
+  canbusd bench --ack peers --limit 1000 can0,can1@faults.script < examples/first_frame.bench";
+
 /// The words of `canbusd bench`.
 #[derive(Debug, Clone, Copy)]
 pub struct BenchOptions<'a> {
+    /// Who acknowledges frames.
+    pub ack: AckMode,
+    /// Whether sockets are told of each fault.
+    pub is_reporting: bool,
     /// How many frames an interface keeps to be sent.
     pub tx_capacity: u32,
     /// How many items a socket keeps.
@@ -21,7 +54,9 @@ pub struct BenchOptions<'a> {
     /// How many events the run has at most.
     pub limit: u32,
     /// The names of the interfaces, joined by commas.
-    pub bus: &'a str,
+    pub names: &'a str,
+    /// The path of the script of faults, if there is one.
+    pub script: Option<&'a str>,
 }
 
 /// What the words of a command line ask for, the program's name among them. An error is a fault of the
@@ -35,12 +70,32 @@ pub fn read_options<'a>(alloc: Global, words: &'a [String]) -> Result<BenchOptio
 }
 
 fn bench_options<'a>(alloc: Global, bench: &ArgMatches<'a>) -> Result<BenchOptions<'a>, Error> {
+    let (names, script) = parts(bench.get_str(BUS).unwrap_or(""));
     Ok(BenchOptions {
+        ack: ack_mode(bench),
+        is_reporting: bench.get_flag(REPORT),
         tx_capacity: number_given(alloc, bench, TXQUEUE)?,
         rx_capacity: number_given(alloc, bench, RXQUEUE)?,
         limit: number_given(alloc, bench, LIMIT)?,
-        bus: bench.get_str(BUS).unwrap_or(""),
+        names,
+        script,
     })
+}
+
+// The names of a bus, and what follows the first `@`, if there is one.
+fn parts(bus: &str) -> (&str, Option<&str>) {
+    match bus.split_once('@') {
+        Some((names, script)) => (names, Some(script)),
+        None => (bus, None),
+    }
+}
+
+// The parser takes no other words than these two.
+fn ack_mode(bench: &ArgMatches<'_>) -> AckMode {
+    match bench.get_str(ACK) {
+        Some(word) if word == PEERS => AckMode::Peers,
+        _ => AckMode::Always,
+    }
 }
 
 // The number that an option was given, in decimal digits alone.
@@ -68,20 +123,44 @@ fn program_command<'a>(alloc: Global) -> Result<Command<'a>, AllocError> {
     Command::new(alloc, "canbusd")
         .version("0.1.0")
         .about("Simulated CAN buses")
+        .after_help(PROGRAM_HELP)
         .subcommand_required(true)
         .subcommand(bench_command(alloc)?)
 }
 
 fn bench_command<'a>(alloc: Global) -> Result<Command<'a>, AllocError> {
     let tx_help = "Frames that an interface keeps to be sent, 1 to 1024";
-    let rx_help = "Items that a socket keeps, 1 to 65536";
-    let limit_help = "Events of the run, 1 to 16777216";
+    let rx_help = "Frames that a socket keeps to be received, 1 to 65536";
+    let limit_help = "Events of the run, 1 to 16777216: calls of sessions, and attempts";
     Command::new(alloc, "bench")
         .about("Carry out the lines of standard input on one bus")
+        .after_help(BENCH_HELP)
+        .arg(ack_option(alloc))?
+        .arg(report_option(alloc))?
         .arg(number_option(alloc, TXQUEUE, "10", tx_help))?
         .arg(number_option(alloc, RXQUEUE, "256", rx_help))?
         .arg(number_option(alloc, LIMIT, "1000000", limit_help))?
         .arg(bus_argument(alloc))
+}
+
+fn ack_option<'a>(alloc: Global) -> Arg<'a> {
+    Arg::new(alloc, ACK)
+        .long(ACK)
+        .value_name("MODE")
+        .value_parser([ALWAYS, PEERS].as_slice())
+        .default_value(ALWAYS)
+        .help(
+            "Who acknowledges frames: a silent node that is always there, or other interfaces alone",
+        )
+}
+
+fn report_option<'a>(alloc: Global) -> Arg<'a> {
+    Arg::new(alloc, REPORT)
+        .long(REPORT)
+        .action(ArgAction::SetTrue)
+        .help(
+            "Make error message frames for each fault (classes 088 and 0A0), not for changes of state alone",
+        )
 }
 
 fn number_option<'a>(alloc: Global, name: &'a str, default: &'a str, help: &'a str) -> Arg<'a> {
@@ -93,7 +172,7 @@ fn number_option<'a>(alloc: Global, name: &'a str, default: &'a str, help: &'a s
 }
 
 fn bus_argument<'a>(alloc: Global) -> Arg<'a> {
-    Arg::new(alloc, BUS)
-        .required(true)
-        .help("Names of the interfaces, joined by commas")
+    Arg::new(alloc, BUS).required(true).help(
+        "Names of 1 to 16 interfaces, joined by commas, or NAMES@FILE with a script of faults",
+    )
 }

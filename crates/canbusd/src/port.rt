@@ -1,10 +1,12 @@
+use can_arbiter::ScanArbiter;
 use can_bus::{Bus, BusConfig, BusFault, Pending, Received, Refusal, SocketId, Tried};
+use can_fault::Verdict;
 use can_frame::{Frame, Iface, Moment, Names};
 use can_queue::ListQueue;
 use std::alloc::Global;
 
 /// The bus of the program.
-type ListBus = Bus<ListQueue<Pending>, ListQueue<Received>>;
+type ListBus = Bus<ListQueue<Pending>, ListQueue<Received>, ScanArbiter>;
 
 /// A bus with the names of its interfaces, and the capacity of the sockets that are opened on it.
 #[derive(Drop)]
@@ -65,8 +67,13 @@ impl Port {
         self.bus.receive(socket)
     }
 
-    /// Puts the next frame on the bus, if one waits.
-    pub fn attempt(&mut self, moment: Moment) -> Result<Option<Tried>, Refusal> {
-        self.bus.attempt(moment)
+    /// The number of the next attempt that tries a frame.
+    pub fn next_attempt(&self) -> u64 {
+        self.bus.next_attempt()
+    }
+
+    /// Puts the next frame on the bus, if a live interface has one, under these faults.
+    pub fn attempt(&mut self, moment: Moment, verdict: Verdict) -> Result<Option<Tried>, Refusal> {
+        self.bus.attempt(moment, verdict)
     }
 }

@@ -1,10 +1,14 @@
 use crate::bench::{BenchConfig, run_bench};
 use crate::faults::Fault;
 use crate::options::{BenchOptions, read_options};
-use can_frame::{Names, NamesError};
+use crate::script_file::read_script;
+use can_bus::BusConfig;
+use can_fault::{FaultSource, Perfect};
+use can_frame::{Iface, IfaceSet, Names, NamesError};
 use clap::error::ErrorKind;
 use std::alloc::Global;
 use std::io::{BufWriter, Read, Write};
+use std::rt::Files;
 
 const DONE: u8 = 0;
 
@@ -15,7 +19,8 @@ const BAD_WORDS: u8 = 2;
 /// Carries out a command line, the program's name among its words, and answers its status: 0, 1 with
 /// `canbusd: TEXT` among the errors, or 2 for a fault of the words with the parser's own text. All output
 /// was written, or the status is 1 and the text `write fault`.
-pub fn run_words<R: Read + Drop, W: Write + Drop, E: Write>(
+pub fn run_words<H: Files, R: Read + Drop, W: Write + Drop, E: Write>(
+    rt: &H,
     alloc: Global,
     words: &[String],
     input: R,
@@ -25,46 +30,91 @@ pub fn run_words<R: Read + Drop, W: Write + Drop, E: Write>(
     let Ok(mut output) = BufWriter::new(alloc, output) else {
         return fail(Fault::NoMemory, errors);
     };
-    let outcome = match read_options(alloc, words) {
-        Ok(options) => bench(alloc, options, input, &mut output),
-        Err(error) if error.kind() == ErrorKind::OutOfMemory => Err(Fault::NoMemory),
+    match read_options(alloc, words) {
+        Ok(options) => {
+            let outcome = bench(rt, alloc, options, input, &mut output);
+            finish(outcome, &mut output, errors)
+        }
+        Err(error) if error.kind() == ErrorKind::OutOfMemory => fail(Fault::NoMemory, errors),
         Err(error) if error.use_stderr() => {
             let _ = write!(errors, "{error}");
-            return BAD_WORDS;
+            BAD_WORDS
         }
-        Err(help) => write!(output, "{help}").map_err(|_| Fault::Write),
-    };
-    // What was put out before a fault is written too, and a fault of that comes first.
-    let outcome = match output.flush() {
-        Ok(()) => outcome,
-        Err(_) => Err(Fault::Write),
-    };
+        Err(help) => {
+            let outcome = write!(output, "{help}").map_err(|_| Fault::Write);
+            finish(outcome, &mut output, errors)
+        }
+    }
+}
+
+// Writes what was put out, also before a fault; a fault of that comes first. Answers the status.
+fn finish<W: Write, E: Write>(
+    outcome: Result<(), Fault<'_>>,
+    output: &mut W,
+    errors: &mut E,
+) -> u8 {
+    if output.flush().is_err() {
+        return fail(Fault::Write, errors);
+    }
     match outcome {
         Ok(()) => DONE,
         Err(fault) => fail(fault, errors),
     }
 }
 
-fn fail<E: Write>(fault: Fault, errors: &mut E) -> u8 {
+/// Tells why a command line was not carried out, and answers its status.
+pub fn fail<E: Write>(fault: Fault<'_>, errors: &mut E) -> u8 {
     let _ = writeln!(errors, "canbusd: {fault}");
     FAILED
 }
 
-fn bench<R: Read + Drop, W: Write>(
+// Looks at the names, then at the script, and then at the limits of the bus.
+fn bench<'a, H: Files, R: Read + Drop, W: Write>(
+    rt: &H,
     alloc: Global,
-    options: BenchOptions<'_>,
+    options: BenchOptions<'a>,
     input: R,
     output: &mut W,
-) -> Result<(), Fault> {
-    let names = Names::read(alloc, options.bus).map_err(|error| match error {
-        NamesError::BadNames => Fault::BadBus,
+) -> Result<(), Fault<'a>> {
+    let names = Names::read(alloc, options.names).map_err(|error| match error {
+        NamesError::BadNames => Fault::BadNames,
         NamesError::NoMemory => Fault::NoMemory,
     })?;
-    let config = BenchConfig {
-        names,
+    let config = bench_config(options, names);
+    let outcome = match options.script {
+        Some(path) => {
+            let script = read_script(rt, alloc, path, &config.names)?;
+            run_bench(alloc, config, script, input, output)
+        }
+        None => run_bench(alloc, config, Perfect, input, output),
+    };
+    outcome.map_err(|fault| Fault::Bench(fault))
+}
+
+fn bench_config(options: BenchOptions<'_>, names: Names) -> BenchConfig {
+    let bus = BusConfig {
+        ifaces: names.count(),
+        ack: options.ack,
+        reporting: if options.is_reporting {
+            all_of(&names)
+        } else {
+            IfaceSet::empty()
+        },
         tx_capacity: options.tx_capacity,
-        rx_capacity: options.rx_capacity,
         limit: options.limit,
     };
-    run_bench(alloc, config, input, output)
+    BenchConfig {
+        names,
+        bus,
+        rx_capacity: options.rx_capacity,
+    }
+}
+
+// The interfaces that have a name.
+fn all_of(names: &Names) -> IfaceSet {
+    let mut all = IfaceSet::empty();
+    for iface in (0..names.count()).filter_map(|number| Iface::new(number)) {
+        all = all.with(iface);
+    }
+    all
 }

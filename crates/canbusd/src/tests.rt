@@ -1,20 +1,23 @@
+use crate::faults::Fault;
 use crate::program::run_words;
+use crate::script_file::read_text;
 use std::alloc::Global;
-use std::io;
 use std::io::{ErrorKind, Read, Write};
 use std::process::Abort;
+use std::rt::Files;
 use std::test::Fail;
+use std::{fs, io};
 
 /// Runs the words of a line, parted by spaces, and compares what it ends with.
 fn runs<R: Read + Drop>(
-    rt: &impl Abort,
+    rt: &(impl Abort + Files),
     alloc: Global,
     line: &str,
     input: R,
     wanted: (&str, &str, u8),
 ) -> Result<(), Fail> {
     let (output, errors, status) = wanted;
-    let (ended_output, ended_errors, ended_status) = run(alloc, line, input)?;
+    let (ended_output, ended_errors, ended_status) = run(rt, alloc, line, input)?;
     assert_eq!(rt; ended_output.as_slice(), output.as_bytes());
     assert_eq!(rt; ended_errors.as_slice(), errors.as_bytes());
     assert_eq!(rt; ended_status, status);
@@ -23,6 +26,7 @@ fn runs<R: Read + Drop>(
 
 /// The output, the errors and the status of a command line.
 fn run<R: Read + Drop>(
+    rt: &impl Files,
     alloc: Global,
     line: &str,
     input: R,
@@ -33,7 +37,7 @@ fn run<R: Read + Drop>(
     }
     let mut output = Vec::new(alloc);
     let mut errors = Vec::new(alloc);
-    let status = run_words(alloc, &words, input, &mut output, &mut errors);
+    let status = run_words(rt, alloc, &words, input, &mut output, &mut errors);
     Ok((output, errors, status))
 }
 
@@ -128,6 +132,22 @@ fn carries_out_lines(rt: HostRuntime) -> Result<(), Fail> {
             "feed 1 < open can0 >< rawmode >\nsession 64\nfeed 64 < rawmode >< send 1 0 >< open can2 >\nfeed 64 \ndrain 64\n",
             "1 < error wrong state >< ok >\n64 < hi >\n64 < error wrong state >< error wrong state >< error no such interface >\n",
         ),
+        // Who wins: the 11-bit identifier where the first 11 bits are equal, then the lower interface.
+        (
+            "canbusd bench --ack always --report can0,can1,can2",
+            "feed 1 < send 048C0000 0 >\nfeed 2 < send 123 0 >\nattempt\nattempt\n",
+            "tried can1 0 done can0,can2 -\ntried can0 0 done can1,can2 -\n",
+        ),
+        (
+            "canbusd bench can0,can1",
+            "feed 2 < send 123 0 >\nfeed 1 < send 123 0 >\nattempt\nattempt\n",
+            "tried can0 0 done can1 -\ntried can1 0 done can0 -\n",
+        ),
+        (
+            "canbusd bench can0,can1",
+            "feed 1 < send 124 0 >\nfeed 2 < send 048C0000 0 >\nattempt\nattempt\n",
+            "tried can1 0 done can0 -\ntried can0 0 done can1 -\n",
+        ),
     ];
     for (line, rest, wanted) in table {
         carries_out(&rt, alloc, line, rest, wanted)?;
@@ -137,7 +157,7 @@ fn carries_out_lines(rt: HostRuntime) -> Result<(), Fail> {
 
 /// Whole, and a byte at a time.
 fn carries_out(
-    rt: &impl Abort,
+    rt: &(impl Abort + Files),
     alloc: Global,
     line: &str,
     rest: &str,
@@ -303,13 +323,14 @@ fn tells_faults(rt: HostRuntime) -> Result<(), Fail> {
     }
     let mut errors = Vec::new(alloc);
     let input = b"session 1\n".as_slice();
-    let status = run_words(alloc, &words, input, Closed, &mut errors);
+    let status = run_words(&rt, alloc, &words, input, Closed, &mut errors);
     assert_eq!(rt; errors.as_slice(), b"canbusd: write fault\n".as_slice());
     assert_eq!(rt; status, 1);
 
     let bad_buses = [
         "canbusd bench can0,can0",
-        "canbusd bench can0@faults",
+        "canbusd bench can0,can0@none",
+        "canbusd bench @none",
         "canbusd bench --txqueue 0 can0",
         "canbusd bench --txqueue 1025 can0",
         "canbusd bench --rxqueue 0 can0",
@@ -329,15 +350,160 @@ fn tells_faults(rt: HostRuntime) -> Result<(), Fail> {
     Ok(())
 }
 
+/// A text so many times.
+fn times(alloc: Global, text: &str, count: usize) -> Result<String, Fail> {
+    let mut all = String::new(alloc);
+    for _ in 0..count {
+        all.push_str(text)?;
+    }
+    Ok(all)
+}
+
+/// The numbers from 0 to 31, each with this verdict.
+fn ever(alloc: Global, verdict: &str) -> Result<String, Fail> {
+    let mut script = String::new(alloc);
+    for number in 0..32 {
+        let line = format!(in alloc; "{number} {verdict}\n")?;
+        script.push_str(&line)?;
+    }
+    Ok(script)
+}
+
+#[test]
+fn follows_scripts(rt: HostRuntime) -> Result<(), Fail> {
+    let alloc = rt.alloc();
+    let line = "canbusd bench can0,can1@followed.script";
+    // The script, what follows the two sessions, and what they write then.
+    let few = [
+        (
+            "# An idle attempt has no verdict.\n\n0 lastbit",
+            "session 3\nfeed 3 < open can0 >< rawmode >\nattempt\nfeed 1 < send 123 0 >\nat 0.000001\nattempt\nat 0.000002\nattempt\ndrain 2\ndrain 3\ndrain 1\n",
+            "3 < hi >\n3 < ok >< ok >\nidle\ntried can0 0 lastbit can1 -\ntried can0 0 done can1 -\n2 < frame 123 0.000001  >< frame 123 0.000002  >\n3 < frame 123 0.000002  >\n",
+        ),
+        (
+            "1 good\n0 local crc can1\n",
+            "feed 1 < send 123 0 >\nattempt\nattempt\n",
+            "tried can0 0 destroyed - -\ntried can0 0 done can1 -\n",
+        ),
+        (
+            "",
+            "feed 1 < send 123 0 >\nattempt\n",
+            "tried can0 0 done can1 -\n",
+        ),
+    ];
+    for (script, rest, wanted) in few {
+        fs::write(&rt, "followed.script", script.as_bytes())?;
+        carries_out(&rt, alloc, line, rest, wanted)?;
+    }
+    // The verdict of all attempts, what each but the last of them tells, what the last one tells, and
+    // what the sessions are told then.
+    let frames = times(alloc, "< frame 123 0.000000  >", 32)?;
+    let drained = format!(in alloc; "2 {frames}\n1 < error bus off >\nidle\n")?;
+    let ever_faulty = [
+        (
+            "lastbit",
+            "tried can0 0 lastbit can1 -\n",
+            "tried can0 0 lastbit can1 can0\n",
+            drained.as_str(),
+        ),
+        (
+            "global bit",
+            "tried can0 0 destroyed - -\n",
+            "tried can0 0 destroyed - can0\n",
+            "1 < error bus off >\nidle\n",
+        ),
+    ];
+    for (verdict, each, last, told) in ever_faulty {
+        fs::write(&rt, "followed.script", ever(alloc, verdict)?.as_bytes())?;
+        let attempts = times(alloc, "attempt\n", 32)?;
+        let rest = format!(in alloc;
+            "feed 1 < send 123 0 >< send 124 0 >\n{attempts}drain 2\nfeed 1 < send 123 0 >\nattempt\n"
+        )?;
+        let told_each = times(alloc, each, 31)?;
+        let wanted = format!(in alloc; "{told_each}{last}{told}")?;
+        carries_out(&rt, alloc, line, &rest, &wanted)?;
+    }
+    fs::remove_file(&rt, "followed.script")?;
+    // Without a receiver nobody acknowledges.
+    let attempts = times(alloc, "attempt\n", 17)?;
+    let input = format!(in alloc;
+        "session 1\nfeed 1 < open can0 >< rawmode >< send 123 0 >\n{attempts}"
+    )?;
+    let told = times(alloc, "tried can0 0 noack - -\n", 17)?;
+    let output = format!(in alloc; "1 < hi >\n1 < ok >< ok >\n{told}")?;
+    let alone = "canbusd bench --ack peers can0";
+    runs(&rt, alloc, alone, input.as_bytes(), (&output, "", 0))
+}
+
+#[test]
+fn tells_faults_of_scripts(rt: HostRuntime) -> Result<(), Fail> {
+    let alloc = rt.alloc();
+    let table = [
+        (
+            b"0 good\n5 local crc can1\n5 good".as_slice(),
+            "bench --limit 0 can0,can1@faulty.script",
+            "script line 3: repeated attempt",
+        ),
+        (
+            b"0 good\n5 local crc can2".as_slice(),
+            "bench can0,can1@faulty.script",
+            "script line 2: unknown interface",
+        ),
+        (
+            b"0 good\n5 local crc\n".as_slice(),
+            "bench can0,can1@faulty.script",
+            "script line 2: bad line",
+        ),
+        (b"\xFF".as_slice(), "bench can0@faulty.script", "read fault"),
+        (
+            b"0 good".as_slice(),
+            "bench --limit 0 can0@faulty.script",
+            "bad bus",
+        ),
+        (
+            b"".as_slice(),
+            "bench --limit 0 can0@none",
+            "cannot open none",
+        ),
+        (b"".as_slice(), "bench can0@", "cannot open "),
+        (b"".as_slice(), "bench can0@a@b", "cannot open a@b"),
+        (b"".as_slice(), "bench can0@.", "read fault"),
+    ];
+    for (script, line, fault) in table {
+        fs::write(&rt, "faulty.script", script)?;
+        let line = format!(in alloc; "canbusd {line}")?;
+        let errors = format!(in alloc; "canbusd: {fault}\n")?;
+        let input = b"session 1\n".as_slice();
+        runs(&rt, alloc, &line, input, ("", &errors, 1))?;
+    }
+    fs::remove_file(&rt, "faulty.script")?;
+    // Three bytes take three reads, and one more finds the end.
+    for (most_reads, is_broken, is_read) in [
+        (4, false, true),
+        (3, false, false),
+        (9, true, false),
+    ] {
+        let mut file = Pieces {
+            rest: b"abc",
+            size: 1,
+            is_broken,
+        };
+        let text = read_text(alloc, &mut file, most_reads);
+        assert_eq!(rt; text.is_ok(), is_read);
+        assert_eq!(rt; matches!(text, Err(Fault::Read)), !is_read);
+    }
+    Ok(())
+}
+
 /// What a command line writes to its output and its errors begins so, and its status.
 fn begins(
-    rt: &impl Abort,
+    rt: &(impl Abort + Files),
     alloc: Global,
     line: &str,
     wanted: (&str, &str, u8),
 ) -> Result<(), Fail> {
     let (output, errors, status) = wanted;
-    let (ended_output, ended_errors, ended_status) = run(alloc, line, b"".as_slice())?;
+    let (ended_output, ended_errors, ended_status) = run(rt, alloc, line, b"".as_slice())?;
     assert!(rt; ended_output.starts_with(output.as_bytes()));
     assert!(rt; ended_errors.starts_with(errors.as_bytes()));
     assert_eq!(rt; ended_output.is_empty(), output.is_empty());
@@ -360,6 +526,9 @@ fn reads_command_lines(rt: HostRuntime) -> Result<(), Fail> {
         "canbusd bench --txqueue 4294967296 can0",
         "canbusd bench --rxqueue x can0",
         "canbusd bench --limit 1 --limit 1 can0",
+        "canbusd bench --ack never can0",
+        "canbusd bench --ack",
+        "canbusd bench --report=1 can0",
     ];
     for line in faulty {
         begins(&rt, alloc, line, ("", "error: ", 2))?;

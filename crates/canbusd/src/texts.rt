@@ -2,7 +2,8 @@ ghost use Rattle.std.specs.Prelude.{◌≡◌, ◌≤◌, ◌<◌, ◌+◌, ◌-
 ghost use Rattle.canbusd.specs.Spelling.{digits, digit_of, moment_text};
 ghost use Rattle.std.specs.Fmt.{decimal};
 
-use can_bus::{Class, Received, Refusal};
+use can_attempt::Class;
+use can_bus::{Received, Refusal};
 use can_frame::{CanId, ErrorFrame, Frame, Item, Moment};
 use std::marker::Model;
 
@@ -209,7 +210,9 @@ pub fn refusal_text(refusal: Refusal) -> &'static [u8] {
         Refusal::BadCapacity => b"< error bad capacity >",
         Refusal::TooManySockets => b"< error too many sockets >",
         Refusal::NoSocket => b"< error no socket >",
+        Refusal::BusOff => b"< error bus off >",
         Refusal::NoBuffers => b"< error no buffers >",
+        Refusal::NotBusOff => b"< error not bus off >",
     }
 }
 

@@ -1,10 +1,10 @@
-use crate::faults::Fault;
+use crate::faults::BenchFault;
 use crate::texts::Text;
 use std::io::Write;
 
 /// Writes bytes, or tells that it could not.
-pub fn put<W: Write>(out: &mut W, bytes: &[u8]) -> Result<(), Fault> {
-    out.write_all(bytes).map_err(|_| Fault::Write)
+pub fn put<W: Write>(out: &mut W, bytes: &[u8]) -> Result<(), BenchFault> {
+    out.write_all(bytes).map_err(|_| BenchFault::Write)
 }
 
 /// What a session is told during a line: its number, a space, the texts and LF, or nothing at all.
@@ -26,7 +26,7 @@ impl<'a, W: Write> Voice<'a, W> {
     }
 
     /// Says a text. The text of no bytes is nothing said.
-    pub fn say(&mut self, text: &[u8]) -> Result<(), Fault> {
+    pub fn say(&mut self, text: &[u8]) -> Result<(), BenchFault> {
         if text.is_empty() {
             return Ok(());
         }
@@ -41,7 +41,7 @@ impl<'a, W: Write> Voice<'a, W> {
     }
 
     /// Ends the line where something was said.
-    pub fn end(&mut self) -> Result<(), Fault> {
+    pub fn end(&mut self) -> Result<(), BenchFault> {
         if self.has_begun {
             put(self.out, b"\n")?;
         }
