@@ -27,3 +27,6 @@ pub use events::{
 pub use records::Record;
 pub use runs::{RunFault, run};
 pub use stats::{IfaceStats, SocketStats};
+
+#[cfg(test)]
+mod tests;

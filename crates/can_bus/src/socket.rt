@@ -1,4 +1,4 @@
-ghost use Rattle.std.specs.Prelude.{◌≡◌, ◌+◌, ◌<◌, ◌^◌, ◌≤◌, [], ◌∷◌, ◌++◌, length, slice_get, IfOk, Some, None};
+ghost use Rattle.std.specs.Prelude.{◌≡◌, ◌+◌, ◌<◌, ◌^◌, ◌≤◌, [], ◌∷◌, ◌++◌, length, slice_get, IfOk, Some, None, Err, ◌≢◌};
 ghost use Rattle.can_bus.specs.Changes.{fresh, relieved};
 ghost use Rattle.can_bus.specs.Queues.{passing};
 ghost use Rattle.can_bus.specs.Sockets.{with_option};
@@ -40,7 +40,8 @@ impl<R: BoundedQueue<Received>> Socket<R> {
         iface: Iface,
         capacity: usize,
     ) -> Result<Socket<R>, QueueError>
-        ensures { IfOk result (λ s. s ≡ fresh number iface capacity) }
+        ensures made { IfOk result (λ s. s ≡ fresh number iface capacity) }
+        ensures bad { (capacity ≢ 0) → (result ≢ Err QueueError.BadCapacity) }
     {
         let Ok(filters) = FilterSet::all(alloc) else {
             return Err(QueueError::NoMemory);
