@@ -29,16 +29,16 @@ Example:
 const BENCH_HELP: &str = "Lines of standard input, carried out one after the other:
   at SECONDS.MICROS  Set the moment, at first 0.000000: 1 to 10 digits, a point, 6 digits
   session S          Start session S, 1 to 64
-  feed S MESSAGES    Feed a session messages: < open NAME >, < rawmode >, < send ID LEN BYTES >
-  drain S            Give a session what its socket received
-  attempt            Put the next frame on the bus
+  feed S MESSAGES    Feed session S messages: < open NAME >, < rawmode >, < send ID LEN BYTES >
+  drain S            Give session S what its socket received
+  attempt            Put the frame that wins arbitration on the bus
 Empty lines and lines that begin with # do nothing. A line has at most 4096 bytes, and all lines 16777216.
 
 Lines of FILE: NUMBER VERDICT, for the attempt of that number, from 0. VERDICT is good, lastbit,
 global bit, global form, local stuff NAMES, local crc NAMES or local form NAMES.
 
 Example:
-  canbusd bench --ack peers --limit 1000 can0,can1@faults.script < examples/first_frame.bench";
+  canbusd bench --ack peers --limit 1000 can0,can1@examples/last_bit.script < examples/last_bit.bench";
 
 /// The words of `canbusd bench`.
 #[derive(Debug, Clone, Copy)]
@@ -131,7 +131,8 @@ fn program_command<'a>(alloc: Global) -> Result<Command<'a>, AllocError> {
 fn bench_command<'a>(alloc: Global) -> Result<Command<'a>, AllocError> {
     let tx_help = "Frames that an interface keeps to be sent, 1 to 1024";
     let rx_help = "Frames that a socket keeps to be received, 1 to 65536";
-    let limit_help = "Events of the run, 1 to 16777216: calls of sessions, and attempts";
+    let limit_help =
+        "Events of the run, 1 to 16777216: each call on the bus is one, and each attempt";
     Command::new(alloc, "bench")
         .about("Carry out the lines of standard input on one bus")
         .after_help(BENCH_HELP)
@@ -150,7 +151,7 @@ fn ack_option<'a>(alloc: Global) -> Arg<'a> {
         .value_parser([ALWAYS, PEERS].as_slice())
         .default_value(ALWAYS)
         .help(
-            "Who acknowledges frames: a silent node that is always there, or other interfaces alone",
+            "Who acknowledges frames: always a node that only listens, or the other interfaces (peers) alone",
         )
 }
 
@@ -159,7 +160,7 @@ fn report_option<'a>(alloc: Global) -> Arg<'a> {
         .long(REPORT)
         .action(ArgAction::SetTrue)
         .help(
-            "Make error message frames for each fault (classes 088 and 0A0), not for changes of state alone",
+            "Make error message frames of each fault (classes 088 and 0A0), not only of changes of state",
         )
 }
 
