@@ -1,4 +1,5 @@
-use crate::{Incoming, Reader};
+use crate::{Command, Incoming, Mode, ProtoFault, Reader};
+use can_bus::Opt;
 
 #[test]
 fn every_cut_gives_both_messages(rt: HostRuntime) {
@@ -46,4 +47,113 @@ fn a_message_has_at_most_1024_bytes(rt: HostRuntime) {
             Incoming::TooLong => panic!(rt; "the next message was not read"),
         }
     }
+}
+
+#[test]
+fn faults_are_told_in_their_order(rt: HostRuntime) {
+    let raw = Mode::Raw;
+    let cases: [(Mode, &[u8], ProtoFault); 24] = [
+        (raw, b"< >", ProtoFault::EmptyMessage),
+        (Mode::Ended, b"<>", ProtoFault::EmptyMessage),
+        (Mode::NoBus, b"< status >", ProtoFault::UnknownCommand),
+        (raw, b"< SEND 123 0 >", ProtoFault::UnknownCommand),
+        (Mode::Ended, b"< echo >", ProtoFault::WrongState),
+        (Mode::Opened, b"< close 1 2 >", ProtoFault::WrongState),
+        (Mode::NoBus, b"< rawmode >", ProtoFault::WrongState),
+        (raw, b"< open can0 >", ProtoFault::WrongState),
+        (raw, b"< bcmmode 1 2 >", ProtoFault::ModeNotSupported),
+        (
+            Mode::Opened,
+            b"< controlmode >",
+            ProtoFault::ModeNotSupported,
+        ),
+        (raw, b"< send 1234 >", ProtoFault::BadCount),
+        (raw, b"< send 1234 0 >", ProtoFault::BadId),
+        (raw, b"< send 800 0 >", ProtoFault::BadId),
+        (raw, b"< send A0000123 0 >", ProtoFault::BadId),
+        (raw, b"< send 123 9 >", ProtoFault::BadLength),
+        (raw, b"< send 123 1 >", ProtoFault::BadCount),
+        (raw, b"< send 123 1 123 >", ProtoFault::BadByte),
+        (raw, b"< sendrtr 123 3 1 >", ProtoFault::BadCount),
+        (raw, b"< filter 513 >", ProtoFault::TooManyFilters),
+        (raw, b"< filter 1 123 >", ProtoFault::BadCount),
+        (raw, b"< filter 1 123 20000000 >", ProtoFault::InvalidFilter),
+        (raw, b"< filter 1 x 20000000 >", ProtoFault::BadNumber),
+        (raw, b"< join 2 >", ProtoFault::BadNumber),
+        (raw, b"< errmask 123456789 >", ProtoFault::BadNumber),
+    ];
+    for (mode, text, fault) in cases {
+        let mut reader = Reader::new(rt.alloc()).expect(&rt, "memory");
+        let given = reader.feed(rt.alloc(), text).expect(&rt, "memory");
+        let [Incoming::Message(message)] = given.as_slice() else {
+            panic!(rt; "no message");
+        };
+        match Command::read(rt.alloc(), mode, message) {
+            Ok(_) => panic!(rt; "read"),
+            Err(told) => assert_eq!(rt; told, fault, "at {text:?}"),
+        }
+    }
+}
+
+#[test]
+fn frames_are_read(rt: HostRuntime) {
+    let cases: [(&[u8], u32, &[u8], bool); 4] = [
+        (b"< send 123 0  >", 0x123, b"", false),
+        (b"<send 7ff 2 1 ff>", 0x7FF, b"\x01\xFF", false),
+        (b"< send 80000123 1 aB >", 0x8000_0123, b"\xAB", false),
+        (b"<\tsendrtr 00000123 3 >", 0xC000_0123, b"", true),
+    ];
+    for (text, word, bytes, is_remote) in cases {
+        let mut reader = Reader::new(rt.alloc()).expect(&rt, "memory");
+        let given = reader.feed(rt.alloc(), text).expect(&rt, "memory");
+        let [Incoming::Message(message)] = given.as_slice() else {
+            panic!(rt; "no message");
+        };
+        match Command::read(rt.alloc(), Mode::Raw, message) {
+            Ok(Command::Send(frame)) => {
+                assert_eq!(rt; frame.word(), word, "at {text:?}");
+                assert_eq!(rt; frame.bytes(), bytes, "at {text:?}");
+                assert_eq!(rt; frame.is_remote(), is_remote, "at {text:?}");
+            }
+            _ => panic!(rt; "no frame"),
+        }
+    }
+}
+
+#[test]
+fn commands_are_read(rt: HostRuntime) {
+    let stream =
+        b"< open can0 >< filter 2 123 C00007FF 0 0 >< join 1 >< loopback 0 >< recvown 1 >< errmask 204 >< errdata 1 >< stats >< restart >< echo >< rawmode >< close >";
+    let mut reader = Reader::new(rt.alloc()).expect(&rt, "memory");
+    let given = reader.feed(rt.alloc(), stream).expect(&rt, "memory");
+    let mut read = 0;
+    for incoming in given {
+        let Incoming::Message(message) = incoming else {
+            panic!(rt; "too long");
+        };
+        let mode = if read == 0 { Mode::NoBus } else { Mode::Raw };
+        let Ok(command) = Command::read(rt.alloc(), mode, &message) else {
+            panic!(rt; "refused");
+        };
+        let right = match (read, command) {
+            (0, Command::Open(name)) => name.bytes() == b"can0".as_slice(),
+            (1, Command::SetFilters(set)) => {
+                set.filters().len() == 2 && set.filters()[0].mask() == 0xC000_07FF
+            }
+            (2, Command::SetOption(option)) => option == Opt::Join(true),
+            (3, Command::SetOption(option)) => option == Opt::Loopback(false),
+            (4, Command::SetOption(option)) => option == Opt::RecvOwn(true),
+            (5, Command::SetOption(option)) => option == Opt::ErrMask(0x204),
+            (6, Command::ErrData(on)) => on,
+            (7, Command::Stats)
+            | (8, Command::Restart)
+            | (9, Command::Echo)
+            | (10, Command::Rawmode)
+            | (11, Command::Close) => true,
+            _ => false,
+        };
+        assert!(rt; right, "at {read}");
+        read += 1;
+    }
+    assert_eq!(rt; read, 12);
 }
