@@ -4,3 +4,5 @@ pub mod Words
 pub mod Numbers
 pub mod Verbs
 pub mod Commands
+pub mod Causes
+pub mod Spelling

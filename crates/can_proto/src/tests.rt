@@ -1,5 +1,6 @@
-use crate::{Command, Incoming, Mode, ProtoFault, Reader};
-use can_bus::Opt;
+use crate::{Answer, Cause, Command, Incoming, Mode, ProtoFault, Reader, item_text, reply_text};
+use can_bus::{Closed, Opt};
+use can_frame::{CanId, ErrorFrame, Frame, Item, Moment};
 
 #[test]
 fn every_cut_gives_both_messages(rt: HostRuntime) {
@@ -156,4 +157,76 @@ fn commands_are_read(rt: HostRuntime) {
         read += 1;
     }
     assert_eq!(rt; read, 12);
+}
+
+#[test]
+fn items_are_written(rt: HostRuntime) {
+    let standard = CanId::standard(0x123).expect(&rt, "an id");
+    let extended = CanId::extended(0x123).expect(&rt, "an id");
+    let data = Frame::data(standard, b"\x11\x22\x33\x44").expect(&rt, "a frame");
+    let empty = Frame::data(standard, b"").expect(&rt, "a frame");
+    let remote = Frame::remote(extended, 3).expect(&rt, "a frame");
+    let bytes = [0, 8, 0, 0, 0, 0, 0x60, 0];
+    let state = ErrorFrame::new(0x204, bytes).expect(&rt, "a class");
+    let off = ErrorFrame::new(0x40, [0; 8]).expect(&rt, "a class");
+    let cases: [(Item, u64, bool, &[u8]); 6] = [
+        (
+            Item::Data(data),
+            23_424_242,
+            false,
+            b"< frame 123 23.424242 11223344 >",
+        ),
+        (
+            Item::Data(empty),
+            9_999_999_999_999_999,
+            true,
+            b"< frame 123 9999999999.999999  >",
+        ),
+        (
+            Item::Data(remote),
+            5,
+            false,
+            b"< remote 00000123 0.000005 3 >",
+        ),
+        (
+            Item::Error(state),
+            12,
+            true,
+            b"< error 204 0.000012 0008000000006000 >",
+        ),
+        (Item::Error(state), 12, false, b"< error 204 0.000012 >"),
+        (Item::Error(off), 32, false, b"< error 040 0.000032 >"),
+    ];
+    for (item, micros, errdata, text) in cases {
+        let moment = Moment::new(micros).expect(&rt, "a moment");
+        assert_eq!(rt; item_text(item, moment, errdata).as_bytes(), text);
+    }
+}
+
+#[test]
+fn answers_are_written(rt: HostRuntime) {
+    let closed = Closed {
+        unread: 0,
+        dropped: 18_446_744_073_709_551_615,
+    };
+    let cases: [(Answer, &[u8]); 6] = [
+        (Answer::Greeting, b"< hi >"),
+        (Answer::Done, b"< ok >"),
+        (Answer::Echo, b"< echo >"),
+        (
+            Answer::Closing(closed),
+            b"< closed 0 18446744073709551615 >",
+        ),
+        (
+            Answer::Refused(Cause::from(ProtoFault::BadCount)),
+            b"< error bad word count >",
+        ),
+        (
+            Answer::Refused(Cause::MessageTooLong),
+            b"< error message too long >",
+        ),
+    ];
+    for (answer, text) in cases {
+        assert_eq!(rt; reply_text(answer).as_bytes(), text);
+    }
 }
