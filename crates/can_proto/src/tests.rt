@@ -1,26 +1,30 @@
 use crate::{Answer, Cause, Command, Incoming, Mode, ProtoFault, Reader, item_text, reply_text};
 use can_bus::{Closed, Opt};
-use can_frame::{CanId, ErrorFrame, Frame, Item, Moment};
+use can_frame::{CanId, ErrorFrame, Frame, Item, Moment, TooLong};
 
 #[test]
 fn every_cut_gives_both_messages(rt: HostRuntime) {
     let stream = b"x< echo >< < echo >";
     for cut in 0..stream.len() + 1 {
         let mut reader = Reader::new(rt.alloc()).expect(&rt, "memory");
-        let mut messages = 0;
-        for piece in [&stream[..cut], &stream[cut..]] {
-            for incoming in reader.feed(rt.alloc(), piece).expect(&rt, "memory") {
-                match incoming {
-                    Incoming::Message(message) => assert_eq!(rt;
-                        message.inside(),
-                        b" echo ".as_slice()
-                    ),
-                    Incoming::TooLong => panic!(rt; "too long"),
+        let mut given = reader
+            .feed(rt.alloc(), &stream[..cut])
+            .expect(&rt, "memory");
+        let more = reader
+            .feed(rt.alloc(), &stream[cut..])
+            .expect(&rt, "memory");
+        for incoming in more {
+            given.push(incoming).expect(&rt, "memory");
+        }
+        assert_eq!(rt; given.len(), 2, "cut at {cut}");
+        for incoming in given {
+            match incoming {
+                Incoming::Message(message) => {
+                    assert_eq!(rt; message.inside(), b" echo ".as_slice())
                 }
-                messages += 1;
+                Incoming::TooLong => panic!(rt; "too long"),
             }
         }
-        assert_eq!(rt; messages, 2, "cut at {cut}");
     }
 }
 
@@ -98,26 +102,27 @@ fn faults_are_told_in_their_order(rt: HostRuntime) {
 
 #[test]
 fn frames_are_read(rt: HostRuntime) {
-    let cases: [(&[u8], u32, &[u8], bool); 4] = [
-        (b"< send 123 0  >", 0x123, b"", false),
-        (b"<send 7ff 2 1 ff>", 0x7FF, b"\x01\xFF", false),
-        (b"< send 80000123 1 aB >", 0x8000_0123, b"\xAB", false),
-        (b"<\tsendrtr 00000123 3 >", 0xC000_0123, b"", true),
+    let short = CanId::standard(0x123).expect(&rt, "an id");
+    let long = CanId::extended(0x123).expect(&rt, "an id");
+    let cases: [(&[u8], Result<Frame, TooLong>); 4] = [
+        (b"< send 123 0  >", Frame::data(short, b"")),
+        (b"<send 123 2 1 ff>", Frame::data(short, b"\x01\xFF")),
+        (b"< send 80000123 1 aB >", Frame::data(long, b"\xAB")),
+        (b"<\tsendrtr 00000123 3 >", Frame::remote(long, 3)),
     ];
-    for (text, word, bytes, is_remote) in cases {
+    for (text, frame) in cases {
         let mut reader = Reader::new(rt.alloc()).expect(&rt, "memory");
         let given = reader.feed(rt.alloc(), text).expect(&rt, "memory");
         let [Incoming::Message(message)] = given.as_slice() else {
             panic!(rt; "no message");
         };
-        match Command::read(rt.alloc(), Mode::Raw, message) {
-            Ok(Command::Send(frame)) => {
-                assert_eq!(rt; frame.word(), word, "at {text:?}");
-                assert_eq!(rt; frame.bytes(), bytes, "at {text:?}");
-                assert_eq!(rt; frame.is_remote(), is_remote, "at {text:?}");
-            }
-            _ => panic!(rt; "no frame"),
-        }
+        let Ok(command) = Command::read(rt.alloc(), Mode::Raw, message) else {
+            panic!(rt; "refused");
+        };
+        let Command::Send(read) = &command else {
+            panic!(rt; "no frame");
+        };
+        assert_eq!(rt; Ok(*read), frame, "at {text:?}");
     }
 }
 
