@@ -1,0 +1,182 @@
+use Rattle.std.specs.Prelude.{◌≡◌, ◌⊎◌, ℕ, ◌-◌, ◌*◌, ◌^◌, Bool, true, false, IsTrue, ◌&&◌, ◌==◌, nat_lt, nat_le, bit_and, if◌then◌else◌, List, [], ◌∷◌, ◌++◌, length, Option, Some, None, Result, Ok, Err}
+use Rattle.can_frame.specs.Frames.{Identifier}
+use Rattle.can_frame.specs.Frames.Payload.{Data, Remote}
+use Rattle.can_filter.specs.Filters.{CanFilter}
+use Rattle.can_bus.specs.declared.events.Opt.TheVariants as opt
+use Rattle.can_proto.specs.declared.commands.Mode.{Mode}
+use Rattle.can_proto.specs.declared.commands.Command.{Command}
+use Rattle.can_proto.specs.declared.commands.Command.TheVariants.{Echo, Open, Rawmode, Send, SetFilters, SetOption, ErrData, Stats, Restart, Close}
+use Rattle.can_proto.specs.declared.faults.ProtoFault.{ProtoFault}
+use Rattle.can_proto.specs.declared.faults.ProtoFault.TheVariants.{NoMemory, InvalidFilter, TooManyFilters, EmptyMessage, UnknownCommand, WrongState, ModeNotSupported, BadCount, BadId, BadLength, BadByte, BadNumber}
+use Rattle.can_proto.specs.declared.verbs.Verb.{Verb}
+use Rattle.can_proto.specs.declared.verbs.Verb.TheVariants as verb
+use Rattle.can_proto.specs.Numbers.{number_in}
+use Rattle.can_proto.specs.Verbs.{named, stands_in}
+
+-- What the words of a message say, or the first fault that is met, reading from left to right (socketcand's raw mode; the
+-- faults and their order are own choice).
+
+infixl 10 ◌>>=◌
+abbrev pub ◌>>=◌ : {A B : Type 0} → Result A ProtoFault → (A → Result B ProtoFault) → Result B ProtoFault
+(Ok x) >>= f = f x
+(Err e) >>= f = Err e
+
+-- the command is kept on the heap
+abbrev pub takes_memory : Command → Bool
+takes_memory (Open name) = true
+takes_memory (SetFilters filters) = true
+takes_memory _ = false
+
+-- what was read is kept on the heap
+abbrev pub TakesMemory : {A : Type 0} → (A → Bool) → Result A ProtoFault → Type 0
+TakesMemory heavy (Ok x) = IsTrue (heavy x)
+TakesMemory heavy (Err e) = ⊥
+
+-- the answer is what reading gives, but for want of memory where that would be kept on the heap
+abbrev pub GivesBut : {A : Type 0} → (A → Bool) → Result A ProtoFault → Result A ProtoFault → Type 0
+GivesBut heavy (Err NoMemory) read = TakesMemory heavy read
+GivesBut heavy answer read = read ≡ answer
+
+-- the answer is what reading gives
+abbrev pub Gives : {A : Type 0} → Result A ProtoFault → Result A ProtoFault → Type 0
+Gives answer read = GivesBut (λ _. false) answer read
+
+-- what is there, or else the fault
+abbrev pub or_fault : {A : Type 0} → ProtoFault → Option A → Result A ProtoFault
+or_fault fault None = Err fault
+or_fault fault (Some x) = Ok x
+
+-- bit 31, by which linux/can.h marks 29-bit identifiers, may stand and is cleared
+abbrev pub cleared : ℕ → ℕ
+cleared n = if nat_lt n (2 ^ 31) then n else n - 2 ^ 31
+
+-- 29 bits
+abbrev pub long_id : Option ℕ → Result Identifier ProtoFault
+long_id None = Err BadId
+long_id (Some n) = if nat_lt (cleared n) (2 ^ 29) then Ok (record { extended = true; number = cleared n }) else Err BadId
+
+-- 11 bits
+abbrev pub short_id : Option ℕ → Result Identifier ProtoFault
+short_id None = Err BadId
+short_id (Some n) = if nat_lt n (2 ^ 11) then Ok (record { extended = false; number = n }) else Err BadId
+
+-- an identifier: 8 hexadecimal digits are one of 29 bits, 1 to 3 are one of 11
+unfoldable pub id_of : List ℕ → Result Identifier ProtoFault
+id_of word = if length word == 8 then long_id (number_in 16 8 word) else short_id (number_in 16 3 word)
+
+-- a length: one digit, 0 to 8
+unfoldable pub length_of : List ℕ → Result ℕ ProtoFault
+length_of (d ∷ []) = if nat_le 48 d && nat_le d 56 then Ok (d - 48) else Err BadLength
+length_of _ = Err BadLength
+
+-- bytes of one or two hexadecimal digits
+unfoldable pub bytes_of : List (List ℕ) → Result (List ℕ) ProtoFault
+bytes_of [] = Ok []
+bytes_of (word ∷ words) = do
+  b ← or_fault BadByte (number_in 16 2 word)
+  bs ← bytes_of words
+  Ok (b ∷ bs)
+
+-- `send ID LEN b ..`
+unfoldable pub send_of : List (List ℕ) → Result Command ProtoFault
+send_of (id_word ∷ len_word ∷ words) = do
+  id ← id_of id_word
+  len ← length_of len_word
+  if length words == len then bytes_of words >>= (λ bytes. Ok (Send (record { id = id; payload = Data bytes }))) else Err BadCount
+send_of _ = Err BadCount
+
+-- `sendrtr ID LEN`
+unfoldable pub remote_of : List (List ℕ) → Result Command ProtoFault
+remote_of (id_word ∷ len_word ∷ []) = do
+  id ← id_of id_word
+  len ← length_of len_word
+  Ok (Send (record { id = id; payload = Remote len }))
+remote_of _ = Err BadCount
+
+-- a mask with bit 29 makes no filter
+abbrev pub masked : ℕ → ℕ → Result CanFilter ProtoFault
+masked id mask = if bit_and mask (2 ^ 29) == 0 then Ok (record { id = id; mask = mask }) else Err InvalidFilter
+
+-- a filter: an identifier word and a mask, of 1 to 8 hexadecimal digits each
+unfoldable pub filter_of : List ℕ → List ℕ → Result CanFilter ProtoFault
+filter_of id_word mask_word = do
+  id ← or_fault BadNumber (number_in 16 8 id_word)
+  mask ← or_fault BadNumber (number_in 16 8 mask_word)
+  masked id mask
+
+-- filters, two words for each
+unfoldable pub filters_of : List (List ℕ) → Result (List CanFilter) ProtoFault
+filters_of [] = Ok []
+filters_of (word ∷ []) = Err BadCount
+filters_of (id_word ∷ mask_word ∷ words) = do
+  filter ← filter_of id_word mask_word
+  filters ← filters_of words
+  Ok (filter ∷ filters)
+
+-- `filter N ID MASK ..`
+unfoldable pub set_of : List (List ℕ) → Result Command ProtoFault
+set_of [] = Err BadCount
+set_of (count_word ∷ words) = do
+  count ← or_fault BadNumber (number_in 10 3 count_word)
+  if nat_lt 512 count then Err TooManyFilters else if length words == count * 2 then filters_of words >>= (λ filters. Ok (SetFilters filters)) else Err BadCount
+
+-- `errmask HEX`
+unfoldable pub mask_of : List (List ℕ) → Result Command ProtoFault
+mask_of (word ∷ []) = or_fault BadNumber (number_in 16 8 word) >>= λ mask. Ok (SetOption (opt.ErrMask mask))
+mask_of _ = Err BadCount
+
+-- `0` or `1`
+abbrev pub flag_of : List ℕ → Option Bool
+flag_of (d ∷ []) = if d == 48 then Some false else if d == 49 then Some true else None
+flag_of _ = None
+
+-- one flag and no word more
+unfoldable pub switch_of : List (List ℕ) → Result Bool ProtoFault
+switch_of (word ∷ []) = or_fault BadNumber (flag_of word)
+switch_of _ = Err BadCount
+
+-- `open NAME`
+unfoldable pub open_of : List (List ℕ) → Result Command ProtoFault
+open_of (word ∷ []) = Ok (Open word)
+open_of _ = Err BadCount
+
+-- a command of one word
+abbrev pub alone : Command → List (List ℕ) → Result Command ProtoFault
+alone command [] = Ok command
+alone command _ = Err BadCount
+
+-- what the words behind the first one say
+unfoldable pub arguments_of : Verb → List (List ℕ) → Result Command ProtoFault
+arguments_of verb.Echo words = alone Echo words
+arguments_of verb.Open words = open_of words
+arguments_of verb.Rawmode words = alone Rawmode words
+arguments_of verb.OtherMode words = Err ModeNotSupported
+arguments_of verb.Send words = send_of words
+arguments_of verb.SendRtr words = remote_of words
+arguments_of verb.Filter words = set_of words
+arguments_of verb.Join words = switch_of words >>= λ on. Ok (SetOption (opt.Join on))
+arguments_of verb.Loopback words = switch_of words >>= λ on. Ok (SetOption (opt.Loopback on))
+arguments_of verb.RecvOwn words = switch_of words >>= λ on. Ok (SetOption (opt.RecvOwn on))
+arguments_of verb.ErrMask words = mask_of words
+arguments_of verb.ErrData words = switch_of words >>= λ on. Ok (ErrData on)
+arguments_of verb.Stats words = alone Stats words
+arguments_of verb.Restart words = alone Restart words
+arguments_of verb.Close words = alone Close words
+
+-- what a verb says with the words behind it, in a mode
+abbrev pub command_of : Mode → List (List ℕ) → Option Verb → Result Command ProtoFault
+command_of mode words None = Err UnknownCommand
+command_of mode words (Some v) = if stands_in v mode then arguments_of v words else Err WrongState
+
+-- what the words of a message say in a mode
+abbrev pub reading : Mode → List (List ℕ) → Result Command ProtoFault
+reading mode [] = Err EmptyMessage
+reading mode (word ∷ words) = command_of mode words (named word)
+
+-- items in front of those that are read
+abbrev pub with_front : {A : Type 0} → List A → Result (List A) ProtoFault → Result (List A) ProtoFault
+with_front items read = read >>= λ more. Ok (items ++ more)
+
+-- what filters may be refused for
+abbrev pub IsFilterFault : ProtoFault → Type 0
+IsFilterFault e = (e ≡ BadNumber) ⊎ (e ≡ InvalidFilter)

@@ -1,0 +1,20 @@
+use Rattle.std.specs.Prelude.{ℕ, Bool, if◌then◌else◌, List, [], ◌∷◌, ◌++◌, ◌≤◌, take, drop}
+use Rattle.can_proto.specs.declared.scanning.Place.{Place}
+use Rattle.can_proto.specs.declared.scanning.Place.TheVariants.{Outside, Carried, At}
+
+-- What the parts of a reader stand for.
+
+-- the text kept: `<` and the bytes inside where a run is being read
+abbrev pub text_of : Bool → List ℕ → List ℕ
+text_of is_open inside = if is_open then 60 ∷ inside else []
+
+-- the text kept at byte i of a piece, by where the run began
+abbrev pub text_at : List ℕ → List ℕ → ℕ → Place → List ℕ
+text_at held piece i Outside = []
+text_at held piece i Carried = 60 ∷ (held ++ take i piece)
+text_at held piece i (At start) = 60 ∷ drop start (take i piece)
+
+-- the place is not behind byte i
+abbrev pub IsWithin : Place → ℕ → Type 0
+IsWithin (At start) i = start ≤ i
+IsWithin _ i = Unit {0}

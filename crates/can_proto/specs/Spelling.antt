@@ -1,0 +1,78 @@
+use Rattle.std.specs.Prelude.{ℕ, zero, suc, ◌+◌, ◌/◌, ◌%◌, ◌^◌, nat_lt, Bool, true, false, if◌then◌else◌, List, [], ◌∷◌, ◌++◌, codes}
+use Rattle.std.specs.Fmt.{decimal}
+use Rattle.can_frame.specs.Frames.{Identifier, CanFrame, ErrorMessage, is_remote, payload_len, payload_bytes}
+use Rattle.can_frame.specs.declared.items.Item.{Item}
+use Rattle.can_frame.specs.declared.items.Item.TheVariants as item
+use Rattle.can_bus.specs.declared.stats.SocketStats.{SocketStats}
+use Rattle.can_bus.specs.declared.stats.IfaceStats.{IfaceStats}
+use Rattle.can_proto.specs.declared.answers.Answer.{Answer}
+use Rattle.can_proto.specs.declared.answers.Answer.TheVariants.{Greeting, Done, Echo, Stats, Closing, Refused}
+use Rattle.can_proto.specs.Causes.{cause_text}
+
+-- How answers and received items are written to a client (socketcand's raw mode; the exact texts are own choice).
+
+-- a digit, upper case
+abbrev pub digit_of : ℕ → ℕ
+digit_of v = if nat_lt v 10 then 48 + v else 55 + v
+
+-- the last `count` digits of a number in a base
+abbrev pub digits : ℕ → ℕ → ℕ → List ℕ
+digits base zero n = []
+digits base (suc count) n = digits base count (n / base) ++ digit_of (n % base) ∷ []
+
+-- a moment: seconds, a point and six digits of microseconds
+abbrev pub moment_text : ℕ → List ℕ
+moment_text micros = decimal (micros / 1000000) ++ 46 ∷ digits 10 6 (micros % 1000000)
+
+-- bytes as joined pairs of hexadecimal digits
+abbrev pub pairs : List ℕ → List ℕ
+pairs [] = []
+pairs (b ∷ bs) = digits 16 2 b ++ pairs bs
+
+-- an identifier: 3 hexadecimal digits, or 8 where it has 29 bits
+abbrev pub id_text : Identifier → List ℕ
+id_text id = digits 16 (if id.extended then 8 else 3) id.number
+
+-- how many hexadecimal digits an error class takes, at least 3
+abbrev pub class_width : ℕ → ℕ
+class_width class =
+    if nat_lt class (16 ^ 3) then 3 else
+    if nat_lt class (16 ^ 4) then 4 else
+    if nat_lt class (16 ^ 5) then 5 else
+    if nat_lt class (16 ^ 6) then 6 else
+    if nat_lt class (16 ^ 7) then 7 else 8
+
+-- an error class in hexadecimal
+abbrev pub class_text : ℕ → List ℕ
+class_text class = digits 16 (class_width class) class
+
+-- a data frame with its moment; without data two spaces stand together
+abbrev pub data_text : CanFrame → ℕ → List ℕ
+data_text frame micros = codes "< frame " ++ id_text frame.id ++ codes " " ++ moment_text micros ++ codes " " ++ pairs (payload_bytes frame.payload) ++ codes " >"
+
+-- a remote frame with its moment
+abbrev pub remote_text : CanFrame → ℕ → List ℕ
+remote_text frame micros = codes "< remote " ++ id_text frame.id ++ codes " " ++ moment_text micros ++ codes " " ++ decimal (payload_len frame.payload) ++ codes " >"
+
+-- an error message frame with its moment, and with its data where these are asked for
+abbrev pub error_text : Bool → ErrorMessage → ℕ → List ℕ
+error_text false e micros = codes "< error " ++ class_text e.class ++ codes " " ++ moment_text micros ++ codes " >"
+error_text true e micros = codes "< error " ++ class_text e.class ++ codes " " ++ moment_text micros ++ codes " " ++ pairs e.bytes ++ codes " >"
+
+-- what a client is told of an item that its socket received
+abbrev pub item_text : Bool → Item → ℕ → List ℕ
+item_text errdata (item.Data frame) micros = if is_remote frame.payload then remote_text frame micros else data_text frame micros
+item_text errdata (item.Error e) micros = error_text errdata e micros
+
+-- what became of the items offered to the socket, and of the frames of its interface
+abbrev pub stats_text : SocketStats → IfaceStats → List ℕ
+stats_text s i = codes "< stats " ++ decimal s.queued ++ codes " " ++ decimal s.dropped ++ codes " " ++ decimal s.taken ++ codes " " ++ decimal i.sent ++ codes " " ++ decimal i.done ++ codes " " ++ decimal i.waiting ++ codes " " ++ decimal i.lost ++ codes " " ++ decimal i.refused ++ codes " >"
+
+-- what a client is answered
+abbrev pub reply_text : Answer → List ℕ
+reply_text Greeting = codes "< hi >"
+reply_text Done = codes "< ok >"
+reply_text Echo = codes "< echo >"
+reply_text (Stats s i) = stats_text s i
+reply_text (Closing c) = codes "< closed " ++ decimal c.unread ++ codes " " ++ decimal c.dropped ++ codes " >"
+reply_text (Refused why) = codes "< error " ++ cause_text why ++ codes " >"

@@ -1,0 +1,48 @@
+use Rattle.std.specs.Prelude.{ℕ, Bool, true, false, ◌&&◌, ◌||◌, ◌==◌, if◌then◌else◌, List, [], ◌∷◌, Option, Some, None, codes}
+use Rattle.can_proto.specs.declared.commands.Mode.{Mode}
+use Rattle.can_proto.specs.declared.commands.Mode.TheVariants.{NoBus, Opened, Raw}
+use Rattle.can_proto.specs.declared.verbs.Verb.{Verb}
+use Rattle.can_proto.specs.declared.verbs.Verb.TheVariants.{Echo, Open, Rawmode, OtherMode, Send, SendRtr, Filter, Join, Loopback, RecvOwn, ErrMask, ErrData, Stats, Restart, Close}
+
+-- The commands' first words and the modes that have them (socketcand's raw mode; filter and what follows it is own choice).
+
+-- the two words are one, byte for byte
+abbrev pub is_word : List ℕ → List ℕ → Bool
+is_word [] [] = true
+is_word (a ∷ as_) (b ∷ bs) = (a == b) && is_word as_ bs
+is_word _ _ = false
+
+-- one of socketcand's other modes
+abbrev pub is_other_mode : List ℕ → Bool
+is_other_mode word = (is_word word (codes "bcmmode") || is_word word (codes "isotpmode")) || is_word word (codes "controlmode")
+
+-- what a first word asks for
+abbrev pub named : List ℕ → Option Verb
+named word =
+    if is_word word (codes "send") then Some Send else
+    if is_word word (codes "sendrtr") then Some SendRtr else
+    if is_word word (codes "echo") then Some Echo else
+    if is_word word (codes "open") then Some Open else
+    if is_word word (codes "rawmode") then Some Rawmode else
+    if is_word word (codes "filter") then Some Filter else
+    if is_word word (codes "join") then Some Join else
+    if is_word word (codes "loopback") then Some Loopback else
+    if is_word word (codes "recvown") then Some RecvOwn else
+    if is_word word (codes "errmask") then Some ErrMask else
+    if is_word word (codes "errdata") then Some ErrData else
+    if is_word word (codes "stats") then Some Stats else
+    if is_word word (codes "restart") then Some Restart else
+    if is_word word (codes "close") then Some Close else
+    if is_other_mode word then Some OtherMode else None
+
+-- the mode has the command: `open` stands before an interface is opened, `echo` always, the modes once it is opened,
+-- all others in raw mode; a session that has ended has none
+abbrev pub stands_in : Verb → Mode → Bool
+stands_in Open NoBus = true
+stands_in Open _ = false
+stands_in Echo NoBus = true
+stands_in Echo Opened = true
+stands_in Rawmode Opened = true
+stands_in OtherMode Opened = true
+stands_in _ Raw = true
+stands_in _ _ = false

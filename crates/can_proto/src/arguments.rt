@@ -1,0 +1,109 @@
+ghost use Rattle.std.specs.Prelude.{◌≡◌};
+ghost use Rattle.can_proto.specs.Words.{words_of};
+ghost use Rattle.can_proto.specs.Commands.{Gives, GivesBut, takes_memory, mask_of, flag_of, switch_of, open_of, alone, arguments_of};
+
+use crate::commands::{Command, WantedName};
+use crate::faults::ProtoFault;
+use crate::filtering::read_set;
+use crate::numbers::read_number;
+use crate::sending::{read_remote, read_send};
+use crate::verbs::Verb;
+use crate::words::next_word;
+use can_bus::Opt;
+use std::alloc::Global;
+
+/// The words of `errmask HEX`.
+#[tactic(auto, unfolding(crate::specs::Commands::mask_of))]
+fn read_mask(rest: &[u8]) -> Result<Command, ProtoFault>
+    ensures { Gives result (mask_of (words_of rest.now)) }
+{
+    let Some((word, rest)) = next_word(rest) else {
+        return Err(ProtoFault::BadCount);
+    };
+    if next_word(rest).is_some() {
+        return Err(ProtoFault::BadCount);
+    }
+    match read_number(word, 16, 8) {
+        Some(mask) => Ok(Command::SetOption(Opt::ErrMask(mask))),
+        None => Err(ProtoFault::BadNumber),
+    }
+}
+
+/// A flag of one digit.
+fn read_flag(word: &[u8]) -> Option<bool>
+    ensures { result ≡ flag_of word.now }
+{
+    match word {
+        [b'0'] => Some(false),
+        [b'1'] => Some(true),
+        _ => None,
+    }
+}
+
+/// One flag, as of `join F`.
+#[tactic(auto, unfolding(crate::specs::Commands::switch_of))]
+fn read_switch(rest: &[u8]) -> Result<bool, ProtoFault>
+    ensures { Gives result (switch_of (words_of rest.now)) }
+{
+    let Some((word, rest)) = next_word(rest) else {
+        return Err(ProtoFault::BadCount);
+    };
+    if next_word(rest).is_some() {
+        return Err(ProtoFault::BadCount);
+    }
+    match read_flag(word) {
+        Some(on) => Ok(on),
+        None => Err(ProtoFault::BadNumber),
+    }
+}
+
+/// The word of `open NAME`.
+#[tactic(auto, unfolding(crate::specs::Commands::open_of))]
+fn read_open(alloc: Global, rest: &[u8]) -> Result<Command, ProtoFault>
+    ensures { GivesBut takes_memory result (open_of (words_of rest.now)) }
+{
+    let Some((word, rest)) = next_word(rest) else {
+        return Err(ProtoFault::BadCount);
+    };
+    if next_word(rest).is_some() {
+        return Err(ProtoFault::BadCount);
+    }
+    match WantedName::copied(alloc, word) {
+        Ok(name) => Ok(Command::Open(name)),
+        Err(_) => Err(ProtoFault::NoMemory),
+    }
+}
+
+/// A command that stands alone.
+fn read_alone(command: Command, rest: &[u8]) -> Result<Command, ProtoFault>
+    ensures { Gives result (alone command (words_of rest.now)) }
+{
+    match next_word(rest) {
+        None => Ok(command),
+        Some(_) => Err(ProtoFault::BadCount),
+    }
+}
+
+/// What the words behind a verb say.
+#[tactic(auto, unfolding(crate::specs::Commands::arguments_of))]
+pub fn read_arguments(alloc: Global, verb: Verb, rest: &[u8]) -> Result<Command, ProtoFault>
+    ensures { GivesBut takes_memory result (arguments_of verb (words_of rest.now)) }
+{
+    match verb {
+        Verb::Echo => read_alone(Command::Echo, rest),
+        Verb::Open => read_open(alloc, rest),
+        Verb::Rawmode => read_alone(Command::Rawmode, rest),
+        Verb::OtherMode => Err(ProtoFault::ModeNotSupported),
+        Verb::Send => read_send(rest),
+        Verb::SendRtr => read_remote(rest),
+        Verb::Filter => read_set(alloc, rest),
+        Verb::Join => Ok(Command::SetOption(Opt::Join(read_switch(rest)?))),
+        Verb::Loopback => Ok(Command::SetOption(Opt::Loopback(read_switch(rest)?))),
+        Verb::RecvOwn => Ok(Command::SetOption(Opt::RecvOwn(read_switch(rest)?))),
+        Verb::ErrMask => read_mask(rest),
+        Verb::ErrData => Ok(Command::ErrData(read_switch(rest)?)),
+        Verb::Stats => read_alone(Command::Stats, rest),
+        Verb::Restart => read_alone(Command::Restart, rest),
+        Verb::Close => read_alone(Command::Close, rest),
+    }
+}

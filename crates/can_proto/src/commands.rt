@@ -1,0 +1,102 @@
+ghost use Rattle.std.specs.Prelude.{◌≡◌, IfOk};
+ghost use Rattle.can_proto.specs.Words.{words_of};
+ghost use Rattle.can_proto.specs.Commands.{GivesBut, takes_memory, reading};
+
+use crate::arguments::read_arguments;
+use crate::faults::ProtoFault;
+use crate::messages::Message;
+use crate::verbs::{may_stand, verb_of};
+use crate::words::next_word;
+use can_bus::Opt;
+use can_filter::FilterSet;
+use can_frame::Frame;
+use std::alloc::{AllocError, Global};
+use std::marker::Model;
+
+/// How far a session has come.
+#[derive(Debug, Clone, Copy, PartialEq, Eq)]
+pub enum Mode {
+    /// Just connected: no interface is opened.
+    NoBus,
+    /// An interface is opened, no socket on it.
+    Opened,
+    /// Raw mode: a socket is open.
+    Raw,
+    /// The session is over.
+    Ended,
+}
+
+/// The name of an interface as a client wrote it. No interface need have it.
+#[derive(Debug, Drop)]
+pub struct WantedName {
+    bytes: Vec<u8>,
+}
+
+impl Model for WantedName {
+    ghost use Rattle.std.specs.Prelude.{ℕ, List};
+
+    ghost Value = { List ℕ };
+
+    ghost view = { λ n. n.bytes.items };
+}
+
+impl WantedName {
+    /// The name's bytes.
+    pub fn bytes(&self) -> &[u8]
+        ensures { result.now ≡ self.now }
+    {
+        &self.bytes
+    }
+
+    /// A copy of the bytes.
+    pub(crate) fn copied(alloc: Global, bytes: &[u8]) -> Result<WantedName, AllocError>
+        ensures { IfOk result (λ name. name ≡ bytes.now) }
+    {
+        let bytes = Vec::from_slice(alloc, bytes)?;
+        Ok(WantedName { bytes })
+    }
+}
+
+/// What a client asks for.
+#[derive(Debug, Drop)]
+pub enum Command {
+    /// To be answered.
+    Echo,
+    /// To open the interface of this name.
+    Open(WantedName),
+    /// To enter raw mode.
+    Rawmode,
+    /// To send a data frame or a remote frame.
+    Send(Frame),
+    /// To receive what these filters let pass.
+    SetFilters(FilterSet),
+    /// To change an option of the socket.
+    SetOption(Opt),
+    /// To be told the data of error message frames, or their classes alone.
+    ErrData(bool),
+    /// To be told what became of the frames.
+    Stats,
+    /// To take the interface out of bus off.
+    Restart,
+    /// To close the socket and end.
+    Close,
+}
+
+impl Command {
+    /// The command that a message spells in a mode, or else the first fault of the message. `NoMemory`
+    /// comes only where all else is right. The time grows with the message.
+    pub fn read(alloc: Global, mode: Mode, message: &Message) -> Result<Command, ProtoFault>
+        ensures { GivesBut takes_memory result (reading mode (words_of message.now)) }
+    {
+        let Some((word, rest)) = next_word(message.inside()) else {
+            return Err(ProtoFault::EmptyMessage);
+        };
+        let Some(verb) = verb_of(word) else {
+            return Err(ProtoFault::UnknownCommand);
+        };
+        if !may_stand(verb, mode) {
+            return Err(ProtoFault::WrongState);
+        }
+        read_arguments(alloc, verb, rest)
+    }
+}

@@ -1,0 +1,79 @@
+ghost use Rattle.std.specs.Prelude.{◌≡◌, ◌≤◌, ◌*◌, Ok, Err, length, take, IfErr, MatchResult};
+ghost use Rattle.can_proto.specs.Words.{words_of};
+ghost use Rattle.can_proto.specs.Commands.{Gives, GivesBut, takes_memory, filter_of, filters_of, set_of, IsFilterFault};
+
+use crate::commands::Command;
+use crate::faults::ProtoFault;
+use crate::numbers::read_number;
+use crate::words::{has_words, next_word};
+use can_filter::filter_sets::MAX_FILTERS;
+use can_filter::{Filter, FilterSet};
+use std::alloc::Global;
+
+/// The filter of two words.
+#[tactic(auto, unfolding(crate::specs::Commands::filter_of))]
+fn read_filter(id_word: &[u8], mask_word: &[u8]) -> Result<Filter, ProtoFault>
+    ensures value { result ≡ filter_of id_word.now mask_word.now }
+    ensures fault { IfErr result IsFilterFault }
+{
+    let Some(id) = read_number(id_word, 16, 8) else {
+        return Err(ProtoFault::BadNumber);
+    };
+    let Some(mask) = read_number(mask_word, 16, 8) else {
+        return Err(ProtoFault::BadNumber);
+    };
+    match Filter::new(id, mask) {
+        Ok(filter) => Ok(filter),
+        Err(_) => Err(ProtoFault::InvalidFilter),
+    }
+}
+
+/// The filters that the words spell, two words for each, in the first places of an array.
+fn read_filters(rest: &[u8], count: usize) -> Result<[Filter; 512], ProtoFault>
+    requires few { count ≤ 512 }
+    requires words { length (words_of rest.now) ≡ count * 2 }
+    ensures value { MatchResult result (λ filters. filters_of (words_of rest.now) ≡ Ok (take count filters)) (λ e. filters_of (words_of rest.now) ≡ Err e) }
+    ensures fault { IfErr result IsFilterFault }
+{
+    let Ok(open_filter) = Filter::new(0, 0) else {
+        unreachable!()
+    };
+    let mut filters = [open_filter; MAX_FILTERS];
+    let mut rest = rest;
+    for i in 0..count {
+        let Some((id_word, after)) = next_word(rest) else {
+            unreachable!()
+        };
+        let Some((mask_word, after)) = next_word(after) else {
+            unreachable!()
+        };
+        filters[i] = read_filter(id_word, mask_word)?;
+        rest = after;
+    }
+    Ok(filters)
+}
+
+/// The words of `filter N ID MASK ..`.
+#[tactic(auto, unfolding(crate::specs::Commands::set_of))]
+pub fn read_set(alloc: Global, rest: &[u8]) -> Result<Command, ProtoFault>
+    ensures { GivesBut takes_memory result (set_of (words_of rest.now)) }
+{
+    let Some((count_word, rest)) = next_word(rest) else {
+        return Err(ProtoFault::BadCount);
+    };
+    let Some(count) = read_number(count_word, 10, 3) else {
+        return Err(ProtoFault::BadNumber);
+    };
+    let count = count as usize;
+    if count > MAX_FILTERS {
+        return Err(ProtoFault::TooManyFilters);
+    }
+    if !has_words(rest, count * 2) {
+        return Err(ProtoFault::BadCount);
+    }
+    let filters = read_filters(rest, count)?;
+    match FilterSet::from_slice(alloc, &filters[..count]) {
+        Ok(set) => Ok(Command::SetFilters(set)),
+        Err(_) => Err(ProtoFault::NoMemory),
+    }
+}

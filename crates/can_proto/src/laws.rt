@@ -1,0 +1,21 @@
+ghost use Rattle.std.specs.Prelude.{◌≡◌, ◌≤◌, ◌++◌, ◌∷◌, [], List, ℕ, false, length, flat_map, codes};
+ghost use Rattle.can_proto.specs.Messages.{messages_of, given_from, has_mark};
+ghost use Rattle.can_proto.specs.Causes.{cause_text};
+
+use crate::answers::Cause;
+use crate::messages::Incoming;
+
+/// However a stream is cut into pieces, the calls of a reader together give what the whole stream gives.
+pub fn every_cut_gives_the_same_messages()
+    ensures { (pieces : List (List ℕ)) → given_from [] pieces ≡ messages_of (flat_map (λ piece. piece) pieces) }
+{}
+
+/// At most 1,024 bytes between marks, no mark among them, are a message. What follows is read by itself.
+pub fn bytes_between_marks_are_a_message()
+    ensures { (inside rest : List ℕ) → has_mark inside ≡ false → length inside ≤ 1024 → messages_of (codes "<" ++ inside ++ codes ">" ++ rest) ≡ Incoming.Message inside ∷ messages_of rest }
+{}
+
+/// No two causes are told by the same words.
+pub fn words_tell_one_cause()
+    ensures { (one other : Cause) → cause_text one ≡ cause_text other → one ≡ other }
+{}

@@ -1,0 +1,34 @@
+//! The protocol between a session and its client, in the shape of socketcand's raw mode.
+//!
+//! A client's bytes come in pieces that end anywhere. `Reader` makes messages of them: what it gives is
+//! fixed by the bytes alone, however they were cut. `Command::read` says what a message asks for in the
+//! session's mode, or the first fault in it. `reply_text` and `item_text` write what a client is answered and
+//! what it receives, byte for byte as their definitions spell it.
+#![tactic(auto)]
+
+pub mod answers;
+mod arguments;
+pub mod commands;
+pub mod faults;
+mod filtering;
+pub mod laws;
+pub mod messages;
+mod numbers;
+mod scanning;
+mod sending;
+pub mod spelling;
+pub mod stream;
+pub mod texts;
+mod verbs;
+mod words;
+
+pub use answers::{Answer, Cause};
+pub use commands::{Command, Mode, WantedName};
+pub use faults::ProtoFault;
+pub use messages::{Incoming, Message};
+pub use spelling::{item_text, reply_text};
+pub use stream::Reader;
+pub use texts::Text;
+
+#[cfg(test)]
+mod tests;

@@ -1,0 +1,45 @@
+ghost use Rattle.std.specs.Prelude.{◌≡◌, ◌++◌, IfOk};
+
+use std::alloc::{AllocError, Global};
+use std::marker::Model;
+
+/// A message: the bytes that stood between `<` and `>`, at most 1,024, neither mark among them.
+#[derive(Debug, Drop)]
+pub struct Message {
+    inside: Vec<u8>,
+}
+
+impl Model for Message {
+    ghost use Rattle.std.specs.Prelude.{ℕ, List};
+
+    ghost Value = { List ℕ };
+
+    ghost view = { λ m. m.inside.items };
+}
+
+impl Message {
+    /// The bytes between the marks.
+    pub fn inside(&self) -> &[u8]
+        ensures { result.now ≡ self.now }
+    {
+        &self.inside
+    }
+
+    /// The message of the bytes held and those that followed them.
+    pub(crate) fn joined(alloc: Global, held: &[u8], more: &[u8]) -> Result<Message, AllocError>
+        ensures { IfOk result (λ m. m ≡ held.now ++ more.now) }
+    {
+        let mut inside = Vec::from_slice(alloc, held)?;
+        inside.extend_from_slice(more)?;
+        Ok(Message { inside })
+    }
+}
+
+/// What a stream gives.
+#[derive(Debug, Drop)]
+pub enum Incoming {
+    /// A whole message.
+    Message(Message),
+    /// A `<` with more than 1,024 bytes behind it before the next mark.
+    TooLong,
+}

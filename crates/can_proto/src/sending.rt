@@ -1,0 +1,117 @@
+ghost use Rattle.std.specs.Prelude.{◌≡◌, ◌≤◌, Ok, Err, length, take, IfOk, IfErr, MatchResult};
+ghost use Rattle.can_proto.specs.Words.{words_of};
+ghost use Rattle.can_proto.specs.Commands.{Gives, id_of, length_of, bytes_of, send_of, remote_of};
+
+use crate::commands::Command;
+use crate::faults::ProtoFault;
+use crate::numbers::read_number;
+use crate::words::{has_words, next_word};
+use can_frame::{CanId, Frame};
+
+/// An identifier of 8 digits (29 bits) or of 1 to 3 (11 bits).
+#[tactic(auto, unfolding(crate::specs::Commands::id_of))]
+fn read_id(word: &[u8]) -> Result<CanId, ProtoFault>
+    ensures { Gives result (id_of word.now) }
+{
+    if word.len() == 8 {
+        let Some(number) = read_number(word, 16, 8) else {
+            return Err(ProtoFault::BadId);
+        };
+        let number = if number < 0x8000_0000 {
+            number
+        } else {
+            number - 0x8000_0000
+        };
+        match CanId::extended(number) {
+            Ok(id) => Ok(id),
+            Err(_) => Err(ProtoFault::BadId),
+        }
+    } else {
+        let Some(number) = read_number(word, 16, 3) else {
+            return Err(ProtoFault::BadId);
+        };
+        match CanId::standard(number as u16) {
+            Ok(id) => Ok(id),
+            Err(_) => Err(ProtoFault::BadId),
+        }
+    }
+}
+
+/// A length of one digit, 0 to 8.
+#[tactic(auto, unfolding(crate::specs::Commands::length_of))]
+fn read_length(word: &[u8]) -> Result<u8, ProtoFault>
+    ensures value { Gives result (length_of word.now) }
+    ensures small { IfOk result (λ n. n ≤ 8) }
+{
+    match word {
+        [digit] if b'0' <= *digit && *digit <= b'8' => Ok(*digit - b'0'),
+        _ => Err(ProtoFault::BadLength),
+    }
+}
+
+/// The bytes that the words spell, in the first places of eight.
+fn read_bytes(rest: &[u8], len: usize) -> Result<[u8; 8], ProtoFault>
+    requires small { len ≤ 8 }
+    requires count { length (words_of rest.now) ≡ len }
+    ensures value { MatchResult result (λ bytes. bytes_of (words_of rest.now) ≡ Ok (take len bytes)) (λ e. bytes_of (words_of rest.now) ≡ Err e) }
+    ensures fault { IfErr result (λ e. e ≡ ProtoFault.BadByte) }
+{
+    let mut bytes = [0u8; 8];
+    let mut rest = rest;
+    for i in 0..len {
+        let Some((word, after)) = next_word(rest) else {
+            unreachable!()
+        };
+        let Some(byte) = read_number(word, 16, 2) else {
+            return Err(ProtoFault::BadByte);
+        };
+        bytes[i] = byte as u8;
+        rest = after;
+    }
+    Ok(bytes)
+}
+
+/// The words of `send ID LEN b ..`.
+#[tactic(auto, unfolding(crate::specs::Commands::send_of))]
+pub fn read_send(rest: &[u8]) -> Result<Command, ProtoFault>
+    ensures { Gives result (send_of (words_of rest.now)) }
+{
+    let Some((id_word, rest)) = next_word(rest) else {
+        return Err(ProtoFault::BadCount);
+    };
+    let Some((len_word, rest)) = next_word(rest) else {
+        return Err(ProtoFault::BadCount);
+    };
+    let id = read_id(id_word)?;
+    let len = read_length(len_word)? as usize;
+    if !has_words(rest, len) {
+        return Err(ProtoFault::BadCount);
+    }
+    let bytes = read_bytes(rest, len)?;
+    match Frame::data(id, &bytes[..len]) {
+        Ok(frame) => Ok(Command::Send(frame)),
+        Err(_) => Err(ProtoFault::BadLength),
+    }
+}
+
+/// The words of `sendrtr ID LEN`.
+#[tactic(auto, unfolding(crate::specs::Commands::remote_of))]
+pub fn read_remote(rest: &[u8]) -> Result<Command, ProtoFault>
+    ensures { Gives result (remote_of (words_of rest.now)) }
+{
+    let Some((id_word, rest)) = next_word(rest) else {
+        return Err(ProtoFault::BadCount);
+    };
+    let Some((len_word, rest)) = next_word(rest) else {
+        return Err(ProtoFault::BadCount);
+    };
+    if next_word(rest).is_some() {
+        return Err(ProtoFault::BadCount);
+    }
+    let id = read_id(id_word)?;
+    let len = read_length(len_word)?;
+    match Frame::remote(id, len) {
+        Ok(frame) => Ok(Command::Send(frame)),
+        Err(_) => Err(ProtoFault::BadLength),
+    }
+}
