@@ -113,6 +113,16 @@ impl<T: BoundedQueue<Pending>, R: BoundedQueue<Received>, A: Arbiter> Bus<T, R, 
         &self.record
     }
 
+    /// The bus's record alone, at the end of its run.
+    pub fn into_record(self) -> Record
+        ensures config { result.config ≡ self.config }
+        ensures history { result.history ≡ self.history }
+        ensures legal { IsLegal self.config self.history }
+    {
+        let Bus { record, .. } = self;
+        record
+    }
+
     /// The number of the next attempt that tries a frame: how many there were.
     pub fn next_attempt(&self) -> u64
         ensures { result ≡ length (tape self.now.history) }
