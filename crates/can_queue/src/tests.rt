@@ -1,5 +1,6 @@
 use crate::bounded_queue::{BoundedQueue, QueueError};
 use crate::list_queue::ListQueue;
+use crate::ring_queue::RingQueue;
 use std::alloc::Global;
 use std::process::Abort;
 use std::test::Fail;
@@ -21,10 +22,45 @@ fn keeps_the_order<Q: BoundedQueue<u32>>(rt: &impl Abort, alloc: Global) -> Resu
     Ok(())
 }
 
+/// Fills a queue with room for three a hundred times, each time one item further, so that a ring goes
+/// round often.
+fn goes_round<Q: BoundedQueue<u32>>(rt: &impl Abort, alloc: Global) -> Result<(), QueueError> {
+    let mut queue = Q::with_capacity(alloc, 3)?;
+    assert_eq!(rt; queue.try_push(0), Ok(()));
+    assert_eq!(rt; queue.try_push(1), Ok(()));
+    for oldest in 0..100 {
+        assert_eq!(rt; queue.try_push(oldest + 2), Ok(()));
+        assert_eq!(rt; queue.try_push(999), Err(999));
+        assert_eq!(rt; queue.len(), 3);
+        assert_eq!(rt; queue.front().copied(), Some(oldest));
+        assert_eq!(rt; queue.pop(), Some(oldest));
+    }
+    assert_eq!(rt; queue.pop(), Some(100));
+    assert_eq!(rt; queue.pop(), Some(101));
+    assert_eq!(rt; queue.pop(), None);
+    Ok(())
+}
+
+/// A queue for no items is refused.
+fn refuses_no_room<Q: BoundedQueue<u32>>(rt: &impl Abort, alloc: Global) {
+    assert_eq!(rt;
+        Q::with_capacity(alloc, 0).err(),
+        Some(QueueError::BadCapacity)
+    );
+}
+
 #[test]
 fn a_list_queue_keeps_the_order(rt: HostRuntime) -> Result<(), Fail> {
     keeps_the_order::<ListQueue<u32>>(&rt, rt.alloc())?;
-    let none = ListQueue::<u32>::with_capacity(rt.alloc(), 0);
-    assert_eq!(rt; none.err(), Some(QueueError::BadCapacity));
+    goes_round::<ListQueue<u32>>(&rt, rt.alloc())?;
+    refuses_no_room::<ListQueue<u32>>(&rt, rt.alloc());
+    Ok(())
+}
+
+#[test]
+fn a_ring_queue_keeps_the_order(rt: HostRuntime) -> Result<(), Fail> {
+    keeps_the_order::<RingQueue<u32>>(&rt, rt.alloc())?;
+    goes_round::<RingQueue<u32>>(&rt, rt.alloc())?;
+    refuses_no_room::<RingQueue<u32>>(&rt, rt.alloc());
     Ok(())
 }

@@ -1,0 +1,63 @@
+ghost use Rattle.std.specs.Prelude.{◌<◌, ◌≤◌, length};
+
+use crate::bounded_queue::{BoundedQueue, QueueError};
+use circular_buffer::HeapCircularBuffer;
+use std::alloc::Global;
+
+/// A queue in a ring: one block that `with_capacity` takes and leaves as it is, round whose end the items
+/// go on.
+///
+/// `try_push`, `pop`, `front` and `len` take constant time, `clear` a time that grows with the number of
+/// items that wait. A full ring gives the item back: it never overwrites one.
+#[derive(Drop)]
+pub struct RingQueue<T> {
+    ring: HeapCircularBuffer<T>,
+    ghost holds_some: { 0 < ring.capacity },
+    ghost within: { length ring.items ≤ ring.capacity },
+}
+
+impl<T: Drop> BoundedQueue<T> for RingQueue<T> {
+    ghost contents = { λ queue. queue.ring.items };
+
+    ghost capacity_of = { λ queue. queue.ring.capacity };
+
+    fn with_capacity(alloc: Global, capacity: usize) -> Result<Self, QueueError> {
+        if capacity == 0 {
+            return Err(QueueError::BadCapacity);
+        }
+        match HeapCircularBuffer::with_capacity(alloc, capacity) {
+            Ok(ring) => Ok(RingQueue { ring }),
+            Err(_) => Err(QueueError::NoMemory),
+        }
+    }
+
+    fn try_push(&mut self, item: T) -> Result<(), T> {
+        self.ring.try_push_back(item)
+    }
+
+    fn pop(&mut self) -> Option<T> {
+        self.ring.pop_front()
+    }
+
+    fn front(&self) -> Option<&T> {
+        self.ring.front()
+    }
+
+    fn len(&self) -> usize {
+        self.ring.len()
+    }
+
+    fn capacity(&self) -> usize {
+        self.ring.capacity()
+    }
+
+    fn clear(&mut self) -> usize {
+        let removed = self.ring.len();
+        self.ring.clear();
+        removed
+    }
+
+    ghost holds_some = { λ queue. queue.holds_some };
+
+    ghost within = { λ queue. queue.within };
+}
