@@ -24,11 +24,7 @@ pub struct LogFault {
 /// Each line is made in place, takes no memory and goes out in one write if the writer takes it whole.
 /// So a writer to a file should be a buffered one, and it is the caller's to flush. A write that takes no
 /// byte, and one that was interrupted, is a fault.
-pub fn write_tape<W: Write>(
-    names: &Names,
-    record: &Record,
-    writer: &mut W,
-) -> Result<u64, LogFault>
+pub fn write_tape<W: Write>(names: &Names, record: &Record, writer: &mut W) -> Result<u64, LogFault>
     ensures { LinesGoOut (W.contents writer.old) (W.contents writer.new) (log_lines names.now «record».now.history) result }
 {
     // Counting the names tells the proof that none is long.

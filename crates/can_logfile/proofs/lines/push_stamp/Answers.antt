@@ -1,4 +1,4 @@
-use Rattle.std.proofs.Common.{◌≡◌, ◌++◌, ◌∷◌, [], ◌/◌, ◌%◌, List, ℕ, sym, ap, ◌∙◌, append_assoc}
+use Rattle.std.proofs.Common.{◌≡◌, ◌++◌, ◌∷◌, [], ◌/◌, ◌%◌, List, ℕ, ap, ◌∙◌, append_assoc}
 use Rattle.can_frame.specs.FrameText.{digits}
 use Rattle.can_logfile.specs.Log.{stamp}
 use Rattle.can_logfile.proofs.lines.push_stamp.Goals as goal

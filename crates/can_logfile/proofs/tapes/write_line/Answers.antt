@@ -1,5 +1,5 @@
-use Rattle.std.proofs.Common.{arith, length, ◌-◌, drop, ◌≤◌, ◌+◌}
-use Rattle.std.proofs.lemmas.List.{length-take, length-drop}
+use Rattle.std.proofs.Common.{arith, length, ◌-◌, drop}
+use Rattle.std.proofs.lemmas.List.{length-take}
 use Rattle.can_logfile.proofs.Growing.{part_more}
 use Rattle.can_logfile.proofs.tapes.write_line.Goals as goal
 
