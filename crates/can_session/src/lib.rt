@@ -1,0 +1,4 @@
+//! A session over any port.
+#![tactic(auto)]
+
+pub mod attempt_lines;
