@@ -1,5 +1,5 @@
 -- A message that was refused: the turn is the one that says so.
-use Rattle.std.proofs.Common.{◌≡◌, ℕ, Bool, true, false, IsTrue, List, Result, Ok, Err, refl, sym, ap, subst, ◌∙◌}
+use Rattle.std.proofs.Common.{◌≡◌, ℕ, Bool, true, false, IsTrue, List, Result, Ok, Err, refl, sym, ap, subst, ◌∙◌, arith}
 use Rattle.can_proto.specs.declared.messages.Incoming.TheVariants.{Message}
 use Rattle.can_proto.specs.declared.commands.Command.{Command}
 use Rattle.can_proto.specs.declared.faults.ProtoFault.{ProtoFault}
@@ -17,7 +17,7 @@ use Rattle.can_session.specs.Plans.{Plan, Plays}
 use Rattle.can_session.specs.Turns.{mode_of, without_memory, read_as, answering, heard, unless_over, turn}
 
 lost : (r : Result Command ProtoFault) → GivesBut takes_memory (Err NoMemory) r → without_memory r ≡ Err NoMemory
-lost (Ok c) h = grind (h)
+lost (Ok c) h = grind (arith, h)
 lost (Err e) h = absurd h
 
 -- a fault is that of the message, or it is want of memory for a command that is kept on the heap

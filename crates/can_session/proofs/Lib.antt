@@ -1,2 +1,3 @@
 pub mod Faulting
 pub mod Turning
+pub mod Room
