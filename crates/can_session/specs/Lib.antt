@@ -2,3 +2,4 @@ pub mod Calls
 pub mod Plans
 pub mod Turns
 pub mod Sessions
+pub mod BusSteps

@@ -1,4 +1,4 @@
-use Rattle.std.specs.Prelude.{◌≡◌, ℕ, Bool, List, [], ◌∷◌, ◌++◌, count_by, Option}
+use Rattle.std.specs.Prelude.{◌≡◌, ◌≢◌, ℕ, Bool, List, [], ◌∷◌, ◌++◌, count_by, Option}
 use Rattle.std.specs.Io.KnownBytes.{Appends}
 use Rattle.can_proto.specs.declared.messages.Incoming.{Incoming}
 use Rattle.can_proto.specs.Messages.{is_open_mark, messages_of, kept_of}
@@ -47,6 +47,7 @@ pub record Cut {P : Type 0} (step : P → (call : Call) → Reply call → P →
   pub text : List ℕ
   pub mid : Dialog
   pub port : P
+  pub some : text ≢ []
   pub turns : Turns step moment before forgotten items p port text mid
   pub ends : Plays step (ending mid.stage mid) port q [] after
 
@@ -61,6 +62,7 @@ pub record DeliveryCut {P : Type 0} (step : P → (call : Call) → Reply call �
   pub text : List ℕ
   pub more : Bool
   pub port : P
+  pub some : text ≢ []
   pub plays : Plays step (delivery before.stage) p port text more
   pub ends : Plays step (ending before.stage before) port q [] after
 

@@ -6,13 +6,16 @@
 //! answers alone: `specs/Turns.antt` has the plan of each command.
 #![tactic(auto)]
 
+pub mod bus_port;
 mod commands;
 mod dialog;
+pub mod laws;
 mod output;
 pub mod port;
 pub mod session;
 pub mod stages;
 
+pub use bus_port::BusPort;
 pub use port::{Port, PortRefusal};
 pub use session::{Session, SessionFault};
 pub use stages::{Dialog, RawSocket, Stage};

@@ -1,4 +1,4 @@
-ghost use Rattle.std.specs.Prelude.{◌≡◌, ◌+◌, ◌*◌, ◌≤◌, ◌++◌, [], length, vec_capacity, IsTrue, OnOk};
+ghost use Rattle.std.specs.Prelude.{◌≡◌, ◌≢◌, ◌+◌, ◌*◌, ◌≤◌, ◌++◌, [], length, vec_capacity, IsTrue, false, OnOk};
 ghost use Rattle.can_proto.specs.Spelling.{reply_text};
 ghost use Rattle.can_session.specs.Sessions.{begun, Wrote};
 
@@ -37,7 +37,8 @@ pub fn say(said: &mut Vec<u8>, answer: Answer)
 
 /// Writes a text in one call, an empty one in none. It answers whether the writer took it.
 pub fn put<W: Write>(out: &mut W, text: &[u8]) -> bool
-    ensures { IsTrue result → Wrote W.contents out.old text.now out.new }
+    ensures wrote { IsTrue result → Wrote W.contents out.old text.now out.new }
+    ensures some { result ≡ false → text.now ≢ [] }
 {
     text.is_empty() || out.write_all(text).is_ok()
 }
