@@ -1,1 +1,6 @@
+pub mod Calls
+pub mod Plans
+pub mod Turns
+pub mod Sessions
+pub mod BusSteps
 pub mod AttemptLines
