@@ -1,0 +1,7 @@
+//! Sessions, and the bench that carries out lines.
+#![tactic(auto)]
+
+mod decimals;
+pub mod orders;
+
+pub use orders::{Order, SessionNumber, read_order};
