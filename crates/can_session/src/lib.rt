@@ -3,5 +3,6 @@
 
 mod decimals;
 pub mod orders;
+mod window;
 
 pub use orders::{Order, SessionNumber, read_order};
