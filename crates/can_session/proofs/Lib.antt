@@ -1,4 +1,5 @@
 pub mod Faulting
 pub mod Turning
 pub mod Room
+pub mod HeldBytes
 pub mod SetTexts

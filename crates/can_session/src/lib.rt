@@ -9,14 +9,18 @@
 mod attempt_lines;
 pub mod bus_port;
 mod commands;
+mod decimals;
 mod dialog;
 pub mod laws;
+pub mod orders;
 mod output;
 pub mod port;
 pub mod session;
 pub mod stages;
+mod window;
 
 pub use bus_port::BusPort;
+pub use orders::{Order, SessionNumber, read_order};
 pub use port::{Port, PortRefusal};
 pub use session::{Session, SessionFault};
 pub use stages::{Dialog, RawSocket, Stage};
