@@ -3,3 +3,4 @@ pub mod Turning
 pub mod Room
 pub mod HeldBytes
 pub mod SetTexts
+pub mod Speaking

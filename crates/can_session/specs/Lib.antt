@@ -6,3 +6,4 @@ pub mod BusSteps
 pub mod Orders
 pub mod Windows
 pub mod AttemptLines
+pub mod Benches

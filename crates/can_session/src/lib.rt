@@ -17,6 +17,8 @@ mod output;
 pub mod port;
 pub mod session;
 pub mod stages;
+mod stand;
+mod turns;
 mod window;
 
 pub use bus_port::BusPort;
