@@ -1,3 +1,4 @@
 pub mod Faulting
 pub mod Turning
 pub mod Room
+pub mod Cuts
