@@ -19,3 +19,6 @@ pub use bus_port::BusPort;
 pub use port::{Port, PortRefusal};
 pub use session::{Session, SessionFault};
 pub use stages::{Dialog, RawSocket, Stage};
+
+#[cfg(test)]
+mod tests;
