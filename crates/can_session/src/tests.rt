@@ -52,16 +52,14 @@ struct Counting {
     calls: u32,
     closes: u32,
     is_last_close: bool,
-    item: Received,
 }
 
 impl Counting {
-    fn new(item: Received) -> Counting {
+    fn new() -> Counting {
         Counting {
             calls: 0,
             closes: 0,
             is_last_close: false,
-            item,
         }
     }
 
@@ -109,7 +107,7 @@ impl Port for Counting {
 
     fn receive(&mut self, _socket: SocketId) -> Result<Option<Received>, PortRefusal> {
         self.count(false);
-        Ok(Some(self.item))
+        Ok(received())
     }
 
     fn restart(&mut self, _iface: Iface, _moment: Moment) -> Result<(), PortRefusal> {
@@ -228,9 +226,8 @@ fn raw_on<P: Port>(alloc: Global, open: &[u8], port: &mut P) -> Option<Session> 
 #[test]
 fn every_cut_is_answered_alike(rt: HostRuntime) {
     let stream = b"x< echo >< < echo >";
-    let item = received().expect(&rt, "a frame");
     for cut in 0..stream.len() + 1 {
-        let mut port = Counting::new(item);
+        let mut port = Counting::new();
         let text = told_in_pieces(rt.alloc(), stream, cut, &mut port).expect(&rt, "memory");
         assert_eq!(rt;
             text.as_slice(),
@@ -257,7 +254,6 @@ fn one_byte_at_a_time_is_answered_as_all_at_once(rt: HostRuntime) {
 
 #[test]
 fn a_long_message_is_told_and_the_next_is_read(rt: HostRuntime) {
-    let item = received().expect(&rt, "a frame");
     let cases: [(usize, &[u8]); 2] = [
         (1024, b"< error unknown command >< echo >"),
         (1025, b"< error message too long >< echo >"),
@@ -270,7 +266,7 @@ fn a_long_message_is_told_and_the_next_is_read(rt: HostRuntime) {
         }
         stream.extend_from_slice(b">< echo >").expect(&rt, "memory");
         let mut session = Session::new(rt.alloc(), 256).expect(&rt, "memory");
-        let mut port = Counting::new(item);
+        let mut port = Counting::new();
         let text = told(&mut session, rt.alloc(), &stream, 0, &mut port).expect(&rt, "memory");
         assert_eq!(rt; text.as_slice(), want);
     }
@@ -416,8 +412,7 @@ fn deliver<P: Port>(
 
 #[test]
 fn a_writer_that_fails_ends_the_session(rt: HostRuntime) {
-    let item = received().expect(&rt, "a frame");
-    let mut port = Counting::new(item);
+    let mut port = Counting::new();
     let mut session = raw_on(rt.alloc(), b"< open can0 >< rawmode >", &mut port).expect(&rt, "raw");
     assert_eq!(rt; port.calls, 2);
     assert_eq!(rt; deliver(&mut session, rt.alloc(), 100, &mut port), Ok(true));
@@ -433,8 +428,7 @@ fn a_writer_that_fails_ends_the_session(rt: HostRuntime) {
 
 #[test]
 fn a_piece_whose_text_is_not_taken_ends_the_session(rt: HostRuntime) {
-    let item = received().expect(&rt, "a frame");
-    let mut port = Counting::new(item);
+    let mut port = Counting::new();
     let mut session = raw_on(rt.alloc(), b"< open can0 >< rawmode >", &mut port).expect(&rt, "raw");
     let text = told(&mut session, rt.alloc(), b"< send 1 0 >", 0, &mut port).expect(&rt, "memory");
     assert_eq!(rt; text.as_slice(), b"< error wrong station >".as_slice());
@@ -452,14 +446,13 @@ fn a_piece_whose_text_is_not_taken_ends_the_session(rt: HostRuntime) {
 
 #[test]
 fn an_end_closes_a_raw_socket_alone(rt: HostRuntime) {
-    let item = received().expect(&rt, "a frame");
     let cases: [(&[u8], u32, u32); 3] = [
         (b"", 0, 0),
         (b"< open can0 >", 1, 0),
         (b"< open can0 >< rawmode >", 3, 1),
     ];
     for (piece, calls, closes) in cases {
-        let mut port = Counting::new(item);
+        let mut port = Counting::new();
         let mut session = Session::new(rt.alloc(), 256).expect(&rt, "memory");
         told(&mut session, rt.alloc(), piece, 0, &mut port).expect(&rt, "memory");
         assert_eq!(rt; session.end(&mut port), Ok(()));
