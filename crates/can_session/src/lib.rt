@@ -26,3 +26,6 @@ pub use orders::{Order, SessionNumber, read_order};
 pub use port::{Port, PortRefusal};
 pub use session::{Session, SessionFault};
 pub use stages::{Dialog, RawSocket, Stage};
+
+#[cfg(test)]
+mod tests;
