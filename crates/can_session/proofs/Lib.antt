@@ -1,1 +1,3 @@
 pub mod HeldBytes
+pub mod Inputs
+pub mod Searches

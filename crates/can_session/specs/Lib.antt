@@ -1,2 +1,4 @@
+pub mod Lines
+pub mod Looks
 pub mod Orders
 pub mod Windows

@@ -2,7 +2,11 @@
 #![tactic(auto)]
 
 mod decimals;
+pub mod lines;
 pub mod orders;
+mod places;
 mod window;
 
+pub use lines::{LineFault, Lines};
 pub use orders::{Order, SessionNumber, read_order};
+
