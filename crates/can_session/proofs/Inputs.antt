@@ -1,10 +1,10 @@
 -- What an input leaves, step by step.
-use Rattle.std.proofs.Common.{◌≡◌, ℕ, ◌+◌, ◌<◌, ◌≤◌, Bool, true, false, ◌⊎◌, inl, inr, List, [], ◌∷◌, ◌++◌, length, take, drop, Option, Some, None, refl, sym, ap, subst, ◌∙◌, append_assoc, append-nil, arith}
-use Rattle.std.specs.Io.KnownBytes.{Consumes, Keeps, IsAtEnd, prepend_known}
+use Rattle.std.proofs.Common.{◌≡◌, ℕ, ◌+◌, inl, List, [], ◌∷◌, ◌++◌, length, take, drop, Option, Some, None, refl, sym, ap, subst, ◌∙◌, append_assoc, arith}
+use Rattle.std.specs.Io.KnownBytes.{Consumes, Keeps, prepend_known}
 use Rattle.std.proofs.lemmas.List.{take-append-drop, length-append, length-take-le}
 use Rattle.can_session.specs.Windows.{Gains}
 use Rattle.can_session.specs.Looks.{LineAt}
-use Rattle.can_session.specs.Lines.{Input, Waits, Overruns, Gives, TakesLine, left_of}
+use Rattle.can_session.specs.Lines.{Input, Waits, Overruns, TakesLine, left_of}
 
 -- a list of one
 one_of : (xs : List ℕ) → length xs ≡ 1 → (x : ℕ) × (xs ≡ x ∷ [])
@@ -41,7 +41,10 @@ takes old mid new len waits at is =
     let front = take len mid.held ++ 10 ∷ [] in
     let split : mid.held ≡ front ++ drop (len + 1) mid.held = sym (take-append-drop (len + 1) mid.held) ∙ ap (λ l. l ++ drop (len + 1) mid.held) at.ended in
     let count : length front ≡ len + 1 = omega (arith, length-append (take len mid.held) (10 ∷ []), length-take-le len mid.held (omega (arith, at.within))) in
-    subst (TakesLine old) (sym is) (at.line, inl (record {
-      taken = passed (left_of old) mid.coming mid.held front (drop (len + 1) mid.held) waits.same split;
-      counted = omega (arith, count, waits.given);
-    }))
+    subst (TakesLine old) (sym is) (
+      at.line,
+      inl (record {
+        taken = passed (left_of old) mid.coming mid.held front (drop (len + 1) mid.held) waits.same split;
+        counted = omega (arith, count, waits.given);
+      }),
+    )

@@ -1,3 +1,4 @@
 pub mod HeldBytes
 pub mod Inputs
+pub mod LineLaws
 pub mod Searches

@@ -1,13 +1,12 @@
 -- The first LF of what is held, found from a place on before which there is none.
-use Rattle.std.proofs.Common.{◌≡◌, ℕ, ◌+◌, ◌-◌, ◌<◌, ◌≤◌, Bool, true, false, ◌||◌, ◌==◌, not, cond, min, if◌then◌else◌, List, [], ◌∷◌, ◌++◌, length, take, drop, get_or, Option, Some, None, refl, sym, ap, subst, ◌∙◌, arith, nat_lt}
+use Rattle.std.proofs.Common.{◌≡◌, ℕ, ◌+◌, ◌-◌, ◌<◌, ◌≤◌, true, false, ◌||◌, if◌then◌else◌, List, [], ◌∷◌, ◌++◌, length, take, drop, get_or, Some, None, sym, ap, ◌∙◌, arith, nat_lt}
 use Rattle.std.specs.List.{list_any, position_or_len, position}
-use Rattle.std.proofs.lemmas.Bool.{cases_Bool}
 use Rattle.std.proofs.lemmas.Bool.Decides.{nat_tests}
 use Rattle.std.proofs.lemmas.List.{take_more, take_all, take-take, drop-take, length-take-le, length-take, length-drop, get_or-drop, get_or-take, take-append-drop}
 use Rattle.std.proofs.lemmas.List.Folds.{list_any-append, list_any_none}
-use Rattle.std.proofs.lemmas.List.Sums.{passes_at_first, fails_before_first, prefix_len-le-length}
+use Rattle.std.proofs.lemmas.List.Sums.{passes_at_first, fails_before_first}
 use Rattle.std.proofs.Math.Seq.{take-add}
-use Rattle.can_session.specs.Lines.{is_lf, IsLine, IsLong}
+use Rattle.can_session.specs.Lines.{is_lf}
 use Rattle.can_session.specs.Looks.{LineAt}
 
 -- before the first LF there is none
@@ -15,8 +14,8 @@ none_before : (xs : List ℕ) → list_any is_lf (take (position_or_len is_lf xs
 none_before xs =
     let n = position_or_len is_lf xs in
     list_any_none is_lf (take n xs) (λ k d h.
-      let early : k < n = omega (arith, h, length-take n xs) in
-      ap is_lf (get_or-take n xs k d early) ∙ fails_before_first is_lf xs k d early)
+    let early : k < n = omega (arith, h, length-take n xs) in
+    ap is_lf (get_or-take n xs k d early) ∙ fails_before_first is_lf xs k d early)
 
 at_position : (p l n : ℕ) → Some n ≡ (if nat_lt p l then Some p else None) → n ≡ p
 at_position p l n = elim (nat_lt p l) as (λ b. Some n ≡ (if b then Some p else None) → n ≡ p) [ true ↦ λ e. cc | false ↦ λ e. cc ]
@@ -44,11 +43,11 @@ found held m searched n within few fits before at inside =
     let fewer : n ≤ m - searched = omega arith in
     let same : xs ≡ take (m - searched) ys = ap (λ j. drop searched (take j held)) parts ∙ drop-take searched (m - searched) held in
     let clear : list_any is_lf (take n ys) ≡ false =
-      ap (λ l. list_any is_lf l) (sym (take-take n (m - searched) ys fewer)) ∙ ap (λ l. list_any is_lf (take n l)) (sym same)
-      ∙ ap (λ j. list_any is_lf (take j xs)) is ∙ none_before xs in
+    ap (λ l. list_any is_lf l) (sym (take-take n (m - searched) ys fewer)) ∙ ap (λ l. list_any is_lf (take n l)) (sym same)
+    ∙ ap (λ j. list_any is_lf (take j xs)) is ∙ none_before xs in
     let there : is_lf (get_or xs p 0) ≡ true = passes_at_first is_lf xs 0 (omega (arith, inside, is)) in
     let lf : get_or held (searched + n) 0 ≡ 10 =
-      sym (get_or-take m held (searched + n) 0 room) ∙ sym (get_or-drop searched (take m held) n 0) ∙ ap (λ j. get_or xs j 0) is ∙ is_ten _ there in
+    sym (get_or-take m held (searched + n) 0 room) ∙ sym (get_or-drop searched (take m held) n 0) ∙ ap (λ j. get_or xs j 0) is ∙ is_ten _ there in
     record {
       line = record {
         unbroken = ap (λ l. list_any is_lf l) (take-add searched n held) ∙ both (take searched held) (take n ys) before clear;
@@ -65,6 +64,6 @@ missed held m searched within fits before none =
     let xs = drop searched (take m held) in
     let p = position_or_len is_lf xs in
     let clear : list_any is_lf xs ≡ false =
-      ap (λ l. list_any is_lf l) (sym (take_all p xs (no_position p (length xs) none))) ∙ none_before xs in
+    ap (λ l. list_any is_lf l) (sym (take_all p xs (no_position p (length xs) none))) ∙ none_before xs in
     ap (λ l. list_any is_lf l) (sym (take-append-drop searched (take m held)))
     ∙ both (take searched (take m held)) xs (ap (λ l. list_any is_lf l) (take-take searched m held fits) ∙ before) clear

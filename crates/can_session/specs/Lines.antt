@@ -1,5 +1,5 @@
-use Rattle.std.specs.Prelude.{◌≡◌, ℕ, ◌+◌, ◌<◌, ◌≤◌, Bool, true, false, ◌==◌, ◌⊎◌, if◌then◌else◌, List, [], ◌∷◌, ◌++◌, length, take, count_by, Option, Some, None}
-use Rattle.std.specs.List.{list_any}
+use Rattle.std.specs.Prelude.{◌≡◌, ℕ, ◌+◌, ◌<◌, ◌≤◌, Bool, true, false, ◌==◌, ◌⊎◌, if◌then◌else◌, List, [], ◌∷◌, ◌++◌, length, take, count_by, Option, Some}
+use Rattle.std.specs.List.{list_any, flat_map, AllByRecursion}
 use Rattle.std.specs.Io.KnownBytes.{Consumes, Keeps, IsAtEnd, prepend_known}
 use Rattle.can_session.specs.declared.lines.LineFault.{LineFault}
 use Rattle.can_session.specs.declared.lines.LineFault.TheVariants.{LineTooLong, InputTooLong, Read}
@@ -106,3 +106,45 @@ pub record Fills (old new : Input) (count : ℕ) : Type 0 where
   pub few : new.reads ≤ 16777216
   pub ended : new.ended ≡ old.ended
   pub end : count ≡ 0 → IsAtEnd new.coming
+
+-- each of these lines and its LF, one after another
+abbrev pub spelled : List (List ℕ) → List ℕ
+spelled lines = flat_map (λ line. line ++ 10 ∷ []) lines
+
+-- these lines of a text were given, each with its LF, and the others are left
+pub record GoesOn (text : List ℕ) (lines : List (List ℕ)) (now : Input) : Type 0 where
+  pub unbroken : AllByRecursion (λ line. list_any is_lf line ≡ false) lines
+  pub rest : List ℕ
+  pub left : left_of now ≡ Some rest
+  pub split : text ≡ spelled lines ++ rest
+  pub counted : now.given ≡ length (spelled lines)
+
+-- all lines of a text were given, and the input has ended
+pub record HasEnded (text : List ℕ) (lines : List (List ℕ)) (now : Input) : Type 0 where
+  pub ended : now.ended ≡ true
+  pub all : lines ≡ lines_of text
+
+-- the lines that an input gave of a text, up to where it stands
+abbrev pub Given : List ℕ → List (List ℕ) → Input → Type 0
+Given text lines now = GoesOn text lines now ⊎ HasEnded text lines now
+
+-- so much of a text was read, and the lines of it that have their LF were given
+pub record ReadsOn (text : List ℕ) (lines : List (List ℕ)) : Type 0 where
+  pub read : List ℕ
+  pub rest : List ℕ
+  pub split : text ≡ read ++ rest
+  pub whole : lines ≡ whole_lines read
+
+-- the line behind these is too long, and its 4,097th byte is within the limit of an input
+pub record ComesToLong (text : List ℕ) (lines : List (List ℕ)) : Type 0 where
+  pub line : List ℕ
+  pub more : List (List ℕ)
+  pub next : lines_of text ≡ lines ++ line ∷ more
+  pub long : 4096 < length line
+  pub within : length (spelled lines) + 4097 ≤ 16777216
+
+-- the lines that were given of a text before a fault; where the text is too long its first 16,777,216 bytes were read
+abbrev pub StopsBehind : LineFault → List ℕ → List (List ℕ) → Input → Type 0
+StopsBehind LineTooLong text lines now = ComesToLong text lines
+StopsBehind InputTooLong text lines now = (r : ReadsOn text lines) × ((now.reads ≡ 16777216) ⊎ ((length r.read ≡ 16777216) × (0 < length r.rest)))
+StopsBehind Read text lines now = ReadsOn text lines

@@ -1,4 +1,4 @@
-use Rattle.std.specs.Prelude.{◌≡◌, ℕ, ◌+◌, ◌<◌, ◌≤◌, List, [], ◌∷◌, ◌++◌, take, length}
+use Rattle.std.specs.Prelude.{◌≡◌, ℕ, ◌+◌, ◌<◌, List, [], ◌∷◌, ◌++◌, take, length}
 use Rattle.can_session.specs.Lines.{IsLine, IsLong}
 use Rattle.can_session.specs.declared.lines.Look.{Look}
 use Rattle.can_session.specs.declared.lines.Look.TheVariants.{Line, Long, Begun}

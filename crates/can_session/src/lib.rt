@@ -2,6 +2,7 @@
 #![tactic(auto)]
 
 mod decimals;
+pub mod laws;
 pub mod lines;
 pub mod orders;
 mod places;
@@ -9,4 +10,3 @@ mod window;
 
 pub use lines::{LineFault, Lines};
 pub use orders::{Order, SessionNumber, read_order};
-

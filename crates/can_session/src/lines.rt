@@ -1,7 +1,7 @@
-ghost use Rattle.std.specs.Prelude.{◌≡◌, ◌≤◌, ◌<◌, ◌+◌, [], ◌∷◌, ◌++◌, true, false, length, take, drop, position, IfOk, IfErr, IfSome, OnErr, MatchBool};
+ghost use Rattle.std.specs.Prelude.{◌≡◌, ◌≤◌, ◌<◌, ◌+◌, [], ◌∷◌, ◌++◌, true, false, length, take, drop, position, Ok, IfOk, IfErr, IfSome, OnErr, MatchBool};
 ghost use Rattle.std.specs.List.{list_any};
 ghost use Rattle.std.specs.Io.KnownBytes.{IsAtEnd};
-ghost use Rattle.can_session.specs.Lines.{is_lf, Fails, Fills, FindsEnd, IsOver, Stops, TakesLine};
+ghost use Rattle.can_session.specs.Lines.{is_lf, Fails, Fills, FindsEnd, IsOver, IsWithin, Stops, TakesLine};
 ghost use Rattle.can_session.specs.Looks.{Shows};
 
 use crate::places::place_of;
@@ -81,8 +81,8 @@ impl<R: Read + Drop> Lines<R> {
     pub fn next_line(&mut self) -> Result<bool, LineFault>
         ensures ok { IfOk result (λ found. MatchBool found (TakesLine self.old self.new) (FindsEnd self.old self.new)) }
         ensures err { IfErr result (λ fault. Stops fault self.old self.new) }
-        ensures going { OnErr result (self.old.ended ≡ false) }
-        ensures within { IfOk result (λ _. self.new.given ≤ 16777216) }
+        ensures over { self.old.ended ≡ true → result ≡ Ok false }
+        ensures within { IsWithin self.new }
     {
         if self.is_over() {
             return Ok(false);
@@ -108,7 +108,7 @@ impl<R: Read + Drop> Lines<R> {
     fn is_over(&self) -> bool
         ensures ended { result ≡ self.now.ended }
         ensures over { result ≡ true → IsOver self.now }
-        ensures within { self.now.given ≤ 16777216 }
+        ensures within { IsWithin self.now }
     {
         self.is_over
     }
@@ -125,7 +125,7 @@ impl<R: Read + Drop> Lines<R> {
         requires line { line ≤ width }
         requires width { width ≤ length self.old.held }
         requires going { self.old.ended ≡ false }
-        ensures within { self.new.given ≤ 16777216 }
+        ensures within { IsWithin self.new }
         ensures given { self.new ≡ record self.old { line = take line self.old.held; given = self.old.given + width; held = drop width self.old.held } }
     {
         self.window.consume(self.width);
@@ -137,7 +137,7 @@ impl<R: Read + Drop> Lines<R> {
     // Gives all that is held as the last line.
     fn finish(&mut self)
         requires end { IsAtEnd self.old.coming }
-        ensures within { self.new.given ≤ 16777216 }
+        ensures within { IsWithin self.new }
         ensures given { self.new ≡ record self.old { line = self.old.held; given = self.old.given + length self.old.held; held = []; ended = true } }
     {
         self.window.consume(self.width);
@@ -156,6 +156,7 @@ impl<R: Read + Drop> Lines<R> {
         ensures ok { IfOk result (λ n. Fills self.old self.new n) }
         ensures err { IfErr result (λ fault. Fails fault self.old self.new) }
         ensures held { OnErr result (self.new.held ≡ self.old.held) }
+        ensures within { IsWithin self.new }
     {
         if self.reads == LONGEST_INPUT {
             return Err(LineFault::InputTooLong);

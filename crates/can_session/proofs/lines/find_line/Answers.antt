@@ -1,4 +1,4 @@
-use Rattle.std.proofs.Common.{◌≡◌, ◌≤◌, ℕ, List, length, take, drop, ◌-◌, ◌<◌, Option, Some, None, sym, ap, ◌∙◌, arith}
+use Rattle.std.proofs.Common.{◌≡◌, ◌≤◌, ℕ, List, length, take, drop, ◌-◌, Option, sym, ap, ◌∙◌, arith}
 use Rattle.std.specs.List.{list_any, position}
 use Rattle.std.proofs.lemmas.List.{take_all, take_rest}
 use Rattle.can_session.specs.Lines.{is_lf}
@@ -12,7 +12,7 @@ rest o xs n h = h ∙ ap (λ l. position is_lf l) (take_rest xs n)
 pub returns-in-Some : goal.returns-in-Some
 returns-in-Some c =
     found c.args.held.now c.min.result c.args.searched c.in-Some.more (omega arith) (omega arith) (omega arith) c.requires.unbroken
-      (rest _ (take c.min.result c.args.held.now) c.args.searched c.in-Some.ensures.place) (rw take_rest at c.in-Some.ensures.within)
+    (rest _ (take c.min.result c.args.held.now) c.args.searched c.in-Some.ensures.place) (rw take_rest at c.in-Some.ensures.within)
 
 pub returns-in-None : goal.returns-in-None
 returns-in-None c =
