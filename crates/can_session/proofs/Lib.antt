@@ -3,5 +3,8 @@ pub mod Turning
 pub mod Room
 pub mod Cuts
 pub mod HeldBytes
+pub mod Inputs
+pub mod LineLaws
+pub mod Searches
 pub mod SetTexts
 pub mod Speaking

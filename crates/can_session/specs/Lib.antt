@@ -3,6 +3,8 @@ pub mod Plans
 pub mod Turns
 pub mod Sessions
 pub mod BusSteps
+pub mod Lines
+pub mod Looks
 pub mod Orders
 pub mod Windows
 pub mod AttemptLines

@@ -12,8 +12,10 @@ mod commands;
 mod decimals;
 mod dialog;
 pub mod laws;
+pub mod lines;
 pub mod orders;
 mod output;
+mod places;
 pub mod port;
 pub mod session;
 pub mod stages;
@@ -22,6 +24,7 @@ mod turns;
 mod window;
 
 pub use bus_port::BusPort;
+pub use lines::{LineFault, Lines};
 pub use orders::{Order, SessionNumber, read_order};
 pub use port::{Port, PortRefusal};
 pub use session::{Session, SessionFault};

@@ -1,8 +1,9 @@
-ghost use Rattle.std.specs.Prelude.{◌≡◌, ◌≤◌, ◌<◌, ◌^◌, ◌==◌, length, position, option_map, IfSome};
+ghost use Rattle.std.specs.Prelude.{◌≡◌, ◌≤◌, ◌<◌, ◌^◌, length, option_map, IfSome};
 ghost use Rattle.can_session.specs.Orders.{effect_of, order_of, asked_by, is_remark, session_number, session_of, moment_of, parted};
 ghost use Rattle.can_proto.specs.Verbs.{is_word};
 
 use crate::decimals::read_decimal;
+use crate::places::place_of;
 use can_frame::Moment;
 use std::marker::Model;
 
@@ -119,13 +120,6 @@ fn split_at_first(text: &[u8], mark: u8) -> Option<(&[u8], &[u8])>
 {
     let place = place_of(text, mark)?;
     Some((&text[..place], &text[place + 1..]))
-}
-
-fn place_of(text: &[u8], mark: u8) -> Option<usize>
-    ensures place { result ≡ position (λ b. b == mark) text.now }
-    ensures within { IfSome result (λ n. n < length text.now) }
-{
-    text.iter().position(|byte| *byte == mark)
 }
 
 /// The number of a session: 1 to 64, without leading zeros.

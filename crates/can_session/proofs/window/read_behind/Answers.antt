@@ -1,4 +1,4 @@
-use Rattle.std.proofs.Common.{◌≤◌, length, take, sym, arith}
+use Rattle.std.proofs.Common.{take, sym, arith}
 use Rattle.can_session.proofs.HeldBytes.{read_on}
 use Rattle.can_session.proofs.window.read_behind.Goals as goal
 
