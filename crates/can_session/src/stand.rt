@@ -3,11 +3,11 @@ ghost use Rattle.std.specs.Fmt.{decimal};
 ghost use Rattle.can_fault.specs.Sources.{no_verdicts};
 ghost use Rattle.can_session.specs.AttemptLines.{attempt_line};
 ghost use Rattle.can_session.specs.Turns.{greeting};
-ghost use Rattle.can_session.specs.Orders.{Effect};
-ghost use Rattle.can_session.specs.Benches.{spoken, beginning, session_at, Speaks, IsFed, IsDrained, IsEnded, IsTried, Does};
+ghost use Rattle.can_session.specs.Orders.{Effect, order_of};
+ghost use Rattle.can_session.specs.Benches.{spoken, beginning, session_at, Speaks, IsFed, IsDrained, IsEnded, IsTried, Does, IsCarriedOut, IsRefused};
 
 use crate::attempt_lines::{put_attempt, put_number};
-use crate::orders::SessionNumber;
+use crate::orders::{Order, SessionNumber, read_order};
 use crate::session::Session;
 use crate::turns::{self, BenchPort, NoMemory};
 use can_bus::{Refusal, Tried};
@@ -40,6 +40,37 @@ impl Model for Stand {
 }
 
 impl Stand {
+    /// Carries out a line, and keeps what it puts out, if the line is good: whether it is.
+    pub fn take_line<F: FaultSource>(
+        &mut self,
+        script: &mut F,
+        line: &[u8],
+        said: &mut Vec<u8>,
+    ) -> Result<bool, NoMemory>
+        ensures line { IfOk result (λ good. MatchBool good (IsCarriedOut (F.verdicts script.old) line.now self.old said.new.items self.new) (IsRefused (order_of line.now) self.old)) }
+        ensures keeps { F.verdicts script.new ≡ F.verdicts script.old }
+    {
+        said.clear();
+        let Some(order) = read_order(line) else {
+            return Ok(false);
+        };
+        match order {
+            Order::Nothing => Ok(true),
+            Order::At(moment) => {
+                self.set_moment(moment);
+                Ok(true)
+            }
+            Order::Session(session) => self.start(session, said),
+            Order::Feed(session, bytes) => self.feed(session, bytes, said),
+            Order::Drain(session) => self.drain(session, said),
+            Order::End(session) => Ok(self.end(session)),
+            Order::Attempt => {
+                self.attempt(script, said)?;
+                Ok(true)
+            }
+        }
+    }
+
     /// Feeds a session these bytes, if it was started: whether it was.
     pub fn feed(
         &mut self,
