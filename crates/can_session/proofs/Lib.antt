@@ -8,3 +8,4 @@ pub mod LineLaws
 pub mod Searches
 pub mod SetTexts
 pub mod Speaking
+pub mod Running

@@ -46,7 +46,7 @@ last_line (b ∷ (c ∷ cs)) h pos =
     goes_on b (c ∷ cs) parts.0 ∙ ap (with_byte b) (last_line (c ∷ cs) parts.1 (omega arith))
 
 -- lines with their LFs are the first lines
-first_lines : (lines : List (List ℕ)) (rest : List ℕ) → AllByRecursion Unbroken lines → lines_of (spelled lines ++ rest) ≡ lines ++ lines_of rest
+pub first_lines : (lines : List (List ℕ)) (rest : List ℕ) → AllByRecursion Unbroken lines → lines_of (spelled lines ++ rest) ≡ lines ++ lines_of rest
 first_lines [] rest h = refl
 first_lines (line ∷ lines) rest h =
     ap lines_of (append_assoc (line ++ 10 ∷ []) (spelled lines) rest ∙ append_assoc line (10 ∷ []) (spelled lines ++ rest))

@@ -9,3 +9,4 @@ pub mod Orders
 pub mod Windows
 pub mod AttemptLines
 pub mod Benches
+pub mod Runs

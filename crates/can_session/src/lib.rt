@@ -7,6 +7,7 @@
 #![tactic(auto)]
 
 mod attempt_lines;
+pub mod bench;
 pub mod bus_port;
 mod commands;
 mod decimals;
