@@ -2,3 +2,4 @@ pub mod Faulting
 pub mod Turning
 pub mod Room
 pub mod Cuts
+pub mod Living

@@ -3,3 +3,4 @@ pub mod Plans
 pub mod Turns
 pub mod Sessions
 pub mod BusSteps
+pub mod Lives
