@@ -61,10 +61,12 @@ lives {P} step capacity stage kept [] p q text after h = ([], h)
 lives {P} step capacity Ended kept (act ∷ acts) p q text after h =
     let none = refused step capacity kept (act ∷ acts) p q text after h in
     let turns = turns_of kept (act ∷ acts) in
-    let fs = map (λ (x : Act Incoming). false) turns in
-    (fs, subst (λ (x : P). Lives step (over capacity) fs turns p x text after) (sym none.0)
-        (subst (λ (t : List ℕ). Lives step (over capacity) fs turns p p t after) (sym none.1)
-        (subst (λ (x : Dialog). Lives step (over capacity) fs turns p p [] x) (sym none.2) (rest step capacity turns p))))
+    let fs = map (λ (x : Act Incoming). false) turns in (
+      fs,
+      subst (λ (x : P). Lives step (over capacity) fs turns p x text after) (sym none.0)
+          (subst (λ (t : List ℕ). Lives step (over capacity) fs turns p p t after) (sym none.1)
+          (subst (λ (x : Dialog). Lives step (over capacity) fs turns p p [] x) (sym none.2) (rest step capacity turns p))),
+    )
 lives {P} step capacity NoBus kept (act ∷ acts) p q text after h =
     let again = lives step h.1.capacity h.1.stage (kept_after kept act) acts h.2 q h.3 after h.5 in
     on step (record { capacity = capacity; stage = NoBus }) kept act acts p h.2 q h.0 h.3 text h.1 after h.4 again.0 again.1 h.6
