@@ -1,5 +1,5 @@
 -- A message that was refused: the turn is the one that says so.
-use Rattle.std.proofs.Common.{◌≡◌, ℕ, Bool, true, false, IsTrue, List, Result, Ok, Err, refl, sym, ap, subst, ◌∙◌, arith}
+use Rattle.std.proofs.Common.{◌≡◌, ℕ, Bool, true, false, List, Result, Ok, Err, refl, sym, ap, subst, ◌∙◌, arith}
 use Rattle.can_proto.specs.declared.messages.Incoming.TheVariants.{Message}
 use Rattle.can_proto.specs.declared.commands.Command.{Command}
 use Rattle.can_proto.specs.declared.faults.ProtoFault.{ProtoFault}

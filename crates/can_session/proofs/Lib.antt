@@ -9,3 +9,4 @@ pub mod Searches
 pub mod SetTexts
 pub mod Speaking
 pub mod Running
+pub mod Living

@@ -10,3 +10,4 @@ pub mod Windows
 pub mod AttemptLines
 pub mod Benches
 pub mod Runs
+pub mod Lives

@@ -26,7 +26,7 @@ use Rattle.can_session.specs.declared.stages.Stage.{Stage}
 use Rattle.can_session.specs.declared.stages.Stage.TheVariants.{NoBus, Opened, Raw, Ended}
 use Rattle.can_session.specs.declared.stages.RawSocket.{RawSocket}
 use Rattle.can_session.specs.declared.stages.Dialog.{Dialog}
-use Rattle.can_session.specs.Calls.{Call, Reply, cause_of_port}
+use Rattle.can_session.specs.Calls.{cause_of_port}
 use Rattle.can_session.specs.Calls.Call.{Attach, Open, Close, SetFilters, SetOption, Send, Receive, Restart, CountsOfSocket, CountsOfIface}
 use Rattle.can_session.specs.Plans.{Plan}
 use Rattle.can_session.specs.Plans.Plan.{Tell, Ask}

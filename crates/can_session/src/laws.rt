@@ -4,6 +4,7 @@ ghost use Rattle.can_session.specs.declared.stages.Dialog.{Dialog};
 ghost use Rattle.can_session.specs.Sessions.{Turns, Feeds};
 ghost use Rattle.can_session.specs.Lines.{FindsEnd, Given, Input, IsWithin, Stops, StopsBehind, TakesLine, left_of, lines_of};
 ghost use Rattle.can_session.specs.declared.lines.LineFault.{LineFault};
+ghost use Rattle.can_session.specs.Lives.{Act, Lives, IsCalled, turns_of, heard_in};
 
 use crate::port::Port;
 use can_proto::laws::every_cut_gives_the_same_messages;
@@ -27,3 +28,13 @@ pub fn lines_given_are_those_of_the_text()
     ensures end { (text : List ℕ) (lines : List (List ℕ)) (old new : Input) → Given text lines old → FindsEnd old new → lines ≡ lines_of text }
     ensures stop { (text : List ℕ) (lines : List (List ℕ)) (old new : Input) (fault : LineFault) → Given text lines old → old.ended ≡ false → Stops fault old new → IsWithin new → StopsBehind fault text lines new }
 {}
+
+/// All that a session writes is the text of its turns, one after another, over what the port answers. The
+/// turns are those of the calls made, and what is heard in them is what the whole stream gives, however its
+/// bytes were cut into pieces.
+pub fn calls_come_to_turns<P: Port>()
+    ensures texts { (before after : Dialog) (calls : List (Act (List ℕ))) (p q : P) (text : List ℕ) → IsCalled P.step before [] calls p q text after → (forgotten : List Bool) × Lives P.step before forgotten (turns_of [] calls) p q text after }
+    ensures heard { (calls : List (Act (List ℕ))) → heard_in (turns_of [] calls) ≡ messages_of (flat_map (λ piece. piece) (heard_in calls)) }
+{
+    every_cut_gives_the_same_messages();
+}

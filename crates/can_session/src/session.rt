@@ -121,9 +121,9 @@ impl Session {
     /// writes what the client is told of all of them in one `write_all`, or nothing where there is no text.
     /// A restart happens at `moment`.
     ///
-    /// Refusals, in this order: `Ended`; `NoMemory`, before anything of the piece was taken; `Write`. Where
-    /// memory is refused while a command is read or by the port, the client is told so and the piece goes
-    /// on.
+    /// Refusals, in this order: `Ended`; `NoMemory`, before anything of the piece was taken; `Write`, after
+    /// the messages of the piece were carried out. Where memory is refused while a command is read or by the
+    /// port, the client is told so and the piece goes on.
     ///
     /// The time grows with the piece. It takes 256 bytes for each `<` of the piece and 256 more, and keeps
     /// this room for the next call.
@@ -166,7 +166,8 @@ impl Session {
     }
 
     /// Takes one item from the socket and writes its text: whether there was one. Outside raw mode there is
-    /// none, and no call is made. A refusal of the port is told to the client, and is no item.
+    /// none, and no call is made. A refusal of the port is told to the client, and is no item. No memory is
+    /// taken but what the port and the writer take.
     ///
     /// Refusals: `Ended`; `Write`, where the item is lost.
     pub fn deliver<P: Port, W: Write>(

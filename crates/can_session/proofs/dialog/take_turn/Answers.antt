@@ -1,4 +1,3 @@
-use Rattle.std.proofs.Common.{ℕ, List, sym, ap, subst, ◌∙◌}
 use Rattle.can_session.proofs.Faulting.{faulted}
 use Rattle.can_session.proofs.dialog.take_turn.Goals as goal
 

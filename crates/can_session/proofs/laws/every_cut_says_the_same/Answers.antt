@@ -1,4 +1,4 @@
-use Rattle.std.proofs.Common.{◌≡◌, ℕ, Bool, List, [], sym, subst, flat_map}
+use Rattle.std.proofs.Common.{◌≡◌, List, [], sym, subst, flat_map}
 use Rattle.can_proto.specs.declared.messages.Incoming.{Incoming}
 use Rattle.can_proto.specs.Messages.{given_from, messages_of}
 use Rattle.can_session.specs.Sessions.{Turns}

@@ -1,4 +1,4 @@
-use Rattle.std.proofs.Common.{ℕ, ◌+◌, ◌++◌, ◌∷◌, ◌≡◌, ◌≤◌, [], List, None, length, vec_capacity, arith, sym, subst, ap, ◌∙◌}
+use Rattle.std.proofs.Common.{◌+◌, ◌++◌, ◌∷◌, ◌≡◌, ◌≤◌, [], None, length, vec_capacity, arith, sym}
 use Rattle.std.proofs.lemmas.List.{append-nil}
 use Rattle.can_session.specs.Turns.{voiced}
 use Rattle.can_session.proofs.Turning.{turns_taken}

@@ -1,4 +1,4 @@
-use Rattle.std.proofs.Common.{ℕ, ◌++◌, vec_capacity, sym, ap, subst, ◌∙◌}
+use Rattle.std.proofs.Common.{◌++◌, vec_capacity, sym, ◌∙◌}
 use Rattle.can_session.proofs.Turning.{on_ok}
 use Rattle.can_session.proofs.Room.{kept_few, enough}
 use Rattle.can_session.proofs.session.Session.feed.Goals as goal
