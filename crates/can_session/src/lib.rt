@@ -10,3 +10,6 @@ mod window;
 
 pub use lines::{LineFault, Lines};
 pub use orders::{Order, SessionNumber, read_order};
+
+#[cfg(test)]
+mod tests;
