@@ -2,7 +2,7 @@
 #![tactic(auto)]
 
 mod decimals;
-pub mod laws;
+pub mod line_law;
 pub mod lines;
 pub mod orders;
 mod places;
