@@ -121,8 +121,8 @@ long_line (b ∷ bs) rest h long =
     let first = front_line b bs rest h in
     ((b ∷ bs) ++ first.0, first.1, first.2, omega (arith, long, length-append (b ∷ bs) first.0))
 
-pub next : (text : List ℕ) (lines : List (List ℕ)) (old new : Input) → Given text lines old → old.ended ≡ false → TakesLine old new → Given text (lines ++ new.line ∷ []) new
-next text lines old new (inl so) going (line, inl gives) =
+pub next : (text : List ℕ) (lines : List (List ℕ)) (old new : Input) → Given text lines old → TakesLine old new → Given text (lines ++ new.line ∷ []) new
+next text lines old new (inl so) (going, line, inl gives) =
     let left = after so.rest (new.line ++ 10 ∷ []) (left_of old) (left_of new) so.left gives.taken in
     let len : length (spelled (lines ++ new.line ∷ [])) ≡ length (spelled lines) + length (new.line ++ 10 ∷ []) =
     ap length (spelled_push lines new.line) ∙ length-append (spelled lines) (new.line ++ 10 ∷ []) in
@@ -133,7 +133,7 @@ next text lines old new (inl so) going (line, inl gives) =
       split = so.split ∙ ap (λ l. spelled lines ++ l) left.2 ∙ sym (spelled_more lines new.line left.0);
       counted = omega (arith, len, gives.counted, so.counted);
     })
-next text lines old new (inl so) going (line, inr last) =
+next text lines old new (inl so) (going, line, inr last) =
     let left = after so.rest new.line (left_of old) (left_of new) so.left last.0.taken in
     let none = nothing_left left.0 new.held new.coming last.2.held last.2.coming left.1 in
     let is : so.rest ≡ new.line = left.2 ∙ ap (λ l. new.line ++ l) none ∙ append-nil new.line in
@@ -141,7 +141,11 @@ next text lines old new (inl so) going (line, inr last) =
       ended = last.2.ended;
       all = sym (ap lines_of so.split ∙ first_lines lines so.rest so.unbroken ∙ ap (λ l. lines ++ lines_of l) is ∙ ap (λ l. lines ++ l) (last_line new.line line.unbroken last.1));
     })
-next text lines old new (inr done) going takes = let no = done.ended in cc
+next text lines old new (inr done) (going, line, gives) = let no = done.ended in cc
+
+pub forward : (old new : Input) → TakesLine old new → old.given < new.given
+forward old new (going, line, inl gives) = omega (arith, gives.counted, length-append new.line (10 ∷ []))
+forward old new (going, line, inr last) = omega (arith, last.0.counted, last.1)
 
 pub end : (text : List ℕ) (lines : List (List ℕ)) (old new : Input) → Given text lines old → FindsEnd old new → lines ≡ lines_of text
 end text lines old new (inl so) (gives, over) =
@@ -188,9 +192,9 @@ comes_to_long text lines old new so waits long within =
       within = omega (arith, within.bytes, long.long, waits.given, so.counted);
     }
 
-pub stop : (text : List ℕ) (lines : List (List ℕ)) (old new : Input) (fault : LineFault) → Given text lines old → old.ended ≡ false → Stops fault old new → IsWithin new → StopsBehind fault text lines new
-stop text lines old new LineTooLong (inl so) going (waits, long) within = comes_to_long text lines old new so waits long within
-stop text lines old new InputTooLong (inl so) going (line, inl spent) within = (reads_on text lines old new so spent.0 line.unbroken, inl spent.1)
-stop text lines old new InputTooLong (inl so) going (line, inr over) within = overran text lines old new so over line.unbroken
-stop text lines old new Read (inl so) going (line, waits) within = reads_on text lines old new so waits line.unbroken
-stop text lines old new fault (inr done) going stops within = let no = done.ended in cc
+pub stop : (text : List ℕ) (lines : List (List ℕ)) (old new : Input) (fault : LineFault) → Given text lines old → Stops fault old new → IsWithin new → StopsBehind fault text lines new
+stop text lines old new LineTooLong (inl so) (going, (waits, long)) within = comes_to_long text lines old new so waits long within
+stop text lines old new InputTooLong (inl so) (going, (line, inl spent)) within = (reads_on text lines old new so spent.0 line.unbroken, inl spent.1)
+stop text lines old new InputTooLong (inl so) (going, (line, inr over)) within = overran text lines old new so over line.unbroken
+stop text lines old new Read (inl so) (going, (line, waits)) within = reads_on text lines old new so waits line.unbroken
+stop text lines old new fault (inr done) (going, stops) within = let no = done.ended in cc

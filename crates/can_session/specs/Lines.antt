@@ -65,9 +65,9 @@ pub record Gives (old new : Input) (bytes : List ℕ) : Type 0 where
   pub taken : Consumes (left_of old) (left_of new) bytes
   pub counted : new.given ≡ old.given + length bytes
 
--- the next line stands: it had its LF, or it is the last and not empty
+-- the input had not ended, and the next line stands: it had its LF, or it is the last and not empty
 abbrev pub TakesLine : Input → Input → Type 0
-TakesLine old new = IsLine new.line × (Gives old new (new.line ++ 10 ∷ []) ⊎ (Gives old new new.line × (0 < length new.line) × IsOver new))
+TakesLine old new = (old.ended ≡ false) × IsLine new.line × (Gives old new (new.line ++ 10 ∷ []) ⊎ (Gives old new new.line × (0 < length new.line) × IsOver new))
 
 -- there was no line left
 abbrev pub FindsEnd : Input → Input → Type 0
@@ -92,9 +92,13 @@ Fails InputTooLong old new = (Waits old new × (new.reads ≡ 16777216)) ⊎ Ove
 Fails Read old new = Waits old new
 
 -- why there is no next line: what is held begins with too long a line, or it is no whole line and no more can be read
+abbrev pub Halts : LineFault → Input → Input → Type 0
+Halts LineTooLong old new = Waits old new × IsLong new.held
+Halts fault old new = IsLine new.held × Fails fault old new
+
+-- the input had not ended, and there is no next line
 abbrev pub Stops : LineFault → Input → Input → Type 0
-Stops LineTooLong old new = Waits old new × IsLong new.held
-Stops fault old new = IsLine new.held × Fails fault old new
+Stops fault old new = (old.ended ≡ false) × Halts fault old new
 
 -- one read put so many bytes behind what is held
 pub record Fills (old new : Input) (count : ℕ) : Type 0 where

@@ -14,6 +14,7 @@ mod commands;
 mod decimals;
 mod dialog;
 pub mod laws;
+pub mod line_law;
 pub mod lines;
 pub mod orders;
 mod output;
@@ -32,5 +33,7 @@ pub use port::{Port, PortRefusal};
 pub use session::{Session, SessionFault};
 pub use stages::{Dialog, RawSocket, Stage};
 
+#[cfg(test)]
+mod line_tests;
 #[cfg(test)]
 mod tests;

@@ -1,4 +1,4 @@
-ghost use Rattle.std.specs.Prelude.{◌≡◌, ◌≤◌, ◌<◌, ◌+◌, [], ◌∷◌, ◌++◌, true, false, length, take, drop, position, Ok, IfOk, IfErr, IfSome, OnErr, MatchBool};
+ghost use Rattle.std.specs.Prelude.{◌≡◌, ◌≤◌, ◌<◌, ◌+◌, [], ◌∷◌, ◌++◌, true, false, length, take, drop, position, IfOk, IfErr, IfSome, OnErr, MatchBool};
 ghost use Rattle.std.specs.List.{list_any};
 ghost use Rattle.std.specs.Io.KnownBytes.{IsAtEnd};
 ghost use Rattle.can_session.specs.Lines.{is_lf, Fails, Fills, FindsEnd, IsOver, IsWithin, Stops, TakesLine};
@@ -27,8 +27,8 @@ pub enum LineFault {
     Read,
 }
 
-/// The lines of an input: a line ends with LF, which the last one may lack. No more than 8,192 bytes of the
-/// input are kept, and each is looked at once.
+/// The lines of an input, one at a time: a line ends with LF, which the last one may lack. No more than 8,192
+/// bytes of the input are kept, and each byte is looked at once.
 #[derive(Drop)]
 pub struct Lines<R: Read + Drop> {
     input: R,
@@ -54,7 +54,7 @@ impl<R: Read + Drop> Model for Lines<R> {
 }
 
 impl<R: Read + Drop> Lines<R> {
-    /// The lines of an input that is yet to be read.
+    /// The lines of an input that is yet to be read. Takes 8,192 bytes of memory.
     pub fn new(alloc: Global, input: R) -> Result<Lines<R>, AllocError>
         ensures { IfOk result (λ l. l ≡ record { line = []; given = 0; held = []; coming = R.remaining input; reads = 0; ended = false }) }
     {
@@ -77,11 +77,13 @@ impl<R: Read + Drop> Lines<R> {
         &self.window.as_slice()[..self.line]
     }
 
-    /// Goes on to the next line, and answers whether there is one. After a fault nothing more should be asked.
+    /// Goes on to the next line, of at most 4,096 bytes, and answers whether there is one. It reads only while no
+    /// whole line was read, so at a fault all whole lines before it were given: `LineTooLong` at the 4,097th byte
+    /// of a line, `InputTooLong` at the byte or the read past the limit, `Read` where the reader failed. After a
+    /// fault the input is of no more use.
     pub fn next_line(&mut self) -> Result<bool, LineFault>
         ensures ok { IfOk result (λ found. MatchBool found (TakesLine self.old self.new) (FindsEnd self.old self.new)) }
         ensures err { IfErr result (λ fault. Stops fault self.old self.new) }
-        ensures over { self.old.ended ≡ true → result ≡ Ok false }
         ensures within { IsWithin self.new }
     {
         if self.is_over() {
