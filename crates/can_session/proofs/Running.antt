@@ -9,7 +9,7 @@ use Rattle.can_session.specs.declared.bench.BenchFault.TheVariants.{BadConfig, B
 use Rattle.can_session.specs.Lines.{Input, IsWithin, FindsEnd, TakesLine, Given, GoesOn, HasEnded, Stops, left_of, lines_of, spelled}
 use Rattle.can_session.specs.Orders.{order_of}
 use Rattle.can_session.specs.Benches.{BenchState, IsCarriedOut, AreCarriedOut, IsRefused}
-use Rattle.can_session.specs.Runs.{AreAll, AreFirst, ComeBeforeBad, ComeBeforeStop, Ran, Ends, Comes, EndsAt}
+use Rattle.can_session.specs.Runs.{AreAll, AreFirst, ComeBeforeBad, ComeBeforeStop, Ran, Ends, EndsAt}
 use Rattle.can_session.proofs.LineLaws.{first_lines, next, end, stop}
 use Rattle.can_session.proofs.Turning.{appends_more}
 
@@ -25,9 +25,9 @@ pub of_start : (input : Option (List ℕ)) (now : Input) → left_of now ≡ inp
 of_start None now left none = tt
 of_start (Some text) now left none = given_start text now left none
 
-pub of_more : (input : Option (List ℕ)) (lines : List (List ℕ)) (old new : Input) → AreOf input lines old → Comes old new → AreOf input (lines ++ new.line ∷ []) new
+pub of_more : (input : Option (List ℕ)) (lines : List (List ℕ)) (old new : Input) → AreOf input lines old → TakesLine old new → AreOf input (lines ++ new.line ∷ []) new
 of_more None lines old new h k = tt
-of_more (Some text) lines old new h k = next text lines old new h k.going k.takes
+of_more (Some text) lines old new h k = next text lines old new h k
 
 pub of_all : (input : Option (List ℕ)) (lines : List (List ℕ)) (old new : Input) → AreOf input lines old → FindsEnd old new → AreAll input lines
 of_all None lines old new h k = tt
@@ -68,27 +68,27 @@ pub ran_start : {W : Type 0} (contents : W → Option (List ℕ)) (v : VerdictMa
 ran_start {W} contents v b out = record { text = []; carried = (refl, refl); wrote = appends_none (contents out) }
 
 -- a refused line comes behind the lines given
-before_refused : (text : List ℕ) (lines : List (List ℕ)) (old new : Input) (b : BenchState) → Given text lines old → Comes old new → IsRefused (order_of new.line) b
+before_refused : (text : List ℕ) (lines : List (List ℕ)) (old new : Input) (b : BenchState) → Given text lines old → TakesLine old new → IsRefused (order_of new.line) b
     → (bad : List ℕ) × (more : List (List ℕ)) × (lines_of text ≡ lines ++ bad ∷ more) × IsRefused (order_of bad) b
 before_refused text lines old new b h k bad =
-    let first = given_first text (lines ++ new.line ∷ []) new (next text lines old new h k.going k.takes) in
+    let first = given_first text (lines ++ new.line ∷ []) new (next text lines old new h k) in
     (new.line, first.0, first.1 ∙ append_assoc lines (new.line ∷ []) first.0, bad)
 
 before_bad : (input : Option (List ℕ)) (lines : List (List ℕ)) (old new : Input) (b : BenchState) → AreOf input lines old → IsWithin new
-    → (Comes old new × IsRefused (order_of new.line) b) ⊎ ((old.ended ≡ false) × Stops line.LineTooLong old new) → ComeBeforeBad input lines b
+    → (TakesLine old new × IsRefused (order_of new.line) b) ⊎ (Stops line.LineTooLong old new) → ComeBeforeBad input lines b
 before_bad None lines old new b h within why = tt
 before_bad (Some text) lines old new b h within (inl why) = inl (before_refused text lines old new b h why.0 why.1)
-before_bad (Some text) lines old new b h within (inr why) = inr (stop text lines old new line.LineTooLong h why.0 why.1 within)
+before_bad (Some text) lines old new b h within (inr why) = inr (stop text lines old new line.LineTooLong h why within)
 
 before_long_input : (input : Option (List ℕ)) (lines : List (List ℕ)) (old new : Input) → AreOf input lines old → IsWithin new
-    → (old.ended ≡ false) × Stops line.InputTooLong old new → ComeBeforeStop line.InputTooLong input lines
+    → Stops line.InputTooLong old new → ComeBeforeStop line.InputTooLong input lines
 before_long_input None lines old new h within why = tt
-before_long_input (Some text) lines old new h within why = (new, stop text lines old new line.InputTooLong h why.0 why.1 within)
+before_long_input (Some text) lines old new h within why = (new, stop text lines old new line.InputTooLong h why within)
 
 before_read : (input : Option (List ℕ)) (lines : List (List ℕ)) (old new : Input) → AreOf input lines old → IsWithin new
-    → (old.ended ≡ false) × Stops line.Read old new → ComeBeforeStop line.Read input lines
+    → Stops line.Read old new → ComeBeforeStop line.Read input lines
 before_read None lines old new h within why = tt
-before_read (Some text) lines old new h within why = (new, stop text lines old new line.Read h why.0 why.1 within)
+before_read (Some text) lines old new h within why = (new, stop text lines old new line.Read h why within)
 
 -- a run ends at the next line as that line's fault says
 pub ends_at : {A W : Type 0} (leaves : A → BenchState → Type 0) (contents : W → Option (List ℕ)) (v : VerdictMap) (input : Option (List ℕ)) (lines : List (List ℕ)) (number : ℕ) (old now : Input) (b mid : BenchState) (out new : W) (fault : BenchFault)
@@ -100,18 +100,15 @@ ends_at {A} {W} leaves contents v input lines number old now b mid out new Read 
 ends_at {A} {W} leaves contents v input lines number old now b mid out new Write h within is ran why = tt
 ends_at {A} {W} leaves contents v input lines number old now b mid out new NoMemory h within is ran why = (lines, mid, of_first input lines old h, ran)
 
-takes_more : (old new : Input) → TakesLine old new → old.given + 1 ≤ new.given
-takes_more old new (line, inl gives) = let n = gives.counted in let len = length-append new.line (10 ∷ []) in omega (arith, n, len)
-takes_more old new (line, inr last) = let n = last.0.counted in let some = last.1 in omega (arith, n, some)
-
 -- each line counts
-comes_more : (old new : Input) → Comes old new → old.given + 1 ≤ new.given
-comes_more old new h = takes_more old new h.takes
+comes_more : (old new : Input) → TakesLine old new → old.given + 1 ≤ new.given
+comes_more old new (going, line, inl gives) = let n = gives.counted in let len = length-append new.line (10 ∷ []) in omega (arith, n, len)
+comes_more old new (going, line, inr last) = let n = last.0.counted in let some = last.1 in omega (arith, n, some)
 
 pub push_length : (lines : List (List ℕ)) (line : List ℕ) → length (lines ++ line ∷ []) ≡ length lines + 1
 push_length lines line = length-append lines (line ∷ [])
 
-pub counted_more : (lines : List (List ℕ)) (old new : Input) → length lines ≤ old.given → Comes old new → length (lines ++ new.line ∷ []) ≤ new.given
+pub counted_more : (lines : List (List ℕ)) (old new : Input) → length lines ≤ old.given → TakesLine old new → length (lines ++ new.line ∷ []) ≤ new.given
 counted_more lines old new h k = let more = comes_more old new k in let len = push_length lines new.line in omega (arith, h, more, len)
 
 pub match_true : {A : Type 0} (B : Type 0) (b : Bool) → b ≡ true → MatchBool b A B → A

@@ -1,4 +1,4 @@
-use Rattle.std.specs.Prelude.{◌≡◌, ◌≢◌, ◌⊎◌, ℕ, ◌+◌, ◌≤◌, List, [], ◌∷◌, ◌++◌, length, replicate, Option, Some, None, Result, Ok, Err, false}
+use Rattle.std.specs.Prelude.{◌≡◌, ◌≢◌, ◌⊎◌, ℕ, ◌+◌, ◌≤◌, List, [], ◌∷◌, ◌++◌, length, replicate, Option, Some, None, Result, Ok, Err}
 use Rattle.std.specs.Io.KnownBytes.{Appends}
 use Rattle.can_fault.specs.Sources.{VerdictMap}
 use Rattle.can_bus.specs.declared.events.BusConfig.{BusConfig}
@@ -74,16 +74,11 @@ fault_of number line.LineTooLong = BadLine number
 fault_of number line.InputTooLong = InputTooLong
 fault_of number line.Read = Read
 
--- the next line of an input that goes on was found
-pub record Comes (old new : Input) : Type 0 where
-  pub going : old.ended ≡ false
-  pub takes : TakesLine old new
-
 -- why a run ends at the next line, which has this number
 abbrev pub EndsAt : ℕ → BenchFault → Input → Input → BenchState → Type 0
-EndsAt number (BadLine n) old new b = (n ≡ number) × ((Comes old new × IsRefused (order_of new.line) b) ⊎ ((old.ended ≡ false) × Stops line.LineTooLong old new))
-EndsAt number InputTooLong old new b = (old.ended ≡ false) × Stops line.InputTooLong old new
-EndsAt number Read old new b = (old.ended ≡ false) × Stops line.Read old new
-EndsAt number NoMemory old new b = Comes old new
+EndsAt number (BadLine n) old new b = (n ≡ number) × ((TakesLine old new × IsRefused (order_of new.line) b) ⊎ Stops line.LineTooLong old new)
+EndsAt number InputTooLong old new b = Stops line.InputTooLong old new
+EndsAt number Read old new b = Stops line.Read old new
+EndsAt number NoMemory old new b = TakesLine old new
 EndsAt number Write old new b = Unit {0}
 EndsAt number BadConfig old new b = ⊥

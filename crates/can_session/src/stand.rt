@@ -1,4 +1,7 @@
-ghost use Rattle.std.specs.Prelude.{◌≡◌, ◌≢◌, ◌++◌, ◌-◌, ◌<◌, [], ◌∷◌, Some, None, true, length, OnOk, IfOk, MatchBool};
+ghost use Rattle.std.specs.Prelude.{◌≡◌, ◌≢◌, ◌++◌, ◌-◌, ◌<◌, [], ◌∷◌, ◌⊎◌, ◌↔◌, Some, None, Err, true, length, replicate, OnOk, IfOk, IfErr, MatchBool};
+ghost use Rattle.can_bus.specs.Journal.{IsConfig};
+ghost use Rattle.can_bus.specs.Legal.{IsLegal};
+ghost use Rattle.can_session.specs.Runs.{IsBench, IsRecordOf, at_start};
 ghost use Rattle.std.specs.Fmt.{decimal};
 ghost use Rattle.can_fault.specs.Sources.{no_verdicts};
 ghost use Rattle.can_session.specs.AttemptLines.{attempt_line};
@@ -9,8 +12,10 @@ ghost use Rattle.can_session.specs.Benches.{spoken, beginning, session_at, Speak
 use crate::attempt_lines::{put_attempt, put_number};
 use crate::orders::{Order, SessionNumber, read_order};
 use crate::session::Session;
-use crate::turns::{self, BenchPort, NoMemory};
-use can_bus::{Refusal, Tried};
+use crate::bench::BenchFault;
+use crate::bus_port::BusPort;
+use crate::turns::{self, BenchBus, BenchPort, NoMemory};
+use can_bus::{BusConfig, BusFault, Record, Refusal, Tried};
 use can_fault::FaultSource;
 use can_frame::{Moment, Names};
 use std::alloc::{AllocError, Global};
@@ -40,6 +45,44 @@ impl Model for Stand {
 }
 
 impl Stand {
+    /// A bench before its first line.
+    pub fn new(
+        alloc: Global,
+        names: Names,
+        config: BusConfig,
+        capacity: u32,
+    ) -> Result<Stand, BenchFault>
+        ensures made { IfOk result (λ s. s ≡ at_start names config capacity) }
+        ensures good { OnOk result (IsBench names config capacity) }
+        ensures bad { (result ≡ Err BenchFault.BadConfig) ↔ (¬ IsBench names config capacity) }
+        ensures faults { IfErr result (λ e. (e ≡ BenchFault.BadConfig) ⊎ (e ≡ BenchFault.NoMemory)) }
+    {
+        if config.ifaces != names.count() || capacity < 1 || capacity > 65_536 {
+            return Err(BenchFault::BadConfig);
+        }
+        let bus = make_bus(alloc, config)?;
+        let Ok(sessions) = no_sessions(alloc) else {
+            return Err(BenchFault::NoMemory);
+        };
+        Ok(Stand {
+            alloc,
+            port: BusPort::new(alloc, names, bus),
+            capacity,
+            sessions,
+            moment: the_start(),
+            text: Vec::new(alloc),
+        })
+    }
+
+    /// The record of its bus.
+    pub fn into_record(self) -> Record
+        ensures record { IsRecordOf result self }
+        ensures legal { IsLegal result.config result.history }
+    {
+        let Stand { port, .. } = self;
+        port.into_bus().into_record()
+    }
+
     /// Carries out a line, and keeps what it puts out, if the line is good: whether it is.
     pub fn take_line<F: FaultSource>(
         &mut self,
@@ -200,6 +243,40 @@ fn put_line(
     ensures { OnOk result (said.new.items ≡ attempt_line names.now outcome.now) }
 {
     put_attempt(said, names, outcome).map_err(|_| NoMemory)
+}
+
+fn make_bus(alloc: Global, config: BusConfig) -> Result<BenchBus, BenchFault>
+    ensures made { IfOk result (λ b. b ≡ record { config = config; history = [] }) }
+    ensures proper { OnOk result (IsConfig config) }
+    ensures bad { (result ≡ Err BenchFault.BadConfig) ↔ (¬ IsConfig config) }
+    ensures faults { IfErr result (λ e. (e ≡ BenchFault.BadConfig) ⊎ (e ≡ BenchFault.NoMemory)) }
+{
+    match BenchBus::new(alloc, config) {
+        Ok(bus) => Ok(bus),
+        Err(BusFault::BadConfig) => Err(BenchFault::BadConfig),
+        Err(BusFault::NoMemory) => Err(BenchFault::NoMemory),
+    }
+}
+
+/// The moment at which a bench starts.
+fn the_start() -> Moment
+    ensures { result ≡ 0 }
+{
+    match Moment::new(0) {
+        Ok(moment) => moment,
+        Err(_) => unreachable!(),
+    }
+}
+
+/// Places for 64 sessions, none of them started.
+fn no_sessions(alloc: Global) -> Result<Vec<Option<Session>>, AllocError>
+    ensures { IfOk result (λ sessions. sessions.items ≡ replicate 64 None) }
+{
+    let mut sessions = Vec::with_capacity(alloc, 64)?;
+    for _ in 0..64_usize {
+        sessions.push(None)?;
+    }
+    Ok(sessions)
 }
 
 /// The place of a session.
