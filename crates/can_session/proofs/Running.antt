@@ -1,7 +1,8 @@
-use Rattle.std.proofs.Common.{◌≡◌, ◌⊎◌, inl, inr, ℕ, ◌+◌, ◌<◌, ◌≤◌, Bool, true, false, arith, List, [], ◌∷◌, ◌++◌, length, Option, Some, None, Ok, Err, refl, sym, ap, subst, ◌∙◌, append_assoc}
-use Rattle.std.specs.Io.KnownBytes.{Appends}
+use Rattle.std.proofs.Common.{◌≡◌, ◌⊎◌, inl, inr, ℕ, ◌+◌, ◌<◌, ◌≤◌, Bool, true, false, arith, List, [], ◌∷◌, ◌++◌, length, Option, Some, None, Result, Ok, Err, refl, sym, ap, subst, ◌∙◌, append_assoc}
+use Rattle.std.specs.Io.KnownBytes.{Appends, prepend_known}
 use Rattle.std.proofs.lemmas.List.{append-nil, length-append}
 use Rattle.std.specs.Prelude.{MatchBool}
+use Rattle.std.specs.Result.{IsErr, IsErrAnd}
 use Rattle.can_fault.specs.Sources.{VerdictMap}
 use Rattle.can_session.specs.declared.lines.LineFault.TheVariants as line
 use Rattle.can_session.specs.declared.bench.BenchFault.{BenchFault}
@@ -134,3 +135,41 @@ ends_stop {A} {W} leaves contents v input lines number old now b mid out between
     subst (λ (f : BenchFault). Ends {A = A} {W = W} leaves contents v input b out (Err f) new) (sym write) tt
 ends_stop {A} {W} leaves contents v input lines number old now b mid out between new fault h within is ran (why, inr same) =
     ends_at leaves contents v input lines number old now b mid out new fault h within is (subst (λ (w : W). Ran contents v lines b out mid w) (sym same) ran) why
+
+pub err_is : {A E : Type 0} (r : Result A E) (e : E) → IsErr r × IsErrAnd r (λ x. x ≡ e) → r ≡ Err e
+err_is (Ok a) e h = let wrong = h.0 in cc
+err_is (Err x) e h = ap (λ y. Err y) h.1
+
+first_none : (input : Option (List ℕ)) → AreFirst input []
+first_none None = tt
+first_none (Some text) = (lines_of text, refl)
+
+-- memory was refused before the first line
+pub ends_before : {A W : Type 0} (leaves : A → BenchState → Type 0) (contents : W → Option (List ℕ)) (v : VerdictMap) (input : Option (List ℕ)) (b : BenchState) (out : W)
+    → Ends leaves contents v input b out (Err NoMemory) out
+ends_before {A} {W} leaves contents v input b out = ([], b, first_none input, ran_start contents v b out)
+
+-- no bench was made
+pub ends_unmade : {A W : Type 0} (leaves : A → BenchState → Type 0) (contents : W → Option (List ℕ)) (v : VerdictMap) (input : Option (List ℕ)) (b : BenchState) (out : W) (fault : BenchFault)
+    → (fault ≡ BadConfig) ⊎ (fault ≡ NoMemory) → (fault ≡ BadConfig → ⊥) → Ends leaves contents v input b out (Err fault) out
+ends_unmade {A} {W} leaves contents v input b out fault (inl bad) not_bad = absurd (not_bad bad)
+ends_unmade {A} {W} leaves contents v input b out fault (inr none) not_bad =
+    subst (λ (f : BenchFault). Ends {A = A} {W = W} leaves contents v input b out (Err f) out) (sym none) (ends_before leaves contents v input b out)
+
+-- how a run ends by a fault has nothing to do with what it leaves
+pub ends_err : {A B W : Type 0} (leaves : A → BenchState → Type 0) (others : B → BenchState → Type 0) (contents : W → Option (List ℕ)) (v : VerdictMap) (input : Option (List ℕ)) (b : BenchState) (out new : W) (fault : BenchFault)
+    → Ends leaves contents v input b out (Err fault) new → Ends others contents v input b out (Err fault) new
+ends_err {A} {B} {W} leaves others contents v input b out new BadConfig h = absurd h
+ends_err {A} {B} {W} leaves others contents v input b out new (BadLine n) h = h
+ends_err {A} {B} {W} leaves others contents v input b out new InputTooLong h = h
+ends_err {A} {B} {W} leaves others contents v input b out new Read h = h
+ends_err {A} {B} {W} leaves others contents v input b out new Write h = h
+ends_err {A} {B} {W} leaves others contents v input b out new NoMemory h = h
+
+prepend_none : (o : Option (List ℕ)) → prepend_known [] o ≡ o
+prepend_none None = refl
+prepend_none (Some bytes) = refl
+
+-- at first all that the reader has is left
+pub left_at_first : (now : Input) (coming : Option (List ℕ)) → now.held ≡ [] → now.coming ≡ coming → left_of now ≡ coming
+left_at_first now coming none same = ap (λ (bs : List ℕ). prepend_known bs now.coming) none ∙ prepend_none now.coming ∙ same
