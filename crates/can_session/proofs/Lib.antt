@@ -3,3 +3,4 @@ pub mod Turning
 pub mod Room
 pub mod Cuts
 pub mod Living
+pub mod Naming
