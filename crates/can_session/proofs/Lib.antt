@@ -10,3 +10,4 @@ pub mod SetTexts
 pub mod Speaking
 pub mod Running
 pub mod Living
+pub mod Naming

@@ -1,5 +1,4 @@
-use Rattle.std.specs.Prelude.{◌≡◌, ◌⊎◌, ℕ, List, Some, None, Result, Ok, Err}
-use Rattle.std.specs.Str.{IsUtf8}
+use Rattle.std.specs.Prelude.{◌≡◌, ℕ, List, Option, Some, None, Result, Ok, Err}
 use Rattle.can_frame.specs.Names.{place_of}
 use Rattle.can_bus.specs.declared.events.Event.{Event}
 use Rattle.can_bus.specs.declared.events.Event.TheVariants as event
@@ -28,10 +27,10 @@ abbrev pub passed_on : {A : Type 0} → Result A Refusal → Result A PortRefusa
 passed_on (Ok a) = Ok a
 passed_on (Err why) = Err (port.Bus why)
 
--- the interface with a name: its place among the names; bytes that are no UTF-8 are no name
-abbrev pub Attaches : List (List ℕ) → List ℕ → Result ℕ PortRefusal → Type 0
-Attaches names name (Ok iface) = IsUtf8 name × (place_of names name ≡ Some iface)
-Attaches names name (Err why) = (why ≡ port.Bus refusal.NoInterface) × ((¬ IsUtf8 name) ⊎ (place_of names name ≡ None))
+-- the interface at a place among the names, if there is one
+abbrev pub interface_at : Option ℕ → Result ℕ PortRefusal
+interface_at None = Err (port.Bus refusal.NoInterface)
+interface_at (Some iface) = Ok iface
 
 -- one event of the bus, answered as the bus answers it
 abbrev pub IsEvent : {A : Type 0} → (A → Reply) → NamedBus → Event → Result A PortRefusal → NamedBus → Type 0
@@ -39,7 +38,7 @@ IsEvent {A} told old event answer new = (outcome : Result A Refusal) × (answer 
 
 -- a call on a bus with names
 abbrev pub BusStep : NamedBus → (call : Call) → CallReply call → NamedBus → Type 0
-BusStep old (Attach name) answer new = Attaches old.names name answer × (new ≡ old)
+BusStep old (Attach name) answer new = (answer ≡ interface_at (place_of old.names name)) × (new ≡ old)
 BusStep old (Open iface capacity) answer new = IsEvent reply.Opened old (event.Open iface capacity) answer new
 BusStep old (Close socket) answer new = IsEvent reply.Closed old (event.Close socket) answer new
 BusStep old (SetFilters socket filters) answer new = IsEvent done_reply old (event.SetFilters socket filters) answer new

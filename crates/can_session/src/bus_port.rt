@@ -1,4 +1,5 @@
 ghost use Rattle.std.specs.Prelude.{◌≡◌, length};
+ghost use Rattle.can_frame.specs.Names.{place_of};
 ghost use Rattle.can_bus.specs.Answer.{Answers, told_attempt};
 ghost use Rattle.can_bus.specs.Transmit.{tape};
 ghost use Rattle.can_bus.specs.declared.events.Event.TheVariants as event;
@@ -90,16 +91,25 @@ fn pass_on<V>(outcome: Result<V, Refusal>) -> Result<V, PortRefusal>
     }
 }
 
+/// The interface with this name. Names are ASCII, so bytes that are no UTF-8 are none of them.
+fn interface_named(names: &Names, name: &[u8]) -> Option<Iface>
+    ensures { result ≡ place_of names.now name.now }
+{
+    // The proof learns here that the names are good.
+    let _ = names.count();
+    match str::from_utf8(name) {
+        Ok(name) => names.find(name),
+        Err(_) => None,
+    }
+}
+
 impl<T: BoundedQueue<Pending>, R: BoundedQueue<Received>, A: Arbiter> Port for BusPort<T, R, A> {
     ghost use Rattle.can_session.specs.BusSteps.{BusStep};
 
     ghost step = { BusStep };
 
     fn attach(&mut self, name: &[u8]) -> Result<Iface, PortRefusal> {
-        let Ok(name) = str::from_utf8(name) else {
-            return Err(PortRefusal::Bus(Refusal::NoInterface));
-        };
-        match self.names.find(name) {
+        match interface_named(&self.names, name) {
             Some(iface) => Ok(iface),
             None => Err(PortRefusal::Bus(Refusal::NoInterface)),
         }
