@@ -23,7 +23,7 @@ impl Model for Text {
 
 impl Text {
     /// The empty text.
-    pub(crate) fn new() -> Text
+    pub fn new() -> Text
         ensures { result ≡ [] }
     {
         Text {
@@ -40,7 +40,7 @@ impl Text {
     }
 
     /// One byte more.
-    pub(crate) fn push(&mut self, byte: u8)
+    pub fn push(&mut self, byte: u8)
         requires { length self.old < 256 }
         ensures text { self.new ≡ self.old ++ byte ∷ [] }
         ensures len { length self.new ≡ length self.old + 1 }
@@ -103,7 +103,7 @@ impl Text {
     }
 
     /// A number of any size in decimal.
-    pub(crate) fn push_count(&mut self, number: u64)
+    pub fn push_count(&mut self, number: u64)
         requires room { length self.old + 20 ≤ 256 }
         ensures text { self.new ≡ self.old ++ decimal number }
         ensures len { length self.new ≤ length self.old + 20 }

@@ -1,0 +1,13 @@
+pub mod Faulting
+pub mod Turning
+pub mod Room
+pub mod Cuts
+pub mod HeldBytes
+pub mod Inputs
+pub mod LineLaws
+pub mod Searches
+pub mod SetTexts
+pub mod Speaking
+pub mod Running
+pub mod Living
+pub mod Naming

@@ -1,0 +1,64 @@
+use Rattle.std.specs.Prelude.{ℕ, ◌+◌, Bool, true, false, if◌then◌else◌, List, [], ◌∷◌, ◌++◌, slice_get, codes, Option, Some, None, Result, Ok, Err}
+use Rattle.std.specs.Fmt.{decimal}
+use Rattle.can_frame.specs.Sets.{is_in}
+use Rattle.can_frame.specs.declared.ifaces.IfaceSet.{IfaceSet}
+use Rattle.can_attempt.specs.declared.classes.Class.{Class}
+use Rattle.can_attempt.specs.declared.classes.Class.TheVariants.{Done, LastBit, Destroyed, NoAck}
+use Rattle.can_bus.specs.declared.events.Refusal.{Refusal}
+use Rattle.can_bus.specs.declared.events.Tried.{Tried}
+
+-- What the bench puts out for an attempt (own choice).
+
+-- the word for how an attempt ended
+abbrev pub class_word : Class → List ℕ
+class_word Done = codes "done"
+class_word LastBit = codes "lastbit"
+class_word Destroyed = codes "destroyed"
+class_word NoAck = codes "noack"
+
+-- the names of the interfaces of a set by rising number, where the first of these names is interface i's
+abbrev pub names_from : ℕ → List (List ℕ) → IfaceSet → List (List ℕ)
+names_from i [] set = []
+names_from i (name ∷ names) set = if is_in i set then name ∷ names_from (i + 1) names set else names_from (i + 1) names set
+
+-- names with a comma before each
+abbrev pub after_commas : List (List ℕ) → List ℕ
+after_commas [] = []
+after_commas (name ∷ names) = 44 ∷ name ++ after_commas names
+
+-- one name more, with a comma before it if it is not the first
+abbrev pub member_text : Bool → List ℕ → List ℕ
+member_text true name = name
+member_text false name = 44 ∷ name
+
+-- names joined by commas, or a dash for none
+abbrev pub joined : List (List ℕ) → List ℕ
+joined [] = codes "-"
+joined (name ∷ names) = name ++ after_commas names
+
+-- a set of interfaces by their names
+abbrev pub set_text : List (List ℕ) → IfaceSet → List ℕ
+set_text names set = joined (names_from 0 names set)
+
+-- an interface by its name
+abbrev pub name_text : Option (List ℕ) → List ℕ
+name_text None = codes "?"
+name_text (Some name) = name
+
+-- whose frame was tried, and its number there
+abbrev pub whose_text : List (List ℕ) → Tried → List ℕ
+whose_text names t = codes "tried " ++ name_text (slice_get names t.winner) ++ codes " " ++ decimal t.number
+
+-- how it ended, who accepted it, and who went bus off
+abbrev pub ending_text : List (List ℕ) → Tried → List ℕ
+ending_text names t = codes " " ++ class_word t.class ++ codes " " ++ set_text names t.accepted ++ codes " " ++ set_text names t.off
+
+-- a frame that was tried
+abbrev pub tried_line : List (List ℕ) → Tried → List ℕ
+tried_line names t = whose_text names t ++ ending_text names t ++ codes "\n"
+
+-- the line of an attempt; the only refusal that there is says that the record is full
+abbrev pub attempt_line : List (List ℕ) → Result (Option Tried) Refusal → List ℕ
+attempt_line names (Ok (Some t)) = tried_line names t
+attempt_line names (Ok None) = codes "idle\n"
+attempt_line names (Err why) = codes "record full\n"

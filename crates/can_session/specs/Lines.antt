@@ -1,0 +1,154 @@
+use Rattle.std.specs.Prelude.{◌≡◌, ℕ, ◌+◌, ◌<◌, ◌≤◌, Bool, true, false, ◌==◌, ◌⊎◌, if◌then◌else◌, List, [], ◌∷◌, ◌++◌, length, take, count_by, Option, Some}
+use Rattle.std.specs.List.{list_any, flat_map, AllByRecursion}
+use Rattle.std.specs.Io.KnownBytes.{Consumes, Keeps, IsAtEnd, prepend_known}
+use Rattle.can_session.specs.declared.lines.LineFault.{LineFault}
+use Rattle.can_session.specs.declared.lines.LineFault.TheVariants.{LineTooLong, InputTooLong, Read}
+
+-- The lines of a text, and an input that is read line by line (own choice).
+
+-- LF, which ends a line
+abbrev pub is_lf : ℕ → Bool
+is_lf b = b == 10
+
+-- a byte at the front of the first line, or alone where there is no line
+abbrev pub with_byte : ℕ → List (List ℕ) → List (List ℕ)
+with_byte b [] = (b ∷ []) ∷ []
+with_byte b (line ∷ lines) = (b ∷ line) ∷ lines
+
+-- the lines of a text, without their LFs: each LF ends one, and what follows the last LF is one if it is not empty
+abbrev pub lines_of : List ℕ → List (List ℕ)
+lines_of [] = []
+lines_of (b ∷ bs) = if is_lf b then [] ∷ lines_of bs else with_byte b (lines_of bs)
+
+-- the lines of a text that have their LF: as many as it has LFs
+abbrev pub whole_lines : List ℕ → List (List ℕ)
+whole_lines text = take (count_by is_lf text) (lines_of text)
+
+-- bytes that may be a line: no LF is among them, and they are not too many
+pub record IsLine (bytes : List ℕ) : Type 0 where
+  pub unbroken : list_any is_lf bytes ≡ false
+  pub short : length bytes ≤ 4096
+
+-- a text that begins with too long a line: its first 4,097 bytes hold no LF
+pub record IsLong (text : List ℕ) : Type 0 where
+  pub long : 4096 < length text
+  pub unbroken : list_any is_lf (take 4097 text) ≡ false
+
+-- an input that is read line by line: the line that stands, how many bytes were given as lines with their LFs, what was
+-- read and not given, what the reader still has where that is known, how often it was read, and whether all was given
+pub record Input : Type 0 where
+  pub line : List ℕ
+  pub given : ℕ
+  pub held : List ℕ
+  pub coming : Option (List ℕ)
+  pub reads : ℕ
+  pub ended : Bool
+
+-- what is left to be given, where that is known
+abbrev pub left_of : Input → Option (List ℕ)
+left_of i = prepend_known i.held i.coming
+
+-- an input within its limits; once it has ended nothing is left
+pub record IsWithin (i : Input) : Type 0 where
+  pub bytes : i.given + length i.held ≤ 16777216
+  pub reads : i.reads ≤ 16777216
+  pub over : i.ended ≡ true → (i.held ≡ []) × IsAtEnd i.coming
+
+-- an input that has ended
+pub record IsOver (i : Input) : Type 0 where
+  pub ended : i.ended ≡ true
+  pub held : i.held ≡ []
+  pub coming : IsAtEnd i.coming
+
+-- these bytes were left, and are given now
+pub record Gives (old new : Input) (bytes : List ℕ) : Type 0 where
+  pub taken : Consumes (left_of old) (left_of new) bytes
+  pub counted : new.given ≡ old.given + length bytes
+
+-- the input had not ended, and the next line stands: it had its LF, or it is the last and not empty
+abbrev pub TakesLine : Input → Input → Type 0
+TakesLine old new = (old.ended ≡ false) × IsLine new.line × (Gives old new (new.line ++ 10 ∷ []) ⊎ (Gives old new new.line × (0 < length new.line) × IsOver new))
+
+-- there was no line left
+abbrev pub FindsEnd : Input → Input → Type 0
+FindsEnd old new = Gives old new [] × IsOver new
+
+-- no byte was given: what was left is left
+pub record Waits (old new : Input) : Type 0 where
+  pub same : Keeps (left_of old) (left_of new)
+  pub given : new.given ≡ old.given
+
+-- all the bytes came that an input may have, and one more
+pub record Overruns (old new : Input) : Type 0 where
+  pub byte : ℕ
+  pub taken : Consumes (left_of old) new.coming (new.held ++ byte ∷ [])
+  pub given : new.given ≡ old.given
+  pub full : new.given + length new.held ≡ 16777216
+
+-- a read that was not made or gave nothing of use: no read is left, a byte came too many, or the reader failed
+abbrev pub Fails : LineFault → Input → Input → Type 0
+Fails LineTooLong old new = ⊥
+Fails InputTooLong old new = (Waits old new × (new.reads ≡ 16777216)) ⊎ Overruns old new
+Fails Read old new = Waits old new
+
+-- why there is no next line: what is held begins with too long a line, or it is no whole line and no more can be read
+abbrev pub Halts : LineFault → Input → Input → Type 0
+Halts LineTooLong old new = Waits old new × IsLong new.held
+Halts fault old new = IsLine new.held × Fails fault old new
+
+-- the input had not ended, and there is no next line
+abbrev pub Stops : LineFault → Input → Input → Type 0
+Stops fault old new = (old.ended ≡ false) × Halts fault old new
+
+-- one read put so many bytes behind what is held
+pub record Fills (old new : Input) (count : ℕ) : Type 0 where
+  pub waits : Waits old new
+  pub bytes : List ℕ
+  pub counted : length bytes ≡ count
+  pub behind : new.held ≡ old.held ++ bytes
+  pub reads : new.reads ≡ old.reads + 1
+  pub few : new.reads ≤ 16777216
+  pub ended : new.ended ≡ old.ended
+  pub end : count ≡ 0 → IsAtEnd new.coming
+
+-- each of these lines and its LF, one after another
+abbrev pub spelled : List (List ℕ) → List ℕ
+spelled lines = flat_map (λ line. line ++ 10 ∷ []) lines
+
+-- these lines of a text were given, each with its LF, and the others are left
+pub record GoesOn (text : List ℕ) (lines : List (List ℕ)) (now : Input) : Type 0 where
+  pub unbroken : AllByRecursion (λ line. list_any is_lf line ≡ false) lines
+  pub rest : List ℕ
+  pub left : left_of now ≡ Some rest
+  pub split : text ≡ spelled lines ++ rest
+  pub counted : now.given ≡ length (spelled lines)
+
+-- all lines of a text were given, and the input has ended
+pub record HasEnded (text : List ℕ) (lines : List (List ℕ)) (now : Input) : Type 0 where
+  pub ended : now.ended ≡ true
+  pub all : lines ≡ lines_of text
+
+-- the lines that an input gave of a text, up to where it stands
+abbrev pub Given : List ℕ → List (List ℕ) → Input → Type 0
+Given text lines now = GoesOn text lines now ⊎ HasEnded text lines now
+
+-- so much of a text was read, and the lines of it that have their LF were given
+pub record ReadsOn (text : List ℕ) (lines : List (List ℕ)) : Type 0 where
+  pub read : List ℕ
+  pub rest : List ℕ
+  pub split : text ≡ read ++ rest
+  pub whole : lines ≡ whole_lines read
+
+-- the line behind these is too long, and its 4,097th byte is within the limit of an input
+pub record ComesToLong (text : List ℕ) (lines : List (List ℕ)) : Type 0 where
+  pub line : List ℕ
+  pub more : List (List ℕ)
+  pub next : lines_of text ≡ lines ++ line ∷ more
+  pub long : 4096 < length line
+  pub within : length (spelled lines) + 4097 ≤ 16777216
+
+-- the lines that were given of a text before a fault; where the text is too long its first 16,777,216 bytes were read
+abbrev pub StopsBehind : LineFault → List ℕ → List (List ℕ) → Input → Type 0
+StopsBehind LineTooLong text lines now = ComesToLong text lines
+StopsBehind InputTooLong text lines now = (r : ReadsOn text lines) × ((now.reads ≡ 16777216) ⊎ ((length r.read ≡ 16777216) × (0 < length r.rest)))
+StopsBehind Read text lines now = ReadsOn text lines

@@ -1,0 +1,18 @@
+use Rattle.std.specs.Prelude.{◌≡◌, ℕ, ◌+◌, ◌<◌, List, [], ◌∷◌, ◌++◌, take, length}
+use Rattle.can_session.specs.Lines.{IsLine, IsLong}
+use Rattle.can_session.specs.declared.lines.Look.{Look}
+use Rattle.can_session.specs.declared.lines.Look.TheVariants.{Line, Long, Begun}
+
+-- What one look at the bytes that are held finds (own choice).
+
+-- a line of so many bytes with its LF stands at the front
+pub record LineAt (held : List ℕ) (len : ℕ) : Type 0 where
+  pub line : IsLine (take len held)
+  pub ended : take (len + 1) held ≡ take len held ++ 10 ∷ []
+  pub within : len < length held
+
+-- what a look found is there
+abbrev pub Shows : List ℕ → Look → Type 0
+Shows held (Line len) = LineAt held len
+Shows held Long = IsLong held
+Shows held Begun = IsLine held

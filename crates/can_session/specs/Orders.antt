@@ -1,0 +1,77 @@
+use Rattle.std.specs.Prelude.{ℕ, Bool, true, ◌+◌, ◌*◌, ◌&&◌, ◌==◌, nat_le, if◌then◌else◌, List, [], ◌∷◌, length, take, drop, slice_index, position, codes, Option, Some, None}
+use Rattle.std.specs.Option.{option_map, option_and_then}
+use Rattle.can_proto.specs.Numbers.{number_in}
+use Rattle.can_proto.specs.Verbs.{is_word}
+use Rattle.can_session.specs.declared.orders.Order.{Order}
+use Rattle.can_session.specs.declared.orders.Order.TheVariants.{Nothing, At, Session, Feed, Drain, End, Attempt}
+
+-- What a line of the bench's input asks for (own choice).
+
+-- what a line does: it sets a moment, in microseconds, starts, feeds, drains or ends a session, or makes an attempt
+pub data Effect : Type 0 where
+  Does_nothing : Effect
+  Sets : ℕ → Effect
+  Starts : ℕ → Effect
+  Feeds : ℕ → List ℕ → Effect
+  Drains : ℕ → Effect
+  Ends : ℕ → Effect
+  Attempts : Effect
+
+-- the effect that an order has
+abbrev pub effect_of : Order → Effect
+effect_of Nothing = Does_nothing
+effect_of (At moment) = Sets moment
+effect_of (Session session) = Starts session
+effect_of (Feed session bytes) = Feeds session bytes.now
+effect_of (Drain session) = Drains session
+effect_of (End session) = Ends session
+effect_of Attempt = Attempts
+
+-- what stands before the first of these marks, and what follows it
+abbrev pub parted : ℕ → List ℕ → Option (List ℕ × List ℕ)
+parted mark text = option_map (λ n. (take n text, drop (n + 1) text)) (position (λ b. b == mark) text)
+
+-- sessions have the numbers 1 to 64
+abbrev pub session_number : ℕ → Option ℕ
+session_number n = if nat_le 1 n && nat_le n 64 then Some n else None
+
+-- a session's number in decimal, without leading zeros
+abbrev pub session_of : List ℕ → Option ℕ
+session_of word = if slice_index word 0 == 48 then None else option_and_then session_number (number_in 10 2 word)
+
+-- seconds and microseconds
+abbrev pub joined : Option ℕ → Option ℕ → Option ℕ
+joined (Some seconds) (Some micros) = Some (seconds * 1000000 + micros)
+joined _ _ = None
+
+-- 1 to 10 digits of seconds before the point, and 6 digits of microseconds behind it
+abbrev pub seconds_of : List ℕ × List ℕ → Option ℕ
+seconds_of (before, behind) = if length behind == 6 then joined (number_in 10 10 before) (number_in 10 6 behind) else None
+
+-- a moment in microseconds
+abbrev pub moment_of : List ℕ → Option ℕ
+moment_of word = option_and_then seconds_of (parted 46 word)
+
+-- a session's number, a space, and the bytes that it is fed
+abbrev pub fed_by : List ℕ × List ℕ → Option Effect
+fed_by (session, bytes) = option_map (λ s. Feeds s bytes) (session_of session)
+
+-- what a line with a space does, by the word before the space and what follows it
+abbrev pub asked_by : List ℕ × List ℕ → Option Effect
+asked_by (word, rest) =
+    if is_word word (codes "at") then option_map Sets (moment_of rest) else
+    if is_word word (codes "session") then option_map Starts (session_of rest) else
+    if is_word word (codes "feed") then option_and_then fed_by (parted 32 rest) else
+    if is_word word (codes "drain") then option_map Drains (session_of rest) else
+    if is_word word (codes "end") then option_map Ends (session_of rest) else None
+
+-- an empty line or one that begins with #
+abbrev pub is_remark : List ℕ → Bool
+is_remark [] = true
+is_remark (b ∷ bs) = b == 35
+
+-- what a line does, or `None` where it is no good line
+abbrev pub order_of : List ℕ → Option Effect
+order_of line =
+    if is_remark line then Some Does_nothing else
+    if is_word line (codes "attempt") then Some Attempts else option_and_then asked_by (parted 32 line)

@@ -1,0 +1,84 @@
+use Rattle.std.specs.Prelude.{◌≡◌, ◌≢◌, ◌⊎◌, ℕ, ◌+◌, ◌≤◌, List, [], ◌∷◌, ◌++◌, length, replicate, Option, Some, None, Result, Ok, Err}
+use Rattle.std.specs.Io.KnownBytes.{Appends}
+use Rattle.can_fault.specs.Sources.{VerdictMap}
+use Rattle.can_bus.specs.declared.events.BusConfig.{BusConfig}
+use Rattle.can_bus.specs.Journal.{Kept, IsConfig}
+use Rattle.can_session.specs.declared.lines.LineFault.{LineFault}
+use Rattle.can_session.specs.declared.lines.LineFault.TheVariants as line
+use Rattle.can_session.specs.declared.bench.BenchFault.{BenchFault}
+use Rattle.can_session.specs.declared.bench.BenchFault.TheVariants.{BadConfig, BadLine, InputTooLong, Read, Write, NoMemory}
+use Rattle.can_session.specs.Lines.{Input, TakesLine, Stops, StopsBehind, ComesToLong, lines_of}
+use Rattle.can_session.specs.Orders.{order_of}
+use Rattle.can_session.specs.Benches.{BenchState, IsCarriedOut, AreCarriedOut, IsRefused}
+
+-- A run of the bench over an input (own choice).
+
+-- what a bench may be made with: a bus within its limits, a name for each interface, and a receive queue within its limits
+pub record IsBench (names : List (List ℕ)) (config : BusConfig) (capacity : ℕ) : Type 0 where
+  pub bus : IsConfig config
+  pub named : length names ≡ config.ifaces
+  pub some_items : 1 ≤ capacity
+  pub few_items : capacity ≤ 65536
+
+-- a bench before its first line
+abbrev pub at_start : List (List ℕ) → BusConfig → ℕ → BenchState
+at_start names config capacity = record { capacity = capacity; bus = record { names = names; journal = record { config = config; history = [] } }; sessions = replicate 64 None; moment = 0 }
+
+-- Of a reader that does not tell its bytes nothing is said of the lines.
+
+-- these are all the lines of the input
+abbrev pub AreAll : Option (List ℕ) → List (List ℕ) → Type 0
+AreAll None lines = Unit {0}
+AreAll (Some text) lines = lines ≡ lines_of text
+
+-- these are the first lines of the input
+abbrev pub AreFirst : Option (List ℕ) → List (List ℕ) → Type 0
+AreFirst None lines = Unit {0}
+AreFirst (Some text) lines = (more : List (List ℕ)) × (lines_of text ≡ lines ++ more)
+
+-- behind these lines of the input comes one that the bench refuses, or one that is too long
+abbrev pub ComeBeforeBad : Option (List ℕ) → List (List ℕ) → BenchState → Type 0
+ComeBeforeBad None lines b = Unit {0}
+ComeBeforeBad (Some text) lines b = ((bad : List ℕ) × (more : List (List ℕ)) × (lines_of text ≡ lines ++ bad ∷ more) × IsRefused (order_of bad) b) ⊎ ComesToLong text lines
+
+-- these are the lines with an LF of all that was read before no more could be
+abbrev pub ComeBeforeStop : LineFault → Option (List ℕ) → List (List ℕ) → Type 0
+ComeBeforeStop fault None lines = Unit {0}
+ComeBeforeStop fault (Some text) lines = (now : Input) × StopsBehind fault text lines now
+
+-- lines are carried out, and the writer takes what they put out
+pub record Ran {W : Type 0} (contents : W → Option (List ℕ)) (verdicts : VerdictMap) (lines : List (List ℕ)) (b : BenchState) (out : W) (after : BenchState) (new : W) : Type 0 where
+  pub text : List ℕ
+  pub carried : AreCarriedOut verdicts lines b text after
+  pub wrote : Appends (contents out) (contents new) text
+
+-- how a run ends: at the end of the input, or behind the lines that a fault leaves; of what went out before a fault of
+-- the writer nothing is said
+abbrev pub Ends : {A W : Type 0} → (A → BenchState → Type 0) → (W → Option (List ℕ)) → VerdictMap → Option (List ℕ) → BenchState → W → Result A BenchFault → W → Type 0
+Ends {A} {W} leaves contents verdicts input b out (Ok a) new = (lines : List (List ℕ)) × (after : BenchState) × AreAll input lines × Ran contents verdicts lines b out after new × leaves a after
+Ends {A} {W} leaves contents verdicts input b out (Err (BadLine n)) new = (lines : List (List ℕ)) × (after : BenchState) × ComeBeforeBad input lines after × Ran contents verdicts lines b out after new × (n ≡ length lines + 1)
+Ends {A} {W} leaves contents verdicts input b out (Err InputTooLong) new = (lines : List (List ℕ)) × (after : BenchState) × ComeBeforeStop line.InputTooLong input lines × Ran contents verdicts lines b out after new
+Ends {A} {W} leaves contents verdicts input b out (Err Read) new = (lines : List (List ℕ)) × (after : BenchState) × ComeBeforeStop line.Read input lines × Ran contents verdicts lines b out after new
+Ends {A} {W} leaves contents verdicts input b out (Err NoMemory) new = (lines : List (List ℕ)) × (after : BenchState) × AreFirst input lines × Ran contents verdicts lines b out after new
+Ends {A} {W} leaves contents verdicts input b out (Err Write) new = Unit {0}
+Ends {A} {W} leaves contents verdicts input b out (Err BadConfig) new = ⊥
+
+-- the record that a bench leaves is that of its bus
+pub record IsRecordOf (r : Kept) (b : BenchState) : Type 0 where
+  pub config : r.config ≡ b.bus.journal.config
+  pub history : r.history ≡ b.bus.journal.history
+
+-- what a fault at the next line, which has this number, is told as
+abbrev pub fault_of : ℕ → LineFault → BenchFault
+fault_of number line.LineTooLong = BadLine number
+fault_of number line.InputTooLong = InputTooLong
+fault_of number line.Read = Read
+
+-- why a run ends at the next line, which has this number
+abbrev pub EndsAt : ℕ → BenchFault → Input → Input → BenchState → Type 0
+EndsAt number (BadLine n) old new b = (n ≡ number) × ((TakesLine old new × IsRefused (order_of new.line) b) ⊎ Stops line.LineTooLong old new)
+EndsAt number InputTooLong old new b = Stops line.InputTooLong old new
+EndsAt number Read old new b = Stops line.Read old new
+EndsAt number NoMemory old new b = TakesLine old new
+EndsAt number Write old new b = Unit {0}
+EndsAt number BadConfig old new b = ⊥

@@ -1,0 +1,116 @@
+ghost use Rattle.std.specs.Prelude.{◌≡◌, ◌++◌, OnOk, slice_get};
+ghost use Rattle.std.specs.Fmt.{decimal};
+ghost use Rattle.can_session.specs.AttemptLines.{class_word as word_of, set_text, name_text, member_text, whose_text, ending_text, tried_line, attempt_line};
+
+use can_attempt::Class;
+use can_bus::{Refusal, Tried};
+use can_frame::{Iface, IfaceSet, Names};
+use can_proto::Text;
+use std::alloc::AllocError;
+
+/// Adds the line of an attempt.
+pub fn put_attempt(
+    said: &mut Vec<u8>,
+    names: &Names,
+    outcome: &Result<Option<Tried>, Refusal>,
+) -> Result<(), AllocError>
+    ensures { OnOk result (said.new.items ≡ said.old.items ++ attempt_line names.now outcome.now) }
+{
+    match outcome {
+        Ok(Some(tried)) => put_tried(said, names, tried),
+        Ok(None) => said.extend_from_slice(b"idle\n"),
+        Err(_) => said.extend_from_slice(b"record full\n"),
+    }
+}
+
+fn put_tried(said: &mut Vec<u8>, names: &Names, tried: &Tried) -> Result<(), AllocError>
+    ensures { OnOk result (said.new.items ≡ said.old.items ++ tried_line names.now tried.now) }
+{
+    put_whose(said, names, tried)?;
+    put_ending(said, names, tried)?;
+    said.extend_from_slice(b"\n")
+}
+
+fn put_whose(said: &mut Vec<u8>, names: &Names, tried: &Tried) -> Result<(), AllocError>
+    ensures { OnOk result (said.new.items ≡ said.old.items ++ whose_text names.now tried.now) }
+{
+    said.extend_from_slice(b"tried ")?;
+    put_name(said, names, tried.winner)?;
+    said.extend_from_slice(b" ")?;
+    put_number(said, tried.number)
+}
+
+fn put_ending(said: &mut Vec<u8>, names: &Names, tried: &Tried) -> Result<(), AllocError>
+    ensures { OnOk result (said.new.items ≡ said.old.items ++ ending_text names.now tried.now) }
+{
+    said.extend_from_slice(b" ")?;
+    said.extend_from_slice(class_word(tried.class))?;
+    said.extend_from_slice(b" ")?;
+    put_set(said, names, tried.accepted)?;
+    said.extend_from_slice(b" ")?;
+    put_set(said, names, tried.off)
+}
+
+/// Adds a number in decimal.
+pub fn put_number(said: &mut Vec<u8>, number: u64) -> Result<(), AllocError>
+    ensures { OnOk result (said.new.items ≡ said.old.items ++ decimal number) }
+{
+    let mut digits = Text::new();
+    digits.push_count(number);
+    said.extend_from_slice(digits.as_bytes())
+}
+
+fn put_name(said: &mut Vec<u8>, names: &Names, iface: Iface) -> Result<(), AllocError>
+    ensures { OnOk result (said.new.items ≡ said.old.items ++ name_text (slice_get names.now iface)) }
+{
+    match names.name(iface) {
+        Some(name) => said.extend_from_slice(name.as_bytes()),
+        None => said.extend_from_slice(b"?"),
+    }
+}
+
+// The names by rising number, joined by commas, or a dash.
+fn put_set(said: &mut Vec<u8>, names: &Names, set: IfaceSet) -> Result<(), AllocError>
+    ensures { OnOk result (said.new.items ≡ said.old.items ++ set_text names.now set) }
+{
+    let mut is_first = true;
+    for number in 0..names.count() {
+        let Some(iface) = Iface::new(number) else {
+            return Ok(());
+        };
+        if set.contains(iface) {
+            put_member(said, names, iface, is_first)?;
+            is_first = false;
+        }
+    }
+    if is_first {
+        said.extend_from_slice(b"-")?;
+    }
+    Ok(())
+}
+
+// One name, with a comma before it if it is not the first.
+fn put_member(
+    said: &mut Vec<u8>,
+    names: &Names,
+    iface: Iface,
+    is_first: bool,
+) -> Result<(), AllocError>
+    ensures { OnOk result (said.new.items ≡ said.old.items ++ member_text is_first (name_text (slice_get names.now iface))) }
+{
+    if !is_first {
+        said.extend_from_slice(b",")?;
+    }
+    put_name(said, names, iface)
+}
+
+fn class_word(class: Class) -> &'static [u8]
+    ensures { result.now ≡ word_of class }
+{
+    match class {
+        Class::Done => b"done",
+        Class::LastBit => b"lastbit",
+        Class::Destroyed => b"destroyed",
+        Class::NoAck => b"noack",
+    }
+}

@@ -1,0 +1,146 @@
+ghost use Rattle.std.specs.Prelude.{◌≡◌, ◌≢◌, ◌+◌, ◌<◌, ◌≤◌, ◌↔◌, ◌⊎◌, List, ℕ, Err, length, IfOk, IfErr, OnOk, OnErr, MatchBool};
+ghost use Rattle.std.specs.Io.KnownBytes.{Appends};
+ghost use Rattle.can_bus.specs.Legal.{IsLegal};
+ghost use Rattle.can_session.specs.Lines.{FindsEnd, TakesLine, IsWithin, left_of};
+ghost use Rattle.can_session.specs.Benches.{IsCarriedOut};
+ghost use Rattle.can_session.specs.Runs.{IsBench, IsRecordOf, at_start, Ends, EndsAt, fault_of};
+
+use crate::lines::{LineFault, Lines};
+use crate::stand::Stand;
+use can_bus::{BusConfig, Record};
+use can_fault::FaultSource;
+use can_frame::Names;
+use std::alloc::Global;
+use std::io::{Read, Write};
+use thiserror::Error;
+
+/// Why a run of the bench ended before the end of its input.
+#[derive(Debug, Clone, Copy, PartialEq, Eq, Error)]
+pub enum BenchFault {
+    /// The configuration is none that a bench may have. Nothing was read or written.
+    #[error("bad bus")]
+    BadConfig,
+    /// The number of the line, from 1. The lines before it were carried out.
+    #[error("line {0}: bad line")]
+    BadLine(u32),
+    /// The input has more than 16,777,216 bytes, or takes more reads. All whole lines that were read
+    /// were carried out.
+    #[error("input too long")]
+    InputTooLong,
+    /// The reader failed. All whole lines that were read were carried out.
+    #[error("read fault")]
+    Read,
+    /// The writer failed.
+    #[error("write fault")]
+    Write,
+    /// Memory was refused.
+    #[error("no memory")]
+    NoMemory,
+}
+
+/// What a bench is made with.
+#[derive(Drop)]
+pub struct BenchConfig<F> {
+    /// The names of the interfaces, as many as the bus has.
+    pub names: Names,
+    /// The bus.
+    pub config: BusConfig,
+    /// The faults of its attempts.
+    pub script: F,
+    /// How many items a socket holds, 1 to 65,536.
+    pub rx_capacity: u32,
+}
+
+/// Carries out the lines of an input on one bus, and writes what they put out: the bus's record.
+///
+/// Each line's output is written in one call, so a writer that is slow for small writes wants a buffer around it.
+/// Of the input no more than 8,192 bytes are kept, at any length. The time grows with the lines and with what they
+/// do on the bus. `NoMemory` comes before the first line or in place of a line; what the lines before it put out was
+/// written.
+pub fn bench<F: FaultSource + Drop, R: Read + Drop, W: Write>(
+    alloc: Global,
+    config: BenchConfig<F>,
+    input: R,
+    out: &mut W,
+) -> Result<Record, BenchFault>
+    ensures bad { (result ≡ Err BenchFault.BadConfig) ↔ (¬ IsBench config.names config.config config.rx_capacity) }
+    ensures untouched { result ≡ Err BenchFault.BadConfig → out.new ≡ out.old }
+    ensures runs { result ≢ Err BenchFault.BadConfig → Ends IsRecordOf W.contents (F.verdicts config.script) (R.remaining input) (at_start config.names config.config config.rx_capacity) out.old result out.new }
+    ensures legal { IfOk result (λ r. IsLegal r.config r.history) }
+{
+    let BenchConfig {
+        names,
+        config,
+        mut script,
+        rx_capacity,
+    } = config;
+    let mut stand = Stand::new(alloc, names, config, rx_capacity)?;
+    let Ok(mut lines) = Lines::new(alloc, input) else {
+        return Err(BenchFault::NoMemory);
+    };
+    run(alloc, &mut stand, &mut script, &mut lines, out)?;
+    Ok(stand.into_record())
+}
+
+/// Carries out the lines that are left.
+fn run<F: FaultSource, R: Read + Drop, W: Write>(
+    alloc: Global,
+    stand: &mut Stand,
+    script: &mut F,
+    lines: &mut Lines<R>,
+    out: &mut W,
+) -> Result<(), BenchFault>
+    requires { lines.old.given ≡ 0 }
+    ensures { Ends (λ (_ : Unit {0}) after. after ≡ stand.new) W.contents (F.verdicts script.old) (left_of lines.old) stand.old out.old result out.new }
+{
+    let mut said = Vec::new(alloc);
+    let mut number = 1;
+    loop {
+        match go_on(stand, script, lines, number, &mut said, out) {
+            Ok(true) => number += 1,
+            Ok(false) => return Ok(()),
+            Err(fault) => return Err(fault),
+        }
+    }
+}
+
+/// Carries out the next line, which has this number, if there is one: whether there was.
+fn go_on<F: FaultSource, R: Read + Drop, W: Write>(
+    stand: &mut Stand,
+    script: &mut F,
+    lines: &mut Lines<R>,
+    number: u32,
+    said: &mut Vec<u8>,
+    out: &mut W,
+) -> Result<bool, BenchFault>
+    ensures on { IfOk result (λ more. MatchBool more (TakesLine lines.old lines.new × (text : List ℕ) × IsCarriedOut (F.verdicts script.old) lines.new.line stand.old text stand.new × Appends (W.contents out.old) (W.contents out.new) text) (FindsEnd lines.old lines.new × (stand.new ≡ stand.old) × (out.new ≡ out.old))) }
+    ensures stops { IfErr result (λ fault. EndsAt number fault lines.old lines.new stand.old × ((fault ≡ BenchFault.Write) ⊎ (out.new ≡ out.old))) }
+    ensures keeps { F.verdicts script.new ≡ F.verdicts script.old }
+    ensures within { IsWithin lines.new }
+{
+    match lines.next_line() {
+        Ok(true) => {}
+        Ok(false) => return Ok(false),
+        Err(fault) => return Err(told(fault, number)),
+    }
+    match stand.take_line(script, lines.line(), said) {
+        Ok(true) => {}
+        Ok(false) => return Err(BenchFault::BadLine(number)),
+        Err(_) => return Err(BenchFault::NoMemory),
+    }
+    match out.write_all(said) {
+        Ok(()) => Ok(true),
+        Err(_) => Err(BenchFault::Write),
+    }
+}
+
+/// What a fault of the input is told as, at the line of this number.
+fn told(fault: LineFault, number: u32) -> BenchFault
+    ensures { result ≡ fault_of number fault }
+{
+    match fault {
+        LineFault::LineTooLong => BenchFault::BadLine(number),
+        LineFault::InputTooLong => BenchFault::InputTooLong,
+        LineFault::Read => BenchFault::Read,
+    }
+}

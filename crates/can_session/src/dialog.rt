@@ -1,0 +1,62 @@
+ghost use Rattle.std.specs.Prelude.{◌≡◌, Bool, []};
+ghost use Rattle.can_session.specs.Plans.{Plays};
+ghost use Rattle.can_session.specs.Turns.{voiced, written, turn, ending, delivery};
+
+use crate::commands::carry_out;
+use crate::port::Port;
+use crate::stages::{Dialog, Stage};
+use can_frame::Moment;
+use can_proto::{Answer, Cause, Command, Incoming, Text, item_text, reply_text};
+use std::alloc::Global;
+
+/// One item of the client's stream: what the client is told, if anything.
+pub fn take_turn<P: Port>(
+    dialog: &mut Dialog,
+    alloc: Global,
+    item: &Incoming,
+    moment: Moment,
+    port: &mut P,
+) -> Option<Answer>
+    ensures { (forgot : Bool) × Plays P.step (turn forgot moment dialog.old item.now) port.old port.new (voiced result) dialog.new }
+{
+    if let Stage::Ended = dialog.stage {
+        return None;
+    }
+    match item {
+        Incoming::TooLong => Some(Answer::Refused(Cause::MessageTooLong)),
+        Incoming::Message(message) => {
+            match Command::read(alloc, dialog.stage.mode(), message) {
+                Ok(command) => carry_out(dialog, &command, moment, port),
+                Err(fault) => Some(Answer::Refused(Cause::from(fault))),
+            }
+        }
+    }
+}
+
+/// The end of a session: a raw socket is closed, whatever the port answers.
+pub fn finish<P: Port>(dialog: &mut Dialog, port: &mut P)
+    ensures { Plays P.step (ending dialog.old.stage dialog.old) port.old port.new [] dialog.new }
+{
+    if let Stage::Raw(raw) = dialog.stage {
+        let _ = port.close(raw.socket);
+    }
+    dialog.stage = Stage::Ended;
+}
+
+/// One receive in raw mode, no call elsewhere: what the client is told, if anything, and whether it was an
+/// item.
+pub fn take_delivery<P: Port>(stage: Stage, port: &mut P) -> (Option<Text>, bool)
+    ensures { Plays P.step (delivery stage) port.old port.new (written result.0) result.1 }
+{
+    let Stage::Raw(raw) = stage else {
+        return (None, false);
+    };
+    match port.receive(raw.socket) {
+        Ok(Some(received)) => {
+            let text = item_text(received.item, received.moment, raw.errdata);
+            (Some(text), true)
+        }
+        Ok(None) => (None, false),
+        Err(refusal) => (Some(reply_text(Answer::Refused(refusal.cause()))), false),
+    }
+}

@@ -1,0 +1,147 @@
+ghost use Rattle.std.specs.Prelude.{◌≡◌, ◌≤◌, ◌<◌, ◌^◌, length, option_map, IfSome};
+ghost use Rattle.can_session.specs.Orders.{effect_of, order_of, asked_by, is_remark, session_number, session_of, moment_of, parted};
+ghost use Rattle.can_proto.specs.Verbs.{is_word};
+
+use crate::decimals::read_decimal;
+use crate::places::place_of;
+use can_frame::Moment;
+use std::marker::Model;
+
+/// The number of a session, 1 to 64.
+#[derive(Debug, Clone, Copy, PartialEq, Eq)]
+pub struct SessionNumber {
+    number: u8,
+}
+
+impl Model for SessionNumber {
+    ghost use Rattle.std.specs.Prelude.{ℕ, ◌≤◌};
+
+    ghost Value = { ℕ };
+
+    ghost view = { λ s. s.number };
+
+    ghost invariant = { λ s. (1 ≤ s.number) × (s.number ≤ 64) };
+
+    ghost inverse = { λ n. record { number = n } };
+}
+
+impl SessionNumber {
+    /// The session of this number, if it is from 1 to 64.
+    pub fn new(number: u8) -> Option<SessionNumber>
+        ensures { result ≡ session_number number }
+    {
+        if number < 1 || number > 64 {
+            return None;
+        }
+        Some(SessionNumber { number })
+    }
+
+    /// The number, 1 to 64.
+    pub fn number(self) -> u8
+        ensures number { result ≡ self }
+        ensures low { 1 ≤ result }
+        ensures high { result ≤ 64 }
+    {
+        self.number
+    }
+}
+
+/// What a line of the bench's input asks for.
+#[derive(Clone, Copy)]
+pub enum Order<'a> {
+    /// Nothing: an empty line or a remark.
+    Nothing,
+    /// To set the moment.
+    At(Moment),
+    /// To start a session.
+    Session(SessionNumber),
+    /// To feed a session these bytes.
+    Feed(SessionNumber, &'a [u8]),
+    /// To give a session what its socket received.
+    Drain(SessionNumber),
+    /// To end a session.
+    End(SessionNumber),
+    /// To put a frame on the bus.
+    Attempt,
+}
+
+/// The order that a line spells, without its LF, or `None` where it spells none.
+pub fn read_order(line: &[u8]) -> Option<Order<'_>>
+    ensures { option_map effect_of result ≡ order_of line.now }
+{
+    if says_nothing(line) {
+        return Some(Order::Nothing);
+    }
+    if matches(line, b"attempt") {
+        return Some(Order::Attempt);
+    }
+    let (word, rest) = split_at_first(line, b' ')?;
+    read_asked(word, rest)
+}
+
+// The order of a line with a space, by what stands before the space and what follows it.
+fn read_asked<'a>(word: &[u8], rest: &'a [u8]) -> Option<Order<'a>>
+    ensures { option_map effect_of result ≡ asked_by (word.now, rest.now) }
+{
+    if matches(word, b"at") {
+        Some(Order::At(read_moment(rest)?))
+    } else if matches(word, b"session") {
+        Some(Order::Session(read_session(rest)?))
+    } else if matches(word, b"feed") {
+        let (session, bytes) = split_at_first(rest, b' ')?;
+        Some(Order::Feed(read_session(session)?, bytes))
+    } else if matches(word, b"drain") {
+        Some(Order::Drain(read_session(rest)?))
+    } else if matches(word, b"end") {
+        Some(Order::End(read_session(rest)?))
+    } else {
+        None
+    }
+}
+
+fn says_nothing(line: &[u8]) -> bool
+    ensures { result ≡ is_remark line.now }
+{
+    match line {
+        [] => true,
+        [first, ..] => *first == b'#',
+    }
+}
+
+fn matches(word: &[u8], name: &[u8]) -> bool
+    ensures { result ≡ is_word word.now name.now }
+{
+    word == name
+}
+
+// What stands before the first of these marks, and what follows it.
+fn split_at_first(text: &[u8], mark: u8) -> Option<(&[u8], &[u8])>
+    ensures { option_map (λ parts. (parts.0.now, parts.1.now)) result ≡ parted mark text.now }
+{
+    let place = place_of(text, mark)?;
+    Some((&text[..place], &text[place + 1..]))
+}
+
+/// The number of a session: 1 to 64, without leading zeros.
+fn read_session(word: &[u8]) -> Option<SessionNumber>
+    ensures { result ≡ session_of word.now }
+{
+    if let [b'0', ..] = word {
+        return None;
+    }
+    let number = read_decimal(word, 2)?;
+    SessionNumber::new(number as u8)
+}
+
+/// A moment: 1 to 10 digits of seconds, a point and 6 digits of microseconds.
+fn read_moment(word: &[u8]) -> Option<Moment>
+    ensures { result ≡ moment_of word.now }
+{
+    let (before, behind) = split_at_first(word, b'.')?;
+    if behind.len() != 6 {
+        return None;
+    }
+    let seconds = read_decimal(before, 10)?;
+    let micros = read_decimal(behind, 6)?;
+    Moment::new(seconds * 1_000_000 + micros).ok()
+}

@@ -1,0 +1,316 @@
+ghost use Rattle.std.specs.Prelude.{◌≡◌, ◌≢◌, ◌++◌, ◌-◌, ◌<◌, [], ◌∷◌, ◌⊎◌, ◌↔◌, Some, None, Err, true, length, replicate, OnOk, IfOk, IfErr, MatchBool};
+ghost use Rattle.can_bus.specs.Journal.{IsConfig};
+ghost use Rattle.can_bus.specs.Legal.{IsLegal};
+ghost use Rattle.can_session.specs.Runs.{IsBench, IsRecordOf, at_start};
+ghost use Rattle.std.specs.Fmt.{decimal};
+ghost use Rattle.can_fault.specs.Sources.{no_verdicts};
+ghost use Rattle.can_session.specs.AttemptLines.{attempt_line};
+ghost use Rattle.can_session.specs.Turns.{greeting};
+ghost use Rattle.can_session.specs.Orders.{Effect, order_of};
+ghost use Rattle.can_session.specs.Benches.{spoken, beginning, session_at, Speaks, IsFed, IsDrained, IsEnded, IsTried, Does, IsCarriedOut, IsRefused};
+
+use crate::attempt_lines::{put_attempt, put_number};
+use crate::orders::{Order, SessionNumber, read_order};
+use crate::session::Session;
+use crate::bench::BenchFault;
+use crate::bus_port::BusPort;
+use crate::turns::{self, BenchBus, BenchPort, NoMemory};
+use can_bus::{BusConfig, BusFault, Record, Refusal, Tried};
+use can_fault::FaultSource;
+use can_frame::{Moment, Names};
+use std::alloc::{AllocError, Global};
+use std::marker::Model;
+
+/// One bus with up to 64 sessions, at a moment.
+#[derive(Drop)]
+pub struct Stand {
+    alloc: Global,
+    port: BenchPort,
+    capacity: u32,
+    sessions: Vec<Option<Session>>,
+    moment: Moment,
+    // What a session says in a line.
+    text: Vec<u8>,
+}
+
+impl Model for Stand {
+    ghost use Rattle.std.specs.Prelude.{◌≡◌, length};
+    ghost use Rattle.can_session.specs.Benches.{BenchState};
+
+    ghost Value = { BenchState };
+
+    ghost view = { λ s. record { capacity = s.capacity; bus = s.port; sessions = s.sessions.items; moment = s.moment } };
+
+    ghost invariant = { λ s. length s.sessions.items ≡ 64 };
+}
+
+impl Stand {
+    /// A bench before its first line.
+    pub fn new(
+        alloc: Global,
+        names: Names,
+        config: BusConfig,
+        capacity: u32,
+    ) -> Result<Stand, BenchFault>
+        ensures made { IfOk result (λ s. s ≡ at_start names config capacity) }
+        ensures good { OnOk result (IsBench names config capacity) }
+        ensures bad { (result ≡ Err BenchFault.BadConfig) ↔ (¬ IsBench names config capacity) }
+        ensures faults { IfErr result (λ e. (e ≡ BenchFault.BadConfig) ⊎ (e ≡ BenchFault.NoMemory)) }
+    {
+        if config.ifaces != names.count() || capacity < 1 || capacity > 65_536 {
+            return Err(BenchFault::BadConfig);
+        }
+        let bus = make_bus(alloc, config)?;
+        let Ok(sessions) = no_sessions(alloc) else {
+            return Err(BenchFault::NoMemory);
+        };
+        Ok(Stand {
+            alloc,
+            port: BusPort::new(alloc, names, bus),
+            capacity,
+            sessions,
+            moment: the_start(),
+            text: Vec::new(alloc),
+        })
+    }
+
+    /// The record of its bus.
+    pub fn into_record(self) -> Record
+        ensures record { IsRecordOf result self }
+        ensures legal { IsLegal result.config result.history }
+    {
+        let Stand { port, .. } = self;
+        port.into_bus().into_record()
+    }
+
+    /// Carries out a line, and keeps what it puts out, if the line is good: whether it is.
+    pub fn take_line<F: FaultSource>(
+        &mut self,
+        script: &mut F,
+        line: &[u8],
+        said: &mut Vec<u8>,
+    ) -> Result<bool, NoMemory>
+        ensures line { IfOk result (λ good. MatchBool good (IsCarriedOut (F.verdicts script.old) line.now self.old said.new.items self.new) (IsRefused (order_of line.now) self.old)) }
+        ensures keeps { F.verdicts script.new ≡ F.verdicts script.old }
+    {
+        said.clear();
+        let Some(order) = read_order(line) else {
+            return Ok(false);
+        };
+        match order {
+            Order::Nothing => Ok(true),
+            Order::At(moment) => {
+                self.set_moment(moment);
+                Ok(true)
+            }
+            Order::Session(session) => self.start(session, said),
+            Order::Feed(session, bytes) => self.feed(session, bytes, said),
+            Order::Drain(session) => self.drain(session, said),
+            Order::End(session) => Ok(self.end(session)),
+            Order::Attempt => {
+                self.attempt(script, said)?;
+                Ok(true)
+            }
+        }
+    }
+
+    /// Feeds a session these bytes, if it was started: whether it was.
+    pub fn feed(
+        &mut self,
+        session: SessionNumber,
+        bytes: &[u8],
+        said: &mut Vec<u8>,
+    ) -> Result<bool, NoMemory>
+        requires { said.old.items ≡ [] }
+        ensures { IfOk result (λ good. MatchBool good (Speaks (λ old. IsFed old.dialog.stage self.old.moment bytes.now old) session self.old said.new.items self.new) (session_at self.old session ≡ Some None)) }
+    {
+        self.text.clear();
+        match &mut self.sessions[place_of(session)] {
+            None => Ok(false),
+            Some(speaker) => {
+                turns::feed(
+                    speaker,
+                    self.alloc,
+                    bytes,
+                    self.moment,
+                    &mut self.port,
+                    &mut self.text,
+                )?;
+                put_spoken(said, session, &self.text)?;
+                Ok(true)
+            }
+        }
+    }
+
+    /// Gives a session its items until there is none, if it was started: whether it was.
+    pub fn drain(
+        &mut self,
+        session: SessionNumber,
+        said: &mut Vec<u8>,
+    ) -> Result<bool, NoMemory>
+        requires { said.old.items ≡ [] }
+        ensures { IfOk result (λ good. MatchBool good (Speaks IsDrained session self.old said.new.items self.new) (session_at self.old session ≡ Some None)) }
+    {
+        self.text.clear();
+        match &mut self.sessions[place_of(session)] {
+            None => Ok(false),
+            Some(speaker) => {
+                turns::drain(speaker, &mut self.port, &mut self.text)?;
+                put_spoken(said, session, &self.text)?;
+                Ok(true)
+            }
+        }
+    }
+
+    /// Ends a session, if it was started: whether it was.
+    pub fn end(&mut self, session: SessionNumber) -> bool
+        ensures { MatchBool result (Speaks IsEnded session self.old [] self.new) (session_at self.old session ≡ Some None) }
+    {
+        match &mut self.sessions[place_of(session)] {
+            None => false,
+            Some(speaker) => {
+                turns::end(speaker, &mut self.port);
+                true
+            }
+        }
+    }
+
+    /// Starts a session, if its number was not used before: whether it was not.
+    pub fn start(
+        &mut self,
+        session: SessionNumber,
+        said: &mut Vec<u8>,
+    ) -> Result<bool, NoMemory>
+        requires { said.old.items ≡ [] }
+        ensures { IfOk result (λ good. MatchBool good (Does no_verdicts (Effect.Starts session) self.old said.new.items self.new) (session_at self.old session ≢ Some None)) }
+    {
+        let place = place_of(session);
+        if self.sessions[place].is_some() {
+            return Ok(false);
+        }
+        self.text.clear();
+        let begun = begin(self.alloc, self.capacity, &mut self.text)?;
+        self.sessions[place] = Some(begun);
+        put_spoken(said, session, &self.text)?;
+        Ok(true)
+    }
+
+    /// Sets the moment.
+    pub fn set_moment(&mut self, moment: Moment)
+        ensures { self.new ≡ record self.old { moment = moment } }
+    {
+        self.moment = moment;
+    }
+
+    /// Puts the next frame on the bus, with the verdict that the next attempt's number has.
+    pub fn attempt<F: FaultSource>(
+        &mut self,
+        script: &mut F,
+        said: &mut Vec<u8>,
+    ) -> Result<(), NoMemory>
+        requires { said.old.items ≡ [] }
+        ensures tried { OnOk result (IsTried (F.verdicts script.old) self.old said.new.items self.new) }
+        ensures keeps { F.verdicts script.new ≡ F.verdicts script.old }
+    {
+        let verdict = script.verdict(self.port.next_attempt());
+        let outcome = self.port.attempt(self.moment, verdict);
+        put_line(said, self.port.names(), &outcome)?;
+        Ok(())
+    }
+}
+
+/// A session at its start, and what it says.
+fn begin(alloc: Global, capacity: u32, text: &mut Vec<u8>) -> Result<Session, NoMemory>
+    requires { text.old.items ≡ [] }
+    ensures { IfOk result (λ s. (s ≡ beginning capacity) × (text.new.items ≡ greeting)) }
+{
+    let Ok(mut session) = Session::new(alloc, capacity) else {
+        return Err(NoMemory);
+    };
+    match session.greet(text) {
+        Ok(()) => Ok(session),
+        Err(_) => Err(NoMemory),
+    }
+}
+
+/// Adds the line of an attempt.
+fn put_line(
+    said: &mut Vec<u8>,
+    names: &Names,
+    outcome: &Result<Option<Tried>, Refusal>,
+) -> Result<(), NoMemory>
+    requires { said.old.items ≡ [] }
+    ensures { OnOk result (said.new.items ≡ attempt_line names.now outcome.now) }
+{
+    put_attempt(said, names, outcome).map_err(|_| NoMemory)
+}
+
+fn make_bus(alloc: Global, config: BusConfig) -> Result<BenchBus, BenchFault>
+    ensures made { IfOk result (λ b. b ≡ record { config = config; history = [] }) }
+    ensures proper { OnOk result (IsConfig config) }
+    ensures bad { (result ≡ Err BenchFault.BadConfig) ↔ (¬ IsConfig config) }
+    ensures faults { IfErr result (λ e. (e ≡ BenchFault.BadConfig) ⊎ (e ≡ BenchFault.NoMemory)) }
+{
+    match BenchBus::new(alloc, config) {
+        Ok(bus) => Ok(bus),
+        Err(BusFault::BadConfig) => Err(BenchFault::BadConfig),
+        Err(BusFault::NoMemory) => Err(BenchFault::NoMemory),
+    }
+}
+
+/// The moment at which a bench starts.
+fn the_start() -> Moment
+    ensures { result ≡ 0 }
+{
+    match Moment::new(0) {
+        Ok(moment) => moment,
+        Err(_) => unreachable!(),
+    }
+}
+
+/// Places for 64 sessions, none of them started.
+fn no_sessions(alloc: Global) -> Result<Vec<Option<Session>>, AllocError>
+    ensures { IfOk result (λ sessions. sessions.items ≡ replicate 64 None) }
+{
+    let mut sessions = Vec::with_capacity(alloc, 64)?;
+    for _ in 0..64_usize {
+        sessions.push(None)?;
+    }
+    Ok(sessions)
+}
+
+/// The place of a session.
+fn place_of(session: SessionNumber) -> usize
+    ensures place { result ≡ session - 1 }
+    ensures within { result < 64 }
+{
+    usize::from(session.number()) - 1
+}
+
+/// Adds what a session says in a line: its number, a space, the text and LF, or nothing at all.
+fn put_spoken(
+    said: &mut Vec<u8>,
+    session: SessionNumber,
+    text: &[u8],
+) -> Result<(), NoMemory>
+    requires { said.old.items ≡ [] }
+    ensures { OnOk result (said.new.items ≡ spoken session text.now) }
+{
+    if text.is_empty() {
+        return Ok(());
+    }
+    put_words(said, session, text).map_err(|_| NoMemory)
+}
+
+fn put_words(
+    said: &mut Vec<u8>,
+    session: SessionNumber,
+    text: &[u8],
+) -> Result<(), AllocError>
+    ensures { OnOk result (said.new.items ≡ said.old.items ++ decimal session ++ 32 ∷ text.now ++ 10 ∷ []) }
+{
+    put_number(said, u64::from(session.number()))?;
+    said.extend_from_slice(b" ")?;
+    said.extend_from_slice(text)?;
+    said.extend_from_slice(b"\n")
+}
