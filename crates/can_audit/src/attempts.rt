@@ -1,0 +1,73 @@
+ghost use Rattle.std.specs.Prelude.{◌≡◌, reverse, IfOk};
+ghost use Rattle.can_bus.specs.Attempts.{winner, attempt_reply};
+ghost use Rattle.can_audit.specs.Histories.{IsHistory};
+
+use crate::counters::{judgement_of, nodes_of};
+use crate::transmit::{gone_count, head_of};
+use can_arbiter::{Arbiter, ScanArbiter};
+use can_attempt::Judgement;
+use can_bus::{BusConfig, Entry, Pending, Reply, Tried};
+use can_fault::Verdict;
+use can_frame::{Iface, Moment};
+use std::alloc::{AllocError, Global};
+
+// What an attempt answers, by the entries before it.
+
+/// The interface that wins the bus, if one has a frame to send. One that is bus off has none.
+fn winner(alloc: Global, config: BusConfig, past: &[Entry]) -> Result<Option<Iface>, AllocError>
+    ensures { IsHistory config (reverse past.now) → IfOk result (λ w. w ≡ winner config (reverse past.now)) }
+{
+    let mut arbiter = ScanArbiter::new();
+    for place in 0..16u8 {
+        let Some(iface) = Iface::new(place) else {
+            break;
+        };
+        if let Some(pending) = head_of(alloc, past, iface)? {
+            arbiter.set(iface, pending.frame.arbitration_key());
+        }
+    }
+    Ok(arbiter.winner())
+}
+
+/// The answer of an attempt that was judged.
+fn tried_as(
+    moment: Moment,
+    winner: Iface,
+    number: usize,
+    pending: &Pending,
+    judgement: &Judgement,
+) -> Reply {
+    Reply::Tried(Tried {
+        moment,
+        winner,
+        number: number as u64,
+        frame: pending.frame,
+        class: judgement.class,
+        accepted: judgement.accepted,
+        off: judgement.off,
+    })
+}
+
+/// The reply of an attempt after these entries.
+pub fn attempt_reply(
+    alloc: Global,
+    config: BusConfig,
+    past: &[Entry],
+    moment: Moment,
+    verdict: Verdict,
+) -> Result<Reply, AllocError>
+    ensures { IsHistory config (reverse past.now) → IfOk result (λ r. r ≡ attempt_reply config (reverse past.now) moment verdict (winner config (reverse past.now))) }
+{
+    let Some(winner) = winner(alloc, config, past)? else {
+        return Ok(Reply::Idle);
+    };
+    let Some(pending) = head_of(alloc, past, winner)? else {
+        return Ok(Reply::Idle);
+    };
+    let number = gone_count(alloc, past, winner)?;
+    let nodes = nodes_of(config, past);
+    Ok(match judgement_of(&nodes, winner, verdict, config.ack) {
+        Some(judgement) => tried_as(moment, winner, number, &pending, &judgement),
+        None => Reply::Idle,
+    })
+}
