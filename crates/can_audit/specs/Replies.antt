@@ -9,12 +9,16 @@ use Rattle.can_bus.specs.Legal.{legal_reply}
 
 -- The replies that a list of events has, one after another.
 
--- an event with the reply that the entries before it give
-abbrev pub answered : BusConfig → List Entry → Event → Entry
-answered c past e = record { event = e; reply = legal_reply c past e }
+-- the reply of an event after these entries: the one that they give, or "record full" where there are as
+-- many as the limit
+abbrev pub reply_after : BusConfig → List Entry → Event → Reply
+reply_after c past e = if nat_le c.limit (length past) then reply.Refused refusal.RecordFull else legal_reply c past e
 
--- the replies of these events after these entries: each is the one that the entries before it give, and
--- "record full" once there are as many entries as the limit; what is refused so adds no entry
+-- the entries after it: one more, unless there were as many as the limit
+abbrev pub entries_after : BusConfig → List Entry → Event → List Entry
+entries_after c past e = if nat_le c.limit (length past) then past else record { event = e; reply = legal_reply c past e } ∷ past
+
+-- the replies of these events after these entries, each by the entries before it
 unfoldable pub replies_after : BusConfig → List Entry → List Event → List Reply
 replies_after c past [] = []
-replies_after c past (e ∷ es) = if nat_le c.limit (length past) then reply.Refused refusal.RecordFull ∷ replies_after c past es else legal_reply c past e ∷ replies_after c (answered c past e ∷ past) es
+replies_after c past (e ∷ es) = reply_after c past e ∷ replies_after c (entries_after c past e) es

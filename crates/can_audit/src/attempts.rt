@@ -1,5 +1,6 @@
 ghost use Rattle.std.specs.Prelude.{◌≡◌, reverse, IfOk};
 ghost use Rattle.can_bus.specs.Attempts.{winner, attempt_reply};
+ghost use Rattle.can_bus.specs.declared.events.Reply.TheVariants as reply;
 ghost use Rattle.can_audit.specs.Histories.{IsHistory};
 
 use crate::counters::{judgement_of, nodes_of};
@@ -36,7 +37,9 @@ fn tried_as(
     number: usize,
     pending: &Pending,
     judgement: &Judgement,
-) -> Reply {
+) -> Reply
+    ensures { result ≡ reply.Tried (record { moment = moment; winner = winner; number = number; frame = pending.now.frame; class = judgement.now.class; accepted = judgement.now.accepted; off = judgement.now.off }) }
+{
     Reply::Tried(Tried {
         moment,
         winner,

@@ -1,8 +1,8 @@
-ghost use Rattle.std.specs.Prelude.{◌≡◌, ◌<◌, ◌≤◌, ◌∷◌, List, reverse, slice_set, false, Some};
+ghost use Rattle.std.specs.Prelude.{◌≡◌, ◌<◌, ◌≤◌, reverse, slice_set, false, Some};
 ghost use Rattle.can_confine.specs.Confinement.{is_off, state_of, at_start};
 ghost use Rattle.can_attempt.specs.Attempts.{counts_at, attempt_between, judged};
-ghost use Rattle.can_bus.specs.declared.events.Entry.{Entry};
 ghost use Rattle.can_bus.specs.State.{kept_nodes};
+ghost use Rattle.can_audit.specs.Counted.{Counts};
 ghost use Rattle.can_audit.specs.Histories.{IsHistory};
 
 use can_attempt::{AckMode, Judgement, Nodes, judge};
@@ -28,42 +28,45 @@ pub fn judgement_of(
     Some(judge(nodes, winner, verdict, ack))
 }
 
-/// What an attempt does to the error counters.
-fn nodes_tried(config: BusConfig, nodes: Nodes, winner: Iface, verdict: Verdict) -> Nodes
-    ensures { nodes.count ≤ 16 → winner < nodes.count → is_off (state_of (counts_at nodes winner)) ≡ false → result ≡ record nodes { counters = (judged (attempt_between nodes winner verdict config.ack)).counters } }
+/// Takes the counters that an attempt leaves.
+fn count(nodes: &mut Nodes, judgement: &Judgement)
+    ensures { nodes.new ≡ record nodes.old { counters = judgement.now.counters } }
 {
-    match judgement_of(&nodes, winner, verdict, config.ack) {
-        Some(judgement) => Nodes {
-            counters: judgement.counters,
-            ..nodes
-        },
-        None => nodes,
+    nodes.counters = judgement.counters;
+}
+
+/// What an attempt does to the error counters.
+fn note_attempt(config: BusConfig, nodes: &mut Nodes, winner: Iface, verdict: Verdict)
+    ensures { nodes.old.count ≤ 16 → winner < nodes.old.count → is_off (state_of (counts_at nodes.old winner)) ≡ false → nodes.new ≡ record nodes.old { counters = (judged (attempt_between nodes.old winner verdict config.ack)).counters } }
+{
+    if let Some(judgement) = judgement_of(nodes, winner, verdict, config.ack) {
+        count(nodes, &judgement);
     }
 }
 
 /// What a restart does to them.
-fn nodes_restarted(nodes: Nodes, iface: Iface) -> Nodes
-    ensures { result ≡ record nodes { counters = slice_set nodes.counters iface at_start } }
+fn note_restart(nodes: &mut Nodes, iface: Iface)
+    ensures { nodes.new ≡ record nodes.old { counters = slice_set nodes.old.counters iface at_start } }
 {
-    let mut counters = nodes.counters;
-    counters[iface.number() as usize] = Counters::zero();
-    Nodes { counters, ..nodes }
+    nodes.counters[iface.number() as usize] = Counters::zero();
 }
 
 /// What an entry does to them.
-fn nodes_after(config: BusConfig, entry: &Entry, nodes: Nodes) -> Nodes
-    ensures { (past : List Entry) → IsHistory config (entry.now ∷ past) → nodes ≡ kept_nodes config past → result ≡ kept_nodes config (entry.now ∷ past) }
+fn note(config: BusConfig, entry: &Entry, nodes: &mut Nodes)
+    ensures { Counts config entry.now.event entry.now.reply nodes.old nodes.new }
 {
     match &entry.event {
-        Event::Attempt(_, verdict) => match &entry.reply {
-            Reply::Tried(tried) => nodes_tried(config, nodes, tried.winner, *verdict),
-            _ => nodes,
-        },
-        Event::Restart(iface, _) => match &entry.reply {
-            Reply::Done => nodes_restarted(nodes, *iface),
-            _ => nodes,
-        },
-        _ => nodes,
+        Event::Attempt(_, verdict) => {
+            if let Reply::Tried(tried) = &entry.reply {
+                note_attempt(config, nodes, tried.winner, *verdict);
+            }
+        }
+        Event::Restart(iface, _) => {
+            if matches!(&entry.reply, Reply::Done) {
+                note_restart(nodes, *iface);
+            }
+        }
+        _ => {}
     }
 }
 
@@ -76,7 +79,7 @@ pub fn nodes_of(config: BusConfig, past: &[Entry]) -> Nodes
         counters: [Counters::zero(); 16],
     };
     for entry in past {
-        nodes = nodes_after(config, entry, nodes);
+        note(config, entry, &mut nodes);
     }
     nodes
 }

@@ -1,9 +1,12 @@
-ghost use Rattle.std.specs.Prelude.{◌≡◌, ◌≤◌, ◌++◌, ◌∷◌, ◌||◌, ◌&&◌, ◌==◌, reverse, IfOk};
+ghost use Rattle.std.specs.Prelude.{◌≡◌, ℕ, ◌++◌, ◌∷◌, ◌||◌, ◌&&◌, ◌==◌, reverse, IfOk};
 ghost use Rattle.can_frame.specs.Sets.{is_in};
-ghost use Rattle.can_attempt.specs.Attempts.{attempt_between, counts_after, judged};
+ghost use Rattle.can_attempt.specs.Attempts.{counts_after};
 ghost use Rattle.can_errframe.specs.ErrorMessages.{state_message};
-ghost use Rattle.can_bus.specs.Posts.{is_looped_back, role_at, fault_message_for, data_posts, error_posts, attempt_posts, posts_of, is_own};
+ghost use Rattle.can_bus.specs.Posts.{is_looped_back, role_at, fault_message_for, data_posts, error_posts, attempt_posts, restart_posts, posts_of, is_own};
 ghost use Rattle.can_bus.specs.Queues.{passing};
+ghost use Rattle.can_bus.specs.declared.events.Event.TheVariants as event;
+ghost use Rattle.can_bus.specs.declared.events.Reply.TheVariants as reply;
+ghost use Rattle.can_audit.specs.Attempted.{transmission_of, IsJudged};
 ghost use Rattle.can_audit.specs.Histories.{IsHistory};
 
 use crate::counters::{judgement_of, nodes_of};
@@ -68,9 +71,8 @@ fn is_posted(attempted: &Attempted, iface: Iface) -> bool
 
 /// The part that an interface has in the attempt: none where it is bus off.
 fn role_of(attempted: &Attempted, iface: Iface) -> Option<Role>
-    requires news { attempted.now.judgement ≡ judged (attempt_between attempted.now.nodes attempted.now.tried.winner attempted.now.verdict attempted.now.ack) }
-    requires few { attempted.now.nodes.count ≤ 16 }
-    ensures { result ≡ role_at (attempt_between attempted.now.nodes attempted.now.tried.winner attempted.now.verdict attempted.now.ack) iface }
+    requires { IsJudged attempted.now }
+    ensures { result ≡ role_at (transmission_of attempted.now) iface }
 {
     let place = iface.number();
     if place == attempted.tried.winner.number() {
@@ -90,9 +92,8 @@ fn role_of(attempted: &Attempted, iface: Iface) -> Option<Role>
 
 /// The error message frame of the attempt's fault, as an interface sees it.
 fn fault_at(attempted: &Attempted, iface: Iface) -> Option<ErrorFrame>
-    requires news { attempted.now.judgement ≡ judged (attempt_between attempted.now.nodes attempted.now.tried.winner attempted.now.verdict attempted.now.ack) }
-    requires few { attempted.now.nodes.count ≤ 16 }
-    ensures { result ≡ fault_message_for attempted.now.tried.class attempted.now.verdict (role_at (attempt_between attempted.now.nodes attempted.now.tried.winner attempted.now.verdict attempted.now.ack) iface) }
+    requires { IsJudged attempted.now }
+    ensures { result ≡ fault_message_for attempted.now.tried.class attempted.now.verdict (role_at (transmission_of attempted.now) iface) }
 {
     match role_of(attempted, iface) {
         Some(role) => fault_frame(attempted.tried.class, attempted.verdict, role),
@@ -101,13 +102,18 @@ fn fault_at(attempted: &Attempted, iface: Iface) -> Option<ErrorFrame>
 }
 
 /// The error message frame of a change of an interface's state.
-fn state_change_at(attempted: &Attempted, iface: Iface) -> Option<ErrorFrame> {
+fn state_change_at(attempted: &Attempted, iface: Iface) -> Option<ErrorFrame>
+    requires { IsJudged attempted.now }
+    ensures { result ≡ state_message ((transmission_of attempted.now).counts iface) (counts_after (transmission_of attempted.now) iface) }
+{
     let after = attempted.judgement.counters[iface.number() as usize];
     state_frame(attempted.nodes.counters_of(iface), after)
 }
 
 /// Adds the frame that was tried, where it comes to the interface.
-fn put_frame(posts: &mut Vec<Post>, attempted: &Attempted, iface: Iface) -> Result<(), AllocError> {
+fn put_frame(posts: &mut Vec<Post>, attempted: &Attempted, iface: Iface) -> Result<(), AllocError>
+    ensures { IfOk result (λ u. posts.new.items ≡ posts.old.items ++ data_posts iface attempted.now.tried attempted.now.pending) }
+{
     if is_posted(attempted, iface) {
         let tried = &attempted.tried;
         let sender = match attempted.pending {
@@ -155,7 +161,10 @@ fn attempt_posts(
     reporting: IfaceSet,
     attempted: &Attempted,
     iface: Iface,
-) -> Result<Vec<Post>, AllocError> {
+) -> Result<Vec<Post>, AllocError>
+    requires { IsJudged attempted.now }
+    ensures { IfOk result (λ ps. ps.items ≡ attempt_posts reporting (transmission_of attempted.now) attempted.now.tried attempted.now.pending iface) }
+{
     let moment = attempted.tried.moment;
     let mut posts = Vec::new(alloc);
     put_frame(&mut posts, attempted, iface)?;
@@ -174,7 +183,9 @@ fn tried_posts(
     iface: Iface,
     verdict: Verdict,
     tried: &Tried,
-) -> Result<Vec<Post>, AllocError> {
+) -> Result<Vec<Post>, AllocError>
+    ensures { (m : ℕ) → IsHistory config (record { event = event.Attempt m verdict; reply = reply.Tried tried.now } ∷ reverse past.now) → IfOk result (λ ps. ps.items ≡ posts_of config (reverse past.now) iface (event.Attempt m verdict) (reply.Tried tried.now)) }
+{
     let nodes = nodes_of(config, past);
     let Some(judgement) = judgement_of(&nodes, tried.winner, verdict, config.ack) else {
         return Ok(Vec::new(alloc));
@@ -197,7 +208,9 @@ fn restart_posts(
     restarted: Iface,
     moment: Moment,
     iface: Iface,
-) -> Result<Vec<Post>, AllocError> {
+) -> Result<Vec<Post>, AllocError>
+    ensures { IfOk result (λ ps. ps.items ≡ restart_posts restarted moment iface) }
+{
     let mut posts = Vec::new(alloc);
     if iface == restarted {
         put_error(&mut posts, iface, moment, Some(restart_frame()))?;

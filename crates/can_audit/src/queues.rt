@@ -132,7 +132,7 @@ pub fn arrivals_at(
 ///
 /// Of a record that no bus could have made, nothing is said.
 pub fn queued(alloc: Global, record: &Record, id: SocketId) -> Result<Vec<Received>, AllocError>
-    ensures { IsHistory record.now.config record.now.history → IfOk result (λ rs. rs.items ≡ queued_to record.now.config record.now.history id.0) }
+    ensures { IsHistory «record».now.config «record».now.history → IfOk result (λ rs. rs.items ≡ queued_to «record».now.config «record».now.history id.0) }
 {
     Ok(arrivals_at(alloc, record.config(), record.entries(), id)?.queued)
 }
@@ -142,7 +142,7 @@ pub fn queued(alloc: Global, record: &Record, id: SocketId) -> Result<Vec<Receiv
 ///
 /// Of a record that no bus could have made, nothing is said.
 pub fn candidates(alloc: Global, record: &Record, id: SocketId) -> Result<Vec<Received>, AllocError>
-    ensures { IsHistory record.now.config record.now.history → IfOk result (λ rs. rs.items ≡ candidates_for record.now.config record.now.history id.0) }
+    ensures { IsHistory «record».now.config «record».now.history → IfOk result (λ rs. rs.items ≡ candidates_for «record».now.config «record».now.history id.0) }
 {
     candidates_for(alloc, record.config(), record.entries(), id)
 }
@@ -166,7 +166,7 @@ pub fn projected(
     iface: Iface,
     id: SocketId,
 ) -> Result<Vec<Received>, AllocError>
-    ensures { IsHistory record.now.config record.now.history → IfOk result (λ rs. rs.items ≡ received_from record.now.config record.now.history iface id.0) }
+    ensures { IsHistory «record».now.config «record».now.history → IfOk result (λ rs. rs.items ≡ received_from «record».now.config «record».now.history iface id.0) }
 {
     let all = queued(alloc, record, id)?;
     let mut of_iface = Vec::new(alloc);

@@ -1,9 +1,11 @@
-ghost use Rattle.std.specs.Prelude.{◌≡◌, ◌≤◌, ◌<◌, ◌↔◌, IsTrue, [], reverse, length, IfOk, OnOk, Err};
+ghost use Rattle.std.specs.Prelude.{◌≡◌, ℕ, ◌≤◌, ◌<◌, ◌↔◌, IsTrue, [], ◌∷◌, ◌++◌, reverse, length, IfOk, OnOk, Err};
+ghost use Rattle.can_frame.specs.Frames.{CanFrame};
 ghost use Rattle.can_bus.specs.Journal.{IsConfig};
-ghost use Rattle.can_bus.specs.Legal.{legal_reply};
+ghost use Rattle.can_bus.specs.Legal.{legal_reply, if_open};
 ghost use Rattle.can_bus.specs.declared.events.Event.TheVariants as event;
+ghost use Rattle.can_bus.specs.declared.events.Reply.TheVariants as reply;
 ghost use Rattle.can_audit.specs.Histories.{IsHistory};
-ghost use Rattle.can_audit.specs.Replies.{replies_after};
+ghost use Rattle.can_audit.specs.Replies.{replies_after, reply_after, entries_after};
 
 use crate::attempts::attempt_reply;
 use crate::counters::nodes_of;
@@ -59,19 +61,24 @@ fn open_reply(
         return Ok(Reply::Refused(Refusal::BadCapacity));
     }
     let sockets = sockets_of(alloc, past)?;
-    if sockets.open.len() >= 64 {
+    if sockets.numbers.len() >= 64 {
         return Ok(Reply::Refused(Refusal::TooManySockets));
     }
     Ok(Reply::Opened(SocketId(sockets.places.len() as u32)))
 }
 
-/// The reply of a close, on an open socket.
+/// The reply of a close.
 fn close_reply(
     alloc: Global,
     config: BusConfig,
     past: &[Entry],
     id: SocketId,
-) -> Result<Reply, AllocError> {
+) -> Result<Reply, AllocError>
+    ensures { IsHistory config (reverse past.now) → IfOk result (λ r. r ≡ legal_reply config (reverse past.now) (event.Close id)) }
+{
+    if !sockets_of(alloc, past)?.is_open(id) {
+        return Ok(Reply::Refused(Refusal::NoSocket));
+    }
     let arrivals = arrivals_at(alloc, config, past, id)?;
     let taken = taken_from(alloc, past, id)?.len();
     Ok(Reply::Closed(Closed {
@@ -80,13 +87,30 @@ fn close_reply(
     }))
 }
 
-/// The reply of a send, on an open socket of this interface.
+/// The reply of an event that sets the filters or an option of a socket.
+fn set_reply(alloc: Global, past: &[Entry], id: SocketId) -> Result<Reply, AllocError>
+    ensures { IfOk result (λ r. r ≡ if_open (reverse past.now) id.0 reply.Done) }
+{
+    if !sockets_of(alloc, past)?.is_open(id) {
+        return Ok(Reply::Refused(Refusal::NoSocket));
+    }
+    Ok(Reply::Done)
+}
+
+/// The reply of a send.
 fn send_reply(
     alloc: Global,
     config: BusConfig,
     past: &[Entry],
-    iface: Iface,
-) -> Result<Reply, AllocError> {
+    id: SocketId,
+) -> Result<Reply, AllocError>
+    ensures { (f : CanFrame) → IsHistory config (reverse past.now) → IfOk result (λ r. r ≡ legal_reply config (reverse past.now) (event.Send id f)) }
+{
+    let sockets = sockets_of(alloc, past)?;
+    if !sockets.is_open(id) {
+        return Ok(Reply::Refused(Refusal::NoSocket));
+    }
+    let iface = sockets.iface_of(id);
     if nodes_of(config, past).is_off(iface) {
         return Ok(Reply::Refused(Refusal::BusOff));
     }
@@ -98,20 +122,27 @@ fn send_reply(
     Ok(Reply::Sent(sent as u64))
 }
 
-/// The reply of a receive, on an open socket.
+/// The reply of a receive.
 fn receive_reply(
     alloc: Global,
     config: BusConfig,
     past: &[Entry],
     id: SocketId,
-) -> Result<Reply, AllocError> {
+) -> Result<Reply, AllocError>
+    ensures { IsHistory config (reverse past.now) → IfOk result (λ r. r ≡ legal_reply config (reverse past.now) (event.Receive id)) }
+{
+    if !sockets_of(alloc, past)?.is_open(id) {
+        return Ok(Reply::Refused(Refusal::NoSocket));
+    }
     let arrivals = arrivals_at(alloc, config, past, id)?;
     let taken = taken_from(alloc, past, id)?.len();
     Ok(Reply::Received(arrivals.queued.get(taken).copied()))
 }
 
 /// The reply of a restart.
-fn restart_reply(config: BusConfig, past: &[Entry], iface: Iface) -> Reply {
+fn restart_reply(config: BusConfig, past: &[Entry], iface: Iface) -> Reply
+    ensures { (m : ℕ) → IsHistory config (reverse past.now) → result ≡ legal_reply config (reverse past.now) (event.Restart iface m) }
+{
     if iface.number() >= config.ifaces {
         return Reply::Refused(Refusal::NoInterface);
     }
@@ -119,26 +150,6 @@ fn restart_reply(config: BusConfig, past: &[Entry], iface: Iface) -> Reply {
         Reply::Done
     } else {
         Reply::Refused(Refusal::NotBusOff)
-    }
-}
-
-/// The reply of an event on an open socket.
-fn socket_reply(
-    alloc: Global,
-    config: BusConfig,
-    past: &[Entry],
-    id: SocketId,
-    event: &Event,
-) -> Result<Reply, AllocError> {
-    let sockets = sockets_of(alloc, past)?;
-    if !sockets.is_open(id) {
-        return Ok(Reply::Refused(Refusal::NoSocket));
-    }
-    match event {
-        Event::Close(_) => close_reply(alloc, config, past, id),
-        Event::Send(_, _) => send_reply(alloc, config, past, sockets.iface_of(id)),
-        Event::Receive(_) => receive_reply(alloc, config, past, id),
-        _ => Ok(Reply::Done),
     }
 }
 
@@ -154,13 +165,13 @@ fn legal_reply(
 {
     match event {
         Event::Open(iface, capacity) => open_reply(alloc, config, past, *iface, *capacity),
+        Event::Close(id) => close_reply(alloc, config, past, *id),
+        Event::SetFilters(id, _) => set_reply(alloc, past, *id),
+        Event::SetOption(id, _) => set_reply(alloc, past, *id),
+        Event::Send(id, _) => send_reply(alloc, config, past, *id),
+        Event::Receive(id) => receive_reply(alloc, config, past, *id),
         Event::Attempt(moment, verdict) => { attempt_reply(alloc, config, past, *moment, *verdict) }
         Event::Restart(iface, _) => Ok(restart_reply(config, past, *iface)),
-        Event::Close(id)
-        | Event::SetFilters(id, _)
-        | Event::SetOption(id, _)
-        | Event::Send(id, _)
-        | Event::Receive(id) => socket_reply(alloc, config, past, *id, event),
     }
 }
 
@@ -180,21 +191,32 @@ fn copy_of(alloc: Global, event: &Event) -> Result<Event, AllocError>
     })
 }
 
+/// Adds an event with its reply.
+fn note(past: &mut Vec<Entry>, event: Event, reply: Reply) -> Result<(), AllocError>
+    ensures { IfOk result (λ u. past.new.items ≡ past.old.items ++ record { event = event; reply = reply } ∷ []) }
+{
+    // The checker has to meet the types inside a reply before a vector takes one.
+    let _types: Option<(Item, Received)> = None;
+    past.push(Entry { event, reply })?;
+    Ok(())
+}
+
 /// Answers one event, and adds it to the entries unless there are as many as the limit.
 fn answer(
     alloc: Global,
     config: BusConfig,
     past: &mut Vec<Entry>,
     event: &Event,
-) -> Result<Reply, AllocError> {
-    // The checker has to meet the types inside a reply before a vector takes one.
-    let _types: Option<(Item, Received)> = None;
+) -> Result<Reply, AllocError>
+    requires { IsHistory config (reverse past.old.items) }
+    ensures reply { IfOk result (λ r. r ≡ reply_after config (reverse past.old.items) event.now) }
+    ensures entries { IfOk result (λ r. reverse past.new.items ≡ entries_after config (reverse past.old.items) event.now) }
+{
     if past.len() >= config.limit as usize {
         return Ok(Reply::Refused(Refusal::RecordFull));
     }
     let reply = legal_reply(alloc, config, past, event)?;
-    let event = copy_of(alloc, event)?;
-    past.push(Entry { event, reply })?;
+    note(past, copy_of(alloc, event)?, reply)?;
     Ok(reply)
 }
 

@@ -1,4 +1,4 @@
-ghost use Rattle.std.specs.Prelude.{◌≡◌, reverse, slice_get, IfOk};
+ghost use Rattle.std.specs.Prelude.{◌≡◌, ◌==◌, not, filter, reverse, length, slice_get, IfOk};
 ghost use Rattle.std.specs.List.{list_any};
 ghost use Rattle.can_bus.specs.Sockets.{places, places_after, open_sockets, open_after, is_open, iface_in, capacity_in, with_option, options_of, options_after, filters_of, filters_after};
 
@@ -31,7 +31,7 @@ impl Model for Place {
 #[derive(Drop)]
 pub struct Sockets {
     pub places: Vec<Place>,
-    pub open: Vec<usize>,
+    pub numbers: Vec<usize>,
 }
 
 /// Interface 0.
@@ -51,9 +51,9 @@ impl Sockets {
 
     /// Whether the socket was opened and not closed.
     pub fn is_open(&self, id: SocketId) -> bool
-        ensures { result ≡ list_any (λ k. k == id.0) self.now.open.items }
+        ensures { result ≡ list_any (λ k. k == id.0) self.now.numbers.items }
     {
-        self.open.iter().any(|number| *number == id.0 as usize)
+        self.numbers.iter().any(|number| *number == id.0 as usize)
     }
 
     /// The interface that the socket was opened on.
@@ -77,27 +77,33 @@ impl Sockets {
     }
 }
 
+/// Takes a number out.
+fn take_out(numbers: &mut Vec<usize>, closed: usize)
+    ensures { numbers.new.items ≡ filter (λ k. not (k == closed)) numbers.old.items }
+{
+    numbers.retain(|number| *number != closed);
+}
+
 /// What an entry does to the sockets.
 fn note(sockets: &mut Sockets, entry: &Entry) -> Result<(), AllocError>
     ensures places { IfOk result (λ u. sockets.new.places.items ≡ places_after entry.now.event entry.now.reply sockets.old.places.items) }
-    ensures open { IfOk result (λ u. sockets.new.open.items ≡ open_after (length sockets.old.places.items) entry.now.event entry.now.reply sockets.old.open.items) }
+    ensures open { IfOk result (λ u. sockets.new.numbers.items ≡ open_after (length sockets.old.places.items) entry.now.event entry.now.reply sockets.old.numbers.items) }
 {
     match &entry.event {
         Event::Open(iface, capacity) => {
-            if matches!(&entry.reply, Reply::Opened(_)) {
+            if let Reply::Opened(_) = &entry.reply {
                 let number = sockets.places.len();
                 let place = Place {
                     iface: *iface,
                     capacity: *capacity,
                 };
                 sockets.places.push(place)?;
-                sockets.open.push(number)?;
+                sockets.numbers.push(number)?;
             }
         }
         Event::Close(id) => {
-            if matches!(&entry.reply, Reply::Closed(_)) {
-                let closed = id.0 as usize;
-                sockets.open.retain(|number| *number != closed);
+            if let Reply::Closed(_) = &entry.reply {
+                take_out(&mut sockets.numbers, id.0 as usize);
             }
         }
         _ => {}
@@ -108,11 +114,11 @@ fn note(sockets: &mut Sockets, entry: &Entry) -> Result<(), AllocError>
 /// The sockets after these entries, the oldest first.
 pub fn sockets_of(alloc: Global, past: &[Entry]) -> Result<Sockets, AllocError>
     ensures places { IfOk result (λ s. s.places.items ≡ places (reverse past.now)) }
-    ensures open { IfOk result (λ s. s.open.items ≡ open_sockets (reverse past.now)) }
+    ensures open { IfOk result (λ s. s.numbers.items ≡ open_sockets (reverse past.now)) }
 {
     let mut sockets = Sockets {
         places: Vec::new(alloc),
-        open: Vec::new(alloc),
+        numbers: Vec::new(alloc),
     };
     for entry in past {
         note(&mut sockets, entry)?;

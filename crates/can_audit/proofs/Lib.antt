@@ -1,0 +1,3 @@
+pub mod Before
+pub mod Counting
+pub mod Passing
