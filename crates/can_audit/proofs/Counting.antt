@@ -1,4 +1,4 @@
-use Rattle.std.proofs.Common.{◌≡◌, ◌≢◌, ℕ, ◌<◌, ◌≤◌, ◌==◌, nat_le, Bool, true, false, if◌then◌else◌, List, [], ◌∷◌, ◌++◌, length, map, slice_set, inl, inr, refl, sym, ap, ◌∙◌, subst, arith}
+use Rattle.std.proofs.Common.{◌≡◌, ◌≢◌, ℕ, ◌+◌, ◌<◌, ◌≤◌, ◌==◌, nat_le, Bool, true, false, if◌then◌else◌, List, [], ◌∷◌, ◌++◌, length, map, get_or, slice_set, inl, inr, refl, sym, ap, ◌∙◌, subst, arith}
 use mathlib.Core.Path.{fun_ext}
 use Rattle.std.specs.List.{range_with_len}
 use Rattle.std.proofs.lemmas.Bool.{eq-eqb, ne_eqb, cond-true, cond-false, cases_lt, leb-false}
@@ -24,8 +24,9 @@ use Rattle.can_bus.proofs.KeyFacts.{sixteen-one}
 use Rattle.can_bus.proofs.Lawful.{WasTried, by_attempt, was_tried}
 use Rattle.can_bus.proofs.NodeFacts.{counts_at-kept}
 use Rattle.can_bus.proofs.OffFacts.{all_stepped-append, counts-beyond, winner-contends}
+use Rattle.can_audit.proofs.Before.{before_more}
 use Rattle.can_audit.specs.Counted.{Counts}
-use Rattle.can_audit.specs.Histories.{IsHistory}
+use Rattle.can_audit.specs.Histories.{before, IsHistory}
 
 -- The error counts of all interfaces, one entry after another.
 
@@ -133,3 +134,27 @@ counted-kept c past (Send s f) _ old new h law are counted = counted ∙ are
 counted-kept c past (Receive s) _ old new h law are counted = counted ∙ are
 counted-kept c past (Attempt m v) _ old new h law are counted = counted ∙ are
 counted-kept c past (Restart i m) _ old new h law are counted = counted ∙ are
+
+-- ---- one entry after another
+
+pub counts-as : (c : BusConfig) (e : Event) (r : Reply) (old new : Nodes) (m : ℕ) (v : Verdict) (t : Tried) → e ≡ Attempt m v → r ≡ reply.Tried t → Counts c (Attempt m v) (reply.Tried t) old new → Counts c e r old new
+counts-as c e r old new m v t event_is reply_is counted =
+    subst (λ (k : Event). Counts c k r old new) (sym event_is) (subst (λ (k : Reply). Counts c (Attempt m v) k old new) (sym reply_is) counted)
+
+abbrev all_at : BusConfig → ErrorCounts → Nodes
+all_at c z = record { count = c.ifaces; counters = z ∷ z ∷ z ∷ z ∷ z ∷ z ∷ z ∷ z ∷ z ∷ z ∷ z ∷ z ∷ z ∷ z ∷ z ∷ z ∷ [] }
+
+pub first-nodes : (c : BusConfig) (z : ErrorCounts) → z ≡ at_start → all_at c z ≡ kept_nodes c []
+unfolding kept_nodes
+first-nodes c z is = ap (all_at c) is
+
+pub counted_more : (c : BusConfig) (es : List Entry) (k : ℕ) (e : Entry) (old new : Nodes) → k < length es → e ≡ get_or es k e → (IsHistory c (before es k) → old ≡ kept_nodes c (before es k)) → Counts c e.event e.reply old new → IsHistory c (before es (k + 1)) → new ≡ kept_nodes c (before es (k + 1))
+counted_more c es k e old new lt read so_far counted h =
+    let more = before_more es k e lt read in
+    let here : IsHistory c (e ∷ before es k) = subst (IsHistory c) more h in
+    let past : IsHistory c (before es k) = earlier c e (before es k) here in
+    counted-kept c (before es k) e.event e.reply old new past here.legal.1 (so_far past) counted ∙ ap (kept_nodes c) (sym more)
+
+-- whether an interface is bus off, as it is kept
+pub off-kept : (c : BusConfig) (past : List Entry) (nodes : Nodes) (i : ℕ) (off : Bool) → i < 16 → nodes ≡ kept_nodes c past → off ≡ is_off (state_of (counts_at nodes i)) → off ≡ is_off (state_at c past i)
+off-kept c past nodes i off few are is = is ∙ ap (λ (n : Nodes). is_off (state_of (counts_at n i))) are ∙ ap (λ (k : ErrorCounts). is_off (state_of k)) (counts_at-kept c past i few)

@@ -1,4 +1,6 @@
-ghost use Rattle.std.specs.Prelude.{◌≡◌, reverse, IfOk};
+ghost use Rattle.std.specs.Prelude.{◌≡◌, reverse, slice_set, IfOk, IfSome, IfNone};
+ghost use Rattle.can_arbiter.specs.Keys.{IsWinner, IsIdle};
+ghost use Rattle.can_bus.specs.State.{key_in, kept_keys};
 ghost use Rattle.can_bus.specs.Attempts.{winner, attempt_reply};
 ghost use Rattle.can_bus.specs.declared.events.Reply.TheVariants as reply;
 ghost use Rattle.can_audit.specs.Histories.{IsHistory};
@@ -14,20 +16,37 @@ use std::alloc::{AllocError, Global};
 
 // What an attempt answers, by the entries before it.
 
-/// The interface that wins the bus, if one has a frame to send. One that is bus off has none.
-fn winner(alloc: Global, config: BusConfig, past: &[Entry]) -> Result<Option<Iface>, AllocError>
-    ensures { IsHistory config (reverse past.now) → IfOk result (λ w. w ≡ winner config (reverse past.now)) }
+/// Tells an arbiter the frame that an interface competes with, if any.
+fn compete<A: Arbiter>(arbiter: &mut A, iface: Iface, head: Option<Pending>)
+    ensures { A.keys_of arbiter.new ≡ slice_set (A.keys_of arbiter.old) iface (key_in head) }
 {
-    let mut arbiter = ScanArbiter::new();
+    match head {
+        Some(pending) => arbiter.set(iface, pending.frame.arbitration_key()),
+        None => arbiter.clear(iface),
+    }
+}
+
+/// The interface whose frame goes first. One that is bus off has no frame to send.
+fn first_of<A: Arbiter>(alloc: Global, past: &[Entry]) -> Result<Option<Iface>, AllocError>
+    ensures first { IfOk result (λ w. IfSome w (λ i. IsWinner (kept_keys (reverse past.now)) i)) }
+    ensures none { IfOk result (λ w. IfNone w (IsIdle (kept_keys (reverse past.now)))) }
+{
+    let mut arbiter = A::new();
     for place in 0..16u8 {
-        let Some(iface) = Iface::new(place) else {
-            break;
-        };
-        if let Some(pending) = head_of(alloc, past, iface)? {
-            arbiter.set(iface, pending.frame.arbitration_key());
+        if let Some(iface) = Iface::new(place) {
+            let head = head_of(alloc, past, iface)?;
+            compete(&mut arbiter, iface, head);
         }
     }
     Ok(arbiter.winner())
+}
+
+/// The interface that wins the bus, if one has a frame to send.
+fn winner(alloc: Global, config: BusConfig, past: &[Entry]) -> Result<Option<Iface>, AllocError>
+    ensures { IsHistory config (reverse past.now) → IfOk result (λ w. w ≡ winner config (reverse past.now)) }
+{
+    let _limit = config.limit;
+    first_of::<ScanArbiter>(alloc, past)
 }
 
 /// The answer of an attempt that was judged.

@@ -1,4 +1,4 @@
-ghost use Rattle.std.specs.Prelude.{◌≡◌, ◌<◌, ◌≤◌, reverse, slice_set, false, Some};
+ghost use Rattle.std.specs.Prelude.{◌≡◌, ◌<◌, ◌≤◌, reverse, slice_set, false, Some, IfSome};
 ghost use Rattle.can_confine.specs.Confinement.{is_off, state_of, at_start};
 ghost use Rattle.can_attempt.specs.Attempts.{counts_at, attempt_between, judged};
 ghost use Rattle.can_bus.specs.State.{kept_nodes};
@@ -20,7 +20,8 @@ pub fn judgement_of(
     verdict: Verdict,
     ack: AckMode,
 ) -> Option<Judgement>
-    ensures { nodes.now.count ≤ 16 → winner < nodes.now.count → is_off (state_of (counts_at nodes.now winner)) ≡ false → result ≡ Some (judged (attempt_between nodes.now winner verdict ack)) }
+    ensures some { IfSome result (λ j. (j ≡ judged (attempt_between nodes.now winner verdict ack)) × (nodes.now.count ≤ 16)) }
+    ensures live { nodes.now.count ≤ 16 → winner < nodes.now.count → is_off (state_of (counts_at nodes.now winner)) ≡ false → result ≡ Some (judged (attempt_between nodes.now winner verdict ack)) }
 {
     if nodes.count > 16 || winner.number() >= nodes.count || nodes.is_off(winner) {
         return None;

@@ -10,7 +10,7 @@ ghost use Rattle.can_audit.specs.Attempted.{transmission_of, IsJudged};
 ghost use Rattle.can_audit.specs.Histories.{IsHistory};
 
 use crate::counters::{judgement_of, nodes_of};
-use crate::transmit::sent_by;
+use crate::transmit::{frame_at, sent_by};
 use can_attempt::{AckMode, Class, Judgement, Nodes};
 use can_bus::{BusConfig, Entry, Event, Pending, Received, Reply, SocketId, Tried};
 use can_errframe::{Role, fault_frame, restart_frame, state_frame};
@@ -193,7 +193,7 @@ fn tried_posts(
     let sent = sent_by(alloc, past, tried.winner)?;
     let attempted = Attempted {
         tried: *tried,
-        pending: sent.get(tried.number as usize).copied(),
+        pending: frame_at(&sent, tried.number as usize),
         verdict,
         ack: config.ack,
         nodes,

@@ -1,4 +1,4 @@
-ghost use Rattle.std.specs.Prelude.{◌≡◌, ◌+◌, ◌<◌, ◌≤◌, ◌^◌, reverse, length, IfOk};
+ghost use Rattle.std.specs.Prelude.{◌≡◌, ◌+◌, ◌<◌, ◌≤◌, ◌^◌, reverse, length, slice_get, IfOk};
 ghost use Rattle.can_bus.specs.Transmit.{sent_by, sent_after, gone_count, gone_after, head_of};
 
 use crate::sockets::{options_of, sockets_of};
@@ -86,11 +86,18 @@ pub fn gone_count(alloc: Global, past: &[Entry], iface: Iface) -> Result<usize, 
     Ok(gone)
 }
 
+/// The frame with this number, if there is one.
+pub fn frame_at(sent: &[Pending], number: usize) -> Option<Pending>
+    ensures { result ≡ slice_get sent.now number }
+{
+    sent.get(number).copied()
+}
+
 /// The oldest frame in the transmit queue of an interface.
 pub fn head_of(alloc: Global, past: &[Entry], iface: Iface) -> Result<Option<Pending>, AllocError>
     ensures { IfOk result (λ p. p ≡ head_of (reverse past.now) iface) }
 {
     let gone = gone_count(alloc, past, iface)?;
     let sent = sent_by(alloc, past, iface)?;
-    Ok(sent.get(gone).copied())
+    Ok(frame_at(&sent, gone))
 }

@@ -1,0 +1,7 @@
+use Rattle.can_audit.proofs.queues.arrivals_at.Goals as goal
+
+pub loop-k-preserved : goal.loop-k-preserved
+loop-k-preserved c = ?
+
+pub returns : goal.returns
+returns c = ?
