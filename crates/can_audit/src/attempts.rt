@@ -1,4 +1,4 @@
-ghost use Rattle.std.specs.Prelude.{◌≡◌, reverse, slice_set, IfOk, IfSome, IfNone};
+ghost use Rattle.std.specs.Prelude.{◌≡◌, reverse, slice_set, IfOk, IfSome, IsNone};
 ghost use Rattle.can_arbiter.specs.Keys.{IsWinner, IsIdle};
 ghost use Rattle.can_bus.specs.State.{key_in, kept_keys};
 ghost use Rattle.can_bus.specs.Attempts.{winner, attempt_reply};
@@ -6,6 +6,7 @@ ghost use Rattle.can_bus.specs.declared.events.Reply.TheVariants as reply;
 ghost use Rattle.can_audit.specs.Histories.{IsHistory};
 
 use crate::counters::{judgement_of, nodes_of};
+use crate::sockets::iface_at;
 use crate::transmit::{gone_count, head_of};
 use can_arbiter::{Arbiter, ScanArbiter};
 use can_attempt::Judgement;
@@ -29,14 +30,13 @@ fn compete<A: Arbiter>(arbiter: &mut A, iface: Iface, head: Option<Pending>)
 /// The interface whose frame goes first. One that is bus off has no frame to send.
 fn first_of<A: Arbiter>(alloc: Global, past: &[Entry]) -> Result<Option<Iface>, AllocError>
     ensures first { IfOk result (λ w. IfSome w (λ i. IsWinner (kept_keys (reverse past.now)) i)) }
-    ensures none { IfOk result (λ w. IfNone w (IsIdle (kept_keys (reverse past.now)))) }
+    ensures none { IfOk result (λ w. IsNone w → IsIdle (kept_keys (reverse past.now))) }
 {
     let mut arbiter = A::new();
     for place in 0..16u8 {
-        if let Some(iface) = Iface::new(place) {
-            let head = head_of(alloc, past, iface)?;
-            compete(&mut arbiter, iface, head);
-        }
+        let iface = iface_at(place);
+        let head = head_of(alloc, past, iface)?;
+        compete(&mut arbiter, iface, head);
     }
     Ok(arbiter.winner())
 }
@@ -46,7 +46,8 @@ fn winner(alloc: Global, config: BusConfig, past: &[Entry]) -> Result<Option<Ifa
     ensures { IsHistory config (reverse past.now) → IfOk result (λ w. w ≡ winner config (reverse past.now)) }
 {
     let _limit = config.limit;
-    first_of::<ScanArbiter>(alloc, past)
+    let first = first_of::<ScanArbiter>(alloc, past)?;
+    Ok(first)
 }
 
 /// The answer of an attempt that was judged.

@@ -187,8 +187,9 @@ fn tried_posts(
     ensures { (m : ℕ) → IsHistory config (record { event = event.Attempt m verdict; reply = reply.Tried tried.now } ∷ reverse past.now) → IfOk result (λ ps. ps.items ≡ posts_of config (reverse past.now) iface (event.Attempt m verdict) (reply.Tried tried.now)) }
 {
     let nodes = nodes_of(config, past);
-    let Some(judgement) = judgement_of(&nodes, tried.winner, verdict, config.ack) else {
-        return Ok(Vec::new(alloc));
+    let judgement = match judgement_of(&nodes, tried.winner, verdict, config.ack) {
+        Some(judgement) => judgement,
+        None => return Ok(Vec::new(alloc)),
     };
     let sent = sent_by(alloc, past, tried.winner)?;
     let attempted = Attempted {

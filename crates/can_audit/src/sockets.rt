@@ -1,4 +1,4 @@
-ghost use Rattle.std.specs.Prelude.{◌≡◌, ◌==◌, not, filter, reverse, length, slice_get, IfOk};
+ghost use Rattle.std.specs.Prelude.{◌≡◌, ◌<◌, ◌==◌, not, filter, reverse, length, slice_get, IfOk};
 ghost use Rattle.std.specs.List.{list_any};
 ghost use Rattle.can_bus.specs.Sockets.{places, places_after, open_sockets, open_after, is_open, iface_in, capacity_in, with_option, options_of, options_after, filters_of, filters_after};
 
@@ -34,11 +34,12 @@ pub struct Sockets {
     pub numbers: Vec<usize>,
 }
 
-/// Interface 0.
-fn first_iface() -> Iface
-    ensures { result ≡ 0 }
+/// The interface of this number.
+pub fn iface_at(number: u8) -> Iface
+    requires { number < 16 }
+    ensures { result ≡ number }
 {
-    match Iface::new(0) {
+    match Iface::new(number) {
         Some(iface) => iface,
         None => unreachable!(),
     }
@@ -62,7 +63,7 @@ impl Sockets {
     {
         match self.places.get(id.0 as usize) {
             Some(place) => place.iface,
-            None => first_iface(),
+            None => iface_at(0),
         }
     }
 
