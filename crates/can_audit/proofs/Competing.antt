@@ -1,7 +1,7 @@
 use Rattle.std.proofs.Common.{◌≡◌, ◌≢◌, ℕ, ◌+◌, ◌<◌, List, length, map, get_or, reverse, slice_set, below_more, Option, Some, None, refl, sym, ap, ◌∙◌, subst, arith, IfSome}
 use Rattle.std.specs.List.{range_with_len}
 use Rattle.std.specs.Option.{IsNone}
-use Rattle.std.proofs.lemmas.List.{get_or-set_other, get_or-set_same}
+use Rattle.std.proofs.lemmas.List.{get_or-set_other, get_or-set_same, length-set}
 use Rattle.std.proofs.lemmas.List.FromFn.{fill_by_all}
 use Rattle.can_arbiter.specs.Keys.{IsWinner, IsIdle}
 use Rattle.can_confine.specs.Confinement.{state_of, is_off}
@@ -30,6 +30,9 @@ set_more f keys new i lt so_far is =
     below_more (λ k. get_or new k None ≡ f k) i
     (λ k h. let ne : k ≢ i = omega arith in ap (λ (ks : List (Option ℕ)). get_or ks k None) is ∙ get_or-set_other keys i k (f i) None ne ∙ so_far k h)
     (ap (λ (ks : List (Option ℕ)). get_or ks i None) is ∙ get_or-set_same keys i (f i) None lt)
+
+pub long_more : (keys new : List (Option ℕ)) (i : ℕ) (x : Option ℕ) → length keys ≡ 16 → new ≡ slice_set keys i x → length new ≡ 16
+long_more keys new i x long is = ap length is ∙ length-set keys i x ∙ long
 
 pub keys-are : (past : List Entry) (keys : List (Option ℕ)) → length keys ≡ 16 → ((k : ℕ) → k < 16 → get_or keys k None ≡ key_in (head_of past k)) → keys ≡ kept_keys past
 unfolding kept_keys

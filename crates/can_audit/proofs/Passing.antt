@@ -1,4 +1,5 @@
 use Rattle.std.proofs.Common.{◌≡◌, ℕ, ◌+◌, ◌<◌, Bool, true, false, List, [], ◌∷◌, ◌++◌, length, take, get_or, if◌then◌else◌, refl, sym, ap, ◌∙◌, append-nil}
+use Rattle.std.proofs.lemmas.Bool.{cond-true, cond-false}
 use Rattle.std.proofs.lemmas.List.{take_more}
 use Rattle.can_filter.specs.Filters.{CanFilter}
 use Rattle.can_filter.specs.Passing.{wants}
@@ -28,3 +29,10 @@ passing_more fs o s posts k p now new wanted lt read asked so_far stepped =
     choose : (b : Bool) → (if b then passing fs o s (take k posts) ++ p.received ∷ [] else passing fs o s (take k posts)) ≡ passing fs o s (take k posts) ++ (if b then p.received ∷ [] else [])
     choose true = refl
     choose false = sym (append-nil (passing fs o s (take k posts)))
+
+-- an item is put behind the others, or not
+pub pushed : (b : Bool) (xs new : List Received) (x : Received) → b ≡ true → new ≡ xs ++ x ∷ [] → new ≡ (if b then xs ++ x ∷ [] else xs)
+pushed b xs new x is_true is = is ∙ sym (cond-true b _ _ is_true)
+
+pub left_out : (b : Bool) (xs new : List Received) (x : Received) → b ≡ false → new ≡ xs → new ≡ (if b then xs ++ x ∷ [] else xs)
+left_out b xs new x is_false is = is ∙ sym (cond-false b _ _ is_false)

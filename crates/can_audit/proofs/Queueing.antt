@@ -1,14 +1,21 @@
 use Rattle.std.proofs.Common.{◌≡◌, ℕ, ◌+◌, ◌-◌, ◌<◌, ◌≤◌, Bool, true, false, List, [], ◌∷◌, ◌++◌, length, take, drop, get_or, filter, reverse, if◌then◌else◌, refl, sym, ap, ◌∙◌, subst, append-nil}
+use Rattle.std.proofs.lemmas.Bool.{cond-true, cond-false}
 use Rattle.std.proofs.lemmas.List.{take_more, take_all}
 use Rattle.std.proofs.lemmas.List.Elements.{filter-append}
 use Rattle.can_bus.specs.declared.events.BusConfig.{BusConfig}
 use Rattle.can_bus.specs.declared.events.Entry.{Entry}
+use Rattle.can_bus.specs.declared.events.Event.{Event}
+use Rattle.can_bus.specs.declared.events.Reply.{Reply}
 use Rattle.can_bus.specs.declared.events.Received.{Received}
-use Rattle.can_bus.specs.Queues.{candidates_of, candidates_for, taken_from, queued_to, dropped_at}
-use Rattle.can_bus.specs.Sockets.{capacity_of}
+use Rattle.can_filter.specs.Filters.{CanFilter}
+use Rattle.can_filter.specs.declared.socket_options.Options.{Options}
+use Rattle.can_bus.specs.Posts.{Post, posts_of}
+use Rattle.can_bus.specs.Queues.{passing, candidates_of, candidates_for, taken_from, queued_to, dropped_at}
+use Rattle.can_bus.specs.Sockets.{is_open, capacity_of, filters_of, options_of}
 use Rattle.can_audit.specs.Histories.{before, IsHistory}
 use Rattle.can_audit.proofs.Before.{before_more}
 use Rattle.can_audit.proofs.Counting.{earlier}
+use Rattle.can_audit.proofs.Replying.{IsOn}
 
 -- What reaches a socket, one entry after another.
 
@@ -48,6 +55,17 @@ dropped_more c es k s e room queued old more new r queued_are so_far is room_is 
     ∙ ap (λ (rs : List Received). rs ++ drop (room_at c past s) more) so_far
     ∙ ap (λ (rs : List Received). dropped_at c past s ++ drop (room_at c past s) rs) is
     ∙ ap (λ (h : List Entry). dropped_at c h s) (sym r.more)
+
+-- what an entry offers an open socket
+pub candidates-are : (c : BusConfig) (past : List Entry) (s : ℕ) (e : Event) (r : Reply) (i : ℕ) (fs : List CanFilter) (os : Options) (ps : List Post) → IsOn past s i → fs ≡ filters_of past s → os ≡ options_of past s → ps ≡ posts_of c past i e r → passing fs os s ps ≡ candidates_of c past s e r
+candidates-are c past s e r i fs os ps on filters_are options_are posts_are =
+    ap (λ (f : List CanFilter). passing f os s ps) filters_are
+    ∙ ap (λ (o : Options). passing (filters_of past s) o s ps) options_are
+    ∙ ap (passing (filters_of past s) (options_of past s) s) (posts_are ∙ ap (λ (k : ℕ). posts_of c past k e r) on.iface)
+    ∙ sym (cond-true (is_open past s) _ _ on.there)
+
+pub none-offered : (c : BusConfig) (past : List Entry) (s : ℕ) (e : Event) (r : Reply) → is_open past s ≡ false → [] ≡ candidates_of c past s e r
+none-offered c past s e r shut = sym (cond-false (is_open past s) _ _ shut)
 
 -- one item more is kept or not
 pub kept_more : (test : Received → Bool) (items : List Received) (k : ℕ) (x : Received) (is_kept : Bool) (old new : List Received) → k < length items → x ≡ get_or items k x → is_kept ≡ test x → old ≡ filter test (take k items) → new ≡ (if is_kept then old ++ x ∷ [] else old) → new ≡ filter test (take (k + 1) items)

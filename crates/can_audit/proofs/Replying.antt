@@ -24,6 +24,7 @@ use Rattle.can_bus.specs.Queues.{queued_to, dropped_at, taken_from}
 use Rattle.can_bus.specs.Sockets.{Place, places, open_sockets, is_open, iface_of, iface_in}
 use Rattle.can_bus.specs.State.{kept_nodes}
 use Rattle.can_bus.specs.Transmit.{sent_by, gone_count}
+use Rattle.can_bus.proofs.OffFacts.{is_open-iface}
 use Rattle.can_audit.proofs.Counting.{off-kept}
 use Rattle.can_audit.specs.Histories.{IsHistory}
 use Rattle.can_audit.specs.Replies.{reply_after, entries_after, replies_after}
@@ -33,8 +34,8 @@ use Rattle.can_audit.specs.Replies.{reply_after, entries_after, replies_after}
 -- ---- restarts
 
 pub restart-off : (c : BusConfig) (past : List Entry) (i m : ℕ) (nodes : Nodes) (off : Bool) → IsHistory c past → i < c.ifaces → nodes ≡ kept_nodes c past → off ≡ is_off (state_of (counts_at nodes i)) → off ≡ true → reply.Done ≡ legal_reply c past (event.Restart i m)
-restart-off c past i m nodes off h below are is yes =
-    let here : is_off (state_at c past i) ≡ true = sym (off-kept c past nodes i off (omega (arith, below, h.proper.few_ifaces)) are is) ∙ yes in
+restart-off c past i m nodes off h below are is is_true =
+    let here : is_off (state_at c past i) ≡ true = sym (off-kept c past nodes i off (omega (arith, below, h.proper.few_ifaces)) are is) ∙ is_true in
     sym (cond-false (nat_le c.ifaces i) _ _ (lt-leb c.ifaces i below) ∙ cond-true (is_off (state_at c past i)) _ _ here)
 
 pub restart-live : (c : BusConfig) (past : List Entry) (i m : ℕ) (nodes : Nodes) (off : Bool) → IsHistory c past → i < c.ifaces → nodes ≡ kept_nodes c past → off ≡ is_off (state_of (counts_at nodes i)) → off ≡ false → reply.Refused refusal.NotBusOff ≡ legal_reply c past (event.Restart i m)
@@ -68,10 +69,14 @@ pub record IsOn (past : List Entry) (s i : ℕ) : Type 0 where
   pub iface : i ≡ iface_of past s
 
 pub is-on : (past : List Entry) (numbers : List ℕ) (ps : List Place) (s i : ℕ) (found : Bool) → numbers ≡ open_sockets past → ps ≡ places past → found ≡ list_any (λ k. k == s) numbers → found ≡ true → i ≡ iface_in (slice_get ps s) → IsOn past s i
-is-on past numbers ps s i found numbers_are places_are is yes iface_is = record {
-  there = sym (opened past numbers s found numbers_are is) ∙ yes;
+is-on past numbers ps s i found numbers_are places_are is is_true iface_is = record {
+  there = sym (opened past numbers s found numbers_are is) ∙ is_true;
   iface = iface_is ∙ ap (λ (qs : List Place). iface_in (slice_get qs s)) places_are;
 }
+
+-- its interface is there
+few-on : (c : BusConfig) (past : List Entry) (s i : ℕ) → IsHistory c past → IsOn past s i → i < 16
+few-on c past s i h on = omega (arith, on.iface, is_open-iface c past h.legal s on.there, h.proper.few_ifaces)
 
 abbrev send_as : BusConfig → List Entry → ℕ → Reply
 send_as c past i = if is_off (state_at c past i) then reply.Refused refusal.BusOff else if length (sent_by past i) - gone_count past i == c.tx_capacity then reply.Refused refusal.NoBuffers else reply.Sent (length (sent_by past i))
@@ -79,9 +84,9 @@ send_as c past i = if is_off (state_at c past i) then reply.Refused refusal.BusO
 on-open : (c : BusConfig) (past : List Entry) (s : SocketId) (f : CanFrame) (i : ℕ) → IsOn past s.0 i → send_as c past i ≡ legal_reply c past (event.Send s f)
 on-open c past s f i on = ap (send_as c past) on.iface ∙ sym (cond-true (is_open past s.0) _ _ on.there)
 
-pub sent-off : (c : BusConfig) (past : List Entry) (s : SocketId) (f : CanFrame) (i : ℕ) (nodes : Nodes) (off : Bool) → i < 16 → IsOn past s.0 i → nodes ≡ kept_nodes c past → off ≡ is_off (state_of (counts_at nodes i)) → off ≡ true → reply.Refused refusal.BusOff ≡ legal_reply c past (event.Send s f)
-sent-off c past s f i nodes off few on are is yes =
-    let here : is_off (state_at c past i) ≡ true = sym (off-kept c past nodes i off few are is) ∙ yes in
+pub sent-off : (c : BusConfig) (past : List Entry) (s : SocketId) (f : CanFrame) (i : ℕ) (nodes : Nodes) (off : Bool) → IsHistory c past → IsOn past s.0 i → nodes ≡ kept_nodes c past → off ≡ is_off (state_of (counts_at nodes i)) → off ≡ true → reply.Refused refusal.BusOff ≡ legal_reply c past (event.Send s f)
+sent-off c past s f i nodes off h on are is is_true =
+    let here : is_off (state_at c past i) ≡ true = sym (off-kept c past nodes i off (few-on c past s.0 i h on) are is) ∙ is_true in
     sym (cond-true (is_off (state_at c past i)) _ _ here) ∙ on-open c past s f i on
 
 -- what is there to send, and how much of it has left
@@ -92,15 +97,15 @@ pub record IsQueue (past : List Entry) (i sent gone : ℕ) : Type 0 where
 waiting : (past : List Entry) (i sent gone n : ℕ) → IsQueue past i sent gone → n ≡ sent - gone → n ≡ length (sent_by past i) - gone_count past i
 waiting past i sent gone n queue is = is ∙ ap (λ (k : ℕ). k - gone) queue.sent_is ∙ ap (λ (k : ℕ). length (sent_by past i) - k) queue.gone_is
 
-pub sent-full : (c : BusConfig) (past : List Entry) (s : SocketId) (f : CanFrame) (i : ℕ) (nodes : Nodes) (off : Bool) (sent gone n : ℕ) → i < 16 → IsOn past s.0 i → nodes ≡ kept_nodes c past → off ≡ is_off (state_of (counts_at nodes i)) → off ≡ false → IsQueue past i sent gone → n ≡ sent - gone → n ≡ c.tx_capacity → reply.Refused refusal.NoBuffers ≡ legal_reply c past (event.Send s f)
-sent-full c past s f i nodes off sent gone n few on are is live queue room full =
-    let here : is_off (state_at c past i) ≡ false = sym (off-kept c past nodes i off few are is) ∙ live in
+pub sent-full : (c : BusConfig) (past : List Entry) (s : SocketId) (f : CanFrame) (i : ℕ) (nodes : Nodes) (off : Bool) (sent gone n : ℕ) → IsHistory c past → IsOn past s.0 i → nodes ≡ kept_nodes c past → off ≡ is_off (state_of (counts_at nodes i)) → off ≡ false → IsQueue past i sent gone → n ≡ sent - gone → n ≡ c.tx_capacity → reply.Refused refusal.NoBuffers ≡ legal_reply c past (event.Send s f)
+sent-full c past s f i nodes off sent gone n h on are is live queue room full =
+    let here : is_off (state_at c past i) ≡ false = sym (off-kept c past nodes i off (few-on c past s.0 i h on) are is) ∙ live in
     let is_full : (length (sent_by past i) - gone_count past i == c.tx_capacity) ≡ true = eq-eqb _ _ (sym (waiting past i sent gone n queue room) ∙ full) in
     sym (cond-false (is_off (state_at c past i)) _ _ here ∙ cond-true (length (sent_by past i) - gone_count past i == c.tx_capacity) _ _ is_full) ∙ on-open c past s f i on
 
-pub sent-taken : (c : BusConfig) (past : List Entry) (s : SocketId) (f : CanFrame) (i : ℕ) (nodes : Nodes) (off : Bool) (sent gone n : ℕ) → i < 16 → IsOn past s.0 i → nodes ≡ kept_nodes c past → off ≡ is_off (state_of (counts_at nodes i)) → off ≡ false → IsQueue past i sent gone → n ≡ sent - gone → n ≢ c.tx_capacity → reply.Sent sent ≡ legal_reply c past (event.Send s f)
-sent-taken c past s f i nodes off sent gone n few on are is live queue room free =
-    let here : is_off (state_at c past i) ≡ false = sym (off-kept c past nodes i off few are is) ∙ live in
+pub sent-taken : (c : BusConfig) (past : List Entry) (s : SocketId) (f : CanFrame) (i : ℕ) (nodes : Nodes) (off : Bool) (sent gone n : ℕ) → IsHistory c past → IsOn past s.0 i → nodes ≡ kept_nodes c past → off ≡ is_off (state_of (counts_at nodes i)) → off ≡ false → IsQueue past i sent gone → n ≡ sent - gone → n ≢ c.tx_capacity → reply.Sent sent ≡ legal_reply c past (event.Send s f)
+sent-taken c past s f i nodes off sent gone n h on are is live queue room free =
+    let here : is_off (state_at c past i) ≡ false = sym (off-kept c past nodes i off (few-on c past s.0 i h on) are is) ∙ live in
     let is_free : (length (sent_by past i) - gone_count past i == c.tx_capacity) ≡ false = ne_eqb _ _ (λ e. free (waiting past i sent gone n queue room ∙ e)) in
     ap (λ (k : ℕ). reply.Sent k) queue.sent_is
     ∙ sym (cond-false (is_off (state_at c past i)) _ _ here ∙ cond-false (length (sent_by past i) - gone_count past i == c.tx_capacity) _ _ is_free) ∙ on-open c past s f i on
@@ -129,7 +134,7 @@ entries-legal c past e h = when (nat_le c.limit (length past)) refl
   where
     when : (b : Bool) → nat_le c.limit (length past) ≡ b → IsHistory c (if b then past else record { event = e; reply = legal_reply c past e } ∷ past)
     when true full = h
-    when false room = record { proper = h.proper; legal = (leb-false c.limit (length past) room, (refl, h.legal)) }
+    when false room = record { proper = h.proper; legal = (leb-false c.limit (length past) room, refl, h.legal) }
 
 pub replies_more : (c : BusConfig) (past new : List Entry) (events : List Event) (k : ℕ) (e : Event) (r : Reply) (rs rs' all : List Reply) → k < length events → e ≡ get_or events k e → r ≡ reply_after c past e → new ≡ entries_after c past e → rs' ≡ rs ++ r ∷ [] → rs ++ replies_after c past (drop k events) ≡ all → rs' ++ replies_after c new (drop (k + 1) events) ≡ all
 unfolding replies_after

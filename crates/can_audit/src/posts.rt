@@ -1,4 +1,5 @@
 ghost use Rattle.std.specs.Prelude.{◌≡◌, ℕ, ◌++◌, ◌∷◌, ◌||◌, ◌&&◌, ◌==◌, reverse, IfOk};
+ghost use Rattle.can_filter.specs.Passing.{wants};
 ghost use Rattle.can_frame.specs.Sets.{is_in};
 ghost use Rattle.can_attempt.specs.Attempts.{counts_after};
 ghost use Rattle.can_errframe.specs.ErrorMessages.{state_message};
@@ -252,6 +253,20 @@ fn is_own(post: &Post, id: SocketId) -> bool
     }
 }
 
+/// The item of a post.
+fn item_of(post: &Post) -> Received
+    ensures { result ≡ post.now.received }
+{
+    post.received
+}
+
+/// Whether a post passes these filters and options.
+fn is_wanted(filters: &FilterSet, options: &Options, id: SocketId, post: &Post) -> bool
+    ensures { result ≡ wants filters.now options.now post.now.received.item (is_own post.now.sender id.0) }
+{
+    wants(filters, options, &post.received.item, is_own(post, id))
+}
+
 /// The posts that pass these filters and options.
 pub fn passing(
     alloc: Global,
@@ -264,8 +279,8 @@ pub fn passing(
 {
     let mut passed = Vec::new(alloc);
     for post in posts {
-        if wants(filters, options, &post.received.item, is_own(post, id)) {
-            passed.push(post.received)?;
+        if is_wanted(filters, options, id, post) {
+            passed.push(item_of(post))?;
         }
     }
     Ok(passed)

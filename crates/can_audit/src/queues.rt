@@ -1,4 +1,4 @@
-ghost use Rattle.std.specs.Prelude.{◌≡◌, ◌+◌, ◌-◌, ◌++◌, ◌∷◌, reverse, length, take, drop, IfOk};
+ghost use Rattle.std.specs.Prelude.{◌≡◌, ◌+◌, ◌-◌, ◌++◌, ◌∷◌, reverse, length, slice_get, take, drop, IfOk};
 ghost use Rattle.can_bus.specs.Copies.{is_from, received_from};
 ghost use Rattle.can_bus.specs.Queues.{candidates_of, candidates_for, taken_from, taken_after, queued_to, dropped_at};
 ghost use Rattle.can_bus.specs.Sockets.{capacity_of};
@@ -104,6 +104,13 @@ fn admit(arrivals: &mut Arrivals, room: u128, candidates: &[Received]) -> Result
     arrivals.queued.extend_from_slice(&candidates[..fit])?;
     arrivals.dropped.extend_from_slice(&candidates[fit..])?;
     Ok(())
+}
+
+/// The item at this place, if there is one.
+pub fn item_at(items: &[Received], place: usize) -> Option<Received>
+    ensures { result ≡ slice_get items.now place }
+{
+    items.get(place).copied()
 }
 
 /// What found room on a socket, and what did not, in order.

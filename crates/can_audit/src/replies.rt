@@ -9,7 +9,7 @@ ghost use Rattle.can_audit.specs.Replies.{replies_after, reply_after, entries_af
 
 use crate::attempts::attempt_reply;
 use crate::counters::nodes_of;
-use crate::queues::{arrivals_at, taken_from};
+use crate::queues::{arrivals_at, item_at, taken_from};
 use crate::sockets::sockets_of;
 use crate::transmit::{gone_count, sent_by};
 use can_bus::{BusConfig, Closed, Entry, Event, Received, Refusal, Reply, SocketId};
@@ -136,7 +136,7 @@ fn receive_reply(
     }
     let arrivals = arrivals_at(alloc, config, past, id)?;
     let taken = taken_from(alloc, past, id)?.len();
-    Ok(Reply::Received(arrivals.queued.get(taken).copied()))
+    Ok(Reply::Received(item_at(&arrivals.queued, taken)))
 }
 
 /// The reply of a restart.
