@@ -1,0 +1,16 @@
+use Rattle.std.specs.Prelude.{ℕ, List, take, reverse}
+use Rattle.can_bus.specs.declared.events.BusConfig.{BusConfig}
+use Rattle.can_bus.specs.declared.events.Entry.{Entry}
+use Rattle.can_bus.specs.Journal.{IsConfig}
+use Rattle.can_bus.specs.Legal.{IsLegal}
+
+-- Lists of entries, the oldest first, read as histories, the newest first.
+
+-- the history of the first k entries
+abbrev pub before : List Entry → ℕ → List Entry
+before entries k = reverse (take k entries)
+
+-- a history that a bus of this configuration can have
+pub record IsHistory (c : BusConfig) (past : List Entry) : Type 0 where
+  pub proper : IsConfig c
+  pub legal : IsLegal c past

@@ -1,0 +1,4 @@
+pub mod Attempted
+pub mod Counted
+pub mod Histories
+pub mod Replies

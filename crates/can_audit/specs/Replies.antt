@@ -1,0 +1,24 @@
+use Rattle.std.specs.Prelude.{nat_le, List, [], ◌∷◌, length, if◌then◌else◌}
+use Rattle.can_bus.specs.declared.events.BusConfig.{BusConfig}
+use Rattle.can_bus.specs.declared.events.Entry.{Entry}
+use Rattle.can_bus.specs.declared.events.Event.{Event}
+use Rattle.can_bus.specs.declared.events.Reply.{Reply}
+use Rattle.can_bus.specs.declared.events.Reply.TheVariants as reply
+use Rattle.can_bus.specs.declared.events.Refusal.TheVariants as refusal
+use Rattle.can_bus.specs.Legal.{legal_reply}
+
+-- The replies that a list of events has, one after another.
+
+-- the reply of an event after these entries: the one that they give, or "record full" where there are as
+-- many as the limit
+abbrev pub reply_after : BusConfig → List Entry → Event → Reply
+reply_after c past e = if nat_le c.limit (length past) then reply.Refused refusal.RecordFull else legal_reply c past e
+
+-- the entries after it: one more, unless there were as many as the limit
+abbrev pub entries_after : BusConfig → List Entry → Event → List Entry
+entries_after c past e = if nat_le c.limit (length past) then past else record { event = e; reply = legal_reply c past e } ∷ past
+
+-- the replies of these events after these entries, each by the entries before it
+unfoldable pub replies_after : BusConfig → List Entry → List Event → List Reply
+replies_after c past [] = []
+replies_after c past (e ∷ es) = reply_after c past e ∷ replies_after c (entries_after c past e) es

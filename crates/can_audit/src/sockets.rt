@@ -1,0 +1,208 @@
+ghost use Rattle.std.specs.Prelude.{◌≡◌, ◌<◌, ◌==◌, not, filter, reverse, length, slice_get, IfOk};
+ghost use Rattle.std.specs.List.{list_any};
+ghost use Rattle.can_bus.specs.Sockets.{places, places_after, open_sockets, open_after, is_open, iface_in, capacity_in, with_option, options_of, options_after, filters_of, filters_after};
+
+use can_bus::{Entry, Event, Opt, Reply, SocketId};
+use can_filter::{FilterSet, Options};
+use can_frame::Iface;
+use std::alloc::{AllocError, Global};
+use std::marker::Model;
+
+// The sockets of a bus, by its entries.
+
+/// Where a socket was opened, and how many items may wait there.
+#[derive(Debug, Clone, Copy)]
+pub struct Place {
+    iface: Iface,
+    capacity: u32,
+}
+
+impl Model for Place {
+    ghost use Rattle.can_bus.specs.Sockets.{Place};
+
+    ghost Value = { Place };
+
+    ghost view = { λ p. record { iface = p.iface; capacity = p.capacity } };
+
+    ghost inverse = { λ v. record { iface = v.iface; capacity = v.capacity } };
+}
+
+/// The sockets opened so far, and the numbers of those that are open.
+#[derive(Drop)]
+pub struct Sockets {
+    pub places: Vec<Place>,
+    pub numbers: Vec<usize>,
+}
+
+/// The interface of this number.
+pub fn iface_at(number: u8) -> Iface
+    requires { number < 16 }
+    ensures { result ≡ number }
+{
+    match Iface::new(number) {
+        Some(iface) => iface,
+        None => unreachable!(),
+    }
+}
+
+impl Sockets {
+    ghost use Rattle.std.specs.Prelude.{◌≡◌, ◌==◌, length, slice_get};
+    ghost use Rattle.std.specs.List.{list_any};
+    ghost use Rattle.can_bus.specs.Sockets.{iface_in, capacity_in};
+
+    /// Whether the socket was opened and not closed.
+    pub fn is_open(&self, id: SocketId) -> bool
+        ensures { result ≡ list_any (λ k. k == id.0) self.now.numbers.items }
+    {
+        self.numbers.iter().any(|number| *number == id.0 as usize)
+    }
+
+    /// The interface that the socket was opened on.
+    pub fn iface_of(&self, id: SocketId) -> Iface
+        ensures { result ≡ iface_in (slice_get self.now.places.items id.0) }
+    {
+        match self.places.get(id.0 as usize) {
+            Some(place) => place.iface,
+            None => iface_at(0),
+        }
+    }
+
+    /// How many items may wait on the socket.
+    pub fn capacity_of(&self, id: SocketId) -> u32
+        ensures { result ≡ capacity_in (slice_get self.now.places.items id.0) }
+    {
+        match self.places.get(id.0 as usize) {
+            Some(place) => place.capacity,
+            None => 0,
+        }
+    }
+}
+
+/// Takes a number out.
+fn take_out(numbers: &mut Vec<usize>, closed: usize)
+    ensures { numbers.new.items ≡ filter (λ k. not (k == closed)) numbers.old.items }
+{
+    numbers.retain(|number| *number != closed);
+}
+
+/// What an entry does to the sockets.
+fn note(sockets: &mut Sockets, entry: &Entry) -> Result<(), AllocError>
+    ensures places { IfOk result (λ u. sockets.new.places.items ≡ places_after entry.now.event entry.now.reply sockets.old.places.items) }
+    ensures open { IfOk result (λ u. sockets.new.numbers.items ≡ open_after (length sockets.old.places.items) entry.now.event entry.now.reply sockets.old.numbers.items) }
+{
+    match &entry.event {
+        Event::Open(iface, capacity) => {
+            if let Reply::Opened(_) = &entry.reply {
+                let number = sockets.places.len();
+                let place = Place {
+                    iface: *iface,
+                    capacity: *capacity,
+                };
+                sockets.places.push(place)?;
+                sockets.numbers.push(number)?;
+            }
+        }
+        Event::Close(id) => {
+            if let Reply::Closed(_) = &entry.reply {
+                take_out(&mut sockets.numbers, id.0 as usize);
+            }
+        }
+        _ => {}
+    }
+    Ok(())
+}
+
+/// The sockets after these entries, the oldest first.
+pub fn sockets_of(alloc: Global, past: &[Entry]) -> Result<Sockets, AllocError>
+    ensures places { IfOk result (λ s. s.places.items ≡ places (reverse past.now)) }
+    ensures open { IfOk result (λ s. s.numbers.items ≡ open_sockets (reverse past.now)) }
+{
+    let mut sockets = Sockets {
+        places: Vec::new(alloc),
+        numbers: Vec::new(alloc),
+    };
+    for entry in past {
+        note(&mut sockets, entry)?;
+    }
+    Ok(sockets)
+}
+
+/// These options with one set.
+fn with_option(option: Opt, options: Options) -> Options
+    ensures { result ≡ with_option option options }
+{
+    match option {
+        Opt::Loopback(loopback) => Options {
+            loopback,
+            ..options
+        },
+        Opt::RecvOwn(recv_own) => Options {
+            recv_own,
+            ..options
+        },
+        Opt::Join(join) => Options { join, ..options },
+        Opt::ErrMask(err_mask) => Options {
+            err_mask,
+            ..options
+        },
+    }
+}
+
+/// What an entry does to the options of a socket.
+fn options_after(entry: &Entry, id: SocketId, before: Options) -> Options
+    ensures { result ≡ options_after entry.now.event entry.now.reply id.0 before }
+{
+    match &entry.event {
+        Event::SetOption(of, option) => {
+            if of.0 == id.0 && matches!(&entry.reply, Reply::Done) {
+                with_option(*option, before)
+            } else {
+                before
+            }
+        }
+        _ => before,
+    }
+}
+
+/// The options of a socket as last set.
+pub fn options_of(past: &[Entry], id: SocketId) -> Options
+    ensures { result ≡ options_of (reverse past.now) id.0 }
+{
+    let mut options = Options::at_open();
+    for entry in past {
+        options = options_after(entry, id, options);
+    }
+    options
+}
+
+/// What an entry does to the filters of a socket.
+fn filters_after(
+    alloc: Global,
+    entry: &Entry,
+    id: SocketId,
+    before: FilterSet,
+) -> Result<FilterSet, AllocError>
+    ensures { IfOk result (λ fs. fs ≡ filters_after entry.now.event entry.now.reply id.0 before) }
+{
+    match &entry.event {
+        Event::SetFilters(of, filters) => {
+            if of.0 == id.0 && matches!(&entry.reply, Reply::Done) {
+                filters.try_copy(alloc)
+            } else {
+                Ok(before)
+            }
+        }
+        _ => Ok(before),
+    }
+}
+
+/// The filters of a socket as last set.
+pub fn filters_of(alloc: Global, past: &[Entry], id: SocketId) -> Result<FilterSet, AllocError>
+    ensures { IfOk result (λ fs. fs ≡ filters_of (reverse past.now) id.0) }
+{
+    let mut filters = FilterSet::all(alloc)?;
+    for entry in past {
+        filters = filters_after(alloc, entry, id, filters)?;
+    }
+    Ok(filters)
+}

@@ -1,0 +1,116 @@
+// A long list of mixed events, the same at each run.
+
+use super::*;
+use can_bus::Opt;
+use can_fault::{GlobalKind, LocalKind, Verdict};
+use can_filter::{Filter, FilterSet};
+use std::alloc::{AllocGlobal, Global};
+
+/// A row of numbers that look random (Knuth, MMIX), from its seed.
+#[derive(Drop)]
+struct Dice {
+    state: u64,
+}
+
+impl Dice {
+    /// A number below `count`.
+    fn roll(&mut self, count: u64) -> u64 {
+        self.state = self
+            .state
+            .wrapping_mul(6_364_136_223_846_793_005)
+            .wrapping_add(1_442_695_040_888_963_407);
+        (self.state >> 33).checked_rem(count).unwrap_or(0)
+    }
+
+    fn small(&mut self, count: u64) -> u8 {
+        self.roll(count) as u8
+    }
+
+    fn socket(&mut self) -> SocketId {
+        SocketId(self.roll(7) as u32)
+    }
+
+    fn is_one_of(&mut self, count: u64) -> bool {
+        self.roll(count) == 0
+    }
+}
+
+fn filters(alloc: Global, dice: &mut Dice) -> Result<FilterSet, Fail> {
+    let id = dice.roll(8) as u32;
+    Ok(match dice.roll(4) {
+        0 => FilterSet::all(alloc)?,
+        1 => FilterSet::from_slice(alloc, &[Filter::new(id, 0x7)?])?,
+        2 => FilterSet::from_slice(alloc, &[Filter::new(id, 0x1)?, Filter::new(id, 0x2)?])?,
+        _ => FilterSet::from_slice(alloc, &[Filter::new(0x2000_0000 | id, 0x7)?])?,
+    })
+}
+
+fn option(dice: &mut Dice) -> Opt {
+    let on = dice.is_one_of(2);
+    match dice.roll(4) {
+        0 => Opt::Loopback(on),
+        1 => Opt::RecvOwn(on),
+        2 => Opt::Join(on),
+        _ => Opt::ErrMask(if on { 0x1FFF_FFFF } else { 0x40 }),
+    }
+}
+
+fn verdict(dice: &mut Dice) -> Verdict {
+    let named = IfaceSet(dice.roll(8) as u16);
+    match dice.roll(12) {
+        0..=2 => Verdict::Good,
+        3 | 4 => Verdict::LastBit,
+        5 => Verdict::Local(named, LocalKind::Stuff),
+        6 => Verdict::Local(named, LocalKind::Crc),
+        7 => Verdict::Local(named, LocalKind::Form),
+        8 => Verdict::Global(GlobalKind::Form),
+        _ => Verdict::Global(GlobalKind::Bit),
+    }
+}
+
+fn some_frame(dice: &mut Dice) -> Result<Frame, Fail> {
+    let bytes = [dice.small(200), 1, 2, 3, 4, 5, 6, 7];
+    let id = dice.roll(8) as u16;
+    if dice.is_one_of(6) {
+        return Ok(Frame::remote(CanId::standard(id)?, dice.small(9))?);
+    }
+    if dice.is_one_of(6) {
+        return Ok(Frame::data(CanId::extended(id as u32)?, &bytes)?);
+    }
+    frame(id, &bytes)
+}
+
+fn some_event(alloc: Global, dice: &mut Dice, micros: u64) -> Result<Event, Fail> {
+    Ok(match dice.roll(32) {
+        0 if dice.is_one_of(2) => open(dice.small(4), dice.roll(4) as u32)?,
+        1 if dice.is_one_of(4) => Event::Close(dice.socket()),
+        2 => Event::SetFilters(dice.socket(), filters(alloc, dice)?),
+        3 | 4 => Event::SetOption(dice.socket(), option(dice)),
+        5..=14 => Event::Send(dice.socket(), some_frame(dice)?),
+        15..=17 => Event::Receive(dice.socket()),
+        18 => Event::Restart(iface(dice.small(4))?, moment(micros)?),
+        _ => Event::Attempt(moment(micros)?, verdict(dice)),
+    })
+}
+
+/// Six sockets, two on each of three interfaces, that hold few items and are told of errors.
+fn opened(alloc: Global) -> Result<Vec<Event>, Fail> {
+    let mut events = Vec::new(alloc);
+    for number in 0..6u8 {
+        events.push(open(number % 3, 3)?)?;
+    }
+    for number in 0..6u32 {
+        events.push(Event::SetOption(SocketId(number), Opt::ErrMask(0x1FFF_FFFF)))?;
+    }
+    Ok(events)
+}
+
+/// Sockets are opened, and then so many events follow at random.
+pub fn mixed(rt: &impl AllocGlobal, seed: u64, count: u64) -> Result<Vec<Event>, Fail> {
+    let mut dice = Dice { state: seed };
+    let mut events = opened(rt.alloc())?;
+    for micros in 0..count {
+        events.push(some_event(rt.alloc(), &mut dice, micros)?)?;
+    }
+    Ok(events)
+}

@@ -1,0 +1,103 @@
+// What reached a socket, of a record.
+
+use super::*;
+use crate::{candidates, projected, queued};
+use can_arbiter::ScanArbiter;
+use can_bus::{Bus, Pending, Received, run};
+use can_fault::Verdict;
+use can_frame::Item;
+use can_queue::ListQueue;
+use std::alloc::AllocGlobal;
+use std::process::Abort;
+
+type ListBus = Bus<ListQueue<Pending>, ListQueue<Received>, ScanArbiter>;
+
+/// A frame reaches socket 1, which has room for one item and takes it before its close.
+fn first_frame(rt: &impl AllocGlobal) -> Result<Vec<Event>, Fail> {
+    let mut events = Vec::new(rt.alloc());
+    events.push(open(0, 256)?)?;
+    events.push(open(1, 1)?)?;
+    events.push(Event::Send(SocketId(0), frame(0x123, &[0x01, 0xFF])?))?;
+    events.push(Event::Attempt(moment(1)?, Verdict::Good))?;
+    events.push(receive(1))?;
+    events.push(receive(1))?;
+    events.push(Event::Close(SocketId(1)))?;
+    Ok(events)
+}
+
+/// Two more frames, before the socket's close and after it.
+fn more_frames(rt: &impl AllocGlobal) -> Result<Vec<Event>, Fail> {
+    let mut events = Vec::new(rt.alloc());
+    events.push(open(0, 256)?)?;
+    events.push(open(1, 1)?)?;
+    for micros in 1..4 {
+        if micros == 3 {
+            events.push(Event::Close(SocketId(1)))?;
+        }
+        events.push(Event::Send(SocketId(0), frame(0x123, &[0x01, 0xFF])?))?;
+        events.push(Event::Attempt(moment(micros)?, Verdict::Good))?;
+    }
+    Ok(events)
+}
+
+fn bus_after(rt: &impl AllocGlobal, events: &[Event]) -> Result<ListBus, Fail> {
+    let config = BusConfig {
+        reporting: IfaceSet(0),
+        tx_capacity: 10,
+        ..config(2, 100)
+    };
+    let mut bus = Bus::new(rt.alloc(), config)?;
+    let _ = run(&mut bus, rt.alloc(), events)?;
+    Ok(bus)
+}
+
+fn queued_at(rt: &impl AllocGlobal, bus: &ListBus, socket: u32) -> Result<Vec<Received>, Fail> {
+    Ok(queued(rt.alloc(), bus.record(), SocketId(socket))?)
+}
+
+fn offered_to(rt: &impl AllocGlobal, bus: &ListBus, socket: u32) -> Result<Vec<Received>, Fail> {
+    Ok(candidates(rt.alloc(), bus.record(), SocketId(socket))?)
+}
+
+fn from(rt: &impl AllocGlobal, bus: &ListBus, number: u8) -> Result<Vec<Received>, Fail> {
+    Ok(projected(rt.alloc(), bus.record(), iface(number)?, SocketId(1))?)
+}
+
+/// The item is 123#01FF, which interface 0 sent under this number.
+fn is_frame(received: Option<&Received>, number: u64) -> Result<bool, Fail> {
+    let received = received.ok_or("no item")?;
+    let Item::Data(sent) = &received.item else {
+        return Ok(false);
+    };
+    Ok(
+        *sent == frame(0x123, &[0x01, 0xFF])?
+            && received.from == iface(0)?
+            && received.number == number,
+    )
+}
+
+fn one_frame(rt: &impl Abort, items: &[Received]) -> Result<(), Fail> {
+    assert_eq!(rt; items.len(), 1);
+    assert!(rt; is_frame(items.get(0), 0)?);
+    Ok(())
+}
+
+#[test]
+fn one_frame_reached_its_socket(rt: HostRuntime) -> Result<(), Fail> {
+    let bus = bus_after(&rt, &first_frame(&rt)?)?;
+    one_frame(&rt, &queued_at(&rt, &bus, 1)?)?;
+    one_frame(&rt, &offered_to(&rt, &bus, 1)?)?;
+    one_frame(&rt, &from(&rt, &bus, 0)?)?;
+    assert!(rt; from(&rt, &bus, 1)?.is_empty());
+    Ok(())
+}
+
+#[test]
+fn some_frames_found_no_room(rt: HostRuntime) -> Result<(), Fail> {
+    let bus = bus_after(&rt, &more_frames(&rt)?)?;
+    one_frame(&rt, &queued_at(&rt, &bus, 1)?)?;
+    let offered = offered_to(&rt, &bus, 1)?;
+    assert_eq!(rt; offered.len(), 2);
+    assert!(rt; is_frame(offered.get(1), 1)?);
+    one_frame(&rt, &from(&rt, &bus, 0)?)
+}
