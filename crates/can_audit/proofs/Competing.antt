@@ -1,14 +1,12 @@
-use Rattle.std.proofs.Common.{◌≡◌, ◌≢◌, ℕ, ◌+◌, ◌<◌, List, length, map, get_or, reverse, slice_set, below_more, Option, Some, None, refl, sym, ap, ◌∙◌, subst, arith, IfSome}
-use Rattle.std.specs.List.{range_with_len}
+use Rattle.std.proofs.Common.{◌≡◌, ◌≢◌, ℕ, ◌+◌, ◌<◌, List, length, get_or, slice_set, below_more, Option, Some, None, refl, sym, ap, ◌∙◌, subst, arith, IfSome}
 use Rattle.std.specs.Option.{IsNone}
 use Rattle.std.proofs.lemmas.List.{get_or-set_other, get_or-set_same, length-set}
 use Rattle.std.proofs.lemmas.List.FromFn.{fill_by_all}
 use Rattle.can_arbiter.specs.Keys.{IsWinner, IsIdle}
-use Rattle.can_confine.specs.Confinement.{state_of, is_off}
 use Rattle.can_fault.specs.declared.verdicts.Verdict.{Verdict}
 use Rattle.can_attempt.specs.declared.judgements.Judgement.{Judgement}
 use Rattle.can_attempt.specs.declared.nodes.Nodes.{Nodes}
-use Rattle.can_attempt.specs.Attempts.{Transmission, attempt_between, judged}
+use Rattle.can_attempt.specs.Attempts.{attempt_between, judged}
 use Rattle.can_bus.specs.declared.events.BusConfig.{BusConfig}
 use Rattle.can_bus.specs.declared.events.Entry.{Entry}
 use Rattle.can_bus.specs.declared.events.Pending.{Pending}
