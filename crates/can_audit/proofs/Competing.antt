@@ -32,6 +32,11 @@ set_more f keys new i lt so_far is =
 pub long_more : (keys new : List (Option ℕ)) (i : ℕ) (x : Option ℕ) → length keys ≡ 16 → new ≡ slice_set keys i x → length new ≡ 16
 long_more keys new i x long is = ap length is ∙ length-set keys i x ∙ long
 
+-- the key of an interface's head is set at its place
+pub competed : (past : List Entry) (keys new : List (Option ℕ)) (place i : ℕ) (head : Option Pending) → i ≡ place → head ≡ head_of past i → new ≡ slice_set keys i (key_in head) → new ≡ slice_set keys place (key_in (head_of past place))
+competed past keys new place i head same head_is set =
+    set ∙ ap (λ (p : Option Pending). slice_set keys i (key_in p)) head_is ∙ ap (λ (k : ℕ). slice_set keys k (key_in (head_of past k))) same
+
 pub keys-are : (past : List Entry) (keys : List (Option ℕ)) → length keys ≡ 16 → ((k : ℕ) → k < 16 → get_or keys k None ≡ key_in (head_of past k)) → keys ≡ kept_keys past
 unfolding kept_keys
 keys-are past keys long all = fill_by_all (λ i. key_in (head_of past i)) keys 16 None long all
