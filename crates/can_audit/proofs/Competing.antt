@@ -1,14 +1,12 @@
-use Rattle.std.proofs.Common.{◌≡◌, ◌≢◌, ℕ, ◌+◌, ◌<◌, List, length, map, get_or, reverse, slice_set, below_more, Option, Some, None, refl, sym, ap, ◌∙◌, subst, arith, IfSome}
-use Rattle.std.specs.List.{range_with_len}
+use Rattle.std.proofs.Common.{◌≡◌, ◌≢◌, ℕ, ◌+◌, ◌<◌, List, length, get_or, slice_set, below_more, Option, Some, None, refl, sym, ap, ◌∙◌, subst, arith, IfSome}
 use Rattle.std.specs.Option.{IsNone}
 use Rattle.std.proofs.lemmas.List.{get_or-set_other, get_or-set_same, length-set}
 use Rattle.std.proofs.lemmas.List.FromFn.{fill_by_all}
 use Rattle.can_arbiter.specs.Keys.{IsWinner, IsIdle}
-use Rattle.can_confine.specs.Confinement.{state_of, is_off}
 use Rattle.can_fault.specs.declared.verdicts.Verdict.{Verdict}
 use Rattle.can_attempt.specs.declared.judgements.Judgement.{Judgement}
 use Rattle.can_attempt.specs.declared.nodes.Nodes.{Nodes}
-use Rattle.can_attempt.specs.Attempts.{Transmission, attempt_between, judged}
+use Rattle.can_attempt.specs.Attempts.{attempt_between, judged}
 use Rattle.can_bus.specs.declared.events.BusConfig.{BusConfig}
 use Rattle.can_bus.specs.declared.events.Entry.{Entry}
 use Rattle.can_bus.specs.declared.events.Pending.{Pending}
@@ -33,6 +31,11 @@ set_more f keys new i lt so_far is =
 
 pub long_more : (keys new : List (Option ℕ)) (i : ℕ) (x : Option ℕ) → length keys ≡ 16 → new ≡ slice_set keys i x → length new ≡ 16
 long_more keys new i x long is = ap length is ∙ length-set keys i x ∙ long
+
+-- the key of an interface's head is set at its place
+pub competed : (past : List Entry) (keys new : List (Option ℕ)) (place i : ℕ) (head : Option Pending) → i ≡ place → head ≡ head_of past i → new ≡ slice_set keys i (key_in head) → new ≡ slice_set keys place (key_in (head_of past place))
+competed past keys new place i head same head_is set =
+    set ∙ ap (λ (p : Option Pending). slice_set keys i (key_in p)) head_is ∙ ap (λ (k : ℕ). slice_set keys k (key_in (head_of past k))) same
 
 pub keys-are : (past : List Entry) (keys : List (Option ℕ)) → length keys ≡ 16 → ((k : ℕ) → k < 16 → get_or keys k None ≡ key_in (head_of past k)) → keys ≡ kept_keys past
 unfolding kept_keys

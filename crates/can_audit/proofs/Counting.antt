@@ -1,4 +1,4 @@
-use Rattle.std.proofs.Common.{◌≡◌, ◌≢◌, ℕ, ◌+◌, ◌<◌, ◌≤◌, ◌==◌, nat_le, Bool, true, false, if◌then◌else◌, List, [], ◌∷◌, ◌++◌, length, map, get_or, slice_set, inl, inr, refl, sym, ap, ◌∙◌, subst, arith}
+use Rattle.std.proofs.Common.{◌≡◌, ◌≢◌, ℕ, ◌+◌, ◌<◌, ◌≤◌, ◌==◌, nat_le, Bool, true, false, if◌then◌else◌, List, [], ◌∷◌, length, map, get_or, slice_set, inl, inr, refl, sym, ap, ◌∙◌, subst, arith}
 use mathlib.Core.Path.{fun_ext}
 use Rattle.std.specs.List.{range_with_len}
 use Rattle.std.proofs.lemmas.Bool.{eq-eqb, ne_eqb, cond-true, cond-false, cases_lt, leb-false}
@@ -17,11 +17,11 @@ use Rattle.can_bus.specs.declared.events.Reply.TheVariants as reply
 use Rattle.can_bus.specs.declared.events.Refusal.TheVariants as refusal
 use Rattle.can_bus.specs.declared.events.Tried.{Tried}
 use Rattle.can_bus.specs.Counters.{counts_of, steps_of, state_at, transmission}
-use Rattle.can_bus.specs.Legal.{legal_reply, IsLegal}
+use Rattle.can_bus.specs.Legal.{legal_reply}
 use Rattle.can_bus.specs.State.{kept_nodes}
 use Rattle.can_bus.proofs.Attempting.{count-kept}
 use Rattle.can_bus.proofs.KeyFacts.{sixteen-one}
-use Rattle.can_bus.proofs.Lawful.{WasTried, by_attempt, was_tried}
+use Rattle.can_bus.proofs.Lawful.{WasTried, by_attempt}
 use Rattle.can_bus.proofs.NodeFacts.{counts_at-kept}
 use Rattle.can_bus.proofs.OffFacts.{all_stepped-append, counts-beyond, winner-contends}
 use Rattle.can_audit.proofs.Before.{before_more}

@@ -1,3 +1,4 @@
+pub mod Answering
 pub mod Before
 pub mod Counting
 pub mod Passing

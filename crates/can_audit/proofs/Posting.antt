@@ -10,7 +10,7 @@ use Rattle.can_bus.specs.declared.events.Pending.{Pending}
 use Rattle.can_bus.specs.declared.events.Reply.TheVariants as reply
 use Rattle.can_bus.specs.declared.events.Tried.{Tried}
 use Rattle.can_bus.specs.Counters.{transmission}
-use Rattle.can_bus.specs.Posts.{Post, attempt_posts, posts_of}
+use Rattle.can_bus.specs.Posts.{attempt_posts, posts_of}
 use Rattle.can_bus.specs.State.{kept_nodes}
 use Rattle.can_bus.specs.Transmit.{sent_by}
 use Rattle.can_bus.proofs.Lawful.{was_tried}

@@ -10,7 +10,7 @@ use Rattle.can_bus.specs.Legal.{IsLegal}
 abbrev pub before : List Entry → ℕ → List Entry
 before entries k = reverse (take k entries)
 
--- a history that a bus of this configuration can have
+-- a history that a bus can have: its configuration is within the limits, and each reply is the legal one
 pub record IsHistory (c : BusConfig) (past : List Entry) : Type 0 where
   pub proper : IsConfig c
   pub legal : IsLegal c past

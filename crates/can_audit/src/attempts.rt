@@ -2,6 +2,7 @@ ghost use Rattle.std.specs.Prelude.{◌≡◌, reverse, slice_set, IfOk, IfSome,
 ghost use Rattle.can_arbiter.specs.Keys.{IsWinner, IsIdle};
 ghost use Rattle.can_bus.specs.State.{key_in, kept_keys};
 ghost use Rattle.can_bus.specs.Attempts.{winner, attempt_reply};
+ghost use Rattle.can_bus.specs.declared.events.BusConfig.{BusConfig};
 ghost use Rattle.can_bus.specs.declared.events.Reply.TheVariants as reply;
 ghost use Rattle.can_audit.specs.Histories.{IsHistory};
 
@@ -42,10 +43,9 @@ fn first_of<A: Arbiter>(alloc: Global, past: &[Entry]) -> Result<Option<Iface>, 
 }
 
 /// The interface that wins the bus, if one has a frame to send.
-fn winner(alloc: Global, config: BusConfig, past: &[Entry]) -> Result<Option<Iface>, AllocError>
-    ensures { IsHistory config (reverse past.now) → IfOk result (λ w. w ≡ winner config (reverse past.now)) }
+fn winner(alloc: Global, past: &[Entry]) -> Result<Option<Iface>, AllocError>
+    ensures { (c : BusConfig) → IsHistory c (reverse past.now) → IfOk result (λ w. w ≡ winner c (reverse past.now)) }
 {
-    let _limit = config.limit;
     let first = first_of::<ScanArbiter>(alloc, past)?;
     Ok(first)
 }
@@ -81,7 +81,7 @@ pub fn attempt_reply(
 ) -> Result<Reply, AllocError>
     ensures { IsHistory config (reverse past.now) → IfOk result (λ r. r ≡ attempt_reply config (reverse past.now) moment verdict (winner config (reverse past.now))) }
 {
-    let Some(winner) = winner(alloc, config, past)? else {
+    let Some(winner) = winner(alloc, past)? else {
         return Ok(Reply::Idle);
     };
     let Some(pending) = head_of(alloc, past, winner)? else {

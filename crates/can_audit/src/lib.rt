@@ -9,6 +9,7 @@
 
 mod attempts;
 mod counters;
+pub mod laws;
 mod posts;
 pub mod queues;
 pub mod replies;

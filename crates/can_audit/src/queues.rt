@@ -66,7 +66,11 @@ fn note_taken(entry: &Entry, id: SocketId, taken: &mut Vec<Received>) -> Result<
 }
 
 /// The items that were taken from a socket, in order.
-pub fn taken_from(alloc: Global, past: &[Entry], id: SocketId) -> Result<Vec<Received>, AllocError>
+pub(crate) fn taken_from(
+    alloc: Global,
+    past: &[Entry],
+    id: SocketId,
+) -> Result<Vec<Received>, AllocError>
     ensures { IfOk result (λ rs. rs.items ≡ taken_from (reverse past.now) id.0) }
 {
     let mut taken = Vec::new(alloc);
@@ -78,7 +82,7 @@ pub fn taken_from(alloc: Global, past: &[Entry], id: SocketId) -> Result<Vec<Rec
 
 /// The candidates of a socket that found room, and the others.
 #[derive(Drop)]
-pub struct Arrivals {
+pub(crate) struct Arrivals {
     pub queued: Vec<Received>,
     pub dropped: Vec<Received>,
 }
@@ -107,14 +111,14 @@ fn admit(arrivals: &mut Arrivals, room: u128, candidates: &[Received]) -> Result
 }
 
 /// The item at this place, if there is one.
-pub fn item_at(items: &[Received], place: usize) -> Option<Received>
+pub(crate) fn item_at(items: &[Received], place: usize) -> Option<Received>
     ensures { result ≡ slice_get items.now place }
 {
     items.get(place).copied()
 }
 
 /// What found room on a socket, and what did not, in order.
-pub fn arrivals_at(
+pub(crate) fn arrivals_at(
     alloc: Global,
     config: BusConfig,
     past: &[Entry],
@@ -135,9 +139,11 @@ pub fn arrivals_at(
     Ok(arrivals)
 }
 
-/// The items that found room on a socket, in order: those that were taken and those that were not.
+/// The items that found room on a socket, in order: those that were taken and those that were not. A socket
+/// that was never opened has none.
 ///
-/// Of a record that no bus could have made, nothing is said.
+/// Of a record that no bus could have made, nothing is said. The time grows with the cube of the number of
+/// entries.
 pub fn queued(alloc: Global, record: &Record, id: SocketId) -> Result<Vec<Received>, AllocError>
     ensures { IsHistory «record».now.config «record».now.history → IfOk result (λ rs. rs.items ≡ queued_to «record».now.config «record».now.history id.0) }
 {
@@ -145,9 +151,10 @@ pub fn queued(alloc: Global, record: &Record, id: SocketId) -> Result<Vec<Receiv
 }
 
 /// The items that came to a socket's interface while it was open and passed its filters and options, in
-/// order, whether they found room or not.
+/// order, whether they found room or not. A socket that was never opened has none.
 ///
-/// Of a record that no bus could have made, nothing is said.
+/// Of a record that no bus could have made, nothing is said. The time grows with the cube of the number of
+/// entries.
 pub fn candidates(alloc: Global, record: &Record, id: SocketId) -> Result<Vec<Received>, AllocError>
     ensures { IsHistory «record».now.config «record».now.history → IfOk result (λ rs. rs.items ≡ candidates_for «record».now.config «record».now.history id.0) }
 {
@@ -166,7 +173,8 @@ fn is_from(iface: Iface, received: &Received) -> bool
 
 /// The data frames of one interface that found room on a socket, in order, each with its number there.
 ///
-/// Of a record that no bus could have made, nothing is said.
+/// Of a record that no bus could have made, nothing is said. The time grows with the cube of the number of
+/// entries.
 pub fn projected(
     alloc: Global,
     record: &Record,

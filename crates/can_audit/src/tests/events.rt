@@ -14,23 +14,20 @@ struct Dice {
 
 impl Dice {
     /// A number below `count`.
-    fn roll(&mut self, count: u64) -> u64 {
+    fn roll(&mut self, count: u8) -> u8 {
         self.state = self
             .state
             .wrapping_mul(6_364_136_223_846_793_005)
             .wrapping_add(1_442_695_040_888_963_407);
-        (self.state >> 33).checked_rem(count).unwrap_or(0)
-    }
-
-    fn small(&mut self, count: u64) -> u8 {
-        self.roll(count) as u8
+        let [highest, ..] = self.state.to_be_bytes();
+        highest.checked_rem(count).unwrap_or(0)
     }
 
     fn socket(&mut self) -> SocketId {
         SocketId(self.roll(7) as u32)
     }
 
-    fn is_one_of(&mut self, count: u64) -> bool {
+    fn is_one_of(&mut self, count: u8) -> bool {
         self.roll(count) == 0
     }
 }
@@ -69,10 +66,10 @@ fn verdict(dice: &mut Dice) -> Verdict {
 }
 
 fn some_frame(dice: &mut Dice) -> Result<Frame, Fail> {
-    let bytes = [dice.small(200), 1, 2, 3, 4, 5, 6, 7];
+    let bytes = [dice.roll(200), 1, 2, 3, 4, 5, 6, 7];
     let id = dice.roll(8) as u16;
     if dice.is_one_of(6) {
-        return Ok(Frame::remote(CanId::standard(id)?, dice.small(9))?);
+        return Ok(Frame::remote(CanId::standard(id)?, dice.roll(9))?);
     }
     if dice.is_one_of(6) {
         return Ok(Frame::data(CanId::extended(id as u32)?, &bytes)?);
@@ -82,13 +79,13 @@ fn some_frame(dice: &mut Dice) -> Result<Frame, Fail> {
 
 fn some_event(alloc: Global, dice: &mut Dice, micros: u64) -> Result<Event, Fail> {
     Ok(match dice.roll(32) {
-        0 if dice.is_one_of(2) => open(dice.small(4), dice.roll(4) as u32)?,
+        0 if dice.is_one_of(2) => open(dice.roll(4), dice.roll(4) as u32)?,
         1 if dice.is_one_of(4) => Event::Close(dice.socket()),
         2 => Event::SetFilters(dice.socket(), filters(alloc, dice)?),
         3 | 4 => Event::SetOption(dice.socket(), option(dice)),
         5..=14 => Event::Send(dice.socket(), some_frame(dice)?),
         15..=17 => Event::Receive(dice.socket()),
-        18 => Event::Restart(iface(dice.small(4))?, moment(micros)?),
+        18 => Event::Restart(iface(dice.roll(4))?, moment(micros)?),
         _ => Event::Attempt(moment(micros)?, verdict(dice)),
     })
 }

@@ -43,72 +43,77 @@ fn compared(
     Ok(slow)
 }
 
+/// What to look for in a list of replies.
+#[derive(Clone, Copy)]
+enum Kind {
+    Idle,
+    Tried(Class),
+    GoesOff,
+    Refused(Refusal),
+    Data,
+    Error,
+    /// A close that counts items without room.
+    Dropped,
+}
+
+fn is_error(received: &Received) -> bool {
+    matches!(&received.item, Item::Error(_))
+}
+
+fn is_of(reply: &Reply, kind: Kind) -> bool {
+    match kind {
+        Kind::Idle => matches!(reply, Reply::Idle),
+        Kind::Tried(class) => matches!(reply, Reply::Tried(tried) if tried.class == class),
+        Kind::GoesOff => matches!(reply, Reply::Tried(tried) if tried.off != IfaceSet(0)),
+        Kind::Refused(why) => matches!(reply, Reply::Refused(refusal) if *refusal == why),
+        Kind::Data => matches!(reply, Reply::Received(Some(received)) if !is_error(received)),
+        Kind::Error => matches!(reply, Reply::Received(Some(received)) if is_error(received)),
+        Kind::Dropped => matches!(reply, Reply::Closed(counts) if counts.dropped > 0),
+    }
+}
+
 /// How many replies are of this kind.
-fn count(replies: &[Reply], is_kind: impl Fn(&Reply) -> bool) -> usize {
-    replies.iter().filter(|reply| is_kind(reply)).count()
-}
-
-fn tried_as(replies: &[Reply], class: Class) -> usize {
-    count(
-        replies,
-        |reply| matches!(reply, Reply::Tried(tried) if tried.class == class),
-    )
-}
-
-fn refused_as(replies: &[Reply], why: Refusal) -> usize {
-    count(
-        replies,
-        |reply| matches!(reply, Reply::Refused(refusal) if *refusal == why),
-    )
-}
-
-fn is_error_received(reply: &Reply) -> bool {
-    match reply {
-        Reply::Received(Some(received)) => matches!(received.item, Item::Error(_)),
-        _ => false,
+fn count(replies: &[Reply], kind: Kind) -> usize {
+    let mut count = 0usize;
+    for reply in replies {
+        if is_of(reply, kind) {
+            count = count.saturating_add(1);
+        }
     }
+    count
 }
 
-fn is_data_received(reply: &Reply) -> bool {
-    match reply {
-        Reply::Received(Some(received)) => matches!(received.item, Item::Data(_)),
-        _ => false,
-    }
+/// At least so many replies are of this kind.
+fn has(rt: &impl Abort, replies: &[Reply], kind: Kind, at_least: usize) {
+    assert!(rt; count(replies, kind) >= at_least);
 }
 
-fn has_dropped(reply: &Reply) -> bool {
-    matches!(reply, Reply::Closed(counts) if counts.dropped > 0)
-}
-
-fn goes_off(reply: &Reply) -> bool {
-    matches!(reply, Reply::Tried(tried) if tried.off != IfaceSet(0))
-}
-
-/// The list has every kind of attempt, every refusal but two, interfaces that go bus off, and full queues.
+/// The list has every kind of attempt, interfaces that go bus off, and full queues.
 fn is_telling(rt: &impl Abort, replies: &[Reply]) {
-    assert!(rt; tried_as(replies, Class::Done) >= 40);
-    assert!(rt; tried_as(replies, Class::LastBit) >= 20);
-    assert!(rt; tried_as(replies, Class::Destroyed) >= 40);
-    assert!(rt; tried_as(replies, Class::NoAck) >= 1);
-    assert!(rt; count(replies, |reply| matches!(reply, Reply::Idle)) >= 10);
-    assert!(rt; count(replies, |reply| goes_off(reply)) >= 1);
-    assert!(rt; count(replies, |reply| has_dropped(reply)) >= 2);
-    assert!(rt; count(replies, |reply| is_data_received(reply)) >= 5);
-    assert!(rt; count(replies, |reply| is_error_received(reply)) >= 5);
+    has(rt, replies, Kind::Tried(Class::Done), 30);
+    has(rt, replies, Kind::Tried(Class::LastBit), 15);
+    has(rt, replies, Kind::Tried(Class::Destroyed), 60);
+    has(rt, replies, Kind::Tried(Class::NoAck), 1);
+    has(rt, replies, Kind::Idle, 5);
+    has(rt, replies, Kind::GoesOff, 1);
+    has(rt, replies, Kind::Dropped, 2);
+    has(rt, replies, Kind::Data, 10);
+    has(rt, replies, Kind::Error, 10);
 }
 
+/// It has every refusal that one bus gives, but for too many sockets and no memory.
 fn refuses(rt: &impl Abort, replies: &[Reply]) {
-    assert!(rt; refused_as(replies, Refusal::BusOff) >= 5);
-    assert!(rt; refused_as(replies, Refusal::NoBuffers) >= 20);
-    assert!(rt; refused_as(replies, Refusal::NotBusOff) >= 3);
-    assert!(rt; refused_as(replies, Refusal::NoSocket) >= 20);
-    assert!(rt; refused_as(replies, Refusal::NoInterface) >= 2);
-    assert!(rt; refused_as(replies, Refusal::BadCapacity) >= 1);
-    assert!(rt; refused_as(replies, Refusal::RecordFull) >= 10);
+    has(rt, replies, Kind::Refused(Refusal::BusOff), 3);
+    has(rt, replies, Kind::Refused(Refusal::NoBuffers), 15);
+    has(rt, replies, Kind::Refused(Refusal::NotBusOff), 3);
+    has(rt, replies, Kind::Refused(Refusal::NoSocket), 20);
+    has(rt, replies, Kind::Refused(Refusal::NoInterface), 3);
+    has(rt, replies, Kind::Refused(Refusal::BadCapacity), 1);
+    has(rt, replies, Kind::Refused(Refusal::RecordFull), 12);
 }
 
 fn compare_mixed(rt: &(impl Abort + AllocGlobal)) -> Result<(), Fail> {
-    let events = events::mixed(rt, 3, 300)?;
+    let events = events::mixed(rt, 4, 300)?;
     let config = BusConfig {
         ack: AckMode::Peers,
         ..config(3, 300)
@@ -126,7 +131,7 @@ fn compare_opens(rt: &(impl Abort + AllocGlobal)) -> Result<(), Fail> {
         events.push(open(0, 1)?)?;
     }
     let replies = compared(rt, &events, config(1, 100))?;
-    assert_eq!(rt; refused_as(&replies, Refusal::TooManySockets), 1);
+    has(rt, &replies, Kind::Refused(Refusal::TooManySockets), 1);
     Ok(())
 }
 

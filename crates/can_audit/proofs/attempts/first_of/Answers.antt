@@ -1,10 +1,9 @@
-use Rattle.std.proofs.Common.{◌≡◌, ◌<◌, List, Option, ℕ, length, slice_set, reverse, IfSome, sym, ap, ◌∙◌, subst, arith}
+use Rattle.std.proofs.Common.{◌≡◌, List, Option, ℕ, length, slice_set, reverse, IfSome, ap, ◌∙◌, subst, arith}
 use Rattle.can_arbiter.specs.Keys.{IsWinner, IsIdle}
 use Rattle.can_bus.specs.declared.events.Pending.{Pending}
 use Rattle.can_bus.specs.State.{key_in, kept_keys}
 use Rattle.can_bus.specs.Transmit.{head_of}
-use Rattle.can_audit.proofs.Competing.{set_more, long_more, keys-are}
-use Rattle.can_audit.proofs.attempts.first_of.Given as given
+use Rattle.can_audit.proofs.Competing.{set_more, long_more, competed, keys-are}
 use Rattle.can_audit.proofs.attempts.first_of.Goals as goal
 
 pub loop-place-init : goal.loop-place-init
@@ -15,7 +14,7 @@ loop-place-preserved g c =
     let past = reverse c.args.past.now in
     let keys = g.A.Arbiter.keys_of c.loop-place.arbiter in
     let long = c.loop-place.invariant.long in
-    let set : g.A.Arbiter.keys_of c.compete.new.arbiter ≡ slice_set keys c.loop-place.place (key_in (head_of past c.loop-place.place)) = c.compete.ensures ∙ ap (λ (p : Option Pending). slice_set keys c.iface_at-iface.result (key_in p)) c.in_ok-head.ensures ∙ ap (λ (i : ℕ). slice_set keys i (key_in (head_of past i))) c.iface_at-iface.ensures in
+    let set = competed past keys (g.A.Arbiter.keys_of c.compete.new.arbiter) c.loop-place.place c.iface_at-iface.result c.in_ok-head.head c.iface_at-iface.ensures c.in_ok-head.ensures c.compete.ensures in
     record {
       long = long_more keys (g.A.Arbiter.keys_of c.compete.new.arbiter) c.loop-place.place _ long set;
       filled = set_more (λ i. key_in (head_of past i)) keys (g.A.Arbiter.keys_of c.compete.new.arbiter) c.loop-place.place (omega (arith, long, c.loop-place-test.true)) c.loop-place.invariant.filled set;

@@ -1,6 +1,3 @@
-use Rattle.std.proofs.Common.{subst, ap, ◌∙◌, sym}
-use Rattle.can_bus.specs.State.{kept_nodes}
-use Rattle.can_audit.proofs.Before.{before_more}
 use Rattle.can_audit.proofs.Counting.{first-nodes, counted_more}
 use Rattle.can_audit.proofs.counters.nodes_of.Goals as goal
 

@@ -1,4 +1,4 @@
-use Rattle.std.proofs.Common.{◌++◌, List, reverse, subst, sym, ap, ◌∙◌}
+use Rattle.std.proofs.Common.{◌++◌, List, subst, sym, ap, ◌∙◌}
 use Rattle.can_bus.specs.declared.events.Entry.{Entry}
 use Rattle.can_bus.specs.declared.events.Received.{Received}
 use Rattle.can_bus.specs.Queues.{candidates_for}

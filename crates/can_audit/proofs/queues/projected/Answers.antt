@@ -1,6 +1,5 @@
-use Rattle.std.proofs.Common.{List, filter, ap, ◌∙◌}
+use Rattle.std.proofs.Common.{filter, ap, ◌∙◌}
 use Rattle.std.proofs.lemmas.List.{take_all}
-use Rattle.can_bus.specs.declared.events.Received.{Received}
 use Rattle.can_bus.specs.Copies.{is_from}
 use Rattle.can_audit.proofs.Passing.{pushed, left_out}
 use Rattle.can_audit.proofs.Queueing.{kept_more}

@@ -1,4 +1,4 @@
-use Rattle.std.proofs.Common.{◌≡◌, ◌≤◌, length, arith, rules}
+use Rattle.std.proofs.Common.{arith}
 use Rattle.can_audit.proofs.Before.{places-short}
 use Rattle.can_audit.proofs.replies.open_reply.Goals as goal
 

@@ -1,4 +1,4 @@
-use Rattle.std.proofs.Common.{◌≡◌, ℕ, List, length, slice_get, rules, ap, sym, ◌∙◌, reverse, Option}
+use Rattle.std.proofs.Common.{◌≡◌, List, length, slice_get, rules, ap, sym, ◌∙◌, reverse, Option}
 use Rattle.can_bus.specs.declared.events.Received.{Received}
 use Rattle.can_bus.specs.declared.events.Reply.TheVariants as reply
 use Rattle.can_audit.proofs.Replying.{opened, received}

@@ -1,4 +1,4 @@
-use Rattle.std.proofs.Common.{sym, ◌∙◌, arith}
+use Rattle.std.proofs.Common.{arith}
 use Rattle.can_audit.proofs.Replying.{restart-off, restart-live}
 use Rattle.can_audit.proofs.replies.restart_reply.Goals as goal
 

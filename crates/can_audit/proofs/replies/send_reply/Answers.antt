@@ -1,5 +1,5 @@
-use Rattle.std.proofs.Common.{◌≡◌, ◌<◌, length, rules, sym, ap, ◌∙◌, reverse}
-use Rattle.can_audit.proofs.Replying.{IsOn, is-on, IsQueue, sent-off, sent-full, sent-taken}
+use Rattle.std.proofs.Common.{◌≡◌, length, rules, ap, ◌∙◌, reverse}
+use Rattle.can_audit.proofs.Replying.{is-on, IsQueue, sent-off, sent-full, sent-taken}
 use Rattle.can_audit.proofs.replies.send_reply.Goals as goal
 
 pub returns-then-is_off : goal.returns-then-is_off
