@@ -5,8 +5,8 @@ use Rattle.std.specs.Prelude.{MatchBool}
 use Rattle.std.specs.Result.{IsErr, IsErrAnd}
 use Rattle.can_fault.specs.Sources.{VerdictMap}
 use Rattle.can_session.specs.declared.lines.LineFault.TheVariants as line
-use Rattle.can_session.specs.declared.bench.BenchFault.{BenchFault}
-use Rattle.can_session.specs.declared.bench.BenchFault.TheVariants.{BadConfig, BadLine, InputTooLong, Read, Write, NoMemory}
+use Rattle.can_session.specs.declared.bench_run.BenchFault.{BenchFault}
+use Rattle.can_session.specs.declared.bench_run.BenchFault.TheVariants.{BadConfig, BadLine, InputTooLong, Read, Write, NoMemory}
 use Rattle.can_session.specs.Lines.{Input, IsWithin, FindsEnd, TakesLine, Given, GoesOn, HasEnded, Stops, left_of, lines_of, spelled}
 use Rattle.can_session.specs.Orders.{order_of}
 use Rattle.can_session.specs.Benches.{BenchState, IsCarriedOut, AreCarriedOut, IsRefused}

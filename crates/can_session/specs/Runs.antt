@@ -5,8 +5,8 @@ use Rattle.can_bus.specs.declared.events.BusConfig.{BusConfig}
 use Rattle.can_bus.specs.Journal.{Kept, IsConfig}
 use Rattle.can_session.specs.declared.lines.LineFault.{LineFault}
 use Rattle.can_session.specs.declared.lines.LineFault.TheVariants as line
-use Rattle.can_session.specs.declared.bench.BenchFault.{BenchFault}
-use Rattle.can_session.specs.declared.bench.BenchFault.TheVariants.{BadConfig, BadLine, InputTooLong, Read, Write, NoMemory}
+use Rattle.can_session.specs.declared.bench_run.BenchFault.{BenchFault}
+use Rattle.can_session.specs.declared.bench_run.BenchFault.TheVariants.{BadConfig, BadLine, InputTooLong, Read, Write, NoMemory}
 use Rattle.can_session.specs.Lines.{Input, TakesLine, Stops, StopsBehind, ComesToLong, lines_of}
 use Rattle.can_session.specs.Orders.{order_of}
 use Rattle.can_session.specs.Benches.{BenchState, IsCarriedOut, AreCarriedOut, IsRefused}

@@ -8,7 +8,7 @@
 #![tactic(auto)]
 
 mod attempt_lines;
-pub mod bench;
+pub mod bench_run;
 pub mod bus_port;
 mod commands;
 mod decimals;
@@ -26,6 +26,7 @@ mod stand;
 mod turns;
 mod window;
 
+pub use bench_run::{BenchConfig, BenchFault, bench};
 pub use bus_port::BusPort;
 pub use lines::{LineFault, Lines};
 pub use orders::{Order, SessionNumber, read_order};
@@ -33,6 +34,8 @@ pub use port::{Port, PortRefusal};
 pub use session::{Session, SessionFault};
 pub use stages::{Dialog, RawSocket, Stage};
 
+#[cfg(test)]
+mod bench_tests;
 #[cfg(test)]
 mod line_tests;
 #[cfg(test)]

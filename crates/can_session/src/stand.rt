@@ -12,7 +12,7 @@ ghost use Rattle.can_session.specs.Benches.{spoken, beginning, session_at, Speak
 use crate::attempt_lines::{put_attempt, put_number};
 use crate::orders::{Order, SessionNumber, read_order};
 use crate::session::Session;
-use crate::bench::BenchFault;
+use crate::bench_run::BenchFault;
 use crate::bus_port::BusPort;
 use crate::turns::{self, BenchBus, BenchPort, NoMemory};
 use can_bus::{BusConfig, BusFault, Record, Refusal, Tried};

@@ -1,30 +1,17 @@
 //! canbusd: simulated CAN buses in user space.
 //!
 //! `canbusd bench BUS` reads lines that open sessions, feed them commands and put frames on one bus, and
-//! writes what the sessions are told. The modules stand in this order: `program` carries out a command
-//! line, whose words `options` reads; `bench` carries out the `lines` of the input, each an order of
-//! `orders`; a `session` takes the `commands` in the `messages` that it is fed and calls the bus through
-//! its `port`; `texts` are what it writes, and `words` and `numbers` what all of these read.
+//! writes what the sessions are told. `program` carries out a command line, whose words `options` reads and
+//! whose script `script_file` reads; the bench itself is `can_session::bench`, where all that it writes is
+//! proved.
 //!
-//! What is proved: no input makes a function fail or run on for ever, and numbers, identifiers, moments
-//! and bytes are read exactly as the definitions in `specs/` say.
+//! What is proved here: no command line, file or input makes a function fail or run on for ever.
 #![tactic(auto)]
 
-mod bench;
-mod commands;
 mod faults;
-mod lines;
-mod messages;
-mod numbers;
 mod options;
-mod orders;
-mod port;
 mod program;
 mod script_file;
-mod session;
-mod texts;
-mod voice;
-mod words;
 
 use faults::Fault;
 use program::{fail, run_words};

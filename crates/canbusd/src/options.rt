@@ -1,4 +1,3 @@
-use crate::numbers::read_count;
 use can_attempt::AckMode;
 use clap::error::ErrorKind;
 use clap::{Arg, ArgAction, ArgMatches, Command, Error};
@@ -29,10 +28,15 @@ Example:
 const BENCH_HELP: &str = "Lines of standard input, carried out one after the other:
   at SECONDS.MICROS  Set the moment, at first 0.000000: 1 to 10 digits, a point, 6 digits
   session S          Start session S, 1 to 64
-  feed S MESSAGES    Feed session S messages: < open NAME >, < rawmode >, < send ID LEN BYTES >
+  feed S BYTES       Feed session S bytes of its client: messages, in one piece or cut anywhere
   drain S            Give session S what its socket received
+  end S              End session S
   attempt            Put the frame that wins arbitration on the bus
 Empty lines and lines that begin with # do nothing. A line has at most 4096 bytes, and all lines 16777216.
+
+Messages of a session (socketcand's raw mode): < open NAME >, < rawmode >, < send ID LEN BYTE .. >,
+< sendrtr ID LEN >, < filter N ID MASK .. >, < join 0|1 >, < loopback 0|1 >, < recvown 0|1 >, < errmask HEX >,
+< errdata 0|1 >, < stats >, < restart >, < echo >, < close >.
 
 Lines of FILE: NUMBER VERDICT, for the attempt of that number, from 0. VERDICT is good, lastbit,
 global bit, global form, local stuff NAMES, local crc NAMES or local form NAMES.
@@ -101,9 +105,9 @@ fn ack_mode(bench: &ArgMatches<'_>) -> AckMode {
 // The number that an option was given, in decimal digits alone.
 fn number_given(alloc: Global, bench: &ArgMatches<'_>, option: &str) -> Result<u32, Error> {
     let text = bench.get_str(option).unwrap_or("");
-    match read_count(text.as_bytes()) {
-        Some(number) => Ok(number),
-        None => {
+    match text.parse::<u32>() {
+        Ok(number) if text.bytes().all(|byte| byte.is_ascii_digit()) => Ok(number),
+        _ => {
             let message = format!(in alloc;
                 "invalid value '{text}' for '--{option} <N>': not a decimal number of 32 bits"
             )?;

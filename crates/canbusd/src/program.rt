@@ -1,10 +1,10 @@
-use crate::bench::{BenchConfig, run_bench};
 use crate::faults::Fault;
 use crate::options::{BenchOptions, read_options};
 use crate::script_file::read_script;
 use can_bus::BusConfig;
 use can_fault::{FaultSource, Perfect};
 use can_frame::{Iface, IfaceSet, Names, NamesError};
+use can_session::{BenchConfig, bench as run_bench};
 use clap::error::ErrorKind;
 use std::alloc::Global;
 use std::io::{BufWriter, Read, Write};
@@ -80,33 +80,47 @@ fn bench<'a, H: Files, R: Read + Drop, W: Write>(
         NamesError::BadNames => Fault::BadNames,
         NamesError::NoMemory => Fault::NoMemory,
     })?;
-    let config = bench_config(options, names);
-    let outcome = match options.script {
+    match options.script {
         Some(path) => {
-            let script = read_script(rt, alloc, path, &config.names)?;
-            run_bench(alloc, config, script, input, output)
+            let script = read_script(rt, alloc, path, &names)?;
+            run_on(alloc, options, names, script, input, output)
         }
-        None => run_bench(alloc, config, Perfect, input, output),
-    };
-    outcome.map_err(|fault| Fault::Bench(fault))
+        None => run_on(alloc, options, names, Perfect, input, output),
+    }
 }
 
-fn bench_config(options: BenchOptions<'_>, names: Names) -> BenchConfig {
-    let bus = BusConfig {
+// Runs the bench of these names and faults.
+fn run_on<'a, F: FaultSource + Drop, R: Read + Drop, W: Write>(
+    alloc: Global,
+    options: BenchOptions<'a>,
+    names: Names,
+    script: F,
+    input: R,
+    output: &mut W,
+) -> Result<(), Fault<'a>> {
+    let config = BenchConfig {
+        config: bus_config(options, &names),
+        names,
+        script,
+        rx_capacity: options.rx_capacity,
+    };
+    match run_bench(alloc, config, input, output) {
+        Ok(_) => Ok(()),
+        Err(fault) => Err(Fault::Bench(fault)),
+    }
+}
+
+fn bus_config(options: BenchOptions<'_>, names: &Names) -> BusConfig {
+    BusConfig {
         ifaces: names.count(),
         ack: options.ack,
         reporting: if options.is_reporting {
-            all_of(&names)
+            all_of(names)
         } else {
             IfaceSet::empty()
         },
         tx_capacity: options.tx_capacity,
         limit: options.limit,
-    };
-    BenchConfig {
-        names,
-        bus,
-        rx_capacity: options.rx_capacity,
     }
 }
 

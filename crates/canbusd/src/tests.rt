@@ -235,20 +235,6 @@ fn refuses_lines(rt: HostRuntime) -> Result<(), Fail> {
         "drain  1",
         "feed 3 < open can0 >",
         "feed 1",
-        "feed 1 < echo >",
-        "feed 1 < open >",
-        "feed 1 < open can0 can1 >",
-        "feed 1 < rawmode 1 >",
-        "feed 1 < >",
-        "feed 1 < send 1234 0 >",
-        "feed 1 < send 800 0 >",
-        "feed 1 < send A0000123 0 >",
-        "feed 1 < send 123 9 >",
-        "feed 1 < send 123 1 >",
-        "feed 1 < send 123 1 1 2 >",
-        "feed 1 < send 123 1 100 >",
-        "feed 1 < send 123 0 >< send 12g 0 >",
-        "feed 1 < send 123 0 >< rawmode",
     ];
     for line in faulty {
         let input = joined(alloc, &[TWO_SESSIONS, line, "\nattempt\n"])?;
@@ -281,8 +267,14 @@ fn keeps_limits_of_lines(rt: HostRuntime) -> Result<(), Fail> {
             ("feed 1 <rawmode", " ", 1017, ">"),
             ("1 < error wrong state >\n", "", 0),
         ),
-        (("feed 1 <rawmode", " ", 1017, "><"), ("", second, 1)),
-        (("feed 1 <rawmode", " ", 1018, ">"), ("", second, 1)),
+        (
+            ("feed 1 <rawmode", " ", 1017, "><"),
+            ("1 < error wrong state >\n", "", 0),
+        ),
+        (
+            ("feed 1 <rawmode", " ", 1018, ">< echo >"),
+            ("1 < error message too long >< echo >\n", "", 0),
+        ),
     ];
     for (line, wanted) in table {
         answers(&rt, alloc, line, wanted)?;
@@ -454,6 +446,24 @@ fn follows_scripts(rt: HostRuntime) -> Result<(), Fail> {
     );
     goes_off(&rt, alloc, "global bit", destroyed)?;
     fs::remove_file(&rt, SCRIPT)?;
+    Ok(())
+}
+
+#[test]
+fn reports_faults_where_it_is_told_to(rt: HostRuntime) -> Result<(), Fail> {
+    let alloc = rt.alloc();
+    fs::write(&rt, "reported.script", b"0 global bit")?;
+    let asked = "feed 1 < errmask 88 >< errdata 1 >< send 123 0 >\nfeed 2 < errmask 88 >< errdata 1 >\n";
+    let rest = joined(alloc, &[asked, "at 0.000001\nattempt\ndrain 1\ndrain 2\n"])?;
+    let answered = "1 < ok >< ok >\n2 < ok >< ok >\ntried can0 0 destroyed - -\n";
+    let sent = "1 < error 088 0.000001 0000810A00000000 >\n";
+    let heard = "2 < error 088 0.000001 0000040000000000 >\n";
+    let output = joined(alloc, &[answered, sent, heard])?;
+    let line = "canbusd bench --report can0,can1@reported.script";
+    carries_out(&rt, alloc, line, &rest, &output)?;
+    let line = "canbusd bench can0,can1@reported.script";
+    carries_out(&rt, alloc, line, &rest, answered)?;
+    fs::remove_file(&rt, "reported.script")?;
     Ok(())
 }
 

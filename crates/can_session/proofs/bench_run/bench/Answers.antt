@@ -1,11 +1,11 @@
 use Rattle.std.proofs.Common.{◌≡◌, ℕ, List, Option, Result, Ok, Err, refl, sym, ap, subst, ◌∙◌}
 use Rattle.can_bus.specs.declared.records.Record.{Record}
-use Rattle.can_session.specs.declared.bench.BenchFault.{BenchFault}
+use Rattle.can_session.specs.declared.bench_run.BenchFault.{BenchFault}
 use Rattle.can_session.specs.Benches.{BenchState}
 use Rattle.can_session.specs.Lines.{Input, left_of}
 use Rattle.can_session.specs.Runs.{AreAll, Ran, IsRecordOf, at_start, Ends}
 use Rattle.can_session.proofs.Running.{err_is, ends_before, ends_unmade, ends_err, left_at_first}
-use Rattle.can_session.proofs.bench.bench.Goals as goal
+use Rattle.can_session.proofs.bench_run.bench.Goals as goal
 
 pub returns-in_err-stand-clause-runs : goal.returns-in_err-stand-clause-runs
 returns-in_err-stand-clause-runs g c =

@@ -2,7 +2,7 @@ use Rattle.std.proofs.Common.{◌≡◌, ℕ, ◌+◌, ◌-◌, ◌≤◌, List,
 use Rattle.can_session.specs.Lines.{left_of}
 use Rattle.can_session.specs.Runs.{Ran}
 use Rattle.can_session.proofs.Running.{AreOf}
-use Rattle.can_session.proofs.bench.run.Given as goal
+use Rattle.can_session.proofs.bench_run.run.Given as goal
 
 abbrev pub invariant-loop-number : goal.invariant-loop-number
 invariant-loop-number g l =

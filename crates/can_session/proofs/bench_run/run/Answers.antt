@@ -1,10 +1,10 @@
 use Rattle.std.proofs.Common.{◌≡◌, ◌⊎◌, ℕ, ◌+◌, ◌≤◌, List, [], ◌∷◌, ◌++◌, length, arith, Result, Err, refl, sym, ap, subst, ◌∙◌}
-use Rattle.can_session.specs.declared.bench.BenchFault.{BenchFault}
+use Rattle.can_session.specs.declared.bench_run.BenchFault.{BenchFault}
 use Rattle.can_session.specs.Lines.{left_of}
 use Rattle.can_session.specs.Benches.{BenchState}
 use Rattle.can_session.specs.Runs.{Ends, Ran}
 use Rattle.can_session.proofs.Running.{of_start, of_more, of_all, ran_start, ran_on, ends_stop, push_length, counted_more, match_true, match_false}
-use Rattle.can_session.proofs.bench.run.Goals as goal
+use Rattle.can_session.proofs.bench_run.run.Goals as goal
 
 pub loop-number-init : goal.loop-number-init
 loop-number-init g c =

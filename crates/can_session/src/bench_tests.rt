@@ -1,0 +1,367 @@
+use crate::bench_run::{BenchConfig, BenchFault, bench};
+use can_attempt::AckMode;
+use can_bus::BusConfig;
+use can_fault::Script;
+use can_frame::{IfaceSet, Names};
+use std::alloc::Global;
+use std::io;
+use std::io::{ErrorKind, Read, Write};
+use std::process::Abort;
+use std::test::Fail;
+
+/// A bench of a test: its names, who acknowledges, its script, and how many events it has.
+#[derive(Clone, Copy)]
+struct Made {
+    names: &'static str,
+    ack: AckMode,
+    limit: u32,
+}
+
+const TWO: Made = Made {
+    names: "can0,can1",
+    ack: AckMode::Always,
+    limit: 1000,
+};
+
+const ALONE: Made = Made {
+    names: "can0",
+    ack: AckMode::Peers,
+    limit: 1000,
+};
+
+/// What a run of the bench wrote, and the fault that ended it, if there was one.
+#[derive(Drop)]
+struct Ran {
+    output: Vec<u8>,
+    fault: Option<BenchFault>,
+    entries: usize,
+}
+
+/// A reader of pieces of so many bytes, which fails at the end where it is broken.
+#[derive(Drop)]
+struct Pieces<'a> {
+    rest: &'a [u8],
+    size: usize,
+    is_broken: bool,
+}
+
+impl Read for Pieces<'_> {
+    fn read(&mut self, buf: &mut [u8]) -> io::Result<usize> {
+        if self.rest.is_empty() && self.is_broken {
+            return Err(io::Error::from(ErrorKind::TimedOut));
+        }
+        let size = self.size.min(self.rest.len()).min(buf.len());
+        buf[..size].copy_from_slice(&self.rest[..size]);
+        self.rest = &self.rest[size..];
+        Ok(size)
+    }
+}
+
+/// A writer that fails.
+#[derive(Drop)]
+struct Closed;
+
+impl Write for Closed {
+    fn write(&mut self, _buf: &[u8]) -> io::Result<usize> {
+        Err(io::Error::from(ErrorKind::BrokenPipe))
+    }
+
+    fn flush(&mut self) -> io::Result<()> {
+        Ok(())
+    }
+}
+
+fn config_of(alloc: Global, made: Made, script: &str) -> Result<BenchConfig<Script>, Fail> {
+    let names = Names::read(alloc, made.names).map_err(|_| Fail::new("not made"))?;
+    let script = Script::read(alloc, script, &names).map_err(|_| Fail::new("not made"))?;
+    Ok(BenchConfig {
+        config: BusConfig {
+            ifaces: names.count(),
+            ack: made.ack,
+            reporting: IfaceSet::empty(),
+            tx_capacity: 10,
+            limit: made.limit,
+        },
+        names,
+        script,
+        rx_capacity: 256,
+    })
+}
+
+/// Runs a bench over an input that comes in pieces of so many bytes.
+fn run(
+    alloc: Global,
+    made: Made,
+    script: &str,
+    input: &str,
+    size: usize,
+) -> Result<Ran, Fail> {
+    let config = config_of(alloc, made, script)?;
+    let pieces = Pieces {
+        rest: input.as_bytes(),
+        size,
+        is_broken: false,
+    };
+    let mut output = Vec::new(alloc);
+    match bench(alloc, config, pieces, &mut output) {
+        Ok(record) => Ok(Ran {
+            output,
+            fault: None,
+            entries: record.len(),
+        }),
+        Err(fault) => Ok(Ran {
+            output,
+            fault: Some(fault),
+            entries: 0,
+        }),
+    }
+}
+
+/// Runs a bench over an input that comes a byte at a time, and over one that comes as a whole, and compares what is
+/// written.
+fn writes(
+    rt: &(impl Abort + AllocGlobal),
+    made: Made,
+    script: &str,
+    input: &str,
+    wanted: &str,
+) -> Result<(), Fail> {
+    for size in [1, 65_536] {
+        let ran = run(rt.alloc(), made, script, input, size)?;
+        assert_eq!(rt; ran.output.as_slice(), wanted.as_bytes());
+        assert_eq!(rt; ran.fault, None);
+    }
+    Ok(())
+}
+
+/// Runs a bench over an input, and compares what is written before the fault that ends it.
+fn stops(
+    rt: &(impl Abort + AllocGlobal),
+    made: Made,
+    input: &str,
+    wanted: &str,
+    fault: BenchFault,
+) -> Result<(), Fail> {
+    let ran = run(rt.alloc(), made, "", input, 4096)?;
+    assert_eq!(rt; ran.output.as_slice(), wanted.as_bytes());
+    assert_eq!(rt; ran.fault, Some(fault));
+    Ok(())
+}
+
+/// The pieces, one behind the other.
+fn joined(alloc: Global, pieces: &[&str]) -> Result<String, Fail> {
+    let mut text = String::new(alloc);
+    for piece in pieces {
+        text.push_str(piece)?;
+    }
+    Ok(text)
+}
+
+/// A text so many times.
+fn times(alloc: Global, text: &str, count: usize) -> Result<String, Fail> {
+    let mut all = String::new(alloc);
+    for _ in 0..count {
+        all.push_str(text)?;
+    }
+    Ok(all)
+}
+
+/// The lines of so many attempts, a microsecond after one another, from 0.000001 on: at most 99 of them.
+fn attempts(alloc: Global, count: u8) -> Result<String, Fail> {
+    let mut lines = String::new(alloc);
+    for number in 1..count.saturating_add(1) {
+        lines.push_str("at 0.0000")?;
+        lines.push(char::from(b'0' + number / 10 % 10))?;
+        lines.push(char::from(b'0' + number % 10))?;
+        lines.push_str("\nattempt\n")?;
+    }
+    Ok(lines)
+}
+
+/// A script that gives the attempts 0 to 31 this verdict.
+fn ever(alloc: Global, verdict: &str) -> Result<String, Fail> {
+    let mut script = String::new(alloc);
+    for number in 0..32_u8 {
+        script.push(char::from(b'0' + number / 10))?;
+        script.push(char::from(b'0' + number % 10))?;
+        script.push(' ')?;
+        script.push_str(verdict)?;
+        script.push('\n')?;
+    }
+    Ok(script)
+}
+
+const STARTED: &str =
+    "session 1\nsession 2\nfeed 1 < open can0 >< rawmode >\nfeed 2 < open can1 >< rawmode >\n";
+
+const GREETED: &str = "1 < hi >\n2 < hi >\n1 < ok >< ok >\n2 < ok >< ok >\n";
+
+/// Two sessions in raw mode, one on each interface, and what follows.
+fn two_write(
+    rt: &(impl Abort + AllocGlobal),
+    script: &str,
+    rest: &str,
+    wanted: &str,
+) -> Result<(), Fail> {
+    let input = joined(rt.alloc(), &[STARTED, rest])?;
+    let output = joined(rt.alloc(), &[GREETED, wanted])?;
+    writes(rt, TWO, script, &input, &output)
+}
+
+#[test]
+fn frames_go_from_one_session_to_another(rt: HostRuntime) -> Result<(), Fail> {
+    // The script, what follows the two sessions, and what is written then.
+    let table = [
+        (
+            "",
+            "feed 1 < send 123 4 11 22 33 44 >\nat 23.424242\nattempt\ndrain 2\ndrain 1\nfeed 2 < stats >\n",
+            "tried can0 0 done can1 -\n2 < frame 123 23.424242 11223344 >\n2 < stats 1 0 1 0 0 0 0 0 >\n",
+        ),
+        (
+            "",
+            "feed 1 < send 123 0  >\nat 9999999999.999999\nattempt\ndrain 2",
+            "tried can0 0 done can1 -\n2 < frame 123 9999999999.999999  >\n",
+        ),
+        (
+            "",
+            "feed 1 < send 123 2 1 ff >\n# sent\n\nat 0000000007.000050\nattempt\nattempt\ndrain 2\n",
+            "tried can0 0 done can1 -\nidle\n2 < frame 123 7.000050 01FF >\n",
+        ),
+        (
+            "0 lastbit",
+            "session 3\nfeed 3 < open can0 >< rawmode >\nfeed 1 < send 123 0 >\nat 0.000001\nattempt\nat 0.000002\nattempt\ndrain 2\ndrain 3\ndrain 1\n",
+            "3 < hi >\n3 < ok >< ok >\ntried can0 0 lastbit can1 -\ntried can0 0 done can1 -\n2 < frame 123 0.000001  >< frame 123 0.000002  >\n3 < frame 123 0.000002  >\n",
+        ),
+        (
+            "",
+            "feed 1 < send 123 0 >\nattempt\nfeed 2 < close >< echo >\ndrain 2\nfeed 2 < echo >\nend 2\nend 1\nfeed 1 < echo >\n",
+            "tried can0 0 done can1 -\n2 < closed 1 0 >\n",
+        ),
+        (
+            "",
+            "feed 1 < sendrtr 00000123 3 >\nat 0.000005\nattempt\ndrain 2\n",
+            "tried can0 0 done can1 -\n2 < remote 00000123 0.000005 3 >\n",
+        ),
+        (
+            "",
+            "feed 1 < send 80000123 0 >\nfeed 2 < filter 1 123 7FF >\nattempt\nfeed 1 < send 124 0 >\nattempt\ndrain 2\n",
+            "2 < ok >\ntried can0 0 done can1 -\ntried can0 1 done can1 -\n2 < frame 00000123 0.000000  >\n",
+        ),
+        (
+            "",
+            "feed 1 < se\nfeed 1 nd 123 1\nfeed 1  7\nfeed 1  >\nattempt\ndrain 2\n",
+            "tried can0 0 done can1 -\n2 < frame 123 0.000000 07 >\n",
+        ),
+    ];
+    for (script, rest, wanted) in table {
+        two_write(&rt, script, rest, wanted)?;
+    }
+    Ok(())
+}
+
+#[test]
+fn commands_are_refused_with_their_faults(rt: HostRuntime) -> Result<(), Fail> {
+    let faults = "feed 1 < send 1234 0 >< send 800 0 >< send 123 9 >< send 123 1 >< filter 1 123 20000000 >< >< bcmmode >< open can0 >< send A0000123 0 >< stat >\n";
+    let told = "1 < error bad id >< error bad id >< error bad length >< error bad word count >< error invalid filter >< error empty message >< error mode not supported >< error wrong state >< error bad id >< error unknown command >\n";
+    two_write(&rt, "", faults, told)?;
+    let before = "session 7\nfeed 7 < send 123 0 >< open can2 >< open can1 >< send 123 0 >< rawmode >< rawmode >\n";
+    let answers = "7 < hi >\n7 < error wrong state >< error no such interface >< ok >< error wrong state >< ok >< ok >\n";
+    two_write(&rt, "", before, answers)
+}
+
+#[test]
+fn a_full_record_is_told(rt: HostRuntime) -> Result<(), Fail> {
+    let made = Made { limit: 2, ..ALONE };
+    let input = "session 1\nfeed 1 < open can0 >< rawmode >< send 123 0 >\nattempt\ndrain 1\nfeed 1 < stats >\n";
+    let output = "1 < hi >\n1 < ok >< ok >\nrecord full\n1 < error record full >\n1 < stats 0 0 0 1 0 1 0 0 >\n";
+    writes(&rt, made, "", input, output)
+}
+
+#[test]
+fn nobody_acknowledges(rt: HostRuntime) -> Result<(), Fail> {
+    let alloc = rt.alloc();
+    let before = "session 1\nfeed 1 < open can0 >< rawmode >< errmask 204 >< errdata 1 >< send 123 0 >\n";
+    let input = joined(alloc, &[before, &attempts(alloc, 17)?, "drain 1\n"])?;
+    let tried = times(alloc, "tried can0 0 noack - -\n", 17)?;
+    let errors = "1 < error 204 0.000012 0008000000006000 >< error 204 0.000016 0020000000008000 >\n";
+    let output = joined(alloc, &["1 < hi >\n1 < ok >< ok >< ok >< ok >\n", &tried, errors])?;
+    writes(&rt, ALONE, "", &input, &output)
+}
+
+#[test]
+fn an_interface_goes_off_and_comes_back(rt: HostRuntime) -> Result<(), Fail> {
+    let alloc = rt.alloc();
+    let before = "feed 1 < errmask 140 >< send 123 0 >< send 123 0 >< send 123 0 >\n";
+    let after = "drain 1\nfeed 1 < send 123 0 >\nat 0.000040\nfeed 1 < restart >\ndrain 1\nfeed 1 < stats >\nfeed 1 < send 123 0 >\nattempt\n";
+    let rest = joined(alloc, &[before, &attempts(alloc, 32)?, after])?;
+    let tried = times(alloc, "tried can0 0 destroyed - -\n", 31)?;
+    let off = "tried can0 0 destroyed - can0\n1 < error 040 0.000032 >\n1 < error bus off >\n";
+    let back = "1 < ok >\n1 < error 100 0.000040 >\n1 < stats 2 0 2 3 0 0 3 0 >\ntried can0 3 done can1 -\n";
+    let output = joined(alloc, &["1 < ok >\n", &tried, off, back])?;
+    two_write(&rt, &ever(alloc, "global bit")?, &rest, &output)
+}
+
+#[test]
+fn a_frame_is_received_at_most_32_times(rt: HostRuntime) -> Result<(), Fail> {
+    let alloc = rt.alloc();
+    let sent = "feed 1 < send 123 0 >\n";
+    let after = "drain 2\nfeed 1 < stats >\n";
+    let lines = times(alloc, "attempt\n", 32)?;
+    let rest = joined(alloc, &[sent, &lines, after])?;
+    let tried = times(alloc, "tried can0 0 lastbit can1 -\n", 31)?;
+    let frames = times(alloc, "< frame 123 0.000000  >", 32)?;
+    let last = "tried can0 0 lastbit can1 can0\n2 ";
+    let stats = "\n1 < stats 0 0 0 1 0 0 1 0 >\n";
+    let output = joined(alloc, &[&tried, last, &frames, stats])?;
+    two_write(&rt, &ever(alloc, "lastbit")?, &rest, &output)
+}
+
+#[test]
+fn faults_end_a_run(rt: HostRuntime) -> Result<(), Fail> {
+    let alloc = rt.alloc();
+    // A line behind the two sessions that is no good line.
+    let faulty = [
+        "at 10000000000.000000",
+        "attempt ",
+        "session 1",
+        "session 65",
+        "drain 3",
+        "end 3",
+        "feed 3 < echo >",
+        "feed 1",
+    ];
+    for line in faulty {
+        let input = joined(alloc, &[STARTED, line, "\nattempt\n"])?;
+        stops(&rt, TWO, &input, GREETED, BenchFault::BadLine(5))?;
+    }
+    let long = joined(alloc, &[STARTED, "#", &times(alloc, "#", 4096)?])?;
+    stops(&rt, TWO, &long, GREETED, BenchFault::BadLine(5))?;
+    let broken = Pieces {
+        rest: b"session 1\nsession",
+        size: 8,
+        is_broken: true,
+    };
+    let mut output = Vec::new(alloc);
+    let ended = bench(alloc, config_of(alloc, TWO, "")?, broken, &mut output);
+    assert_eq!(rt; output.as_slice(), b"1 < hi >\n".as_slice());
+    assert_eq!(rt; ended.err(), Some(BenchFault::Read));
+    let ended = bench(alloc, config_of(alloc, TWO, "")?, b"session 1\n".as_slice(), &mut Closed);
+    assert_eq!(rt; ended.err(), Some(BenchFault::Write));
+    Ok(())
+}
+
+#[test]
+fn bad_benches_are_refused(rt: HostRuntime) -> Result<(), Fail> {
+    let alloc = rt.alloc();
+    for (limit, rx_capacity, ifaces) in [(0, 256, 2), (9, 0, 2), (9, 65_537, 2), (9, 256, 1)] {
+        let mut config = config_of(alloc, TWO, "")?;
+        config.config.limit = limit;
+        config.config.ifaces = ifaces;
+        config.rx_capacity = rx_capacity;
+        let ended = bench(alloc, config, b"session 1\n".as_slice(), &mut Closed);
+        assert_eq!(rt; ended.err(), Some(BenchFault::BadConfig));
+    }
+    let ran = run(alloc, TWO, "", "session 1\nfeed 1 < open can0 >< rawmode >\nattempt\n", 9)?;
+    assert_eq!(rt; ran.entries, 2);
+    Ok(())
+}
