@@ -239,7 +239,7 @@ fn replies(alloc: Global, events: &[Event], config: BusConfig) -> Result<Vec<Rep
 ///
 /// Each is what the entries before it give; once there are as many entries as the limit, it is `RecordFull`.
 /// `BadConfig` comes exactly where no bus has this configuration. The time grows with the fourth power of the
-/// number of events: 300 of them take seconds.
+/// number of events.
 pub fn replies_of(
     alloc: Global,
     events: &[Event],

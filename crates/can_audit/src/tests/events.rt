@@ -111,3 +111,16 @@ pub fn mixed(rt: &impl AllocGlobal, seed: u64, count: u64) -> Result<Vec<Event>,
     }
     Ok(events)
 }
+
+/// A frame reaches socket 1, which has room for one item and takes it before its close.
+pub fn first_frame(rt: &impl AllocGlobal) -> Result<Vec<Event>, Fail> {
+    let mut events = Vec::new(rt.alloc());
+    events.push(open(0, 256)?)?;
+    events.push(open(1, 1)?)?;
+    events.push(Event::Send(SocketId(0), frame(0x123, &[0x01, 0xFF])?))?;
+    events.push(Event::Attempt(moment(1)?, Verdict::Good))?;
+    events.push(receive(1))?;
+    events.push(receive(1))?;
+    events.push(Event::Close(SocketId(1)))?;
+    Ok(events)
+}

@@ -12,19 +12,6 @@ use std::process::Abort;
 
 type ListBus = Bus<ListQueue<Pending>, ListQueue<Received>, ScanArbiter>;
 
-/// A frame reaches socket 1, which has room for one item and takes it before its close.
-fn first_frame(rt: &impl AllocGlobal) -> Result<Vec<Event>, Fail> {
-    let mut events = Vec::new(rt.alloc());
-    events.push(open(0, 256)?)?;
-    events.push(open(1, 1)?)?;
-    events.push(Event::Send(SocketId(0), frame(0x123, &[0x01, 0xFF])?))?;
-    events.push(Event::Attempt(moment(1)?, Verdict::Good))?;
-    events.push(receive(1))?;
-    events.push(receive(1))?;
-    events.push(Event::Close(SocketId(1)))?;
-    Ok(events)
-}
-
 /// Two more frames, before the socket's close and after it.
 fn more_frames(rt: &impl AllocGlobal) -> Result<Vec<Event>, Fail> {
     let mut events = Vec::new(rt.alloc());
@@ -84,7 +71,7 @@ fn one_frame(rt: &impl Abort, items: &[Received]) -> Result<(), Fail> {
 
 #[test]
 fn one_frame_reached_its_socket(rt: HostRuntime) -> Result<(), Fail> {
-    let bus = bus_after(&rt, &first_frame(&rt)?)?;
+    let bus = bus_after(&rt, &events::first_frame(&rt)?)?;
     one_frame(&rt, &queued_at(&rt, &bus, 1)?)?;
     one_frame(&rt, &offered_to(&rt, &bus, 1)?)?;
     one_frame(&rt, &from(&rt, &bus, 0)?)?;

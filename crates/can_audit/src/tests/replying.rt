@@ -4,7 +4,7 @@ use super::*;
 use crate::{ReplayFault, replies_of};
 use can_arbiter::ScanArbiter;
 use can_attempt::Class;
-use can_bus::{Bus, Pending, Received, Refusal, Reply, run};
+use can_bus::{Bus, Closed, Pending, Received, Refusal, Reply, Tried, run};
 use can_frame::Item;
 use can_queue::ListQueue;
 use std::alloc::AllocGlobal;
@@ -154,4 +154,53 @@ fn no_bus_answers_outside_its_limits(rt: HostRuntime) {
     assert!(rt; is_bad(&rt, config(17, 100)));
     assert!(rt; is_bad(&rt, config(1, 0)));
     assert!(rt; !is_bad(&rt, config(16, 16_777_216)));
+}
+
+/// The one frame that is sent is done, and interface 1 alone accepts it.
+fn first_attempt() -> Result<Tried, Fail> {
+    Ok(Tried {
+        moment: moment(1)?,
+        winner: iface(0)?,
+        number: 0,
+        frame: frame(0x123, &[0x01, 0xFF])?,
+        class: Class::Done,
+        accepted: IfaceSet(0x0002),
+        off: IfaceSet(0x0000),
+    })
+}
+
+fn first_item() -> Result<Received, Fail> {
+    Ok(Received {
+        item: Item::Data(frame(0x123, &[0x01, 0xFF])?),
+        from: iface(0)?,
+        number: 0,
+        moment: moment(1)?,
+    })
+}
+
+fn first_replies() -> Result<[Reply; 7], Fail> {
+    let counts = Closed {
+        unread: 0,
+        dropped: 0,
+    };
+    Ok([
+        Reply::Opened(SocketId(0)),
+        Reply::Opened(SocketId(1)),
+        Reply::Sent(0),
+        Reply::Tried(first_attempt()?),
+        Reply::Received(Some(first_item()?)),
+        Reply::Received(None),
+        Reply::Closed(counts),
+    ])
+}
+
+#[test]
+fn a_first_frame_is_answered(rt: HostRuntime) -> Result<(), Fail> {
+    let replies = counted(&rt, &events::first_frame(&rt)?, config(2, 100))?;
+    let wanted = first_replies()?;
+    assert_eq!(rt; replies.len(), 7);
+    for k in 0..7 {
+        assert!(rt; replies.get(k) == wanted.get(k));
+    }
+    Ok(())
 }
