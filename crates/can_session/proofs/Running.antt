@@ -58,7 +58,7 @@ ran_more {W} contents v lines line b mid after out between new more h k wrote =
     record {
       text = h.text ++ more;
       carried = carried_more v lines line b mid after h.text more h.carried k;
-      wrote = appends_more (contents out) (contents between) (contents new) h.text more h.wrote wrote
+      wrote = appends_more (contents out) (contents between) (contents new) h.text more h.wrote wrote;
     }
 
 appends_none : (a : Option (List ℕ)) → Appends a a []

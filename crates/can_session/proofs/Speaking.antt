@@ -16,5 +16,5 @@ speaks does s k b old new said text bus at there did put =
       started = ap (λ (n : ℕ). slice_get b.sessions n) (sym at) ∙ there;
       done = did;
       text_is = put;
-      after_is = ap (λ (n : ℕ). record b { sessions = slice_set b.sessions n (Some new); bus = bus }) at
+      after_is = ap (λ (n : ℕ). record b { sessions = slice_set b.sessions n (Some new); bus = bus }) at;
     }

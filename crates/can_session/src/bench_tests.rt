@@ -89,13 +89,7 @@ fn config_of(alloc: Global, made: Made, script: &str) -> Result<BenchConfig<Scri
 }
 
 /// Runs a bench over an input that comes in pieces of so many bytes.
-fn run(
-    alloc: Global,
-    made: Made,
-    script: &str,
-    input: &str,
-    size: usize,
-) -> Result<Ran, Fail> {
+fn run(alloc: Global, made: Made, script: &str, input: &str, size: usize) -> Result<Ran, Fail> {
     let config = config_of(alloc, made, script)?;
     let pieces = Pieces {
         rest: input.as_bytes(),
@@ -261,59 +255,87 @@ fn frames_go_from_one_session_to_another(rt: HostRuntime) -> Result<(), Fail> {
 
 #[test]
 fn commands_are_refused_with_their_faults(rt: HostRuntime) -> Result<(), Fail> {
-    let faults = "feed 1 < send 1234 0 >< send 800 0 >< send 123 9 >< send 123 1 >< filter 1 123 20000000 >< >< bcmmode >< open can0 >< send A0000123 0 >< stat >\n";
-    let told = "1 < error bad id >< error bad id >< error bad length >< error bad word count >< error invalid filter >< error empty message >< error mode not supported >< error wrong state >< error bad id >< error unknown command >\n";
+    let faults =
+        "feed 1 < send 1234 0 >< send 800 0 >< send 123 9 >< send 123 1 >< filter 1 123 20000000 >< >< bcmmode >< open can0 >< send A0000123 0 >< stat >\n";
+    let told =
+        "1 < error bad id >< error bad id >< error bad length >< error bad word count >< error invalid filter >< error empty message >< error mode not supported >< error wrong state >< error bad id >< error unknown command >\n";
     two_write(&rt, "", faults, told)?;
-    let before = "session 7\nfeed 7 < send 123 0 >< open can2 >< open can1 >< send 123 0 >< rawmode >< rawmode >\n";
-    let answers = "7 < hi >\n7 < error wrong state >< error no such interface >< ok >< error wrong state >< ok >< ok >\n";
+    let before =
+        "session 7\nfeed 7 < send 123 0 >< open can2 >< open can1 >< send 123 0 >< rawmode >< rawmode >\n";
+    let answers =
+        "7 < hi >\n7 < error wrong state >< error no such interface >< ok >< error wrong state >< ok >< ok >\n";
     two_write(&rt, "", before, answers)
 }
 
 #[test]
 fn a_full_record_is_told(rt: HostRuntime) -> Result<(), Fail> {
     let made = Made { limit: 2, ..ALONE };
-    let input = "session 1\nfeed 1 < open can0 >< rawmode >< send 123 0 >\nattempt\ndrain 1\nfeed 1 < stats >\n";
-    let output = "1 < hi >\n1 < ok >< ok >\nrecord full\n1 < error record full >\n1 < stats 0 0 0 1 0 1 0 0 >\n";
+    let input =
+        "session 1\nfeed 1 < open can0 >< rawmode >< send 123 0 >\nattempt\ndrain 1\nfeed 1 < stats >\n";
+    let output =
+        "1 < hi >\n1 < ok >< ok >\nrecord full\n1 < error record full >\n1 < stats 0 0 0 1 0 1 0 0 >\n";
     writes(&rt, made, "", input, output)
 }
+
+const ASKED: &str =
+    "session 1\nfeed 1 < open can0 >< rawmode >< errmask 204 >< errdata 1 >< send 123 0 >\n";
+
+const TOLD: &str =
+    "1 < error 204 0.000012 0008000000006000 >< error 204 0.000016 0020000000008000 >\n";
 
 #[test]
 fn nobody_acknowledges(rt: HostRuntime) -> Result<(), Fail> {
     let alloc = rt.alloc();
-    let before = "session 1\nfeed 1 < open can0 >< rawmode >< errmask 204 >< errdata 1 >< send 123 0 >\n";
-    let input = joined(alloc, &[before, &attempts(alloc, 17)?, "drain 1\n"])?;
+    let lines = attempts(alloc, 17)?;
     let tried = times(alloc, "tried can0 0 noack - -\n", 17)?;
-    let errors = "1 < error 204 0.000012 0008000000006000 >< error 204 0.000016 0020000000008000 >\n";
-    let output = joined(alloc, &["1 < hi >\n1 < ok >< ok >< ok >< ok >\n", &tried, errors])?;
+    let input = joined(alloc, &[ASKED, &lines, "drain 1\n"])?;
+    let output = joined(
+        alloc,
+        &["1 < hi >\n1 < ok >< ok >< ok >< ok >\n", &tried, TOLD],
+    )?;
     writes(&rt, ALONE, "", &input, &output)
 }
+
+const THREE_SENT: &str = "feed 1 < errmask 140 >< send 123 0 >< send 123 0 >< send 123 0 >\n";
+
+const RESTARTED: &str =
+    "drain 1\nfeed 1 < send 123 0 >\nat 0.000040\nfeed 1 < restart >\ndrain 1\nfeed 1 < stats >\nfeed 1 < send 123 0 >\nattempt\n";
+
+const WENT_OFF: &str =
+    "tried can0 0 destroyed - can0\n1 < error 040 0.000032 >\n1 < error bus off >\n";
+
+const CAME_BACK: &str =
+    "1 < ok >\n1 < error 100 0.000040 >\n1 < stats 2 0 2 3 0 0 3 0 >\ntried can0 3 done can1 -\n";
 
 #[test]
 fn an_interface_goes_off_and_comes_back(rt: HostRuntime) -> Result<(), Fail> {
     let alloc = rt.alloc();
-    let before = "feed 1 < errmask 140 >< send 123 0 >< send 123 0 >< send 123 0 >\n";
-    let after = "drain 1\nfeed 1 < send 123 0 >\nat 0.000040\nfeed 1 < restart >\ndrain 1\nfeed 1 < stats >\nfeed 1 < send 123 0 >\nattempt\n";
-    let rest = joined(alloc, &[before, &attempts(alloc, 32)?, after])?;
+    let script = ever(alloc, "global bit")?;
+    let lines = attempts(alloc, 32)?;
     let tried = times(alloc, "tried can0 0 destroyed - -\n", 31)?;
-    let off = "tried can0 0 destroyed - can0\n1 < error 040 0.000032 >\n1 < error bus off >\n";
-    let back = "1 < ok >\n1 < error 100 0.000040 >\n1 < stats 2 0 2 3 0 0 3 0 >\ntried can0 3 done can1 -\n";
-    let output = joined(alloc, &["1 < ok >\n", &tried, off, back])?;
-    two_write(&rt, &ever(alloc, "global bit")?, &rest, &output)
+    let rest = joined(alloc, &[THREE_SENT, &lines, RESTARTED])?;
+    let output = joined(alloc, &["1 < ok >\n", &tried, WENT_OFF, CAME_BACK])?;
+    two_write(&rt, &script, &rest, &output)
 }
+
+const ONE_SENT: &str = "feed 1 < send 123 0 >\n";
+
+const DRAINED: &str = "drain 2\nfeed 1 < stats >\n";
+
+const LAST_BIT: &str = "tried can0 0 lastbit can1 can0\n2 ";
+
+const ONE_LOST: &str = "\n1 < stats 0 0 0 1 0 0 1 0 >\n";
 
 #[test]
 fn a_frame_is_received_at_most_32_times(rt: HostRuntime) -> Result<(), Fail> {
     let alloc = rt.alloc();
-    let sent = "feed 1 < send 123 0 >\n";
-    let after = "drain 2\nfeed 1 < stats >\n";
+    let script = ever(alloc, "lastbit")?;
     let lines = times(alloc, "attempt\n", 32)?;
-    let rest = joined(alloc, &[sent, &lines, after])?;
     let tried = times(alloc, "tried can0 0 lastbit can1 -\n", 31)?;
     let frames = times(alloc, "< frame 123 0.000000  >", 32)?;
-    let last = "tried can0 0 lastbit can1 can0\n2 ";
-    let stats = "\n1 < stats 0 0 0 1 0 0 1 0 >\n";
-    let output = joined(alloc, &[&tried, last, &frames, stats])?;
-    two_write(&rt, &ever(alloc, "lastbit")?, &rest, &output)
+    let rest = joined(alloc, &[ONE_SENT, &lines, DRAINED])?;
+    let output = joined(alloc, &[&tried, LAST_BIT, &frames, ONE_LOST])?;
+    two_write(&rt, &script, &rest, &output)
 }
 
 #[test]
@@ -334,7 +356,8 @@ fn faults_end_a_run(rt: HostRuntime) -> Result<(), Fail> {
         let input = joined(alloc, &[STARTED, line, "\nattempt\n"])?;
         stops(&rt, TWO, &input, GREETED, BenchFault::BadLine(5))?;
     }
-    let long = joined(alloc, &[STARTED, "#", &times(alloc, "#", 4096)?])?;
+    let marks = times(alloc, "#", 4097)?;
+    let long = joined(alloc, &[STARTED, &marks])?;
     stops(&rt, TWO, &long, GREETED, BenchFault::BadLine(5))?;
     let broken = Pieces {
         rest: b"session 1\nsession",
@@ -342,10 +365,12 @@ fn faults_end_a_run(rt: HostRuntime) -> Result<(), Fail> {
         is_broken: true,
     };
     let mut output = Vec::new(alloc);
-    let ended = bench(alloc, config_of(alloc, TWO, "")?, broken, &mut output);
+    let config = config_of(alloc, TWO, "")?;
+    let ended = bench(alloc, config, broken, &mut output);
     assert_eq!(rt; output.as_slice(), b"1 < hi >\n".as_slice());
     assert_eq!(rt; ended.err(), Some(BenchFault::Read));
-    let ended = bench(alloc, config_of(alloc, TWO, "")?, b"session 1\n".as_slice(), &mut Closed);
+    let config = config_of(alloc, TWO, "")?;
+    let ended = bench(alloc, config, b"session 1\n".as_slice(), &mut Closed);
     assert_eq!(rt; ended.err(), Some(BenchFault::Write));
     Ok(())
 }
@@ -361,7 +386,13 @@ fn bad_benches_are_refused(rt: HostRuntime) -> Result<(), Fail> {
         let ended = bench(alloc, config, b"session 1\n".as_slice(), &mut Closed);
         assert_eq!(rt; ended.err(), Some(BenchFault::BadConfig));
     }
-    let ran = run(alloc, TWO, "", "session 1\nfeed 1 < open can0 >< rawmode >\nattempt\n", 9)?;
+    let ran = run(
+        alloc,
+        TWO,
+        "",
+        "session 1\nfeed 1 < open can0 >< rawmode >\nattempt\n",
+        9,
+    )?;
     assert_eq!(rt; ran.entries, 2);
     Ok(())
 }

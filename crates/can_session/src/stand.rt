@@ -10,10 +10,10 @@ ghost use Rattle.can_session.specs.Orders.{Effect, order_of};
 ghost use Rattle.can_session.specs.Benches.{spoken, beginning, session_at, Speaks, IsFed, IsDrained, IsEnded, IsTried, Does, IsCarriedOut, IsRefused};
 
 use crate::attempt_lines::{put_attempt, put_number};
-use crate::orders::{Order, SessionNumber, read_order};
-use crate::session::Session;
 use crate::bench_run::BenchFault;
 use crate::bus_port::BusPort;
+use crate::orders::{Order, SessionNumber, read_order};
+use crate::session::Session;
 use crate::turns::{self, BenchBus, BenchPort, NoMemory};
 use can_bus::{BusConfig, BusFault, Record, Refusal, Tried};
 use can_fault::FaultSource;
@@ -143,11 +143,7 @@ impl Stand {
     }
 
     /// Gives a session its items until there is none, if it was started: whether it was.
-    pub fn drain(
-        &mut self,
-        session: SessionNumber,
-        said: &mut Vec<u8>,
-    ) -> Result<bool, NoMemory>
+    pub fn drain(&mut self, session: SessionNumber, said: &mut Vec<u8>) -> Result<bool, NoMemory>
         requires { said.old.items ≡ [] }
         ensures { IfOk result (λ good. MatchBool good (Speaks IsDrained session self.old said.new.items self.new) (session_at self.old session ≡ Some None)) }
     {
@@ -176,11 +172,7 @@ impl Stand {
     }
 
     /// Starts a session, if its number was not used before: whether it was not.
-    pub fn start(
-        &mut self,
-        session: SessionNumber,
-        said: &mut Vec<u8>,
-    ) -> Result<bool, NoMemory>
+    pub fn start(&mut self, session: SessionNumber, said: &mut Vec<u8>) -> Result<bool, NoMemory>
         requires { said.old.items ≡ [] }
         ensures { IfOk result (λ good. MatchBool good (Does no_verdicts (Effect.Starts session) self.old said.new.items self.new) (session_at self.old session ≢ Some None)) }
     {
@@ -288,11 +280,7 @@ fn place_of(session: SessionNumber) -> usize
 }
 
 /// Adds what a session says in a line: its number, a space, the text and LF, or nothing at all.
-fn put_spoken(
-    said: &mut Vec<u8>,
-    session: SessionNumber,
-    text: &[u8],
-) -> Result<(), NoMemory>
+fn put_spoken(said: &mut Vec<u8>, session: SessionNumber, text: &[u8]) -> Result<(), NoMemory>
     requires { said.old.items ≡ [] }
     ensures { OnOk result (said.new.items ≡ spoken session text.now) }
 {
@@ -302,11 +290,7 @@ fn put_spoken(
     put_words(said, session, text).map_err(|_| NoMemory)
 }
 
-fn put_words(
-    said: &mut Vec<u8>,
-    session: SessionNumber,
-    text: &[u8],
-) -> Result<(), AllocError>
+fn put_words(said: &mut Vec<u8>, session: SessionNumber, text: &[u8]) -> Result<(), AllocError>
     ensures { OnOk result (said.new.items ≡ said.old.items ++ decimal session ++ 32 ∷ text.now ++ 10 ∷ []) }
 {
     put_number(said, u64::from(session.number()))?;

@@ -180,6 +180,29 @@ fn drained<P: Port>(session: &mut Session, alloc: Global, port: &mut P) -> Optio
     None
 }
 
+/// Whether a session writes this for a piece.
+fn says<P: Port>(
+    session: &mut Session,
+    alloc: Global,
+    piece: &[u8],
+    micros: u64,
+    port: &mut P,
+    want: &[u8],
+) -> bool {
+    match told(session, alloc, piece, micros, port) {
+        Some(text) => text.as_slice() == want,
+        None => false,
+    }
+}
+
+/// Whether a session writes this until there is no item more.
+fn drains<P: Port>(session: &mut Session, alloc: Global, port: &mut P, want: &[u8]) -> bool {
+    match drained(session, alloc, port) {
+        Some(text) => text.as_slice() == want,
+        None => false,
+    }
+}
+
 /// What a new session writes for its greeting and the pieces.
 fn told_in_pieces<P: Port>(
     alloc: Global,
@@ -267,8 +290,7 @@ fn a_long_message_is_told_and_the_next_is_read(rt: HostRuntime) {
         stream.extend_from_slice(b">< echo >").expect(&rt, "memory");
         let mut session = Session::new(rt.alloc(), 256).expect(&rt, "memory");
         let mut port = Counting::new();
-        let text = told(&mut session, rt.alloc(), &stream, 0, &mut port).expect(&rt, "memory");
-        assert_eq!(rt; text.as_slice(), want);
+        assert!(rt; says(&mut session, rt.alloc(), &stream, 0, &mut port, want));
     }
 }
 
@@ -293,14 +315,32 @@ fn faults_and_refusals_are_told(rt: HostRuntime) {
         (b"< filter 1 123 C00007FF >", b"< ok >"),
     ];
     for (piece, want) in cases {
-        let text = told(&mut session, rt.alloc(), piece, 0, &mut port).expect(&rt, "memory");
-        assert_eq!(rt; text.as_slice(), want, "at {piece:?}");
+        assert!(rt;
+            says(&mut session, rt.alloc(), piece, 0, &mut port, want),
+            "at {piece:?}"
+        );
     }
     let mut other = Session::new(rt.alloc(), 256).expect(&rt, "memory");
-    let text = told(&mut other, rt.alloc(), b"< open can2 >", 0, &mut port).expect(&rt, "memory");
-    assert_eq!(rt; text.as_slice(), b"< error no such interface >".as_slice());
-    let text = told(&mut other, rt.alloc(), b"<open \xFF>", 0, &mut port).expect(&rt, "memory");
-    assert_eq!(rt; text.as_slice(), b"< error no such interface >".as_slice());
+    assert!(rt;
+        says(
+            &mut other,
+            rt.alloc(),
+            b"< open can2 >",
+            0,
+            &mut port,
+            b"< error no such interface >"
+        )
+    );
+    assert!(rt;
+        says(
+            &mut other,
+            rt.alloc(),
+            b"<open \xFF>",
+            0,
+            &mut port,
+            b"< error no such interface >"
+        )
+    );
 }
 
 /// One attempt at a moment in microseconds.
@@ -317,18 +357,27 @@ fn a_frame_goes_from_one_session_to_another(rt: HostRuntime) {
     let mut one = raw_on(rt.alloc(), b"< open can0 >< rawmode >", &mut port).expect(&rt, "raw");
     let mut two = raw_on(rt.alloc(), b"< open can1 >< rawmode >", &mut port).expect(&rt, "raw");
     let send = b"< send 123 4 11 22 33 44 >";
-    let text = told(&mut one, rt.alloc(), send, 0, &mut port).expect(&rt, "memory");
-    assert!(rt; text.is_empty());
+    assert!(rt; says(&mut one, rt.alloc(), send, 0, &mut port, b""));
     assert!(rt; attempt(&mut port, 23_424_242, Verdict::Good));
-    let text = drained(&mut two, rt.alloc(), &mut port).expect(&rt, "memory");
-    assert_eq!(rt;
-        text.as_slice(),
-        b"< frame 123 23.424242 11223344 >".as_slice()
+    assert!(rt;
+        drains(
+            &mut two,
+            rt.alloc(),
+            &mut port,
+            b"< frame 123 23.424242 11223344 >"
+        )
     );
-    let text = drained(&mut one, rt.alloc(), &mut port).expect(&rt, "memory");
-    assert!(rt; text.is_empty());
-    let text = told(&mut two, rt.alloc(), b"< stats >", 0, &mut port).expect(&rt, "memory");
-    assert_eq!(rt; text.as_slice(), b"< stats 1 0 1 0 0 0 0 0 >".as_slice());
+    assert!(rt; drains(&mut one, rt.alloc(), &mut port, b""));
+    assert!(rt;
+        says(
+            &mut two,
+            rt.alloc(),
+            b"< stats >",
+            0,
+            &mut port,
+            b"< stats 1 0 1 0 0 0 0 0 >"
+        )
+    );
 }
 
 #[test]
@@ -340,8 +389,7 @@ fn nothing_follows_a_close(rt: HostRuntime) {
     told(&mut one, rt.alloc(), send, 0, &mut port).expect(&rt, "memory");
     assert!(rt; attempt(&mut port, 23_424_242, Verdict::Good));
     let close = b"< close >< echo >";
-    let text = told(&mut two, rt.alloc(), close, 0, &mut port).expect(&rt, "memory");
-    assert_eq!(rt; text.as_slice(), b"< closed 1 0 >".as_slice());
+    assert!(rt; says(&mut two, rt.alloc(), close, 0, &mut port, b"< closed 1 0 >"));
     assert_eq!(rt; two.stage(), Stage::Ended);
     assert!(rt; drained(&mut two, rt.alloc(), &mut port).is_none());
     assert!(rt; told(&mut two, rt.alloc(), b"< echo >", 0, &mut port).is_none());
@@ -352,14 +400,12 @@ fn error_message_frames_are_told_with_their_data(rt: HostRuntime) {
     let mut port = bus_of(rt.alloc(), "can0", AckMode::Peers).expect(&rt, "a bus");
     let mut one = raw_on(rt.alloc(), b"< open can0 >< rawmode >", &mut port).expect(&rt, "raw");
     let piece = b"< errmask 204 >< errdata 1 >< send 123 0 >";
-    let text = told(&mut one, rt.alloc(), piece, 0, &mut port).expect(&rt, "memory");
-    assert_eq!(rt; text.as_slice(), b"< ok >< ok >".as_slice());
+    assert!(rt; says(&mut one, rt.alloc(), piece, 0, &mut port, b"< ok >< ok >"));
     for micros in 1..18 {
         assert!(rt; attempt(&mut port, micros, Verdict::Good));
     }
-    let text = drained(&mut one, rt.alloc(), &mut port).expect(&rt, "memory");
     let want = b"< error 204 0.000012 0008000000006000 >< error 204 0.000016 0020000000008000 >";
-    assert_eq!(rt; text.as_slice(), want.as_slice());
+    assert!(rt; drains(&mut one, rt.alloc(), &mut port, want));
 }
 
 #[test]
@@ -371,16 +417,38 @@ fn a_restart_has_the_moment_of_its_piece(rt: HostRuntime) {
     for micros in 1..33 {
         assert!(rt; attempt(&mut port, micros, Verdict::Global(GlobalKind::Bit)));
     }
-    let text = drained(&mut one, rt.alloc(), &mut port).expect(&rt, "memory");
-    assert_eq!(rt; text.as_slice(), b"< error 040 0.000032 >".as_slice());
-    let text = told(&mut one, rt.alloc(), b"< send 123 0 >", 32, &mut port).expect(&rt, "memory");
-    assert_eq!(rt; text.as_slice(), b"< error bus off >".as_slice());
-    let text = told(&mut one, rt.alloc(), b"< restart >", 40, &mut port).expect(&rt, "memory");
-    assert_eq!(rt; text.as_slice(), b"< ok >".as_slice());
-    let text = drained(&mut one, rt.alloc(), &mut port).expect(&rt, "memory");
-    assert_eq!(rt; text.as_slice(), b"< error 100 0.000040 >".as_slice());
-    let text = told(&mut one, rt.alloc(), b"< stats >", 40, &mut port).expect(&rt, "memory");
-    assert_eq!(rt; text.as_slice(), b"< stats 2 0 2 3 0 0 3 0 >".as_slice());
+    assert!(rt; drains(&mut one, rt.alloc(), &mut port, b"< error 040 0.000032 >"));
+    assert!(rt;
+        says(
+            &mut one,
+            rt.alloc(),
+            b"< send 123 0 >",
+            32,
+            &mut port,
+            b"< error bus off >"
+        )
+    );
+    assert!(rt;
+        says(
+            &mut one,
+            rt.alloc(),
+            b"< restart >",
+            40,
+            &mut port,
+            b"< ok >"
+        )
+    );
+    assert!(rt; drains(&mut one, rt.alloc(), &mut port, b"< error 100 0.000040 >"));
+    assert!(rt;
+        says(
+            &mut one,
+            rt.alloc(),
+            b"< stats >",
+            40,
+            &mut port,
+            b"< stats 2 0 2 3 0 0 3 0 >"
+        )
+    );
 }
 
 /// What a feed, a delivery and an end of a session that is over answer: three times `Ended`.
@@ -430,10 +498,26 @@ fn a_writer_that_fails_ends_the_session(rt: HostRuntime) {
 fn a_piece_whose_text_is_not_taken_ends_the_session(rt: HostRuntime) {
     let mut port = Counting::new();
     let mut session = raw_on(rt.alloc(), b"< open can0 >< rawmode >", &mut port).expect(&rt, "raw");
-    let text = told(&mut session, rt.alloc(), b"< send 1 0 >", 0, &mut port).expect(&rt, "memory");
-    assert_eq!(rt; text.as_slice(), b"< error wrong station >".as_slice());
-    let text = told(&mut session, rt.alloc(), b"< stats >", 0, &mut port).expect(&rt, "memory");
-    assert_eq!(rt; text.as_slice(), b"< error no socket >".as_slice());
+    assert!(rt;
+        says(
+            &mut session,
+            rt.alloc(),
+            b"< send 1 0 >",
+            0,
+            &mut port,
+            b"< error wrong station >"
+        )
+    );
+    assert!(rt;
+        says(
+            &mut session,
+            rt.alloc(),
+            b"< stats >",
+            0,
+            &mut port,
+            b"< error no socket >"
+        )
+    );
     let mut out = Output::new(rt.alloc(), 3);
     let moment = Moment::new(0).expect(&rt, "a moment");
     let fed = session.feed(rt.alloc(), b"< echo >", moment, &mut port, &mut out);

@@ -13,7 +13,7 @@ returns-in_err-stand-clause-runs g c =
     let is = err_is c.from_residual.result fault c.from_residual.ensures in
     let start = at_start c.args.config.names c.args.config.config c.args.config.rx_capacity in
     λ good. subst (λ r. Ends IsRecordOf g.W.Write.contents (g.F.FaultSource.verdicts c.args.config.script) (g.R.Read.remaining c.args.input) start c.args.out.now r c.args.out.now) (sym is)
-        (ends_unmade IsRecordOf g.W.Write.contents (g.F.FaultSource.verdicts c.args.config.script) (g.R.Read.remaining c.args.input) start c.args.out.now fault c.in_err-stand.ensures.faults (λ bad. good (is ∙ ap (λ e. Err e) bad)))
+    (ends_unmade IsRecordOf g.W.Write.contents (g.F.FaultSource.verdicts c.args.config.script) (g.R.Read.remaining c.args.input) start c.args.out.now fault c.in_err-stand.ensures.faults (λ bad. good (is ∙ ap (λ e. Err e) bad)))
 
 pub returns-in_default-clause-runs : goal.returns-in_default-clause-runs
 returns-in_default-clause-runs g c =
@@ -31,8 +31,8 @@ returns-in_err-run-clause-runs g c =
     let leaves : Unit {0} → BenchState → Type 0 = λ _ after. after ≡ c.run.new.stand in
     let ended = ends_err leaves IsRecordOf contents v (left_of c.in-Ok.lines) c.in_ok-stand.stand c.args.out.now c.run.new.out fault c.in_err-run.ensures in
     λ _. subst (λ r. Ends IsRecordOf contents v (g.R.Read.remaining c.args.input) start c.args.out.now r c.run.new.out) (sym is)
-        (subst (λ (o : Option (List ℕ)). Ends IsRecordOf contents v o start c.args.out.now (Err fault) c.run.new.out) left
-            (subst (λ (b : BenchState). Ends IsRecordOf contents v (left_of c.in-Ok.lines) b c.args.out.now (Err fault) c.run.new.out) c.in_ok-stand.ensures.made ended))
+    (subst (λ (o : Option (List ℕ)). Ends IsRecordOf contents v o start c.args.out.now (Err fault) c.run.new.out) left
+    (subst (λ (b : BenchState). Ends IsRecordOf contents v (left_of c.in-Ok.lines) b c.args.out.now (Err fault) c.run.new.out) c.in_ok-stand.ensures.made ended))
 
 pub returns-clause-runs : goal.returns-clause-runs
 returns-clause-runs g c =
@@ -43,5 +43,5 @@ returns-clause-runs g c =
       ran.1,
       subst (λ (o : Option (List ℕ)). AreAll o ran.0) left ran.2,
       subst (λ (b : BenchState). Ran g.W.Write.contents (g.F.FaultSource.verdicts c.args.config.script) ran.0 b c.args.out.now ran.1 c.run.new.out) c.in_ok-stand.ensures.made ran.3,
-      subst (λ (b : BenchState). IsRecordOf c.into_record.result b) (sym ran.4) c.into_record.ensures.record
+      subst (λ (b : BenchState). IsRecordOf c.into_record.result b) (sym ran.4) c.into_record.ensures.record,
     )

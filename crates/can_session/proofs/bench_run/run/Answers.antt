@@ -26,7 +26,7 @@ loop-number-preserved g c =
       ap (λ (n : ℕ). n + 1) (inv.3 ∙ sym (push_length inv.0 new.line)),
       counted_more inv.0 old new inv.4 on.0,
       (let within = c.go_on.ensures.within.bytes in omega (arith, within)),
-      c.go_on.ensures.keeps ∙ inv.6
+      c.go_on.ensures.keeps ∙ inv.6,
     )
 
 pub returns-in-Ok-false : goal.returns-in-Ok-false
@@ -38,7 +38,7 @@ returns-in-Ok-false g c =
       c.loop-number.stand,
       of_all input inv.0 c.loop-number.lines c.go_on.new.lines inv.1 on.0,
       subst (λ w. Ran g.W.Write.contents (g.F.FaultSource.verdicts c.args.script.now) inv.0 c.args.stand.now c.args.out.now c.loop-number.stand w) (sym on.2) inv.2,
-      sym on.1
+      sym on.1,
     )
 
 pub returns-in-Err : goal.returns-in-Err
@@ -46,4 +46,4 @@ returns-in-Err g c =
     let inv = c.loop-number.invariant in
     let leaves : Unit {0} → BenchState → Type 0 = λ _ after. after ≡ c.go_on.new.stand in
     ends_stop leaves g.W.Write.contents (g.F.FaultSource.verdicts c.args.script.now) (left_of c.args.lines.now) inv.0 c.loop-number.number c.loop-number.lines c.go_on.new.lines c.args.stand.now c.loop-number.stand c.args.out.now c.loop-number.out c.go_on.new.out c.in-Err.fault
-        inv.1 c.go_on.ensures.within inv.3 inv.2 c.in-Err.ensures.stops
+    inv.1 c.go_on.ensures.within inv.3 inv.2 c.in-Err.ensures.stops

@@ -12,8 +12,8 @@ returns-in_ok-put_spoken-in-Some c =
     let after : BenchState = record old { sessions = slice_set stood.sessions.items c.place_of.result (Some c.drain.new.session); bus = c.drain.new.port } in
     let within = subst (λ (n : ℕ). c.place_of.result < n) (sym c.self.invariant) c.place_of.ensures.within in
     let there : slice_get stood.sessions.items c.place_of.result ≡ Some (Some c.in-Some.speaker)
-            = slice_get-get_or stood.sessions.items c.place_of.result c.index_mut.result.now within ∙ ap (λ (x : Option SessionState). Some x) (sym c.index_mut.ensures.value ∙ c.in-Some.is) in
+    = slice_get-get_or stood.sessions.items c.place_of.result c.index_mut.result.now within ∙ ap (λ (x : Option SessionState). Some x) (sym c.index_mut.ensures.value ∙ c.in-Some.is) in
     let put = c.in_ok-put_spoken-in-Some.ensures ∙ ap (spoken c.args.session) c.deref.ensures.value in
     subst (λ (b : BenchState). Speaks IsDrained c.args.session b c.put_spoken.new.said.items after) c.self.view_is
-        (speaks IsDrained c.args.session c.place_of.result old c.in-Some.speaker c.drain.new.session c.drain.new.text.items c.put_spoken.new.said.items c.drain.new.port
-            c.place_of.ensures.place there c.in_ok-drain-in-Some.ensures put)
+    (speaks IsDrained c.args.session c.place_of.result old c.in-Some.speaker c.drain.new.session c.drain.new.text.items c.put_spoken.new.said.items c.drain.new.port
+    c.place_of.ensures.place there c.in_ok-drain-in-Some.ensures put)
