@@ -1,0 +1,12 @@
+//! The text of a record: written, read and proved to be one text for one record.
+#![tactic(auto)]
+
+pub mod faults;
+mod fields;
+mod frame_words;
+mod event_writing;
+mod numbers;
+mod reply_writing;
+mod spelled;
+mod words;
+mod writing;
