@@ -2,6 +2,8 @@ ghost use Rattle.std.specs.Prelude.{◌≡◌, ◌≢◌, ◌<◌, ◌≤◌, �
 ghost use Rattle.can_frame.specs.Frames.{CanFrame, Identifier, IsIdentifier, is_remote};
 ghost use Rattle.can_frame.specs.Frames.Payload.{Data, Remote};
 ghost use Rattle.can_frame.specs.Arbitration.{arbitration_bits, GoesBefore, goes_before, Outranks, key_of, Wins, DifferInBits};
+ghost use Rattle.can_frame.specs.FrameText.{frame_spelling, IsItem, Spells};
+ghost use Rattle.can_frame.specs.declared.items.Item.{Item as AnItem};
 
 /// The frame with the lesser key outranks the other, and frames have one key exactly where their
 /// arbitration bits are equal.
@@ -61,4 +63,17 @@ pub fn equal_bits_mean_one_identifier()
     ensures { (a b : CanFrame) →
         IsIdentifier a.id → IsIdentifier b.id → arbitration_bits a ≡ arbitration_bits b →
         (a.id ≡ b.id) × (is_remote a.payload ≡ is_remote b.payload) }
+{}
+
+/// No text spells two items, so no written spelling belongs to two.
+pub fn frame_texts_tell_items_apart()
+    ensures spelled { (text : List ℕ) (a b : AnItem) →
+        IsItem a → IsItem b → Spells text a → Spells text b → a ≡ b }
+    ensures written { (a b : AnItem) →
+        IsItem a → IsItem b → frame_spelling a ≡ frame_spelling b → a ≡ b }
+{}
+
+/// What is written of an item spells it, so it is read back.
+pub fn written_frame_text_spells_its_item()
+    ensures { (i : AnItem) → IsItem i → Spells (frame_spelling i) i }
 {}

@@ -8,10 +8,15 @@
 //! A frame's `arbitration_key` is a number whose order is that of the bits by which frames compete on the
 //! bus. The laws say what this order is: who wins, that exactly one does where all bits differ, and that only
 //! frames of one identifier and kind can have equal bits.
+//!
+//! `frame_text` writes an item in the shape of candump's logs, and `read_frame_text` reads it in either case:
+//! it answers an item exactly where the text spells one, and no text spells two.
 #![tactic(auto)]
 
 pub mod arbitration;
 pub mod error_frames;
+mod frame_guess;
+pub mod frame_texts;
 pub mod frames;
 pub mod identifiers;
 pub mod ifaces;
@@ -19,14 +24,17 @@ pub mod items;
 pub mod laws;
 pub mod moments;
 pub mod names;
+pub mod texts;
 
 pub use error_frames::{ClassTooLarge, ErrorFrame};
+pub use frame_texts::{BadText, FrameText, frame_text, read_frame_text};
 pub use frames::{Frame, TooLong};
 pub use identifiers::{CanId, IdTooLarge};
 pub use ifaces::{Iface, IfaceSet};
 pub use items::Item;
 pub use moments::{Moment, MomentTooLarge};
 pub use names::{Names, NamesError, is_name};
+pub use texts::Text;
 
 #[cfg(test)]
 mod tests;

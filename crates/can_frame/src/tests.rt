@@ -1,4 +1,6 @@
-use crate::{Iface, Names, NamesError, is_name};
+use crate::{
+    CanId, ErrorFrame, Frame, Iface, Item, Names, NamesError, frame_text, is_name, read_frame_text,
+};
 
 #[test]
 fn names_are_the_pieces_between_the_commas(rt: HostRuntime) {
@@ -34,5 +36,105 @@ fn names_are_refused_by_their_rule(rt: HostRuntime) {
     }
     for (text, good) in [("can0", true), ("", false), ("can0,can1", false)] {
         assert_eq!(rt; is_name(text), good, "at {text}");
+    }
+}
+
+fn data(number: u16, bytes: &[u8]) -> Option<Item> {
+    Some(Item::Data(Frame::data(CanId::standard(number).ok()?, bytes).ok()?))
+}
+
+fn extended_data(number: u32, bytes: &[u8]) -> Option<Item> {
+    Some(Item::Data(Frame::data(CanId::extended(number).ok()?, bytes).ok()?))
+}
+
+fn remote(number: u16, len: u8) -> Option<Item> {
+    Some(Item::Data(Frame::remote(CanId::standard(number).ok()?, len).ok()?))
+}
+
+fn extended_remote(number: u32, len: u8) -> Option<Item> {
+    Some(Item::Data(Frame::remote(CanId::extended(number).ok()?, len).ok()?))
+}
+
+fn error(class: u32, bytes: [u8; 8]) -> Option<Item> {
+    Some(Item::Error(ErrorFrame::new(class, bytes).ok()?))
+}
+
+fn is_read(text: &str, item: Option<Item>) -> bool {
+    read_frame_text(text).ok() == item
+}
+
+fn is_written(item: Option<Item>, text: &str) -> bool {
+    match item {
+        Some(item) => frame_text(&item).as_bytes() == text.as_bytes(),
+        None => false,
+    }
+}
+
+#[test]
+fn every_kind_of_item_goes_there_and_back(rt: HostRuntime) {
+    let items = [
+        ("123#", data(0x123, b"")),
+        (
+            "7FF#0011223344556677",
+            data(0x7FF, b"\x00\x11\x22\x33\x44\x55\x66\x77"),
+        ),
+        ("00000123#AF", extended_data(0x123, b"\xAF")),
+        ("1FFFFFFF#", extended_data(0x1FFF_FFFF, b"")),
+        ("123#R", remote(0x123, 0)),
+        ("00A#R8", remote(0xA, 8)),
+        ("12345678#R4", extended_remote(0x1234_5678, 4)),
+        (
+            "20000204#0008000000006000",
+            error(0x204, [0, 8, 0, 0, 0, 0, 0x60, 0]),
+        ),
+        ("3FFFFFFF#FFFFFFFFFFFFFFFF", error(0x1FFF_FFFF, [0xFF; 8])),
+    ];
+    for (text, item) in items {
+        assert_eq!(rt; item.is_some(), true, "at {text}");
+        assert_eq!(rt; is_read(text, item), true, "at {text}");
+        assert_eq!(rt; is_written(item, text), true, "at {text}");
+    }
+}
+
+#[test]
+fn frame_text_is_read_in_either_case(rt: HostRuntime) {
+    assert_eq!(rt; is_read("7aB#fF0a", data(0x7AB, b"\xFF\x0A")), true);
+    assert_eq!(rt; is_read("123#r2", remote(0x123, 2)), true);
+    assert_eq!(rt; is_read("123#R0", remote(0x123, 0)), true);
+    assert_eq!(rt; is_read("123#r0", remote(0x123, 0)), true);
+    assert_eq!(rt; is_read("0000000a#r", extended_remote(0xA, 0)), true);
+}
+
+#[test]
+fn other_texts_are_bad(rt: HostRuntime) {
+    let texts = [
+        "",
+        "#",
+        "123",
+        "12#",
+        "1234#",
+        "800#",
+        "123#R9",
+        "123#R08",
+        "123#R00",
+        "123#1",
+        "123#1G",
+        "12g#",
+        "123#1.2",
+        "123#001122334455667788",
+        "123#+1",
+        " 123#",
+        "123# ",
+        "20000080#",
+        "20000080#00000000000000",
+        "20000080#000000000000000000",
+        "20000080#R",
+        "40000000#0000000000000000",
+        "A0000080#0000000000000000",
+        "12345678#00112233445566778899aabbccdd",
+        "123#é",
+    ];
+    for text in texts {
+        assert_eq!(rt; read_frame_text(text).is_err(), true, "at {text}");
     }
 }

@@ -1,0 +1,196 @@
+use Rattle.std.proofs.Common.{◌≡◌, inl, inr, ℕ, zero, suc, ◌+◌, ◌-◌, ◌*◌, ◌/◌, ◌%◌, ◌^◌, ◌<◌, ◌≤◌, Bool, true, false, eqb, ltb, leb, List, [], ◌∷◌, ◌++◌, length, Option, Some, None, refl, sym, ap, ◌∙◌, arith, append_assoc, length-append}
+use Rattle.std.specs.Option.{option_and_then}
+use Rattle.std.specs.Int.{w32, from_be_bytes}
+use Rattle.std.proofs.lemmas.List.{length_push}
+use Rattle.hex.specs.Hex.{IsBytes, encode_upper, upper_digits}
+use Rattle.hex.proofs.HexLemmas.{decode_sized-twice, decode_of-encode_upper, length-encode_with}
+use Rattle.can_frame.specs.Frames.{IsIdentifier, Payload}
+use Rattle.can_frame.specs.Frames.Payload.{Data, Remote}
+use Rattle.can_frame.specs.declared.items.Item.{Item}
+use Rattle.can_frame.specs.declared.items.Item.TheVariants as item
+use Rattle.can_frame.specs.FrameText.{digit_of, digits, pairs, id_text, payload_text, frame_spelling, AsksForNothing, IsPayload, IsItem, IsSpelling}
+use Rattle.can_frame.specs.FrameGuess.{bytes_in, padded, number_in, stands_at, request_in, data_in, payload_in, frame_in, error_in, standard_in, long_in, short_item_in, long_item_in, item_in}
+use Rattle.can_frame.proofs.Digits.{pairs-upper, request-text}
+
+-- What is spelled is guessed.
+
+abbrev get_some : Item → Option Item → Item
+get_some d (Some i) = i
+get_some d None = d
+
+-- the bytes of pairs
+bytes_again : (n : ℕ) (bytes : List ℕ) → length bytes ≡ n → IsBytes bytes → bytes_in n (pairs bytes) ≡ Some bytes
+unfolding bytes_in
+bytes_again n bytes len h =
+    let long = length-encode_with upper_digits bytes in
+    let whole = decode_sized-twice (encode_upper bytes) n (omega (arith, long, len)) ∙ decode_of-encode_upper bytes h in
+    rw (pairs-upper bytes h, whole) refl
+
+length-pairs : (bytes : List ℕ) → length (pairs bytes) ≡ 2 * length bytes
+length-pairs [] = refl
+length-pairs (b ∷ bs) = let again = length-pairs bs in omega (arith, again)
+
+cons : (x y : ℕ) (xs ys : List ℕ) → x ≡ y → xs ≡ ys → digit_of x ∷ xs ≡ digit_of y ∷ ys
+cons x y xs ys e es = ap (λ (z : ℕ). digit_of z ∷ xs) e ∙ ap (λ (zs : List ℕ). digit_of y ∷ zs) es
+
+-- a number's four bytes
+abbrev four : ℕ → List ℕ
+four n = n / 2 ^ 24 ∷ n / 2 ^ 16 % 256 ∷ n / 2 ^ 8 % 256 ∷ n % 256 ∷ []
+
+digits-four : (n : ℕ) → n < 2 ^ 32 → digits 16 8 n ≡ pairs (four n)
+digits-four n h =
+    cons _ _ _ _ (omega arith) (cons _ _ _ _ (omega arith) (cons _ _ _ _ (omega arith) (cons _ _ _ _ (omega arith)
+    (cons _ _ _ _ (omega arith) (cons _ _ _ _ (omega arith) (cons _ _ _ _ (omega arith) (cons _ _ _ _ (omega arith) refl)))))))
+
+IsBytes-four : (n : ℕ) → n < 2 ^ 32 → IsBytes (four n)
+IsBytes-four n h zero = omega arith
+IsBytes-four n h (suc zero) = omega arith
+IsBytes-four n h (suc (suc zero)) = omega arith
+IsBytes-four n h (suc (suc (suc zero))) = omega arith
+IsBytes-four n h (suc (suc (suc (suc k)))) = omega arith
+
+from-four : (n : ℕ) → n < 2 ^ 32 → from_be_bytes w32 (four n) ≡ n
+from-four n h = omega arith
+
+number_again : (n : ℕ) → n < 2 ^ 32 → number_in (digits 16 8 n) ≡ Some n
+unfolding number_in
+number_again n h = rw (digits-four n h) (rw (bytes_again 4 (four n) refl (IsBytes-four n h)) (ap Some (from-four n h)))
+
+digits-three : (n : ℕ) → n < 2 ^ 11 → padded (digits 16 3 n) ≡ digits 16 8 n
+digits-three n h =
+    cons 0 _ _ _ (omega arith) (cons 0 _ _ _ (omega arith) (cons 0 _ _ _ (omega arith) (cons 0 _ _ _ (omega arith)
+    (cons 0 _ _ _ (omega arith) (cons _ _ _ _ (omega arith) (cons _ _ _ _ (omega arith) (cons _ _ _ _ (omega arith) refl)))))))
+
+number_again-short : (n : ℕ) → n < 2 ^ 11 → number_in (digits 16 3 n) ≡ Some n
+unfolding number_in
+number_again-short n h = rw (digits-three n h) (number_again n (omega (arith, h)))
+
+lt-true : (a b : ℕ) → a < b → ltb a b ≡ true
+lt-true a b h = grind arith
+
+lt-false : (a b : ℕ) → b ≤ a → ltb a b ≡ false
+lt-false a b h = grind arith
+
+le-true : (a b : ℕ) → a ≤ b → leb a b ≡ true
+le-true a b h = grind arith
+
+-- no digit is a mark
+no-hash : (v : ℕ) → eqb (digit_of v) 35 ≡ false
+no-hash v = grind arith
+
+no-request : (v : ℕ) → v < 16 → eqb (digit_of v) 82 ≡ false
+no-request v h = grind arith
+
+-- three bytes before the mark
+at_three : (a b c : ℕ) (rest : List ℕ) → item_in (a ∷ b ∷ c ∷ 35 ∷ rest) ≡ option_and_then (λ n. standard_in n rest) (number_in (a ∷ b ∷ c ∷ []))
+unfolding item_in short_item_in
+at_three a b c rest = rw (lt-true 3 (length (a ∷ b ∷ c ∷ 35 ∷ rest)) (omega arith)) refl
+
+-- eight bytes before it
+at_eight : (a b c d e f g h : ℕ) (rest : List ℕ) → eqb d 35 ≡ false → item_in (a ∷ b ∷ c ∷ d ∷ e ∷ f ∷ g ∷ h ∷ 35 ∷ rest) ≡ option_and_then (λ n. long_in n rest) (number_in (a ∷ b ∷ c ∷ d ∷ e ∷ f ∷ g ∷ h ∷ []))
+unfolding item_in long_item_in
+at_eight a b c d e f g h rest k =
+    let long = lt-true 8 (length (a ∷ b ∷ c ∷ d ∷ e ∷ f ∷ g ∷ h ∷ 35 ∷ rest)) (omega arith) in
+    let other = lt-true 3 (length (a ∷ b ∷ c ∷ d ∷ e ∷ f ∷ g ∷ h ∷ 35 ∷ rest)) (omega arith) in
+    rw (other, k, long) refl
+
+standard-front : (n : ℕ) (rest : List ℕ) → n < 2 ^ 11 → item_in (digits 16 3 n ++ 35 ∷ rest) ≡ frame_in (record { extended = false; number = n }) rest
+unfolding standard_in
+standard-front n rest h = at_three _ _ _ rest ∙ rw (number_again-short n h, lt-true n (2 ^ 11) h) refl
+
+long-front : (n : ℕ) (rest : List ℕ) → n < 2 ^ 32 → item_in (digits 16 8 n ++ 35 ∷ rest) ≡ long_in n rest
+long-front n rest h = at_eight _ _ _ _ _ _ _ _ rest (no-hash _) ∙ rw (number_again n h) refl
+
+id-front : (extended : Bool) (n : ℕ) (rest : List ℕ) → IsIdentifier (record { extended = extended; number = n }) → item_in (id_text (record { extended = extended; number = n }) ++ 35 ∷ rest) ≡ frame_in (record { extended = extended; number = n }) rest
+unfolding long_in
+id-front false n rest h = standard-front n rest h
+id-front true n rest h = long-front n rest (omega (arith, h)) ∙ rw (lt-true n (2 ^ 29) h) refl
+
+one-digit : (d : ℕ) → 48 ≤ d → d ≤ 56 → payload_in (82 ∷ d ∷ []) ≡ Some (Remote (d - 48))
+unfolding payload_in request_in
+one-digit d low high = rw (le-true 48 d low, le-true d 56 high) refl
+
+request-zero : payload_in (82 ∷ []) ≡ Some (Remote 0)
+unfolding payload_in request_in
+request-zero = refl
+
+request-again : (len : ℕ) → len ≤ 8 → payload_in (payload_text (Remote len)) ≡ Some (Remote len)
+request-again zero h = request-zero
+request-again (suc k) h =
+    let back : 48 + suc k - 48 ≡ suc k = omega arith in
+    ap payload_in (request-text (suc k) (omega arith) h) ∙ one-digit (48 + suc k) (omega arith) (omega (arith, h)) ∙ ap (λ (n : ℕ). Some (Remote n)) back
+
+data-again : (bytes : List ℕ) → length bytes ≤ 8 → IsBytes bytes → data_in (pairs bytes) ≡ Some bytes
+unfolding data_in
+data-again bytes h fits =
+    let len = length-pairs bytes in
+    let half : length (pairs bytes) / 2 ≡ length bytes = omega (arith, len) in
+    rw (half, le-true (length bytes) 8 h) (bytes_again (length bytes) bytes refl fits)
+
+no-request-in : (bytes : List ℕ) → IsBytes bytes → stands_at 82 0 (pairs bytes) ≡ false
+no-request-in [] h = refl
+no-request-in (b ∷ bs) h = rw (lt-true 0 (length (pairs (b ∷ bs))) (omega arith), no-request (b / 16 % 16) (omega arith)) refl
+
+payload-again : (p : Payload) → IsPayload p → payload_in (payload_text p) ≡ Some p
+unfolding payload_in
+payload-again (Data bytes) h = rw (no-request-in bytes h.1, data-again bytes h.0 h.1) refl
+payload-again (Remote len) h = request-again len h
+
+error-again : (class : ℕ) (bytes : List ℕ) → class < 2 ^ 29 → length bytes ≡ 8 → IsBytes bytes → long_in (2 ^ 29 + class) (pairs bytes) ≡ Some (item.Error (record { class = class; bytes = bytes }))
+unfolding long_in error_in
+error-again class bytes h eight fits =
+    let back : 2 ^ 29 + class - 2 ^ 29 ≡ class = omega arith in
+    rw (lt-false (2 ^ 29 + class) (2 ^ 29) (omega arith), back, lt-true class (2 ^ 29) h, bytes_again 8 bytes eight fits) refl
+
+-- the written spelling is guessed
+pub item_again : (i : Item) → IsItem i → item_in (frame_spelling i) ≡ Some i
+unfolding frame_spelling frame_in
+item_again (item.Data f) h = id-front f.id.extended f.id.number (payload_text f.payload) h.0 ∙ rw (payload-again f.payload h.1) refl
+item_again (item.Error e) h = long-front (2 ^ 29 + e.class) (pairs e.bytes) (omega (arith, h.0)) ∙ error-again e.class e.bytes h.0 h.1 h.2
+
+zero-payload : (p : Payload) → p ≡ Remote 0 → payload_in (payload_text p ++ 48 ∷ []) ≡ Some p
+unfolding payload_in request_in
+zero-payload p asks = rw asks refl
+
+-- and that of a remote frame with its length of 0
+zero_again : (i : Item) → IsItem i → AsksForNothing i → item_in (frame_spelling i ++ 48 ∷ []) ≡ Some i
+unfolding frame_spelling frame_in
+zero_again (item.Data f) h asks =
+    ap item_in (append_assoc (id_text f.id) (35 ∷ payload_text f.payload) (48 ∷ []))
+    ∙ id-front f.id.extended f.id.number (payload_text f.payload ++ 48 ∷ []) h.0
+    ∙ rw (zero-payload f.payload asks) refl
+zero_again (item.Error e) h asks = absurd asks
+
+-- a text guesses what it spells
+pub guessed : (text : List ℕ) (i : Item) → IsItem i → IsSpelling text i → item_in text ≡ Some i
+guessed text i h (inl e) = rw e (item_again i h)
+guessed text i h (inr z) = rw z.1 (zero_again i h z.0)
+
+-- so it spells one item
+pub one_item : (text : List ℕ) (a b : Item) → IsItem a → IsItem b → IsSpelling text a → IsSpelling text b → a ≡ b
+one_item text a b ha hb sa sb = Some-injective a b (sym (guessed text a ha sa) ∙ guessed text b hb sb)
+  where
+    Some-injective : (x y : Item) → Some x ≡ Some y → x ≡ y
+    Some-injective x y e = ap (get_some x) e
+
+-- no text that spells an item is long
+length-id : (extended : Bool) (n : ℕ) → length (id_text (record { extended = extended; number = n })) ≤ 8
+length-id false n = omega arith
+length-id true n = omega arith
+
+length-request : (len : ℕ) → len ≤ 8 → length (payload_text (Remote len)) ≤ 16
+length-request zero h = omega arith
+length-request (suc k) h = let l = ap length (request-text (suc k) (omega arith) h) in omega (arith, l)
+
+length-payload : (p : Payload) → IsPayload p → length (payload_text p) ≤ 16
+length-payload (Data bytes) h = omega (arith, h.0, length-pairs bytes)
+length-payload (Remote len) h = length-request len h
+
+length-spelling : (i : Item) → IsItem i → length (frame_spelling i) ≤ 25
+unfolding frame_spelling
+length-spelling (item.Data f) h = omega (arith, length-append (id_text f.id) (35 ∷ payload_text f.payload), length-id f.id.extended f.id.number, length-payload f.payload h.1)
+length-spelling (item.Error e) h = omega (arith, h.1, length-pairs e.bytes)
+
+pub short : (text : List ℕ) (i : Item) → IsItem i → IsSpelling text i → length text ≤ 26
+short text i h (inl e) = let l = length-spelling i h in omega (arith, ap length e, l)
+short text i h (inr z) = let l = length-spelling i h in omega (arith, ap length z.1, length_push (frame_spelling i) 48, l)

@@ -1,0 +1,61 @@
+use Rattle.std.specs.Prelude.{ℕ, ◌-◌, ◌/◌, ◌^◌, ◌==◌, ◌&&◌, nat_lt, nat_le, Bool, true, false, if◌then◌else◌, List, ◌++◌, length, take, drop, replicate, slice_index, Option, Some, None}
+use Rattle.std.specs.Result.{result_ok}
+use Rattle.std.specs.Int.{w32, from_be_bytes}
+use Rattle.std.specs.Option.{option_map, option_and_then}
+use Rattle.hex.specs.Hex.{decode_sized}
+use Rattle.can_frame.specs.Frames.{Identifier, Payload}
+use Rattle.can_frame.specs.Frames.Payload.{Data, Remote}
+use Rattle.can_frame.specs.declared.items.Item.{Item}
+use Rattle.can_frame.specs.declared.items.Item.TheVariants as item
+
+-- The item that an upper-case text may spell: what was guessed is written again, and compared (own choice).
+
+-- the bytes of pairs of digits
+unfoldable pub bytes_in : ℕ → List ℕ → Option (List ℕ)
+bytes_in n text = result_ok (decode_sized text n)
+
+-- at most 8 digits with zeros in front of them
+abbrev pub padded : List ℕ → List ℕ
+padded ds = replicate (8 - length ds) 48 ++ ds
+
+-- the number of at most 8 digits
+unfoldable pub number_in : List ℕ → Option ℕ
+number_in ds = option_map (from_be_bytes w32) (bytes_in 4 (padded ds))
+
+-- a mark stands at a place
+abbrev pub stands_at : ℕ → ℕ → List ℕ → Bool
+stands_at mark k text = nat_lt k (length text) && slice_index text k == mark
+
+-- what a remote frame asks for
+unfoldable pub request_in : List ℕ → Option ℕ
+request_in text = if length text == 0 then Some 0 else if nat_le 48 (slice_index text 0) && nat_le (slice_index text 0) 56 then Some (slice_index text 0 - 48) else None
+
+-- the data
+unfoldable pub data_in : List ℕ → Option (List ℕ)
+data_in text = if nat_le (length text / 2) 8 then bytes_in (length text / 2) text else None
+
+unfoldable pub payload_in : List ℕ → Option Payload
+payload_in text = if stands_at 82 0 text then option_map Remote (request_in (drop 1 text)) else option_map Data (data_in text)
+
+unfoldable pub frame_in : Identifier → List ℕ → Option Item
+frame_in id text = option_map (λ payload. item.Data (record { id = id; payload = payload })) (payload_in text)
+
+unfoldable pub error_in : ℕ → List ℕ → Option Item
+error_in class text = if nat_lt class (2 ^ 29) then option_map (λ bytes. item.Error (record { class = class; bytes = bytes })) (bytes_in 8 text) else None
+
+-- with 3 digits
+unfoldable pub standard_in : ℕ → List ℕ → Option Item
+standard_in n text = if nat_lt n (2 ^ 11) then frame_in (record { extended = false; number = n }) text else None
+
+-- with 8 digits
+unfoldable pub long_in : ℕ → List ℕ → Option Item
+long_in n text = if nat_lt n (2 ^ 29) then frame_in (record { extended = true; number = n }) text else error_in (n - 2 ^ 29) text
+
+unfoldable pub short_item_in : List ℕ → Option Item
+short_item_in text = option_and_then (λ n. standard_in n (drop 4 text)) (number_in (take 3 text))
+
+unfoldable pub long_item_in : List ℕ → Option Item
+long_item_in text = option_and_then (λ n. long_in n (drop 9 text)) (number_in (take 8 text))
+
+unfoldable pub item_in : List ℕ → Option Item
+item_in text = if stands_at 35 3 text then short_item_in text else if stands_at 35 8 text then long_item_in text else None

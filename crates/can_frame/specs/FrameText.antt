@@ -1,0 +1,66 @@
+use Rattle.std.specs.Prelude.{◌≡◌, ◌<◌, ◌≤◌, ◌⊎◌, ℕ, zero, suc, ◌+◌, ◌/◌, ◌%◌, ◌^◌, ◌==◌, nat_lt, if◌then◌else◌, List, [], ◌∷◌, ◌++◌, length, map}
+use Rattle.std.specs.Char.{to_ascii_uppercase}
+use Rattle.std.specs.Fmt.{decimal}
+use Rattle.hex.specs.Hex.{IsBytes}
+use Rattle.can_frame.specs.Frames.{Identifier, IsIdentifier, Payload}
+use Rattle.can_frame.specs.Frames.Payload.{Data, Remote}
+use Rattle.can_frame.specs.declared.items.Item.{Item}
+use Rattle.can_frame.specs.declared.items.Item.TheVariants as item
+
+-- Frames as text, in the shape of candump's log files (can-utils).
+
+-- a digit, upper case
+abbrev pub digit_of : ℕ → ℕ
+digit_of v = if nat_lt v 10 then 48 + v else 55 + v
+
+-- the last `count` digits of a number in a base
+abbrev pub digits : ℕ → ℕ → ℕ → List ℕ
+digits base zero n = []
+digits base (suc count) n = digits base count (n / base) ++ digit_of (n % base) ∷ []
+
+-- bytes as joined pairs of hexadecimal digits
+abbrev pub pairs : List ℕ → List ℕ
+pairs [] = []
+pairs (b ∷ bs) = digits 16 2 b ++ pairs bs
+
+-- an identifier: 3 hexadecimal digits, or 8 where it has 29 bits
+abbrev pub id_text : Identifier → List ℕ
+id_text id = digits 16 (if id.extended then 8 else 3) id.number
+
+-- the data; of a remote frame `R` (82), and the length that it asks for where this is not 0
+abbrev pub payload_text : Payload → List ℕ
+payload_text (Data bytes) = pairs bytes
+payload_text (Remote len) = 82 ∷ (if len == 0 then [] else decimal len)
+
+-- the written spelling of an item: what stands before the `#` (35) says what it is. An error message frame has
+-- its class there, with bit 29 set (CAN_ERR_FLAG of linux/can.h)
+unfoldable pub frame_spelling : Item → List ℕ
+frame_spelling (item.Data f) = id_text f.id ++ 35 ∷ payload_text f.payload
+frame_spelling (item.Error e) = digits 16 8 (2 ^ 29 + e.class) ++ 35 ∷ pairs e.bytes
+
+-- the text in upper case
+abbrev pub upper : List ℕ → List ℕ
+upper text = map to_ascii_uppercase text
+
+-- a remote frame that asks for no bytes
+abbrev pub AsksForNothing : Item → Type 0
+AsksForNothing (item.Data f) = f.payload ≡ Remote 0
+AsksForNothing (item.Error e) = ⊥
+
+-- a payload that a frame may carry: at most 8 bytes, or a request for so many
+abbrev pub IsPayload : Payload → Type 0
+IsPayload (Data bytes) = (length bytes ≤ 8) × IsBytes bytes
+IsPayload (Remote len) = len ≤ 8
+
+-- an item that there is
+abbrev pub IsItem : Item → Type 0
+IsItem (item.Data f) = IsIdentifier f.id × IsPayload f.payload
+IsItem (item.Error e) = (e.class < 2 ^ 29) × (length e.bytes ≡ 8) × IsBytes e.bytes
+
+-- an upper-case text is the written spelling, or that of a remote frame of length 0 with this length behind it, `0` (48)
+abbrev pub IsSpelling : List ℕ → Item → Type 0
+IsSpelling text i = (text ≡ frame_spelling i) ⊎ (AsksForNothing i × (text ≡ frame_spelling i ++ 48 ∷ []))
+
+-- a text spells an item, in either case
+abbrev pub Spells : List ℕ → Item → Type 0
+Spells text i = IsSpelling (upper text) i

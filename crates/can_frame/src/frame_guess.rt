@@ -1,0 +1,157 @@
+ghost use Rattle.std.specs.Prelude.{◌≡◌, ◌<◌, ◌≤◌, length, IsTrue, IfSome};
+ghost use Rattle.std.specs.Option.{option_map};
+ghost use Rattle.can_frame.specs.Frames.Payload.{Data, Remote};
+ghost use Rattle.can_frame.specs.FrameGuess.{stands_at, padded, number_in, request_in, data_in, payload_in, frame_in, error_in, standard_in, long_in, short_item_in, long_item_in, item_in};
+
+use crate::error_frames::ErrorFrame;
+use crate::frames::Frame;
+use crate::identifiers::CanId;
+use crate::items::Item;
+use hex::decode_to_slice;
+
+/// The item that an upper-case text may spell: it has to be written again, and compared.
+#[tactic(auto, unfolding(crate::specs::FrameGuess::item_in))]
+pub fn guess_item(text: &[u8]) -> Option<Item>
+    ensures { result ≡ item_in text.now }
+{
+    if stands_at(b'#', 3, text) {
+        return with_three(text);
+    }
+    if stands_at(b'#', 8, text) {
+        return with_eight(text);
+    }
+    None
+}
+
+/// Whether a byte of the text is this mark.
+fn stands_at(mark: u8, place: usize, text: &[u8]) -> bool
+    ensures test { result ≡ stands_at mark place text.now }
+    ensures within { IsTrue result → place < length text.now }
+{
+    place < text.len() && text[place] == mark
+}
+
+/// With 3 digits before the `#`.
+#[tactic(auto, unfolding(crate::specs::FrameGuess::short_item_in))]
+fn with_three(text: &[u8]) -> Option<Item>
+    requires { 3 < length text.now }
+    ensures { result ≡ short_item_in text.now }
+{
+    let number = number(&text[..3])?;
+    standard(number, &text[4..])
+}
+
+/// With 8 digits before the `#`.
+#[tactic(auto, unfolding(crate::specs::FrameGuess::long_item_in))]
+fn with_eight(text: &[u8]) -> Option<Item>
+    requires { 8 < length text.now }
+    ensures { result ≡ long_item_in text.now }
+{
+    let number = number(&text[..8])?;
+    long(number, &text[9..])
+}
+
+#[tactic(auto, unfolding(crate::specs::FrameGuess::standard_in))]
+fn standard(number: u32, text: &[u8]) -> Option<Item>
+    ensures { result ≡ standard_in number text.now }
+{
+    if number >= 0x800 {
+        return None;
+    }
+    let id = CanId::standard(number as u16).ok()?;
+    frame(id, text)
+}
+
+/// A number of 8 digits: bit 29 marks an error message frame.
+#[tactic(auto, unfolding(crate::specs::FrameGuess::long_in))]
+fn long(number: u32, text: &[u8]) -> Option<Item>
+    ensures { result ≡ long_in number text.now }
+{
+    if number < 0x2000_0000 {
+        let id = CanId::extended(number).ok()?;
+        return frame(id, text);
+    }
+    error(number - 0x2000_0000, text)
+}
+
+#[tactic(auto, unfolding(crate::specs::FrameGuess::frame_in, crate::specs::FrameGuess::payload_in))]
+fn frame(id: CanId, text: &[u8]) -> Option<Item>
+    ensures { result ≡ frame_in id text.now }
+{
+    let frame = if stands_at(b'R', 0, text) {
+        remote_frame(id, &text[1..])?
+    } else {
+        data_frame(id, text)?
+    };
+    Some(Item::Data(frame))
+}
+
+fn remote_frame(id: CanId, text: &[u8]) -> Option<Frame>
+    ensures { result ≡ option_map (λ len. record { id = id; payload = Remote len }) (request_in text.now) }
+{
+    Frame::remote(id, request(text)?).ok()
+}
+
+/// The length that a remote frame asks for.
+#[tactic(auto, unfolding(crate::specs::FrameGuess::request_in))]
+fn request(text: &[u8]) -> Option<u8>
+    ensures value { result ≡ request_in text.now }
+    ensures small { IfSome result (λ len. len ≤ 8) }
+{
+    if text.is_empty() {
+        return Some(0);
+    }
+    match text[0] {
+        digit @ b'0'..=b'8' => Some(digit - b'0'),
+        _ => None,
+    }
+}
+
+#[tactic(auto, unfolding(crate::specs::FrameGuess::data_in, crate::specs::FrameGuess::bytes_in))]
+fn data_frame(id: CanId, text: &[u8]) -> Option<Frame>
+    ensures { result ≡ option_map (λ bytes. record { id = id; payload = Data bytes }) (data_in text.now) }
+{
+    let len = text.len() / 2;
+    if len > 8 {
+        return None;
+    }
+    let mut all = [0; 8];
+    let bytes = &mut all[..len];
+    decode_to_slice(text, bytes).ok()?;
+    Frame::data(id, bytes).ok()
+}
+
+#[tactic(auto, unfolding(crate::specs::FrameGuess::error_in, crate::specs::FrameGuess::bytes_in))]
+fn error(class: u32, text: &[u8]) -> Option<Item>
+    ensures { result ≡ error_in class text.now }
+{
+    if class >= 0x2000_0000 {
+        return None;
+    }
+    let mut bytes = [0; 8];
+    decode_to_slice(text, &mut bytes[..]).ok()?;
+    let error = ErrorFrame::new(class, bytes).ok()?;
+    Some(Item::Error(error))
+}
+
+/// The number of at most 8 hexadecimal digits.
+#[tactic(auto, unfolding(crate::specs::FrameGuess::number_in, crate::specs::FrameGuess::bytes_in))]
+fn number(digits: &[u8]) -> Option<u32>
+    requires { length digits.now ≤ 8 }
+    ensures { result ≡ number_in digits.now }
+{
+    let all = padded(digits);
+    let mut bytes = [0; 4];
+    decode_to_slice(&all[..], &mut bytes[..]).ok()?;
+    Some(u32::from_be_bytes(bytes))
+}
+
+/// The digits with zeros in front of them.
+fn padded(digits: &[u8]) -> [u8; 8]
+    requires { length digits.now ≤ 8 }
+    ensures { result ≡ padded digits.now }
+{
+    let mut all = [b'0'; 8];
+    all[8 - digits.len()..].copy_from_slice(digits);
+    all
+}

@@ -1,0 +1,120 @@
+ghost use Rattle.std.specs.Prelude.{◌≡◌, ◌≤◌, ◌+◌, ◌++◌, ◌↔◌, length, IsTrue, IsErr, IfOk, IfSome, Ok, Err, Some};
+ghost use Rattle.can_frame.specs.FrameText.{id_text, payload_text, frame_spelling, AsksForNothing, IsItem, IsSpelling, Spells};
+ghost use Rattle.can_frame.specs.declared.items.Item.{Item as AnItem};
+
+use crate::frame_guess::guess_item;
+use crate::frames::Frame;
+use crate::identifiers::CanId;
+use crate::items::Item;
+use crate::texts::Text;
+use thiserror::Error;
+
+/// A text that spells no item.
+#[derive(Debug, Clone, Copy, PartialEq, Eq, Error)]
+#[error("bad text")]
+pub struct BadText;
+
+/// The written form of an item. The longest has 25 bytes: 8 digits, `#` and 16 digits.
+pub type FrameText = Text<32>;
+
+/// An item in the shape of candump's logs, upper case: `123#1122`, `12345678#`, `123#R4`, and
+/// `20000080#0000000000000000` for an error message frame of class 0x80. It takes no memory.
+#[tactic(auto, unfolding(crate::specs::FrameText::frame_spelling))]
+pub fn frame_text(item: &Item) -> FrameText
+    ensures text { result ≡ frame_spelling item.now }
+    ensures short { length result ≤ 25 }
+{
+    let mut text = Text::new();
+    match item {
+        Item::Data(frame) => {
+            push_id(&mut text, frame.id());
+            text.push(b'#');
+            push_payload(&mut text, *frame);
+        }
+        Item::Error(error) => {
+            text.push_digits(16, 8, 0x2000_0000 + u64::from(error.class()));
+            text.push(b'#');
+            text.push_pairs(&error.data());
+        }
+    }
+    text
+}
+
+/// Adds an identifier.
+fn push_id(text: &mut FrameText, id: CanId)
+    requires { length text.old + 8 ≤ 32 }
+    ensures text { text.new ≡ text.old ++ id_text id }
+    ensures len { length text.new ≤ length text.old + 8 }
+{
+    let digits = if id.is_extended() { 8 } else { 3 };
+    text.push_digits(16, digits, u64::from(id.number()));
+}
+
+/// Adds the data of a frame, or what a remote frame asks for.
+fn push_payload(text: &mut FrameText, frame: Frame)
+    requires { length text.old + 16 ≤ 32 }
+    ensures text { text.new ≡ text.old ++ payload_text frame.payload }
+    ensures len { length text.new ≤ length text.old + 16 }
+{
+    let len = frame.len();
+    if frame.is_remote() {
+        text.push(b'R');
+        if len > 0 {
+            text.push(b'0' + len);
+        }
+    } else {
+        text.push_pairs(frame.bytes());
+    }
+}
+
+/// The item that a text spells, in either case. `ID#R0` is read as `ID#R`.
+pub fn read_frame_text(text: &str) -> Result<Item, BadText>
+    ensures found { IfOk result (λ item. IsItem item × Spells text.now item) }
+    ensures only { (i : AnItem) → IsItem i → Spells text.now i → result ≡ Ok i }
+    ensures bad { IsErr result ↔ ((i : AnItem) → IsItem i → Spells text.now i → ⊥) }
+{
+    if text.len() > 32 {
+        return Err(BadText);
+    }
+    let mut raised: FrameText = Text::new();
+    raised.push_upper(text.as_bytes());
+    read_upper(raised.as_bytes()).ok_or(BadText)
+}
+
+/// The item that an upper-case text spells.
+fn read_upper(text: &[u8]) -> Option<Item>
+    ensures found { IfSome result (λ item. IsItem item × IsSpelling text.now item) }
+    ensures only { (i : AnItem) → IsItem i → IsSpelling text.now i → result ≡ Some i }
+{
+    let item = guess_item(text)?;
+    if spells(text, &item) {
+        Some(item)
+    } else {
+        None
+    }
+}
+
+/// Whether an upper-case text is the item's written form, or that of a remote frame of length 0 with
+/// this length behind it.
+fn spells(text: &[u8], item: &Item) -> bool
+    ensures { IsTrue result ↔ IsSpelling text.now item.now }
+{
+    let mut written = frame_text(item);
+    if text == written.as_bytes() {
+        return true;
+    }
+    if !asks_for_nothing(item) {
+        return false;
+    }
+    written.push(b'0');
+    text == written.as_bytes()
+}
+
+fn asks_for_nothing(item: &Item) -> bool
+    ensures { IsTrue result ↔ AsksForNothing item.now }
+{
+    match item {
+        Item::Data(frame) => frame.is_remote() && frame.len() == 0,
+        Item::Error(_) => false,
+    }
+}

@@ -1,0 +1,132 @@
+ghost use Rattle.std.specs.Prelude.{◌≡◌, ◌≤◌, ◌<◌, ◌+◌, ◌*◌, ◌++◌, ◌∷◌, [], length};
+ghost use Rattle.can_frame.specs.FrameText.{digits, digit_of, pairs, upper};
+
+use std::marker::Model;
+
+/// A text of at most `N` bytes, kept in place.
+#[derive(Debug, Drop)]
+pub struct Text<const N: usize> {
+    bytes: [u8; N],
+    len: usize,
+}
+
+impl<const N: usize> Model for Text<N> {
+    ghost use Rattle.std.specs.Prelude.{ℕ, List, take, ◌≤◌};
+
+    ghost Value = { List ℕ };
+
+    ghost view = { λ t. take t.len t.bytes };
+
+    ghost invariant = { λ t. t.len ≤ N };
+}
+
+impl<const N: usize> Text<N> {
+    /// The empty text.
+    pub fn new() -> Text<N>
+        ensures { result ≡ [] }
+    {
+        Text {
+            bytes: [0; N],
+            len: 0,
+        }
+    }
+
+    /// The bytes of the text.
+    pub fn as_bytes(&self) -> &[u8]
+        ensures { result.now ≡ self.now }
+    {
+        &self.bytes[..self.len]
+    }
+
+    /// One byte more.
+    pub fn push(&mut self, byte: u8)
+        requires { length self.old < N }
+        ensures text { self.new ≡ self.old ++ byte ∷ [] }
+        ensures len { length self.new ≡ length self.old + 1 }
+    {
+        self.bytes[self.len] = byte;
+        self.len += 1;
+    }
+
+    /// These bytes more.
+    pub fn push_all(&mut self, more: &[u8])
+        requires { length self.old + length more.now ≤ N }
+        ensures text { self.new ≡ self.old ++ more.now }
+        ensures len { length self.new ≡ length self.old + length more.now }
+    {
+        let end = self.len + more.len();
+        let all = &mut self.bytes[..];
+        all[self.len..end].copy_from_slice(more);
+        self.len = end;
+    }
+
+    /// The last `count` digits of a number in a base of at most 16, upper case.
+    pub fn push_digits(&mut self, base: u64, count: usize, number: u64)
+        requires low { 2 ≤ base }
+        requires high { base ≤ 16 }
+        requires room { length self.old + count ≤ N }
+        ensures text { self.new ≡ self.old ++ digits base count number }
+        ensures len { length self.new ≡ length self.old + count }
+    {
+        if count > 0 {
+            self.push_digits(base, count - 1, number / base);
+            self.push(digit(number % base));
+        }
+    }
+
+    /// Bytes as pairs of hexadecimal digits, upper case.
+    pub fn push_pairs(&mut self, bytes: &[u8])
+        requires { length self.old + 2 * length bytes.now ≤ N }
+        ensures text { self.new ≡ self.old ++ pairs bytes.now }
+        ensures len { length self.new ≡ length self.old + 2 * length bytes.now }
+    {
+        let end = self.len + 2 * bytes.len();
+        let all = &mut self.bytes[..];
+        write_pairs(bytes, &mut all[self.len..end]);
+        self.len = end;
+    }
+
+    /// These bytes more, letters in upper case.
+    pub(crate) fn push_upper(&mut self, more: &[u8])
+        requires { length self.old + length more.now ≤ N }
+        ensures text { self.new ≡ self.old ++ upper more.now }
+        ensures len { length self.new ≡ length self.old + length more.now }
+    {
+        let end = self.len + more.len();
+        let all = &mut self.bytes[..];
+        copy_upper(more, &mut all[self.len..end]);
+        self.len = end;
+    }
+}
+
+/// Writes bytes as pairs of hexadecimal digits, upper case.
+fn write_pairs(bytes: &[u8], room: &mut [u8])
+    requires { length room.old ≡ 2 * length bytes.now }
+    ensures text { room.new ≡ pairs bytes.now }
+    ensures len { length room.new ≡ 2 * length bytes.now }
+{
+    let _ = hex::encode_to_slice(bytes, room);
+    room.make_ascii_uppercase();
+}
+
+/// Copies bytes, letters in upper case.
+fn copy_upper(bytes: &[u8], room: &mut [u8])
+    requires { length room.old ≡ length bytes.now }
+    ensures text { room.new ≡ upper bytes.now }
+    ensures len { length room.new ≡ length bytes.now }
+{
+    room.copy_from_slice(bytes);
+    room.make_ascii_uppercase();
+}
+
+/// A digit below 16, upper case.
+fn digit(value: u64) -> u8
+    requires { value < 16 }
+    ensures { result ≡ digit_of value }
+{
+    if value < 10 {
+        b'0' + value as u8
+    } else {
+        b'A' + (value as u8 - 10)
+    }
+}
