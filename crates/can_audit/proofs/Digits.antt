@@ -6,7 +6,8 @@ use Rattle.std.proofs.lemmas.List.{at_drop_more, at_drop_all, length_push, take_
 use Rattle.std.proofs.lemmas.Bool.{le-ltb, lt-leb}
 use native.Mathlib.Numerals.{unary_clauses}
 use Rattle.can_audit.specs.Words.{is_word}
-use Rattle.can_audit.specs.Numerals.{number_from, number_in, step, digits, moment_in, moment_text, digit_in, digit_of}
+use Rattle.can_frame.specs.FrameText.{digits, digit_of}
+use Rattle.can_audit.specs.Numerals.{number_from, number_in, step, moment_in, moment_text, digit_in}
 
 number_from-append : (base n : ℕ) (xs ys : List ℕ) → number_from base n (xs ++ ys) ≡ option_and_then (λ m. number_from base m ys) (number_from base n xs)
 unfolding number_from
@@ -43,7 +44,7 @@ more-low n ds lt h = number_from-append 10 0 ds ((48 + n % 10) ∷ []) ∙ rw (h
 pub number_again : (n : ℕ) → n < 2 ^ 64 → number_in 10 (decimal n) ≡ Some n
 number_again n lt = decimal_by_steps (λ m ds. m < 2 ^ 64 → number_from 10 0 ds ≡ Some m) (λ m small below. one-low m small) (λ m ds ten h below. more-low m ds below (h (omega (arith, below)))) n lt lt
 
-is_word-append : (xs ys : List ℕ) → is_word xs ≡ true → is_word ys ≡ true → is_word (xs ++ ys) ≡ true
+pub is_word-append : (xs ys : List ℕ) → is_word xs ≡ true → is_word ys ≡ true → is_word (xs ++ ys) ≡ true
 is_word-append [] ys h k = k
 is_word-append (x ∷ xs) ys h k = elim (leb x 32) as (λ t. (not t && is_word xs) ≡ true → (not t && is_word (xs ++ ys)) ≡ true) [
     | true ↦ λ e. absurd cc
@@ -95,9 +96,11 @@ unfolding moment_in
 moment_of a b s u six front back few small = rw (moment_long a b six, moment_front a b six, moment_back a b six, front, back, lt-leb 10000000000 s few, lt-leb 1000000 u small) refl
 
 pub moment_again : (m : ℕ) → m < 10 ^ 16 → moment_in (moment_text m) ≡ Some m
+unfolding moment_text
 moment_again m lt = moment_of (decimal (m / 1000000)) (digits 10 6 (m % 1000000)) (m / 1000000) (m % 1000000) (length-digits 10 6 (m % 1000000)) (number_again (m / 1000000) (omega (arith, lt))) (decimals_again 6 (m % 1000000) (omega arith) (omega arith)) (omega (arith, lt)) (omega arith) ∙ ap Some (omega arith)
 
 pub is_word-moment : (m : ℕ) → m < 10 ^ 16 → is_word (moment_text m) ≡ true
+unfolding moment_text
 is_word-moment m lt = is_word-append (decimal (m / 1000000)) (46 ∷ digits 10 6 (m % 1000000)) (is_word-decimal (m / 1000000) (omega (arith, lt))) (is_word-append (46 ∷ []) (digits 10 6 (m % 1000000)) refl (is_word-digits 10 6 (m % 1000000)))
 
 -- a number is read digit by digit

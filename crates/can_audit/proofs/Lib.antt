@@ -1,3 +1,5 @@
 pub mod Wording
 pub mod Digits
 pub mod Written
+pub mod FrameWords
+pub mod FilterLists

@@ -1,18 +1,10 @@
 use Rattle.std.specs.Prelude.{ℕ, zero, suc, ◌+◌, ◌-◌, ◌*◌, ◌/◌, ◌%◌, ◌^◌, nat_le, nat_lt, Bool, ◌&&◌, ◌||◌, List, [], ◌∷◌, ◌++◌, length, take, drop, decimal, Option, Some, None, option_and_then, if◌then◌else◌}
+use Rattle.can_frame.specs.FrameText.{digits}
 
 -- Numbers and moments as they are written (own choice).
 
--- a digit, upper case
-abbrev pub digit_of : ℕ → ℕ
-digit_of v = if nat_lt v 10 then 48 + v else 55 + v
-
--- the last `count` digits of a number in a base
-abbrev pub digits : ℕ → ℕ → ℕ → List ℕ
-digits base zero n = []
-digits base (suc count) n = digits base count (n / base) ++ digit_of (n % base) ∷ []
-
 -- a moment: seconds, a point and six digits of microseconds
-abbrev pub moment_text : ℕ → List ℕ
+unfoldable pub moment_text : ℕ → List ℕ
 moment_text micros = decimal (micros / 1000000) ++ 46 ∷ digits 10 6 (micros % 1000000)
 
 -- Reading: a number that was read is written again and compared, so it may be read loosely.

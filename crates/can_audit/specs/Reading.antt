@@ -1,7 +1,10 @@
-use Rattle.std.specs.Prelude.{ℕ, zero, suc, ◌+◌, ◌^◌, nat_lt, nat_le, Bool, true, false, List, [], ◌∷◌, ◌++◌, length, take, drop, codes, Option, Some, None, Result, Ok, Err, ◌≡◌, if◌then◌else◌}
+use Rattle.std.specs.Prelude.{ℕ, zero, suc, ◌+◌, ◌^◌, nat_lt, nat_le, ◌==◌, ◌&&◌, ◌||◌, bit_and, Bool, true, false, List, [], ◌∷◌, ◌++◌, length, take, drop, codes, Option, Some, None, Result, Ok, Err, ◌≡◌, if◌then◌else◌}
 use Rattle.std.specs.Str.{bytes_eq}
 use Rattle.std.specs.Option.{option_map}
-use Rattle.can_frame.specs.Frames.{CanFrame}
+use Rattle.can_frame.specs.Frames.{CanFrame, Payload}
+use Rattle.can_frame.specs.Frames.Payload.{Data, Remote}
+use Rattle.can_frame.specs.FrameText.{frame_spelling, upper}
+use Rattle.can_frame.specs.FrameGuess.{item_in}
 use Rattle.can_frame.specs.declared.items.Item.{Item}
 use Rattle.can_frame.specs.declared.items.Item.TheVariants as item
 use Rattle.can_frame.specs.declared.ifaces.IfaceSet.{IfaceSet}
@@ -30,7 +33,6 @@ use Rattle.can_audit.specs.declared.faults.Unread.{Unread}
 use Rattle.can_audit.specs.declared.faults.Unread.TheVariants as unread
 use Rattle.can_audit.specs.Words.{word, after}
 use Rattle.can_audit.specs.Numerals.{number_in, moment_in}
-use Rattle.can_audit.specs.Frames.{item_in}
 
 -- An entry as a line seems to spell it. It is written again and compared, so here it may be read loosely (own choice).
 
@@ -77,9 +79,27 @@ flag_at t =
     else if bytes_eq (word t) (codes "1") then Some (true, after t)
     else None
 
+-- a request for no bytes
+abbrev pub is_empty_request : Payload → Bool
+is_empty_request (Data bytes) = false
+is_empty_request (Remote len) = len == 0
+
+-- a remote frame that asks for no bytes
+abbrev pub asks_for_nothing : Item → Bool
+asks_for_nothing (item.Data f) = is_empty_request f.payload
+asks_for_nothing (item.Error e) = false
+
+-- an upper-case text is the item's frame text, or that of a remote frame of length 0 with this length behind it, `0` (48)
+abbrev pub is_spelling : List ℕ → Item → Bool
+is_spelling t i = bytes_eq t (frame_spelling i) || (asks_for_nothing i && bytes_eq t (frame_spelling i ++ 48 ∷ []))
+
+-- the item of a word
+unfoldable pub item_of : List ℕ → Option Item
+item_of w = item_in (upper w) >>= λ i. if is_spelling (upper w) i then Some i else None
+
 -- an item
 unfoldable pub item_at : List ℕ → Option (Item × List ℕ)
-item_at t = item_in (word t) >>= λ i. Some (i, after t)
+item_at t = item_of (word t) >>= λ i. Some (i, after t)
 
 -- the frame of an item
 abbrev pub frame_of_item : Item → Option CanFrame
@@ -89,10 +109,6 @@ frame_of_item (item.Error e) = None
 -- a frame
 unfoldable pub frame_at : List ℕ → Option (CanFrame × List ℕ)
 frame_at t = item_at t >>= λ i. frame_of_item i.0 >>= λ f. Some (f, i.1)
-
--- a filter
-unfoldable pub filter_at : List ℕ → Option (CanFilter × List ℕ)
-filter_at t = mask_at (2 ^ 32) t >>= λ i. mask_at (2 ^ 32) i.1 >>= λ m. Some (record { id = i.0; mask = m.0 }, m.1)
 
 -- the option of this name and its value
 unfoldable pub option_at : List ℕ → Option (Opt × List ℕ)
@@ -179,8 +195,8 @@ tried_at moment t = do
   o ← set_at a.1
   Some (reply.Tried (record { moment = moment; winner = w.0; number = n.0; frame = f.0; class = c.0; accepted = a.0; off = o.0 }), o.1)
 
--- the reply to an event of this moment
-unfoldable pub reply_at : ℕ → List ℕ → Option (Reply × List ℕ)
+-- the reply to an attempt of this moment, or to another event
+unfoldable pub reply_at : Option ℕ → List ℕ → Option (Reply × List ℕ)
 reply_at moment t =
     if bytes_eq (word t) (codes "ok") then Some (reply.Done, after t)
     else if bytes_eq (word t) (codes "number") then (number_at (2 ^ 64) (after t) >>= λ n. Some (reply.Sent n.0, n.1))
@@ -188,24 +204,37 @@ reply_at moment t =
     else if bytes_eq (word t) (codes "data") then data_at (after t)
     else if bytes_eq (word t) (codes "error") then error_at (after t)
     else if bytes_eq (word t) (codes "idle") then Some (reply.Idle, after t)
-    else if bytes_eq (word t) (codes "tried") then tried_at moment (after t)
+    else if bytes_eq (word t) (codes "tried") then (moment >>= λ m. tried_at m (after t))
     else if bytes_eq (word t) (codes "socket") then (socket_at (after t) >>= λ s. Some (reply.Opened s.0, s.1))
     else if bytes_eq (word t) (codes "closed") then closed_at (after t)
     else (refusal_in (word t) >>= λ why. Some (reply.Refused why, after t))
 
 -- the moment of an attempt
-abbrev pub moment_of : Event → ℕ
-moment_of (Attempt m v) = m
-moment_of _ = 0
+abbrev pub moment_of : Event → Option ℕ
+moment_of (Attempt m v) = Some m
+moment_of _ = None
 
 -- an entry, once its event is read
 unfoldable pub with_reply : Event → List ℕ → Option Entry
 with_reply e t = reply_at (moment_of e) (after t) >>= λ r. Some (record { event = e; reply = r.0 })
 
+-- one filter more
+unfoldable pub filter_at : List CanFilter → List ℕ → Option (List CanFilter × List ℕ)
+filter_at fs t = do
+  i ← mask_at (2 ^ 32) t
+  m ← mask_at (2 ^ 32) i.1
+  if bit_and m.0 (2 ^ 29) == 0 then Some (fs ++ record { id = i.0; mask = m.0 } ∷ [], m.1) else None
+
 -- so many filters more
 unfoldable pub filters_at : List CanFilter → ℕ → List ℕ → Option (List CanFilter × List ℕ)
 filters_at fs zero t = Some (fs, t)
-filters_at fs (suc n) t = filter_at t >>= λ f. filters_at (fs ++ f.0 ∷ []) n f.1
+filters_at fs (suc n) t = filter_at fs t >>= λ f. filters_at f.0 n f.1
+
+-- filters were read behind those that were there, unless memory was refused
+abbrev pub GivesFilters : Result (List ℕ) Unread → List CanFilter → Option (List CanFilter × List ℕ) → Type 0
+GivesFilters (Ok rest) filters read = read ≡ Some (filters, rest)
+GivesFilters (Err unread.NoMemory) filters read = Unit {0}
+GivesFilters (Err unread.Bad) filters read = read ≡ None
 
 -- the filters of a socket
 unfoldable pub set_filters_at : List ℕ → Option Entry
@@ -215,18 +244,23 @@ set_filters_at t = do
   fs ← filters_at [] n.0 n.1
   with_reply (SetFilters s.0 fs.0) fs.1
 
+-- an entry whose line begins with this word and goes on with this text: of the events that set a bus up
+unfoldable pub setting_at : List ℕ → List ℕ → Option Entry
+setting_at w t =
+    if bytes_eq w (codes "open") then (number_at 16 t >>= λ i. number_at (2 ^ 32) i.1 >>= λ c. with_reply (Open i.0 c.0) c.1)
+    else if bytes_eq w (codes "close") then (socket_at t >>= λ s. with_reply (Close s.0) s.1)
+    else if bytes_eq w (codes "filters") then set_filters_at t
+    else if bytes_eq w (codes "option") then (socket_at t >>= λ s. option_at s.1 >>= λ o. with_reply (SetOption s.0 o.0) o.1)
+    else if bytes_eq w (codes "restart") then (number_at 16 t >>= λ i. moment_at i.1 >>= λ m. with_reply (Restart i.0 m.0) m.1)
+    else None
+
 -- an entry as its line seems to spell it
 unfoldable pub entry_at : List ℕ → Option Entry
 entry_at t =
     if bytes_eq (word t) (codes "attempt") then (moment_at (after t) >>= λ m. verdict_at m.1 >>= λ v. with_reply (Attempt m.0 v.0) v.1)
     else if bytes_eq (word t) (codes "receive") then (socket_at (after t) >>= λ s. with_reply (Receive s.0) s.1)
     else if bytes_eq (word t) (codes "send") then (socket_at (after t) >>= λ s. frame_at s.1 >>= λ f. with_reply (Send s.0 f.0) f.1)
-    else if bytes_eq (word t) (codes "open") then (number_at 16 (after t) >>= λ i. number_at (2 ^ 32) i.1 >>= λ c. with_reply (Open i.0 c.0) c.1)
-    else if bytes_eq (word t) (codes "close") then (socket_at (after t) >>= λ s. with_reply (Close s.0) s.1)
-    else if bytes_eq (word t) (codes "filters") then set_filters_at (after t)
-    else if bytes_eq (word t) (codes "option") then (socket_at (after t) >>= λ s. option_at s.1 >>= λ o. with_reply (SetOption s.0 o.0) o.1)
-    else if bytes_eq (word t) (codes "restart") then (number_at 16 (after t) >>= λ i. moment_at i.1 >>= λ m. with_reply (Restart i.0 m.0) m.1)
-    else None
+    else setting_at (word t) (after t)
 
 -- who acknowledges
 unfoldable pub ack_at : List ℕ → Option (AckMode × List ℕ)

@@ -2,6 +2,7 @@ use Rattle.std.specs.Prelude.{◌≡◌, ℕ, ◌+◌, ◌^◌, ◌<◌, ◌≤�
 use Rattle.can_frame.specs.declared.ifaces.IfaceSet.{IfaceSet}
 use Rattle.can_frame.specs.declared.items.Item.{Item}
 use Rattle.can_frame.specs.declared.items.Item.TheVariants as item
+use Rattle.can_frame.specs.FrameText.{digits, frame_spelling}
 use Rattle.can_filter.specs.Filters.{CanFilter}
 use Rattle.can_fault.specs.declared.verdicts.GlobalKind.TheVariants as global
 use Rattle.can_fault.specs.declared.verdicts.LocalKind.{LocalKind}
@@ -24,14 +25,17 @@ use Rattle.can_bus.specs.declared.events.Reply.{Reply}
 use Rattle.can_bus.specs.declared.events.Reply.TheVariants as reply
 use Rattle.can_bus.specs.declared.events.Entry.{Entry}
 use Rattle.can_audit.specs.Words.{spell}
-use Rattle.can_audit.specs.Frames.{frame_spelling}
-use Rattle.can_audit.specs.Numerals.{digits, moment_text}
+use Rattle.can_audit.specs.Numerals.{moment_text}
 
 -- How the lines of a record are written (own choice).
 
 -- a set of interfaces: 4 hexadecimal digits
-abbrev pub set_word : IfaceSet → List ℕ
+unfoldable pub set_word : IfaceSet → List ℕ
 set_word set = digits 16 4 set.0
+
+-- a word of 32 bits: 8 hexadecimal digits
+unfoldable pub mask_word : ℕ → List ℕ
+mask_word n = digits 16 8 n
 
 -- a switch: 0 or 1
 abbrev pub flag_word : Bool → List ℕ
@@ -41,14 +45,14 @@ flag_word true = codes "1"
 -- filters: the identifier word and the mask of each, in 8 hexadecimal digits
 abbrev pub filter_words : List CanFilter → List (List ℕ)
 filter_words [] = []
-filter_words (f ∷ fs) = digits 16 8 f.id ∷ digits 16 8 f.mask ∷ filter_words fs
+filter_words (f ∷ fs) = mask_word f.id ∷ mask_word f.mask ∷ filter_words fs
 
 -- an option of a socket and its value; an error mask has 8 hexadecimal digits
 abbrev pub option_words : Opt → List (List ℕ)
 option_words (opt.Loopback on) = codes "loopback" ∷ flag_word on ∷ []
 option_words (opt.RecvOwn on) = codes "recvown" ∷ flag_word on ∷ []
 option_words (opt.Join on) = codes "join" ∷ flag_word on ∷ []
-option_words (opt.ErrMask mask) = codes "errmask" ∷ digits 16 8 mask ∷ []
+option_words (opt.ErrMask mask) = codes "errmask" ∷ mask_word mask ∷ []
 
 -- a local fault and a colon
 abbrev pub local_front : LocalKind → List ℕ

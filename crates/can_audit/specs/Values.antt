@@ -14,8 +14,8 @@ use Rattle.can_bus.specs.declared.events.Tried.{Tried}
 use Rattle.can_bus.specs.declared.events.Reply.{Reply}
 use Rattle.can_bus.specs.declared.events.Reply.TheVariants as reply
 use Rattle.can_bus.specs.declared.events.Entry.{Entry}
-use Rattle.can_audit.specs.Frames.{IsItem}
-use Rattle.can_audit.specs.Spelled.{IsSpelled}
+use Rattle.can_frame.specs.FrameText.{IsItem}
+use Rattle.can_bus.specs.Spelled.{IsSpelled}
 
 -- The values that the types of an entry hold: a clause that ranges over all entries has to say so.
 

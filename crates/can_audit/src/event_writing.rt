@@ -1,10 +1,9 @@
 ghost use Rattle.std.specs.Prelude.{◌≡◌, ◌++◌, ◌∷◌, [], ◌<◌, ◌^◌, decimal, OnOk, length};
 ghost use Rattle.can_audit.specs.Words.{spaced};
-ghost use Rattle.can_audit.specs.Numerals.{digits, moment_text};
-ghost use Rattle.can_audit.specs.Spelling.{event_words, flag_word, filter_words, option_words, verdict_word, local_front, set_word};
+ghost use Rattle.can_audit.specs.Spelling.{event_words, flag_word, filter_words, option_words, verdict_word, local_front};
 
 use crate::frame_words::put_item;
-use crate::writing::{put_count, put_digits, put_moment, put_set, put_word};
+use crate::writing::{put_count, put_mask, put_moment, put_set, put_word};
 use can_bus::{Event, Opt};
 use can_fault::{GlobalKind, LocalKind, Verdict};
 use can_filter::Filter;
@@ -73,17 +72,8 @@ fn put_filters(out: &mut Vec<u8>, filters: &[Filter]) -> Result<(), AllocError>
 fn put_filter(out: &mut Vec<u8>, filter: Filter) -> Result<(), AllocError>
     ensures { OnOk result (out.new.items ≡ out.old.items ++ spaced (filter_words (filter ∷ []))) }
 {
-    put_mask(out, filter.id())?;
-    put_mask(out, filter.mask())?;
-    Ok(())
-}
-
-/// A word of 32 bits in hexadecimal, and a space.
-fn put_mask(out: &mut Vec<u8>, word: u32) -> Result<(), AllocError>
-    ensures { OnOk result (out.new.items ≡ out.old.items ++ (digits 16 8 word ++ 32 ∷ [])) }
-{
-    put_digits(out, 16, 8, word)?;
-    out.push(b' ')?;
+    put_mask(out, filter.id(), b' ')?;
+    put_mask(out, filter.mask(), b' ')?;
     Ok(())
 }
 
@@ -106,7 +96,7 @@ fn put_option(out: &mut Vec<u8>, option: Opt) -> Result<(), AllocError>
         }
         Opt::ErrMask(mask) => {
             put_word(out, b"errmask", b' ')?;
-            put_mask(out, mask)
+            put_mask(out, mask, b' ')
         }
     }
 }

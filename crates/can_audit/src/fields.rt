@@ -1,12 +1,11 @@
-ghost use Rattle.std.specs.Prelude.{◌≡◌, ◌^◌, ◌≤◌, ◌<◌};
+ghost use Rattle.std.specs.Prelude.{IfSome, ◌≡◌, ◌^◌, ◌≤◌, ◌<◌};
 ghost use Rattle.std.specs.Option.{option_map};
-ghost use Rattle.can_audit.specs.Reading.{number_at, mask_at, moment_at, socket_at, set_at, flag_at, item_at, frame_at, filter_at};
+ghost use Rattle.can_audit.specs.Reading.{number_at, mask_at, moment_at, socket_at, set_at, flag_at, item_at, frame_at};
 
 use crate::frame_words::item_of;
 use crate::numbers::{hexadecimal, moment, number};
 use crate::words::{next_word, same_word};
 use can_bus::SocketId;
-use can_filter::Filter;
 use can_frame::{Frame, Iface, IfaceSet, Item, Moment};
 
 /// A number below the limit, and what follows it.
@@ -66,7 +65,8 @@ pub fn iface_field(text: &[u8]) -> Option<(Iface, &[u8])>
 /// How many filters there are, at most 512.
 #[tactic(auto, unfolding(crate::specs::Reading::number_at))]
 pub fn count_field(text: &[u8]) -> Option<(usize, &[u8])>
-    ensures { option_map (λ x. (x.0, x.1.now)) result ≡ number_at 513 text.now }
+    ensures value { option_map (λ x. (x.0, x.1.now)) result ≡ number_at 513 text.now }
+    ensures few { IfSome result (λ x. x.0 ≤ 512) }
 {
     let (word, rest) = next_word(text);
     let n = number(word)?;
@@ -145,20 +145,11 @@ pub fn item_field(text: &[u8]) -> Option<(Item, &[u8])>
 pub fn frame_field(text: &[u8]) -> Option<(Frame, &[u8])>
     ensures { option_map (λ x. (x.0, x.1.now)) result ≡ frame_at text.now }
 {
-    let (item, rest) = item_field(text)?;
+    let Some((item, rest)) = item_field(text) else {
+        return None;
+    };
     match &item {
         Item::Data(frame) => Some((*frame, rest)),
         Item::Error(_) => None,
     }
-}
-
-/// An identifier word and a mask.
-#[tactic(auto, unfolding(crate::specs::Reading::filter_at))]
-pub fn filter_field(text: &[u8]) -> Option<(Filter, &[u8])>
-    ensures { option_map (λ x. (x.0, x.1.now)) result ≡ filter_at text.now }
-{
-    let (id, rest) = mask_field(text)?;
-    let (mask, rest) = mask_field(rest)?;
-    let filter = Filter::new(id, mask).ok()?;
-    Some((filter, rest))
 }

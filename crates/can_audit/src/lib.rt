@@ -4,9 +4,10 @@
 pub mod faults;
 mod fields;
 mod frame_words;
+mod event_reading;
 mod event_writing;
 mod numbers;
+mod reply_reading;
 mod reply_writing;
-mod spelled;
 mod words;
 mod writing;

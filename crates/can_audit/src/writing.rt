@@ -1,6 +1,7 @@
 ghost use Rattle.std.specs.Prelude.{◌≡◌, ◌<◌, ◌≤◌, ◌^◌, ◌++◌, ◌∷◌, [], length, decimal, OnOk};
-ghost use Rattle.can_audit.specs.Numerals.{digits, moment_text};
-ghost use Rattle.can_audit.specs.Spelling.{set_word};
+ghost use Rattle.can_audit.specs.Numerals.{moment_text};
+ghost use Rattle.can_frame.specs.FrameText.{digits};
+ghost use Rattle.can_audit.specs.Spelling.{mask_word, set_word};
 
 use can_frame::{IfaceSet, Moment};
 use itoa::Buffer;
@@ -25,13 +26,13 @@ fn put_number(out: &mut Vec<u8>, n: u64) -> Result<(), AllocError>
 
 fn digit_of(d: u8) -> u8
     requires { d < 16 }
-    ensures { result ≡ Rattle.can_audit.specs.Numerals.digit_of d }
+    ensures { result ≡ Rattle.can_frame.specs.FrameText.digit_of d }
 {
     if d < 10 { 48 + d } else { 55 + d }
 }
 
 /// So many digits to a base.
-pub fn put_digits(out: &mut Vec<u8>, base: u32, count: u32, n: u32) -> Result<(), AllocError>
+fn put_digits(out: &mut Vec<u8>, base: u32, count: u32, n: u32) -> Result<(), AllocError>
     requires low { 2 ≤ base }
     requires high { base ≤ 16 }
     ensures { OnOk result (out.new.items ≡ out.old.items ++ digits base count n) }
@@ -54,6 +55,7 @@ pub fn put_count(out: &mut Vec<u8>, n: u64, gap: u8) -> Result<(), AllocError>
 }
 
 /// Seconds, a point and six digits of microseconds, and the byte that ends it.
+#[tactic(auto, unfolding(crate::specs::Numerals::moment_text))]
 pub fn put_moment(out: &mut Vec<u8>, moment: Moment, gap: u8) -> Result<(), AllocError>
     ensures { OnOk result (out.new.items ≡ out.old.items ++ (moment_text moment ++ gap ∷ [])) }
 {
@@ -64,7 +66,18 @@ pub fn put_moment(out: &mut Vec<u8>, moment: Moment, gap: u8) -> Result<(), Allo
     Ok(())
 }
 
+/// A word of 32 bits in hexadecimal, and the byte that ends it.
+#[tactic(auto, unfolding(crate::specs::Spelling::mask_word))]
+pub fn put_mask(out: &mut Vec<u8>, word: u32, gap: u8) -> Result<(), AllocError>
+    ensures { OnOk result (out.new.items ≡ out.old.items ++ (mask_word word ++ gap ∷ [])) }
+{
+    put_digits(out, 16, 8, word)?;
+    out.push(gap)?;
+    Ok(())
+}
+
 /// A set of interfaces, and the byte that ends it.
+#[tactic(auto, unfolding(crate::specs::Spelling::set_word))]
 pub fn put_set(out: &mut Vec<u8>, set: IfaceSet, gap: u8) -> Result<(), AllocError>
     ensures { OnOk result (out.new.items ≡ out.old.items ++ (set_word set ++ gap ∷ [])) }
 {
