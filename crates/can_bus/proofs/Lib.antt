@@ -4,6 +4,7 @@ pub mod Quiet
 pub mod Rising
 pub mod Reading
 pub mod Refusing
+pub mod Fitting
 pub mod Keeping
 pub mod LineFacts
 pub mod KeyFacts

@@ -1,16 +1,11 @@
-use Rattle.std.proofs.Common.{◌≡◌, ◌≢◌, ◌⊎◌, ℕ, zero, suc, ◌+◌, ◌-◌, ◌^◌, ◌<◌, ◌≤◌, ◌==◌, nat_le, nat_lt, Bool, true, false, not, ◌||◌, ◌&&◌, List, [], ◌∷◌, ◌++◌, length, find, bit_or, slice_get, Some, None, is_some, if◌then◌else◌, refl, sym, ap, ◌∙◌, subst, arith, inl, inr, append-nil}
+use Rattle.std.proofs.Common.{◌≡◌, ◌≢◌, ◌⊎◌, ℕ, suc, ◌+◌, ◌<◌, ◌≤◌, ◌==◌, nat_le, nat_lt, Bool, true, false, not, ◌||◌, ◌&&◌, List, [], ◌∷◌, ◌++◌, length, find, slice_get, Some, None, is_some, if◌then◌else◌, refl, sym, ap, ◌∙◌, subst, arith, inl, inr, append-nil}
 use Rattle.std.specs.List.{list_any, range_with_len}
-use Rattle.std.specs.Int.{bit_at}
 use Rattle.std.proofs.lemmas.Bool.{eqb-true, eq-eqb, ne_eqb, cases_eq, leb-false, and_parts, or_left, or_right, and_left, and_right}
-use Rattle.std.proofs.lemmas.Nat.Bits.{bit_at_or, bit_at-pow_same, bit_at-pow_other, bit_at_above}
 use Rattle.std.proofs.lemmas.Option.{slice_get_past}
-use Rattle.can_frame.specs.Sets.{is_in, bits_where}
+use Rattle.can_frame.specs.Sets.{is_in}
 use Rattle.can_confine.specs.Confinement.{ErrorCounts, Step, all_stepped, stepped, at_start, state_of, is_off}
 use Rattle.can_fault.specs.declared.verdicts.Verdict.{Verdict}
-use Rattle.can_attempt.specs.declared.classes.Class.{Class}
-use Rattle.can_attempt.specs.declared.classes.Class.TheVariants.{Done, LastBit, Destroyed, NoAck}
-use Rattle.can_attempt.specs.Attempts.{Transmission, is_among, set_of, receivers, can_hear, is_named, receiver_step, winner_step, class_of, steps_at, steps_in, counts_after, off_after}
-use Rattle.can_attempt.specs.Attempts as attempts
+use Rattle.can_attempt.specs.Attempts.{Transmission, is_among, set_of, receivers, can_hear, steps_at, counts_after, off_after}
 use Rattle.can_attempt.proofs.Places.{is_among-filter, is_among-range, is_among-receivers}
 use Rattle.can_bus.specs.declared.events.Entry.{Entry}
 use Rattle.can_bus.specs.declared.events.Event.{Event}
@@ -27,7 +22,7 @@ use Rattle.can_bus.specs.Counters.{counts_of, steps_of, steps_after, state_at, t
 use Rattle.can_bus.specs.Attempts.{winner, contenders, beats}
 use Rattle.can_bus.specs.Legal.{legal_reply, IsLegal}
 use Rattle.can_attempt.proofs.Standing.{is_in-set_of, winner-alone-off}
-use Rattle.can_bus.proofs.Lawful.{WasTried, was_tried, by_attempt, open-iface}
+use Rattle.can_bus.proofs.Lawful.{WasTried, by_attempt, open-iface}
 
 -- ---- the winner is live, and there
 

@@ -6,6 +6,7 @@ pub mod Attempts
 pub mod Posts
 pub mod Queues
 pub mod Legal
+pub mod Spelled
 pub mod Copies
 pub mod Fates
 pub mod State

@@ -9,7 +9,7 @@ ghost use Rattle.can_bus.specs.declared.events.Reply.TheVariants as reply;
 
 use crate::events::{BusConfig, Closed, Event, Opt, Pending, Received, Refusal, SocketId, Tried};
 use crate::line::Line;
-use crate::records::Record;
+use crate::records::{Record, is_proper};
 use crate::replies::{
     attempt_reply, closed_reply, counted, done_reply, is_no_memory, numbered, opened_reply,
     received_reply, sent_reply,
@@ -304,19 +304,4 @@ impl<T: BoundedQueue<Pending>, R: BoundedQueue<Received>, A: Arbiter> Bus<T, R, 
     {
         lines::stats_of(&self.lines, &self.nodes, iface)
     }
-}
-
-/// Whether a bus may have this configuration.
-fn is_proper(config: BusConfig) -> bool
-    ensures { IsTrue result ↔ IsConfig config }
-{
-    let ifaces = config.ifaces;
-    let tx_capacity = config.tx_capacity;
-    let limit = config.limit;
-    ifaces >= 1
-        && ifaces <= 16
-        && tx_capacity >= 1
-        && tx_capacity <= 1024
-        && limit >= 1
-        && limit <= 16_777_216
 }

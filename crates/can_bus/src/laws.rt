@@ -16,6 +16,7 @@ ghost use Rattle.can_bus.specs.Fates.Fate.{Waiting, Done, Lost};
 ghost use Rattle.can_bus.specs.declared.events.Closed.{Closed};
 ghost use Rattle.can_bus.specs.declared.events.SocketId.{SocketId};
 ghost use Rattle.can_bus.specs.Legal.{legal_reply, IsLegal};
+ghost use Rattle.can_bus.specs.Spelled.{IsSpelled};
 ghost use Rattle.can_bus.specs.declared.events.Event.TheVariants as event;
 ghost use Rattle.can_bus.specs.declared.events.Reply.TheVariants as reply;
 ghost use Rattle.can_bus.specs.declared.events.Refusal.TheVariants as refusal;
@@ -142,4 +143,11 @@ pub fn off_interfaces_take_no_part(config: BusConfig)
 pub fn no_interface_beyond_the_last(config: BusConfig)
     ensures sent { (past : List Entry) → IsLegal config past → (i : ℕ) → config.ifaces ≤ i → head_of past i ≡ None }
     ensures counts { (past : List Entry) → IsLegal config past → (i : ℕ) → config.ifaces ≤ i → counts_of config past i ≡ at_start }
+{}
+
+// ---- records
+
+/// Each entry of a legal history has a line in the text of a record.
+pub fn legal_entries_have_lines(config: BusConfig)
+    ensures { (past : List Entry) → IsLegal config past → All IsSpelled past }
 {}

@@ -18,6 +18,7 @@ mod replies;
 pub mod runs;
 mod socket;
 mod sockets;
+pub mod spelled;
 pub mod stats;
 
 pub use buses::{Bus, BusFault};
@@ -25,7 +26,8 @@ pub use events::{
     BusConfig, Closed, Entry, Event, Opt, Pending, Received, Refusal, Reply, SocketId, Tried,
 };
 pub use records::Record;
-pub use runs::{RunFault, run};
+pub use runs::{RunFault, answer, run};
+pub use spelled::is_spelled;
 pub use stats::{IfaceStats, SocketStats};
 
 #[cfg(test)]

@@ -1,12 +1,17 @@
-ghost use Rattle.std.specs.Prelude.{◌≡◌, ◌<◌, ◌≤◌, ◌^◌, ◌==◌, [], ◌∷◌, length, IfOk, IsTrue, ◌↔◌};
+ghost use Rattle.std.specs.Prelude.{◌≡◌, ◌<◌, ◌≤◌, ◌^◌, ◌==◌, [], ◌∷◌, length, All, IfOk, IsSome, IfSome, IsTrue, ◌↔◌};
+ghost use Rattle.can_bus.specs.Journal.{IsConfig};
+ghost use Rattle.can_bus.specs.Spelled.{IsSpelled, IsRecord};
 
 use crate::events::{BusConfig, Entry, Event, Received, Reply};
+use crate::spelled::is_spelled;
 use can_frame::Item;
 use std::alloc::{AllocError, Global};
 use std::marker::Model;
 
-/// A bus's configuration, and each event on it with its reply. A bus alone makes one and adds to it.
-/// Contracts see the entries newest first.
+/// A bus's configuration, and each event on it with its reply. A bus alone adds to one.
+///
+/// The configuration is always within the limits of a bus, and the text of a record has a line for each
+/// entry: its reply fits its event. Contracts see the entries newest first.
 #[derive(Drop)]
 pub struct Record {
     config: BusConfig,
@@ -16,10 +21,13 @@ pub struct Record {
 impl Model for Record {
     ghost use Rattle.std.specs.Prelude.{reverse, vec_capacity};
     ghost use Rattle.can_bus.specs.Journal.{Kept};
+    ghost use Rattle.can_bus.specs.Spelled.{IsRecord};
 
     ghost Value = { Kept };
 
     ghost view = { λ r. record { config = r.config; history = reverse r.entries.items; room = vec_capacity r.entries } };
+
+    ghost invariant = { λ r. IsRecord r.config r.entries.items };
 }
 
 impl Record {
@@ -27,6 +35,7 @@ impl Record {
 
     /// An empty record, with memory for all the entries that its limit allows.
     pub(crate) fn new(alloc: Global, config: BusConfig) -> Result<Record, AllocError>
+        requires { IsConfig config }
         ensures config { IfOk result (λ r. r.config ≡ config) }
         ensures empty { IfOk result (λ r. r.history ≡ []) }
         ensures room { IfOk result (λ r. config.limit ≤ r.room) }
@@ -35,16 +44,36 @@ impl Record {
         Ok(Record { config, entries })
     }
 
+    /// The record of these parts, the oldest entry first: `None` exactly where the configuration is outside
+    /// the limits of a bus, or some entry has no line in the text of a record (`is_spelled`).
+    ///
+    /// There may be more entries than the limit, and their replies need not be what a bus would answer.
+    /// It looks at each entry once, and takes no memory.
+    pub fn from_entries(config: BusConfig, entries: Vec<Entry>) -> Option<Record>
+        ensures made { IfSome result (λ r. (r.config ≡ config) × (r.history ≡ reverse entries.items)) }
+        ensures proper { IsSome result ↔ IsRecord config entries.items }
+    {
+        if !is_proper(config) {
+            return None;
+        }
+        if !are_spelled(&entries) {
+            return None;
+        }
+        Some(Record { config, entries })
+    }
+
     /// What the bus was made with.
     pub fn config(&self) -> BusConfig
-        ensures { result ≡ self.now.config }
+        ensures config { result ≡ self.now.config }
+        ensures proper { IsConfig result }
     {
         self.config
     }
 
     /// The entries, the oldest first.
     pub fn entries(&self) -> &[Entry]
-        ensures { result.now ≡ reverse self.now.history }
+        ensures entries { result.now ≡ reverse self.now.history }
+        ensures spelled { All IsSpelled result.now }
     {
         &self.entries
     }
@@ -72,7 +101,8 @@ impl Record {
 
     /// Adds an entry. No memory is taken.
     pub(crate) fn push(&mut self, event: Event, reply: Reply)
-        requires { length self.old.history < self.old.room }
+        requires room { length self.old.history < self.old.room }
+        requires spelled { IsSpelled (record { event = event; reply = reply }) }
         ensures config { self.new.config ≡ self.old.config }
         ensures history { self.new.history ≡ record { event = event; reply = reply } ∷ self.old.history }
         ensures room { self.old.room ≤ self.new.room }
@@ -81,4 +111,26 @@ impl Record {
         let _types: Option<(Item, Received)> = None;
         let _ = self.entries.push(Entry { event, reply });
     }
+}
+
+/// Whether a bus may have this configuration.
+pub(crate) fn is_proper(config: BusConfig) -> bool
+    ensures { IsTrue result ↔ IsConfig config }
+{
+    let ifaces = config.ifaces;
+    let tx_capacity = config.tx_capacity;
+    let limit = config.limit;
+    ifaces >= 1
+        && ifaces <= 16
+        && tx_capacity >= 1
+        && tx_capacity <= 1024
+        && limit >= 1
+        && limit <= 16_777_216
+}
+
+/// Whether the text of a record has a line for each of these entries.
+fn are_spelled(entries: &[Entry]) -> bool
+    ensures { IsTrue result ↔ All IsSpelled entries.now }
+{
+    entries.iter().all(|entry| is_spelled(entry))
 }

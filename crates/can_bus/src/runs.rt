@@ -21,8 +21,11 @@ pub enum RunFault {
     NoMemory,
 }
 
-/// Carries out one event.
-fn serve<T: BoundedQueue<Pending>, R: BoundedQueue<Received>, A: Arbiter>(
+/// Carries out one event, by the call on the bus that it names, and answers its reply.
+///
+/// A refusal of that call is the reply. The event enters the record with it, unless the record was full
+/// or memory was refused: then nothing was done. It costs what the call does.
+pub fn answer<T: BoundedQueue<Pending>, R: BoundedQueue<Received>, A: Arbiter>(
     bus: &mut Bus<T, R, A>,
     alloc: Global,
     event: &Event,
@@ -80,7 +83,7 @@ pub fn run<T: BoundedQueue<Pending>, R: BoundedQueue<Received>, A: Arbiter>(
         return Err(RunFault::NoMemory);
     };
     for event in events {
-        let reply = serve(bus, alloc, event);
+        let reply = answer(bus, alloc, event);
         note(&mut replies, reply);
     }
     let _after = bus.record().len();

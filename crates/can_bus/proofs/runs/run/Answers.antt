@@ -7,9 +7,9 @@ pub loop-event-preserved : goal.loop-event-preserved
 loop-event-preserved g c =
     let so_far = c.loop-event.invariant in
     record {
-      count = counted_more c.loop-event.replies.items c.note.new.replies.items c.serve-reply.result c.loop-event.event-index c.note.ensures.items so_far.count;
+      count = counted_more c.loop-event.replies.items c.note.new.replies.items c.answer-reply.result c.loop-event.event-index c.note.ensures.items so_far.count;
       room = omega (arith, so_far.room, c.note.ensures.room);
-      ran = ran_more c.args.bus.now c.loop-event.bus c.serve-reply.new.bus c.args.events.now c.loop-event.event-index c.loop-event.replies.items c.note.new.replies.items c.event-item.result c.serve-reply.result so_far.ran c.loop-event-test.true c.event-item.is c.serve-reply.ensures.answer c.serve-reply.ensures.after c.note.ensures.items;
+      ran = ran_more c.args.bus.now c.loop-event.bus c.answer-reply.new.bus c.args.events.now c.loop-event.event-index c.loop-event.replies.items c.note.new.replies.items c.event-item.result c.answer-reply.result so_far.ran c.loop-event-test.true c.event-item.is c.answer-reply.ensures.answer c.answer-reply.ensures.after c.note.ensures.items;
     }
 
 pub loop-event-init : goal.loop-event-init

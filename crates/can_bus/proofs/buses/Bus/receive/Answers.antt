@@ -4,6 +4,7 @@ use Rattle.can_bus.specs.declared.events.Reply.{Reply}
 use Rattle.can_bus.specs.declared.events.Reply.TheVariants as reply
 use Rattle.can_bus.specs.State.{Parts}
 use Rattle.can_bus.proofs.Bounds.{small_taken}
+use Rattle.can_bus.proofs.Fitting.{legal_is_spelled}
 use Rattle.can_bus.proofs.Keeping.{IsLonger, Follows, kept_more, noted, answered}
 use Rattle.can_bus.proofs.Receiving.{received_follows, entry}
 use Rattle.can_bus.proofs.buses.Bus.receive.Given as given
@@ -24,6 +25,12 @@ follows g c = received_follows c.self.inside.record.config c.self.inside.record.
 
 pub receive_from-outcome-requires : goal.receive_from-outcome-requires
 receive_from-outcome-requires g c = small_taken c.self.inside.record _ _ c.self.invariant
+
+pub push-requires-clause-spelled : goal.push-requires-clause-spelled
+push-requires-clause-spelled g c =
+    let parts : Parts = record { lines = c.self.inside.lines.items; keys = g.A.Arbiter.keys_of c.self.inside.arbiter; nodes = c.self.inside.nodes; sockets = c.self.inside.sockets.items; opened = c.self.inside.opened; tried = c.self.inside.tried } in
+    let follows = received_follows c.self.inside.record.config c.self.inside.record.history parts c.receive_from-outcome.new.sockets.items c.args.id c.receive_from-outcome.result c.self.invariant.of_parts c.receive_from-outcome.ensures.received in
+    legal_is_spelled c.self.inside.record.config c.self.inside.record.history (event.Receive c.args.id) c.received_reply.result (c.received_reply.ensures ∙ follows.lawful)
 
 pub invariant_of-self : goal.invariant_of-self
 invariant_of-self g c =

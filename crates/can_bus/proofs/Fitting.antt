@@ -1,0 +1,117 @@
+use Rattle.std.proofs.Common.{refl, ◌≡◌, ℕ, zero, suc, ◌+◌, ◌-◌, ◌==◌, nat_le, Bool, true, false, not, ◌&&◌, ◌||◌, List, [], ◌∷◌, ◌++◌, length, slice_get, Option, Some, None, All, if◌then◌else◌, sym, subst}
+use Rattle.std.proofs.lemmas.List.Elements.{All-nil, All-cons, All-head, All-tail, All-append, All-take}
+use Rattle.can_frame.specs.Frames.{ErrorMessage}
+use Rattle.can_frame.specs.Sets.{is_in}
+use Rattle.can_frame.specs.declared.ifaces.IfaceSet.{IfaceSet}
+use Rattle.can_filter.specs.Filters.{CanFilter}
+use Rattle.can_filter.specs.Passing.{wants}
+use Rattle.can_filter.specs.declared.socket_options.Options.{Options}
+use Rattle.can_confine.specs.Confinement.{is_off}
+use Rattle.can_fault.specs.declared.verdicts.Verdict.{Verdict}
+use Rattle.can_attempt.specs.Attempts.{Transmission, counts_after}
+use Rattle.can_errframe.specs.ErrorMessages.{state_message, restart_message}
+use Rattle.can_bus.specs.declared.events.BusConfig.{BusConfig}
+use Rattle.can_bus.specs.declared.events.Entry.{Entry}
+use Rattle.can_bus.specs.declared.events.Event.{Event}
+use Rattle.can_bus.specs.declared.events.Event.TheVariants.{Open, Close, SetFilters, SetOption, Send, Receive, Attempt, Restart}
+use Rattle.can_bus.specs.declared.events.Pending.{Pending}
+use Rattle.can_bus.specs.declared.events.Received.{Received}
+use Rattle.can_bus.specs.declared.events.Reply.{Reply}
+use Rattle.can_bus.specs.declared.events.Reply.TheVariants as reply
+use Rattle.can_bus.specs.declared.events.Tried.{Tried}
+use Rattle.can_bus.specs.Sockets.{open_sockets, is_open, iface_of, capacity_of, filters_of, options_of}
+use Rattle.can_bus.specs.Transmit.{sent_by, gone_count, head_of}
+use Rattle.can_bus.specs.Counters.{state_at, transmission}
+use Rattle.can_bus.specs.Attempts.{winner, attempt_reply, tried_head}
+use Rattle.can_bus.specs.Posts.{Post, is_looped_back, is_own, data_posts, error_posts, attempt_posts, posts_of, fault_message_for, role_at}
+use Rattle.can_bus.specs.Queues.{passing, candidates_of, queued_to, taken_from}
+use Rattle.can_bus.specs.Legal.{legal_reply, IsLegal}
+use Rattle.can_bus.specs.Spelled.{IsNumbered, AreNumbered, FitsReply, IsSpelled}
+
+-- Each legal reply fits its event, so that each entry of a legal history has a line.
+
+if-holds : {X : Type 0} (P : X → Type 0) (b : Bool) (x y : X) → P x → P y → P (if b then x else y)
+if-holds P true x y hx hy = hx
+if-holds P false x y hx hy = hy
+
+-- ---- the items that sockets receive
+
+abbrev IsPost : Post → Type 0
+IsPost p = IsNumbered p.received
+
+abbrev ArePosts : List Post → Type 0
+ArePosts ps = All IsPost ps
+
+no-posts : ArePosts []
+no-posts = All-nil IsPost
+
+one-post : (p : Post) → IsPost p → ArePosts (p ∷ [])
+one-post p h = All-cons IsPost p [] h no-posts
+
+error-posts : (i m : ℕ) (e : Option ErrorMessage) → ArePosts (error_posts i m e)
+error-posts i m None = no-posts
+error-posts i m (Some e) = one-post _ refl
+
+data-posts : (i : ℕ) (t : Tried) (p : Option Pending) → ArePosts (data_posts i t p)
+data-posts i t p = if-holds ArePosts (is_in i t.accepted || ((i == t.winner) && is_looped_back t.class p)) _ _ (one-post _ tt) no-posts
+
+attempt-posts : (reporting : IfaceSet) (sending : Transmission) (t : Tried) (p : Option Pending) (i : ℕ) → ArePosts (attempt_posts reporting sending t p i)
+attempt-posts reporting sending t p i =
+    let fault = fault_message_for t.class sending.verdict (role_at sending i) in
+    let faults : List Post = if is_in i reporting then error_posts i t.moment fault else [] in
+    let change = state_message (sending.counts i) (counts_after sending i) in
+    All-append IsPost (data_posts i t p ++ faults) (error_posts i t.moment change)
+    (All-append IsPost (data_posts i t p) faults (data-posts i t p) (if-holds ArePosts (is_in i reporting) (error_posts i t.moment fault) [] (error-posts i t.moment fault) no-posts))
+    (error-posts i t.moment change)
+
+posts-numbered : (c : BusConfig) (past : List Entry) (i : ℕ) (e : Event) (r : Reply) → ArePosts (posts_of c past i e r)
+posts-numbered c past i (Attempt m v) (reply.Tried t) = attempt-posts c.reporting (transmission c past t.winner v) t (slice_get (sent_by past t.winner) t.number) i
+posts-numbered c past i (Restart k m) reply.Done = if-holds ArePosts (i == k) _ _ (error-posts i m (Some restart_message)) no-posts
+posts-numbered c past i _ _ = no-posts
+
+passing-numbered : (filters : List CanFilter) (options : Options) (s : ℕ) (ps : List Post) → ArePosts ps → All IsNumbered (passing filters options s ps)
+passing-numbered filters options s [] h = All-nil IsNumbered
+passing-numbered filters options s (p ∷ ps) h =
+    let rest = passing-numbered filters options s ps (All-tail IsPost p ps h) in
+    if-holds (All IsNumbered) (wants filters options p.received.item (is_own p.sender s)) _ _ (All-cons IsNumbered p.received (passing filters options s ps) (All-head IsPost p ps h) rest) rest
+
+queued-numbered : (c : BusConfig) (past : List Entry) (s : ℕ) → All IsNumbered (queued_to c past s)
+queued-numbered c [] s = All-nil IsNumbered
+queued-numbered c (e ∷ past) s =
+    All-append IsNumbered (queued_to c past s) _ (queued-numbered c past s)
+    (All-take IsNumbered (capacity_of past s + length (taken_from past s) - length (queued_to c past s)) (candidates_of c past s e.event e.reply)
+    (if-holds (All IsNumbered) (is_open past s) _ _ (passing-numbered (filters_of past s) (options_of past s) s (posts_of c past (iface_of past s) e.event e.reply) (posts-numbered c past (iface_of past s) e.event e.reply)) (All-nil IsNumbered)))
+
+given-numbered : (rs : List Received) (k : ℕ) → All IsNumbered rs → AreNumbered (slice_get rs k)
+given-numbered [] k h = tt
+given-numbered (r ∷ rs) zero h = All-head IsNumbered r rs h
+given-numbered (r ∷ rs) (suc k) h = given-numbered rs k (All-tail IsNumbered r rs h)
+
+-- ---- the replies
+
+head-fits : (c : BusConfig) (past : List Entry) (m : ℕ) (v : Verdict) (w : ℕ) (p : Option Pending) → FitsReply (Attempt m v) (tried_head c past m v w p)
+head-fits c past m v w None = tt
+head-fits c past m v w (Some p) = refl
+
+attempt-fits : (c : BusConfig) (past : List Entry) (m : ℕ) (v : Verdict) (w : Option ℕ) → FitsReply (Attempt m v) (attempt_reply c past m v w)
+attempt-fits c past m v None = tt
+attempt-fits c past m v (Some w) = head-fits c past m v w (head_of past w)
+
+legal-fits : (c : BusConfig) (past : List Entry) (e : Event) → FitsReply e (legal_reply c past e)
+legal-fits c past (Open i n) = if-holds (FitsReply (Open i n)) (nat_le c.ifaces i) _ _ tt (if-holds (FitsReply (Open i n)) (not (nat_le 1 n && nat_le n 65536)) _ _ tt (if-holds (FitsReply (Open i n)) (nat_le 64 (length (open_sockets past))) _ _ tt tt))
+legal-fits c past (Close s) = if-holds (FitsReply (Close s)) (is_open past s.0) _ _ tt tt
+legal-fits c past (SetFilters s f) = if-holds (FitsReply (SetFilters s f)) (is_open past s.0) _ _ tt tt
+legal-fits c past (SetOption s o) = if-holds (FitsReply (SetOption s o)) (is_open past s.0) _ _ tt tt
+legal-fits c past (Send s f) = if-holds (FitsReply (Send s f)) (is_open past s.0) _ _ (if-holds (FitsReply (Send s f)) (is_off (state_at c past (iface_of past s.0))) _ _ tt (if-holds (FitsReply (Send s f)) (length (sent_by past (iface_of past s.0)) - gone_count past (iface_of past s.0) == c.tx_capacity) _ _ tt tt)) tt
+legal-fits c past (Receive s) = if-holds (FitsReply (Receive s)) (is_open past s.0) _ _ (given-numbered (queued_to c past s.0) (length (taken_from past s.0)) (queued-numbered c past s.0)) tt
+legal-fits c past (Attempt m v) = attempt-fits c past m v (winner c past)
+legal-fits c past (Restart i m) = if-holds (FitsReply (Restart i m)) (nat_le c.ifaces i) _ _ tt (if-holds (FitsReply (Restart i m)) (is_off (state_at c past i)) _ _ tt tt)
+
+-- an entry with the legal reply has a line
+pub legal_is_spelled : (c : BusConfig) (past : List Entry) (e : Event) (r : Reply) → r ≡ legal_reply c past e → FitsReply e r
+legal_is_spelled c past e r law = subst (FitsReply e) (sym law) (legal-fits c past e)
+
+-- each entry of a legal history has a line
+pub legal-spelled : (c : BusConfig) (past : List Entry) → IsLegal c past → All IsSpelled past
+legal-spelled c [] legal = All-nil IsSpelled
+legal-spelled c (e ∷ past) legal = All-cons IsSpelled e past (legal_is_spelled c past e.event e.reply legal.1) (legal-spelled c past legal.2)
