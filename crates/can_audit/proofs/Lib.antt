@@ -3,3 +3,4 @@ pub mod Digits
 pub mod Written
 pub mod FrameWords
 pub mod FilterLists
+pub mod Again
