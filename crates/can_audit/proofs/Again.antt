@@ -1,8 +1,9 @@
 -- A line that was written is read again.
-use Rattle.std.proofs.Common.{◌≡◌, ℕ, zero, suc, ◌+◌, ◌^◌, ◌<◌, ◌≤◌, Bool, true, false, cond, eqb, ltb, List, [], ◌∷◌, ◌++◌, length, Option, Some, None, append_assoc, refl, sym, ap, ◌∙◌, arith}
-use Rattle.std.specs.Prelude.{codes, decimal, bit_and}
+use Rattle.std.proofs.Common.{◌≡◌, ℕ, zero, suc, ◌+◌, ◌^◌, ◌<◌, ◌≤◌, Bool, true, false, cond, eqb, ltb, List, [], ◌∷◌, ◌++◌, length, Option, Some, None, Result, Ok, Err, append_assoc, refl, sym, ap, ◌∙◌, arith}
+use Rattle.std.specs.Prelude.{All, codes, decimal, bit_and}
 use Rattle.std.proofs.lemmas.Bool.{lt-ltb}
 use Rattle.std.proofs.lemmas.List.{append-nil}
+use Rattle.std.proofs.lemmas.List.Elements.{All-head, All-tail}
 use Rattle.can_frame.specs.FrameText.{frame_spelling, IsItem}
 use Rattle.can_frame.specs.Frames.{CanFrame}
 use Rattle.can_frame.specs.declared.items.Item.{Item}
@@ -15,6 +16,9 @@ use Rattle.can_fault.specs.declared.verdicts.Verdict.{Verdict}
 use Rattle.can_fault.specs.declared.verdicts.Verdict.TheVariants as verdict
 use Rattle.can_attempt.specs.declared.classes.Class.{Class}
 use Rattle.can_attempt.specs.declared.classes.Class.TheVariants as class
+use Rattle.can_attempt.specs.declared.acks.AckMode.{AckMode}
+use Rattle.can_attempt.specs.declared.acks.AckMode.TheVariants as ack
+use Rattle.can_bus.specs.declared.events.BusConfig.{BusConfig}
 use Rattle.can_bus.specs.declared.events.SocketId.{SocketId}
 use Rattle.can_bus.specs.declared.events.Opt.{Opt}
 use Rattle.can_bus.specs.declared.events.Opt.TheVariants as opt
@@ -28,11 +32,14 @@ use Rattle.can_bus.specs.declared.events.Reply.{Reply}
 use Rattle.can_bus.specs.declared.events.Reply.TheVariants as reply
 use Rattle.can_bus.specs.declared.events.Entry.{Entry}
 use Rattle.can_bus.specs.Spelled.{LeavesEntry, IsNumbered, IsNumberOf, FitsReply}
+use Rattle.std.proofs.lemmas.Option.{none-some, same_Some}
+use Rattle.can_audit.specs.declared.faults.Unread.{Unread}
+use Rattle.can_audit.specs.declared.faults.Unread.TheVariants as unread
 use Rattle.can_audit.specs.Words.{is_gap, is_word, gap_before, word, after, spell}
 use Rattle.can_audit.specs.Numerals.{number_in, moment_text}
-use Rattle.can_audit.specs.Values.{HoldsFilter, HoldsFilters, HoldsOption, HoldsVerdict, HoldsEvent, HoldsTried, HoldsReply, HasLine}
-use Rattle.can_audit.specs.Spelling.{set_word, mask_word, flag_word, class_word, verdict_word, option_words, filter_words, refusal_words, received_words, event_words, reply_words, entry_words, entry_line}
-use Rattle.can_audit.specs.Reading.{number_at, mask_at, moment_at, socket_at, set_at, flag_at, item_at, frame_at, option_at, set_behind, verdict_at, class_at, refusal_in, closed_at, data_at, error_at, tried_at, reply_at, moment_of, with_reply, filter_at, filters_at, set_filters_at, setting_at, entry_at}
+use Rattle.can_audit.specs.Values.{HoldsFilter, HoldsOption, HoldsVerdict, HoldsEvent, HoldsTried, HoldsReply, HasLine, HasBusLine}
+use Rattle.can_audit.specs.Spelling.{set_word, mask_word, flag_word, class_word, verdict_word, option_words, filter_words, refusal_words, received_words, event_words, reply_words, entry_words, entry_line, ack_word, bus_words, end_words}
+use Rattle.can_audit.specs.Reading.{Gives, number_at, mask_at, moment_at, socket_at, set_at, flag_at, item_at, frame_at, option_at, set_behind, verdict_at, class_at, refusal_in, closed_at, data_at, error_at, tried_at, reply_at, moment_of, with_reply, filter_at, filters_at, set_filters_at, setting_at, entry_at, ack_at, config_at}
 use Rattle.can_audit.proofs.Wording.{word-spelled, after-spelled}
 use Rattle.can_audit.proofs.Digits.{number_again, digits_again, is_word-decimal, is_word-digits, moment_again, is_word-moment}
 use Rattle.can_audit.proofs.FrameWords.{item_again, is_word-item}
@@ -127,12 +134,12 @@ filter_again : (acc : List CanFilter) (f : CanFilter) (g : ℕ) (rest : List ℕ
 unfolding filter_at
 filter_again acc f g rest h gap = rw (mask_field f.id 32 (mask_word f.mask ++ g ∷ rest) h.id refl, mask_field f.mask g rest h.mask gap, h.unmarked) refl
 
-filters_again : (fs acc : List CanFilter) (w : List ℕ) (ws : List (List ℕ)) (rest : List ℕ) → HoldsFilters fs → filters_at acc (length fs) (spell (filter_words fs ++ w ∷ ws) rest) ≡ Some (acc ++ fs, spell (w ∷ ws) rest)
+filters_again : (fs acc : List CanFilter) (w : List ℕ) (ws : List (List ℕ)) (rest : List ℕ) → All HoldsFilter fs → filters_at acc (length fs) (spell (filter_words fs ++ w ∷ ws) rest) ≡ Some (acc ++ fs, spell (w ∷ ws) rest)
 unfolding filters_at
 filters_again [] acc w ws rest h = ap (λ (x : List CanFilter). Some (x, spell (w ∷ ws) rest)) (sym (append-nil acc))
 filters_again (f ∷ fs) acc w ws rest h =
-    rw (filter_again acc f (gap_before (filter_words fs ++ w ∷ ws)) (spell (filter_words fs ++ w ∷ ws) rest) h.0 (gap_is (filter_words fs ++ w ∷ ws)))
-      (filters_again fs (acc ++ f ∷ []) w ws rest h.1 ∙ ap (λ (x : List CanFilter). Some (x, spell (w ∷ ws) rest)) (append_assoc acc (f ∷ []) fs))
+    rw (filter_again acc f (gap_before (filter_words fs ++ w ∷ ws)) (spell (filter_words fs ++ w ∷ ws) rest) (All-head HoldsFilter f fs h) (gap_is (filter_words fs ++ w ∷ ws)))
+      (filters_again fs (acc ++ f ∷ []) w ws rest (All-tail HoldsFilter f fs h) ∙ ap (λ (x : List CanFilter). Some (x, spell (w ∷ ws) rest)) (append_assoc acc (f ∷ []) fs))
 
 -- ---- replies
 
@@ -184,7 +191,7 @@ received_number (SetOption s o) r h = absurd h
 received_number (Send s f) r h = absurd h
 received_number (Restart i m) r h = absurd h
 
-leaves : (e : Event) (why : Refusal) → FitsReply e (reply.Refused why) → LeavesEntry why
+pub leaves : (e : Event) (why : Refusal) → FitsReply e (reply.Refused why) → LeavesEntry why
 leaves (Receive s) why h = h
 leaves (Attempt m v) why h = h
 leaves (Open i c) why h = h
@@ -254,3 +261,46 @@ entry_kinds (Restart i m) r rest fits holds h = rw (number_field 16 i 32 (moment
 -- the entry of a line
 pub entry_again : (e : Entry) (rest : List ℕ) → HasLine e → entry_at (entry_line e rest) ≡ Some e
 entry_again e rest h = entry_kinds e.event e.reply rest h.spelled h.event h.reply
+
+-- ---- the bus and the end
+
+ack_field : (a : AckMode) (rest : List ℕ) → ack_at (ack_word a ++ 32 ∷ rest) ≡ Some (a, rest)
+unfolding ack_at word after
+ack_field ack.Always rest = refl
+ack_field ack.Peers rest = refl
+
+-- the configuration of a bus's line
+pub config_again : (c : BusConfig) (rest : List ℕ) → HasBusLine c → config_at (spell (bus_words c) rest) ≡ Some c
+unfolding config_at word after
+config_again c rest h =
+    let few : c.ifaces < 256 = omega (arith, h.proper.few_ifaces) in
+    let short : c.tx_capacity < 2 ^ 32 = omega (arith, h.proper.few_frames) in
+    let small : c.limit < 2 ^ 32 = omega (arith, h.proper.few_entries) in
+    rw (number_field 256 c.ifaces 32 (ack_word c.ack ++ 32 ∷ (set_word c.reporting ++ 32 ∷ (decimal c.tx_capacity ++ 32 ∷ (decimal c.limit ++ 10 ∷ rest)))) few (omega arith) refl,
+        ack_field c.ack (set_word c.reporting ++ 32 ∷ (decimal c.tx_capacity ++ 32 ∷ (decimal c.limit ++ 10 ∷ rest))),
+        set_field c.reporting 32 (decimal c.tx_capacity ++ 32 ∷ (decimal c.limit ++ 10 ∷ rest)) h.reporting refl,
+        number_field (2 ^ 32) c.tx_capacity 32 (decimal c.limit ++ 10 ∷ rest) short (omega arith) refl,
+        number_field (2 ^ 32) c.limit 10 rest small (omega arith) refl) refl
+
+-- the end's line is no entry's
+pub end_is_none : (count : ℕ) (rest : List ℕ) → entry_at (spell (end_words count) rest) ≡ None
+unfolding entry_at setting_at word after
+end_is_none count rest = refl
+
+-- where a line stands, nothing but want of memory keeps it from being read
+pub refused : (u : Unread) (text : List ℕ) → Gives (Err u) (entry_at text) → (e : Entry) (rest : List ℕ) → HasLine e → text ≡ entry_line e rest → u ≡ unread.NoMemory
+refused unread.NoMemory text h e rest spelled is = refl
+refused unread.Bad text h e rest spelled is = absurd (none-some e (sym h ∙ ap entry_at is ∙ entry_again e rest spelled))
+
+-- one text begins with one line
+pub same_entry : (read : Entry) (text : List ℕ) → entry_at text ≡ Some read → (e : Entry) (rest : List ℕ) → HasLine e → text ≡ entry_line e rest → e ≡ read
+same_entry read text h e rest spelled is = same_Some e read (sym (ap entry_at is ∙ entry_again e rest spelled) ∙ h)
+
+-- a line, and what follows it
+pub spell-rest : (ws : List (List ℕ)) (rest : List ℕ) → spell ws [] ++ rest ≡ spell ws rest
+spell-rest [] rest = refl
+spell-rest (w ∷ ws) rest = append_assoc w (gap_before ws ∷ spell ws []) rest ∙ ap (λ (x : List ℕ). w ++ gap_before ws ∷ x) (spell-rest ws rest)
+
+-- what was cleared holds what was put
+pub kept : (old new l : List ℕ) → old ≡ [] → new ≡ old ++ l → new ≡ l
+kept old new l nothing h = h ∙ ap (λ (x : List ℕ). x ++ l) nothing

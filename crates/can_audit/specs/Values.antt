@@ -1,4 +1,4 @@
-use Rattle.std.specs.Prelude.{◌≡◌, ℕ, ◌+◌, ◌^◌, ◌<◌, ◌≤◌, List, [], ◌∷◌, length, Option, Some, None, All, bit_and}
+use Rattle.std.specs.Prelude.{◌≡◌, ℕ, ◌+◌, ◌^◌, ◌<◌, ◌≤◌, List, length, Option, Some, None, All, bit_and}
 use Rattle.can_frame.specs.declared.items.Item.TheVariants as item
 use Rattle.can_filter.specs.Filters.{CanFilter}
 use Rattle.can_fault.specs.declared.verdicts.Verdict.{Verdict}
@@ -15,6 +15,7 @@ use Rattle.can_bus.specs.declared.events.Reply.{Reply}
 use Rattle.can_bus.specs.declared.events.Reply.TheVariants as reply
 use Rattle.can_bus.specs.declared.events.Entry.{Entry}
 use Rattle.can_frame.specs.FrameText.{IsItem}
+use Rattle.can_bus.specs.Journal.{IsConfig}
 use Rattle.can_bus.specs.Spelled.{IsSpelled}
 
 -- The values that the types of an entry hold: a clause that ranges over all entries has to say so.
@@ -24,11 +25,6 @@ pub record HoldsFilter (f : CanFilter) : Type 0 where
   pub id : f.id < 2 ^ 32
   pub mask : f.mask < 2 ^ 32
   pub unmarked : bit_and f.mask (2 ^ 29) ≡ 0
-
--- filters of this form
-abbrev pub HoldsFilters : List CanFilter → Type 0
-HoldsFilters [] = Unit {0}
-HoldsFilters (f ∷ fs) = HoldsFilter f × HoldsFilters fs
 
 -- an error mask of 32 bits
 abbrev pub HoldsOption : Opt → Type 0
@@ -48,7 +44,7 @@ HoldsVerdict (verdict.Local set kind) = set.0 < 2 ^ 16
 abbrev pub HoldsEvent : Event → Type 0
 HoldsEvent (Open i capacity) = (i < 16) × (capacity < 2 ^ 32)
 HoldsEvent (Close s) = s.0 < 2 ^ 32
-HoldsEvent (SetFilters s filters) = (s.0 < 2 ^ 32) × (length filters ≤ 512) × HoldsFilters filters
+HoldsEvent (SetFilters s filters) = (s.0 < 2 ^ 32) × (length filters ≤ 512) × All HoldsFilter filters
 HoldsEvent (SetOption s option) = (s.0 < 2 ^ 32) × HoldsOption option
 HoldsEvent (Send s frame) = (s.0 < 2 ^ 32) × IsItem (item.Data frame)
 HoldsEvent (Receive s) = s.0 < 2 ^ 32
@@ -81,3 +77,13 @@ pub record HasLine (e : Entry) : Type 0 where
   pub spelled : IsSpelled e
   pub event : HoldsEvent e.event
   pub reply : HoldsReply e.reply
+
+-- a configuration that has a line
+pub record HasBusLine (c : BusConfig) : Type 0 where
+  pub proper : IsConfig c
+  pub reporting : c.reporting.0 < 2 ^ 16
+
+-- a configuration and entries that a text can spell
+pub record HasText (c : BusConfig) (entries : List Entry) : Type 0 where
+  pub bus : HasBusLine c
+  pub lines : All HasLine entries
