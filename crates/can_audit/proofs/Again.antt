@@ -304,3 +304,19 @@ spell-rest (w ∷ ws) rest = append_assoc w (gap_before ws ∷ spell ws []) rest
 -- what was cleared holds what was put
 pub kept : (old new l : List ℕ) → old ≡ [] → new ≡ old ++ l → new ≡ l
 kept old new l nothing h = h ∙ ap (λ (x : List ℕ). x ++ l) nothing
+
+-- where a bus's line stands, it is read
+pub config_refused : (text : List ℕ) → None ≡ config_at text → (c : BusConfig) (rest : List ℕ) → HasBusLine c → text ≡ spell (bus_words c) rest → ⊥
+config_refused text h c rest good is = none-some c (h ∙ ap config_at is ∙ config_again c rest good)
+
+-- one text begins with one bus's line
+pub same_config : (read : BusConfig) (text : List ℕ) → Some read ≡ config_at text → (c : BusConfig) (rest : List ℕ) → HasBusLine c → text ≡ spell (bus_words c) rest → c ≡ read
+same_config read text h c rest good is = same_Some c read (sym (ap config_at is ∙ config_again c rest good) ∙ sym h)
+
+nothing_is_none : entry_at [] ≡ None
+unfolding entry_at setting_at word after
+nothing_is_none = refl
+
+-- a line is not empty
+pub line_some : (e : Entry) → HasLine e → entry_line e [] ≡ [] → ⊥
+line_some e h is = none-some e (sym (sym (entry_again e [] h) ∙ ap entry_at is ∙ nothing_is_none))

@@ -4,3 +4,4 @@ pub mod FrameWords
 pub mod FilterLists
 pub mod Again
 pub mod Written
+pub mod LineLists

@@ -3,3 +3,4 @@ pub mod Numerals
 pub mod Values
 pub mod Spelling
 pub mod Reading
+pub mod RecordFaults
