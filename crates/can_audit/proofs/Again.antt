@@ -1,6 +1,6 @@
 -- A line that was written is read again.
-use Rattle.std.proofs.Common.{◌≡◌, ℕ, zero, suc, ◌+◌, ◌^◌, ◌<◌, ◌≤◌, Bool, true, false, cond, eqb, ltb, List, [], ◌∷◌, ◌++◌, length, Option, Some, None, Result, Ok, Err, append_assoc, refl, sym, ap, ◌∙◌, arith}
-use Rattle.std.specs.Prelude.{All, codes, decimal, bit_and}
+use Rattle.std.proofs.Common.{◌≡◌, ℕ, ◌^◌, ◌<◌, ◌≤◌, Bool, true, false, List, [], ◌∷◌, ◌++◌, length, Option, Some, None, Err, append_assoc, refl, sym, ap, ◌∙◌, arith}
+use Rattle.std.specs.Prelude.{All, codes, decimal}
 use Rattle.std.proofs.lemmas.Bool.{lt-ltb}
 use Rattle.std.proofs.lemmas.List.{append-nil}
 use Rattle.std.proofs.lemmas.List.Elements.{All-head, All-tail}
@@ -31,14 +31,14 @@ use Rattle.can_bus.specs.declared.events.Tried.{Tried}
 use Rattle.can_bus.specs.declared.events.Reply.{Reply}
 use Rattle.can_bus.specs.declared.events.Reply.TheVariants as reply
 use Rattle.can_bus.specs.declared.events.Entry.{Entry}
-use Rattle.can_bus.specs.Spelled.{LeavesEntry, IsNumbered, IsNumberOf, FitsReply}
+use Rattle.can_bus.specs.Spelled.{LeavesEntry, IsNumberOf, FitsReply}
 use Rattle.std.proofs.lemmas.Option.{none-some, same_Some}
 use Rattle.can_audit.specs.declared.faults.Unread.{Unread}
 use Rattle.can_audit.specs.declared.faults.Unread.TheVariants as unread
 use Rattle.can_audit.specs.Words.{is_gap, is_word, gap_before, word, after, spell}
 use Rattle.can_audit.specs.Numerals.{number_in, moment_text}
 use Rattle.can_audit.specs.Values.{HoldsFilter, HoldsOption, HoldsVerdict, HoldsEvent, HoldsTried, HoldsReply, HasLine, HasBusLine}
-use Rattle.can_audit.specs.Spelling.{set_word, mask_word, flag_word, class_word, verdict_word, option_words, filter_words, refusal_words, received_words, event_words, reply_words, entry_words, entry_line, ack_word, bus_words, end_words}
+use Rattle.can_audit.specs.Spelling.{set_word, mask_word, flag_word, class_word, verdict_word, option_words, filter_words, refusal_words, received_words, event_words, reply_words, entry_line, ack_word, bus_words, end_words}
 use Rattle.can_audit.specs.Reading.{Gives, number_at, mask_at, moment_at, socket_at, set_at, flag_at, item_at, frame_at, option_at, set_behind, verdict_at, class_at, refusal_in, closed_at, data_at, error_at, tried_at, reply_at, moment_of, with_reply, filter_at, filters_at, set_filters_at, setting_at, entry_at, ack_at, config_at}
 use Rattle.can_audit.proofs.Wording.{word-spelled, after-spelled}
 use Rattle.can_audit.proofs.Digits.{number_again, digits_again, is_word-decimal, is_word-digits, moment_again, is_word-moment}
@@ -139,7 +139,7 @@ unfolding filters_at
 filters_again [] acc w ws rest h = ap (λ (x : List CanFilter). Some (x, spell (w ∷ ws) rest)) (sym (append-nil acc))
 filters_again (f ∷ fs) acc w ws rest h =
     rw (filter_again acc f (gap_before (filter_words fs ++ w ∷ ws)) (spell (filter_words fs ++ w ∷ ws) rest) (All-head HoldsFilter f fs h) (gap_is (filter_words fs ++ w ∷ ws)))
-      (filters_again fs (acc ++ f ∷ []) w ws rest (All-tail HoldsFilter f fs h) ∙ ap (λ (x : List CanFilter). Some (x, spell (w ∷ ws) rest)) (append_assoc acc (f ∷ []) fs))
+    (filters_again fs (acc ++ f ∷ []) w ws rest (All-tail HoldsFilter f fs h) ∙ ap (λ (x : List CanFilter). Some (x, spell (w ∷ ws) rest)) (append_assoc acc (f ∷ []) fs))
 
 -- ---- replies
 
@@ -150,25 +150,33 @@ closed_again u d rest hu hd = rw (number_field (2 ^ 64) u 32 (decimal d ++ 10 �
 data_again : (f : CanFrame) (from n m : ℕ) (rest : List ℕ) → IsItem (item.Data f) → from < 16 → n < 2 ^ 64 → m < 10 ^ 16 → data_at (decimal from ++ 32 ∷ (decimal n ++ 32 ∷ (frame_spelling (item.Data f) ++ 32 ∷ (moment_text m ++ 10 ∷ rest)))) ≡ Some (reply.Received (Some (record { item = item.Data f; from = from; number = n; moment = m })), rest)
 unfolding data_at
 data_again f from n m rest good hi hn hm =
-    rw (number_field 16 from 32 (decimal n ++ 32 ∷ (frame_spelling (item.Data f) ++ 32 ∷ (moment_text m ++ 10 ∷ rest))) hi (omega arith) refl,
-        number_field (2 ^ 64) n 32 (frame_spelling (item.Data f) ++ 32 ∷ (moment_text m ++ 10 ∷ rest)) hn (omega arith) refl,
-        frame_field f 32 (moment_text m ++ 10 ∷ rest) good refl, moment_field m 10 rest hm refl) refl
+    rw (
+      number_field 16 from 32 (decimal n ++ 32 ∷ (frame_spelling (item.Data f) ++ 32 ∷ (moment_text m ++ 10 ∷ rest))) hi (omega arith) refl,
+      number_field (2 ^ 64) n 32 (frame_spelling (item.Data f) ++ 32 ∷ (moment_text m ++ 10 ∷ rest)) hn (omega arith) refl,
+      frame_field f 32 (moment_text m ++ 10 ∷ rest) good refl,
+      moment_field m 10 rest hm refl,
+    ) refl
 
 error_again : (i : Item) (from m : ℕ) (rest : List ℕ) → IsItem i → from < 16 → m < 10 ^ 16 → error_at (decimal from ++ 32 ∷ (frame_spelling i ++ 32 ∷ (moment_text m ++ 10 ∷ rest))) ≡ Some (reply.Received (Some (record { item = i; from = from; number = 0; moment = m })), rest)
 unfolding error_at
 error_again i from m rest good hi hm =
-    rw (number_field 16 from 32 (frame_spelling i ++ 32 ∷ (moment_text m ++ 10 ∷ rest)) hi (omega arith) refl,
-        item_field i 32 (moment_text m ++ 10 ∷ rest) good refl, moment_field m 10 rest hm refl) refl
+    rw (
+      number_field 16 from 32 (frame_spelling i ++ 32 ∷ (moment_text m ++ 10 ∷ rest)) hi (omega arith) refl,
+      item_field i 32 (moment_text m ++ 10 ∷ rest) good refl,
+      moment_field m 10 rest hm refl,
+    ) refl
 
 tried_again : (t : Tried) (rest : List ℕ) → HoldsTried t → tried_at t.moment (decimal t.winner ++ 32 ∷ (decimal t.number ++ 32 ∷ (frame_spelling (item.Data t.frame) ++ 32 ∷ (class_word t.class ++ 32 ∷ (set_word t.accepted ++ 32 ∷ (set_word t.off ++ 10 ∷ rest)))))) ≡ Some (reply.Tried t, rest)
 unfolding tried_at
 tried_again t rest h =
-    rw (number_field 16 t.winner 32 (decimal t.number ++ 32 ∷ (frame_spelling (item.Data t.frame) ++ 32 ∷ (class_word t.class ++ 32 ∷ (set_word t.accepted ++ 32 ∷ (set_word t.off ++ 10 ∷ rest))))) h.winner (omega arith) refl,
-        number_field (2 ^ 64) t.number 32 (frame_spelling (item.Data t.frame) ++ 32 ∷ (class_word t.class ++ 32 ∷ (set_word t.accepted ++ 32 ∷ (set_word t.off ++ 10 ∷ rest)))) h.number (omega arith) refl,
-        frame_field t.frame 32 (class_word t.class ++ 32 ∷ (set_word t.accepted ++ 32 ∷ (set_word t.off ++ 10 ∷ rest))) h.frame refl,
-        class_field t.class (set_word t.accepted ++ 32 ∷ (set_word t.off ++ 10 ∷ rest)),
-        set_field t.accepted 32 (set_word t.off ++ 10 ∷ rest) h.accepted refl,
-        set_field t.off 10 rest h.off refl) refl
+    rw (
+      number_field 16 t.winner 32 (decimal t.number ++ 32 ∷ (frame_spelling (item.Data t.frame) ++ 32 ∷ (class_word t.class ++ 32 ∷ (set_word t.accepted ++ 32 ∷ (set_word t.off ++ 10 ∷ rest))))) h.winner (omega arith) refl,
+      number_field (2 ^ 64) t.number 32 (frame_spelling (item.Data t.frame) ++ 32 ∷ (class_word t.class ++ 32 ∷ (set_word t.accepted ++ 32 ∷ (set_word t.off ++ 10 ∷ rest)))) h.number (omega arith) refl,
+      frame_field t.frame 32 (class_word t.class ++ 32 ∷ (set_word t.accepted ++ 32 ∷ (set_word t.off ++ 10 ∷ rest))) h.frame refl,
+      class_field t.class (set_word t.accepted ++ 32 ∷ (set_word t.off ++ 10 ∷ rest)),
+      set_field t.accepted 32 (set_word t.off ++ 10 ∷ rest) h.accepted refl,
+      set_field t.off 10 rest h.off refl,
+    ) refl
 
 -- an attempt's frame was tried at its moment
 tried_moment : (e : Event) (t : Tried) → FitsReply e (reply.Tried t) → moment_of e ≡ Some t.moment
@@ -240,10 +248,12 @@ set_filters_again : (s : SocketId) (fs : List CanFilter) (r : Reply) (rest : Lis
 unfolding set_filters_at
 set_filters_again s fs r rest holds fits h =
     let behind = filter_words fs ++ codes "=" ∷ reply_words r in
-    rw (socket_field s 32 (decimal (length fs) ++ gap_before behind ∷ spell behind rest) holds.0 refl,
-        number_field 513 (length fs) (gap_before behind) (spell behind rest) (omega (arith, holds.1)) (omega arith) (gap_is behind),
-        filters_again fs [] (codes "=") (reply_words r) rest holds.2)
-      (with_reply_again (SetFilters s fs) r rest fits h)
+    rw (
+      socket_field s 32 (decimal (length fs) ++ gap_before behind ∷ spell behind rest) holds.0 refl,
+      number_field 513 (length fs) (gap_before behind) (spell behind rest) (omega (arith, holds.1)) (omega arith) (gap_is behind),
+      filters_again fs [] (codes "=") (reply_words r) rest holds.2,
+    )
+    (with_reply_again (SetFilters s fs) r rest fits h)
 
 entry_kinds : (e : Event) (r : Reply) (rest : List ℕ) → FitsReply e r → HoldsEvent e → HoldsReply r → entry_at (spell (event_words e ++ codes "=" ∷ reply_words r) rest) ≡ Some (record { event = e; reply = r })
 unfolding entry_at setting_at word after
@@ -276,11 +286,13 @@ config_again c rest h =
     let few : c.ifaces < 256 = omega (arith, h.proper.few_ifaces) in
     let short : c.tx_capacity < 2 ^ 32 = omega (arith, h.proper.few_frames) in
     let small : c.limit < 2 ^ 32 = omega (arith, h.proper.few_entries) in
-    rw (number_field 256 c.ifaces 32 (ack_word c.ack ++ 32 ∷ (set_word c.reporting ++ 32 ∷ (decimal c.tx_capacity ++ 32 ∷ (decimal c.limit ++ 10 ∷ rest)))) few (omega arith) refl,
-        ack_field c.ack (set_word c.reporting ++ 32 ∷ (decimal c.tx_capacity ++ 32 ∷ (decimal c.limit ++ 10 ∷ rest))),
-        set_field c.reporting 32 (decimal c.tx_capacity ++ 32 ∷ (decimal c.limit ++ 10 ∷ rest)) h.reporting refl,
-        number_field (2 ^ 32) c.tx_capacity 32 (decimal c.limit ++ 10 ∷ rest) short (omega arith) refl,
-        number_field (2 ^ 32) c.limit 10 rest small (omega arith) refl) refl
+    rw (
+      number_field 256 c.ifaces 32 (ack_word c.ack ++ 32 ∷ (set_word c.reporting ++ 32 ∷ (decimal c.tx_capacity ++ 32 ∷ (decimal c.limit ++ 10 ∷ rest)))) few (omega arith) refl,
+      ack_field c.ack (set_word c.reporting ++ 32 ∷ (decimal c.tx_capacity ++ 32 ∷ (decimal c.limit ++ 10 ∷ rest))),
+      set_field c.reporting 32 (decimal c.tx_capacity ++ 32 ∷ (decimal c.limit ++ 10 ∷ rest)) h.reporting refl,
+      number_field (2 ^ 32) c.tx_capacity 32 (decimal c.limit ++ 10 ∷ rest) short (omega arith) refl,
+      number_field (2 ^ 32) c.limit 10 rest small (omega arith) refl,
+    ) refl
 
 -- the end's line is no entry's
 pub end_is_none : (count : ℕ) (rest : List ℕ) → entry_at (spell (end_words count) rest) ≡ None

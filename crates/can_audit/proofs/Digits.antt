@@ -1,5 +1,5 @@
 -- What was written is read again.
-use Rattle.std.proofs.Common.{◌≡◌, ℕ, zero, suc, ◌+◌, ◌-◌, ◌*◌, ◌/◌, ◌%◌, ◌^◌, ◌<◌, ◌≤◌, Bool, true, false, not, ◌&&◌, cond, leb, ltb, append_assoc, length-append, List, [], ◌∷◌, ◌++◌, length, take, drop, Option, Some, None, get_or, refl, sym, ap, ◌∙◌, arith}
+use Rattle.std.proofs.Common.{◌≡◌, ℕ, zero, suc, ◌+◌, ◌-◌, ◌*◌, ◌/◌, ◌%◌, ◌^◌, ◌<◌, ◌≤◌, true, false, not, ◌&&◌, leb, ltb, append_assoc, length-append, List, [], ◌∷◌, ◌++◌, length, take, drop, Option, Some, None, get_or, refl, sym, ap, ◌∙◌, arith}
 use Rattle.std.specs.Prelude.{decimal, option_and_then}
 use Rattle.std.proofs.lemmas.Fmt.{decimal_by_steps}
 use Rattle.std.proofs.lemmas.List.{at_drop_more, at_drop_all, length_push, take_at, drop_at}
@@ -13,9 +13,9 @@ number_from-append : (base n : ℕ) (xs ys : List ℕ) → number_from base n (x
 unfolding number_from
 number_from-append base n [] ys = refl
 number_from-append base n (x ∷ xs) ys = elim (step base n x) as (λ (o : Option ℕ). option_and_then (λ m. number_from base m (xs ++ ys)) o ≡ option_and_then (λ m. number_from base m ys) (option_and_then (λ m. number_from base m xs) o)) [
-    | None ↦ refl
-    | Some m ↦ number_from-append base m xs ys
-  ]
+  | None ↦ refl
+  | Some m ↦ number_from-append base m xs ys
+]
 
 digit_in-digit_of : (d : ℕ) → d < 16 → digit_in (digit_of d) ≡ Some d
 digit_in-digit_of d lt = grind arith
@@ -47,9 +47,9 @@ number_again n lt = decimal_by_steps (λ m ds. m < 2 ^ 64 → number_from 10 0 d
 pub is_word-append : (xs ys : List ℕ) → is_word xs ≡ true → is_word ys ≡ true → is_word (xs ++ ys) ≡ true
 is_word-append [] ys h k = k
 is_word-append (x ∷ xs) ys h k = elim (leb x 32) as (λ t. (not t && is_word xs) ≡ true → (not t && is_word (xs ++ ys)) ≡ true) [
-    | true ↦ λ e. absurd cc
-    | false ↦ λ e. is_word-append xs ys e k
-  ] h
+  | true ↦ λ e. absurd cc
+  | false ↦ λ e. is_word-append xs ys e k
+] h
 
 is_word-one : (b : ℕ) → 32 < b → is_word (b ∷ []) ≡ true
 is_word-one b h = grind arith

@@ -1,5 +1,5 @@
 -- Filters are read one by one.
-use Rattle.std.proofs.Common.{◌≡◌, ℕ, zero, suc, ◌-◌, ◌<◌, ◌≤◌, List, Option, Some, None, Err, refl, sym, ap, ◌∙◌, arith}
+use Rattle.std.proofs.Common.{◌≡◌, ℕ, zero, suc, ◌-◌, ◌<◌, ◌≤◌, List, Some, None, Err, refl, ap, ◌∙◌, arith}
 use Rattle.can_filter.specs.Filters.{CanFilter}
 use Rattle.can_audit.specs.declared.faults.Unread.{Unread}
 use Rattle.can_audit.specs.declared.faults.Unread.TheVariants as unread

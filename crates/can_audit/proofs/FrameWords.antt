@@ -1,5 +1,5 @@
 -- Frame text as a word of a line.
-use Rattle.std.proofs.Common.{◌≡◌, inl, inr, ℕ, zero, suc, ◌+◌, ◌/◌, ◌%◌, ◌^◌, ◌<◌, ◌≤◌, Bool, true, false, not, ◌&&◌, ◌||◌, cond, eqb, List, [], ◌∷◌, ◌++◌, Option, Some, None, refl, sym, ap, subst, ◌∙◌, arith}
+use Rattle.std.proofs.Common.{◌≡◌, inl, inr, ℕ, zero, suc, ◌+◌, ◌/◌, ◌%◌, ◌^◌, ◌<◌, ◌≤◌, Bool, true, false, ◌&&◌, ◌||◌, cond, eqb, List, [], ◌∷◌, ◌++◌, Option, Some, None, refl, sym, ap, subst, arith}
 use Rattle.std.specs.Prelude.{decimal}
 use Rattle.std.specs.Char.{to_ascii_uppercase}
 use Rattle.std.specs.Str.{bytes_eq, IsAscii, IsUtf8}
@@ -73,9 +73,9 @@ ascii-pairs (b ∷ bs) = IsAscii-append (digits 16 2 b) (pairs bs) (ascii-digits
 
 ascii-request : (len : ℕ) → len ≤ 8 → IsAscii (payload_text (Remote len))
 ascii-request len h = elim (eqb len 0) as (λ t. IsAscii (82 ∷ cond t [] (decimal len))) [
-    | true ↦ IsAscii-cons 82 [] (omega arith) IsAscii-nil
-    | false ↦ IsAscii-cons 82 (decimal len) (omega arith) (IsAscii-decimal len (omega (arith, h)))
-  ]
+  | true ↦ IsAscii-cons 82 [] (omega arith) IsAscii-nil
+  | false ↦ IsAscii-cons 82 (decimal len) (omega arith) (IsAscii-decimal len (omega (arith, h)))
+]
 
 ascii-payload : (p : Payload) → IsPayload p → IsAscii (payload_text p)
 ascii-payload (Data bytes) h = ascii-pairs bytes
@@ -130,9 +130,9 @@ word-pairs (b ∷ bs) = is_word-append (digits 16 2 b) (pairs bs) (is_word-digit
 
 word-request : (len : ℕ) → len ≤ 8 → is_word (35 ∷ payload_text (Remote len)) ≡ true
 word-request len h = elim (eqb len 0) as (λ t. is_word (35 ∷ 82 ∷ cond t [] (decimal len)) ≡ true) [
-    | true ↦ refl
-    | false ↦ is_word-decimal len (omega (arith, h))
-  ]
+  | true ↦ refl
+  | false ↦ is_word-decimal len (omega (arith, h))
+]
 
 word-payload : (p : Payload) → IsPayload p → is_word (35 ∷ payload_text p) ≡ true
 word-payload (Data bytes) h = word-pairs bytes

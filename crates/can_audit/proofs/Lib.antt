@@ -5,3 +5,4 @@ pub mod FilterLists
 pub mod Again
 pub mod Written
 pub mod LineLists
+pub mod Whole

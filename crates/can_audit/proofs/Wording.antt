@@ -1,5 +1,5 @@
 -- The first word of a text, and what follows it.
-use Rattle.std.proofs.Common.{◌≡◌, ◌-◌, ap, subst, sym, ◌∙◌, append_assoc, ℕ, zero, suc, ◌+◌, ◌<◌, ◌≤◌, Bool, true, false, not, ◌&&◌, cond, leb, ltb, List, [], ◌∷◌, ◌++◌, length, take, drop, get_or, refl, arith}
+use Rattle.std.proofs.Common.{◌≡◌, ◌-◌, ap, sym, ◌∙◌, append_assoc, ℕ, ◌+◌, ◌<◌, ◌≤◌, true, false, not, ◌&&◌, cond, leb, List, [], ◌∷◌, ◌++◌, length, take, drop, get_or, refl, arith}
 use Rattle.std.proofs.Common.{rules}
 use Rattle.std.proofs.lemmas.Bool.{le-leb}
 use Rattle.std.proofs.lemmas.List.{at_drop_more, at_drop_all, take_more, take_all, drop_all, append-nil, length-drop}
@@ -9,17 +9,17 @@ pub word-spelled : (w rest : List ℕ) (g : ℕ) → is_word w ≡ true → is_g
 unfolding word
 word-spelled [] rest g h k = rw k refl
 word-spelled (b ∷ w) rest g h k = elim (is_gap b) as (λ t. (not t && is_word w) ≡ true → cond t [] (b ∷ word (w ++ g ∷ rest)) ≡ b ∷ w) [
-    | true ↦ λ e. absurd cc
-    | false ↦ λ e. ap (λ (x : List ℕ). b ∷ x) (word-spelled w rest g e k)
-  ] h
+  | true ↦ λ e. absurd cc
+  | false ↦ λ e. ap (λ (x : List ℕ). b ∷ x) (word-spelled w rest g e k)
+] h
 
 pub after-spelled : (w rest : List ℕ) (g : ℕ) → is_word w ≡ true → is_gap g ≡ true → after (w ++ g ∷ rest) ≡ rest
 unfolding after
 after-spelled [] rest g h k = rw k refl
 after-spelled (b ∷ w) rest g h k = elim (is_gap b) as (λ t. (not t && is_word w) ≡ true → cond t (w ++ g ∷ rest) (after (w ++ g ∷ rest)) ≡ rest) [
-    | true ↦ λ e. absurd cc
-    | false ↦ λ e. after-spelled w rest g e k
-  ] h
+  | true ↦ λ e. absurd cc
+  | false ↦ λ e. after-spelled w rest g e k
+] h
 
 leb-of : (a b : ℕ) → a ≤ b → leb a b ≡ true
 leb-of a b h = search (rules, le-leb)

@@ -5,8 +5,8 @@ ghost use Rattle.can_audit.specs.Reading.{Gives, moment_of, GivesFilters, begins
 
 use crate::faults::Unread;
 use crate::fields::{
-    count_field, flag_field, frame_field, iface_field, mask_field, moment_field,
-    set_field, short_field, socket_field,
+    count_field, flag_field, frame_field, iface_field, mask_field, moment_field, set_field,
+    short_field, socket_field,
 };
 use crate::reply_reading::reply_field;
 use crate::words::{next_word, same_word};

@@ -1,4 +1,4 @@
-ghost use Rattle.std.specs.Prelude.{◌≡◌, ◌++◌, ◌∷◌, [], IfOk, IfErr, IsTrue, OnOk, decimal, drop, length, List, ℕ};
+ghost use Rattle.std.specs.Prelude.{◌≡◌, ◌≤◌, ◌++◌, ◌∷◌, [], IfOk, IfErr, IsTrue, OnOk, decimal, drop, length, List, ℕ};
 ghost use Rattle.std.specs.Option.{option_map};
 ghost use Rattle.can_bus.specs.declared.events.Entry.{Entry as AnEntry};
 ghost use Rattle.can_bus.specs.declared.events.BusConfig.{BusConfig as AConfig};
@@ -75,6 +75,15 @@ pub fn begins(text: &[u8], front: &[u8]) -> bool
     text.starts_with(front)
 }
 
+/// What follows so many bytes.
+#[tactic(auto, using(crate::proofs::Wording::rest_of))]
+pub fn behind(text: &[u8], count: usize) -> &[u8]
+    requires { count ≤ length text.now }
+    ensures { result.now ≡ drop count text.now }
+{
+    &text[count..]
+}
+
 /// Whether an entry has a line.
 fn has_line(entry: &Entry) -> bool
     ensures yes { IsTrue result → HasLine entry.now }
@@ -109,7 +118,11 @@ pub(crate) fn read_line(buffer: &mut Vec<u8>, alloc: Global, text: &[u8]) -> Res
 }
 
 /// The configuration whose line the text begins with. The line is left in the buffer.
-pub(crate) fn read_bus(buffer: &mut Vec<u8>, alloc: Global, text: &[u8]) -> Result<BusConfig, Unread>
+pub(crate) fn read_bus(
+    buffer: &mut Vec<u8>,
+    alloc: Global,
+    text: &[u8],
+) -> Result<BusConfig, Unread>
     ensures found { IfOk result (λ c. HasBusLine c × (buffer.new.items ≡ spell (bus_words c) []) × (text.now ≡ spell (bus_words c) [] ++ drop (length (spell (bus_words c) [])) text.now)) }
     ensures only { (c : AConfig) (rest : List ℕ) → HasBusLine c → text.now ≡ spell (bus_words c) rest → IfErr result (λ u. u ≡ unread.NoMemory) }
 {

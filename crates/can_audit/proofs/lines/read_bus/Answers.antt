@@ -1,4 +1,4 @@
-use Rattle.std.proofs.Common.{◌≡◌, ◌++◌, ◌∙◌, IsTrue, Bool, true, false, [], ap, sym, subst, arith, List, ℕ}
+use Rattle.std.proofs.Common.{◌≡◌, ◌++◌, ◌∙◌, IsTrue, Bool, true, false, [], ap, sym, subst, List, ℕ}
 use Rattle.can_bus.specs.declared.events.BusConfig.{BusConfig}
 use Rattle.can_audit.specs.Words.{spell}
 use Rattle.can_audit.specs.Values.{HasBusLine}

@@ -1,5 +1,5 @@
-use Rattle.std.proofs.Common.{◌≡◌, ◌≤◌, ◌<◌, ◌∙◌, List, ℕ, slice_index, subst, sym, arith}
-use Rattle.can_frame.specs.Frames.{Identifier, IsIdentifier, Payload, payload_len, payload_bytes}
+use Rattle.std.proofs.Common.{◌≤◌, ◌<◌, List, ℕ, slice_index, subst, arith}
+use Rattle.can_frame.specs.Frames.{IsIdentifier, Payload, payload_len, payload_bytes}
 use Rattle.can_frame.specs.Frames.Payload.{Data, Remote}
 use Rattle.can_frame.specs.FrameText.{IsPayload}
 use Rattle.can_audit.proofs.values.hold_frame.Goals as goal

@@ -1,6 +1,4 @@
-use Rattle.std.proofs.Common.{◌≡◌, ◌+◌, ◌∙◌, sym, ap, length, ◌++◌, arith, get_or, List, ℕ}
-use Rattle.std.proofs.lemmas.List.{take_all, drop_all, append-nil}
-use Rattle.can_audit.specs.Words.{word, after}
+use Rattle.std.proofs.Common.{◌+◌, ◌∙◌, length}
 use Rattle.can_audit.proofs.Wording.{word_goes, after_goes, word_ends, after_ends, word_all, after_all, rest_of}
 use Rattle.can_audit.proofs.words.next_word.Goals as goal
 
