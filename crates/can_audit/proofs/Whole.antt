@@ -1,5 +1,5 @@
 -- The text of a record.
-use Rattle.std.proofs.Common.{◌≡◌, inl, inr, ℕ, List, [], ◌∷◌, ◌++◌, length, drop, Result, Ok, Err, append_assoc, refl, sym, ap, ◌∙◌}
+use Rattle.std.proofs.Common.{◌≡◌, inl, inr, ℕ, ◌+◌, List, [], ◌∷◌, ◌++◌, length, drop, Result, Ok, Err, append_assoc, refl, sym, ap, ◌∙◌}
 use Rattle.std.specs.Prelude.{All, reverse}
 use Rattle.std.proofs.lemmas.List.{append_cancel_left, length-reverse, reverse-reverse}
 use Rattle.std.proofs.lemmas.List.Elements.{All-head, All-tail}
@@ -13,7 +13,7 @@ use Rattle.can_audit.specs.Words.{gap_before, spell}
 use Rattle.can_audit.specs.Values.{HasLine, HasBusLine, HasText}
 use Rattle.can_audit.specs.Spelling.{first_line, bus_words, end_words, entry_words, entry_line, entry_lines, record_spelling}
 use Rattle.can_audit.specs.Reading.{entry_at, config_at}
-use Rattle.can_audit.specs.RecordFaults.{IsTextOf, LacksBus, LacksEntry, BusIsWrong, LineIsWrong, GoesOn, IsFirstWrong, Ends, Reads, ReadsBack}
+use Rattle.can_audit.specs.RecordFaults.{LacksFirst, IsTextOf, LacksBus, LacksEntry, BusIsWrong, LineIsWrong, GoesOn, IsFirstWrong, Ends, Reads, ReadsBack}
 use Rattle.can_audit.proofs.Again.{spell-rest, entry_again, config_again, end_is_none}
 use Rattle.can_audit.proofs.LineLists.{lines-rest}
 
@@ -158,3 +158,43 @@ text_written t0 t1 t2 t3 new c d es hs n h0 h1 h2 h3 h4 hc he hn =
 
 pub made_text : (text : List ℕ) (c d : BusConfig) (es hs : List Entry) → d ≡ c → hs ≡ reverse es → HasText c es → text ≡ record_spelling c es → IsTextOf text d (reverse hs)
 made_text text c d es hs hd hh whole is = rw (hh, reverse-reverse es, hd) (whole, is)
+
+-- ---- one line is the first wrong one
+
+both_wrong : (text : List ℕ) (n m : ℕ) → BusIsWrong text n → LineIsWrong text m → ⊥
+both_wrong text n m h k = h.wrong k.config (entry_lines k.entries k.rest) k.whole.bus (first-cancel _ _ (sym h.begins ∙ k.begins))
+
+bus_and_more : (text : List ℕ) (n m : ℕ) → BusIsWrong text n → GoesOn text m → ⊥
+bus_and_more text n m h k = h.wrong k.config (entry_lines k.entries (spell (end_words (length k.entries)) k.rest)) k.whole.bus (first-cancel _ _ (sym h.begins ∙ k.begins ∙ record-then k.config k.entries k.rest))
+
+line_and_more : (text : List ℕ) (n m : ℕ) → LineIsWrong text n → GoesOn text m → ⊥
+line_and_more text n m h k =
+    let met = texts_meet h.config k.config h.entries k.entries h.rest (spell (end_words (length k.entries)) k.rest) h.whole k.whole h.wrong (end_lacks (length k.entries) k.rest) (sym h.begins ∙ k.begins ∙ record-then k.config k.entries k.rest) in
+    h.open_end k.rest (met.2 ∙ ap (λ (xs : List Entry). spell (end_words (length xs)) k.rest) (sym met.1))
+
+two_lines : (text : List ℕ) (n m : ℕ) → LineIsWrong text n → LineIsWrong text m → n ≡ m
+two_lines text n m h k =
+    let met = texts_meet h.config k.config h.entries k.entries h.rest k.rest h.whole k.whole h.wrong k.wrong (sym h.begins ∙ k.begins) in
+    h.next ∙ ap (λ (xs : List Entry). length xs + 3) met.1 ∙ sym k.next
+
+two_more : (text : List ℕ) (n m : ℕ) → GoesOn text n → GoesOn text m → n ≡ m
+two_more text n m h k =
+    let met = texts_meet h.config k.config h.entries k.entries (spell (end_words (length h.entries)) h.rest) (spell (end_words (length k.entries)) k.rest) h.whole k.whole (end_lacks (length h.entries) h.rest) (end_lacks (length k.entries) k.rest) (sym (record-then h.config h.entries h.rest) ∙ sym h.begins ∙ k.begins ∙ record-then k.config k.entries k.rest) in
+    h.behind ∙ ap (λ (xs : List Entry). length xs + 4) met.1 ∙ sym k.behind
+
+pub one_first : (text : List ℕ) (n m : ℕ) → IsFirstWrong text n → IsFirstWrong text m → n ≡ m
+one_first text n m (inl h) (inl k) = h.second ∙ sym k.second
+one_first text n m (inl h) (inr (inl k)) = absurd (both_wrong text n m h k)
+one_first text n m (inl h) (inr (inr k)) = absurd (bus_and_more text n m h k)
+one_first text n m (inr (inl h)) (inl k) = absurd (both_wrong text m n k h)
+one_first text n m (inr (inr h)) (inl k) = absurd (bus_and_more text m n k h)
+one_first text n m (inr (inl h)) (inr (inl k)) = two_lines text n m h k
+one_first text n m (inr (inl h)) (inr (inr k)) = absurd (line_and_more text n m h k)
+one_first text n m (inr (inr h)) (inr (inl k)) = absurd (line_and_more text m n k h)
+one_first text n m (inr (inr h)) (inr (inr k)) = two_more text n m h k
+
+-- a text with a wrong line has the first line
+pub not_both : (text : List ℕ) (n : ℕ) → LacksFirst text → IsFirstWrong text n → ⊥
+not_both text n lacks (inl h) = lacks h.rest h.begins
+not_both text n lacks (inr (inl h)) = lacks (spell (bus_words h.config) (entry_lines h.entries h.rest)) h.begins
+not_both text n lacks (inr (inr h)) = lacks (spell (bus_words h.config) (entry_lines h.entries (spell (end_words (length h.entries)) h.rest))) (h.begins ∙ record-then h.config h.entries h.rest)

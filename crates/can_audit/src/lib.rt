@@ -12,6 +12,7 @@ pub mod record_reading;
 pub mod record_writing;
 mod reply_reading;
 mod reply_writing;
+pub mod text_laws;
 mod values;
 mod words;
 mod writing;
@@ -19,3 +20,6 @@ mod writing;
 pub use faults::ReadFault;
 pub use record_reading::{read_record, read_record_bytes};
 pub use record_writing::record_text;
+
+#[cfg(test)]
+mod text_tests;
