@@ -6,3 +6,11 @@ pub mod Competing
 pub mod Replying
 pub mod Posting
 pub mod Queueing
+pub mod Wording
+pub mod Digits
+pub mod FrameWords
+pub mod FilterLists
+pub mod Again
+pub mod Written
+pub mod LineLists
+pub mod Whole

@@ -2,3 +2,9 @@ pub mod Attempted
 pub mod Counted
 pub mod Histories
 pub mod Replies
+pub mod Words
+pub mod Numerals
+pub mod Values
+pub mod Spelling
+pub mod Reading
+pub mod RecordFaults

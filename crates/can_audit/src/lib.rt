@@ -1,23 +1,45 @@
-//! The slow answer: what the definitions of a bus's history say, read off the list of its entries.
+//! Records that anybody can check: the text of a record, and what the definitions of a bus's history say of it.
 //!
-//! A bus keeps queues, counters and an arbiter, so that each call is fast. Here nothing is kept but the
-//! entries: each answer filters and counts them anew, by one function for each definition of `can_bus`.
-//! So `replies_of` answers a list of events as a bus would, with other means, and `queued`, `candidates`
-//! and `projected` say of a record what reached a socket. The time grows with the square of the number of
-//! entries and more.
+//! `record_text` writes a record as text and `read_record` reads it back; a record has one text and a text is
+//! of one record at most.
+//!
+//! The slow answer filters and counts the list of entries anew, by one function for each definition of
+//! `can_bus`: `replies_of` answers a list of events as a bus would, with other means, and `queued`,
+//! `candidates` and `projected` say of a record what reached a socket. Its time grows with the square of the
+//! number of entries and more: it is the reference for tests.
 #![tactic(auto)]
 
 mod attempts;
 mod counters;
+mod event_reading;
+mod event_writing;
+pub mod faults;
+mod fields;
+mod frame_words;
 pub mod laws;
+mod lines;
+mod numbers;
 mod posts;
 pub mod queues;
+pub mod record_reading;
+pub mod record_writing;
 pub mod replies;
+mod reply_reading;
+mod reply_writing;
 mod sockets;
+pub mod text_laws;
 mod transmit;
+mod values;
+mod words;
+mod writing;
 
+pub use faults::ReadFault;
 pub use queues::{candidates, projected, queued};
+pub use record_reading::{read_record, read_record_bytes};
+pub use record_writing::record_text;
 pub use replies::{ReplayFault, replies_of};
 
 #[cfg(test)]
 mod tests;
+#[cfg(test)]
+mod text_tests;

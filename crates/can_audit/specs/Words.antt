@@ -1,0 +1,37 @@
+use Rattle.std.specs.Prelude.{ℕ, nat_le, Bool, true, not, ◌&&◌, List, [], ◌∷◌, ◌++◌, if◌then◌else◌}
+
+-- The words of a line (own choice).
+
+-- a byte that ends a word: a space, a line's end, any byte up to the space
+abbrev pub is_gap : ℕ → Bool
+is_gap b = nat_le b 32
+
+-- no byte of it ends a word
+abbrev pub is_word : List ℕ → Bool
+is_word [] = true
+is_word (b ∷ bs) = not (is_gap b) && is_word bs
+
+-- the bytes before the first one that ends a word
+unfoldable pub word : List ℕ → List ℕ
+word [] = []
+word (b ∷ bs) = if is_gap b then [] else b ∷ word bs
+
+-- the bytes behind it
+unfoldable pub after : List ℕ → List ℕ
+after [] = []
+after (b ∷ bs) = if is_gap b then bs else after bs
+
+-- what ends a word: a space, or the line's end (LF) where no word follows
+abbrev pub gap_before : List (List ℕ) → ℕ
+gap_before [] = 10
+gap_before (w ∷ ws) = 32
+
+-- a line of these words, one space between two of them and LF behind the last; and what follows the line
+abbrev pub spell : List (List ℕ) → List ℕ → List ℕ
+spell [] rest = rest
+spell (w ∷ ws) rest = w ++ gap_before ws ∷ spell ws rest
+
+-- words, a space behind each
+abbrev pub spaced : List (List ℕ) → List ℕ
+spaced [] = []
+spaced (w ∷ ws) = w ++ 32 ∷ [] ++ spaced ws

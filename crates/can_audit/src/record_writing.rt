@@ -1,0 +1,34 @@
+ghost use Rattle.std.specs.Prelude.{◌≡◌, ◌++◌, [], All, IfOk, OnOk, reverse};
+ghost use Rattle.can_bus.specs.Spelled.{IsSpelled};
+ghost use Rattle.can_audit.specs.Spelling.{entry_lines, record_spelling};
+
+use crate::lines::{FIRST_LINE, put_bus, put_end, put_line};
+use can_bus::{Entry, Record};
+use std::alloc::{AllocError, Global};
+
+/// The text of a record: a first line that names this version, a line of the bus, one for each entry, the
+/// oldest first, and one that says how many entries there were. Each ends with LF, and the bytes are ASCII.
+///
+/// One record has one text, and one text has one record. The text takes some 40 bytes an entry; it grows in
+/// place, and the time is linear in it.
+pub fn record_text(alloc: Global, record: &Record) -> Result<Vec<u8>, AllocError>
+    ensures { IfOk result (λ text. text.items ≡ record_spelling «record».now.config (reverse «record».now.history)) }
+{
+    let mut text = Vec::new(alloc);
+    text.extend_from_slice(FIRST_LINE)?;
+    put_bus(&mut text, record.config())?;
+    put_lines(&mut text, record.entries())?;
+    put_end(&mut text, record.len() as u64)?;
+    Ok(text)
+}
+
+/// The lines of entries.
+fn put_lines(out: &mut Vec<u8>, entries: &[Entry]) -> Result<(), AllocError>
+    requires { All IsSpelled entries.now }
+    ensures { OnOk result (out.new.items ≡ out.old.items ++ entry_lines entries.now []) }
+{
+    for entry in entries {
+        put_line(out, entry)?;
+    }
+    Ok(())
+}

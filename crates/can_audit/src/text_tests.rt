@@ -1,0 +1,285 @@
+// Record texts, written and read.
+
+use crate::{ReadFault, read_record, read_record_bytes, record_text};
+use can_arbiter::ScanArbiter;
+use can_attempt::AckMode;
+use can_bus::{Bus, BusConfig, Event, Pending, Received, Record, SocketId, run};
+use can_fault::Verdict;
+use can_frame::{CanId, Frame, Iface, IfaceSet, Moment};
+use can_queue::ListQueue;
+use std::alloc::AllocGlobal;
+use std::process::Abort;
+use std::test::Fail;
+
+/// A frame goes from interface 0 to interface 1, and is taken there.
+const ONE_FRAME: &str = "canbus record 1
+bus 2 always 0000 10 100
+open 0 256 = socket 0
+open 1 1 = socket 1
+send 0 123#01FF = number 0
+attempt 0.000001 good = tried 0 0 123#01FF done 0002 0000
+receive 1 = data 0 0 123#01FF 0.000001
+receive 1 = none
+close 1 = closed 0 0
+end 7
+";
+
+/// What stands before the entries of a text, and behind one entry.
+const FRONT: &str = "canbus record 1\nbus 3 peers FFFF 1024 16777216\n";
+
+const BACK: &str = "\nend 1\n";
+
+type ListBus = Bus<ListQueue<Pending>, ListQueue<Received>, ScanArbiter>;
+
+// The calls, without their clauses: a test runs them, and its proof has nothing to say of them.
+
+fn read(rt: &impl AllocGlobal, text: &str) -> Result<Record, ReadFault> {
+    read_record(rt.alloc(), text)
+}
+
+fn read_bytes(rt: &impl AllocGlobal, text: &[u8]) -> Result<Record, ReadFault> {
+    read_record_bytes(rt.alloc(), text)
+}
+
+fn written(rt: &impl AllocGlobal, record: &Record) -> Result<Vec<u8>, Fail> {
+    Ok(record_text(rt.alloc(), record)?)
+}
+
+fn made(rt: &impl AllocGlobal, config: BusConfig) -> Result<ListBus, Fail> {
+    Ok(Bus::new(rt.alloc(), config)?)
+}
+
+fn carried_out(rt: &impl AllocGlobal, bus: &mut ListBus, events: &[Event]) -> Result<(), Fail> {
+    let _ = run(bus, rt.alloc(), events)?;
+    Ok(())
+}
+
+fn bus_text(rt: &impl AllocGlobal, bus: &ListBus) -> Result<Vec<u8>, Fail> {
+    written(rt, bus.record())
+}
+
+/// The text of what was read.
+fn again(rt: &impl AllocGlobal, text: &str) -> Result<Vec<u8>, Fail> {
+    written(rt, &read(rt, text)?)
+}
+
+fn fault(rt: &impl AllocGlobal, text: &str) -> Option<ReadFault> {
+    read(rt, text).err()
+}
+
+fn iface(number: u8) -> Result<Iface, Fail> {
+    Ok(Iface::new(number).ok_or("no interface")?)
+}
+
+/// What is done in the text above.
+fn one_frame(rt: &impl AllocGlobal) -> Result<Vec<Event>, Fail> {
+    let frame = Frame::data(CanId::standard(0x123)?, &[0x01, 0xFF])?;
+    let mut events = Vec::with_capacity(rt.alloc(), 7)?;
+    events.push(Event::Open(iface(0)?, 256))?;
+    events.push(Event::Open(iface(1)?, 1))?;
+    events.push(Event::Send(SocketId(0), frame))?;
+    events.push(Event::Attempt(Moment::new(1)?, Verdict::Good))?;
+    events.push(Event::Receive(SocketId(1)))?;
+    events.push(Event::Receive(SocketId(1)))?;
+    events.push(Event::Close(SocketId(1)))?;
+    Ok(events)
+}
+
+#[test]
+fn a_buss_record_has_this_text(rt: HostRuntime) -> Result<(), Fail> {
+    let config = BusConfig {
+        ifaces: 2,
+        ack: AckMode::Always,
+        reporting: IfaceSet::empty(),
+        tx_capacity: 10,
+        limit: 100,
+    };
+    let mut bus = made(&rt, config)?;
+    carried_out(&rt, &mut bus, &one_frame(&rt)?)?;
+    assert!(rt; bus_text(&rt, &bus)?.as_slice() == ONE_FRAME.as_bytes());
+    Ok(())
+}
+
+#[test]
+fn the_text_is_read_and_written_again(rt: HostRuntime) -> Result<(), Fail> {
+    assert!(rt; again(&rt, ONE_FRAME)?.as_slice() == ONE_FRAME.as_bytes());
+    let record = read(&rt, ONE_FRAME)?;
+    assert_eq!(rt; count(&record), 7);
+    assert_eq!(rt; limit(&record), 100);
+    Ok(())
+}
+
+fn count(record: &Record) -> usize {
+    record.entries().len()
+}
+
+fn limit(record: &Record) -> u32 {
+    record.config().limit
+}
+
+/// The text above with one piece changed.
+fn changed(rt: &impl AllocGlobal, from: &str, to: &str) -> Result<String, Fail> {
+    Ok(ONE_FRAME.replacen(rt.alloc(), from, to, 1)?)
+}
+
+fn bad_line(rt: &impl AllocGlobal, text: &str) -> Option<u64> {
+    match fault(rt, text) {
+        Some(ReadFault::BadLine(line)) => Some(line),
+        _ => None,
+    }
+}
+
+#[test]
+fn the_first_wrong_line_is_told(rt: HostRuntime) -> Result<(), Fail> {
+    let changes = [
+        ("bus 2 ", "bus 17 ", 2),
+        ("bus 2 ", "bus 02 ", 2),
+        ("bus 2 always 0000 10 100\n", "", 2),
+        ("123#01FF = n", "123#01ff = n", 5),
+        ("send 0 ", "send +0 ", 5),
+        ("socket 1\n", "socket 1\r\n", 4),
+        ("socket 1\n", "socket 1 \n", 4),
+        ("good = tried", "good  = tried", 6),
+        ("0.000001 good", "0.00001 good", 6),
+        ("receive 1 = none\n", "receive 1 = none\n\n", 9),
+        ("receive 1 = none\n", "receive 1 = idle\n", 8),
+        ("end 7\n", "end 8\n", 10),
+        ("end 7\n", "end 7", 10),
+        ("end 7\n", "", 10),
+        ("end 7\n", "end 7\n\n", 11),
+        ("end 7\n", "end 7\nend 7", 11),
+    ];
+    for (from, to, line) in changes {
+        let text = changed(&rt, from, to)?;
+        assert_eq!(rt; bad_line(&rt, &text), Some(line), "at {to}");
+    }
+    let cut = changed(
+        &rt,
+        "attempt 0.000001 good = tried 0 0 123#01FF done 0002 0000\nreceive 1 = data 0 0 123#01FF 0.000001\nreceive 1 = none\nclose 1 = closed 0 0\nend 7\n",
+        "",
+    )?;
+    assert_eq!(rt; bad_line(&rt, &cut), Some(6));
+    Ok(())
+}
+
+#[test]
+fn another_first_line_is_another_version(rt: HostRuntime) -> Result<(), Fail> {
+    for (from, to) in [
+        ("record 1\n", "record 9\n"),
+        ("record 1\n", "record 1\r\n"),
+        (ONE_FRAME, ""),
+    ] {
+        let text = changed(&rt, from, to)?;
+        assert_eq!(rt; fault(&rt, &text), Some(ReadFault::BadVersion), "at {to}");
+    }
+    Ok(())
+}
+
+#[test]
+fn a_record_may_be_longer_than_its_limit(rt: HostRuntime) -> Result<(), Fail> {
+    let text = changed(&rt, "10 100\n", "10 6\n")?;
+    assert!(rt; again(&rt, &text)?.as_slice() == text.as_bytes());
+    Ok(())
+}
+
+/// The text of one entry with this line.
+fn one_line(rt: &impl AllocGlobal, line: &str) -> Result<String, Fail> {
+    let mut text = String::from_str(rt.alloc(), FRONT)?;
+    text.push_str(line)?;
+    text.push_str(BACK)?;
+    Ok(text)
+}
+
+#[test]
+fn each_kind_of_line_is_read_and_written(rt: HostRuntime) -> Result<(), Fail> {
+    let lines = [
+        "open 15 4294967295 = bad-capacity",
+        "open 2 1 = too-many-sockets",
+        "open 3 1 = no-interface",
+        "close 4294967295 = closed 18446744073709551615 9",
+        "filters 0 0 = ok",
+        "filters 7 2 C0000123 C00007FF 20000000 DFFFFFFF = no-socket",
+        "option 0 loopback 0 = ok",
+        "option 0 recvown 1 = ok",
+        "option 0 join 1 = ok",
+        "option 0 errmask 1FFFFFFF = ok",
+        "send 0 123# = bus-off",
+        "send 0 00000123#R = no-buffers",
+        "send 0 7FF#R8 = number 18446744073709551615",
+        "receive 0 = data 15 3 1FFFFFFF#0011223344556677 9999999999.999999",
+        "receive 0 = error 1 20000204#0008000000006000 0.000000",
+        "attempt 12.000340 global-bit = idle",
+        "attempt 0.000001 global-form = tried 1 0 123# destroyed 0000 0001",
+        "attempt 0.000001 lastbit = tried 0 0 123# lastbit FFFE 0000",
+        "attempt 0.000001 local-stuff:0002 = tried 0 0 123# noack 0000 0000",
+        "attempt 0.000001 local-crc:ABCD = tried 0 0 123# done 0004 0002",
+        "attempt 0.000001 local-form:8000 = idle",
+        "restart 0 23.424242 = not-bus-off",
+        "restart 1 23.424242 = ok",
+    ];
+    for line in lines {
+        let text = one_line(&rt, line)?;
+        assert!(rt;
+            again(&rt, &text)?.as_slice() == text.as_bytes(),
+            "at {line}"
+        );
+    }
+    Ok(())
+}
+
+#[test]
+fn what_no_line_spells_is_refused(rt: HostRuntime) -> Result<(), Fail> {
+    let lines = [
+        "open 16 1 = no-interface",
+        "open 0 4294967296 = bad-capacity",
+        "open 0 1 = record-full",
+        "open 0 1 = no-memory",
+        "open 0 1 = ok",
+        "close 0 = closed 0",
+        "filters 0 1 00000123 20000000 = ok",
+        "filters 0 2 00000123 00000000 = ok",
+        "filters 0 513 00000123 00000000 = ok",
+        "option 0 loopback 2 = ok",
+        "option 0 errmask 1ffffff = ok",
+        "send 0 20000204#0008000000006000 = number 0",
+        "send 0 123#R0 = number 0",
+        "send 0 123#0 = number 0",
+        "receive 0 = data 0 0 20000204#0008000000006000 0.000000",
+        "receive 0 = error 0 123# 0.000000",
+        "attempt 10000000000.000000 good = idle",
+        "attempt 0.000001 local-crc:0abc = idle",
+        "attempt 0.000001 good = tried 0 0 123# done 0002",
+        "attempt 0.000001 good = number 0",
+        "restart 0 1 = ok",
+        "resume 0 = ok",
+        "",
+    ];
+    for line in lines {
+        let text = one_line(&rt, line)?;
+        assert_eq!(rt; bad_line(&rt, &text), Some(3), "at {line}");
+    }
+    Ok(())
+}
+
+/// Whether a text is refused, or written again as it is.
+fn is_fault_or_same(rt: &impl AllocGlobal, text: &[u8]) -> Result<bool, Fail> {
+    match read_bytes(rt, text) {
+        Ok(record) => Ok(written(rt, &record)?.as_slice() == text),
+        Err(ReadFault::NoMemory) => Ok(false),
+        Err(_) => Ok(true),
+    }
+}
+
+#[test]
+fn a_changed_byte_is_a_fault_or_another_record(rt: HostRuntime) -> Result<(), Fail> {
+    let mut text = Vec::from_slice(rt.alloc(), ONE_FRAME.as_bytes())?;
+    for place in 0..text.len() {
+        let kept = text[place];
+        for byte in [b'0', b'3', b'A', b'f', b' ', b'\n', 0xFF] {
+            text[place] = byte;
+            assert!(rt; is_fault_or_same(&rt, &text)?, "at {place}");
+        }
+        text[place] = kept;
+    }
+    Ok(())
+}
