@@ -5,7 +5,7 @@ ghost use Rattle.can_session.specs.AttemptLines.{class_word as word_of, set_text
 use can_attempt::Class;
 use can_bus::{Refusal, Tried};
 use can_frame::{Iface, IfaceSet, Names};
-use can_proto::Text;
+use itoa::Buffer;
 use std::alloc::AllocError;
 
 /// Adds the line of an attempt.
@@ -55,9 +55,8 @@ fn put_ending(said: &mut Vec<u8>, names: &Names, tried: &Tried) -> Result<(), Al
 pub fn put_number(said: &mut Vec<u8>, number: u64) -> Result<(), AllocError>
     ensures { OnOk result (said.new.items ≡ said.old.items ++ decimal number) }
 {
-    let mut digits = Text::new();
-    digits.push_count(number);
-    said.extend_from_slice(digits.as_bytes())
+    let mut digits = Buffer::new();
+    said.extend_from_slice(digits.format(number).as_bytes())
 }
 
 fn put_name(said: &mut Vec<u8>, names: &Names, iface: Iface) -> Result<(), AllocError>

@@ -6,14 +6,14 @@ use crate::session::{Session, SessionFault};
 use can_arbiter::ScanArbiter;
 use can_bus::{Bus, Pending, Received};
 use can_frame::Moment;
-use can_queue::ListQueue;
+use can_queue::RingQueue;
 use std::alloc::Global;
 
 /// The bus of a bench.
-pub type BenchBus = Bus<ListQueue<Pending>, ListQueue<Received>, ScanArbiter>;
+pub type BenchBus = Bus<RingQueue<Pending>, RingQueue<Received>, ScanArbiter>;
 
 /// The same with its names.
-pub type BenchPort = BusPort<ListQueue<Pending>, ListQueue<Received>, ScanArbiter>;
+pub type BenchPort = BusPort<RingQueue<Pending>, RingQueue<Received>, ScanArbiter>;
 
 /// Memory was refused.
 #[derive(Debug, Clone, Copy, PartialEq, Eq)]
