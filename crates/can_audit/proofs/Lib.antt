@@ -1,4 +1,5 @@
 pub mod Answering
+pub mod Auditing
 pub mod Before
 pub mod Counting
 pub mod Passing

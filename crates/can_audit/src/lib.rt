@@ -8,14 +8,17 @@
 #![tactic(auto)]
 
 mod attempts;
+pub mod audits;
 mod counters;
 pub mod laws;
 mod posts;
 pub mod queues;
 pub mod replies;
+mod same;
 mod sockets;
 mod transmit;
 
+pub use audits::AuditFault;
 pub use queues::{candidates, projected, queued};
 pub use replies::{ReplayFault, replies_of};
 
