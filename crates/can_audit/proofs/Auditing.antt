@@ -1,20 +1,23 @@
-use Rattle.std.proofs.Common.{◌≡◌, ◌≢◌, ℕ, ◌+◌, ◌<◌, ◌≤◌, nat_le, List, [], ◌∷◌, length, get_or, take, Some, inl, inr, arith, refl, sym, ap, ◌∙◌, subst}
+use Rattle.std.proofs.Common.{◌≡◌, ◌≢◌, ℕ, ◌+◌, ◌<◌, ◌≤◌, nat_le, List, [], ◌∷◌, length, min, get_or, take, reverse, Some, Result, Ok, Err, OnOk, IfErr, inl, inr, arith, refl, sym, ap, ◌∙◌, subst}
 use Rattle.std.proofs.lemmas.Bool.{cond-false, lt-leb}
-use Rattle.std.proofs.lemmas.List.{length-reverse, length-take-le}
-use Rattle.std.proofs.lemmas.Option.{slice_get_read}
+use Rattle.std.proofs.lemmas.List.{length-reverse, length-take-le, reverse-reverse}
+use Rattle.std.proofs.lemmas.Option.{slice_get_read, slice_get_within, get_or_from_slice_get}
 use Rattle.can_bus.specs.declared.events.BusConfig.{BusConfig}
 use Rattle.can_bus.specs.declared.events.Entry.{Entry}
 use Rattle.can_bus.specs.declared.events.Event.{Event}
 use Rattle.can_bus.specs.declared.events.Reply.{Reply}
 use Rattle.can_bus.specs.declared.events.Reply.TheVariants as reply
 use Rattle.can_bus.specs.declared.events.Refusal.TheVariants as refusal
-use Rattle.can_bus.specs.Journal.{Journal}
+use Rattle.can_bus.specs.Journal.{Journal, IsConfig}
 use Rattle.can_bus.specs.Legal.{legal_reply, IsLegal}
 use Rattle.can_bus.specs.Run.{IsAnswer, history_after}
-use Rattle.can_audit.specs.Audits.{IsFirstWrong}
+use Rattle.can_audit.specs.declared.audits.AuditFault.{AuditFault}
+use Rattle.can_audit.specs.declared.audits.AuditFault.TheVariants as fault
+use Rattle.can_audit.specs.Audits.{IsFirstWrong, Blames}
 use Rattle.can_audit.specs.Histories.{before}
 use Rattle.can_audit.proofs.Answering.{answers}
-use Rattle.can_audit.proofs.Before.{before_more}
+use Rattle.can_audit.proofs.Before.{before_more, history-before}
+use Rattle.can_audit.proofs.Narrowing.{narrow, legal-narrow, first-narrow}
 
 -- A bus carries out the entries one after another, as far as they are legal.
 
@@ -65,3 +68,38 @@ replayed_more c es k e bus after r t noted same =
     noted
     ∙ ap (λ (b : Journal). record b { history = history_after e.event r b.history }) t.so_far
     ∙ ap (λ (h : List Entry). record { config = c; history = h }) ((carried-turn c es k e bus r t).entries ∙ ap (λ (q : Reply). record { event = e.event; reply = q } ∷ before es k) same ∙ sym (before_more es k e t.below t.read))
+
+-- ---- the answer
+
+-- no entry of a legal history is wrong
+pub none-wrong : (c : BusConfig) (es : List Entry) (k : ℕ) → IsConfig c → IsLegal c (reverse es) → IsFirstWrong c es k → ⊥
+none-wrong c es k proper legal f =
+    let below = slice_get_within es k f.entry f.there in
+    let read = get_or_from_slice_get es k f.entry f.entry f.there in
+    let all = (history-before c es (k + 1) (record { proper = proper; legal = legal })).legal in
+    let here = subst (IsLegal c) (before_more es k f.entry below (sym read)) all in
+    elim f.wrong [
+      | inl past ↦ absurd (omega (arith, past, here.0, length-reverse (take k es), length-take-le k es (omega (arith, below))))
+      | inr other ↦ other here.1
+    ]
+
+-- what an audit answers of these entries, which are this history
+pub record Audits (c : BusConfig) (es past : List Entry) (r : Result (Unit {0}) AuditFault) : Type 0 where
+  pub legal : OnOk r (IsLegal c past)
+  pub wrong : IfErr r (Blames c es)
+  pub spared : IsLegal c past → IfErr r (λ why. why ≡ fault.NoMemory)
+
+-- a bus made for no more entries than there are tells the same
+pub audited : (c : BusConfig) (n : ℕ) (es : List Entry) (r : Result (Unit {0}) AuditFault) → IsConfig c → n ≡ min c.limit (length es) → OnOk r (IsLegal (narrow c n) (reverse es)) → IfErr r (Blames (narrow c n) es) → Audits c es (reverse es) r
+audited c n es (Ok u) proper is legal wrong = record { legal = legal-narrow c n (reverse es) (omega (arith, is)) legal; wrong = tt; spared = λ h. tt }
+audited c n es (Err (fault.Wrong k)) proper is legal wrong =
+    let first = first-narrow c n es k is wrong in
+    record { legal = tt; wrong = first; spared = λ h. absurd (none-wrong c es k proper h first) }
+audited c n es (Err fault.NoMemory) proper is legal wrong = record { legal = tt; wrong = tt; spared = λ h. refl }
+
+-- the same of the record that has these parts
+pub audited-record : (c d : BusConfig) (es past : List Entry) (r : Result (Unit {0}) AuditFault) → c ≡ d → es ≡ reverse past → Audits c es (reverse es) r → Audits d (reverse past) past r
+audited-record c d es past r config entries a =
+    subst (λ (x : BusConfig). Audits x (reverse past) past r) config
+      (subst (λ (x : List Entry). Audits c (reverse past) x r) (reverse-reverse past)
+        (subst (λ (x : List Entry). Audits c x (reverse x) r) entries a))

@@ -1,4 +1,4 @@
-ghost use Rattle.std.specs.Prelude.{◌≡◌, ◌↔◌, IsTrue, reverse, OnOk, IfErr};
+ghost use Rattle.std.specs.Prelude.{◌≡◌, ◌↔◌, IsTrue, length, min, reverse, OnOk, IfErr};
 ghost use Rattle.can_bus.specs.Journal.{IsConfig};
 ghost use Rattle.can_bus.specs.Legal.{IsLegal};
 ghost use Rattle.can_audit.specs.Audits.{Blames};
@@ -59,4 +59,38 @@ fn replay(alloc: Global, config: BusConfig, entries: &[Entry]) -> Result<(), Aud
     }
     let _all = bus.record();
     Ok(())
+}
+
+/// For how many entries a bus has to have room so that these are carried out on it, or as many as may be.
+fn room_for(config: BusConfig, entries: &[Entry]) -> u32
+    ensures { result ≡ min config.limit (length entries.now) }
+{
+    if entries.len() < config.limit as usize {
+        entries.len() as u32
+    } else {
+        config.limit
+    }
+}
+
+/// Whether a record is a legal history: each reply is the one that the entries before it give, and there
+/// are no more entries than the limit. If not, `Wrong` names the first entry that is not so.
+///
+/// The events are carried out again on a new bus. It costs what its calls cost, so the time is linear in
+/// the number of entries and of their filters. Memory is taken for a bus with as many entries as there
+/// are, but no more than the limit, and for what `open` and `set_filters` take: `NoMemory` comes where it
+/// was refused, and then nothing is known of the record.
+pub fn audit(alloc: Global, record: &Record) -> Result<(), AuditFault>
+    ensures legal { OnOk result (IsLegal «record».now.config «record».now.history) }
+    ensures wrong { IfErr result (Blames «record».now.config (reverse «record».now.history)) }
+
+    // A legal record is never called wrong.
+    ensures spared { IsLegal «record».now.config «record».now.history → IfErr result (λ why. why ≡ AuditFault.NoMemory) }
+{
+    let config = record.config();
+    let entries = record.entries();
+    if entries.is_empty() {
+        return Ok(());
+    }
+    let limit = room_for(config, entries);
+    replay(alloc, BusConfig { limit, ..config }, entries)
 }

@@ -18,7 +18,7 @@ mod same;
 mod sockets;
 mod transmit;
 
-pub use audits::AuditFault;
+pub use audits::{AuditFault, audit};
 pub use queues::{candidates, projected, queued};
 pub use replies::{ReplayFault, replies_of};
 
