@@ -12,9 +12,9 @@ use Rattle.can_audit.specs.Replies.{reply_after, entries_after, replies_after}
 
 -- A bus answers one event after another as the entries say.
 
-record Answers (c : BusConfig) (past : List Entry) (e : Event) (r : Reply) : Type 0 where
-  reply : r ≡ reply_after c past e
-  entries : history_after e r past ≡ entries_after c past e
+pub record Answers (c : BusConfig) (past : List Entry) (e : Event) (r : Reply) : Type 0 where
+  pub reply : r ≡ reply_after c past e
+  pub entries : history_after e r past ≡ entries_after c past e
 
 noted : (c : BusConfig) (past : List Entry) (e : Event) (r : Reply) → length past < c.limit → r ≡ legal_reply c past e → history_after e r past ≡ record { event = e; reply = r } ∷ past → Answers c past e r
 noted c past e r room is after = record {
@@ -22,7 +22,7 @@ noted c past e r room is after = record {
   entries = after ∙ ap (λ (k : Reply). record { event = e; reply = k } ∷ past) is ∙ sym (cond-false (nat_le c.limit (length past)) _ _ (lt-leb c.limit (length past) room));
 }
 
-answers : (c : BusConfig) (past : List Entry) (e : Event) (r : Reply) → IsAnswer c past e r → r ≢ reply.Refused refusal.NoMemory → Answers c past e r
+pub answers : (c : BusConfig) (past : List Entry) (e : Event) (r : Reply) → IsAnswer c past e r → r ≢ reply.Refused refusal.NoMemory → Answers c past e r
 answers c past e (reply.Refused refusal.RecordFull) full memory = record {
   reply = sym (cond-true (nat_le c.limit (length past)) _ _ (le-leb c.limit (length past) full));
   entries = sym (cond-true (nat_le c.limit (length past)) _ _ (le-leb c.limit (length past) full));

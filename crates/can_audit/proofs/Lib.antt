@@ -1,4 +1,6 @@
 pub mod Answering
+pub mod Auditing
+pub mod Narrowing
 pub mod Before
 pub mod Counting
 pub mod Passing

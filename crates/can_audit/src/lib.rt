@@ -10,6 +10,7 @@
 #![tactic(auto)]
 
 mod attempts;
+pub mod audits;
 mod counters;
 mod event_reading;
 mod event_writing;
@@ -26,6 +27,7 @@ pub mod record_writing;
 pub mod replies;
 mod reply_reading;
 mod reply_writing;
+mod same;
 mod sockets;
 pub mod text_laws;
 mod transmit;
@@ -34,6 +36,7 @@ mod words;
 mod writing;
 
 pub use faults::ReadFault;
+pub use audits::{AuditFault, audit};
 pub use queues::{candidates, projected, queued};
 pub use record_reading::{read_record, read_record_bytes};
 pub use record_writing::record_text;

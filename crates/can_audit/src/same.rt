@@ -1,0 +1,119 @@
+ghost use Rattle.std.specs.Prelude.{◌≡◌, ◌↔◌, IsTrue};
+
+use can_attempt::Class;
+use can_bus::{Closed, Received, Refusal, Reply, Tried};
+use can_frame::{ErrorFrame, Frame, Item};
+
+// Whether two replies are one. Each type has a function of its own, so that the proof meets them one by one.
+
+fn same_class(one: Class, other: Class) -> bool
+    ensures { IsTrue result ↔ (one ≡ other) }
+{
+    one == other
+}
+
+fn same_refusal(one: Refusal, other: Refusal) -> bool
+    ensures { IsTrue result ↔ (one ≡ other) }
+{
+    one == other
+}
+
+fn same_frame(one: Frame, other: Frame) -> bool
+    ensures { IsTrue result ↔ (one ≡ other) }
+{
+    one == other
+}
+
+fn same_message(one: ErrorFrame, other: ErrorFrame) -> bool
+    ensures { IsTrue result ↔ (one ≡ other) }
+{
+    one == other
+}
+
+fn same_item(one: &Item, other: &Item) -> bool
+    ensures { IsTrue result ↔ (one.now ≡ other.now) }
+{
+    match one {
+        Item::Data(frame) => match other {
+            Item::Data(more) => same_frame(*frame, *more),
+            Item::Error(_) => false,
+        },
+        Item::Error(message) => match other {
+            Item::Data(_) => false,
+            Item::Error(more) => same_message(*message, *more),
+        },
+    }
+}
+
+fn same_received(one: &Received, other: &Received) -> bool
+    ensures { IsTrue result ↔ (one.now ≡ other.now) }
+{
+    same_item(&one.item, &other.item)
+        && one.from.number() == other.from.number()
+        && one.number == other.number
+        && one.moment.micros() == other.moment.micros()
+}
+
+fn same_taken(one: &Option<Received>, other: &Option<Received>) -> bool
+    ensures { IsTrue result ↔ (one.now ≡ other.now) }
+{
+    match one {
+        None => other.is_none(),
+        Some(received) => match other {
+            None => false,
+            Some(more) => same_received(received, more),
+        },
+    }
+}
+
+fn same_tried(one: &Tried, other: &Tried) -> bool
+    ensures { IsTrue result ↔ (one.now ≡ other.now) }
+{
+    one.moment.micros() == other.moment.micros()
+        && one.winner.number() == other.winner.number()
+        && one.number == other.number
+        && same_frame(one.frame, other.frame)
+        && same_class(one.class, other.class)
+        && one.accepted.0 == other.accepted.0
+        && one.off.0 == other.off.0
+}
+
+fn same_closed(one: &Closed, other: &Closed) -> bool
+    ensures { IsTrue result ↔ (one.now ≡ other.now) }
+{
+    one.unread == other.unread && one.dropped == other.dropped
+}
+
+/// Whether two replies are one.
+pub(crate) fn same_reply(one: &Reply, other: &Reply) -> bool
+    ensures { IsTrue result ↔ (one.now ≡ other.now) }
+{
+    match one {
+        Reply::Opened(id) => match other {
+            Reply::Opened(more) => id.0 == more.0,
+            _ => false,
+        },
+        Reply::Closed(counts) => match other {
+            Reply::Closed(more) => same_closed(counts, more),
+            _ => false,
+        },
+        Reply::Done => matches!(other, Reply::Done),
+        Reply::Sent(number) => match other {
+            Reply::Sent(more) => *number == *more,
+            _ => false,
+        },
+        Reply::Received(taken) => match other {
+            Reply::Received(more) => same_taken(taken, more),
+            _ => false,
+        },
+        Reply::Idle => matches!(other, Reply::Idle),
+        Reply::Tried(tried) => match other {
+            Reply::Tried(more) => same_tried(tried, more),
+            _ => false,
+        },
+        Reply::Refused(why) => match other {
+            Reply::Refused(more) => same_refusal(*why, *more),
+            _ => false,
+        },
+    }
+}
