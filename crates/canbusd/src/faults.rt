@@ -1,3 +1,4 @@
+use can_audit::{AuditFault, ReadFault};
 use can_fault::ScriptError;
 use can_session::BenchFault;
 use thiserror::Error;
@@ -18,6 +19,10 @@ pub enum Fault<'a> {
     Script(ScriptError),
     #[error("{0}")]
     Bench(BenchFault),
+    #[error("{0}")]
+    Record(ReadFault),
+    #[error("{0}")]
+    Audit(AuditFault),
     #[error("write fault")]
     Write,
     #[error("no memory")]

@@ -1,17 +1,20 @@
 //! canbusd: simulated CAN buses in user space.
 //!
 //! `canbusd bench BUS` reads lines that open sessions, feed them commands and put frames on one bus, and
-//! writes what the sessions are told. `program` carries out a command line, whose words `options` reads and
-//! whose script `script_file` reads; the bench itself is `can_session::bench`, where all that it writes is
-//! proved.
+//! writes what the sessions are told; `canbusd audit FILE` checks the record of such a run. `program` carries
+//! out a command line, whose words `options` reads; `bench_job` and `audit_job` are the two jobs, and `files`
+//! reads what they need. The bench itself is `can_session::bench`, the record's text and its audit are
+//! can_audit's: what they write and answer is proved there.
 //!
 //! What is proved here: no command line, file or input makes a function fail or run on for ever.
 #![tactic(auto)]
 
+mod audit_job;
+mod bench_job;
 mod faults;
+mod files;
 mod options;
 mod program;
-mod script_file;
 
 use faults::Fault;
 use program::{fail, run_words};

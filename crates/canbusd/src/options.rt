@@ -17,13 +17,25 @@ const RXQUEUE: &str = "rxqueue";
 
 const LIMIT: &str = "limit";
 
+const RECORD: &str = "record";
+
 const BUS: &str = "BUS";
+
+const FILE: &str = "FILE";
 
 const PROGRAM_HELP: &str =
     "`canbusd help bench` explains the options of bench and the lines that it reads.
 
+Examples:
+  canbusd bench --record first.rec can0,can1 < examples/first_frame.bench
+  canbusd audit first.rec";
+
+const AUDIT_HELP: &str =
+    "Prints `ok N entries` where each reply in the record is the one that the entries before it allow.
+Else it tells the first line that no record may have, or the first entry (from 0) whose reply is wrong.
+
 Example:
-  canbusd bench can0,can1 < examples/first_frame.bench";
+  canbusd audit first.rec";
 
 const BENCH_HELP: &str = "Lines of standard input, carried out one after the other:
   at SECONDS.MICROS  Set the moment, at first 0.000000: 1 to 10 digits, a point, 6 digits
@@ -44,6 +56,15 @@ global bit, global form, local stuff NAMES, local crc NAMES or local form NAMES.
 Example:
   canbusd bench --ack peers --limit 1000 can0,can1@examples/last_bit.script < examples/last_bit.bench";
 
+/// What a command line asks for.
+#[derive(Debug, Clone, Copy)]
+pub enum Job<'a> {
+    /// To carry out the lines of the input.
+    Bench(BenchOptions<'a>),
+    /// To audit the record in the file with this path.
+    Audit(&'a str),
+}
+
 /// The words of `canbusd bench`.
 #[derive(Debug, Clone, Copy)]
 pub struct BenchOptions<'a> {
@@ -61,14 +82,19 @@ pub struct BenchOptions<'a> {
     pub names: &'a str,
     /// The path of the script of faults, if there is one.
     pub script: Option<&'a str>,
+    /// The path of the file that gets the record, if it is wanted.
+    pub record: Option<&'a str>,
 }
 
 /// What the words of a command line ask for, the program's name among them. An error is a fault of the
 /// words, a request for help or the version, or no memory.
-pub fn read_options<'a>(alloc: Global, words: &'a [String]) -> Result<BenchOptions<'a>, Error> {
+pub fn read_options<'a>(alloc: Global, words: &'a [String]) -> Result<Job<'a>, Error> {
     let matches = program_command(alloc)?.try_get_matches_from(words)?;
-    match matches.subcommand_matches("bench") {
-        Some(bench) => bench_options(alloc, bench),
+    if let Some(bench) = matches.subcommand_matches("bench") {
+        return Ok(Job::Bench(bench_options(alloc, bench)?));
+    }
+    match matches.subcommand_matches("audit") {
+        Some(audit) => Ok(Job::Audit(audit.get_str(FILE).unwrap_or(""))),
         None => Err(bench_error(alloc, "no command was given")?),
     }
 }
@@ -83,6 +109,7 @@ fn bench_options<'a>(alloc: Global, bench: &ArgMatches<'a>) -> Result<BenchOptio
         limit: number_given(alloc, bench, LIMIT)?,
         names,
         script,
+        record: bench.get_str(RECORD),
     })
 }
 
@@ -129,7 +156,8 @@ fn program_command<'a>(alloc: Global) -> Result<Command<'a>, AllocError> {
         .about("Simulated CAN buses")
         .after_help(PROGRAM_HELP)
         .subcommand_required(true)
-        .subcommand(bench_command(alloc)?)
+        .subcommand(bench_command(alloc)?)?
+        .subcommand(audit_command(alloc)?)
 }
 
 fn bench_command<'a>(alloc: Global) -> Result<Command<'a>, AllocError> {
@@ -145,7 +173,15 @@ fn bench_command<'a>(alloc: Global) -> Result<Command<'a>, AllocError> {
         .arg(number_option(alloc, TXQUEUE, "10", tx_help))?
         .arg(number_option(alloc, RXQUEUE, "256", rx_help))?
         .arg(number_option(alloc, LIMIT, "1000000", limit_help))?
+        .arg(record_option(alloc))?
         .arg(bus_argument(alloc))
+}
+
+fn audit_command<'a>(alloc: Global) -> Result<Command<'a>, AllocError> {
+    Command::new(alloc, "audit")
+        .about("Check that a record is a legal history of a bus")
+        .after_help(AUDIT_HELP)
+        .arg(file_argument(alloc))
 }
 
 fn ack_option<'a>(alloc: Global) -> Arg<'a> {
@@ -174,6 +210,18 @@ fn number_option<'a>(alloc: Global, name: &'a str, default: &'a str, help: &'a s
         .value_name("N")
         .default_value(default)
         .help(help)
+}
+
+fn record_option<'a>(alloc: Global) -> Arg<'a> {
+    Arg::new(alloc, RECORD).long(RECORD).value_name("FILE").help(
+        "Write the record of the run to FILE, once the input has come to its end",
+    )
+}
+
+fn file_argument<'a>(alloc: Global) -> Arg<'a> {
+    Arg::new(alloc, FILE)
+        .required(true)
+        .help("A record that bench wrote with --record")
 }
 
 fn bus_argument<'a>(alloc: Global) -> Arg<'a> {

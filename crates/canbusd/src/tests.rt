@@ -1,6 +1,6 @@
 use crate::faults::Fault;
 use crate::program::run_words;
-use crate::script_file::read_text;
+use crate::files::read_text;
 use std::alloc::Global;
 use std::io::{ErrorKind, Read, Write};
 use std::process::Abort;

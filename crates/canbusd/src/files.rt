@@ -8,16 +8,24 @@ use std::rt::Files;
 
 const MOST_READS: u32 = 16_777_216;
 
-/// The script of faults in the file with this path, for a bus with these names. The file is opened, then
-/// read in at most 16,777,216 reads, and then its lines are looked at.
+/// The text of the file with this path. The file is opened, then read in at most 16,777,216 reads.
+pub fn read_file<'a, H: Files>(
+    rt: &H,
+    alloc: Global,
+    path: &'a str,
+) -> Result<String, Fault<'a>> {
+    let mut file = fs::open(rt, path).map_err(|_| Fault::CannotOpen(path))?;
+    read_text(alloc, &mut file, MOST_READS)
+}
+
+/// The script of faults in the file with this path, for a bus with these names.
 pub fn read_script<'a, H: Files>(
     rt: &H,
     alloc: Global,
     path: &'a str,
     names: &Names,
 ) -> Result<Script, Fault<'a>> {
-    let mut file = fs::open(rt, path).map_err(|_| Fault::CannotOpen(path))?;
-    let text = read_text(alloc, &mut file, MOST_READS)?;
+    let text = read_file(rt, alloc, path)?;
     Script::read(alloc, &text, names).map_err(|error| match error {
         ScriptError::NoMemory => Fault::NoMemory,
         fault => Fault::Script(fault),
