@@ -9,11 +9,7 @@ use std::rt::Files;
 const MOST_READS: u32 = 16_777_216;
 
 /// The text of the file with this path. The file is opened, then read in at most 16,777,216 reads.
-pub fn read_file<'a, H: Files>(
-    rt: &H,
-    alloc: Global,
-    path: &'a str,
-) -> Result<String, Fault<'a>> {
+pub fn read_file<'a, H: Files>(rt: &H, alloc: Global, path: &'a str) -> Result<String, Fault<'a>> {
     let mut file = fs::open(rt, path).map_err(|_| Fault::CannotOpen(path))?;
     read_text(alloc, &mut file, MOST_READS)
 }

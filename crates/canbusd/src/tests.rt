@@ -1,6 +1,6 @@
 use crate::faults::Fault;
-use crate::program::run_words;
 use crate::files::read_text;
+use crate::program::run_words;
 use std::alloc::Global;
 use std::io::{ErrorKind, Read, Write};
 use std::process::Abort;
@@ -235,6 +235,7 @@ fn refuses_lines(rt: HostRuntime) -> Result<(), Fail> {
         "drain  1",
         "feed 3 < open can0 >",
         "feed 1",
+        "end 3",
     ];
     for line in faulty {
         let input = joined(alloc, &[TWO_SESSIONS, line, "\nattempt\n"])?;
@@ -453,7 +454,8 @@ fn follows_scripts(rt: HostRuntime) -> Result<(), Fail> {
 fn reports_faults_where_it_is_told_to(rt: HostRuntime) -> Result<(), Fail> {
     let alloc = rt.alloc();
     fs::write(&rt, "reported.script", b"0 global bit")?;
-    let asked = "feed 1 < errmask 88 >< errdata 1 >< send 123 0 >\nfeed 2 < errmask 88 >< errdata 1 >\n";
+    let asked =
+        "feed 1 < errmask 88 >< errdata 1 >< send 123 0 >\nfeed 2 < errmask 88 >< errdata 1 >\n";
     let rest = joined(alloc, &[asked, "at 0.000001\nattempt\ndrain 1\ndrain 2\n"])?;
     let answered = "1 < ok >< ok >\n2 < ok >< ok >\ntried can0 0 destroyed - -\n";
     let sent = "1 < error 088 0.000001 0000810A00000000 >\n";
@@ -550,6 +552,97 @@ fn reads_files_in_so_many_reads(rt: HostRuntime) -> Result<(), Fail> {
     Ok(())
 }
 
+const RECORD: &str = "written.rec";
+
+/// The record of two sockets with room for an item, a frame between them, and the close of the second socket.
+const RECORDED: &str = "canbus record 1
+bus 2 always 0000 10 100
+open 0 1 = socket 0
+open 1 1 = socket 1
+send 0 123#01FF = number 0
+attempt 0.000001 good = tried 0 0 123#01FF done 0002 0000
+receive 1 = data 0 0 123#01FF 0.000001
+receive 1 = none
+close 1 = closed 0 0
+end 7
+";
+
+#[test]
+fn writes_and_audits_records(rt: HostRuntime) -> Result<(), Fail> {
+    let alloc = rt.alloc();
+    let rest = "feed 1 < send 123 2 1 ff >\nat 0.000001\nattempt\ndrain 2\nfeed 2 < close >\n";
+    let wanted = "tried can0 0 done can1 -\n2 < frame 123 0.000001 01FF >\n2 < closed 0 0 >\n";
+    let line = "canbusd bench --record written.rec --rxqueue 1 --limit 100 can0,can1";
+    carries_out(&rt, alloc, line, rest, wanted)?;
+    let record = fs::read_to_string(&rt, RECORD)?;
+    assert_eq!(rt; record.as_bytes(), RECORDED.as_bytes());
+    let audited = ("ok 7 entries\n", "", 0);
+    runs(
+        &rt,
+        alloc,
+        "canbusd audit written.rec",
+        b"".as_slice(),
+        audited,
+    )?;
+    fs::remove_file(&rt, RECORD)?;
+    // A run that ends in a fault makes no file.
+    let line = "canbusd bench --record written.rec can0";
+    let told = ("", "canbusd: line 1: bad line\n", 1);
+    runs(&rt, alloc, line, b"attempt 1\n".as_slice(), told)?;
+    let told = ("", "canbusd: cannot open written.rec\n", 1);
+    runs(
+        &rt,
+        alloc,
+        "canbusd audit written.rec",
+        b"".as_slice(),
+        told,
+    )?;
+    let told = ("", "canbusd: cannot open none/written.rec\n", 1);
+    let line = "canbusd bench --record none/written.rec can0";
+    runs(&rt, alloc, line, b"".as_slice(), told)
+}
+
+#[test]
+fn tells_what_is_wrong_with_records(rt: HostRuntime) -> Result<(), Fail> {
+    let alloc = rt.alloc();
+    // What is put in place of what, and what is told then.
+    let table = [
+        ("done 0002", "done 0000", "canbusd: entry 3: wrong\n"),
+        ("10 100", "10 6", "canbusd: entry 6: wrong\n"),
+        ("record 1", "record 9", "canbusd: bad version\n"),
+        ("bus 2", "bus 17", "canbusd: line 2: bad line\n"),
+        (
+            "send 0 123#01FF",
+            "send 0 123#01ff",
+            "canbusd: line 5: bad line\n",
+        ),
+        ("end 7", "end 8", "canbusd: line 10: bad line\n"),
+        ("end 7\n", "end 7\n\n", "canbusd: line 11: bad line\n"),
+    ];
+    for (old, new, told) in table {
+        let text = RECORDED.replace(alloc, old, new)?;
+        fs::write(&rt, "damaged.rec", text.as_bytes())?;
+        runs(
+            &rt,
+            alloc,
+            "canbusd audit damaged.rec",
+            b"".as_slice(),
+            ("", told, 1),
+        )?;
+    }
+    fs::write(&rt, "damaged.rec", b"\xFF")?;
+    let told = ("", "canbusd: read fault\n", 1);
+    runs(
+        &rt,
+        alloc,
+        "canbusd audit damaged.rec",
+        b"".as_slice(),
+        told,
+    )?;
+    fs::remove_file(&rt, "damaged.rec")?;
+    Ok(())
+}
+
 /// How what a command line writes to its output and its errors begins, and its status.
 fn tells(
     rt: &(impl Abort + Files),
@@ -581,6 +674,9 @@ fn reads_command_lines(rt: HostRuntime) -> Result<(), Fail> {
         "canbusd bench --ack never can0",
         "canbusd bench --ack",
         "canbusd bench --report=1 can0",
+        "canbusd bench --record",
+        "canbusd audit",
+        "canbusd audit a b",
     ];
     for line in faulty {
         tells(&rt, alloc, line, ("", "error: ", 2))?;
@@ -590,6 +686,7 @@ fn reads_command_lines(rt: HostRuntime) -> Result<(), Fail> {
         ("canbusd --help", "Simulated CAN buses\n"),
         ("canbusd bench -h", "Carry out the lines"),
         ("canbusd help bench", "Carry out the lines"),
+        ("canbusd help audit", "Check that a record"),
     ];
     for (line, start) in shown {
         tells(&rt, alloc, line, (start, "", 0))?;
