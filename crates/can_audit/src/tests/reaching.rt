@@ -13,7 +13,7 @@ use std::process::Abort;
 type ListBus = Bus<ListQueue<Pending>, ListQueue<Received>, ScanArbiter>;
 
 /// A frame reaches socket 1, which has room for one item and takes it before its close.
-fn first_frame(rt: &impl AllocGlobal) -> Result<Vec<Event>, Fail> {
+pub fn first_frame(rt: &impl AllocGlobal) -> Result<Vec<Event>, Fail> {
     let mut events = Vec::new(rt.alloc());
     events.push(open(0, 256)?)?;
     events.push(open(1, 1)?)?;

@@ -1,6 +1,5 @@
-use Rattle.std.proofs.Common.{◌≡◌, List, Option, ℕ, length, slice_set, reverse, IfSome, ap, ◌∙◌, subst, arith}
+use Rattle.std.proofs.Common.{◌≡◌, List, Option, ℕ, length, reverse, IfSome, ap, subst, arith}
 use Rattle.can_arbiter.specs.Keys.{IsWinner, IsIdle}
-use Rattle.can_bus.specs.declared.events.Pending.{Pending}
 use Rattle.can_bus.specs.State.{key_in, kept_keys}
 use Rattle.can_bus.specs.Transmit.{head_of}
 use Rattle.can_audit.proofs.Competing.{set_more, long_more, competed, keys-are}
