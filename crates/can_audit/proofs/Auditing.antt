@@ -1,4 +1,4 @@
-use Rattle.std.proofs.Common.{◌≡◌, ◌≢◌, ℕ, ◌+◌, ◌<◌, ◌≤◌, nat_le, List, [], ◌∷◌, length, min, get_or, take, reverse, Some, Result, Ok, Err, OnOk, IfErr, inl, inr, arith, refl, sym, ap, ◌∙◌, subst}
+use Rattle.std.proofs.Common.{◌≡◌, ◌≢◌, ℕ, ◌+◌, ◌<◌, nat_le, List, ◌∷◌, length, min, get_or, take, reverse, Result, Ok, Err, OnOk, IfErr, inl, inr, arith, refl, sym, ap, ◌∙◌, subst}
 use Rattle.std.proofs.lemmas.Bool.{cond-false, lt-leb}
 use Rattle.std.proofs.lemmas.List.{length-reverse, length-take-le, reverse-reverse}
 use Rattle.std.proofs.lemmas.Option.{slice_get_read, slice_get_within, get_or_from_slice_get}
@@ -101,5 +101,5 @@ audited c n es (Err fault.NoMemory) proper is legal wrong = record { legal = tt;
 pub audited-record : (c d : BusConfig) (es past : List Entry) (r : Result (Unit {0}) AuditFault) → c ≡ d → es ≡ reverse past → Audits c es (reverse es) r → Audits d (reverse past) past r
 audited-record c d es past r config entries a =
     subst (λ (x : BusConfig). Audits x (reverse past) past r) config
-      (subst (λ (x : List Entry). Audits c (reverse past) x r) (reverse-reverse past)
-        (subst (λ (x : List Entry). Audits c x (reverse x) r) entries a))
+    (subst (λ (x : List Entry). Audits c (reverse past) x r) (reverse-reverse past)
+    (subst (λ (x : List Entry). Audits c x (reverse x) r) entries a))

@@ -1,3 +1,4 @@
+mod auditing;
 mod events;
 mod reaching;
 mod replying;

@@ -1,0 +1,137 @@
+// Whether records are legal histories.
+
+use super::*;
+use crate::{AuditFault, audit};
+use can_arbiter::ScanArbiter;
+use can_attempt::Class;
+use can_bus::{Bus, Closed, Entry, Pending, Received, Record, Reply, Tried, run};
+use can_frame::Item;
+use can_queue::ListQueue;
+use std::alloc::AllocGlobal;
+use std::process::Abort;
+
+type ListBus = Bus<ListQueue<Pending>, ListQueue<Received>, ScanArbiter>;
+
+/// A bus of two interfaces, without reports of faults.
+fn made_for(limit: u32) -> BusConfig {
+    BusConfig {
+        reporting: IfaceSet(0),
+        tx_capacity: 10,
+        ..config(2, limit)
+    }
+}
+
+/// The frame 123#01FF was tried, and these interfaces accepted it.
+fn tried(accepted: u16) -> Result<Reply, Fail> {
+    Ok(Reply::Tried(Tried {
+        moment: moment(1)?,
+        winner: iface(0)?,
+        number: 0,
+        frame: frame(0x123, &[0x01, 0xFF])?,
+        class: Class::Done,
+        accepted: IfaceSet(accepted),
+        off: IfaceSet(0),
+    }))
+}
+
+/// That frame, as interface 1 receives it.
+fn taken() -> Result<Reply, Fail> {
+    Ok(Reply::Received(Some(Received {
+        item: Item::Data(frame(0x123, &[0x01, 0xFF])?),
+        from: iface(0)?,
+        number: 0,
+        moment: moment(1)?,
+    })))
+}
+
+fn closed() -> Reply {
+    Reply::Closed(Closed {
+        unread: 0,
+        dropped: 0,
+    })
+}
+
+/// The replies of a frame that goes from interface 0 to these, and is taken at interface 1.
+fn replies(accepted: u16) -> Result<[Reply; 7], Fail> {
+    Ok([
+        Reply::Opened(SocketId(0)),
+        Reply::Opened(SocketId(1)),
+        Reply::Sent(0),
+        tried(accepted)?,
+        taken()?,
+        Reply::Received(None),
+        closed(),
+    ])
+}
+
+/// Adds an entry where there is room for it.
+fn note(entries: &mut Vec<Entry>, event: Event, reply: Reply) {
+    // The checker has to meet the types inside a reply before a vector takes one.
+    let _types: Option<(Item, Received)> = None;
+    let _ = entries.push(Entry { event, reply });
+}
+
+/// These events with these replies.
+fn recorded(
+    rt: &impl AllocGlobal,
+    config: BusConfig,
+    events: Vec<Event>,
+    replies: &[Reply],
+) -> Result<Record, Fail> {
+    let mut entries = Vec::with_capacity(rt.alloc(), events.len())?;
+    for (event, reply) in events.into_iter().zip(replies) {
+        note(&mut entries, event, *reply);
+    }
+    Ok(Record::from_entries(config, entries).ok_or("no record")?)
+}
+
+// The call, without its clauses.
+fn audited(rt: &impl AllocGlobal, record: &Record) -> Result<(), AuditFault> {
+    audit(rt.alloc(), record)
+}
+
+/// The audit of one frame's way, on a bus made for so many events.
+fn one_frame(
+    rt: &impl AllocGlobal,
+    limit: u32,
+    accepted: u16,
+) -> Result<Result<(), AuditFault>, Fail> {
+    let events = events::first_frame(rt)?;
+    let record = recorded(rt, made_for(limit), events, &replies(accepted)?)?;
+    Ok(audited(rt, &record))
+}
+
+#[test]
+fn the_first_wrong_entry_is_found(rt: HostRuntime) -> Result<(), Fail> {
+    assert_eq!(rt; one_frame(&rt, 100, 0b10)?, Ok(()));
+    assert_eq!(rt; one_frame(&rt, 7, 0b10)?, Ok(()));
+    assert_eq!(rt;
+        one_frame(&rt, 100, 0)?,
+        Err(AuditFault::Wrong { entry: 3 })
+    );
+    assert_eq!(rt;
+        one_frame(&rt, 6, 0b10)?,
+        Err(AuditFault::Wrong { entry: 6 })
+    );
+    Ok(())
+}
+
+/// The record of a bus that carried out these events.
+fn carried_out(rt: &impl AllocGlobal, events: &[Event]) -> Result<Record, Fail> {
+    let mut bus: ListBus = Bus::new(rt.alloc(), config(3, 16_000))?;
+    let _ = run(&mut bus, rt.alloc(), events)?;
+    Ok(bus.into_record())
+}
+
+fn audits_what_a_bus_did(rt: &(impl Abort + AllocGlobal)) -> Result<(), Fail> {
+    let record = carried_out(rt, &events::mixed(rt, 4, 300)?)?;
+    assert_eq!(rt; audited(rt, &record), Ok(()));
+    let nothing = carried_out(rt, &[])?;
+    assert_eq!(rt; audited(rt, &nothing), Ok(()));
+    Ok(())
+}
+
+#[test]
+fn what_a_bus_did_is_legal(rt: HostRuntime) -> Result<(), Fail> {
+    audits_what_a_bus_did(&rt)
+}
