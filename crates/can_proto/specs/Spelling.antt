@@ -1,6 +1,7 @@
-use Rattle.std.specs.Prelude.{ℕ, zero, suc, ◌+◌, ◌/◌, ◌%◌, ◌^◌, nat_lt, Bool, true, false, if◌then◌else◌, List, [], ◌∷◌, ◌++◌, codes}
+use Rattle.std.specs.Prelude.{ℕ, ◌/◌, ◌%◌, ◌^◌, nat_lt, Bool, true, false, if◌then◌else◌, List, ◌∷◌, ◌++◌, codes}
 use Rattle.std.specs.Fmt.{decimal}
-use Rattle.can_frame.specs.Frames.{Identifier, CanFrame, ErrorMessage, is_remote, payload_len, payload_bytes}
+use Rattle.can_frame.specs.Frames.{CanFrame, ErrorMessage, is_remote, payload_len, payload_bytes}
+use Rattle.can_frame.specs.FrameText.{digits, pairs, id_text}
 use Rattle.can_frame.specs.declared.items.Item.{Item}
 use Rattle.can_frame.specs.declared.items.Item.TheVariants as item
 use Rattle.can_bus.specs.declared.stats.SocketStats.{SocketStats}
@@ -11,27 +12,9 @@ use Rattle.can_proto.specs.Causes.{cause_text}
 
 -- How answers and received items are written to a client (socketcand's raw mode; the exact texts are own choice).
 
--- a digit, upper case
-abbrev pub digit_of : ℕ → ℕ
-digit_of v = if nat_lt v 10 then 48 + v else 55 + v
-
--- the last `count` digits of a number in a base
-abbrev pub digits : ℕ → ℕ → ℕ → List ℕ
-digits base zero n = []
-digits base (suc count) n = digits base count (n / base) ++ digit_of (n % base) ∷ []
-
 -- a moment: seconds, a point and six digits of microseconds
 abbrev pub moment_text : ℕ → List ℕ
 moment_text micros = decimal (micros / 1000000) ++ 46 ∷ digits 10 6 (micros % 1000000)
-
--- bytes as joined pairs of hexadecimal digits
-abbrev pub pairs : List ℕ → List ℕ
-pairs [] = []
-pairs (b ∷ bs) = digits 16 2 b ++ pairs bs
-
--- an identifier: 3 hexadecimal digits, or 8 where it has 29 bits
-abbrev pub id_text : Identifier → List ℕ
-id_text id = digits 16 (if id.extended then 8 else 3) id.number
 
 -- how many hexadecimal digits an error class takes, at least 3
 abbrev pub class_width : ℕ → ℕ
