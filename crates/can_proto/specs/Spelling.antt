@@ -1,4 +1,4 @@
-use Rattle.std.specs.Prelude.{ℕ, ◌/◌, ◌%◌, ◌^◌, nat_lt, Bool, true, false, if◌then◌else◌, List, ◌∷◌, ◌++◌, codes}
+use Rattle.std.specs.Prelude.{ℕ, ◌/◌, ◌%◌, ◌^◌, nat_lt, Bool, true, false, if◌then◌else◌, List, [], ◌∷◌, ◌++◌, codes}
 use Rattle.std.specs.Fmt.{decimal}
 use Rattle.can_frame.specs.Frames.{CanFrame, ErrorMessage, is_remote, payload_len, payload_bytes}
 use Rattle.can_frame.specs.FrameText.{digits, pairs, id_text}
@@ -46,6 +46,11 @@ error_text true e micros = codes "< error " ++ class_text e.class ++ codes " " +
 abbrev pub item_text : Bool → Item → ℕ → List ℕ
 item_text errdata (item.Data frame) micros = if is_remote frame.payload then remote_text frame micros else data_text frame micros
 item_text errdata (item.Error e) micros = error_text errdata e micros
+
+-- what is told of an item where the data of error message frames are not asked for: of these the class alone
+abbrev pub without_data : Item → Item
+without_data (item.Data frame) = item.Data frame
+without_data (item.Error e) = item.Error (record { class = e.class; bytes = [] })
 
 -- what became of the items offered to the socket, and of the frames of its interface
 abbrev pub stats_text : SocketStats → IfaceStats → List ℕ

@@ -1,6 +1,9 @@
-ghost use Rattle.std.specs.Prelude.{◌≡◌, ◌≤◌, ◌++◌, ◌∷◌, [], List, ℕ, false, length, flat_map, codes};
+ghost use Rattle.std.specs.Prelude.{◌≡◌, ◌≤◌, ◌<◌, ◌^◌, ◌++◌, ◌∷◌, [], List, ℕ, true, false, length, flat_map, codes};
+ghost use Rattle.can_frame.specs.FrameText.{IsItem};
+ghost use Rattle.can_frame.specs.declared.items.Item.{Item as AnItem};
 ghost use Rattle.can_proto.specs.Messages.{messages_of, given_from, has_mark};
 ghost use Rattle.can_proto.specs.Causes.{cause_text};
+ghost use Rattle.can_proto.specs.Spelling.{item_text, without_data};
 
 use crate::answers::Cause;
 use crate::messages::Incoming;
@@ -18,4 +21,15 @@ pub fn bytes_between_marks_are_a_message()
 /// No two causes are told by the same words.
 pub fn words_tell_one_cause()
     ensures { (one other : Cause) → cause_text one ≡ cause_text other → one ≡ other }
+{}
+
+/// What a client is told of items tells them apart, and their moments. Where the data of error message
+/// frames are not asked for they are left out, and their classes and moments alone are told apart.
+pub fn texts_tell_items_apart()
+    ensures whole { (i j : AnItem) (m n : ℕ) →
+        IsItem i → IsItem j → m < 10 ^ 16 → n < 10 ^ 16 →
+        item_text true i m ≡ item_text true j n → (i ≡ j) × (m ≡ n) }
+    ensures without_data { (i j : AnItem) (m n : ℕ) →
+        IsItem i → IsItem j → m < 10 ^ 16 → n < 10 ^ 16 →
+        item_text false i m ≡ item_text false j n → (without_data i ≡ without_data j) × (m ≡ n) }
 {}
