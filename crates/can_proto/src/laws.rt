@@ -1,8 +1,14 @@
-ghost use Rattle.std.specs.Prelude.{◌≡◌, ◌≤◌, ◌<◌, ◌^◌, ◌++◌, ◌∷◌, [], List, ℕ, true, false, length, flat_map, codes};
+ghost use Rattle.std.specs.Prelude.{◌≡◌, ◌≤◌, ◌<◌, ◌^◌, ◌++◌, ◌∷◌, [], List, ℕ, Ok, IsTrue, true, false, length, flat_map, codes};
 ghost use Rattle.can_frame.specs.FrameText.{IsItem};
 ghost use Rattle.can_frame.specs.declared.items.Item.{Item as AnItem};
 ghost use Rattle.can_proto.specs.Messages.{messages_of, given_from, has_mark};
 ghost use Rattle.can_proto.specs.Causes.{cause_text};
+ghost use Rattle.can_proto.specs.Words.{words_of};
+ghost use Rattle.can_proto.specs.Verbs.{stands_in};
+ghost use Rattle.can_proto.specs.Commands.{reading};
+ghost use Rattle.can_proto.specs.CommandSpelling.{command_spelling, verb_of, IsCommand};
+ghost use Rattle.can_proto.specs.declared.commands.Mode.{Mode as AMode};
+ghost use Rattle.can_proto.specs.declared.commands.Command.{Command as ACommand};
 ghost use Rattle.can_proto.specs.Spelling.{item_text, without_data};
 
 use crate::answers::Cause;
@@ -32,4 +38,11 @@ pub fn texts_tell_items_apart()
     ensures without_data { (i j : AnItem) (m n : ℕ) →
         IsItem i → IsItem j → m < 10 ^ 16 → n < 10 ^ 16 →
         item_text false i m ≡ item_text false j n → (without_data i ≡ without_data j) × (m ≡ n) }
+{}
+
+/// What is written of a command is read back, in each mode that has the command.
+pub fn written_commands_are_read()
+    ensures { (mode : AMode) (c : ACommand) →
+        IsCommand c → IsTrue (stands_in (verb_of c) mode) →
+        reading mode (words_of (command_spelling c)) ≡ Ok c }
 {}
