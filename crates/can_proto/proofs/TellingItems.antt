@@ -13,13 +13,13 @@ use Rattle.can_proto.proofs.Numerals.{IsMark, clear-digits, clear-pairs, clear-d
 
 -- What a client is told of items tells them apart.
 
-abbrev is_space : ℕ → Bool
+abbrev pub is_space : ℕ → Bool
 is_space b = b == 32
 
 abbrev is_point : ℕ → Bool
 is_point b = b == 46
 
-no-space : IsMark is_space
+pub no-space : IsMark is_space
 no-space d h = grind arith
 
 no-point : IsMark is_point

@@ -1,5 +1,6 @@
-use Rattle.std.specs.Prelude.{ℕ, ◌/◌, ◌%◌, ◌^◌, nat_lt, Bool, true, false, if◌then◌else◌, List, [], ◌∷◌, ◌++◌, codes}
+use Rattle.std.specs.Prelude.{◌≡◌, ◌<◌, ℕ, ◌/◌, ◌%◌, ◌^◌, nat_lt, Bool, true, false, if◌then◌else◌, List, [], ◌∷◌, ◌++◌, codes}
 use Rattle.std.specs.Fmt.{decimal}
+use Rattle.std.specs.List.{All}
 use Rattle.can_frame.specs.Frames.{CanFrame, ErrorMessage, is_remote, payload_len, payload_bytes}
 use Rattle.can_frame.specs.FrameText.{digits, pairs, id_text}
 use Rattle.can_frame.specs.declared.items.Item.{Item}
@@ -64,3 +65,18 @@ reply_text Echo = codes "< echo >"
 reply_text (Stats s i) = stats_text s i
 reply_text (Closing c) = codes "< closed " ++ decimal c.unread ++ codes " " ++ decimal c.dropped ++ codes " >"
 reply_text (Refused why) = codes "< error " ++ cause_text why ++ codes " >"
+
+-- the eight counts that are told; an interface's error counters are not
+abbrev pub told_counts : SocketStats → IfaceStats → List ℕ
+told_counts s i = s.queued ∷ s.dropped ∷ s.taken ∷ i.sent ∷ i.done ∷ i.waiting ∷ i.lost ∷ i.refused ∷ []
+
+-- counts of 64 bits
+abbrev pub IsAnswer : Answer → Type 0
+IsAnswer (Stats s i) = All (λ n. n < 2 ^ 64) (told_counts s i)
+IsAnswer (Closing c) = All (λ n. n < 2 ^ 64) (c.unread ∷ c.dropped ∷ [])
+IsAnswer _ = Unit {0}
+
+-- answers that are one but for what is not told
+abbrev pub AreAlike : Answer → Answer → Type 0
+AreAlike (Stats s i) (Stats t j) = told_counts s i ≡ told_counts t j
+AreAlike one other = one ≡ other

@@ -9,7 +9,8 @@ ghost use Rattle.can_proto.specs.Commands.{reading};
 ghost use Rattle.can_proto.specs.CommandSpelling.{command_spelling, verb_of, IsCommand};
 ghost use Rattle.can_proto.specs.declared.commands.Mode.{Mode as AMode};
 ghost use Rattle.can_proto.specs.declared.commands.Command.{Command as ACommand};
-ghost use Rattle.can_proto.specs.Spelling.{item_text, without_data};
+ghost use Rattle.can_proto.specs.Spelling.{item_text, reply_text, without_data, IsAnswer, AreAlike};
+ghost use Rattle.can_proto.specs.declared.answers.Answer.{Answer as AnAnswer};
 
 use crate::answers::Cause;
 use crate::messages::Incoming;
@@ -45,4 +46,10 @@ pub fn written_commands_are_read()
     ensures { (mode : AMode) (c : ACommand) →
         IsCommand c → IsTrue (stands_in (verb_of c) mode) →
         reading mode (words_of (command_spelling c)) ≡ Ok c }
+{}
+
+/// No text belongs to two answers, but that those to `stats` leave the error counters out.
+pub fn answers_tell_apart()
+    ensures { (one other : AnAnswer) →
+        IsAnswer one → IsAnswer other → reply_text one ≡ reply_text other → AreAlike one other }
 {}
