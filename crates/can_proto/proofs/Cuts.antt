@@ -48,3 +48,21 @@ cut mark sep xs ys rest last is cx cy e = (
   sym (up_to-cut mark sep xs rest is cx) ∙ ap (up_to mark) e ∙ up_to-cut mark sep ys last is cy,
   sym (past-cut mark sep xs rest is cx) ∙ ap (past mark) e ∙ past-cut mark sep ys last is cy,
 )
+
+-- a text with a mark in it
+
+stays : (x y : Bool) → y ≡ false → (if x then false else y) ≡ false
+stays true y h = refl
+stays false y h = h
+
+passes : (x y z : Bool) → (y ≡ false → z ≡ false) → (if x then false else y) ≡ false → (if x then false else z) ≡ false
+passes true y z h k = refl
+passes false y z h k = h k
+
+pub marked-left : (mark : ℕ → Bool) (xs ys : List ℕ) → clear mark xs ≡ false → clear mark (xs ++ ys) ≡ false
+marked-left mark [] ys h = absurd cc
+marked-left mark (b ∷ bs) ys h = passes (mark b) (clear mark bs) (clear mark (bs ++ ys)) (λ k. marked-left mark bs ys k) h
+
+pub marked-right : (mark : ℕ → Bool) (xs ys : List ℕ) → clear mark ys ≡ false → clear mark (xs ++ ys) ≡ false
+marked-right mark [] ys h = h
+marked-right mark (b ∷ bs) ys h = stays (mark b) (clear mark (bs ++ ys)) (marked-right mark bs ys h)

@@ -26,9 +26,9 @@ clear-pairs mark h (b ∷ bs) = clear-append mark (digits 16 2 b) (pairs bs) (cl
 pub clear-decimal : (mark : ℕ → Bool) → IsMark mark → (n : ℕ) → n < 2 ^ 64 → clear mark (decimal n) ≡ true
 clear-decimal mark h n small =
     decimal_by_steps (λ n ds. clear mark ds ≡ true)
-      (λ n lt. clear-one mark (48 + n) (h (48 + n) (omega arith)))
-      (λ n ds le before. clear-append mark ds ((48 + n % 10) ∷ []) before (clear-one mark (48 + n % 10) (h (48 + n % 10) (omega arith))))
-      n small
+    (λ n lt. clear-one mark (48 + n) (h (48 + n) (omega arith)))
+    (λ n ds le before. clear-append mark ds ((48 + n % 10) ∷ []) before (clear-one mark (48 + n % 10) (h (48 + n % 10) (omega arith))))
+    n small
 
 -- what is left of a number without its last digits
 abbrev pub left : ℕ → ℕ → ℕ → ℕ
@@ -69,9 +69,9 @@ same-digits base count m n pos h hm hn e =
 pub value-decimal : (n : ℕ) → n < 2 ^ 64 → number_after 10 (Some 0) (decimal n) ≡ Some n
 value-decimal n small =
     decimal_by_steps (λ n ds. number_after 10 (Some 0) ds ≡ Some n)
-      (λ n lt. one-digit n lt)
-      (λ n ds le before. next-digit n ds before)
-      n small
+    (λ n lt. one-digit n lt)
+    (λ n ds le before. next-digit n ds before)
+    n small
   where
     glyph : (v : ℕ) → v < 10 → digit_in 10 (48 + v) ≡ Some v
     glyph v lt = grind arith

@@ -1,9 +1,9 @@
-use Rattle.std.proofs.Common.{◌≡◌, ℕ, zero, suc, ◌+◌, ◌*◌, ◌-◌, ◌/◌, ◌%◌, ◌^◌, ◌<◌, ◌≤◌, ◌==◌, ◌&&◌, nat_lt, nat_le, Bool, true, false, IsTrue, if◌then◌else◌, List, [], ◌∷◌, ◌++◌, Option, Some, None, Result, Ok, Err, map, length, slice_index, bit_and, refl, sym, ap, ◌∙◌, arith, codes}
+use Rattle.std.proofs.Common.{◌≡◌, ℕ, suc, ◌+◌, ◌*◌, ◌-◌, ◌^◌, ◌<◌, ◌≤◌, ◌==◌, nat_lt, nat_le, Bool, true, false, IsTrue, if◌then◌else◌, List, [], ◌∷◌, ◌++◌, Option, Some, Result, Ok, map, length, slice_index, bit_and, refl, ap, ◌∙◌, arith, append_assoc}
 use Rattle.std.specs.Fmt.{decimal}
 use Rattle.std.specs.List.{All, flat_map, join_with_byte}
 use Rattle.std.proofs.lemmas.Fmt.{decimal_digit, decimal_nonempty, length-decimal-le}
 use Rattle.std.proofs.lemmas.List.{length-map}
-use Rattle.can_frame.specs.Frames.{Identifier, IsIdentifier, Payload, CanFrame}
+use Rattle.can_frame.specs.Frames.{Identifier, IsIdentifier, Payload}
 use Rattle.can_frame.specs.Frames.Payload.{Data, Remote}
 use Rattle.can_frame.specs.FrameText.{digits, id_text, IsPayload}
 use Rattle.can_filter.specs.Filters.{CanFilter}
@@ -13,14 +13,14 @@ use Rattle.can_proto.specs.declared.commands.Mode.{Mode}
 use Rattle.can_proto.specs.declared.commands.Command.{Command}
 use Rattle.can_proto.specs.declared.commands.Command.TheVariants.{Echo, Open, Rawmode, Send, SetFilters, SetOption, ErrData, Stats, Restart, Close}
 use Rattle.can_proto.specs.declared.faults.ProtoFault.{ProtoFault}
-use Rattle.can_proto.specs.declared.faults.ProtoFault.TheVariants.{BadByte, BadNumber}
+use Rattle.can_proto.specs.declared.faults.ProtoFault.TheVariants.{BadByte}
 use Rattle.can_proto.specs.declared.verbs.Verb.{Verb}
 use Rattle.can_proto.specs.declared.verbs.Verb.TheVariants as verb
 use Rattle.can_proto.specs.Words.{is_blank, front, words_after, words_of}
 use Rattle.can_proto.specs.Verbs.{stands_in}
 use Rattle.can_proto.specs.Numbers.{number_after, number_in}
-use Rattle.can_proto.specs.Commands.{◌>>=◌, or_fault, short_id, long_id, id_of, length_of, bytes_of, send_of, remote_of, masked, filter_of, filters_of, set_of, mask_of, switch_of, open_of, arguments_of, command_of, reading}
-use Rattle.can_proto.specs.CommandSpelling.{flag_text, frame_words, filter_words, option_words, command_words, command_spelling, verb_of, verb_of_payload, verb_of_option, IsWord, IsFilter, IsOption, IsCommand}
+use Rattle.can_proto.specs.Commands.{◌>>=◌, or_fault, short_id, long_id, id_of, length_of, bytes_of, send_of, remote_of, filter_of, filters_of, set_of, mask_of, switch_of, open_of, arguments_of, command_of, reading}
+use Rattle.can_proto.specs.CommandSpelling.{flag_text, frame_words, filter_words, option_words, command_words, command_spelling, verb_of, verb_of_payload, verb_of_option, IsFilter, IsOption, IsCommand}
 use Rattle.can_proto.proofs.Cuts.{clear, clear_parts}
 use Rattle.can_proto.proofs.Numerals.{IsMark, clear-digits, clear-decimal, left, value-digits, value-decimal}
 
@@ -60,6 +60,14 @@ words-again : (ws : List (List ℕ)) → AreWords ws → words_of (join_with_byt
 words-again [] h = refl
 words-again (w ∷ []) h = last-word w h.0 h.1
 words-again (w ∷ v ∷ ws) h = next-word w (join_with_byte 32 (v ∷ ws)) h.0 h.1 ∙ ap (λ (rest : List (List ℕ)). w ∷ rest) (words-again (v ∷ ws) h.2)
+
+spaced-again : (ws : List (List ℕ)) → AreWords ws → words_of (join_with_byte 32 ws ++ 32 ∷ []) ≡ ws
+spaced-again [] h = refl
+spaced-again (w ∷ []) h = next-word w [] h.0 h.1
+spaced-again (w ∷ v ∷ ws) h =
+    ap words_of (append_assoc w (32 ∷ join_with_byte 32 (v ∷ ws)) (32 ∷ []))
+    ∙ next-word w (join_with_byte 32 (v ∷ ws) ++ 32 ∷ []) h.0 h.1
+    ∙ ap (λ (rest : List (List ℕ)). w ∷ rest) (spaced-again (v ∷ ws) h.2)
 
 -- the words of a command are words
 
@@ -243,3 +251,6 @@ command-again mode Close h may = said mode verb.Close [] Close may refl
 
 pub read-back : (mode : Mode) (c : Command) → IsCommand c → IsTrue (stands_in (verb_of c) mode) → reading mode (words_of (command_spelling c)) ≡ Ok c
 read-back mode c h may = ap (reading mode) (words-again (command_words c) (words-command c h)) ∙ command-again mode c h may
+
+pub read-spaced : (mode : Mode) (c : Command) → IsCommand c → IsTrue (stands_in (verb_of c) mode) → reading mode (words_of (32 ∷ command_spelling c ++ 32 ∷ [])) ≡ Ok c
+read-spaced mode c h may = ap (reading mode) (spaced-again (command_words c) (words-command c h)) ∙ command-again mode c h may

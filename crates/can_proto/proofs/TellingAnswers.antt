@@ -1,18 +1,25 @@
-use Rattle.std.proofs.Common.{◌≡◌, ℕ, zero, suc, ◌+◌, ◌^◌, ◌<◌, List, [], ◌∷◌, ◌++◌, length, get_or, drop, refl, sym, ap, ◌∙◌, arith, append_assoc, codes}
+use Rattle.std.proofs.Common.{◌≡◌, ℕ, suc, ◌/◌, ◌%◌, ◌^◌, ◌<◌, Bool, true, false, List, [], ◌∷◌, ◌++◌, length, get_or, drop, refl, sym, ap, ◌∙◌, arith, append_assoc, codes}
 use Rattle.std.specs.Fmt.{decimal}
 use Rattle.std.specs.List.{All}
 use Rattle.std.proofs.lemmas.Fmt.{decimal_injective}
 use Rattle.std.proofs.lemmas.List.{append_cancel_right}
+use Rattle.can_frame.specs.Frames.{Identifier, Payload}
+use Rattle.can_frame.specs.Frames.Payload.{Data, Remote}
+use Rattle.can_frame.specs.FrameText.{digits, pairs, id_text}
+use Rattle.can_frame.specs.declared.items.Item.{Item}
+use Rattle.can_frame.specs.declared.items.Item.TheVariants as item
 use Rattle.can_bus.specs.declared.stats.SocketStats.{SocketStats}
 use Rattle.can_bus.specs.declared.stats.IfaceStats.{IfaceStats}
 use Rattle.can_proto.specs.declared.answers.Answer.{Answer}
 use Rattle.can_proto.specs.declared.answers.Answer.TheVariants.{Greeting, Done, Echo, Stats, Closing, Refused}
+use Rattle.can_proto.specs.declared.answers.Cause.{Cause}
+use Rattle.can_proto.specs.declared.answers.Cause.TheVariants as cause
 use Rattle.can_proto.specs.Causes.{cause_text}
-use Rattle.can_proto.specs.Spelling.{stats_text, reply_text, told_counts, IsAnswer, AreAlike}
-use Rattle.can_proto.proofs.Cuts.{cut}
+use Rattle.can_proto.specs.Spelling.{moment_text, class_text, item_text, stats_text, reply_text, told_counts, IsAnswer, AreAlike}
+use Rattle.can_proto.proofs.Cuts.{clear, clear-append, marked-left, marked-right, cut}
 use Rattle.can_proto.proofs.Numerals.{clear-decimal}
 use Rattle.can_proto.proofs.Telling.{one-cause}
-use Rattle.can_proto.proofs.TellingItems.{is_space, no-space}
+use Rattle.can_proto.proofs.TellingItems.{is_space, is_point, no-space, no-point}
 
 -- The text of an answer tells it.
 
@@ -87,3 +94,53 @@ one-answer (Closing c) (Closing d) ha hb e =
     ap (λ (l : List ℕ). Closing (record { unread = get_or l 0 0; dropped = get_or l 1 0 })) h
 one-answer (Refused a) (Refused b) ha hb e = ap Refused (one-cause a b (append_cancel_right (cause_text a) (cause_text b) (codes " >") (ap (drop 8) e)))
 one-answer a b ha hb e = let k = same-mark a b e in absurd (omega (arith, k))
+
+-- a moment has a point, and no answer has one
+
+clear-row : (ns : List ℕ) → AreSmall ns → clear is_point (row ns) ≡ true
+clear-row [] h = refl
+clear-row (n ∷ ns) h = clear-append is_point (decimal n) (32 ∷ row ns) (clear-decimal is_point no-point n (h 0 n (omega arith))) (clear-row ns (λ k d lt. h (suc k) d (omega arith)))
+
+clear-behind : (n : ℕ) (ns : List ℕ) → AreSmall (n ∷ ns) → clear is_point (behind (decimal n) ns ++ codes " >") ≡ true
+clear-behind n ns h = ap (clear is_point) (row-behind (decimal n) ns) ∙ clear-row (n ∷ ns) h
+
+clear-cause : (c : Cause) → clear is_point (cause_text c ++ codes " >") ≡ true
+clear-cause cause.NoMemory = refl
+clear-cause c = refl
+
+clear-answer : (a : Answer) → IsAnswer a → clear is_point (reply_text a) ≡ true
+clear-answer Greeting h = refl
+clear-answer Done h = refl
+clear-answer Echo h = refl
+clear-answer (Stats s i) h = clear-behind s.queued (s.dropped ∷ s.taken ∷ i.sent ∷ i.done ∷ i.waiting ∷ i.lost ∷ i.refused ∷ []) h
+clear-answer (Closing c) h = clear-behind c.unread (c.dropped ∷ []) h
+clear-answer (Refused why) h = clear-cause why
+
+-- a text in which a moment stands behind a word
+pointed : (front : List ℕ) (m : ℕ) (rest : List ℕ) → clear is_point ((front ++ moment_text m) ++ rest) ≡ false
+pointed front m rest =
+    marked-left is_point (front ++ moment_text m) rest
+    (marked-right is_point front (moment_text m)
+    (marked-right is_point (decimal (m / 1000000)) (46 ∷ digits 10 6 (m % 1000000)) refl))
+
+-- the same with two words more
+pointed-more : (front : List ℕ) (m : ℕ) (one two three : List ℕ) → clear is_point ((((front ++ moment_text m) ++ one) ++ two) ++ three) ≡ false
+pointed-more front m one two three =
+    marked-left is_point (((front ++ moment_text m) ++ one) ++ two) three
+    (marked-left is_point ((front ++ moment_text m) ++ one) two (pointed front m one))
+
+pointed-frame : (errdata : Bool) (id : Identifier) (p : Payload) (m : ℕ) → clear is_point (item_text errdata (item.Data (record { id = id; payload = p })) m) ≡ false
+pointed-frame errdata id (Data bytes) m = pointed-more (id_text id ++ 32 ∷ []) m (32 ∷ []) (pairs bytes) (codes " >")
+pointed-frame errdata id (Remote len) m = pointed-more (id_text id ++ 32 ∷ []) m (32 ∷ []) (decimal len) (codes " >")
+
+pointed-item : (errdata : Bool) (i : Item) (m : ℕ) → clear is_point (item_text errdata i m) ≡ false
+pointed-item errdata (item.Data f) m = pointed-frame errdata f.id f.payload m
+pointed-item true (item.Error e) m = pointed-more (class_text e.class ++ 32 ∷ []) m (32 ∷ []) (pairs e.bytes) (codes " >")
+pointed-item false (item.Error e) m = pointed (class_text e.class ++ 32 ∷ []) m (codes " >")
+
+pub no-item : (answer : Answer) (errdata : Bool) (i : Item) (m : ℕ) → IsAnswer answer → reply_text answer ≡ item_text errdata i m → ⊥
+no-item answer errdata i m h e =
+    let one = clear-answer answer h in
+    let other = pointed-item errdata i m in
+    let both = ap (clear is_point) e in
+    cc

@@ -1,14 +1,14 @@
-use Rattle.std.proofs.Common.{◌≡◌, ℕ, zero, suc, ◌+◌, ◌*◌, ◌/◌, ◌%◌, ◌^◌, ◌<◌, ◌≤◌, ◌==◌, eqb, ltb, nat_lt, Bool, true, false, if◌then◌else◌, List, [], ◌∷◌, ◌++◌, Some, length, get_or, drop, slice_index, refl, sym, ap, ◌∙◌, arith, append_assoc, codes}
+use Rattle.std.proofs.Common.{◌≡◌, ℕ, suc, ◌/◌, ◌%◌, ◌^◌, ◌<◌, ◌==◌, nat_lt, Bool, true, false, if◌then◌else◌, List, [], ◌∷◌, ◌++◌, Some, length, get_or, drop, slice_index, refl, sym, ap, ◌∙◌, arith, append_assoc, codes}
 use Rattle.std.specs.Fmt.{decimal}
 use Rattle.std.proofs.lemmas.Fmt.{decimal_injective}
-use Rattle.can_frame.specs.Frames.{Identifier, IsIdentifier, Payload, CanFrame, ErrorMessage, is_remote, payload_len, payload_bytes}
+use Rattle.can_frame.specs.Frames.{Identifier, IsIdentifier, Payload, CanFrame, ErrorMessage}
 use Rattle.can_frame.specs.Frames.Payload.{Data, Remote}
 use Rattle.can_frame.specs.declared.items.Item.{Item}
 use Rattle.can_frame.specs.declared.items.Item.TheVariants as item
 use Rattle.can_frame.specs.FrameText.{digits, pairs, id_text, IsPayload, IsItem}
 use Rattle.can_proto.specs.Spelling.{moment_text, class_width, class_text, item_text, without_data}
 use Rattle.can_proto.specs.Numbers.{number_after}
-use Rattle.can_proto.proofs.Cuts.{clear, clear-append, clear-one, cut}
+use Rattle.can_proto.proofs.Cuts.{clear, clear-append, cut}
 use Rattle.can_proto.proofs.Numerals.{IsMark, clear-digits, clear-pairs, clear-decimal, left, value-digits, same-digits}
 
 -- What a client is told of items tells them apart.
@@ -16,13 +16,13 @@ use Rattle.can_proto.proofs.Numerals.{IsMark, clear-digits, clear-pairs, clear-d
 abbrev pub is_space : ℕ → Bool
 is_space b = b == 32
 
-abbrev is_point : ℕ → Bool
+abbrev pub is_point : ℕ → Bool
 is_point b = b == 46
 
 pub no-space : IsMark is_space
 no-space d h = grind arith
 
-no-point : IsMark is_point
+pub no-point : IsMark is_point
 no-point d h = grind arith
 
 -- moments

@@ -1,4 +1,4 @@
-ghost use Rattle.std.specs.Prelude.{◌≡◌, ◌≤◌, ◌<◌, ◌^◌, ◌++◌, ◌∷◌, [], List, ℕ, Ok, IsTrue, true, false, length, flat_map, codes};
+ghost use Rattle.std.specs.Prelude.{◌≡◌, ◌≤◌, ◌<◌, ◌^◌, ◌++◌, ◌∷◌, [], List, ℕ, Bool, Ok, IsTrue, true, false, length, flat_map, codes};
 ghost use Rattle.can_frame.specs.FrameText.{IsItem};
 ghost use Rattle.can_frame.specs.declared.items.Item.{Item as AnItem};
 ghost use Rattle.can_proto.specs.Messages.{messages_of, given_from, has_mark};
@@ -41,15 +41,22 @@ pub fn texts_tell_items_apart()
         item_text false i m ≡ item_text false j n → (without_data i ≡ without_data j) × (m ≡ n) }
 {}
 
-/// What is written of a command is read back, in each mode that has the command.
+/// What is written of a command is read back, in each mode that has the command, also with a space on
+/// either side, as messages are written.
 pub fn written_commands_are_read()
-    ensures { (mode : AMode) (c : ACommand) →
+    ensures alone { (mode : AMode) (c : ACommand) →
         IsCommand c → IsTrue (stands_in (verb_of c) mode) →
         reading mode (words_of (command_spelling c)) ≡ Ok c }
+    ensures spaced { (mode : AMode) (c : ACommand) →
+        IsCommand c → IsTrue (stands_in (verb_of c) mode) →
+        reading mode (words_of (codes " " ++ command_spelling c ++ codes " ")) ≡ Ok c }
 {}
 
-/// No text belongs to two answers, but that those to `stats` leave the error counters out.
+/// No text belongs to two answers, but that those to `stats` leave the error counters out; and none to an
+/// answer and an item.
 pub fn answers_tell_apart()
-    ensures { (one other : AnAnswer) →
+    ensures one_answer { (one other : AnAnswer) →
         IsAnswer one → IsAnswer other → reply_text one ≡ reply_text other → AreAlike one other }
+    ensures no_item { (answer : AnAnswer) (errdata : Bool) (i : AnItem) (m : ℕ) →
+        IsAnswer answer → reply_text answer ≡ item_text errdata i m → ⊥ }
 {}
