@@ -1,6 +1,8 @@
 ghost use Rattle.std.specs.Prelude.{◌≡◌, ◌≤◌, ◌<◌, ◌+◌, ◌*◌, ◌++◌, ◌∷◌, [], length};
+ghost use Rattle.std.specs.Fmt.{decimal};
 ghost use Rattle.can_frame.specs.FrameText.{digits, digit_of, pairs, upper};
 
+use itoa::Buffer;
 use std::marker::Model;
 
 /// A text of at most `N` bytes, kept in place.
@@ -72,6 +74,16 @@ impl<const N: usize> Text<N> {
             self.push_digits(base, count - 1, number / base);
             self.push(digit(number % base));
         }
+    }
+
+    /// A number in decimal, without leading zeros.
+    pub fn push_count(&mut self, number: u64)
+        requires room { length self.old + 20 ≤ N }
+        ensures text { self.new ≡ self.old ++ decimal number }
+        ensures len { length self.new ≤ length self.old + 20 }
+    {
+        let mut buffer = Buffer::new();
+        self.push_all(buffer.format(number).as_bytes());
     }
 
     /// Bytes as pairs of hexadecimal digits, upper case.

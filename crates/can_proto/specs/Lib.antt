@@ -4,5 +4,6 @@ pub mod Words
 pub mod Numbers
 pub mod Verbs
 pub mod Commands
+pub mod CommandSpelling
 pub mod Causes
 pub mod Spelling

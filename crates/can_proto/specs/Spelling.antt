@@ -1,6 +1,8 @@
-use Rattle.std.specs.Prelude.{ℕ, zero, suc, ◌+◌, ◌/◌, ◌%◌, ◌^◌, nat_lt, Bool, true, false, if◌then◌else◌, List, [], ◌∷◌, ◌++◌, codes}
+use Rattle.std.specs.Prelude.{◌≡◌, ◌<◌, ℕ, ◌/◌, ◌%◌, ◌^◌, nat_lt, Bool, true, false, if◌then◌else◌, List, [], ◌∷◌, ◌++◌, codes}
 use Rattle.std.specs.Fmt.{decimal}
-use Rattle.can_frame.specs.Frames.{Identifier, CanFrame, ErrorMessage, is_remote, payload_len, payload_bytes}
+use Rattle.std.specs.List.{All}
+use Rattle.can_frame.specs.Frames.{CanFrame, ErrorMessage, is_remote, payload_len, payload_bytes}
+use Rattle.can_frame.specs.FrameText.{digits, pairs, id_text}
 use Rattle.can_frame.specs.declared.items.Item.{Item}
 use Rattle.can_frame.specs.declared.items.Item.TheVariants as item
 use Rattle.can_bus.specs.declared.stats.SocketStats.{SocketStats}
@@ -11,27 +13,9 @@ use Rattle.can_proto.specs.Causes.{cause_text}
 
 -- How answers and received items are written to a client (socketcand's raw mode; the exact texts are own choice).
 
--- a digit, upper case
-abbrev pub digit_of : ℕ → ℕ
-digit_of v = if nat_lt v 10 then 48 + v else 55 + v
-
--- the last `count` digits of a number in a base
-abbrev pub digits : ℕ → ℕ → ℕ → List ℕ
-digits base zero n = []
-digits base (suc count) n = digits base count (n / base) ++ digit_of (n % base) ∷ []
-
 -- a moment: seconds, a point and six digits of microseconds
 abbrev pub moment_text : ℕ → List ℕ
 moment_text micros = decimal (micros / 1000000) ++ 46 ∷ digits 10 6 (micros % 1000000)
-
--- bytes as joined pairs of hexadecimal digits
-abbrev pub pairs : List ℕ → List ℕ
-pairs [] = []
-pairs (b ∷ bs) = digits 16 2 b ++ pairs bs
-
--- an identifier: 3 hexadecimal digits, or 8 where it has 29 bits
-abbrev pub id_text : Identifier → List ℕ
-id_text id = digits 16 (if id.extended then 8 else 3) id.number
 
 -- how many hexadecimal digits an error class takes, at least 3
 abbrev pub class_width : ℕ → ℕ
@@ -64,6 +48,11 @@ abbrev pub item_text : Bool → Item → ℕ → List ℕ
 item_text errdata (item.Data frame) micros = if is_remote frame.payload then remote_text frame micros else data_text frame micros
 item_text errdata (item.Error e) micros = error_text errdata e micros
 
+-- what is told of an item where the data of error message frames are not asked for: of these the class alone
+abbrev pub without_data : Item → Item
+without_data (item.Data frame) = item.Data frame
+without_data (item.Error e) = item.Error (record { class = e.class; bytes = [] })
+
 -- what became of the items offered to the socket, and of the frames of its interface
 abbrev pub stats_text : SocketStats → IfaceStats → List ℕ
 stats_text s i = codes "< stats " ++ decimal s.queued ++ codes " " ++ decimal s.dropped ++ codes " " ++ decimal s.taken ++ codes " " ++ decimal i.sent ++ codes " " ++ decimal i.done ++ codes " " ++ decimal i.waiting ++ codes " " ++ decimal i.lost ++ codes " " ++ decimal i.refused ++ codes " >"
@@ -76,3 +65,18 @@ reply_text Echo = codes "< echo >"
 reply_text (Stats s i) = stats_text s i
 reply_text (Closing c) = codes "< closed " ++ decimal c.unread ++ codes " " ++ decimal c.dropped ++ codes " >"
 reply_text (Refused why) = codes "< error " ++ cause_text why ++ codes " >"
+
+-- the eight counts that are told; an interface's error counters are not
+abbrev pub told_counts : SocketStats → IfaceStats → List ℕ
+told_counts s i = s.queued ∷ s.dropped ∷ s.taken ∷ i.sent ∷ i.done ∷ i.waiting ∷ i.lost ∷ i.refused ∷ []
+
+-- counts of 64 bits
+abbrev pub IsAnswer : Answer → Type 0
+IsAnswer (Stats s i) = All (λ n. n < 2 ^ 64) (told_counts s i)
+IsAnswer (Closing c) = All (λ n. n < 2 ^ 64) (c.unread ∷ c.dropped ∷ [])
+IsAnswer _ = Unit {0}
+
+-- answers that are one but for what is not told
+abbrev pub AreAlike : Answer → Answer → Type 0
+AreAlike (Stats s i) (Stats t j) = told_counts s i ≡ told_counts t j
+AreAlike one other = one ≡ other

@@ -1,6 +1,16 @@
-ghost use Rattle.std.specs.Prelude.{◌≡◌, ◌≤◌, ◌++◌, ◌∷◌, [], List, ℕ, false, length, flat_map, codes};
+ghost use Rattle.std.specs.Prelude.{◌≡◌, ◌≤◌, ◌<◌, ◌^◌, ◌++◌, ◌∷◌, [], List, ℕ, Bool, Ok, IsTrue, true, false, length, flat_map, codes};
+ghost use Rattle.can_frame.specs.FrameText.{IsItem};
+ghost use Rattle.can_frame.specs.declared.items.Item.{Item as AnItem};
 ghost use Rattle.can_proto.specs.Messages.{messages_of, given_from, has_mark};
 ghost use Rattle.can_proto.specs.Causes.{cause_text};
+ghost use Rattle.can_proto.specs.Words.{words_of};
+ghost use Rattle.can_proto.specs.Verbs.{stands_in};
+ghost use Rattle.can_proto.specs.Commands.{reading};
+ghost use Rattle.can_proto.specs.CommandSpelling.{command_spelling, verb_of, IsCommand};
+ghost use Rattle.can_proto.specs.declared.commands.Mode.{Mode as AMode};
+ghost use Rattle.can_proto.specs.declared.commands.Command.{Command as ACommand};
+ghost use Rattle.can_proto.specs.Spelling.{item_text, reply_text, without_data, IsAnswer, AreAlike};
+ghost use Rattle.can_proto.specs.declared.answers.Answer.{Answer as AnAnswer};
 
 use crate::answers::Cause;
 use crate::messages::Incoming;
@@ -18,4 +28,35 @@ pub fn bytes_between_marks_are_a_message()
 /// No two causes are told by the same words.
 pub fn words_tell_one_cause()
     ensures { (one other : Cause) → cause_text one ≡ cause_text other → one ≡ other }
+{}
+
+/// What a client is told of items tells them apart, and their moments. Where the data of error message
+/// frames are not asked for they are left out, and their classes and moments alone are told apart.
+pub fn texts_tell_items_apart()
+    ensures whole { (i j : AnItem) (m n : ℕ) →
+        IsItem i → IsItem j → m < 10 ^ 16 → n < 10 ^ 16 →
+        item_text true i m ≡ item_text true j n → (i ≡ j) × (m ≡ n) }
+    ensures without_data { (i j : AnItem) (m n : ℕ) →
+        IsItem i → IsItem j → m < 10 ^ 16 → n < 10 ^ 16 →
+        item_text false i m ≡ item_text false j n → (without_data i ≡ without_data j) × (m ≡ n) }
+{}
+
+/// What is written of a command is read back, in each mode that has the command, also with a space on
+/// either side, as messages are written.
+pub fn written_commands_are_read()
+    ensures alone { (mode : AMode) (c : ACommand) →
+        IsCommand c → IsTrue (stands_in (verb_of c) mode) →
+        reading mode (words_of (command_spelling c)) ≡ Ok c }
+    ensures spaced { (mode : AMode) (c : ACommand) →
+        IsCommand c → IsTrue (stands_in (verb_of c) mode) →
+        reading mode (words_of (codes " " ++ command_spelling c ++ codes " ")) ≡ Ok c }
+{}
+
+/// No text belongs to two answers, but that those to `stats` leave the error counters out; and none to an
+/// answer and an item.
+pub fn answers_tell_apart()
+    ensures one_answer { (one other : AnAnswer) →
+        IsAnswer one → IsAnswer other → reply_text one ≡ reply_text other → AreAlike one other }
+    ensures no_item { (answer : AnAnswer) (errdata : Bool) (i : AnItem) (m : ℕ) →
+        IsAnswer answer → reply_text answer ≡ item_text errdata i m → ⊥ }
 {}

@@ -4,6 +4,9 @@
 //! fixed by the bytes alone, however they were cut. `Command::read` says what a message asks for in the
 //! session's mode, or the first fault in it. `reply_text` and `item_text` write what a client is answered and
 //! what it receives, byte for byte as their definitions spell it.
+//!
+//! The laws say that nothing is lost on the way: every cut of a stream gives the same messages, what is written of
+//! a command is read back as that command, and the texts of items and answers tell them apart.
 #![tactic(auto)]
 
 pub mod answers;

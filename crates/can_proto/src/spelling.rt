@@ -1,8 +1,9 @@
 ghost use Rattle.std.specs.Prelude.{◌≡◌, ◌≤◌, ◌<◌, ◌+◌, ◌^◌, ◌++◌, length};
-ghost use Rattle.can_proto.specs.Spelling.{id_text, class_width, class_text, data_text, remote_text, error_text, item_text, stats_text, reply_text};
+ghost use Rattle.can_frame.specs.FrameText.{id_text};
+ghost use Rattle.can_proto.specs.Spelling.{class_width, class_text, data_text, remote_text, error_text, item_text, stats_text, reply_text};
 
 use crate::answers::Answer;
-use crate::texts::Text;
+use crate::texts::{Text, push_moment, push_next};
 use can_bus::{IfaceStats, SocketStats};
 use can_frame::{CanId, ErrorFrame, Frame, Item, Moment};
 
@@ -34,8 +35,8 @@ pub fn reply_text(answer: Answer) -> Text
         Answer::Stats(socket, iface) => stats_text(socket, iface),
         Answer::Closing(closed) => {
             let mut text = fixed_text(b"< closed");
-            text.push_next(closed.unread);
-            text.push_next(closed.dropped);
+            push_next(&mut text, closed.unread);
+            push_next(&mut text, closed.dropped);
             text.push_all(b" >");
             text
         }
@@ -109,7 +110,7 @@ fn data_text(frame: Frame, moment: Moment) -> Text
     text.push_all(b"< frame ");
     push_id(&mut text, frame.id());
     text.push_all(b" ");
-    text.push_moment(moment.micros());
+    push_moment(&mut text, moment.micros());
     text.push_all(b" ");
     text.push_pairs(frame.bytes());
     text.push_all(b" >");
@@ -124,7 +125,7 @@ fn remote_text(frame: Frame, moment: Moment) -> Text
     text.push_all(b"< remote ");
     push_id(&mut text, frame.id());
     text.push_all(b" ");
-    text.push_moment(moment.micros());
+    push_moment(&mut text, moment.micros());
     text.push_all(b" ");
     text.push_count(u64::from(frame.len()));
     text.push_all(b" >");
@@ -139,7 +140,7 @@ fn error_text(error: ErrorFrame, moment: Moment, errdata: bool) -> Text
     text.push_all(b"< error ");
     push_class(&mut text, error.class());
     text.push_all(b" ");
-    text.push_moment(moment.micros());
+    push_moment(&mut text, moment.micros());
     if errdata {
         text.push_all(b" ");
         text.push_pairs(&error.data());
@@ -154,14 +155,14 @@ fn stats_text(socket: SocketStats, iface: IfaceStats) -> Text
 {
     let mut text = Text::new();
     text.push_all(b"< stats");
-    text.push_next(socket.queued);
-    text.push_next(socket.dropped);
-    text.push_next(socket.taken);
-    text.push_next(iface.sent);
-    text.push_next(iface.done);
-    text.push_next(iface.waiting);
-    text.push_next(iface.lost);
-    text.push_next(iface.refused);
+    push_next(&mut text, socket.queued);
+    push_next(&mut text, socket.dropped);
+    push_next(&mut text, socket.taken);
+    push_next(&mut text, iface.sent);
+    push_next(&mut text, iface.done);
+    push_next(&mut text, iface.waiting);
+    push_next(&mut text, iface.lost);
+    push_next(&mut text, iface.refused);
     text.push_all(b" >");
     text
 }

@@ -1,0 +1,146 @@
+use Rattle.std.proofs.Common.{◌≡◌, ℕ, suc, ◌/◌, ◌%◌, ◌^◌, ◌<◌, Bool, true, false, List, [], ◌∷◌, ◌++◌, length, get_or, drop, refl, sym, ap, ◌∙◌, arith, append_assoc, codes}
+use Rattle.std.specs.Fmt.{decimal}
+use Rattle.std.specs.List.{All}
+use Rattle.std.proofs.lemmas.Fmt.{decimal_injective}
+use Rattle.std.proofs.lemmas.List.{append_cancel_right}
+use Rattle.can_frame.specs.Frames.{Identifier, Payload}
+use Rattle.can_frame.specs.Frames.Payload.{Data, Remote}
+use Rattle.can_frame.specs.FrameText.{digits, pairs, id_text}
+use Rattle.can_frame.specs.declared.items.Item.{Item}
+use Rattle.can_frame.specs.declared.items.Item.TheVariants as item
+use Rattle.can_bus.specs.declared.stats.SocketStats.{SocketStats}
+use Rattle.can_bus.specs.declared.stats.IfaceStats.{IfaceStats}
+use Rattle.can_proto.specs.declared.answers.Answer.{Answer}
+use Rattle.can_proto.specs.declared.answers.Answer.TheVariants.{Greeting, Done, Echo, Stats, Closing, Refused}
+use Rattle.can_proto.specs.declared.answers.Cause.{Cause}
+use Rattle.can_proto.specs.declared.answers.Cause.TheVariants as cause
+use Rattle.can_proto.specs.Causes.{cause_text}
+use Rattle.can_proto.specs.Spelling.{moment_text, class_text, item_text, stats_text, reply_text, told_counts, IsAnswer, AreAlike}
+use Rattle.can_proto.proofs.Cuts.{clear, clear-append, marked-left, marked-right, cut}
+use Rattle.can_proto.proofs.Numerals.{clear-decimal}
+use Rattle.can_proto.proofs.Telling.{one-cause}
+use Rattle.can_proto.proofs.TellingItems.{is_space, is_point, no-space, no-point}
+
+-- The text of an answer tells it.
+
+-- counts with a space before each, behind a text
+abbrev behind : List ℕ → List ℕ → List ℕ
+behind text [] = text
+behind text (n ∷ ns) = behind ((text ++ 32 ∷ []) ++ decimal n) ns
+
+-- counts with a space behind each, and the mark
+abbrev row : List ℕ → List ℕ
+row [] = 62 ∷ []
+row (n ∷ ns) = decimal n ++ 32 ∷ row ns
+
+row-behind : (text ns : List ℕ) → behind text ns ++ codes " >" ≡ text ++ 32 ∷ row ns
+row-behind text [] = refl
+row-behind text (n ∷ ns) =
+    row-behind ((text ++ 32 ∷ []) ++ decimal n) ns
+    ∙ append_assoc (text ++ 32 ∷ []) (decimal n) (32 ∷ row ns)
+    ∙ append_assoc text (32 ∷ []) (decimal n ++ 32 ∷ row ns)
+
+abbrev AreSmall : List ℕ → Type 0
+AreSmall ns = All (λ n. n < 2 ^ 64) ns
+
+same-row : (xs ys : List ℕ) → AreSmall xs → AreSmall ys → length xs ≡ length ys → row xs ≡ row ys → xs ≡ ys
+same-row [] [] hx hy l e = refl
+same-row [] (y ∷ ys) hx hy l e = absurd (omega (arith, l))
+same-row (x ∷ xs) [] hx hy l e = absurd (omega (arith, l))
+same-row (x ∷ xs) (y ∷ ys) hx hy l e =
+    let fx : x < 2 ^ 64 = hx 0 x (omega arith) in
+    let fy : y < 2 ^ 64 = hy 0 y (omega arith) in
+    let parts = cut is_space 32 (decimal x) (decimal y) (row xs) (row ys) refl (clear-decimal is_space no-space x fx) (clear-decimal is_space no-space y fy) e in
+    let one = decimal_injective x y fx fy parts.0 in
+    let again = same-row xs ys (λ k d lt. hx (suc k) d (omega arith)) (λ k d lt. hy (suc k) d (omega arith)) (omega (arith, l)) parts.1 in
+    ap (λ (n : ℕ). n ∷ xs) one ∙ ap (λ (ns : List ℕ). y ∷ ns) again
+
+same-behind : (x y : ℕ) (xs ys : List ℕ) → AreSmall (x ∷ xs) → AreSmall (y ∷ ys) → length xs ≡ length ys → behind (decimal x) xs ++ codes " >" ≡ behind (decimal y) ys ++ codes " >" → x ∷ xs ≡ y ∷ ys
+same-behind x y xs ys hx hy l e = same-row (x ∷ xs) (y ∷ ys) hx hy (omega (arith, l)) (sym (row-behind (decimal x) xs) ∙ e ∙ row-behind (decimal y) ys)
+
+-- the fourth byte tells what kind of answer it is
+abbrev fourth : List ℕ → ℕ
+fourth text = get_or text 3 0
+
+abbrev mark_of : Answer → ℕ
+mark_of Greeting = 105
+mark_of Done = 107
+mark_of Echo = 99
+mark_of (Stats s i) = 116
+mark_of (Closing c) = 108
+mark_of (Refused why) = 114
+
+marked : (a : Answer) → fourth (reply_text a) ≡ mark_of a
+marked Greeting = refl
+marked Done = refl
+marked Echo = refl
+marked (Stats s i) = refl
+marked (Closing c) = refl
+marked (Refused why) = refl
+
+same-mark : (a b : Answer) → reply_text a ≡ reply_text b → mark_of a ≡ mark_of b
+same-mark a b e = sym (marked a) ∙ ap fourth e ∙ marked b
+
+same-stats : (s t : SocketStats) (i j : IfaceStats) → AreSmall (told_counts s i) → AreSmall (told_counts t j) → stats_text s i ≡ stats_text t j → told_counts s i ≡ told_counts t j
+same-stats s t i j hs ht e = same-behind s.queued t.queued (s.dropped ∷ s.taken ∷ i.sent ∷ i.done ∷ i.waiting ∷ i.lost ∷ i.refused ∷ []) (t.dropped ∷ t.taken ∷ j.sent ∷ j.done ∷ j.waiting ∷ j.lost ∷ j.refused ∷ []) hs ht refl (ap (drop 8) e)
+
+pub one-answer : (one other : Answer) → IsAnswer one → IsAnswer other → reply_text one ≡ reply_text other → AreAlike one other
+one-answer Greeting Greeting ha hb e = refl
+one-answer Done Done ha hb e = refl
+one-answer Echo Echo ha hb e = refl
+one-answer (Stats s i) (Stats t j) ha hb e = same-stats s t i j ha hb e
+one-answer (Closing c) (Closing d) ha hb e =
+    let h = same-behind c.unread d.unread (c.dropped ∷ []) (d.dropped ∷ []) ha hb refl (ap (drop 9) e) in
+    ap (λ (l : List ℕ). Closing (record { unread = get_or l 0 0; dropped = get_or l 1 0 })) h
+one-answer (Refused a) (Refused b) ha hb e = ap Refused (one-cause a b (append_cancel_right (cause_text a) (cause_text b) (codes " >") (ap (drop 8) e)))
+one-answer a b ha hb e = let k = same-mark a b e in absurd (omega (arith, k))
+
+-- a moment has a point, and no answer has one
+
+clear-row : (ns : List ℕ) → AreSmall ns → clear is_point (row ns) ≡ true
+clear-row [] h = refl
+clear-row (n ∷ ns) h = clear-append is_point (decimal n) (32 ∷ row ns) (clear-decimal is_point no-point n (h 0 n (omega arith))) (clear-row ns (λ k d lt. h (suc k) d (omega arith)))
+
+clear-behind : (n : ℕ) (ns : List ℕ) → AreSmall (n ∷ ns) → clear is_point (behind (decimal n) ns ++ codes " >") ≡ true
+clear-behind n ns h = ap (clear is_point) (row-behind (decimal n) ns) ∙ clear-row (n ∷ ns) h
+
+clear-cause : (c : Cause) → clear is_point (cause_text c ++ codes " >") ≡ true
+clear-cause cause.NoMemory = refl
+clear-cause c = refl
+
+clear-answer : (a : Answer) → IsAnswer a → clear is_point (reply_text a) ≡ true
+clear-answer Greeting h = refl
+clear-answer Done h = refl
+clear-answer Echo h = refl
+clear-answer (Stats s i) h = clear-behind s.queued (s.dropped ∷ s.taken ∷ i.sent ∷ i.done ∷ i.waiting ∷ i.lost ∷ i.refused ∷ []) h
+clear-answer (Closing c) h = clear-behind c.unread (c.dropped ∷ []) h
+clear-answer (Refused why) h = clear-cause why
+
+-- a text in which a moment stands behind a word
+pointed : (front : List ℕ) (m : ℕ) (rest : List ℕ) → clear is_point ((front ++ moment_text m) ++ rest) ≡ false
+pointed front m rest =
+    marked-left is_point (front ++ moment_text m) rest
+    (marked-right is_point front (moment_text m)
+    (marked-right is_point (decimal (m / 1000000)) (46 ∷ digits 10 6 (m % 1000000)) refl))
+
+-- the same with two words more
+pointed-more : (front : List ℕ) (m : ℕ) (one two three : List ℕ) → clear is_point ((((front ++ moment_text m) ++ one) ++ two) ++ three) ≡ false
+pointed-more front m one two three =
+    marked-left is_point (((front ++ moment_text m) ++ one) ++ two) three
+    (marked-left is_point ((front ++ moment_text m) ++ one) two (pointed front m one))
+
+pointed-frame : (errdata : Bool) (id : Identifier) (p : Payload) (m : ℕ) → clear is_point (item_text errdata (item.Data (record { id = id; payload = p })) m) ≡ false
+pointed-frame errdata id (Data bytes) m = pointed-more (id_text id ++ 32 ∷ []) m (32 ∷ []) (pairs bytes) (codes " >")
+pointed-frame errdata id (Remote len) m = pointed-more (id_text id ++ 32 ∷ []) m (32 ∷ []) (decimal len) (codes " >")
+
+pointed-item : (errdata : Bool) (i : Item) (m : ℕ) → clear is_point (item_text errdata i m) ≡ false
+pointed-item errdata (item.Data f) m = pointed-frame errdata f.id f.payload m
+pointed-item true (item.Error e) m = pointed-more (class_text e.class ++ 32 ∷ []) m (32 ∷ []) (pairs e.bytes) (codes " >")
+pointed-item false (item.Error e) m = pointed (class_text e.class ++ 32 ∷ []) m (codes " >")
+
+pub no-item : (answer : Answer) (errdata : Bool) (i : Item) (m : ℕ) → IsAnswer answer → reply_text answer ≡ item_text errdata i m → ⊥
+no-item answer errdata i m h e =
+    let one = clear-answer answer h in
+    let other = pointed-item errdata i m in
+    let both = ap (clear is_point) e in
+    cc

@@ -1,0 +1,171 @@
+use Rattle.std.proofs.Common.{◌≡◌, ℕ, suc, ◌/◌, ◌%◌, ◌^◌, ◌<◌, ◌==◌, nat_lt, Bool, true, false, if◌then◌else◌, List, [], ◌∷◌, ◌++◌, Some, length, get_or, drop, slice_index, refl, sym, ap, ◌∙◌, arith, append_assoc, codes}
+use Rattle.std.specs.Fmt.{decimal}
+use Rattle.std.proofs.lemmas.Fmt.{decimal_injective}
+use Rattle.can_frame.specs.Frames.{Identifier, IsIdentifier, Payload, CanFrame, ErrorMessage}
+use Rattle.can_frame.specs.Frames.Payload.{Data, Remote}
+use Rattle.can_frame.specs.declared.items.Item.{Item}
+use Rattle.can_frame.specs.declared.items.Item.TheVariants as item
+use Rattle.can_frame.specs.FrameText.{digits, pairs, id_text, IsPayload, IsItem}
+use Rattle.can_proto.specs.Spelling.{moment_text, class_width, class_text, item_text, without_data}
+use Rattle.can_proto.specs.Numbers.{number_after}
+use Rattle.can_proto.proofs.Cuts.{clear, clear-append, cut}
+use Rattle.can_proto.proofs.Numerals.{IsMark, clear-digits, clear-pairs, clear-decimal, left, value-digits, same-digits}
+
+-- What a client is told of items tells them apart.
+
+abbrev pub is_space : ℕ → Bool
+is_space b = b == 32
+
+abbrev pub is_point : ℕ → Bool
+is_point b = b == 46
+
+pub no-space : IsMark is_space
+no-space d h = grind arith
+
+pub no-point : IsMark is_point
+no-point d h = grind arith
+
+-- moments
+clear-moment : (m : ℕ) → m < 10 ^ 16 → clear is_space (moment_text m) ≡ true
+clear-moment m h = clear-append is_space (decimal (m / 1000000)) (46 ∷ digits 10 6 (m % 1000000)) (clear-decimal is_space no-space (m / 1000000) (omega arith)) (clear-digits is_space no-space 10 6 (m % 1000000))
+
+same-moment : (m n : ℕ) → m < 10 ^ 16 → n < 10 ^ 16 → moment_text m ≡ moment_text n → m ≡ n
+same-moment m n hm hn e =
+    let parts = cut is_point 46 (decimal (m / 1000000)) (decimal (n / 1000000)) (digits 10 6 (m % 1000000)) (digits 10 6 (n % 1000000)) refl (clear-decimal is_point no-point (m / 1000000) (omega arith)) (clear-decimal is_point no-point (n / 1000000) (omega arith)) e in
+    let front = decimal_injective (m / 1000000) (n / 1000000) (omega arith) (omega arith) parts.0 in
+    let back = same-digits 10 6 (m % 1000000) (n % 1000000) (omega arith) (omega arith) (omega arith) (omega arith) parts.1 in
+    omega (arith, front, back)
+
+-- identifiers
+same-id : (a b : Bool) (m n : ℕ) → IsIdentifier (record { extended = a; number = m }) → IsIdentifier (record { extended = b; number = n }) → id_text (record { extended = a; number = m }) ≡ id_text (record { extended = b; number = n }) → (a ≡ b) × (m ≡ n)
+same-id false false m n hm hn e = (refl, same-digits 16 3 m n (omega arith) (omega arith) (omega (arith, hm)) (omega (arith, hn)) e)
+same-id true true m n hm hn e = (refl, same-digits 16 8 m n (omega arith) (omega arith) (omega (arith, hm)) (omega (arith, hn)) e)
+same-id false true m n hm hn e = let l = ap length e in absurd (omega (arith, l))
+same-id true false m n hm hn e = let l = ap length e in absurd (omega (arith, l))
+
+clear-id : (id : Identifier) → clear is_space (id_text id) ≡ true
+clear-id id = clear-digits is_space no-space 16 (if id.extended then 8 else 3) id.number
+
+-- bytes
+abbrev AreBytes : List ℕ → Type 0
+AreBytes xs = (i : ℕ) → slice_index xs i < 256
+
+same-bytes : (xs ys : List ℕ) → AreBytes xs → AreBytes ys → pairs xs ≡ pairs ys → xs ≡ ys
+same-bytes [] [] hx hy e = refl
+same-bytes [] (y ∷ ys) hx hy e = absurd cc
+same-bytes (x ∷ xs) [] hx hy e = absurd cc
+same-bytes (x ∷ xs) (y ∷ ys) hx hy e =
+    let fx : x < 256 = hx 0 in
+    let fy : y < 256 = hy 0 in
+    let rest : pairs xs ≡ pairs ys = cc in
+    let again = same-bytes xs ys (λ k. hx (suc k)) (λ k. hy (suc k)) rest in
+    let two : digits 16 2 x ≡ digits 16 2 y = ap (λ (t : List ℕ). get_or t 0 0 ∷ get_or t 1 0 ∷ []) e in
+    let one = same-digits 16 2 x y (omega arith) (omega arith) (omega arith) (omega arith) two in
+    ap (λ (b : ℕ). b ∷ xs) one ∙ ap (λ (bs : List ℕ). y ∷ bs) again
+
+-- classes
+by_test : (b : Bool) (w v class : ℕ) → (b ≡ true → left 16 w class ≡ 0) → (b ≡ false → left 16 v class ≡ 0) → left 16 (if b then w else v) class ≡ 0
+by_test true w v class h k = h refl
+by_test false w v class h k = k refl
+
+width : (class : ℕ) → class < 2 ^ 29 → left 16 (class_width class) class ≡ 0
+width class h =
+    by_test (nat_lt class (16 ^ 3)) 3 _ class (λ lt. grind arith) (λ _.
+    by_test (nat_lt class (16 ^ 4)) 4 _ class (λ lt. grind arith) (λ _.
+    by_test (nat_lt class (16 ^ 5)) 5 _ class (λ lt. grind arith) (λ _.
+    by_test (nat_lt class (16 ^ 6)) 6 _ class (λ lt. grind arith) (λ _.
+    by_test (nat_lt class (16 ^ 7)) 7 8 class (λ lt. grind arith) (λ _. omega arith)))))
+
+clear-class : (class : ℕ) → clear is_space (class_text class) ≡ true
+clear-class class = clear-digits is_space no-space 16 (class_width class) class
+
+same-class : (a b : ℕ) → a < 2 ^ 29 → b < 2 ^ 29 → class_text a ≡ class_text b → a ≡ b
+same-class a b ha hb e =
+    let one = value-digits 16 (class_width a) a (omega arith) (omega arith) (width a ha) in
+    let other = value-digits 16 (class_width b) b (omega arith) (omega arith) (width b hb) in
+    let same : Some a ≡ Some b = sym one ∙ ap (number_after 16 (Some 0)) e ∙ other in
+    cc
+
+-- texts are joined from the left
+regroup : (b m rest : List ℕ) → ((b ++ 32 ∷ []) ++ m) ++ rest ≡ b ++ 32 ∷ (m ++ rest)
+regroup b m rest = append_assoc (b ++ 32 ∷ []) m rest ∙ append_assoc b (32 ∷ []) (m ++ rest)
+
+regroup-all : (b m p rest : List ℕ) → ((((b ++ 32 ∷ []) ++ m) ++ 32 ∷ []) ++ p) ++ rest ≡ b ++ 32 ∷ (m ++ 32 ∷ (p ++ rest))
+regroup-all b m p rest = regroup ((b ++ 32 ∷ []) ++ m) p rest ∙ regroup b m (32 ∷ (p ++ rest))
+
+between : {A : Type 0} (x y v w : A) → x ≡ v → y ≡ w → x ≡ y → v ≡ w
+between x y v w h k e = cc
+
+-- a word, a moment and the rest
+same-parts : (xs ys rest last : List ℕ) (m n : ℕ) → clear is_space xs ≡ true → clear is_space ys ≡ true → m < 10 ^ 16 → n < 10 ^ 16 → xs ++ 32 ∷ (moment_text m ++ 32 ∷ rest) ≡ ys ++ 32 ∷ (moment_text n ++ 32 ∷ last) → (xs ≡ ys) × (m ≡ n) × (rest ≡ last)
+same-parts xs ys rest last m n cx cy hm hn e =
+    let word = cut is_space 32 xs ys (moment_text m ++ 32 ∷ rest) (moment_text n ++ 32 ∷ last) refl cx cy e in
+    let next = cut is_space 32 (moment_text m) (moment_text n) rest last refl (clear-moment m hm) (clear-moment n hn) word.1 in
+    (word.0, same-moment m n hm hn next.0, next.1)
+
+same-identifier : (a b : Identifier) → IsIdentifier a → IsIdentifier b → id_text a ≡ id_text b → a ≡ b
+same-identifier a b ha hb e =
+    let h = same-id a.extended b.extended a.number b.number ha hb e in
+    ap (λ (x : Bool). record { extended = x; number = a.number }) h.0 ∙ ap (λ (k : ℕ). record { extended = b.extended; number = k }) h.1
+
+-- the third byte tells what kind of text it is
+third : List ℕ → ℕ
+third text = get_or text 2 0
+
+one-frame : (errdata : Bool) (a b : Identifier) (p q : Payload) (m n : ℕ) → IsIdentifier a → IsIdentifier b → IsPayload p → IsPayload q → m < 10 ^ 16 → n < 10 ^ 16 → item_text errdata (item.Data (record { id = a; payload = p })) m ≡ item_text errdata (item.Data (record { id = b; payload = q })) n → (a ≡ b) × (p ≡ q) × (m ≡ n)
+unfolding third
+one-frame errdata a b (Data xs) (Data ys) m n ha hb hp hq hm hn e =
+    let parts = same-parts (id_text a) (id_text b) (pairs xs ++ codes " >") (pairs ys ++ codes " >") m n (clear-id a) (clear-id b) hm hn (between _ _ _ _ (regroup-all (id_text a) (moment_text m) (pairs xs) (codes " >")) (regroup-all (id_text b) (moment_text n) (pairs ys) (codes " >")) (ap (drop 8) e)) in
+    let ends = cut is_space 32 (pairs xs) (pairs ys) (62 ∷ []) (62 ∷ []) refl (clear-pairs is_space no-space xs) (clear-pairs is_space no-space ys) parts.2 in
+    (same-identifier a b ha hb parts.0, ap (λ (bytes : List ℕ). Data bytes) (same-bytes xs ys hp.1 hq.1 ends.0), parts.1)
+one-frame errdata a b (Remote k) (Remote l) m n ha hb hp hq hm hn e =
+    let parts = same-parts (id_text a) (id_text b) (decimal k ++ codes " >") (decimal l ++ codes " >") m n (clear-id a) (clear-id b) hm hn (between _ _ _ _ (regroup-all (id_text a) (moment_text m) (decimal k) (codes " >")) (regroup-all (id_text b) (moment_text n) (decimal l) (codes " >")) (ap (drop 9) e)) in
+    let ends = cut is_space 32 (decimal k) (decimal l) (62 ∷ []) (62 ∷ []) refl (clear-decimal is_space no-space k (omega arith)) (clear-decimal is_space no-space l (omega arith)) parts.2 in
+    (same-identifier a b ha hb parts.0, ap (λ (len : ℕ). Remote len) (decimal_injective k l (omega arith) (omega arith) ends.0), parts.1)
+one-frame errdata a b (Data xs) (Remote l) m n ha hb hp hq hm hn e = let k : 102 ≡ 114 = ap third e in absurd (omega (arith, k))
+one-frame errdata a b (Remote k) (Data ys) m n ha hb hp hq hm hn e = let k : 114 ≡ 102 = ap third e in absurd (omega (arith, k))
+
+-- a frame's text is no error message frame's
+two-kinds : (errdata : Bool) (id : Identifier) (p : Payload) (error : ErrorMessage) (m n : ℕ) → item_text errdata (item.Data (record { id = id; payload = p })) m ≡ item_text errdata (item.Error error) n → ⊥
+unfolding third
+two-kinds true id (Data xs) error m n e = let k : 102 ≡ 101 = ap third e in omega (arith, k)
+two-kinds false id (Data xs) error m n e = let k : 102 ≡ 101 = ap third e in omega (arith, k)
+two-kinds true id (Remote len) error m n e = let k : 114 ≡ 101 = ap third e in omega (arith, k)
+two-kinds false id (Remote len) error m n e = let k : 114 ≡ 101 = ap third e in omega (arith, k)
+
+one-error : (a b : ℕ) (xs ys : List ℕ) (m n : ℕ) → a < 2 ^ 29 → b < 2 ^ 29 → AreBytes xs → AreBytes ys → m < 10 ^ 16 → n < 10 ^ 16 → item_text true (item.Error (record { class = a; bytes = xs })) m ≡ item_text true (item.Error (record { class = b; bytes = ys })) n → (a ≡ b) × (xs ≡ ys) × (m ≡ n)
+one-error a b xs ys m n ha hb hx hy hm hn e =
+    let parts = same-parts (class_text a) (class_text b) (pairs xs ++ codes " >") (pairs ys ++ codes " >") m n (clear-class a) (clear-class b) hm hn (between _ _ _ _ (regroup-all (class_text a) (moment_text m) (pairs xs) (codes " >")) (regroup-all (class_text b) (moment_text n) (pairs ys) (codes " >")) (ap (drop 8) e)) in
+    let ends = cut is_space 32 (pairs xs) (pairs ys) (62 ∷ []) (62 ∷ []) refl (clear-pairs is_space no-space xs) (clear-pairs is_space no-space ys) parts.2 in
+    (same-class a b ha hb parts.0, same-bytes xs ys hx hy ends.0, parts.1)
+
+one-class : (a b : ℕ) (xs ys : List ℕ) (m n : ℕ) → a < 2 ^ 29 → b < 2 ^ 29 → m < 10 ^ 16 → n < 10 ^ 16 → item_text false (item.Error (record { class = a; bytes = xs })) m ≡ item_text false (item.Error (record { class = b; bytes = ys })) n → (a ≡ b) × (m ≡ n)
+one-class a b xs ys m n ha hb hm hn e =
+    let parts = same-parts (class_text a) (class_text b) (62 ∷ []) (62 ∷ []) m n (clear-class a) (clear-class b) hm hn (between _ _ _ _ (regroup (class_text a) (moment_text m) (codes " >")) (regroup (class_text b) (moment_text n) (codes " >")) (ap (drop 8) e)) in
+    (same-class a b ha hb parts.0, parts.1)
+
+whole-frame : (a b : CanFrame) → a.id ≡ b.id → a.payload ≡ b.payload → item.Data a ≡ item.Data b
+whole-frame a b h k = ap (λ (x : Identifier). item.Data (record { id = x; payload = a.payload })) h ∙ ap (λ (p : Payload). item.Data (record { id = b.id; payload = p })) k
+
+whole-error : (a b : ErrorMessage) → a.class ≡ b.class → a.bytes ≡ b.bytes → item.Error a ≡ item.Error b
+whole-error a b h k = ap (λ (x : ℕ). item.Error (record { class = x; bytes = a.bytes })) h ∙ ap (λ (xs : List ℕ). item.Error (record { class = b.class; bytes = xs })) k
+
+pub one-item : (i j : Item) (m n : ℕ) → IsItem i → IsItem j → m < 10 ^ 16 → n < 10 ^ 16 → item_text true i m ≡ item_text true j n → (i ≡ j) × (m ≡ n)
+one-item (item.Data f) (item.Data g) m n hi hj hm hn e =
+    let h = one-frame true f.id g.id f.payload g.payload m n hi.0 hj.0 hi.1 hj.1 hm hn e in
+    (whole-frame f g h.0 h.1, h.2)
+one-item (item.Data f) (item.Error g) m n hi hj hm hn e = absurd (two-kinds true f.id f.payload g m n e)
+one-item (item.Error f) (item.Data g) m n hi hj hm hn e = absurd (two-kinds true g.id g.payload f n m (sym e))
+one-item (item.Error f) (item.Error g) m n hi hj hm hn e =
+    let h = one-error f.class g.class f.bytes g.bytes m n hi.0 hj.0 hi.2 hj.2 hm hn e in
+    (whole-error f g h.0 h.1, h.2)
+
+pub one-item-without : (i j : Item) (m n : ℕ) → IsItem i → IsItem j → m < 10 ^ 16 → n < 10 ^ 16 → item_text false i m ≡ item_text false j n → (without_data i ≡ without_data j) × (m ≡ n)
+one-item-without (item.Data f) (item.Data g) m n hi hj hm hn e =
+    let h = one-frame false f.id g.id f.payload g.payload m n hi.0 hj.0 hi.1 hj.1 hm hn e in
+    (whole-frame f g h.0 h.1, h.2)
+one-item-without (item.Data f) (item.Error g) m n hi hj hm hn e = absurd (two-kinds false f.id f.payload g m n e)
+one-item-without (item.Error f) (item.Data g) m n hi hj hm hn e = absurd (two-kinds false g.id g.payload f n m (sym e))
+one-item-without (item.Error f) (item.Error g) m n hi hj hm hn e =
+    let h = one-class f.class g.class f.bytes g.bytes m n hi.0 hj.0 hm hn e in
+    (ap (λ (x : ℕ). item.Error (record { class = x; bytes = [] })) h.0, h.1)

@@ -1,0 +1,101 @@
+use Rattle.std.specs.Prelude.{◌≡◌, ◌<◌, ◌≤◌, ℕ, ◌^◌, Bool, true, false, List, [], ◌∷◌, length, map, codes, bit_and}
+use Rattle.std.specs.Fmt.{decimal}
+use Rattle.std.specs.List.{All, flat_map, join_with_byte}
+use Rattle.can_frame.specs.Frames.{Identifier, IsIdentifier, Payload}
+use Rattle.can_frame.specs.Frames.Payload.{Data, Remote}
+use Rattle.can_frame.specs.FrameText.{digits, id_text, IsPayload}
+use Rattle.can_filter.specs.Filters.{CanFilter}
+use Rattle.can_bus.specs.declared.events.Opt.{Opt}
+use Rattle.can_bus.specs.declared.events.Opt.TheVariants as opt
+use Rattle.can_proto.specs.declared.commands.Command.{Command}
+use Rattle.can_proto.specs.declared.commands.Command.TheVariants.{Echo, Open, Rawmode, Send, SetFilters, SetOption, ErrData, Stats, Restart, Close}
+use Rattle.can_proto.specs.declared.verbs.Verb.{Verb}
+use Rattle.can_proto.specs.declared.verbs.Verb.TheVariants as verb
+use Rattle.can_proto.specs.Words.{front}
+
+-- How a client may write a command (socketcand's raw mode; filter and the options are own choice). Other spellings of it
+-- are read too: digits in lower case or fewer of them, and more blanks.
+
+-- `0` (48) or `1` (49)
+abbrev pub flag_text : Bool → List ℕ
+flag_text false = 48 ∷ []
+flag_text true = 49 ∷ []
+
+-- a data frame with its length and each byte in two digits, or a remote frame with what it asks for
+abbrev pub frame_words : Identifier → Payload → List (List ℕ)
+frame_words id (Data bytes) = codes "send" ∷ id_text id ∷ decimal (length bytes) ∷ map (digits 16 2) bytes
+frame_words id (Remote len) = codes "sendrtr" ∷ id_text id ∷ decimal len ∷ []
+
+-- a filter: identifier word and mask in 8 digits each
+abbrev pub filter_words : CanFilter → List (List ℕ)
+filter_words f = digits 16 8 f.id ∷ digits 16 8 f.mask ∷ []
+
+-- an option with its value
+abbrev pub option_words : Opt → List (List ℕ)
+option_words (opt.Loopback on) = codes "loopback" ∷ flag_text on ∷ []
+option_words (opt.RecvOwn on) = codes "recvown" ∷ flag_text on ∷ []
+option_words (opt.Join on) = codes "join" ∷ flag_text on ∷ []
+option_words (opt.ErrMask mask) = codes "errmask" ∷ digits 16 8 mask ∷ []
+
+-- the words of a command
+abbrev pub command_words : Command → List (List ℕ)
+command_words Echo = codes "echo" ∷ []
+command_words (Open name) = codes "open" ∷ name ∷ []
+command_words Rawmode = codes "rawmode" ∷ []
+command_words (Send frame) = frame_words frame.id frame.payload
+command_words (SetFilters filters) = codes "filter" ∷ decimal (length filters) ∷ flat_map filter_words filters
+command_words (SetOption option) = option_words option
+command_words (ErrData on) = codes "errdata" ∷ flag_text on ∷ []
+command_words Stats = codes "stats" ∷ []
+command_words Restart = codes "restart" ∷ []
+command_words Close = codes "close" ∷ []
+
+-- a command's written spelling: its words with one space (32) between each two
+abbrev pub command_spelling : Command → List ℕ
+command_spelling command = join_with_byte 32 (command_words command)
+
+-- data frames and remote frames have a word each
+abbrev pub verb_of_payload : Payload → Verb
+verb_of_payload (Data bytes) = verb.Send
+verb_of_payload (Remote len) = verb.SendRtr
+
+-- each option has a word of its own
+abbrev pub verb_of_option : Opt → Verb
+verb_of_option (opt.Loopback on) = verb.Loopback
+verb_of_option (opt.RecvOwn on) = verb.RecvOwn
+verb_of_option (opt.Join on) = verb.Join
+verb_of_option (opt.ErrMask mask) = verb.ErrMask
+
+-- what its first word asks for
+abbrev pub verb_of : Command → Verb
+verb_of Echo = verb.Echo
+verb_of (Open name) = verb.Open
+verb_of Rawmode = verb.Rawmode
+verb_of (Send frame) = verb_of_payload frame.payload
+verb_of (SetFilters filters) = verb.Filter
+verb_of (SetOption option) = verb_of_option option
+verb_of (ErrData on) = verb.ErrData
+verb_of Stats = verb.Stats
+verb_of Restart = verb.Restart
+verb_of Close = verb.Close
+
+-- one word: a byte at least, and no blank
+abbrev pub IsWord : List ℕ → Type 0
+IsWord word = (0 < length word) × (front word ≡ word)
+
+-- words of 32 bits, with no bit 29 in the mask
+abbrev pub IsFilter : CanFilter → Type 0
+IsFilter f = (f.id < 2 ^ 32) × (f.mask < 2 ^ 32) × (bit_and f.mask (2 ^ 29) ≡ 0)
+
+-- an option that there is: error masks have 32 bits
+abbrev pub IsOption : Opt → Type 0
+IsOption (opt.ErrMask mask) = mask < 2 ^ 32
+IsOption _ = Unit {0}
+
+-- a command that can be written: the name is one word, and frame, filters and masks are within their limits
+abbrev pub IsCommand : Command → Type 0
+IsCommand (Open name) = IsWord name
+IsCommand (Send frame) = IsIdentifier frame.id × IsPayload frame.payload
+IsCommand (SetFilters filters) = (length filters ≤ 512) × All IsFilter filters
+IsCommand (SetOption option) = IsOption option
+IsCommand _ = Unit {0}
