@@ -6,3 +6,4 @@ pub mod Again
 pub mod Written
 pub mod LineLists
 pub mod Whole
+pub mod Growing

@@ -19,7 +19,7 @@ mod writing;
 
 pub use faults::ReadFault;
 pub use record_reading::{read_record, read_record_bytes};
-pub use record_writing::record_text;
+pub use record_writing::{record_text, write_record};
 
 #[cfg(test)]
 mod text_tests;
