@@ -16,3 +16,4 @@ pub mod Again
 pub mod Written
 pub mod LineLists
 pub mod Whole
+pub mod Growing

@@ -39,7 +39,7 @@ pub use faults::ReadFault;
 pub use audits::{AuditFault, audit};
 pub use queues::{candidates, projected, queued};
 pub use record_reading::{read_record, read_record_bytes};
-pub use record_writing::record_text;
+pub use record_writing::{record_text, write_record};
 pub use replies::{ReplayFault, replies_of};
 
 #[cfg(test)]

@@ -1,10 +1,8 @@
 use Rattle.std.proofs.Common.{◌≡◌, ◌∙◌, List, ap, sym, subst}
 use Rattle.std.specs.Prelude.{All, reverse}
 use Rattle.std.proofs.lemmas.List.{reverse-reverse}
-use Rattle.can_bus.specs.declared.events.BusConfig.{BusConfig}
 use Rattle.can_bus.specs.declared.events.Entry.{Entry}
 use Rattle.can_audit.specs.Values.{HasLine, HasBusLine, HasText}
-use Rattle.can_audit.specs.RecordFaults.{ReadsBack}
 use Rattle.can_audit.proofs.text_laws.read_back.Goals as goal
 use Rattle.can_audit.proofs.text_laws.read_back.Goals.{After-drop-text}
 
