@@ -4,16 +4,56 @@ ghost use Rattle.can_filter.specs.Filters.{matches};
 
 use crate::filters::Filter;
 
+/// How many filters are compared before the answer is looked at. There is no branch within a block, so that
+/// the compiler can compare its filters side by side.
+const BLOCK: usize = 8;
+
 /// Whether some filter matches the word.
 pub fn some_match(filters: &[Filter], word: u32) -> bool
     ensures { result ≡ list_any (λ f. matches f word) filters.now }
 {
-    filters.iter().any(|filter| filter.matches(word))
+    let mut rest = filters;
+    while let Some((block, more)) = rest.split_first_chunk::<BLOCK>() {
+        if some_of_block(block, word) {
+            return true;
+        }
+        rest = more;
+    }
+    some_of_block(rest, word)
 }
 
 /// Whether each filter matches the word.
 pub fn all_match(filters: &[Filter], word: u32) -> bool
     ensures { result ≡ list_all (λ f. matches f word) filters.now }
 {
-    filters.iter().all(|filter| filter.matches(word))
+    let mut rest = filters;
+    while let Some((block, more)) = rest.split_first_chunk::<BLOCK>() {
+        if !all_of_block(block, word) {
+            return false;
+        }
+        rest = more;
+    }
+    all_of_block(rest, word)
+}
+
+/// `some_match` without a branch at each filter.
+fn some_of_block(block: &[Filter], word: u32) -> bool
+    ensures { result ≡ list_any (λ f. matches f word) block.now }
+{
+    let mut some = false;
+    for filter in block {
+        some |= filter.matches(word);
+    }
+    some
+}
+
+/// `all_match` without a branch at each filter.
+fn all_of_block(block: &[Filter], word: u32) -> bool
+    ensures { result ≡ list_all (λ f. matches f word) block.now }
+{
+    let mut all = true;
+    for filter in block {
+        all &= filter.matches(word);
+    }
+    all
 }

@@ -32,6 +32,20 @@ fn inverted_filters_join_by_or_and_by_and(rt: HostRuntime) -> Result<(), Fail> {
 }
 
 #[test]
+fn each_of_many_filters_counts(rt: HostRuntime) -> Result<(), Fail> {
+    let filter = Filter::new(0x123, 0x7FF)?;
+    let other = Filter::new(0x124, 0x7FF)?;
+    for place in [0, 7, 8, 10] {
+        let mut filters = vec![in rt.alloc(); filter; 11]?;
+        filters[place] = other;
+        let set = FilterSet::from_slice(rt.alloc(), &filters)?;
+        assert_eq!(rt; set.passes(0x124, false), true, "at {place}");
+        assert_eq!(rt; set.passes(0x123, true), false, "at {place}");
+    }
+    Ok(())
+}
+
+#[test]
 fn a_set_has_at_most_512_filters(rt: HostRuntime) -> Result<(), Fail> {
     let filter = Filter::new(0x123, 0x7FF)?;
     let many = vec![in rt.alloc(); filter; 513]?;
