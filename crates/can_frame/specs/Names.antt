@@ -1,4 +1,4 @@
-use Rattle.std.specs.Prelude.{ℕ, ◌≤◌, ◌≢◌, Bool, ◌&&◌, ◌||◌, ◌==◌, nat_le, List, length, Option, codes}
+use Rattle.std.specs.Prelude.{ℕ, ◌≡◌, ◌+◌, ◌≤◌, ◌≢◌, Bool, ◌&&◌, ◌||◌, ◌==◌, nat_le, List, length, take, sum_by, Option, codes, slice_index}
 use Rattle.std.specs.Char.{is_ascii_alphanumeric}
 use Rattle.std.specs.List.{slice_split, list_any, list_all, AllPass, AllPairs, position}
 use Rattle.std.specs.Str.{bytes_eq}
@@ -23,6 +23,16 @@ pub record AreNames (names : List (List ℕ)) : Type 0 where
   pub few : length names ≤ 16
   pub good : AllPass is_name names
   pub distinct : AllPairs ◌≢◌ names
+
+-- where a name begins in the text: past the names before it and their commas
+abbrev pub start_of : List (List ℕ) → ℕ → ℕ
+start_of names place = sum_by (λ name. length name + 1) (take place names)
+
+-- what is kept beside the text: how many names there are, and where each and one more would begin
+pub record AreKept (names : List (List ℕ)) (count : ℕ) (starts : List ℕ) : Type 0 where
+  pub good : AreNames names
+  pub all : count ≡ length names
+  pub places : (k : ℕ) → k ≤ length names → slice_index starts k ≡ start_of names k
 
 -- the first place of a name among names
 abbrev pub place_of : List (List ℕ) → List ℕ → Option ℕ

@@ -1,7 +1,7 @@
-ghost use Rattle.std.specs.Prelude.{◌≡◌, ◌≢◌, ◌↔◌, ◌≤◌, length, Some, Err, IsTrue, IsNone, IfOk, IfSome, OnOk, slice_get};
+ghost use Rattle.std.specs.Prelude.{ℕ, ◌≡◌, ◌≢◌, ◌↔◌, ◌≤◌, length, Some, Err, IsTrue, IsNone, IfOk, IfSome, OnOk, slice_get, slice_index};
 ghost use Rattle.std.specs.List.{Contains, AllPairs, list_all};
 ghost use Rattle.std.specs.Option.{option_map};
-ghost use Rattle.can_frame.specs.Names.{names_in, is_name_byte, is_name as is_name_of, AreNames, place_of};
+ghost use Rattle.can_frame.specs.Names.{names_in, is_name_byte, is_name as is_name_of, AreNames, start_of, place_of};
 
 use crate::ifaces::Iface;
 use std::alloc::Global;
@@ -20,10 +20,14 @@ pub enum NamesError {
 }
 
 /// The names of a bus's interfaces, 1 to 16 of them and all different; the first is interface 0's. They
-/// are kept as they were read, joined by commas, in at most 255 bytes: a look-up reads these bytes.
+/// are kept as they were read, joined by commas, in at most 255 bytes. To find a name reads these bytes;
+/// an interface's name is answered in constant time.
 #[derive(Debug, Drop)]
 pub struct Names {
     text: String,
+    count: u8,
+    // Where each name begins in the text, and where one more would begin.
+    starts: [u16; 17],
 }
 
 impl Model for Names {
@@ -31,11 +35,11 @@ impl Model for Names {
 
     ghost Value = { List (List ℕ) };
 
-    ghost use Rattle.can_frame.specs.Names.{names_in, AreNames};
+    ghost use Rattle.can_frame.specs.Names.{names_in, AreKept};
 
     ghost view = { λ n. names_in (string_bytes n.text) };
 
-    ghost invariant = { λ n. AreNames (names_in (string_bytes n.text)) };
+    ghost invariant = { λ n. AreKept (names_in (string_bytes n.text)) n.count n.starts };
 }
 
 impl Names {
@@ -50,8 +54,14 @@ impl Names {
         if !are_names(text) {
             return Err(NamesError::BadNames);
         }
+        let count = count_in(text) as u8;
+        let starts = starts_in(text);
         let text = String::from_str(alloc, text).map_err(|_| NamesError::NoMemory)?;
-        Ok(Names { text })
+        Ok(Names {
+            text,
+            count,
+            starts,
+        })
     }
 
     /// How many names there are, 1 to 16.
@@ -61,7 +71,7 @@ impl Names {
         ensures few { result ≤ 16 }
         ensures good { AreNames self.now }
     {
-        count_in(&self.text) as u8
+        self.count
     }
 
     /// The interface with this name, or `None` where no interface has it.
@@ -78,7 +88,13 @@ impl Names {
     pub fn name(&self, iface: Iface) -> Option<&str>
         ensures { option_map (λ name. name.now) result ≡ slice_get self.now iface }
     {
-        piece_at(&self.text, iface.number() as usize)
+        if iface.number() >= self.count {
+            return None;
+        }
+        let place = iface.number() as usize;
+        let start = self.starts[place] as usize;
+        let end = self.starts[place + 1] as usize - 1;
+        Some(&self.text[start..end])
     }
 }
 
@@ -123,10 +139,18 @@ fn count_in(text: &str) -> usize
     text.split(',').count()
 }
 
-fn piece_at(text: &str, place: usize) -> Option<&str>
-    ensures { option_map (λ name. name.now) result ≡ slice_get (names_in text.now) place }
+// Where each piece begins in the text, and where one more would begin.
+fn starts_in(text: &str) -> [u16; 17]
+    requires { AreNames (names_in text.now) }
+    ensures { (k : ℕ) → k ≤ length (names_in text.now) → slice_index result k ≡ start_of (names_in text.now) k }
 {
-    text.split(',').nth(place)
+    let mut starts = [0; 17];
+    let mut place = 0;
+    for name in text.split(',') {
+        starts[place + 1] = starts[place] + name.len() as u16 + 1;
+        place += 1;
+    }
+    starts
 }
 
 // The first place of a name among the pieces between the commas.
