@@ -1,6 +1,6 @@
 -- A stream read in two parts: what was kept of the first stands for it.
 use Rattle.std.proofs.Common.{◌≡◌, ℕ, ◌<◌, ◌≤◌, true, false, ◌||◌, ltb, List, [], ◌∷◌, ◌++◌, length, flat_map, refl, sym, ap, subst, ◌∙◌, append_assoc, arith, inl, inr}
-use Rattle.std.proofs.lemmas.Bool.{cases_Bool, cases_lt, eq-eqb, ne_eqb, lt-ltb, le-ltb, cond-true, cond-false}
+use Rattle.std.proofs.lemmas.Bool.{cases_Bool, cases_lt, eq-eqb, eqb-true, ne_eqb, lt-ltb, le-ltb, cond-true, cond-false}
 use Rattle.std.proofs.lemmas.List.{append-nil, length-append}
 use Rattle.can_proto.specs.declared.messages.Incoming.{Incoming}
 use Rattle.can_proto.specs.declared.messages.Incoming.TheVariants.{Message, TooLong}
@@ -166,10 +166,6 @@ mark-there : (run : List ℕ) (b : ℕ) → (is_open_mark b || is_close_mark b) 
 mark-there [] b h = grind arith
 mark-there (x ∷ run) b h = let again = mark-there run b h in grind arith
 
-no_mark : (run : List ℕ) (b : ℕ) → has_mark run ≡ false → (b ≡ 60 → ⊥) → (b ≡ 62 → ⊥) → has_mark (run ++ b ∷ []) ≡ false
-no_mark [] b h n60 n62 = let m : is_open_mark b ≡ false = ne_eqb b 60 n60 in let k : is_close_mark b ≡ false = ne_eqb b 62 n62 in rw (m, k) refl
-no_mark (x ∷ run) b h n60 n62 = let again = no_mark run b in grind arith
-
 given-open : (run : List ℕ) → has_mark run ≡ false → length run ≤ limit → given_by (run ++ 60 ∷ []) ≡ []
 given-open run h short =
     let r : run_of (run ++ 60 ∷ []) ≡ run = run-on run (60 ∷ []) h ∙ append-nil run in
@@ -247,9 +243,6 @@ opens (x ∷ run) h =
       kept-earlier x (run ++ 60 ∷ []) (open-past run (60 ∷ []) none) ∙ kept-past run (60 ∷ []) none,
     )
 
-pub passes_by : (b : ℕ) → (b ≡ 60 → ⊥) → (messages_of (b ∷ []) ≡ []) × (kept_of (b ∷ []) ≡ [])
-passes_by b h = let m : is_open_mark b ≡ false = ne_eqb b 60 h in (messages-other b [] m, kept-other b [] m)
-
 pub closes : (run : List ℕ) → has_mark run ≡ false → length run ≤ limit → (messages_of (60 ∷ (run ++ 62 ∷ [])) ≡ Message run ∷ []) × (kept_of (60 ∷ (run ++ 62 ∷ [])) ≡ [])
 closes run h short =
     let none = no_open run h in
@@ -258,20 +251,31 @@ closes run h short =
     let s : ltb limit (length run) ≡ false = le-ltb _ _ short in
     (rw (messages-past run (62 ∷ []) none, r, c, s) refl, kept-last 60 (run ++ 62 ∷ []) refl (open-past run (62 ∷ []) none) ∙ left-closed (run ++ 62 ∷ []) c)
 
-pub goes_on : (run : List ℕ) (b : ℕ) → has_mark run ≡ false → length run < limit → (b ≡ 60 → ⊥) → (b ≡ 62 → ⊥) → (messages_of (60 ∷ (run ++ b ∷ [])) ≡ []) × (kept_of (60 ∷ (run ++ b ∷ [])) ≡ 60 ∷ (run ++ b ∷ []))
-goes_on run b h short n60 n62 =
-    let m : has_mark (run ++ b ∷ []) ≡ false = no_mark run b h n60 n62 in
-    kept-is (60 ∷ (run ++ b ∷ [])) (refl, m, omega (arith, length-append run (b ∷ [])))
+no_marks : (run more : List ℕ) → has_mark run ≡ false → has_mark more ≡ false → has_mark (run ++ more) ≡ false
+no_marks [] more h k = k
+no_marks (x ∷ run) more h k = let again = no_marks run more in grind arith
 
-pub too_long : (run : List ℕ) (b : ℕ) → has_mark run ≡ false → limit ≤ length run → (b ≡ 60 → ⊥) → (b ≡ 62 → ⊥) → (messages_of (60 ∷ (run ++ b ∷ [])) ≡ TooLong ∷ []) × (kept_of (60 ∷ (run ++ b ∷ [])) ≡ [])
-too_long run b h long n60 n62 =
-    let m : has_mark (run ++ b ∷ []) ≡ false = no_mark run b h n60 n62 in
-    let none = no_open (run ++ b ∷ []) m in
-    let l : limit < length (run ++ b ∷ []) = omega (arith, length-append run (b ∷ [])) in
-    let w = append-nil (run ++ b ∷ []) in (
-      ap (λ (g : List Incoming). g ++ messages_of (run ++ b ∷ [])) (ap given_by (sym w) ∙ given-long (run ++ b ∷ []) [] m l) ∙ ap (λ (r : List Incoming). TooLong ∷ r) (messages-none (run ++ b ∷ []) none),
-      kept-last 60 (run ++ b ∷ []) refl none ∙ ap left_by (sym w) ∙ left-long (run ++ b ∷ []) [] m l,
+pub no_mark : (run : List ℕ) (b : ℕ) → has_mark run ≡ false → (b ≡ 60 → ⊥) → (b ≡ 62 → ⊥) → has_mark (run ++ b ∷ []) ≡ false
+no_mark run b h n60 n62 = let m : is_open_mark b ≡ false = ne_eqb b 60 n60 in let k : is_close_mark b ≡ false = ne_eqb b 62 n62 in no_marks run (b ∷ []) h (rw (m, k) refl)
+
+pub close_mark : (b : ℕ) → (is_open_mark b || is_close_mark b) ≡ true → (b ≡ 60 → ⊥) → b ≡ 62
+close_mark b h n60 = let m : is_open_mark b ≡ false = ne_eqb b 60 n60 in eqb-true b 62 (sym (ap (λ x. x || is_close_mark b) m) ∙ h)
+
+-- bytes without a mark
+pub goes_on : (run more : List ℕ) → has_mark run ≡ false → has_mark more ≡ false → length (run ++ more) ≤ limit → (messages_of (60 ∷ (run ++ more)) ≡ []) × (kept_of (60 ∷ (run ++ more)) ≡ 60 ∷ (run ++ more))
+goes_on run more h k short = kept-is (60 ∷ (run ++ more)) (refl, no_marks run more h k, short)
+
+pub too_long : (run more : List ℕ) → has_mark run ≡ false → has_mark more ≡ false → limit < length (run ++ more) → (messages_of (60 ∷ (run ++ more)) ≡ TooLong ∷ []) × (kept_of (60 ∷ (run ++ more)) ≡ [])
+too_long run more h k long =
+    let m : has_mark (run ++ more) ≡ false = no_marks run more h k in
+    let none = no_open (run ++ more) m in
+    let w = append-nil (run ++ more) in (
+      ap (λ (g : List Incoming). g ++ messages_of (run ++ more)) (ap given_by (sym w) ∙ given-long (run ++ more) [] m long) ∙ ap (λ (r : List Incoming). TooLong ∷ r) (messages-none (run ++ more) none),
+      kept-last 60 (run ++ more) refl none ∙ ap left_by (sym w) ∙ left-long (run ++ more) [] m long,
     )
+
+pub passes_by : (more : List ℕ) → has_mark more ≡ false → (messages_of more ≡ []) × (kept_of more ≡ [])
+passes_by more h = let none = no_open more h in (messages-none more none, kept-none more none)
 
 -- a message that stands whole
 pub message-between : (inside rest : List ℕ) → has_mark inside ≡ false → length inside ≤ limit → messages_of ((60 ∷ (inside ++ 62 ∷ [])) ++ rest) ≡ Message inside ∷ messages_of rest

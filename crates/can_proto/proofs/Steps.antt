@@ -1,13 +1,13 @@
--- One byte more, seen from where the run began.
-use Rattle.std.proofs.Common.{◌≡◌, ℕ, ◌+◌, ◌-◌, ◌<◌, ◌≤◌, List, [], ◌∷◌, ◌++◌, length, take, drop, get_or, sym, ap, subst, ◌∙◌, append_assoc, arith}
-use Rattle.std.proofs.lemmas.List.{append-nil, length-append, length-take, length-drop, take_more, drop-append-le, drop_all, drop-take, take_all}
+-- More bytes, seen from where the run began.
+use Rattle.std.proofs.Common.{◌≡◌, ℕ, ◌+◌, ◌-◌, ◌<◌, ◌≤◌, false, List, [], ◌∷◌, ◌++◌, length, take, drop, get_or, sym, ap, subst, ◌∙◌, append_assoc, arith}
+use Rattle.std.proofs.lemmas.List.{append-nil, length-append, length-take, length-drop, take_more, drop-append-le, drop_all, drop-take, take-take, take-append-drop, take_all}
 use Rattle.can_proto.specs.declared.messages.Incoming.{Incoming}
 use Rattle.can_proto.specs.declared.messages.Incoming.TheVariants.{Message, TooLong}
 use Rattle.can_proto.specs.declared.scanning.Place.{Place}
 use Rattle.can_proto.specs.declared.scanning.Place.TheVariants.{Outside, Carried, At}
-use Rattle.can_proto.specs.Messages.{messages_of, kept_of, limit, IsKept}
+use Rattle.can_proto.specs.Messages.{messages_of, kept_of, has_mark, limit, IsKept}
 use Rattle.can_proto.specs.Scanning.{text_at}
-use Rattle.can_proto.proofs.Pieces.{opens, closes, goes_on, too_long, kept-is, kept-kept, messages-append, kept-append}
+use Rattle.can_proto.proofs.Pieces.{opens, closes, goes_on, too_long, passes_by, no_mark, kept-is, kept-kept, messages-append, kept-append}
 
 pub nothing_new : (items more : List Incoming) → more ≡ [] → items ≡ items ++ more
 nothing_new items more h = sym (ap (λ (m : List Incoming). items ++ m) h ∙ append-nil items)
@@ -22,17 +22,29 @@ opens-kept piece t i b lt e h =
     ap (λ (r : List ℕ). 60 ∷ r) none ∙ sym (rw e (opens t h).1)
 
 -- the run goes on: from what was held, or from its start
-pub carried_more : (held piece : List ℕ) (i : ℕ) → i < length piece → held ++ take (i + 1) piece ≡ (held ++ take i piece) ++ get_or piece i 0 ∷ []
-carried_more held piece i lt = rw (take_more piece i 0 lt) (sym (append_assoc held (take i piece) (get_or piece i 0 ∷ [])))
+pub parts : (piece : List ℕ) (i end : ℕ) → i ≤ end → take end piece ≡ take i piece ++ drop i (take end piece)
+parts piece i end le = sym (ap (λ (t : List ℕ). t ++ drop i (take end piece)) (sym (take-take i end piece le)) ∙ take-append-drop i (take end piece))
 
-pub started_more : (piece : List ℕ) (start i : ℕ) → start ≤ i → i < length piece → drop start (take (i + 1) piece) ≡ drop start (take i piece) ++ get_or piece i 0 ∷ []
-started_more piece start i le lt = rw (take_more piece i 0 lt) (drop-append-le start (take i piece) (get_or piece i 0 ∷ []) (omega (arith, length-take i piece)))
+pub carried_more : (held piece : List ℕ) (i end : ℕ) → i ≤ end → held ++ take end piece ≡ (held ++ take i piece) ++ drop i (take end piece)
+carried_more held piece i end le = ap (λ (t : List ℕ). held ++ t) (parts piece i end le) ∙ sym (append_assoc held (take i piece) (drop i (take end piece)))
 
-pub carried_length : (held piece : List ℕ) (i : ℕ) → i < length piece → length (held ++ take i piece) ≡ length held + i
-carried_length held piece i lt = omega (arith, length-append held (take i piece), length-take i piece)
+pub started_more : (piece : List ℕ) (start i end : ℕ) → start ≤ i → i ≤ end → end ≤ length piece → drop start (take end piece) ≡ drop start (take i piece) ++ drop i (take end piece)
+started_more piece start i end s le lt = ap (λ (t : List ℕ). drop start t) (parts piece i end le) ∙ drop-append-le start (take i piece) (drop i (take end piece)) (omega (arith, length-take i piece))
 
-pub started_length : (piece : List ℕ) (start i : ℕ) → start ≤ i → i < length piece → length (drop start (take i piece)) ≡ i - start
-started_length piece start i le lt = omega (arith, length-drop start (take i piece), length-take i piece)
+pub carried_length : (held piece : List ℕ) (i end : ℕ) → i ≤ end → end ≤ length piece → length ((held ++ take i piece) ++ drop i (take end piece)) ≡ length held + end
+carried_length held piece i end le lt = ap (λ (t : List ℕ). length t) (sym (carried_more held piece i end le)) ∙ omega (arith, length-append held (take end piece), length-take end piece)
+
+-- the bytes looked through for a mark
+pub clear_start : (piece : List ℕ) (from : ℕ) → has_mark (drop from (take from piece)) ≡ false
+clear_start piece from = ap has_mark (drop_all from (take from piece) (omega (arith, length-take from piece)))
+
+pub clear_more : (piece : List ℕ) (from i : ℕ) → from ≤ i → i < length piece → has_mark (drop from (take i piece)) ≡ false → (get_or piece i 0 ≡ 60 → ⊥) → (get_or piece i 0 ≡ 62 → ⊥) → has_mark (drop from (take (i + 1) piece)) ≡ false
+clear_more piece from i le lt h n60 n62 =
+    let more : drop from (take (i + 1) piece) ≡ drop from (take i piece) ++ get_or piece i 0 ∷ [] = rw (take_more piece i 0 lt) (drop-append-le from (take i piece) (get_or piece i 0 ∷ []) (omega (arith, length-take i piece))) in
+    rw more (no_mark (drop from (take i piece)) (get_or piece i 0) h n60 n62)
+
+pub started_length : (piece : List ℕ) (start i end : ℕ) → start ≤ i → i ≤ end → end ≤ length piece → length (drop start (take i piece) ++ drop i (take end piece)) ≡ end - start
+started_length piece start i end s le lt = ap (λ (t : List ℕ). length t) (sym (started_more piece start i end s le lt)) ∙ omega (arith, length-drop start (take end piece), length-take end piece)
 
 pub closes-with : (run : List ℕ) (b : ℕ) → b ≡ 62 → IsKept (60 ∷ run) → (messages_of ((60 ∷ run) ++ b ∷ []) ≡ Message run ∷ []) × (kept_of ((60 ∷ run) ++ b ∷ []) ≡ [])
 closes-with run b e h = rw e (closes run h.1 h.2)
@@ -47,23 +59,31 @@ closes-at t run b e h k =
     let p = closes-with run b k w in
     (ap (λ (x : List ℕ). messages_of (x ++ b ∷ [])) e ∙ p.0, sym (ap (λ (x : List ℕ). kept_of (x ++ b ∷ [])) e ∙ p.1))
 
-pub too_long-at : (t run : List ℕ) (b : ℕ) → t ≡ 60 ∷ run → IsKept t → limit ≤ length run → (b ≡ 60 → ⊥) → (b ≡ 62 → ⊥) → (messages_of (t ++ b ∷ []) ≡ TooLong ∷ []) × ([] ≡ kept_of (t ++ b ∷ []))
-too_long-at t run b e h long n60 n62 =
+pub too_long-at : (t run more : List ℕ) → t ≡ 60 ∷ run → IsKept t → has_mark more ≡ false → limit < length (run ++ more) → (messages_of (t ++ more) ≡ TooLong ∷ []) × ([] ≡ kept_of (t ++ more))
+too_long-at t run more e h clear long =
     let w : IsKept (60 ∷ run) = subst IsKept e h in
-    let p = too_long run b w.1 long n60 n62 in
-    (ap (λ (x : List ℕ). messages_of (x ++ b ∷ [])) e ∙ p.0, sym (ap (λ (x : List ℕ). kept_of (x ++ b ∷ [])) e ∙ p.1))
+    let p = too_long run more w.1 clear long in
+    (ap (λ (x : List ℕ). messages_of (x ++ more)) e ∙ p.0, sym (ap (λ (x : List ℕ). kept_of (x ++ more)) e ∙ p.1))
 
-pub goes_on-at : (t run : List ℕ) (b : ℕ) → t ≡ 60 ∷ run → IsKept t → length run < limit → (b ≡ 60 → ⊥) → (b ≡ 62 → ⊥) → (messages_of (t ++ b ∷ []) ≡ []) × (60 ∷ (run ++ b ∷ []) ≡ kept_of (t ++ b ∷ []))
-goes_on-at t run b e h short n60 n62 =
+pub goes_on-at : (t run more : List ℕ) → t ≡ 60 ∷ run → IsKept t → has_mark more ≡ false → length (run ++ more) ≤ limit → (messages_of (t ++ more) ≡ []) × (60 ∷ (run ++ more) ≡ kept_of (t ++ more))
+goes_on-at t run more e h clear short =
     let w : IsKept (60 ∷ run) = subst IsKept e h in
-    let p = goes_on run b w.1 short n60 n62 in
-    (ap (λ (x : List ℕ). messages_of (x ++ b ∷ [])) e ∙ p.0, sym (ap (λ (x : List ℕ). kept_of (x ++ b ∷ [])) e ∙ p.1))
+    let p = goes_on run more w.1 clear short in
+    (ap (λ (x : List ℕ). messages_of (x ++ more)) e ∙ p.0, sym (ap (λ (x : List ℕ). kept_of (x ++ more)) e ∙ p.1))
+
+pub passes_by-at : (t more : List ℕ) → t ≡ [] → has_mark more ≡ false → (messages_of (t ++ more) ≡ []) × ([] ≡ kept_of (t ++ more))
+passes_by-at t more e clear =
+    let p = passes_by more clear in
+    (ap (λ (x : List ℕ). messages_of (x ++ more)) e ∙ p.0, sym (ap (λ (x : List ℕ). kept_of (x ++ more)) e ∙ p.1))
 
 pub text-carried : (held piece : List ℕ) (i : ℕ) (place : Place) → place ≡ Carried → text_at held piece i place ≡ 60 ∷ (held ++ take i piece)
 text-carried held piece i place e = ap (text_at held piece i) e
 
 pub text-at : (held piece : List ℕ) (i start : ℕ) (place : Place) → place ≡ At start → text_at held piece i place ≡ 60 ∷ drop start (take i piece)
 text-at held piece i start place e = ap (text_at held piece i) e
+
+pub text-outside : (held piece : List ℕ) (i : ℕ) (place : Place) → place ≡ Outside → text_at held piece i place ≡ []
+text-outside held piece i place e = ap (text_at held piece i) e
 
 pub slice_is : (piece : List ℕ) (start i : ℕ) → start ≤ i → drop start (take i piece) ≡ take (i - start) (drop start piece)
 slice_is piece start i le =
@@ -82,22 +102,21 @@ nothing-yet t h =
     let k = kept-is t h in
     (sym (ap messages_of (append-nil t) ∙ k.0), sym (ap kept_of (append-nil t) ∙ k.1))
 
-pub more_text : (text piece : List ℕ) (i : ℕ) → i < length piece → text ++ take (i + 1) piece ≡ (text ++ take i piece) ++ get_or piece i 0 ∷ []
-more_text text piece i lt = carried_more text piece i lt
+pub past-given : (text before part all t : List ℕ) (items after : List Incoming) → all ≡ before ++ part → items ≡ messages_of (text ++ before) → t ≡ kept_of (text ++ before)
+    → after ≡ items ++ messages_of (t ++ part) → after ≡ messages_of (text ++ all)
+past-given text before part all t items after whole given keeps h =
+    h ∙ ap (λ (m : List Incoming). m ++ messages_of (t ++ part)) given
+    ∙ ap (λ (k : List ℕ). messages_of (text ++ before) ++ messages_of (k ++ part)) keeps
+    ∙ sym (messages-append (text ++ before) part)
+    ∙ ap messages_of (append_assoc text before part)
+    ∙ ap (λ (x : List ℕ). messages_of (text ++ x)) (sym whole)
 
-pub more-given : (text piece t : List ℕ) (i : ℕ) (items after : List Incoming) → i < length piece → items ≡ messages_of (text ++ take i piece) → t ≡ kept_of (text ++ take i piece)
-    → after ≡ items ++ messages_of (t ++ get_or piece i 0 ∷ []) → after ≡ messages_of (text ++ take (i + 1) piece)
-more-given text piece t i items after lt given keeps h =
-    h ∙ ap (λ (m : List Incoming). m ++ messages_of (t ++ get_or piece i 0 ∷ [])) given
-    ∙ ap (λ (k : List ℕ). messages_of (text ++ take i piece) ++ messages_of (k ++ get_or piece i 0 ∷ [])) keeps
-    ∙ sym (messages-append (text ++ take i piece) (get_or piece i 0 ∷ []))
-    ∙ ap messages_of (sym (more_text text piece i lt))
-
-pub more-keeps : (text piece t after : List ℕ) (i : ℕ) → i < length piece → t ≡ kept_of (text ++ take i piece) → after ≡ kept_of (t ++ get_or piece i 0 ∷ []) → after ≡ kept_of (text ++ take (i + 1) piece)
-more-keeps text piece t after i lt keeps h =
-    h ∙ ap (λ (k : List ℕ). kept_of (k ++ get_or piece i 0 ∷ [])) keeps
-    ∙ sym (kept-append (text ++ take i piece) (get_or piece i 0 ∷ []))
-    ∙ ap kept_of (sym (more_text text piece i lt))
+pub past-keeps : (text before part all t after : List ℕ) → all ≡ before ++ part → t ≡ kept_of (text ++ before) → after ≡ kept_of (t ++ part) → after ≡ kept_of (text ++ all)
+past-keeps text before part all t after whole keeps h =
+    h ∙ ap (λ (k : List ℕ). kept_of (k ++ part)) keeps
+    ∙ sym (kept-append (text ++ before) part)
+    ∙ ap kept_of (append_assoc text before part)
+    ∙ ap (λ (x : List ℕ). kept_of (text ++ x)) (sym whole)
 
 pub kept_by : (t text : List ℕ) → t ≡ kept_of text → IsKept t
 kept_by t text e = subst IsKept (sym e) (kept-kept text)
@@ -117,3 +136,6 @@ after-outside held piece text place p h = sym (ap (text_at held piece (length pi
 
 pub short_run : (run : List ℕ) → IsKept (60 ∷ run) → length run ≤ limit
 short_run run h = h.2
+
+pub held_fits : (t held more : List ℕ) → t ≡ 60 ∷ (held ++ more) → IsKept t → length held ≤ limit
+held_fits t held more e h = let short = short_run (held ++ more) (subst IsKept e h) in omega (arith, short, length-append held more)

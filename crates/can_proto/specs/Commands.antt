@@ -77,6 +77,10 @@ bytes_of (word ∷ words) = do
   bs ← bytes_of words
   Ok (b ∷ bs)
 
+-- what the words of data may be refused for: their count, and then a word that spells no byte
+abbrev pub IsDataFault : ℕ → List (List ℕ) → ProtoFault → Type 0
+IsDataFault len words e = (((length words == len) ≡ false) × (e ≡ BadCount)) ⊎ (((length words == len) ≡ true) × (bytes_of words ≡ Err BadByte) × (e ≡ BadByte))
+
 -- `send ID LEN b ..`
 unfoldable pub send_of : List (List ℕ) → Result Command ProtoFault
 send_of (id_word ∷ len_word ∷ words) = do

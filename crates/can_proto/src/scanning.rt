@@ -1,5 +1,5 @@
-ghost use Rattle.std.specs.Prelude.{◌≡◌, ◌≤◌, ◌<◌, ◌+◌, ◌++◌, ◌∷◌, [], length, IfOk, slice_index};
-ghost use Rattle.can_proto.specs.Messages.{messages_of, kept_of, IsKept};
+ghost use Rattle.std.specs.Prelude.{◌≡◌, ◌≤◌, ◌<◌, ◌+◌, ◌++◌, ◌∷◌, ◌||◌, [], true, false, length, take, drop, IfOk, slice_index};
+ghost use Rattle.can_proto.specs.Messages.{is_open_mark, is_close_mark, has_mark, messages_of, kept_of, IsKept};
 ghost use Rattle.can_proto.specs.Scanning.{text_at, text_of, IsWithin};
 
 use crate::messages::{Incoming, Message};
@@ -19,8 +19,64 @@ pub enum Place {
     At(usize),
 }
 
-/// One byte more of the piece.
-fn step(
+/// The next mark from a byte on, or the end.
+fn next_mark(piece: &[u8], from: usize) -> usize
+    requires { from ≤ length piece.now }
+    ensures after { from ≤ result }
+    ensures within { result ≤ length piece.now }
+    ensures clear { has_mark (drop from (take result piece.now)) ≡ false }
+    ensures mark { result < length piece.now → (is_open_mark (slice_index piece.now result) || is_close_mark (slice_index piece.now result)) ≡ true }
+{
+    for i in from..piece.len() {
+        let byte = piece[i];
+        if byte == b'<' || byte == b'>' {
+            return i;
+        }
+    }
+    piece.len()
+}
+
+/// The bytes of the piece from one up to another, no mark among them.
+fn pass(
+    out: &mut Vec<Incoming>,
+    held: &[u8],
+    piece: &[u8],
+    i: usize,
+    end: usize,
+    place: Place,
+) -> Result<Place, AllocError>
+    requires order { i ≤ end }
+    requires there { end ≤ length piece.now }
+    requires clear { has_mark (drop i (take end piece.now)) ≡ false }
+    requires within { IsWithin place i }
+    requires was { IsKept (text_at held.now piece.now i place) }
+    ensures given { IfOk result (λ next. out.new.items ≡ out.old.items ++ messages_of (text_at held.now piece.now i place ++ drop i (take end piece.now))) }
+    ensures keeps { IfOk result (λ next. text_at held.now piece.now end next ≡ kept_of (text_at held.now piece.now i place ++ drop i (take end piece.now))) }
+    ensures within { IfOk result (λ next. IsWithin next end) }
+{
+    match place {
+        Place::Outside => Ok(Place::Outside),
+        Place::Carried => {
+            if LIMIT - held.len() < end {
+                out.push(Incoming::TooLong)?;
+                Ok(Place::Outside)
+            } else {
+                Ok(Place::Carried)
+            }
+        }
+        Place::At(start) => {
+            if LIMIT < end - start {
+                out.push(Incoming::TooLong)?;
+                Ok(Place::Outside)
+            } else {
+                Ok(Place::At(start))
+            }
+        }
+    }
+}
+
+/// The mark at a byte of the piece.
+fn at_mark(
     alloc: Global,
     out: &mut Vec<Incoming>,
     held: &[u8],
@@ -29,41 +85,22 @@ fn step(
     place: Place,
 ) -> Result<Place, AllocError>
     requires there { i < length piece.now }
+    requires mark { (is_open_mark (slice_index piece.now i) || is_close_mark (slice_index piece.now i)) ≡ true }
     requires within { IsWithin place i }
     requires was { IsKept (text_at held.now piece.now i place) }
     ensures given { IfOk result (λ next. out.new.items ≡ out.old.items ++ messages_of (text_at held.now piece.now i place ++ slice_index piece.now i ∷ [])) }
     ensures keeps { IfOk result (λ next. text_at held.now piece.now (i + 1) next ≡ kept_of (text_at held.now piece.now i place ++ slice_index piece.now i ∷ [])) }
     ensures within { IfOk result (λ next. IsWithin next (i + 1)) }
 {
-    let byte = piece[i];
-    if byte == b'<' {
+    if piece[i] == b'<' {
         return Ok(Place::At(i + 1));
     }
     match place {
-        Place::Outside => Ok(Place::Outside),
-        Place::Carried => {
-            if byte == b'>' {
-                out.push(Incoming::Message(Message::joined(alloc, held, &piece[..i])?))?;
-                Ok(Place::Outside)
-            } else if LIMIT - held.len() <= i {
-                out.push(Incoming::TooLong)?;
-                Ok(Place::Outside)
-            } else {
-                Ok(Place::Carried)
-            }
-        }
-        Place::At(start) => {
-            if byte == b'>' {
-                out.push(Incoming::Message(Message::joined(alloc, &[], &piece[start..i])?))?;
-                Ok(Place::Outside)
-            } else if LIMIT <= i - start {
-                out.push(Incoming::TooLong)?;
-                Ok(Place::Outside)
-            } else {
-                Ok(Place::At(start))
-            }
-        }
+        Place::Outside => {}
+        Place::Carried => out.push(Incoming::Message(Message::joined(alloc, held, &piece[..i])?))?,
+        Place::At(start) => out.push(Incoming::Message(Message::joined(alloc, &[], &piece[start..i])?))?,
     }
+    Ok(Place::Outside)
 }
 
 /// What a piece gives after the bytes held, and where the run at its end began. `is_open` says that a
@@ -85,8 +122,15 @@ pub fn scan(
     } else {
         Place::Outside
     };
-    for i in 0..piece.len() {
-        place = step(alloc, &mut out, held, piece, i, place)?;
+    let mut i = 0;
+    while i < piece.len() {
+        let end = next_mark(piece, i);
+        place = pass(&mut out, held, piece, i, end, place)?;
+        if end == piece.len() {
+            return Ok((out, place));
+        }
+        place = at_mark(alloc, &mut out, held, piece, end, place)?;
+        i = end + 1;
     }
     Ok((out, place))
 }

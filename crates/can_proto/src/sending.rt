@@ -1,6 +1,6 @@
-ghost use Rattle.std.specs.Prelude.{◌≡◌, ◌≤◌, Ok, Err, length, take, IfOk, IfErr, MatchResult};
+ghost use Rattle.std.specs.Prelude.{◌≡◌, ◌==◌, ◌≤◌, true, if◌then◌else◌, Ok, Err, length, take, IfOk, IfErr};
 ghost use Rattle.can_proto.specs.Words.{words_of};
-ghost use Rattle.can_proto.specs.Commands.{Gives, id_of, length_of, bytes_of, send_of, remote_of};
+ghost use Rattle.can_proto.specs.Commands.{Gives, id_of, length_of, bytes_of, IsDataFault, send_of, remote_of};
 
 use crate::commands::Command;
 use crate::faults::ProtoFault;
@@ -49,26 +49,41 @@ fn read_length(word: &[u8]) -> Result<u8, ProtoFault>
     }
 }
 
-/// The bytes that the words spell, in the first places of eight.
+/// The bytes that so many words spell, in the first places of eight. A wrong count comes before a word
+/// that spells no byte.
 fn read_bytes(rest: &[u8], len: usize) -> Result<[u8; 8], ProtoFault>
     requires small { len ≤ 8 }
-    requires count { length (words_of rest.now) ≡ len }
-    ensures value { MatchResult result (λ bytes. bytes_of (words_of rest.now) ≡ Ok (take len bytes)) (λ e. bytes_of (words_of rest.now) ≡ Err e) }
-    ensures fault { IfErr result (λ e. e ≡ ProtoFault.BadByte) }
+    ensures count { IfOk result (λ bytes. (length (words_of rest.now) == len) ≡ true) }
+    ensures value { IfOk result (λ bytes. bytes_of (words_of rest.now) ≡ Ok (take len bytes)) }
+    ensures fault { IfErr result (IsDataFault len (words_of rest.now)) }
 {
     let mut bytes = [0u8; 8];
     let mut rest = rest;
     for i in 0..len {
         let Some((word, after)) = next_word(rest) else {
-            unreachable!()
+            return Err(ProtoFault::BadCount);
         };
         let Some(byte) = read_number(word, 16, 2) else {
-            return Err(ProtoFault::BadByte);
+            return Err(bad_byte(after, len - i - 1));
         };
         bytes[i] = byte as u8;
         rest = after;
     }
-    Ok(bytes)
+    match next_word(rest) {
+        None => Ok(bytes),
+        Some(_) => Err(ProtoFault::BadCount),
+    }
+}
+
+/// The fault where a word spells no byte and so many words should follow it.
+fn bad_byte(after: &[u8], left: usize) -> ProtoFault
+    ensures { result ≡ if length (words_of after.now) == left then ProtoFault.BadByte else ProtoFault.BadCount }
+{
+    if has_words(after, left) {
+        ProtoFault::BadByte
+    } else {
+        ProtoFault::BadCount
+    }
 }
 
 /// The words of `send ID LEN b ..`.
@@ -84,9 +99,6 @@ pub fn read_send(rest: &[u8]) -> Result<Command, ProtoFault>
     };
     let id = read_id(id_word)?;
     let len = read_length(len_word)? as usize;
-    if !has_words(rest, len) {
-        return Err(ProtoFault::BadCount);
-    }
     let bytes = read_bytes(rest, len)?;
     match Frame::data(id, &bytes[..len]) {
         Ok(frame) => Ok(Command::Send(frame)),

@@ -1,6 +1,8 @@
-use Rattle.std.proofs.Common.{◌++◌, take, sym, ap, ◌∙◌}
+use Rattle.std.proofs.Common.{◌≡◌, ◌++◌, List, ℕ, take, length, sym, ap, ◌∙◌, arith}
+use Rattle.std.proofs.lemmas.List.{take_all, take_more}
+use Rattle.can_proto.specs.Messages.{messages_of, kept_of}
 use Rattle.can_proto.specs.Scanning.{text_at, text_of}
-use Rattle.can_proto.proofs.Steps.{starts-carried, starts-outside, nothing-yet, more-given, more-keeps, kept_by}
+use Rattle.can_proto.proofs.Steps.{starts-carried, starts-outside, nothing-yet, parts, past-given, past-keeps, kept_by}
 use Rattle.can_proto.proofs.scanning.scan.Goals as goal
 use Rattle.can_proto.proofs.scanning.scan.Goals.{then-is_open, else-is_open}
 
@@ -12,23 +14,54 @@ loop-i-init c =
         given = c.new-out.ensures.items ∙ n.0;
         keeps = starts-carried c.args.held.now c.args.piece.now c.if-is_open.place w.place-is ∙ sym (ap (λ b. text_of b c.args.held.now) w.if-is_open.true) ∙ n.1;
         within = rw w.place-is tt;
+        order = omega arith;
       }
       | else-is_open w ↦ record {
         given = c.new-out.ensures.items ∙ n.0;
         keeps = starts-outside c.args.held.now c.args.piece.now c.if-is_open.place w.place-is ∙ sym (ap (λ b. text_of b c.args.held.now) w.if-is_open.false) ∙ n.1;
         within = rw w.place-is tt;
+        order = omega arith;
       }
     ]
 
-pub step-requires-clause-was : goal.step-requires-clause-was
-step-requires-clause-was c = kept_by (text_at c.args.held.now c.args.piece.now c.loop-i.i c.loop-i.place) (text_of c.args.is_open c.args.held.now ++ take c.loop-i.i c.args.piece.now) c.loop-i.invariant.keeps
+pub pass-requires-clause-was : goal.pass-requires-clause-was
+pass-requires-clause-was c = kept_by (text_at c.args.held.now c.args.piece.now c.loop-i.i c.loop-i.place) (text_of c.args.is_open c.args.held.now ++ take c.loop-i.i c.args.piece.now) c.loop-i.invariant.keeps
+
+pub at_mark-requires-clause-was : goal.at_mark-requires-clause-was
+at_mark-requires-clause-was c =
+    let text = text_of c.args.is_open c.args.held.now in
+    let t = text_at c.args.held.now c.args.piece.now c.loop-i.i c.loop-i.place in
+    let keeps = past-keeps text (take c.loop-i.i c.args.piece.now) _ _ t _ (parts c.args.piece.now c.loop-i.i c.next_mark-end.result c.next_mark-end.ensures.after) c.loop-i.invariant.keeps c.in_ok-place.ensures.keeps in
+    kept_by _ (text ++ take c.next_mark-end.result c.args.piece.now) keeps
+
+pub returns-then-end-piece-clause-given : goal.returns-then-end-piece-clause-given
+returns-then-end-piece-clause-given c =
+    let text = text_of c.args.is_open c.args.held.now in
+    let t = text_at c.args.held.now c.args.piece.now c.loop-i.i c.loop-i.place in
+    past-given text (take c.loop-i.i c.args.piece.now) _ _ t _ _ (parts c.args.piece.now c.loop-i.i c.next_mark-end.result c.next_mark-end.ensures.after) c.loop-i.invariant.given c.loop-i.invariant.keeps c.in_ok-place.ensures.given
+    ∙ ap (λ (x : List ℕ). messages_of (text ++ x)) (take_all c.next_mark-end.result c.args.piece.now (omega arith))
+
+pub returns-then-end-piece-clause-keeps : goal.returns-then-end-piece-clause-keeps
+returns-then-end-piece-clause-keeps c =
+    let text = text_of c.args.is_open c.args.held.now in
+    let t = text_at c.args.held.now c.args.piece.now c.loop-i.i c.loop-i.place in
+    let here : length c.args.piece.now ≡ c.next_mark-end.result = omega arith in
+    ap (λ (n : ℕ). text_at c.args.held.now c.args.piece.now n c.in_ok-place.place) here
+    ∙ past-keeps text (take c.loop-i.i c.args.piece.now) _ _ t _ (parts c.args.piece.now c.loop-i.i c.next_mark-end.result c.next_mark-end.ensures.after) c.loop-i.invariant.keeps c.in_ok-place.ensures.keeps
+    ∙ ap (λ (x : List ℕ). kept_of (text ++ x)) (take_all c.next_mark-end.result c.args.piece.now (omega arith))
 
 pub loop-i-preserved : goal.loop-i-preserved
 loop-i-preserved c =
     let text = text_of c.args.is_open c.args.held.now in
+    let end = c.next_mark-end.result in
     let t = text_at c.args.held.now c.args.piece.now c.loop-i.i c.loop-i.place in
+    let whole = parts c.args.piece.now c.loop-i.i end c.next_mark-end.ensures.after in
+    let given = past-given text (take c.loop-i.i c.args.piece.now) _ _ t _ _ whole c.loop-i.invariant.given c.loop-i.invariant.keeps c.in_ok-place.ensures.given in
+    let keeps = past-keeps text (take c.loop-i.i c.args.piece.now) _ _ t _ whole c.loop-i.invariant.keeps c.in_ok-place.ensures.keeps in
+    let more = take_more c.args.piece.now end 0 (omega arith) in
     record {
-      given = more-given text c.args.piece.now t c.loop-i.i _ _ c.loop-i-test.true c.loop-i.invariant.given c.loop-i.invariant.keeps c.in_ok-place.ensures.given;
-      keeps = more-keeps text c.args.piece.now t _ c.loop-i.i c.loop-i-test.true c.loop-i.invariant.keeps c.in_ok-place.ensures.keeps;
-      within = c.in_ok-place.ensures.within;
+      given = past-given text (take end c.args.piece.now) _ _ _ _ _ more given keeps c.in_ok-place-2.ensures.given;
+      keeps = past-keeps text (take end c.args.piece.now) _ _ _ _ more keeps c.in_ok-place-2.ensures.keeps;
+      within = c.in_ok-place-2.ensures.within;
+      order = omega arith;
     }

@@ -1,4 +1,4 @@
-use Rattle.std.proofs.Common.{◌≡◌, ◌++◌, take}
+use Rattle.std.proofs.Common.{◌≡◌, ◌≤◌, ◌-◌, ◌++◌, length, take}
 use Rattle.can_proto.specs.Messages.{messages_of, kept_of}
 use Rattle.can_proto.specs.Scanning.{text_at, text_of, IsWithin}
 use Rattle.can_proto.proofs.scanning.scan.Given as goal
@@ -8,4 +8,8 @@ invariant-loop-i l = record {
   given : l.out.items ≡ messages_of (text_of l.is_open l.held ++ take l.i l.piece);
   keeps : text_at l.held l.piece l.i l.place ≡ kept_of (text_of l.is_open l.held ++ take l.i l.piece);
   within : IsWithin l.place l.i;
+  order : l.i ≤ length l.piece;
 }
+
+abbrev pub decreases-loop-i : goal.decreases-loop-i
+decreases-loop-i l = length l.piece - l.i

@@ -1,10 +1,11 @@
-use Rattle.std.proofs.Common.{◌≡◌, ◌<◌, ◌++◌, ◌∷◌, [], List, ℕ, Ok, Err, Some, None, Option, Result, length, take, refl, sym, ap, ◌∙◌, arith, append_assoc}
+use Rattle.std.proofs.Common.{◌≡◌, ◌<◌, ◌+◌, ◌==◌, if◌then◌else◌, inl, inr, ◌++◌, ◌∷◌, [], List, ℕ, Ok, Err, Some, None, Option, Result, length, take, refl, sym, ap, ◌∙◌, arith, append_assoc}
 use Rattle.std.proofs.lemmas.List.{length-set, append-nil, take_more_set, nil_from_length}
+use Rattle.std.proofs.lemmas.Bool.{cases_Bool, eq-eqb, ne_eqb, eqb-true, eqb-false, cond-true, cond-false}
 use Rattle.can_proto.specs.declared.faults.ProtoFault.{ProtoFault}
-use Rattle.can_proto.specs.declared.faults.ProtoFault.TheVariants.{BadByte}
+use Rattle.can_proto.specs.declared.faults.ProtoFault.TheVariants.{BadByte, BadCount}
 use Rattle.can_proto.specs.Words.{words_of}
 use Rattle.can_proto.specs.Numbers.{number_in}
-use Rattle.can_proto.specs.Commands.{◌>>=◌, with_front, bytes_of, or_fault}
+use Rattle.can_proto.specs.Commands.{◌>>=◌, with_front, bytes_of, or_fault, IsDataFault}
 use Rattle.can_proto.proofs.sending.read_bytes.Goals as goal
 
 bad : (front word : List ℕ) (rest : List (List ℕ)) (all : Result (List ℕ) ProtoFault) → with_front front (bytes_of (word ∷ rest)) ≡ all → None ≡ number_in 16 2 word → all ≡ Err BadByte
@@ -26,11 +27,24 @@ ended front words all n h =
     let none : words ≡ [] = nil_from_length words n in
     sym h ∙ ap (λ (w : List (List ℕ)). with_front front (bytes_of w)) none ∙ ap (λ (x : List ℕ). Ok x) (append-nil front)
 
-pub returns-in_default-read_number-clause-value : goal.returns-in_default-read_number-clause-value
-returns-in_default-read_number-clause-value c =
+-- a word that spells no byte, by how many words follow it
+spoiled : (words after : List (List ℕ)) (word : List ℕ) (len i left : ℕ) (e : ProtoFault) → bytes_of words ≡ Err BadByte → length (word ∷ after) + i ≡ length words → left + i + 1 ≡ len → e ≡ (if length after == left then BadByte else BadCount) → IsDataFault len words e
+spoiled words after word len i left e wrong count total told =
+    elim (cases_Bool (length after == left)) [
+      | inl hit ↦
+          let same : length after ≡ left = eqb-true _ _ hit in
+          inr (eq-eqb (length words) len (omega arith), wrong, told ∙ cond-true (length after == left) BadByte BadCount hit)
+      | inr miss ↦
+          let other : length after ≡ left → ⊥ = eqb-false _ _ miss in
+          inl (ne_eqb (length words) len (λ q. other (omega arith)), told ∙ cond-false (length after == left) BadByte BadCount miss)
+    ]
+
+pub returns-in_default-read_number-clause-fault : goal.returns-in_default-read_number-clause-fault
+returns-in_default-read_number-clause-fault c =
     let front = take c.loop-i.i c.loop-i.bytes in
     let same : with_front front (bytes_of (c.in-Some.word.now ∷ words_of c.in-Some.after.now)) ≡ bytes_of (words_of c.args.rest.now) = ap (λ (w : List (List ℕ)). with_front front (bytes_of w)) (sym c.in-Some.ensures) ∙ c.loop-i.invariant.same in
-    bad front c.in-Some.word.now (words_of c.in-Some.after.now) _ same c.in_default-read_number.ensures.value
+    let count : length (words_of c.loop-i.rest.now) ≡ length (c.in-Some.word.now ∷ words_of c.in-Some.after.now) = ap (λ (w : List (List ℕ)). length w) c.in-Some.ensures in
+    spoiled (words_of c.args.rest.now) (words_of c.in-Some.after.now) c.in-Some.word.now c.args.len c.loop-i.i _ _ (bad front c.in-Some.word.now (words_of c.in-Some.after.now) _ same c.in_default-read_number.ensures.value) (omega (arith, count, c.loop-i.invariant.left)) (omega arith) c.bad_byte.ensures
 
 pub loop-i-preserved : goal.loop-i-preserved
 loop-i-preserved c =
@@ -44,7 +58,7 @@ loop-i-preserved c =
       left = omega (arith, count, c.loop-i.invariant.left);
     }
 
-pub returns-clause-value : goal.returns-clause-value
-returns-clause-value c =
+pub returns-in-None-clause-value : goal.returns-in-None-clause-value
+returns-in-None-clause-value c =
     let done : c.loop-i.i ≡ c.args.len = omega arith in
-    ended (take c.args.len c.loop-i.bytes) (words_of c.loop-i.rest.now) _ (omega (arith, c.loop-i.invariant.left)) (ap (λ (n : ℕ). with_front (take n c.loop-i.bytes) (bytes_of (words_of c.loop-i.rest.now))) (sym done) ∙ c.loop-i.invariant.same)
+    ended (take c.args.len c.loop-i.bytes) (words_of c.loop-i.rest.now) _ (ap (λ (w : List (List ℕ)). length w) c.in-None.ensures) (ap (λ (n : ℕ). with_front (take n c.loop-i.bytes) (bytes_of (words_of c.loop-i.rest.now))) (sym done) ∙ c.loop-i.invariant.same)

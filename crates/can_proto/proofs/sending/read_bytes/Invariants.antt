@@ -7,5 +7,5 @@ abbrev pub invariant-loop-i : goal.invariant-loop-i
 invariant-loop-i l = record {
   same : with_front (take l.i l.bytes) (bytes_of (words_of l.rest)) ≡ bytes_of (words_of l.fn.rest);
   eight : length l.bytes ≡ 8;
-  left : length (words_of l.rest) + l.i ≡ l.len;
+  left : length (words_of l.rest) + l.i ≡ length (words_of l.fn.rest);
 }
