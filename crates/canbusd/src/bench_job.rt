@@ -1,14 +1,14 @@
 use crate::faults::Fault;
 use crate::files::read_script;
 use crate::options::BenchOptions;
-use can_audit::record_text;
+use can_audit::write_record;
 use can_bus::{BusConfig, Record};
 use can_fault::{FaultSource, Perfect};
 use can_frame::{Iface, IfaceSet, Names, NamesError};
 use can_session::{BenchConfig, BenchFault, bench};
 use std::alloc::Global;
 use std::fs;
-use std::io::{Read, Write};
+use std::io::{BufWriter, Error, ErrorKind, Read, Write};
 use std::rt::Files;
 
 /// Runs the bench that the options describe, over the lines of an input. The names are looked at first, then the
@@ -65,9 +65,19 @@ fn write_record<'a, H: Files>(
     path: &'a str,
     record: &Record,
 ) -> Result<(), Fault<'a>> {
-    let text = record_text(alloc, record).map_err(|_| Fault::NoMemory)?;
-    let mut file = fs::create(rt, path).map_err(|_| Fault::CannotOpen(path))?;
-    file.write_all(&text).map_err(|_| Fault::Write)
+    let file = fs::create(rt, path).map_err(|_| Fault::CannotOpen(path))?;
+    let mut file = BufWriter::new(alloc, file).map_err(|_| Fault::NoMemory)?;
+    write_record(alloc, record, &mut file).map_err(|error| fault_of(&error))?;
+    file.flush().map_err(|_| Fault::Write)
+}
+
+// What a fault of writing a record is told as.
+fn fault_of<'a>(error: &Error) -> Fault<'a> {
+    if error.kind() == ErrorKind::OutOfMemory {
+        Fault::NoMemory
+    } else {
+        Fault::Write
+    }
 }
 
 fn bus_config(options: BenchOptions<'_>, names: &Names) -> BusConfig {
