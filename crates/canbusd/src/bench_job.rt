@@ -35,7 +35,7 @@ pub fn run_bench<'a, H: Files, R: Read + Drop, W: Write>(
     let record = record.map_err(|fault| Fault::Bench(fault))?;
     output.flush().map_err(|_| Fault::Write)?;
     match options.record {
-        Some(path) => write_record(rt, alloc, path, &record),
+        Some(path) => save_record(rt, alloc, path, &record),
         None => Ok(()),
     }
 }
@@ -59,7 +59,7 @@ fn run_on<F: FaultSource + Drop, R: Read + Drop, W: Write>(
 }
 
 // Writes the text of a record to the file with this path.
-fn write_record<'a, H: Files>(
+fn save_record<'a, H: Files>(
     rt: &H,
     alloc: Global,
     path: &'a str,
