@@ -12,6 +12,9 @@ const BLOCK: usize = 8;
 pub fn some_match(filters: &[Filter], word: u32) -> bool
     ensures { result ≡ list_any (λ f. matches f word) filters.now }
 {
+    if filters.len() < BLOCK {
+        return some_one_by_one(filters, word);
+    }
     let mut rest = filters;
     while let Some((block, more)) = rest.split_first_chunk::<BLOCK>() {
         if some_of_block(block, word) {
@@ -19,13 +22,16 @@ pub fn some_match(filters: &[Filter], word: u32) -> bool
         }
         rest = more;
     }
-    some_of_block(rest, word)
+    some_one_by_one(rest, word)
 }
 
 /// Whether each filter matches the word.
 pub fn all_match(filters: &[Filter], word: u32) -> bool
     ensures { result ≡ list_all (λ f. matches f word) filters.now }
 {
+    if filters.len() < BLOCK {
+        return all_one_by_one(filters, word);
+    }
     let mut rest = filters;
     while let Some((block, more)) = rest.split_first_chunk::<BLOCK>() {
         if !all_of_block(block, word) {
@@ -33,7 +39,7 @@ pub fn all_match(filters: &[Filter], word: u32) -> bool
         }
         rest = more;
     }
-    all_of_block(rest, word)
+    all_one_by_one(rest, word)
 }
 
 /// `some_match` without a branch at each filter.
@@ -56,4 +62,18 @@ fn all_of_block(block: &[Filter], word: u32) -> bool
         all &= filter.matches(word);
     }
     all
+}
+
+/// `some_match`, which ends at the first filter that matches.
+fn some_one_by_one(filters: &[Filter], word: u32) -> bool
+    ensures { result ≡ list_any (λ f. matches f word) filters.now }
+{
+    filters.iter().any(|filter| filter.matches(word))
+}
+
+/// `all_match`, which ends at the first filter that does not match.
+fn all_one_by_one(filters: &[Filter], word: u32) -> bool
+    ensures { result ≡ list_all (λ f. matches f word) filters.now }
+{
+    filters.iter().all(|filter| filter.matches(word))
 }
