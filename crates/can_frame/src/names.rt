@@ -84,7 +84,7 @@ impl Names {
         Iface::new(place as u8)
     }
 
-    /// The interface's name, or `None` where the bus has no such interface.
+    /// The interface's name, in constant time, or `None` where the bus has no such interface.
     pub fn name(&self, iface: Iface) -> Option<&str>
         ensures { option_map (λ name. name.now) result ≡ slice_get self.now iface }
     {

@@ -1,4 +1,4 @@
-use Rattle.std.proofs.Common.{◌≡◌, ℕ, ◌+◌, ◌<◌, ◌≤◌, length, get_or, slice_index, sym, ap, ◌∙◌, lit<, arith}
+use Rattle.std.proofs.Common.{◌≡◌, ◌+◌, ◌<◌, ◌≤◌, length, get_or, slice_index, sym, ap, ◌∙◌, lit<, arith}
 use Rattle.std.proofs.lemmas.List.{length_push, length-set}
 use Rattle.std.proofs.lemmas.Iterator.Consumers.{YieldsList-turn, YieldsList-end}
 use Rattle.std.proofs.lemmas.Iterator.Splits.{YieldsList-from_str_split}
@@ -37,9 +37,9 @@ bounds-starts-place-in-loop-name c = omega (arith, (this c).0)
 
 pub loop-name-preserved : goal.loop-name-preserved
 loop-name-preserved c = (
-    length-set c.loop-name.starts (c.loop-name.place + 1) _ ∙ c.loop-name.invariant.0,
-    omega (arith, c.loop-name.invariant.1, length_push c.loop-name.yielded c.in-Some.name),
-    added (names_in c.args.text.now) c.loop-name.starts c.loop-name.place _ c.loop-name.invariant.0 (this c).0 c.loop-name.invariant.2 (this c).2,
+  length-set c.loop-name.starts (c.loop-name.place + 1) _ ∙ c.loop-name.invariant.0,
+  omega (arith, c.loop-name.invariant.1, length_push c.loop-name.yielded c.in-Some.name),
+  added (names_in c.args.text.now) c.loop-name.starts c.loop-name.place _ c.loop-name.invariant.0 (this c).0 c.loop-name.invariant.2 (this c).2,
 )
 
 pub returns : goal.returns
