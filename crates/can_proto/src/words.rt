@@ -52,7 +52,12 @@ pub fn next_word(text: &[u8]) -> Option<(&[u8], &[u8])>
 fn next_pair(text: &[u8]) -> Option<(&[u8], &[u8])>
     ensures { IfSome result (λ found. words_of text.now ≡ found.0.now ∷ words_of found.1.now) }
 {
-    if text.len() < 4 || text[0] != b' ' || is_space(text[1]) || is_space(text[2]) || text[3] != b' ' {
+    if text.len() < 4
+        || text[0] != b' '
+        || is_space(text[1])
+        || is_space(text[2])
+        || text[3] != b' '
+    {
         return None;
     }
     Some((&text[1..3], &text[3..]))
