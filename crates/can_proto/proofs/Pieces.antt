@@ -251,12 +251,16 @@ closes run h short =
     let s : ltb limit (length run) ≡ false = le-ltb _ _ short in
     (rw (messages-past run (62 ∷ []) none, r, c, s) refl, kept-last 60 (run ++ 62 ∷ []) refl (open-past run (62 ∷ []) none) ∙ left-closed (run ++ 62 ∷ []) c)
 
-no_marks : (run more : List ℕ) → has_mark run ≡ false → has_mark more ≡ false → has_mark (run ++ more) ≡ false
+pub no_marks : (run more : List ℕ) → has_mark run ≡ false → has_mark more ≡ false → has_mark (run ++ more) ≡ false
 no_marks [] more h k = k
 no_marks (x ∷ run) more h k = let again = no_marks run more in grind arith
 
 pub no_mark : (run : List ℕ) (b : ℕ) → has_mark run ≡ false → (b ≡ 60 → ⊥) → (b ≡ 62 → ⊥) → has_mark (run ++ b ∷ []) ≡ false
 no_mark run b h n60 n62 = let m : is_open_mark b ≡ false = ne_eqb b 60 n60 in let k : is_close_mark b ≡ false = ne_eqb b 62 n62 in no_marks run (b ∷ []) h (rw (m, k) refl)
+
+pub mark_more : (run : List ℕ) (b : ℕ) → has_mark (run ++ b ∷ []) ≡ (has_mark run || (is_open_mark b || is_close_mark b))
+mark_more [] b = grind arith
+mark_more (x ∷ run) b = let again = mark_more run b in grind arith
 
 pub close_mark : (b : ℕ) → (is_open_mark b || is_close_mark b) ≡ true → (b ≡ 60 → ⊥) → b ≡ 62
 close_mark b h n60 = let m : is_open_mark b ≡ false = ne_eqb b 60 n60 in eqb-true b 62 (sym (ap (λ x. x || is_close_mark b) m) ∙ h)

@@ -1,13 +1,13 @@
 -- More bytes, seen from where the run began.
-use Rattle.std.proofs.Common.{◌≡◌, ℕ, ◌+◌, ◌-◌, ◌<◌, ◌≤◌, false, List, [], ◌∷◌, ◌++◌, length, take, drop, get_or, sym, ap, subst, ◌∙◌, append_assoc, arith}
+use Rattle.std.proofs.Common.{◌≡◌, ℕ, ◌+◌, ◌-◌, ◌<◌, ◌≤◌, false, ◌||◌, List, [], ◌∷◌, ◌++◌, length, take, drop, get_or, sym, ap, subst, ◌∙◌, append_assoc, arith}
 use Rattle.std.proofs.lemmas.List.{append-nil, length-append, length-take, length-drop, take_more, drop-append-le, drop_all, drop-take, take-take, take-append-drop, take_all}
 use Rattle.can_proto.specs.declared.messages.Incoming.{Incoming}
 use Rattle.can_proto.specs.declared.messages.Incoming.TheVariants.{Message, TooLong}
 use Rattle.can_proto.specs.declared.scanning.Place.{Place}
 use Rattle.can_proto.specs.declared.scanning.Place.TheVariants.{Outside, Carried, At}
-use Rattle.can_proto.specs.Messages.{messages_of, kept_of, has_mark, limit, IsKept}
+use Rattle.can_proto.specs.Messages.{messages_of, kept_of, has_mark, is_open_mark, is_close_mark, limit, IsKept}
 use Rattle.can_proto.specs.Scanning.{text_at}
-use Rattle.can_proto.proofs.Pieces.{opens, closes, goes_on, too_long, passes_by, no_mark, kept-is, kept-kept, messages-append, kept-append}
+use Rattle.can_proto.proofs.Pieces.{opens, closes, goes_on, too_long, passes_by, no_mark, no_marks, mark_more, kept-is, kept-kept, messages-append, kept-append}
 
 pub nothing_new : (items more : List Incoming) → more ≡ [] → items ≡ items ++ more
 nothing_new items more h = sym (ap (λ (m : List Incoming). items ++ m) h ∙ append-nil items)
@@ -38,10 +38,19 @@ carried_length held piece i end le lt = ap (λ (t : List ℕ). length t) (sym (c
 pub clear_start : (piece : List ℕ) (from : ℕ) → has_mark (drop from (take from piece)) ≡ false
 clear_start piece from = ap has_mark (drop_all from (take from piece) (omega (arith, length-take from piece)))
 
+one_more : (piece : List ℕ) (from i : ℕ) → from ≤ i → i < length piece → drop from (take (i + 1) piece) ≡ drop from (take i piece) ++ get_or piece i 0 ∷ []
+one_more piece from i le lt = rw (take_more piece i 0 lt) (drop-append-le from (take i piece) (get_or piece i 0 ∷ []) (omega (arith, length-take i piece)))
+
 pub clear_more : (piece : List ℕ) (from i : ℕ) → from ≤ i → i < length piece → has_mark (drop from (take i piece)) ≡ false → (get_or piece i 0 ≡ 60 → ⊥) → (get_or piece i 0 ≡ 62 → ⊥) → has_mark (drop from (take (i + 1) piece)) ≡ false
-clear_more piece from i le lt h n60 n62 =
-    let more : drop from (take (i + 1) piece) ≡ drop from (take i piece) ++ get_or piece i 0 ∷ [] = rw (take_more piece i 0 lt) (drop-append-le from (take i piece) (get_or piece i 0 ∷ []) (omega (arith, length-take i piece))) in
-    rw more (no_mark (drop from (take i piece)) (get_or piece i 0) h n60 n62)
+clear_more piece from i le lt h n60 n62 = rw (one_more piece from i le lt) (no_mark (drop from (take i piece)) (get_or piece i 0) h n60 n62)
+
+pub clear_block : (piece : List ℕ) (from i end : ℕ) → from ≤ i → i ≤ end → end ≤ length piece → has_mark (drop from (take i piece)) ≡ false → has_mark (drop i (take end piece)) ≡ false → has_mark (drop from (take end piece)) ≡ false
+clear_block piece from i end s le lt h k = ap has_mark (started_more piece from i end s le lt) ∙ no_marks (drop from (take i piece)) (drop i (take end piece)) h k
+
+pub block_more : (piece : List ℕ) (from i : ℕ) → from ≤ i → i < length piece → has_mark (drop from (take (i + 1) piece)) ≡ (has_mark (drop from (take i piece)) || (is_open_mark (get_or piece i 0) || is_close_mark (get_or piece i 0)))
+block_more piece from i le lt =
+    let more : drop from (take (i + 1) piece) ≡ drop from (take i piece) ++ get_or piece i 0 ∷ [] = one_more piece from i le lt in
+    ap has_mark more ∙ mark_more (drop from (take i piece)) (get_or piece i 0)
 
 pub started_length : (piece : List ℕ) (start i end : ℕ) → start ≤ i → i ≤ end → end ≤ length piece → length (drop start (take i piece) ++ drop i (take end piece)) ≡ end - start
 started_length piece start i end s le lt = ap (λ (t : List ℕ). length t) (sym (started_more piece start i end s le lt)) ∙ omega (arith, length-drop start (take end piece), length-take end piece)

@@ -31,3 +31,18 @@ pub fn read_number(word: &[u8], base: u32, most: usize) -> Option<u32>
     }
     Some(number)
 }
+
+/// The byte that 1 or 2 hexadecimal digits stand for.
+pub fn read_byte(word: &[u8]) -> Option<u8>
+    ensures { result ≡ number_in 16 2 word.now }
+{
+    match word {
+        [low] => Some(digit(*low, 16)? as u8),
+        [high, low] => {
+            let high = digit(*high, 16)?;
+            let low = digit(*low, 16)?;
+            Some((high * 16 + low) as u8)
+        }
+        _ => None,
+    }
+}

@@ -19,6 +19,39 @@ pub enum Place {
     At(usize),
 }
 
+/// How many bytes are looked through at once.
+const BLOCK: usize = 16;
+
+/// Whether a mark stands in the block from a byte on. No byte of it decides early, so that the
+/// compiler can compare them all at once.
+fn block_has_mark(piece: &[u8], from: usize) -> bool
+    requires { from + 16 ≤ length piece.now }
+    ensures { result ≡ has_mark (drop from (take (from + 16) piece.now)) }
+{
+    let mut found = false;
+    for i in from..from + BLOCK {
+        found = found | ((piece[i] == b'<') | (piece[i] == b'>'));
+    }
+    found
+}
+
+/// Behind the whole blocks from a byte on that have no mark.
+fn clear_blocks(piece: &[u8], from: usize) -> usize
+    requires { from ≤ length piece.now }
+    ensures after { from ≤ result }
+    ensures within { result ≤ length piece.now }
+    ensures clear { has_mark (drop from (take result piece.now)) ≡ false }
+{
+    let mut i = from;
+    while BLOCK <= piece.len() - i {
+        if block_has_mark(piece, i) {
+            return i;
+        }
+        i += BLOCK;
+    }
+    i
+}
+
 /// The next mark from a byte on, or the end.
 fn next_mark(piece: &[u8], from: usize) -> usize
     requires { from ≤ length piece.now }
@@ -27,7 +60,7 @@ fn next_mark(piece: &[u8], from: usize) -> usize
     ensures clear { has_mark (drop from (take result piece.now)) ≡ false }
     ensures mark { result < length piece.now → (is_open_mark (slice_index piece.now result) || is_close_mark (slice_index piece.now result)) ≡ true }
 {
-    for i in from..piece.len() {
+    for i in clear_blocks(piece, from)..piece.len() {
         let byte = piece[i];
         if byte == b'<' || byte == b'>' {
             return i;
@@ -98,7 +131,11 @@ fn at_mark(
     match place {
         Place::Outside => {}
         Place::Carried => out.push(Incoming::Message(Message::joined(alloc, held, &piece[..i])?))?,
-        Place::At(start) => out.push(Incoming::Message(Message::joined(alloc, &[], &piece[start..i])?))?,
+        Place::At(start) => out.push(Incoming::Message(Message::joined(
+            alloc,
+            &[],
+            &piece[start..i],
+        )?))?,
     }
     Ok(Place::Outside)
 }

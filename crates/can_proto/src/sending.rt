@@ -4,8 +4,8 @@ ghost use Rattle.can_proto.specs.Commands.{Gives, id_of, length_of, bytes_of, Is
 
 use crate::commands::Command;
 use crate::faults::ProtoFault;
-use crate::numbers::read_number;
-use crate::words::{has_words, next_word};
+use crate::numbers::{read_byte, read_number};
+use crate::words::{has_words, next_short_word, next_word};
 use can_frame::{CanId, Frame};
 
 /// An identifier of 8 digits (29 bits) or of 1 to 3 (11 bits).
@@ -60,13 +60,13 @@ fn read_bytes(rest: &[u8], len: usize) -> Result<[u8; 8], ProtoFault>
     let mut bytes = [0u8; 8];
     let mut rest = rest;
     for i in 0..len {
-        let Some((word, after)) = next_word(rest) else {
+        let Some((word, after)) = next_short_word(rest) else {
             return Err(ProtoFault::BadCount);
         };
-        let Some(byte) = read_number(word, 16, 2) else {
+        let Some(byte) = read_byte(word) else {
             return Err(bad_byte(after, len - i - 1));
         };
-        bytes[i] = byte as u8;
+        bytes[i] = byte;
         rest = after;
     }
     match next_word(rest) {

@@ -39,12 +39,12 @@ spoiled words after word len i left e wrong count total told =
           inl (ne_eqb (length words) len (λ q. other (omega arith)), told ∙ cond-false (length after == left) BadByte BadCount miss)
     ]
 
-pub returns-in_default-read_number-clause-fault : goal.returns-in_default-read_number-clause-fault
-returns-in_default-read_number-clause-fault c =
+pub returns-in_default-read_byte-clause-fault : goal.returns-in_default-read_byte-clause-fault
+returns-in_default-read_byte-clause-fault c =
     let front = take c.loop-i.i c.loop-i.bytes in
     let same : with_front front (bytes_of (c.in-Some.word.now ∷ words_of c.in-Some.after.now)) ≡ bytes_of (words_of c.args.rest.now) = ap (λ (w : List (List ℕ)). with_front front (bytes_of w)) (sym c.in-Some.ensures) ∙ c.loop-i.invariant.same in
     let count : length (words_of c.loop-i.rest.now) ≡ length (c.in-Some.word.now ∷ words_of c.in-Some.after.now) = ap (λ (w : List (List ℕ)). length w) c.in-Some.ensures in
-    spoiled (words_of c.args.rest.now) (words_of c.in-Some.after.now) c.in-Some.word.now c.args.len c.loop-i.i _ _ (bad front c.in-Some.word.now (words_of c.in-Some.after.now) _ same c.in_default-read_number.ensures.value) (omega (arith, count, c.loop-i.invariant.left)) (omega arith) c.bad_byte.ensures
+    spoiled (words_of c.args.rest.now) (words_of c.in-Some.after.now) c.in-Some.word.now c.args.len c.loop-i.i _ _ (bad front c.in-Some.word.now (words_of c.in-Some.after.now) _ same c.in_default-read_byte.ensures) (omega (arith, count, c.loop-i.invariant.left)) (omega arith) c.bad_byte.ensures
 
 pub loop-i-preserved : goal.loop-i-preserved
 loop-i-preserved c =
@@ -53,7 +53,7 @@ loop-i-preserved c =
     let small : c.loop-i.i < length c.loop-i.bytes = omega (arith, c.loop-i.invariant.eight, c.requires.small) in
     let count : length (words_of c.loop-i.rest.now) ≡ length (c.in-Some.word.now ∷ words_of c.in-Some.after.now) = ap (λ (w : List (List ℕ)). length w) c.in-Some.ensures in
     record {
-      same = ap (λ (x : List ℕ). with_front x (bytes_of (words_of c.in-Some.after.now))) (take_more_set c.loop-i.bytes c.loop-i.i c.in-Some-read_number.byte small) ∙ more front c.in-Some.word.now c.in-Some-read_number.byte (words_of c.in-Some.after.now) _ same c.in-Some-read_number.ensures.value;
+      same = ap (λ (x : List ℕ). with_front x (bytes_of (words_of c.in-Some.after.now))) (take_more_set c.loop-i.bytes c.loop-i.i c.in-Some-read_byte.byte small) ∙ more front c.in-Some.word.now c.in-Some-read_byte.byte (words_of c.in-Some.after.now) _ same c.in-Some-read_byte.ensures;
       eight = simp length-set c.loop-i.invariant.eight;
       left = omega (arith, count, c.loop-i.invariant.left);
     }
