@@ -50,8 +50,9 @@ impl Record {
     /// There may be more entries than the limit, and their replies need not be what a bus would answer.
     /// It looks at each entry once, and takes no memory.
     pub fn from_entries(config: BusConfig, entries: Vec<Entry>) -> Option<Record>
-        ensures made { IfSome result (λ r. (r.config ≡ config) × (r.history ≡ reverse entries.items)) }
-        ensures proper { IsSome result ↔ IsRecord config entries.items }
+        ensures config { IfSome result (λ r. r.config ≡ config) }
+        ensures history { IfSome result (λ r. r.history ≡ reverse entries.items) }
+        ensures fits { IsSome result ↔ IsRecord config entries.items }
     {
         if !is_proper(config) {
             return None;
