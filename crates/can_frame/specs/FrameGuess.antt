@@ -26,36 +26,42 @@ number_in ds = option_map (from_be_bytes w32) (bytes_in 4 (padded ds))
 abbrev pub stands_at : ℕ → ℕ → List ℕ → Bool
 stands_at mark k text = nat_lt k (length text) && slice_index text k == mark
 
--- what a remote frame asks for
+-- what a remote frame asks for: 0 where nothing is said, else one digit up to 8
 unfoldable pub request_in : List ℕ → Option ℕ
 request_in text = if length text == 0 then Some 0 else if nat_le 48 (slice_index text 0) && nat_le (slice_index text 0) 56 then Some (slice_index text 0 - 48) else None
 
--- the data
+-- the data: at most 8 bytes
 unfoldable pub data_in : List ℕ → Option (List ℕ)
 data_in text = if nat_le (length text / 2) 8 then bytes_in (length text / 2) text else None
 
+-- what stands behind the mark of a frame: `R` (82) and a length, or data
 unfoldable pub payload_in : List ℕ → Option Payload
 payload_in text = if stands_at 82 0 text then option_map Remote (request_in (drop 1 text)) else option_map Data (data_in text)
 
+-- a frame with this identifier
 unfoldable pub frame_in : Identifier → List ℕ → Option Item
 frame_in id text = option_map (λ payload. item.Data (record { id = id; payload = payload })) (payload_in text)
 
+-- an error message frame of this class
 unfoldable pub error_in : ℕ → List ℕ → Option Item
 error_in class text = if nat_lt class (2 ^ 29) then option_map (λ bytes. item.Error (record { class = class; bytes = bytes })) (bytes_in 8 text) else None
 
--- with 3 digits
+-- a number of 3 digits is an identifier of 11 bits
 unfoldable pub standard_in : ℕ → List ℕ → Option Item
 standard_in n text = if nat_lt n (2 ^ 11) then frame_in (record { extended = false; number = n }) text else None
 
--- with 8 digits
+-- a number of 8 digits is an identifier of 29 bits, or a class with bit 29 set
 unfoldable pub long_in : ℕ → List ℕ → Option Item
 long_in n text = if nat_lt n (2 ^ 29) then frame_in (record { extended = true; number = n }) text else error_in (n - 2 ^ 29) text
 
+-- 3 digits, the mark, and the rest
 unfoldable pub short_item_in : List ℕ → Option Item
 short_item_in text = option_and_then (λ n. standard_in n (drop 4 text)) (number_in (take 3 text))
 
+-- 8 digits, the mark, and the rest
 unfoldable pub long_item_in : List ℕ → Option Item
 long_item_in text = option_and_then (λ n. long_in n (drop 9 text)) (number_in (take 8 text))
 
+-- the `#` (35) stands behind 3 digits or behind 8
 unfoldable pub item_in : List ℕ → Option Item
 item_in text = if stands_at 35 3 text then short_item_in text else if stands_at 35 8 text then long_item_in text else None

@@ -67,7 +67,10 @@ fn push_payload(text: &mut FrameText, frame: Frame)
     }
 }
 
-/// The item that a text spells, in either case. `ID#R0` is read as `ID#R`.
+/// The item that a text spells, in either case; `BadText` where it spells none. `ID#R0` is read as `ID#R`.
+///
+/// What the text seems to be is written again and compared with it. A text of more than 32 bytes is refused
+/// unread, so the cost has a bound. It takes no memory.
 pub fn read_frame_text(text: &str) -> Result<Item, BadText>
     ensures found { IfOk result (λ item. IsItem item × Spells text.now item) }
     ensures only { (i : AnItem) → IsItem i → Spells text.now i → result ≡ Ok i }

@@ -1,0 +1,117 @@
+use Rattle.std.proofs.Common.{◌≡◌, ℕ, ◌+◌, ◌<◌, ◌≤◌, List, [], ◌∷◌, ◌++◌, length, take, drop, get_or, Option, Some, refl, sym, ap, subst, ◌∙◌, arith, append_assoc, take-append-drop, length-append}
+use Rattle.std.specs.Prelude.{reverse, map, false, slice_get}
+use Rattle.std.specs.Io.KnownBytes.{Appends}
+use Rattle.std.proofs.lemmas.List.{reverse-append, reverse-reverse, length-reverse, take_more, take_all, take_at, append-nil, map-append, length-map}
+use Rattle.std.proofs.lemmas.Grind.{flat_map-append}
+use Rattle.std.proofs.lemmas.Option.{slice_get_read}
+use Rattle.can_bus.specs.declared.events.Entry.{Entry}
+use Rattle.can_bus.specs.declared.events.Tried.{Tried}
+use Rattle.can_bus.specs.declared.events.Reply.{Reply}
+use Rattle.can_bus.specs.declared.events.Reply.TheVariants as reply
+use Rattle.can_bus.specs.Transmit.{tape, tape_after}
+use Rattle.can_logfile.specs.Log.{log_line, log_lines, joined, LineGoesOut, TornAfter}
+use Rattle.can_logfile.proofs.Growing.{Appends-then}
+
+-- The oldest entries of a history, and their lines.
+
+-- the oldest k entries of a history, the newest of them first
+abbrev pub front : ℕ → List Entry → List Entry
+front k past = reverse (take k (reverse past))
+
+front-more : (k : ℕ) (past : List Entry) (e : Entry) → k < length past → e ≡ get_or (reverse past) k e → front (k + 1) past ≡ e ∷ front k past
+front-more k past e lt at =
+    let more = take_more (reverse past) k e (omega (arith, length-reverse past, lt)) in
+    ap reverse more ∙ reverse-append (take k (reverse past)) (get_or (reverse past) k e ∷ []) ∙ ap (λ (x : Entry). x ∷ front k past) (sym at)
+
+pub front-all : (k : ℕ) (past : List Entry) → length past ≤ k → front k past ≡ past
+front-all k past h = ap reverse (take_all k (reverse past) (omega (arith, length-reverse past, h))) ∙ reverse-reverse past
+
+past-front : (k : ℕ) (past : List Entry) → reverse (drop k (reverse past)) ++ front k past ≡ past
+past-front k past = sym (reverse-append (take k (reverse past)) (drop k (reverse past))) ∙ ap reverse (take-append-drop k (reverse past)) ∙ reverse-reverse past
+
+-- a tape grows at its end
+abbrev Grows : List Tried → List Tried → Type 0
+Grows base all = (more : List Tried) × (all ≡ base ++ more)
+
+grows : (r : Reply) (base all : List Tried) → Grows base all → Grows base (tape_after r all)
+grows (reply.Tried t) base all h = (h.0 ++ t ∷ [], ap (λ (x : List Tried). x ++ t ∷ []) h.1 ∙ append_assoc base h.0 (t ∷ []))
+grows (reply.Opened s) base all h = h
+grows (reply.Closed s) base all h = h
+grows reply.Done base all h = h
+grows (reply.Sent s) base all h = h
+grows (reply.Received s) base all h = h
+grows reply.Idle base all h = h
+grows (reply.Refused s) base all h = h
+
+tape-grows : (later past : List Entry) → Grows (tape past) (tape (later ++ past))
+tape-grows [] past = ([], sym (append-nil (tape past)))
+tape-grows (e ∷ later) past = grows e.reply (tape past) (tape (later ++ past)) (tape-grows later past)
+
+tape-of : (k : ℕ) (past : List Entry) → Grows (tape (front k past)) (tape past)
+tape-of k past = subst (λ (all : List Entry). Grows (tape (front k past)) (tape all)) (past-front k past) (tape-grows (reverse (drop k (reverse past))) (front k past))
+
+-- one tried entry more
+tried-more : (k : ℕ) (past : List Entry) (e : Entry) (t : Tried) → k < length past → e ≡ get_or (reverse past) k e → e.reply ≡ reply.Tried t → tape (front (k + 1) past) ≡ tape (front k past) ++ t ∷ []
+tried-more k past e t lt at is = ap tape (front-more k past e lt at) ∙ ap (λ (r : Reply). tape_after r (tape (front k past))) is
+
+pub count-more : (k : ℕ) (past : List Entry) (e : Entry) (t : Tried) → k < length past → e ≡ get_or (reverse past) k e → e.reply ≡ reply.Tried t → length (tape (front (k + 1) past)) ≡ length (tape (front k past)) + 1
+count-more k past e t lt at is = ap length (tried-more k past e t lt at is) ∙ length-append (tape (front k past)) (t ∷ [])
+
+pub lines-more : (names : List (List ℕ)) (k : ℕ) (past : List Entry) (e : Entry) (t : Tried) → k < length past → e ≡ get_or (reverse past) k e → e.reply ≡ reply.Tried t → joined (log_lines names (front (k + 1) past)) ≡ joined (log_lines names (front k past)) ++ log_line names t
+lines-more names k past e t lt at is =
+    ap (λ (ts : List Tried). joined (map (log_line names) ts)) (tried-more k past e t lt at is)
+    ∙ ap joined (map-append (log_line names) (tape (front k past)) (t ∷ []))
+    ∙ flat_map-append (λ line. line) (map (log_line names) (tape (front k past))) (log_line names t ∷ [])
+    ∙ ap (λ (x : List ℕ). joined (log_lines names (front k past)) ++ x) (append-nil (log_line names t))
+
+-- the place behind a front holds what stands there
+at_length : (xs : List (List ℕ)) (x : List ℕ) (ys : List (List ℕ)) → get_or (xs ++ x ∷ ys) (length xs) x ≡ x
+at_length [] x ys = refl
+at_length (y ∷ xs) x ys = at_length xs x ys
+
+there : (xs : List (List ℕ)) (x : List ℕ) (ys : List (List ℕ)) → slice_get (xs ++ x ∷ ys) (length xs) ≡ Some x
+there xs x ys = slice_get_read (xs ++ x ∷ ys) (length (xs ++ x ∷ ys)) (length xs) x refl (omega (arith, length-append xs (x ∷ ys))) (sym (at_length xs x ys))
+
+-- the lines of a history, cut at a tried entry
+lines-cut : (names : List (List ℕ)) (k : ℕ) (past : List Entry) (e : Entry) (t : Tried) → k < length past → e ≡ get_or (reverse past) k e → e.reply ≡ reply.Tried t → (more : List (List ℕ)) × (log_lines names past ≡ log_lines names (front k past) ++ log_line names t ∷ more)
+lines-cut names k past e t lt at is =
+    let grown = tape-of (k + 1) past in
+    let base = tape (front k past) in
+    let whole : tape past ≡ base ++ t ∷ grown.0 = grown.1 ∙ ap (λ (x : List Tried). x ++ grown.0) (tried-more k past e t lt at is) ∙ append_assoc base (t ∷ []) grown.0 in
+    (map (log_line names) grown.0, ap (map (log_line names)) whole ∙ map-append (log_line names) base (t ∷ grown.0))
+
+pub torn : (a b c : Option (List ℕ)) (names : List (List ℕ)) (k whole : ℕ) (past : List Entry) (e : Entry) (t : Tried) (line : List ℕ) → k < length past → e ≡ get_or (reverse past) k e → e.reply ≡ reply.Tried t → line ≡ log_line names t → whole ≡ length (tape (front k past)) → Appends a b (joined (log_lines names (front k past))) → LineGoesOut b c line false → TornAfter a c (log_lines names past) whole
+torn a b c names k whole past e t line lt at is made count out part =
+    let cut = lines-cut names k past e t lt at is in
+    let base = log_lines names (front k past) in
+    let long : length base ≡ whole = length-map (tape (front k past)) (log_line names) ∙ sym count in
+    record {
+      next = log_line names t;
+      there = ap (λ (ls : List (List ℕ)). slice_get ls whole) cut.1 ∙ ap (λ (n : ℕ). slice_get (base ++ log_line names t ∷ cut.0) n) (sym long) ∙ there base (log_line names t) cut.0;
+      front = part.0;
+      proper = subst (λ (l : List ℕ). part.0 < length l) made part.1;
+      out =
+          let taken : take whole (log_lines names past) ≡ base = ap (take whole) cut.1 ∙ take_at base (log_line names t ∷ cut.0) whole long in
+          subst (λ (ls : List (List ℕ)). Appends a c (joined ls ++ take part.0 (log_line names t))) (sym taken) (Appends-then a b c (joined base) (take part.0 (log_line names t)) out (subst (λ (l : List ℕ). Appends b c (take part.0 l)) made part.2));
+    }
+
+stays : (r : Reply) (before : List Tried) → ((t : Tried) → r ≡ reply.Tried t → ⊥) → tape_after r before ≡ before
+stays (reply.Tried t) before never = absurd (never t refl)
+stays (reply.Opened s) before never = refl
+stays (reply.Closed s) before never = refl
+stays reply.Done before never = refl
+stays (reply.Sent s) before never = refl
+stays (reply.Received s) before never = refl
+stays reply.Idle before never = refl
+stays (reply.Refused s) before never = refl
+
+-- one entry more that was no attempt
+pub same-tape : (k : ℕ) (past : List Entry) (e : Entry) → k < length past → e ≡ get_or (reverse past) k e → ((t : Tried) → e.reply ≡ reply.Tried t → ⊥) → tape (front (k + 1) past) ≡ tape (front k past)
+same-tape k past e lt at never = ap tape (front-more k past e lt at) ∙ stays e.reply (tape (front k past)) never
+
+pub line-more : (a b c : Option (List ℕ)) (names : List (List ℕ)) (k : ℕ) (past : List Entry) (e : Entry) (t : Tried) (line : List ℕ) → k < length past → e ≡ get_or (reverse past) k e → e.reply ≡ reply.Tried t → line ≡ log_line names t → Appends a b (joined (log_lines names (front k past))) → Appends b c line → Appends a c (joined (log_lines names (front (k + 1) past)))
+line-more a b c names k past e t line lt at is made out part =
+    subst (Appends a c) (sym (lines-more names k past e t lt at is)) (Appends-then a b c (joined (log_lines names (front k past))) (log_line names t) out (subst (Appends b c) made part))
+
+pub within : (k : ℕ) (past xs : List Entry) → xs ≡ reverse past → k < length xs → k < length past
+within k past xs e lt = let l = ap length e in omega (arith, l, length-reverse past, lt)

@@ -1,0 +1,13 @@
+use Rattle.std.proofs.Common.{◌≡◌, ◌≤◌, length}
+use Rattle.std.specs.Io.KnownBytes.{Appends}
+use Rattle.can_bus.specs.Transmit.{tape}
+use Rattle.can_logfile.specs.Log.{log_lines, joined}
+use Rattle.can_logfile.proofs.Fronts.{front}
+use Rattle.can_logfile.proofs.tapes.write_tape.Given as goal
+
+abbrev pub invariant-loop-entry : goal.invariant-loop-entry
+invariant-loop-entry g l = record {
+  few : l.whole_lines ≤ l.entry-index;
+  count : l.whole_lines ≡ length (tape (front l.entry-index l.record.history));
+  out : Appends (g.W.Write.contents l.fn.writer) (g.W.Write.contents l.writer) (joined (log_lines l.names (front l.entry-index l.record.history)));
+}

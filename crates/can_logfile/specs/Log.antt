@@ -1,0 +1,61 @@
+use Rattle.std.specs.Prelude.{◌≡◌, ◌<◌, ℕ, ◌/◌, ◌%◌, Bool, true, false, List, [], ◌∷◌, ◌++◌, length, take, map, slice_get, Option, Some, Result, Ok, Err, codes}
+use Rattle.std.specs.Option.{unwrap_or}
+use Rattle.std.specs.List.{flat_map}
+use Rattle.std.specs.Io.KnownBytes.{Appends}
+use Rattle.can_frame.specs.Frames.{CanFrame}
+use Rattle.can_frame.specs.FrameText.{digits, frame_spelling}
+use Rattle.can_frame.specs.declared.items.Item.TheVariants as item
+use Rattle.can_attempt.specs.declared.classes.Class.{Class}
+use Rattle.can_attempt.specs.declared.classes.Class.TheVariants as class
+use Rattle.can_bus.specs.declared.events.Entry.{Entry}
+use Rattle.can_bus.specs.declared.events.Tried.{Tried}
+use Rattle.can_bus.specs.Transmit.{tape}
+use Rattle.can_logfile.specs.declared.tapes.LogFault.{LogFault}
+
+-- The log of a bus, in the shape of candump's log files (can-utils).
+
+-- a moment in brackets: seconds in 10 digits, a point and 6 digits of microseconds
+abbrev pub stamp : ℕ → List ℕ
+stamp micros = 40 ∷ digits 10 10 (micros / 1000000) ++ 46 ∷ digits 10 6 (micros % 1000000) ++ 41 ∷ []
+
+-- the name of the interface that won, or `?` (63) where it has none
+abbrev pub winner_name : List (List ℕ) → ℕ → List ℕ
+winner_name names iface = unwrap_or (slice_get names iface) (63 ∷ [])
+
+-- what became of the frame: the frame where receivers have it, else an error message frame of linux/can/error.h,
+-- of a bus error (80 in hexadecimal) or of one without acknowledgement (A0) (own choice)
+abbrev pub tried_text : Class → CanFrame → List ℕ
+tried_text class.Done frame = frame_spelling (item.Data frame)
+tried_text class.LastBit frame = frame_spelling (item.Data frame)
+tried_text class.Destroyed frame = codes "20000080#0000000000000000"
+tried_text class.NoAck frame = codes "200000A0#0000000000000000"
+
+-- the line of a tried frame: moment, name and text with a space (32) between them, and LF (10)
+abbrev pub log_line : List (List ℕ) → Tried → List ℕ
+log_line names t = stamp t.moment ++ 32 ∷ winner_name names t.winner ++ 32 ∷ tried_text t.class t.frame ++ 10 ∷ []
+
+-- the lines of the tried frames of a history
+abbrev pub log_lines : List (List ℕ) → List Entry → List (List ℕ)
+log_lines names past = map (log_line names) (tape past)
+
+-- lines one behind another
+abbrev pub joined : List (List ℕ) → List ℕ
+joined lines = flat_map (λ line. line) lines
+
+-- a line went out whole, or only a proper front of it
+abbrev pub LineGoesOut : Option (List ℕ) → Option (List ℕ) → List ℕ → Bool → Type 0
+LineGoesOut old new line true = Appends old new line
+LineGoesOut old new line false = (front : ℕ) × (front < length line) × Appends old new (take front line)
+
+-- so many whole lines went out, and a proper front of the next line
+pub record TornAfter (old new : Option (List ℕ)) (lines : List (List ℕ)) (whole : ℕ) : Type 0 where
+  pub next : List ℕ
+  pub there : slice_get lines whole ≡ Some next
+  pub front : ℕ
+  pub proper : front < length next
+  pub out : Appends old new (joined (take whole lines) ++ take front next)
+
+-- all lines went out, and were counted, or the fault counts the whole ones
+abbrev pub LinesGoOut : Option (List ℕ) → Option (List ℕ) → List (List ℕ) → Result ℕ LogFault → Type 0
+LinesGoOut old new lines (Ok n) = (n ≡ length lines) × Appends old new (joined lines)
+LinesGoOut old new lines (Err fault) = TornAfter old new lines fault.whole_lines
