@@ -38,5 +38,5 @@ returns-in-Some c =
     let begins = lines_begin c.args.text.now c.behind-rest.result.now c.behind-rest-2.result.now c.in-Ok-read_lines.rest.now c.read_bus.new.buffer.items c.in-Ok.config c.read_lines.new.entries.items
     (first c.args.text.now c.behind-rest.result.now (c.begins.ensures.yes c.if-not-begins.false) c.behind-rest.ensures)
     c.in-Ok.ensures.found.1 c.in-Ok.ensures.found.2 (c.behind-rest-2.ensures ∙ ap (λ (n : ℕ). drop n c.behind-rest.result.now) (c.len.ensures ∙ c.read_bus.new.buffer.ok.0)) c.in-Ok-read_lines.ensures.lines in
-    made_text c.args.text.now c.in-Ok.config c.in-Some.record.config c.read_lines.new.entries.items c.in-Some.record.history c.in-Some.ensures.made.0 c.in-Some.ensures.made.1 (record { bus = c.in-Ok.ensures.found.0; lines = c.in-Ok-read_lines.ensures.have })
+    made_text c.args.text.now c.in-Ok.config c.in-Some.record.config c.read_lines.new.entries.items c.in-Some.record.history c.in-Some.ensures.config c.in-Some.ensures.history (record { bus = c.in-Ok.ensures.found.0; lines = c.in-Ok-read_lines.ensures.have })
     (whole_text c.args.text.now c.in-Ok-read_lines.rest.now c.in-Ok.config c.read_lines.new.entries.items begins (c.in-Ok-read_end.ensures ∙ ap (λ (n : ℕ). spell (end_words n) []) (c.len-2.ensures ∙ c.read_lines.new.entries.ok.0)))
