@@ -1,6 +1,7 @@
 // Record texts, written and read.
 
-use crate::{ReadFault, read_record, read_record_bytes, record_text};
+use crate::{ReadFault, read_record, read_record_bytes, record_text, write_record};
+use crate::text_laws::read_back;
 use can_arbiter::ScanArbiter;
 use can_attempt::AckMode;
 use can_bus::{Bus, BusConfig, Event, Pending, Received, Record, SocketId, run};
@@ -8,6 +9,8 @@ use can_fault::Verdict;
 use can_frame::{CanId, Frame, Iface, IfaceSet, Moment};
 use can_queue::ListQueue;
 use std::alloc::AllocGlobal;
+use std::io;
+use std::io::Write;
 use std::process::Abort;
 use std::test::Fail;
 
@@ -58,6 +61,18 @@ fn bus_text(rt: &impl AllocGlobal, bus: &ListBus) -> Result<Vec<u8>, Fail> {
     written(rt, bus.record())
 }
 
+fn written_in_pieces<W: Write>(
+    rt: &impl AllocGlobal,
+    record: &Record,
+    writer: &mut W,
+) -> io::Result<()> {
+    write_record(rt.alloc(), record, writer)
+}
+
+fn read_again(rt: &impl AllocGlobal, record: &Record) -> Result<Record, Fail> {
+    Ok(read_back(rt.alloc(), record)?)
+}
+
 /// The text of what was read.
 fn again(rt: &impl AllocGlobal, text: &str) -> Result<Vec<u8>, Fail> {
     written(rt, &read(rt, text)?)
@@ -106,6 +121,49 @@ fn the_text_is_read_and_written_again(rt: HostRuntime) -> Result<(), Fail> {
     let record = read(&rt, ONE_FRAME)?;
     assert_eq!(rt; count(&record), 7);
     assert_eq!(rt; limit(&record), 100);
+    Ok(())
+}
+
+#[test]
+fn a_record_written_in_pieces_has_the_same_text(rt: HostRuntime) -> Result<(), Fail> {
+    let record = read(&rt, ONE_FRAME)?;
+    let mut text = Vec::new(rt.alloc());
+    written_in_pieces(&rt, &record, &mut text)?;
+    assert!(rt; text.as_slice() == ONE_FRAME.as_bytes());
+    let again = read_again(&rt, &record)?;
+    assert!(rt; written(&rt, &again)?.as_slice() == ONE_FRAME.as_bytes());
+    Ok(())
+}
+
+/// A writer that takes so many bytes and then fails.
+#[derive(Drop)]
+struct Short {
+    left: usize,
+}
+
+impl Write for Short {
+    fn write(&mut self, buf: &[u8]) -> io::Result<usize> {
+        if self.left == 0 {
+            return Err(io::Error::from(io::ErrorKind::BrokenPipe));
+        }
+        let taken = self.left.min(buf.len());
+        self.left -= taken;
+        Ok(taken)
+    }
+
+    fn flush(&mut self) -> io::Result<()> {
+        Ok(())
+    }
+}
+
+#[test]
+fn a_writer_that_fails_is_told(rt: HostRuntime) -> Result<(), Fail> {
+    let record = read(&rt, ONE_FRAME)?;
+    for (left, fits) in [(0, false), (100, false), (ONE_FRAME.len() - 1, false), (ONE_FRAME.len(), true)] {
+        let mut writer = Short { left };
+        let result = written_in_pieces(&rt, &record, &mut writer);
+        assert_eq!(rt; result.is_ok(), fits, "at {left}");
+    }
     Ok(())
 }
 
