@@ -104,9 +104,9 @@ one-first c es j k proper f g =
     elim (cases_lt j k) [
       | inl lt ↦ absurd (none-before c es j k proper lt f g)
       | inr le ↦ elim (cases_lt k j) [
-          | inl lt ↦ absurd (none-before c es k j proper lt g f)
-          | inr ge ↦ omega (arith, le, ge)
-        ]
+        | inl lt ↦ absurd (none-before c es k j proper lt g f)
+        | inr ge ↦ omega (arith, le, ge)
+      ]
     ]
 
 -- what an audit answers of these entries, which are this history
