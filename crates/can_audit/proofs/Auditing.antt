@@ -1,5 +1,5 @@
-use Rattle.std.proofs.Common.{◌≡◌, ◌≢◌, ℕ, ◌+◌, ◌<◌, nat_le, List, ◌∷◌, length, min, get_or, take, reverse, Result, Ok, Err, OnOk, IfErr, inl, inr, arith, refl, sym, ap, ◌∙◌, subst}
-use Rattle.std.proofs.lemmas.Bool.{cond-false, lt-leb}
+use Rattle.std.proofs.Common.{◌≡◌, ◌≢◌, ℕ, ◌+◌, ◌<◌, ◌≤◌, zero, suc, nat_le, List, [], ◌∷◌, length, min, get_or, take, reverse, Result, Ok, Err, OnOk, IfErr, inl, inr, arith, refl, sym, ap, ◌∙◌, subst}
+use Rattle.std.proofs.lemmas.Bool.{cond-false, lt-leb, cases_lt}
 use Rattle.std.proofs.lemmas.List.{length-reverse, length-take-le, reverse-reverse}
 use Rattle.std.proofs.lemmas.Option.{slice_get_read, slice_get_within, get_or_from_slice_get}
 use Rattle.can_bus.specs.declared.events.BusConfig.{BusConfig}
@@ -71,16 +71,42 @@ replayed_more c es k e bus after r t noted same =
 
 -- ---- the answer
 
--- no entry of a legal history is wrong
-pub none-wrong : (c : BusConfig) (es : List Entry) (k : ℕ) → IsConfig c → IsLegal c (reverse es) → IsFirstWrong c es k → ⊥
-none-wrong c es k proper legal f =
+-- a legal history does not end with a wrong entry
+last-right : (c : BusConfig) (es : List Entry) (k : ℕ) → IsLegal c (before es (k + 1)) → IsFirstWrong c es k → ⊥
+last-right c es k legal f =
     let below = slice_get_within es k f.entry f.there in
     let read = get_or_from_slice_get es k f.entry f.entry f.there in
-    let all = (history-before c es (k + 1) (record { proper = proper; legal = legal })).legal in
-    let here = subst (IsLegal c) (before_more es k f.entry below (sym read)) all in
+    let here = subst (IsLegal c) (before_more es k f.entry below (sym read)) legal in
     elim f.wrong [
       | inl past ↦ absurd (omega (arith, past, here.0, length-reverse (take k es), length-take-le k es (omega (arith, below))))
       | inr other ↦ other here.1
+    ]
+
+-- no entry of a legal history is wrong
+pub none-wrong : (c : BusConfig) (es : List Entry) (k : ℕ) → IsConfig c → IsLegal c (reverse es) → IsFirstWrong c es k → ⊥
+none-wrong c es k proper legal f = last-right c es k (history-before c es (k + 1) (record { proper = proper; legal = legal })).legal f
+
+take_take : (es : List Entry) (j k : ℕ) → j ≤ k → take j (take k es) ≡ take j es
+take_take es zero k le = refl
+take_take [] (suc j) zero le = refl
+take_take [] (suc j) (suc k) le = refl
+take_take (e ∷ es) (suc j) zero le = absurd (omega (arith, le))
+take_take (e ∷ es) (suc j) (suc k) le = ap (λ (xs : List Entry). e ∷ xs) (take_take es j k (omega (arith, le)))
+
+-- before the first wrong entry there is no other
+none-before : (c : BusConfig) (es : List Entry) (j k : ℕ) → IsConfig c → j < k → IsFirstWrong c es j → IsFirstWrong c es k → ⊥
+none-before c es j k proper lt f g =
+    let all = (history-before c (take k es) (j + 1) (record { proper = proper; legal = g.legal_before })).legal in
+    last-right c es j (subst (λ (xs : List Entry). IsLegal c (reverse xs)) (take_take es (j + 1) k (omega (arith, lt))) all) f
+
+pub one-first : (c : BusConfig) (es : List Entry) (j k : ℕ) → IsConfig c → IsFirstWrong c es j → IsFirstWrong c es k → j ≡ k
+one-first c es j k proper f g =
+    elim (cases_lt j k) [
+      | inl lt ↦ absurd (none-before c es j k proper lt f g)
+      | inr le ↦ elim (cases_lt k j) [
+        | inl lt ↦ absurd (none-before c es k j proper lt g f)
+        | inr ge ↦ omega (arith, le, ge)
+      ]
     ]
 
 -- what an audit answers of these entries, which are this history
