@@ -9,16 +9,16 @@ use Rattle.can_logfile.proofs.tapes.write_tape.Goals as goal
 
 pub returns-then-not-write_line : goal.returns-then-not-write_line
 returns-then-not-write_line g c =
-    let lt = within c.loop-entry.entry-index c.args.record.now.history c.entries-entry-items.result.now c.entries-entry-items.ensures c.loop-entry-test.true in
-    let at = rw c.entries-entry-items.ensures at c.entry-item.is in
+    let lt = within c.loop-entry.entry-index c.args.record.now.history c.entries-entry-items.result.now c.entries-entry-items.ensures.entries c.loop-entry-test.true in
+    let at = rw c.entries-entry-items.ensures.entries at c.entry-item.is in
     torn (g.W.Write.contents c.args.writer.now) (g.W.Write.contents c.loop-entry.writer) (g.W.Write.contents c.write_line.new.writer) c.args.names.now
     c.loop-entry.entry-index c.loop-entry.whole_lines c.args.record.now.history c.entry-item.result c.in-Tried.tried c.as_bytes.result.now
     lt at c.in-Tried.is (c.as_bytes.ensures ∙ c.log_line-line.ensures) c.loop-entry.invariant.count c.loop-entry.invariant.out c.if-not-write_line.ensures
 
 pub loop-entry-preserved : goal.loop-entry-preserved
 loop-entry-preserved g c =
-    let lt = within c.loop-entry.entry-index c.args.record.now.history c.entries-entry-items.result.now c.entries-entry-items.ensures c.loop-entry-test.true in
-    let at = rw c.entries-entry-items.ensures at c.entry-item.is in
+    let lt = within c.loop-entry.entry-index c.args.record.now.history c.entries-entry-items.result.now c.entries-entry-items.ensures.entries c.loop-entry-test.true in
+    let at = rw c.entries-entry-items.ensures.entries at c.entry-item.is in
     elim c.match-entry.branch [
       | in-Tried+else-not-write_line w ↦ record {
         few = omega (arith, w.whole_lines-is, c.loop-entry.invariant.few);
