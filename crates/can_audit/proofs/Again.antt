@@ -39,7 +39,7 @@ use Rattle.can_audit.specs.Words.{is_gap, is_word, gap_before, word, after, spel
 use Rattle.can_audit.specs.Numerals.{number_in, moment_text}
 use Rattle.can_audit.specs.Values.{HoldsFilter, HoldsOption, HoldsVerdict, HoldsEvent, HoldsTried, HoldsReply, HasLine, HasBusLine}
 use Rattle.can_audit.specs.Spelling.{set_word, mask_word, flag_word, class_word, verdict_word, option_words, filter_words, refusal_words, received_words, event_words, reply_words, entry_line, ack_word, bus_words, end_words}
-use Rattle.can_audit.specs.Reading.{Gives, number_at, mask_at, moment_at, socket_at, set_at, flag_at, item_at, frame_at, option_at, set_behind, verdict_at, class_at, refusal_in, closed_at, data_at, error_at, tried_at, reply_at, moment_of, with_reply, filter_at, filters_at, set_filters_at, setting_at, entry_at, ack_at, config_at}
+use Rattle.can_audit.specs.Reading.{Gives, number_at, mask_at, moment_at, socket_at, set_at, flag_at, item_at, frame_at, option_at, set_behind, verdict_at, class_at, refusal_in, closed_at, data_at, error_at, tried_at, fixed_in, reply_at, moment_of, with_reply, filter_at, filters_at, set_filters_at, set_option_at, setting_at, entry_at, ack_at, config_at}
 use Rattle.can_audit.proofs.Wording.{word-spelled, after-spelled}
 use Rattle.can_audit.proofs.Digits.{number_again, digits_again, is_word-decimal, is_word-digits, moment_again, is_word-moment}
 use Rattle.can_audit.proofs.FrameWords.{item_again, is_word-item}
@@ -215,7 +215,7 @@ received_again (item.Data f) from n m moment rest h good hi hn hm = data_again f
 received_again (item.Error e) from n m moment rest h good hi hn hm = error_again (item.Error e) from m rest good hi hm ∙ ap (λ (k : ℕ). Some (reply.Received (Some (record { item = item.Error e; from = from; number = k; moment = m })), rest)) (sym h)
 
 refused_again : (why : Refusal) (moment : Option ℕ) (rest : List ℕ) → LeavesEntry why → reply_at moment (spell (refusal_words why) rest) ≡ Some (reply.Refused why, rest)
-unfolding reply_at refusal_in word after
+unfolding reply_at fixed_in refusal_in word after
 refused_again refusal.NoInterface moment rest h = refl
 refused_again refusal.BadCapacity moment rest h = refl
 refused_again refusal.TooManySockets moment rest h = refl
@@ -227,7 +227,7 @@ refused_again refusal.RecordFull moment rest h = absurd h
 refused_again refusal.NoMemory moment rest h = absurd h
 
 reply_again : (e : Event) (r : Reply) (rest : List ℕ) → FitsReply e r → HoldsReply r → reply_at (moment_of e) (spell (reply_words r) rest) ≡ Some (r, rest)
-unfolding reply_at word after
+unfolding reply_at fixed_in word after
 reply_again e (reply.Opened s) rest fits h = rw (socket_field s 10 rest h refl) refl
 reply_again e (reply.Closed c) rest fits h = closed_again c.unread c.dropped rest h.0 h.1
 reply_again e reply.Done rest fits h = refl
@@ -255,14 +255,18 @@ set_filters_again s fs r rest holds fits h =
     )
     (with_reply_again (SetFilters s fs) r rest fits h)
 
+set_option_again : (s : SocketId) (o : Opt) (r : Reply) (rest : List ℕ) → HoldsEvent (SetOption s o) → FitsReply (SetOption s o) r → HoldsReply r → set_option_at (decimal s.0 ++ gap_before (option_words o ++ codes "=" ∷ reply_words r) ∷ spell (option_words o ++ codes "=" ∷ reply_words r) rest) ≡ Some (record { event = SetOption s o; reply = r })
+unfolding set_option_at
+set_option_again s o r rest holds fits h =
+    let behind = option_words o ++ codes "=" ∷ reply_words r in
+    rw (socket_field s (gap_before behind) (spell behind rest) holds.0 (gap_is behind), option_again o (codes "=") (reply_words r) rest holds.1) (with_reply_again (SetOption s o) r rest fits h)
+
 entry_kinds : (e : Event) (r : Reply) (rest : List ℕ) → FitsReply e r → HoldsEvent e → HoldsReply r → entry_at (spell (event_words e ++ codes "=" ∷ reply_words r) rest) ≡ Some (record { event = e; reply = r })
 unfolding entry_at setting_at word after
 entry_kinds (Open i c) r rest fits holds h = rw (number_field 16 i 32 (decimal c ++ 32 ∷ spell (codes "=" ∷ reply_words r) rest) holds.0 (omega arith) refl, number_field (2 ^ 32) c 32 (spell (codes "=" ∷ reply_words r) rest) holds.1 (omega arith) refl) (with_reply_again (Open i c) r rest fits h)
 entry_kinds (Close s) r rest fits holds h = rw (socket_field s 32 (spell (codes "=" ∷ reply_words r) rest) holds refl) (with_reply_again (Close s) r rest fits h)
 entry_kinds (SetFilters s fs) r rest fits holds h = set_filters_again s fs r rest holds fits h
-entry_kinds (SetOption s o) r rest fits holds h =
-    let behind = option_words o ++ codes "=" ∷ reply_words r in
-    rw (socket_field s (gap_before behind) (spell behind rest) holds.0 (gap_is behind), option_again o (codes "=") (reply_words r) rest holds.1) (with_reply_again (SetOption s o) r rest fits h)
+entry_kinds (SetOption s o) r rest fits holds h = set_option_again s o r rest holds fits h
 entry_kinds (Send s f) r rest fits holds h = rw (socket_field s 32 (frame_spelling (item.Data f) ++ 32 ∷ spell (codes "=" ∷ reply_words r) rest) holds.0 refl, frame_field f 32 (spell (codes "=" ∷ reply_words r) rest) holds.1 refl) (with_reply_again (Send s f) r rest fits h)
 entry_kinds (Receive s) r rest fits holds h = rw (socket_field s 32 (spell (codes "=" ∷ reply_words r) rest) holds refl) (with_reply_again (Receive s) r rest fits h)
 entry_kinds (Attempt m v) r rest fits holds h = rw (moment_field m 32 (verdict_word v ++ 32 ∷ spell (codes "=" ∷ reply_words r) rest) holds.0 refl, verdict_again v (spell (codes "=" ∷ reply_words r) rest) holds.1) (with_reply_again (Attempt m v) r rest fits h)

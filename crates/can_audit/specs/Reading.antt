@@ -193,19 +193,24 @@ tried_at moment t = do
   o ← set_at a.1
   Some (reply.Tried (record { moment = moment; winner = w.0; number = n.0; frame = f.0; class = c.0; accepted = a.0; off = o.0 }), o.1)
 
+-- the reply of this one word
+unfoldable pub fixed_in : List ℕ → Option Reply
+fixed_in w =
+    if bytes_eq w (codes "ok") then Some reply.Done
+    else if bytes_eq w (codes "none") then Some (reply.Received None)
+    else if bytes_eq w (codes "idle") then Some reply.Idle
+    else (refusal_in w >>= λ why. Some (reply.Refused why))
+
 -- the reply to an attempt of this moment, or to another event
 unfoldable pub reply_at : Option ℕ → List ℕ → Option (Reply × List ℕ)
 reply_at moment t =
-    if bytes_eq (word t) (codes "ok") then Some (reply.Done, after t)
-    else if bytes_eq (word t) (codes "number") then (number_at (2 ^ 64) (after t) >>= λ n. Some (reply.Sent n.0, n.1))
-    else if bytes_eq (word t) (codes "none") then Some (reply.Received None, after t)
+    if bytes_eq (word t) (codes "number") then (number_at (2 ^ 64) (after t) >>= λ n. Some (reply.Sent n.0, n.1))
     else if bytes_eq (word t) (codes "data") then data_at (after t)
     else if bytes_eq (word t) (codes "error") then error_at (after t)
-    else if bytes_eq (word t) (codes "idle") then Some (reply.Idle, after t)
     else if bytes_eq (word t) (codes "tried") then (moment >>= λ m. tried_at m (after t))
     else if bytes_eq (word t) (codes "socket") then (socket_at (after t) >>= λ s. Some (reply.Opened s.0, s.1))
     else if bytes_eq (word t) (codes "closed") then closed_at (after t)
-    else (refusal_in (word t) >>= λ why. Some (reply.Refused why, after t))
+    else (fixed_in (word t) >>= λ r. Some (r, after t))
 
 -- the moment of an attempt
 abbrev pub moment_of : Event → Option ℕ
@@ -242,13 +247,20 @@ set_filters_at t = do
   fs ← filters_at [] n.0 n.1
   with_reply (SetFilters s.0 fs.0) fs.1
 
+-- an option of a socket
+unfoldable pub set_option_at : List ℕ → Option Entry
+set_option_at t = do
+  s ← socket_at t
+  o ← option_at s.1
+  with_reply (SetOption s.0 o.0) o.1
+
 -- an entry whose line begins with this word and goes on with this text: of the events that set a bus up
 unfoldable pub setting_at : List ℕ → List ℕ → Option Entry
 setting_at w t =
     if bytes_eq w (codes "open") then (number_at 16 t >>= λ i. number_at (2 ^ 32) i.1 >>= λ c. with_reply (Open i.0 c.0) c.1)
     else if bytes_eq w (codes "close") then (socket_at t >>= λ s. with_reply (Close s.0) s.1)
     else if bytes_eq w (codes "filters") then set_filters_at t
-    else if bytes_eq w (codes "option") then (socket_at t >>= λ s. option_at s.1 >>= λ o. with_reply (SetOption s.0 o.0) o.1)
+    else if bytes_eq w (codes "option") then set_option_at t
     else if bytes_eq w (codes "restart") then (number_at 16 t >>= λ i. moment_at i.1 >>= λ m. with_reply (Restart i.0 m.0) m.1)
     else None
 

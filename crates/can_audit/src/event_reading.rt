@@ -1,7 +1,7 @@
 ghost use Rattle.std.specs.Prelude.{IsTrue, IfOk, OnOk, ◌++◌, ◌∷◌, [], ◌+◌, ◌≡◌, ◌≤◌, ◌<◌, length};
 ghost use Rattle.std.specs.Option.{option_map};
 ghost use Rattle.std.specs.Result.{result_map_both};
-ghost use Rattle.can_audit.specs.Reading.{Gives, moment_of, GivesFilters, begins_with, set_behind, option_at, verdict_at, filter_at, filters_at, with_reply, set_filters_at, setting_at, entry_at};
+ghost use Rattle.can_audit.specs.Reading.{Gives, moment_of, GivesFilters, begins_with, set_behind, option_at, verdict_at, filter_at, filters_at, with_reply, set_filters_at, set_option_at, setting_at, entry_at};
 
 use crate::faults::Unread;
 use crate::fields::{
@@ -73,13 +73,7 @@ fn guess_setting(alloc: Global, word: &[u8], text: &[u8]) -> Result<Entry, Unrea
         return guess_filters(alloc, text);
     }
     if same_word(word, b"option") {
-        let Some((id, rest)) = socket_field(text) else {
-            return Err(Unread::Bad);
-        };
-        let Some((option, rest)) = option_field(rest) else {
-            return Err(Unread::Bad);
-        };
-        return with_reply(Event::SetOption(id, option), rest);
+        return guess_option(text);
     }
     if same_word(word, b"restart") {
         let Some((iface, rest)) = iface_field(text) else {
@@ -115,6 +109,20 @@ fn moment_of(event: &Event) -> Option<Moment>
         Event::Attempt(moment, _) => Some(*moment),
         _ => None,
     }
+}
+
+/// An option of a socket.
+#[tactic(auto, unfolding(crate::specs::Reading::set_option_at))]
+fn guess_option(text: &[u8]) -> Result<Entry, Unread>
+    ensures { Gives result (set_option_at text.now) }
+{
+    let Some((id, rest)) = socket_field(text) else {
+        return Err(Unread::Bad);
+    };
+    let Some((option, rest)) = option_field(rest) else {
+        return Err(Unread::Bad);
+    };
+    with_reply(Event::SetOption(id, option), rest)
 }
 
 /// The filters of a socket.
@@ -190,7 +198,7 @@ fn keep(filters: &mut Vec<Filter>, filter: Filter) -> Result<(), AllocError>
     Ok(())
 }
 
-/// An option of a socket, by its name, and its value.
+/// An option, by its name, and its value.
 #[tactic(auto, unfolding(crate::specs::Reading::option_at))]
 fn option_field(text: &[u8]) -> Option<(Opt, &[u8])>
     ensures { option_map (λ x. (x.0, x.1.now)) result ≡ option_at text.now }

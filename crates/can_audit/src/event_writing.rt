@@ -16,44 +16,42 @@ pub fn put_event(out: &mut Vec<u8>, event: &Event) -> Result<(), AllocError>
 {
     match event {
         Event::Open(iface, capacity) => {
-            put_word(out, b"open", b' ')?;
-            put_count(out, u64::from(iface.number()), b' ')?;
+            put_call(out, b"open", u32::from(iface.number()))?;
             put_count(out, u64::from(*capacity), b' ')?;
         }
-        Event::Close(id) => {
-            put_word(out, b"close", b' ')?;
-            put_count(out, u64::from(id.0), b' ')?;
-        }
+        Event::Close(id) => put_call(out, b"close", id.0)?,
         Event::SetFilters(id, set) => {
-            put_word(out, b"filters", b' ')?;
-            put_count(out, u64::from(id.0), b' ')?;
+            put_call(out, b"filters", id.0)?;
             put_filters(out, set.filters())?;
         }
         Event::SetOption(id, option) => {
-            put_word(out, b"option", b' ')?;
-            put_count(out, u64::from(id.0), b' ')?;
+            put_call(out, b"option", id.0)?;
             put_option(out, *option)?;
         }
         Event::Send(id, frame) => {
-            put_word(out, b"send", b' ')?;
-            put_count(out, u64::from(id.0), b' ')?;
+            put_call(out, b"send", id.0)?;
             put_item(out, &Item::Data(*frame), b' ')?;
         }
-        Event::Receive(id) => {
-            put_word(out, b"receive", b' ')?;
-            put_count(out, u64::from(id.0), b' ')?;
-        }
+        Event::Receive(id) => put_call(out, b"receive", id.0)?,
         Event::Attempt(moment, verdict) => {
             put_word(out, b"attempt", b' ')?;
             put_moment(out, *moment, b' ')?;
             put_verdict(out, *verdict)?;
         }
         Event::Restart(iface, moment) => {
-            put_word(out, b"restart", b' ')?;
-            put_count(out, u64::from(iface.number()), b' ')?;
+            put_call(out, b"restart", u32::from(iface.number()))?;
             put_moment(out, *moment, b' ')?;
         }
     }
+    Ok(())
+}
+
+/// The name of an event, and its socket or interface.
+fn put_call(out: &mut Vec<u8>, word: &[u8], number: u32) -> Result<(), AllocError>
+    ensures { OnOk result (out.new.items ≡ out.old.items ++ (word.now ++ 32 ∷ [] ++ (decimal number ++ 32 ∷ []))) }
+{
+    put_word(out, word, b' ')?;
+    put_count(out, u64::from(number), b' ')?;
     Ok(())
 }
 

@@ -1,6 +1,6 @@
 ghost use Rattle.std.specs.Prelude.{◌≡◌};
 ghost use Rattle.std.specs.Option.{option_map};
-ghost use Rattle.can_audit.specs.Reading.{class_at, refusal_in, closed_at, data_at, error_at, tried_at, reply_at};
+ghost use Rattle.can_audit.specs.Reading.{class_at, refusal_in, closed_at, data_at, error_at, tried_at, fixed_in, reply_at};
 
 use crate::fields::{
     frame_field, iface_field, item_field, long_field, moment_field, set_field, socket_field,
@@ -16,26 +16,17 @@ pub fn reply_field(moment: Option<Moment>, text: &[u8]) -> Option<(Reply, &[u8])
     ensures { option_map (λ x. (x.0, x.1.now)) result ≡ reply_at moment text.now }
 {
     let (word, rest) = next_word(text);
-    if same_word(word, b"ok") {
-        return Some((Reply::Done, rest));
-    }
     if same_word(word, b"number") {
         let Some((number, rest)) = long_field(rest) else {
             return None;
         };
         return Some((Reply::Sent(number), rest));
     }
-    if same_word(word, b"none") {
-        return Some((Reply::Received(None), rest));
-    }
     if same_word(word, b"data") {
         return data_field(rest);
     }
     if same_word(word, b"error") {
         return error_field(rest);
-    }
-    if same_word(word, b"idle") {
-        return Some((Reply::Idle, rest));
     }
     if same_word(word, b"tried") {
         return match moment {
@@ -52,10 +43,30 @@ pub fn reply_field(moment: Option<Moment>, text: &[u8]) -> Option<(Reply, &[u8])
     if same_word(word, b"closed") {
         return closed_field(rest);
     }
+    let Some(reply) = fixed_reply(word) else {
+        return None;
+    };
+    Some((reply, rest))
+}
+
+/// The reply of this one word.
+#[tactic(auto, unfolding(crate::specs::Reading::fixed_in))]
+fn fixed_reply(word: &[u8]) -> Option<Reply>
+    ensures { result ≡ fixed_in word.now }
+{
+    if same_word(word, b"ok") {
+        return Some(Reply::Done);
+    }
+    if same_word(word, b"none") {
+        return Some(Reply::Received(None));
+    }
+    if same_word(word, b"idle") {
+        return Some(Reply::Idle);
+    }
     let Some(why) = refusal_of(word) else {
         return None;
     };
-    Some((Reply::Refused(why), rest))
+    Some(Reply::Refused(why))
 }
 
 /// The counts of a closed socket.

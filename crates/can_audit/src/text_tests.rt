@@ -1,7 +1,7 @@
 // Record texts, written and read.
 
-use crate::{ReadFault, read_record, read_record_bytes, record_text, write_record};
 use crate::text_laws::read_back;
+use crate::{ReadFault, read_record, read_record_bytes, record_text, write_record};
 use can_arbiter::ScanArbiter;
 use can_attempt::AckMode;
 use can_bus::{Bus, BusConfig, Event, Pending, Received, Record, SocketId, run};
@@ -159,7 +159,12 @@ impl Write for Short {
 #[test]
 fn a_writer_that_fails_is_told(rt: HostRuntime) -> Result<(), Fail> {
     let record = read(&rt, ONE_FRAME)?;
-    for (left, fits) in [(0, false), (100, false), (ONE_FRAME.len() - 1, false), (ONE_FRAME.len(), true)] {
+    for (left, fits) in [
+        (0, false),
+        (100, false),
+        (ONE_FRAME.len() - 1, false),
+        (ONE_FRAME.len(), true),
+    ] {
         let mut writer = Short { left };
         let result = written_in_pieces(&rt, &record, &mut writer);
         assert_eq!(rt; result.is_ok(), fits, "at {left}");
