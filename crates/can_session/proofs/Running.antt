@@ -1,4 +1,4 @@
-use Rattle.std.proofs.Common.{◌≡◌, ◌⊎◌, inl, inr, ℕ, ◌+◌, ◌<◌, ◌≤◌, Bool, true, false, arith, List, [], ◌∷◌, ◌++◌, length, Option, Some, None, Result, Ok, Err, refl, sym, ap, subst, ◌∙◌, append_assoc}
+use Rattle.std.proofs.Common.{◌≡◌, ◌⊎◌, inl, inr, ℕ, ◌+◌, ◌≤◌, Bool, true, false, arith, List, [], ◌∷◌, ◌++◌, length, Option, Some, None, Result, Ok, Err, refl, sym, ap, subst, ◌∙◌, append_assoc}
 use Rattle.std.specs.Io.KnownBytes.{Appends, prepend_known}
 use Rattle.std.proofs.lemmas.List.{append-nil, length-append}
 use Rattle.std.specs.Prelude.{MatchBool}
@@ -7,7 +7,7 @@ use Rattle.can_fault.specs.Sources.{VerdictMap}
 use Rattle.can_session.specs.declared.lines.LineFault.TheVariants as line
 use Rattle.can_session.specs.declared.bench_run.BenchFault.{BenchFault}
 use Rattle.can_session.specs.declared.bench_run.BenchFault.TheVariants.{BadConfig, BadLine, InputTooLong, Read, Write, NoMemory}
-use Rattle.can_session.specs.Lines.{Input, IsWithin, FindsEnd, TakesLine, Given, GoesOn, HasEnded, Stops, left_of, lines_of, spelled}
+use Rattle.can_session.specs.Lines.{Input, IsWithin, FindsEnd, TakesLine, Given, Stops, left_of, lines_of}
 use Rattle.can_session.specs.Orders.{order_of}
 use Rattle.can_session.specs.Benches.{BenchState, IsCarriedOut, AreCarriedOut, IsRefused}
 use Rattle.can_session.specs.Runs.{AreAll, AreFirst, ComeBeforeBad, ComeBeforeStop, Ran, Ends, EndsAt}

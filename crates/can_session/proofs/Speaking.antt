@@ -1,4 +1,4 @@
-use Rattle.std.proofs.Common.{◌≡◌, ℕ, ◌-◌, List, Option, Some, slice_get, slice_set, sym, ap, subst, ◌∙◌}
+use Rattle.std.proofs.Common.{◌≡◌, ℕ, ◌-◌, List, Some, slice_get, slice_set, sym, ap, ◌∙◌}
 use Rattle.can_session.specs.Sessions.{SessionState}
 use Rattle.can_session.specs.BusSteps.{NamedBus}
 use Rattle.can_session.specs.Benches.{BenchState, Speaks, spoken}

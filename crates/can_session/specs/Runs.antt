@@ -1,4 +1,4 @@
-use Rattle.std.specs.Prelude.{◌≡◌, ◌≢◌, ◌⊎◌, ℕ, ◌+◌, ◌≤◌, List, [], ◌∷◌, ◌++◌, length, replicate, Option, Some, None, Result, Ok, Err}
+use Rattle.std.specs.Prelude.{◌≡◌, ◌⊎◌, ℕ, ◌+◌, ◌≤◌, List, [], ◌∷◌, ◌++◌, length, replicate, Option, Some, None, Result, Ok, Err}
 use Rattle.std.specs.Io.KnownBytes.{Appends}
 use Rattle.can_fault.specs.Sources.{VerdictMap}
 use Rattle.can_bus.specs.declared.events.BusConfig.{BusConfig}
@@ -9,7 +9,7 @@ use Rattle.can_session.specs.declared.bench_run.BenchFault.{BenchFault}
 use Rattle.can_session.specs.declared.bench_run.BenchFault.TheVariants.{BadConfig, BadLine, InputTooLong, Read, Write, NoMemory}
 use Rattle.can_session.specs.Lines.{Input, TakesLine, Stops, StopsBehind, ComesToLong, lines_of}
 use Rattle.can_session.specs.Orders.{order_of}
-use Rattle.can_session.specs.Benches.{BenchState, IsCarriedOut, AreCarriedOut, IsRefused}
+use Rattle.can_session.specs.Benches.{BenchState, AreCarriedOut, IsRefused}
 
 -- A run of the bench over an input (own choice).
 

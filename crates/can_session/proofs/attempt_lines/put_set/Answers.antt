@@ -1,4 +1,4 @@
-use Rattle.std.proofs.Common.{sym, ap, subst, ◌∙◌, ◌++◌, List, ℕ, ◌<◌}
+use Rattle.std.proofs.Common.{sym, ap, subst, ◌∙◌, ◌++◌, ℕ, ◌<◌}
 use Rattle.can_session.specs.AttemptLines.{set_text}
 use Rattle.can_session.proofs.SetTexts.{member_kept, other_kept}
 use Rattle.can_session.proofs.attempt_lines.put_set.Goals as goal

@@ -1,6 +1,4 @@
-use Rattle.std.proofs.Common.{◌≡◌, ℕ, List, Option, Result, Ok, Err, refl, sym, ap, subst, ◌∙◌}
-use Rattle.can_bus.specs.declared.records.Record.{Record}
-use Rattle.can_session.specs.declared.bench_run.BenchFault.{BenchFault}
+use Rattle.std.proofs.Common.{◌≡◌, ℕ, List, Option, Err, sym, ap, subst, ◌∙◌}
 use Rattle.can_session.specs.Benches.{BenchState}
 use Rattle.can_session.specs.Lines.{Input, left_of}
 use Rattle.can_session.specs.Runs.{AreAll, Ran, IsRecordOf, at_start, Ends}

@@ -1,8 +1,7 @@
-use Rattle.std.proofs.Common.{◌≡◌, ◌⊎◌, ℕ, ◌+◌, ◌≤◌, List, [], ◌∷◌, ◌++◌, length, arith, Result, Err, refl, sym, ap, subst, ◌∙◌}
-use Rattle.can_session.specs.declared.bench_run.BenchFault.{BenchFault}
+use Rattle.std.proofs.Common.{◌≡◌, ℕ, ◌+◌, [], ◌∷◌, ◌++◌, arith, refl, sym, ap, subst, ◌∙◌}
 use Rattle.can_session.specs.Lines.{left_of}
 use Rattle.can_session.specs.Benches.{BenchState}
-use Rattle.can_session.specs.Runs.{Ends, Ran}
+use Rattle.can_session.specs.Runs.{Ran}
 use Rattle.can_session.proofs.Running.{of_start, of_more, of_all, ran_start, ran_on, ends_stop, push_length, counted_more, match_true, match_false}
 use Rattle.can_session.proofs.bench_run.run.Goals as goal
 

@@ -1,9 +1,8 @@
-use Rattle.std.proofs.Common.{◌≡◌, ◌++◌, ℕ, suc, List, Bool, true, subst, ap, sym, ◌∙◌}
-use Rattle.can_session.specs.declared.stages.Stage.{Stage}
+use Rattle.std.proofs.Common.{suc, Bool, true, subst, ◌∙◌}
 use Rattle.can_session.specs.Plans.{Plays}
 use Rattle.can_session.specs.Turns.{delivery}
 use Rattle.can_session.specs.Sessions.{SessionState}
-use Rattle.can_session.specs.BusSteps.{NamedBus, BusStep}
+use Rattle.can_session.specs.BusSteps.{BusStep}
 use Rattle.can_session.proofs.turns.drain.Goals as goal
 
 pub loop-preserved : goal.loop-preserved

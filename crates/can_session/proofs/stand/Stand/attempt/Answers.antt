@@ -1,9 +1,8 @@
-use Rattle.std.proofs.Common.{◌≡◌, ℕ, List, Option, Result, ap, subst, sym, ◌∙◌}
+use Rattle.std.proofs.Common.{ℕ, List, ap, subst, ◌∙◌}
 use Rattle.can_fault.specs.declared.verdicts.Verdict.{Verdict}
 use Rattle.can_fault.specs.Sources.{verdict_in}
 use Rattle.can_bus.specs.declared.events.Event.TheVariants as event
 use Rattle.can_bus.specs.Answer.{Answers, told_attempt}
-use Rattle.can_session.specs.BusSteps.{NamedBus}
 use Rattle.can_session.specs.AttemptLines.{attempt_line}
 use Rattle.can_session.specs.Benches.{BenchState, IsTried}
 use Rattle.can_session.proofs.stand.Stand.attempt.Goals as goal
