@@ -35,8 +35,8 @@ mod values;
 mod words;
 mod writing;
 
-pub use faults::ReadFault;
 pub use audits::{AuditFault, audit};
+pub use faults::ReadFault;
 pub use queues::{candidates, projected, queued};
 pub use record_reading::{read_record, read_record_bytes};
 pub use record_writing::{record_text, write_record};
