@@ -1,3 +1,5 @@
+ghost use Rattle.std.specs.Prelude.{◌≡◌, ◌≤◌};
+
 use crate::audit_job::audit_file;
 use crate::bench_job::run_bench;
 use crate::faults::Fault;
@@ -23,7 +25,9 @@ pub fn run_words<H: Files, R: Read + Drop, W: Write + Drop, E: Write>(
     input: R,
     output: W,
     errors: &mut E,
-) -> u8 {
+) -> u8
+    ensures { result ≤ 2 }
+{
     let Ok(mut output) = BufWriter::new(alloc, output) else {
         return fail(Fault::NoMemory, errors);
     };
@@ -48,11 +52,9 @@ pub fn run_words<H: Files, R: Read + Drop, W: Write + Drop, E: Write>(
 }
 
 // Writes what was put out, also before a fault; a fault of that comes first. Answers the status.
-fn finish<W: Write, E: Write>(
-    outcome: Result<(), Fault<'_>>,
-    output: &mut W,
-    errors: &mut E,
-) -> u8 {
+fn finish<W: Write, E: Write>(outcome: Result<(), Fault<'_>>, output: &mut W, errors: &mut E) -> u8
+    ensures { result ≤ 1 }
+{
     if output.flush().is_err() {
         return fail(Fault::Write, errors);
     }
@@ -63,7 +65,9 @@ fn finish<W: Write, E: Write>(
 }
 
 /// Tells why a command line was not carried out, and answers its status.
-pub fn fail<E: Write>(fault: Fault<'_>, errors: &mut E) -> u8 {
+pub fn fail<E: Write>(fault: Fault<'_>, errors: &mut E) -> u8
+    ensures { result ≡ 1 }
+{
     let _ = writeln!(errors, "canbusd: {fault}");
     FAILED
 }
