@@ -1,25 +1,33 @@
-# make            proves and builds the program
-# make test       the test command: every proof, edit, test and stored run from nothing
-# make install    puts the program, its manual page and completions under PREFIX (DESTDIR in front of it)
-# make uninstall  takes it away again
-# make clean      removes what was built
+# make              proves and builds the program
+# make test         the test command: every proof, edit, test, stored run and example, from nothing
+# make dist         puts the proved program into dist/, with what it was built from
+# make verify-dist  proves and builds it once more from nothing, and compares it with dist/ byte for byte
+# make install      puts the program, its manual page and completions under PREFIX (DESTDIR in front of it)
+# make uninstall    takes it away again
+# make clean        removes what was built here
 
 PREFIX ?= /usr/local
 DESTDIR ?=
 BINDIR = $(DESTDIR)$(PREFIX)/bin
 MANDIR = $(DESTDIR)$(PREFIX)/share/man/man1
 COMPLETIONS = $(DESTDIR)$(PREFIX)/share/bash-completion/completions
-PROGRAM = crates/canbusd/out/canbusd
 
 all:
 	./scripts/build
 
 test:
-	rt ci
+	./scripts/test
 
-install: all
-	install -d $(BINDIR) $(MANDIR) $(COMPLETIONS)
-	install -m 755 $(PROGRAM) $(BINDIR)/canbusd
+dist:
+	./scripts/make-dist
+
+verify-dist:
+	./scripts/make-dist --verify
+
+install:
+	program=$$(./scripts/fresh-program --build) && \
+	install -d $(BINDIR) $(MANDIR) $(COMPLETIONS) && \
+	install -m 755 $$program $(BINDIR)/canbusd
 	install -m 644 canbusd.1 $(MANDIR)/canbusd.1
 	install -m 644 contrib/canbusd.bash $(COMPLETIONS)/canbusd
 
@@ -29,4 +37,4 @@ uninstall:
 clean:
 	rm -rf crates/*/out
 
-.PHONY: all test install uninstall clean
+.PHONY: all test dist verify-dist install uninstall clean
