@@ -140,35 +140,35 @@ fn other_texts_are_bad(rt: HostRuntime) {
     }
 }
 
-fn is_decimal(word: &str, most: usize, number: Option<u64>) -> bool {
-    read_decimal(word.as_bytes(), most) == number
+fn is_decimal(word: &str, number: Option<u64>) -> bool {
+    read_decimal(word.as_bytes(), 19) == number
 }
 
-fn is_hexadecimal(word: &str, most: usize, number: Option<u32>) -> bool {
-    read_hexadecimal(word.as_bytes(), most) == number
+fn is_hexadecimal(word: &str, number: Option<u32>) -> bool {
+    read_hexadecimal(word.as_bytes(), 8) == number
 }
 
 #[test]
 fn words_are_read_as_numbers(rt: HostRuntime) {
-    assert_eq!(rt; is_decimal("0", 1, Some(0)), true);
-    assert_eq!(rt; is_decimal("00123", 6, Some(123)), true);
+    assert_eq!(rt; is_decimal("0", Some(0)), true);
+    assert_eq!(rt; is_decimal("00123", Some(123)), true);
     assert_eq!(rt;
-        is_decimal("9999999999999999999", 19, Some(9_999_999_999_999_999_999)),
+        is_decimal("9999999999999999999", Some(9_999_999_999_999_999_999)),
         true
     );
-    assert_eq!(rt; is_hexadecimal("fFfFfFfF", 8, Some(0xFFFF_FFFF)), true);
-    assert_eq!(rt; is_hexadecimal("0a9", 3, Some(0xA9)), true);
-    for word in ["", "1234", "1 ", "+1", "-1", "1a", ":", "/"] {
-        assert_eq!(rt; is_decimal(word, 3, None), true, "at {word}");
+    assert_eq!(rt; is_hexadecimal("fFfFfFfF", Some(0xFFFF_FFFF)), true);
+    assert_eq!(rt; is_hexadecimal("0a9", Some(0xA9)), true);
+    for word in ["", "00000000000000000000", "1 ", "+1", "-1", "1a", ":", "/"] {
+        assert_eq!(rt; is_decimal(word, None), true, "at {word}");
     }
-    for word in ["", "1234", "g", "0x1", "+1", "@", "G", "`"] {
-        assert_eq!(rt; is_hexadecimal(word, 3, None), true, "at {word}");
+    for word in ["", "000000000", "g", "0x1", "+1", "@", "G", "`"] {
+        assert_eq!(rt; is_hexadecimal(word, None), true, "at {word}");
     }
 }
 
 #[test]
 fn parts_of_texts_are_written(rt: HostRuntime) {
-    let mut text: Text<43> = Text::new();
+    let mut text: Text<64> = Text::new();
     text.push_id(CanId::standard(0xA).expect(&rt, "11 bits"));
     text.push_id(CanId::extended(0x1FFF_FFFF).expect(&rt, "29 bits"));
     text.push_moment(Moment::new(23_000_042).expect(&rt, "small"));
