@@ -1,11 +1,10 @@
 ghost use Rattle.std.specs.Prelude.{◌≡◌, ◌<◌, Some, None};
 ghost use Rattle.std.specs.List.{list_all};
-ghost use Rattle.std.specs.Char.{is_ascii_digit};
 ghost use Rattle.can_frame.specs.Names.{names_in, is_name as is_name_of};
-ghost use Rattle.can_fault.specs.Scripts.{word, after, is_number as is_number_of, number_spelling, set_spelling, kind_spelling, local_spelling, verdict_spelling, entry_spelling, line_spelling};
+ghost use Rattle.can_fault.specs.Scripts.{word, after, number_spelling, set_spelling, kind_spelling, local_spelling, verdict_spelling, entry_spelling, line_spelling};
 
 use crate::verdicts::{GlobalKind, LocalKind, Verdict};
-use can_frame::{IfaceSet, Names, is_name};
+use can_frame::{IfaceSet, Names, is_name, read_decimal};
 
 /// What is wrong with a line of a script by itself.
 #[derive(Debug, Clone, Copy, PartialEq, Eq)]
@@ -107,22 +106,7 @@ fn are_good(list: &str) -> bool
 fn read_number(text: &str) -> Option<u64>
     ensures { result ≡ number_spelling text.now }
 {
-    if !is_number(text) {
-        return None;
-    }
-    text.parse().ok()
-}
-
-fn is_number(text: &str) -> bool
-    ensures { result ≡ is_number_of text.now }
-{
-    1 <= text.len() && text.len() <= 8 && has_digits_alone(text)
-}
-
-fn has_digits_alone(text: &str) -> bool
-    ensures { result ≡ list_all is_ascii_digit text.now }
-{
-    text.bytes().all(|byte| byte.is_ascii_digit())
+    read_decimal(text.as_bytes(), 8)
 }
 
 // The text before the first space, and the text after it; the whole and nothing where there is no space.

@@ -33,9 +33,9 @@ fn push_stamp(line: &mut LogLine, moment: Moment)
 {
     let micros = moment.micros();
     line.push(b'(');
-    line.push_digits(10, 10, micros / 1_000_000);
+    line.push_decimals(10, micros / 1_000_000);
     line.push(b'.');
-    line.push_digits(10, 6, micros % 1_000_000);
+    line.push_decimals(6, micros % 1_000_000);
     line.push(b')');
 }
 

@@ -18,11 +18,12 @@ use Rattle.can_proto.specs.declared.verbs.Verb.{Verb}
 use Rattle.can_proto.specs.declared.verbs.Verb.TheVariants as verb
 use Rattle.can_proto.specs.Words.{is_blank, front, words_after, words_of}
 use Rattle.can_proto.specs.Verbs.{stands_in}
-use Rattle.can_proto.specs.Numbers.{number_after, number_in}
+use Rattle.can_frame.specs.Numbers.{number_after, number_in}
 use Rattle.can_proto.specs.Commands.{◌>>=◌, or_fault, short_id, long_id, id_of, length_of, bytes_of, send_of, remote_of, filter_of, filters_of, set_of, mask_of, switch_of, open_of, arguments_of, command_of, reading}
 use Rattle.can_proto.specs.CommandSpelling.{flag_text, frame_words, filter_words, option_words, command_words, command_spelling, verb_of, verb_of_payload, verb_of_option, IsFilter, IsOption, IsCommand}
 use Rattle.can_proto.proofs.Cuts.{clear, clear_parts}
-use Rattle.can_proto.proofs.Numerals.{IsMark, clear-digits, clear-decimal, left, value-digits, value-decimal}
+use Rattle.can_proto.proofs.Numerals.{IsMark, clear-digits, clear-decimal}
+use Rattle.can_frame.proofs.Numerals.{left, value-digits, value-decimal}
 
 -- A command's written spelling is read back.
 

@@ -15,7 +15,8 @@ use Rattle.can_proto.specs.declared.answers.Answer.TheVariants.{Greeting, Done, 
 use Rattle.can_proto.specs.declared.answers.Cause.{Cause}
 use Rattle.can_proto.specs.declared.answers.Cause.TheVariants as cause
 use Rattle.can_proto.specs.Causes.{cause_text}
-use Rattle.can_proto.specs.Spelling.{moment_text, class_text, item_text, stats_text, reply_text, told_counts, IsAnswer, AreAlike}
+use Rattle.can_frame.specs.Moments.{moment_text}
+use Rattle.can_proto.specs.Spelling.{class_text, item_text, stats_text, reply_text, told_counts, IsAnswer, AreAlike}
 use Rattle.can_proto.proofs.Cuts.{clear, clear-append, marked-left, marked-right, cut}
 use Rattle.can_proto.proofs.Numerals.{clear-decimal}
 use Rattle.can_proto.proofs.Telling.{one-cause}

@@ -6,10 +6,12 @@ use Rattle.can_frame.specs.Frames.Payload.{Data, Remote}
 use Rattle.can_frame.specs.declared.items.Item.{Item}
 use Rattle.can_frame.specs.declared.items.Item.TheVariants as item
 use Rattle.can_frame.specs.FrameText.{digits, pairs, id_text, IsPayload, IsItem}
-use Rattle.can_proto.specs.Spelling.{moment_text, class_width, class_text, item_text, without_data}
-use Rattle.can_proto.specs.Numbers.{number_after}
+use Rattle.can_frame.specs.Moments.{moment_text}
+use Rattle.can_proto.specs.Spelling.{class_width, class_text, item_text, without_data}
+use Rattle.can_frame.specs.Numbers.{number_after}
 use Rattle.can_proto.proofs.Cuts.{clear, clear-append, cut}
-use Rattle.can_proto.proofs.Numerals.{IsMark, clear-digits, clear-pairs, clear-decimal, left, value-digits, same-digits}
+use Rattle.can_proto.proofs.Numerals.{IsMark, clear-digits, clear-pairs, clear-decimal}
+use Rattle.can_frame.proofs.Numerals.{left, value-digits, same-digits}
 
 -- What a client is told of items tells them apart.
 

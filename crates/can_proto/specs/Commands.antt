@@ -10,7 +10,7 @@ use Rattle.can_proto.specs.declared.faults.ProtoFault.{ProtoFault}
 use Rattle.can_proto.specs.declared.faults.ProtoFault.TheVariants.{NoMemory, InvalidFilter, TooManyFilters, EmptyMessage, UnknownCommand, WrongState, ModeNotSupported, BadCount, BadId, BadLength, BadByte, BadNumber}
 use Rattle.can_proto.specs.declared.verbs.Verb.{Verb}
 use Rattle.can_proto.specs.declared.verbs.Verb.TheVariants as verb
-use Rattle.can_proto.specs.Numbers.{number_in}
+use Rattle.can_frame.specs.Numbers.{number_in}
 use Rattle.can_proto.specs.Verbs.{named, stands_in}
 
 -- What the words of a message say, or the first fault that is met, reading from left to right (socketcand's raw mode; the

@@ -1,7 +1,6 @@
 pub mod Messages
 pub mod Scanning
 pub mod Words
-pub mod Numbers
 pub mod Verbs
 pub mod Commands
 pub mod CommandSpelling

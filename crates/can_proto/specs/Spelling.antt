@@ -3,6 +3,7 @@ use Rattle.std.specs.Fmt.{decimal}
 use Rattle.std.specs.List.{All}
 use Rattle.can_frame.specs.Frames.{CanFrame, ErrorMessage, is_remote, payload_len, payload_bytes}
 use Rattle.can_frame.specs.FrameText.{digits, pairs, id_text}
+use Rattle.can_frame.specs.Moments.{moment_text}
 use Rattle.can_frame.specs.declared.items.Item.{Item}
 use Rattle.can_frame.specs.declared.items.Item.TheVariants as item
 use Rattle.can_bus.specs.declared.stats.SocketStats.{SocketStats}
@@ -12,10 +13,6 @@ use Rattle.can_proto.specs.declared.answers.Answer.TheVariants.{Greeting, Done, 
 use Rattle.can_proto.specs.Causes.{cause_text}
 
 -- How answers and received items are written to a client (socketcand's raw mode; the exact texts are own choice).
-
--- a moment: seconds, a point and six digits of microseconds
-abbrev pub moment_text : ℕ → List ℕ
-moment_text micros = decimal (micros / 1000000) ++ 46 ∷ digits 10 6 (micros % 1000000)
 
 -- how many hexadecimal digits an error class takes, at least 3
 abbrev pub class_width : ℕ → ℕ

@@ -5,11 +5,11 @@ ghost use Rattle.can_proto.specs.Commands.{Gives, GivesBut, takes_memory, mask_o
 use crate::commands::{Command, WantedName};
 use crate::faults::ProtoFault;
 use crate::filtering::read_set;
-use crate::numbers::read_number;
 use crate::sending::{read_remote, read_send};
 use crate::verbs::Verb;
 use crate::words::next_word;
 use can_bus::Opt;
+use can_frame::read_hexadecimal;
 use std::alloc::Global;
 
 /// The words of `errmask HEX`.
@@ -23,7 +23,7 @@ fn read_mask(rest: &[u8]) -> Result<Command, ProtoFault>
     if next_word(rest).is_some() {
         return Err(ProtoFault::BadCount);
     }
-    match read_number(word, 16, 8) {
+    match read_hexadecimal(word, 8) {
         Some(mask) => Ok(Command::SetOption(Opt::ErrMask(mask))),
         None => Err(ProtoFault::BadNumber),
     }

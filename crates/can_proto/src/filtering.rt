@@ -4,10 +4,10 @@ ghost use Rattle.can_proto.specs.Commands.{Gives, GivesBut, takes_memory, filter
 
 use crate::commands::Command;
 use crate::faults::ProtoFault;
-use crate::numbers::read_number;
 use crate::words::{has_words, next_word};
 use can_filter::filter_sets::MAX_FILTERS;
 use can_filter::{Filter, FilterSet};
+use can_frame::{read_decimal, read_hexadecimal};
 use std::alloc::Global;
 
 /// The filter of two words.
@@ -16,10 +16,10 @@ fn read_filter(id_word: &[u8], mask_word: &[u8]) -> Result<Filter, ProtoFault>
     ensures value { result ≡ filter_of id_word.now mask_word.now }
     ensures fault { IfErr result IsFilterFault }
 {
-    let Some(id) = read_number(id_word, 16, 8) else {
+    let Some(id) = read_hexadecimal(id_word, 8) else {
         return Err(ProtoFault::BadNumber);
     };
-    let Some(mask) = read_number(mask_word, 16, 8) else {
+    let Some(mask) = read_hexadecimal(mask_word, 8) else {
         return Err(ProtoFault::BadNumber);
     };
     match Filter::new(id, mask) {
@@ -61,7 +61,7 @@ pub fn read_set(alloc: Global, rest: &[u8]) -> Result<Command, ProtoFault>
     let Some((count_word, rest)) = next_word(rest) else {
         return Err(ProtoFault::BadCount);
     };
-    let Some(count) = read_number(count_word, 10, 3) else {
+    let Some(count) = read_decimal(count_word, 3) else {
         return Err(ProtoFault::BadNumber);
     };
     let count = count as usize;

@@ -16,7 +16,6 @@ pub mod faults;
 mod filtering;
 pub mod laws;
 pub mod messages;
-mod numbers;
 mod scanning;
 mod sending;
 pub mod spelling;
@@ -29,9 +28,9 @@ pub use answers::{Answer, Cause};
 pub use commands::{Command, Mode, WantedName};
 pub use faults::ProtoFault;
 pub use messages::{Incoming, Message};
-pub use spelling::{item_text, reply_text};
+pub use spelling::{item_text, refusal_text, reply_text};
 pub use stream::Reader;
-pub use texts::Text;
+pub use texts::{ItemText, Text};
 
 #[cfg(test)]
 mod tests;

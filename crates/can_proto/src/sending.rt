@@ -1,12 +1,12 @@
 ghost use Rattle.std.specs.Prelude.{◌≡◌, ◌==◌, ◌≤◌, true, if◌then◌else◌, Ok, Err, length, take, IfOk, IfErr};
+ghost use Rattle.can_frame.specs.Numbers.{number_in};
 ghost use Rattle.can_proto.specs.Words.{words_of};
 ghost use Rattle.can_proto.specs.Commands.{Gives, id_of, length_of, bytes_of, IsDataFault, send_of, remote_of};
 
 use crate::commands::Command;
 use crate::faults::ProtoFault;
-use crate::numbers::{read_byte, read_number};
 use crate::words::{has_words, next_short_word, next_word};
-use can_frame::{CanId, Frame};
+use can_frame::{CanId, Frame, read_hexadecimal};
 
 /// An identifier of 8 digits (29 bits) or of 1 to 3 (11 bits).
 #[tactic(auto, unfolding(crate::specs::Commands::id_of))]
@@ -14,7 +14,7 @@ fn read_id(word: &[u8]) -> Result<CanId, ProtoFault>
     ensures { Gives result (id_of word.now) }
 {
     if word.len() == 8 {
-        let Some(number) = read_number(word, 16, 8) else {
+        let Some(number) = read_hexadecimal(word, 8) else {
             return Err(ProtoFault::BadId);
         };
         let number = if number < 0x8000_0000 {
@@ -27,7 +27,7 @@ fn read_id(word: &[u8]) -> Result<CanId, ProtoFault>
             Err(_) => Err(ProtoFault::BadId),
         }
     } else {
-        let Some(number) = read_number(word, 16, 3) else {
+        let Some(number) = read_hexadecimal(word, 3) else {
             return Err(ProtoFault::BadId);
         };
         match CanId::standard(number as u16) {
@@ -47,6 +47,14 @@ fn read_length(word: &[u8]) -> Result<u8, ProtoFault>
         [digit] if b'0' <= *digit && *digit <= b'8' => Ok(*digit - b'0'),
         _ => Err(ProtoFault::BadLength),
     }
+}
+
+/// The byte that 1 or 2 hexadecimal digits stand for.
+fn read_byte(word: &[u8]) -> Option<u8>
+    ensures { result ≡ number_in 16 2 word.now }
+{
+    let number = read_hexadecimal(word, 2)?;
+    Some(number as u8)
 }
 
 /// The bytes that so many words spell, in the first places of eight. A wrong count comes before a word

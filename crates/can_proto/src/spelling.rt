@@ -1,16 +1,18 @@
 ghost use Rattle.std.specs.Prelude.{◌≡◌, ◌≤◌, ◌<◌, ◌+◌, ◌^◌, ◌++◌, length};
-ghost use Rattle.can_frame.specs.FrameText.{id_text};
+ghost use Rattle.std.specs.Fmt.{decimal};
 ghost use Rattle.can_proto.specs.Spelling.{class_width, class_text, data_text, remote_text, error_text, item_text, stats_text, reply_text};
+ghost use Rattle.can_proto.specs.declared.answers.Answer.TheVariants.{Refused};
 
-use crate::answers::Answer;
-use crate::texts::{Text, push_moment, push_next};
+use crate::answers::{Answer, Cause};
+use crate::texts::{ItemText, Text, push_next};
 use can_bus::{IfaceStats, SocketStats};
-use can_frame::{CanId, ErrorFrame, Frame, Item, Moment};
+use can_frame::{ErrorFrame, Frame, Item, Moment};
 
 /// What a client is told of an item that its socket received, with the data of error message frames
 /// where `errdata` asks for them.
-pub fn item_text(item: Item, moment: Moment, errdata: bool) -> Text
-    ensures { result ≡ item_text errdata item moment }
+pub fn item_text(item: Item, moment: Moment, errdata: bool) -> ItemText
+    ensures text { result ≡ item_text errdata item moment }
+    ensures short { length result ≤ 53 }
 {
     match item {
         Item::Data(frame) => {
@@ -40,13 +42,19 @@ pub fn reply_text(answer: Answer) -> Text
             text.push_all(b" >");
             text
         }
-        Answer::Refused(cause) => {
-            let mut text = fixed_text(b"< error ");
-            text.push_all(cause.text());
-            text.push_all(b" >");
-            text
-        }
+        Answer::Refused(cause) => fixed_text(refusal_text(cause).as_bytes()),
     }
+}
+
+/// What a client is told of a refusal: the text of `reply_text`, in the room of an item's.
+pub fn refusal_text(cause: Cause) -> ItemText
+    ensures { result ≡ reply_text (Refused cause) }
+{
+    let mut text = ItemText::new();
+    text.push_all(b"< error ");
+    text.push_all(cause.text());
+    text.push_all(b" >");
+    text
 }
 
 /// A text of these bytes.
@@ -57,19 +65,6 @@ fn fixed_text(bytes: &[u8]) -> Text
     let mut text = Text::new();
     text.push_all(bytes);
     text
-}
-
-/// Adds an identifier.
-fn push_id(text: &mut Text, id: CanId)
-    requires { length text.old + 8 ≤ 256 }
-    ensures text { text.new ≡ text.old ++ id_text id }
-    ensures len { length text.new ≤ length text.old + 8 }
-{
-    if id.is_extended() {
-        text.push_digits(16, 8, u64::from(id.number()));
-    } else {
-        text.push_digits(16, 3, u64::from(id.number()));
-    }
 }
 
 /// How many hexadecimal digits an error class takes, at least 3.
@@ -93,24 +88,25 @@ fn class_width(class: u32) -> usize
 }
 
 /// Adds an error class.
-fn push_class(text: &mut Text, class: u32)
-    requires { length text.old + 8 ≤ 256 }
+fn push_class(text: &mut ItemText, class: u32)
+    requires { length text.old + 8 ≤ 64 }
     ensures text { text.new ≡ text.old ++ class_text class }
     ensures len { length text.new ≤ length text.old + 8 }
 {
-    text.push_digits(16, class_width(class), u64::from(class));
+    text.push_hex(class_width(class), u64::from(class));
 }
 
 /// A data frame. Without data two spaces stand together.
-fn data_text(frame: Frame, moment: Moment) -> Text
-    ensures { result ≡ data_text frame moment }
+fn data_text(frame: Frame, moment: Moment) -> ItemText
+    ensures text { result ≡ data_text frame moment }
+    ensures short { length result ≤ 53 }
 {
     prove!(frame.len() <= 8);
-    let mut text = Text::new();
+    let mut text = ItemText::new();
     text.push_all(b"< frame ");
-    push_id(&mut text, frame.id());
+    text.push_id(frame.id());
     text.push_all(b" ");
-    push_moment(&mut text, moment.micros());
+    text.push_moment(moment);
     text.push_all(b" ");
     text.push_pairs(frame.bytes());
     text.push_all(b" >");
@@ -118,29 +114,41 @@ fn data_text(frame: Frame, moment: Moment) -> Text
 }
 
 /// A remote frame.
-fn remote_text(frame: Frame, moment: Moment) -> Text
-    ensures { result ≡ remote_text frame moment }
+fn remote_text(frame: Frame, moment: Moment) -> ItemText
+    ensures text { result ≡ remote_text frame moment }
+    ensures short { length result ≤ 53 }
 {
-    let mut text = Text::new();
+    let mut text = ItemText::new();
     text.push_all(b"< remote ");
-    push_id(&mut text, frame.id());
+    text.push_id(frame.id());
     text.push_all(b" ");
-    push_moment(&mut text, moment.micros());
+    text.push_moment(moment);
     text.push_all(b" ");
-    text.push_count(u64::from(frame.len()));
+    push_length(&mut text, frame.len());
     text.push_all(b" >");
     text
 }
 
-/// An error message frame.
-fn error_text(error: ErrorFrame, moment: Moment, errdata: bool) -> Text
-    ensures { result ≡ error_text errdata error moment }
+/// Adds the length that a remote frame asks for.
+fn push_length(text: &mut ItemText, len: u8)
+    requires small { len ≤ 8 }
+    requires room { length text.old < 64 }
+    ensures text { text.new ≡ text.old ++ decimal len }
+    ensures len { length text.new ≡ length text.old + 1 }
 {
-    let mut text = Text::new();
+    text.push(b'0' + len);
+}
+
+/// An error message frame.
+fn error_text(error: ErrorFrame, moment: Moment, errdata: bool) -> ItemText
+    ensures text { result ≡ error_text errdata error moment }
+    ensures short { length result ≤ 53 }
+{
+    let mut text = ItemText::new();
     text.push_all(b"< error ");
     push_class(&mut text, error.class());
     text.push_all(b" ");
-    push_moment(&mut text, moment.micros());
+    text.push_moment(moment);
     if errdata {
         text.push_all(b" ");
         text.push_pairs(&error.data());

@@ -1,6 +1,6 @@
 use Rattle.std.specs.Prelude.{ℕ, Bool, true, ◌+◌, ◌*◌, ◌&&◌, ◌==◌, nat_le, if◌then◌else◌, List, [], ◌∷◌, length, take, drop, slice_index, position, codes, Option, Some, None}
 use Rattle.std.specs.Option.{option_map, option_and_then}
-use Rattle.can_proto.specs.Numbers.{number_in}
+use Rattle.can_frame.specs.Numbers.{number_in}
 use Rattle.can_proto.specs.Verbs.{is_word}
 use Rattle.can_session.specs.declared.orders.Order.{Order}
 use Rattle.can_session.specs.declared.orders.Order.TheVariants.{Nothing, At, Session, Feed, Drain, End, Attempt}

@@ -6,7 +6,7 @@ use crate::commands::carry_out;
 use crate::port::Port;
 use crate::stages::{Dialog, Stage};
 use can_frame::Moment;
-use can_proto::{Answer, Cause, Command, Incoming, Text, item_text, reply_text};
+use can_proto::{Answer, Cause, Command, Incoming, ItemText, item_text, refusal_text};
 use std::alloc::Global;
 
 /// One item of the client's stream: what the client is told, if anything.
@@ -45,7 +45,7 @@ pub fn finish<P: Port>(dialog: &mut Dialog, port: &mut P)
 
 /// One receive in raw mode, no call elsewhere: what the client is told, if anything, and whether it was an
 /// item.
-pub fn take_delivery<P: Port>(stage: Stage, port: &mut P) -> (Option<Text>, bool)
+pub fn take_delivery<P: Port>(stage: Stage, port: &mut P) -> (Option<ItemText>, bool)
     ensures { Plays P.step (delivery stage) port.old port.new (written result.0) result.1 }
 {
     let Stage::Raw(raw) = stage else {
@@ -57,6 +57,6 @@ pub fn take_delivery<P: Port>(stage: Stage, port: &mut P) -> (Option<Text>, bool
             (Some(text), true)
         }
         Ok(None) => (None, false),
-        Err(refusal) => (Some(reply_text(Answer::Refused(refusal.cause()))), false),
+        Err(refusal) => (Some(refusal_text(refusal.cause())), false),
     }
 }

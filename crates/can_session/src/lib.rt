@@ -11,7 +11,6 @@ mod attempt_lines;
 pub mod bench_run;
 pub mod bus_port;
 mod commands;
-mod decimals;
 mod dialog;
 pub mod laws;
 pub mod line_law;

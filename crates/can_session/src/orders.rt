@@ -2,9 +2,8 @@ ghost use Rattle.std.specs.Prelude.{◌≡◌, ◌≤◌, ◌<◌, ◌^◌, leng
 ghost use Rattle.can_session.specs.Orders.{effect_of, order_of, asked_by, is_remark, session_number, session_of, moment_of, parted};
 ghost use Rattle.can_proto.specs.Verbs.{is_word};
 
-use crate::decimals::read_decimal;
 use crate::places::place_of;
-use can_frame::Moment;
+use can_frame::{Moment, read_decimal};
 use std::marker::Model;
 
 /// The number of a session, 1 to 64.

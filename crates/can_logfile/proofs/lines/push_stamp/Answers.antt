@@ -5,9 +5,9 @@ use Rattle.can_logfile.proofs.lines.push_stamp.Goals as goal
 
 pub returns-clause-text : goal.returns-clause-text
 returns-clause-text c =
-    chain c.args.line.now c.push.new.self c.push_digits.new.self c.push-2.new.self c.push_digits-2.new.self c.push-3.new.self
+    chain c.args.line.now c.push.new.self c.push_decimals.new.self c.push-2.new.self c.push_decimals-2.new.self c.push-3.new.self
     (digits 10 10 (c.micros-micros.result / 1000000)) (digits 10 6 (c.micros-micros.result % 1000000))
-    c.push.ensures.text c.push_digits.ensures.text c.push-2.ensures.text c.push_digits-2.ensures.text c.push-3.ensures.text
+    c.push.ensures.text c.push_decimals.ensures.text c.push-2.ensures.text c.push_decimals-2.ensures.text c.push-3.ensures.text
     ∙ ap (λ (m : ℕ). c.args.line.now ++ stamp m) c.micros-micros.ensures.micros
   where
     chain : (old t1 t2 t3 t4 t5 a b : List ℕ) → t1 ≡ old ++ 40 ∷ [] → t2 ≡ t1 ++ a → t3 ≡ t2 ++ 46 ∷ [] → t4 ≡ t3 ++ b → t5 ≡ t4 ++ 41 ∷ [] → t5 ≡ old ++ (((40 ∷ a) ++ (46 ∷ b)) ++ 41 ∷ [])

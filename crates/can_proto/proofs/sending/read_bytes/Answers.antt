@@ -4,7 +4,7 @@ use Rattle.std.proofs.lemmas.Bool.{cases_Bool, eq-eqb, ne_eqb, eqb-true, eqb-fal
 use Rattle.can_proto.specs.declared.faults.ProtoFault.{ProtoFault}
 use Rattle.can_proto.specs.declared.faults.ProtoFault.TheVariants.{BadByte, BadCount}
 use Rattle.can_proto.specs.Words.{words_of}
-use Rattle.can_proto.specs.Numbers.{number_in}
+use Rattle.can_frame.specs.Numbers.{number_in}
 use Rattle.can_proto.specs.Commands.{◌>>=◌, with_front, bytes_of, or_fault, IsDataFault}
 use Rattle.can_proto.proofs.sending.read_bytes.Goals as goal
 
