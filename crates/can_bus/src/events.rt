@@ -1,5 +1,6 @@
 ghost use Rattle.std.specs.Prelude.{◌≡◌, ◌↔◌, IsTrue};
 ghost use Rattle.can_bus.specs.Journal.{IsConfig};
+ghost use Rattle.can_bus.specs.Posts.{tried_item};
 ghost use Rattle.can_bus.specs.Sockets.{with_option};
 
 use can_attempt::{AckMode, Class};
@@ -166,6 +167,20 @@ pub struct Tried {
     pub class: Class,
     pub accepted: IfaceSet,
     pub off: IfaceSet,
+}
+
+impl Tried {
+    /// The frame as a socket receives it.
+    pub fn received(&self) -> Received
+        ensures { result ≡ tried_item self.now }
+    {
+        Received {
+            item: Item::Data(self.frame),
+            from: self.winner,
+            number: self.number,
+            moment: self.moment,
+        }
+    }
 }
 
 /// What a call answered.

@@ -1,7 +1,7 @@
 ghost use Rattle.std.specs.Prelude.{◌≡◌, ◌<◌, ◌+◌, ◌^◌, All, Some, map};
 ghost use Rattle.can_bus.specs.Attempted.{IsJudged};
 ghost use Rattle.can_bus.specs.News.{told_news};
-ghost use Rattle.can_bus.specs.Posts.{restart_posts, data_posts, error_posts};
+ghost use Rattle.can_bus.specs.Posts.{restart_posts, data_posts, error_posts, tried_item};
 ghost use Rattle.can_bus.specs.Queues.{passing};
 ghost use Rattle.can_bus.specs.State.{filled, reached};
 
@@ -39,36 +39,31 @@ fn post_error<R: BoundedQueue<Received>>(
             number: 0,
             moment,
         };
-        socket.post(received, None);
+        socket.post(&received, None);
     }
 }
 
 /// Puts the frame that was tried to a socket.
-fn post_frame<R: BoundedQueue<Received>>(socket: &mut Socket<R>, news: &News)
-    requires { socket.old.dropped + 1 < 2 ^ 64 }
+fn post_frame<R: BoundedQueue<Received>>(socket: &mut Socket<R>, news: &News, frame: &Received)
+    requires small { socket.old.dropped + 1 < 2 ^ 64 }
+    requires frame { frame.now ≡ tried_item news.now.attempted.tried }
     ensures { socket.new ≡ filled socket.old (passing socket.old.filters socket.old.options socket.old.number (data_posts socket.old.iface news.now.attempted.tried (Some news.now.pending))) }
 {
     if news.attempted.is_posted(socket.iface(), Some(news.pending)) {
-        let tried = &news.attempted.tried;
-        let received = Received {
-            item: Item::Data(tried.frame),
-            from: tried.winner,
-            number: tried.number,
-            moment: tried.moment,
-        };
-        socket.post(received, Some(news.pending.socket));
+        socket.post(frame, Some(news.pending.socket));
     }
 }
 
 /// Tells one socket of an attempt.
-fn tell<R: BoundedQueue<Received>>(socket: &mut Socket<R>, news: &News)
+fn tell<R: BoundedQueue<Received>>(socket: &mut Socket<R>, news: &News, frame: &Received)
     requires small { socket.old.dropped + 3 < 2 ^ 64 }
     requires judged { IsJudged news.now.attempted }
+    requires frame { frame.now ≡ tried_item news.now.attempted.tried }
     ensures { socket.new ≡ reached (told_news news.now) socket.old }
 {
     let iface = socket.iface();
     let moment = news.attempted.tried.moment;
-    post_frame(socket, news);
+    post_frame(socket, news, frame);
     if news.reporting.contains(iface) {
         post_error(socket, moment, news.attempted.fault_at(iface));
     }
@@ -81,8 +76,9 @@ pub fn tell_all<R: BoundedQueue<Received>>(sockets: &mut [Socket<R>], news: &New
     requires judged { IsJudged news.now.attempted }
     ensures { sockets.new ≡ map (reached (told_news news.now)) sockets.old }
 {
+    let frame = news.attempted.tried.received();
     for socket in sockets.iter_mut() {
-        tell(socket, news);
+        tell(socket, news, &frame);
     }
 }
 
