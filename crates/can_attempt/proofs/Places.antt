@@ -4,7 +4,7 @@ use Rattle.std.specs.List.{list_any, range_with_len}
 use Rattle.std.proofs.lemmas.Map.Views.{any-filter_same}
 use Rattle.can_frame.specs.Sets.{bits_where}
 use Rattle.can_attempt.specs.declared.classes.Class.{Class}
-use Rattle.can_attempt.specs.Attempts.{is_among, Transmission, can_hear, receivers, hit, unhurt, is_named, steps_in, receiver_step}
+use Rattle.can_attempt.specs.Attempts.{is_among, Transmission, can_hear, receivers, hit, unhurt, is_named, steps_in, counts_in, receiver_step}
 
 -- Lists of interfaces, and the bits of the sets that they make.
 
@@ -58,6 +58,17 @@ pub steps_in-none : (c : Class) (t : Transmission) (i : ℕ) → (i == t.winner)
 steps_in-none c t i other deaf =
     let among : is_among i (receivers t) ≡ false = is_among-receivers t i ∙ deaf in
     rw (other, among) refl
+
+-- an interface that is not there keeps its counts
+pub counts_in-beyond : (c : Class) (t : Transmission) (i : ℕ) → t.winner < t.count → t.count ≤ i → counts_in c t i ≡ t.counts i
+counts_in-beyond c t i within past =
+    let other : (i == t.winner) ≡ false = grind (arith, within, past) in
+    let above : nat_lt i t.count ≡ false = grind (arith, past) in
+    let deaf : (can_hear t i && nat_lt i t.count) ≡ false = false_on_the_right (can_hear t i) (nat_lt i t.count) above in
+    rw (steps_in-none c t i other deaf) refl
+  where
+    false_on_the_right : (x y : Bool) → y ≡ false → (x && y) ≡ false
+    false_on_the_right x y fails = rw fails (grind arith)
 
 -- who is hit
 pub is_among-hit : (t : Transmission) (i : ℕ) → is_among i (hit t) ≡ (is_named t.verdict i && (can_hear t i && nat_lt i t.count))

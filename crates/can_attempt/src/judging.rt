@@ -53,7 +53,7 @@ fn receiver_after(class: Class, is_hit: bool, counters: Counters) -> Counters
     }
 }
 
-/// The counters at this place after an attempt of this class.
+/// The counters of the interface at this place after an attempt of this class.
 fn counters_after(
     nodes: &Nodes,
     winner: Iface,
@@ -62,22 +62,21 @@ fn counters_after(
     place: u8,
 ) -> Counters
     requires count { nodes.now.count ≤ 16 }
-    requires place { place < 16 }
-    requires winner { winner < nodes.now.count }
+    requires place { place < nodes.now.count }
     requires live { (counts_at nodes.now winner).tec < 256 }
     ensures { (a : AckMode) → result ≡ counts_in class (attempt_between nodes.now winner verdict a) place }
 {
     let counters = counters_at(nodes, place);
     if place == winner.number() {
         winner_after(class, counters)
-    } else if place < nodes.count && can_hear(nodes, winner, place) {
+    } else if can_hear(nodes, winner, place) {
         receiver_after(class, is_named(verdict, place), counters)
     } else {
         counters
     }
 }
 
-/// All counters after an attempt of this class.
+/// All counters after an attempt of this class: those of interfaces that are not there stay.
 fn all_counters_after(
     nodes: &Nodes,
     winner: Iface,
@@ -90,7 +89,7 @@ fn all_counters_after(
     ensures { (a : AckMode) → result ≡ map (counts_in class (attempt_between nodes.now winner verdict a)) (range_with_len 0 16) }
 {
     let mut counters = nodes.counters;
-    for place in 0..16 {
+    for place in 0..nodes.count {
         counters[place as usize] = counters_after(nodes, winner, verdict, class, place);
     }
     counters
@@ -119,7 +118,7 @@ fn off_of(winner: Iface, counters: Counters) -> IfaceSet
 
 /// Judges an attempt of the winner to send a frame: what becomes of it, who accepts it and who was hit, the
 /// error counters after it, and whether the winner went off the bus. The winner is below `count`, which is
-/// 1 to 16, and is not bus off. It looks at 16 places at most and takes no memory.
+/// 1 to 16, and is not bus off. It looks at each interface twice and takes no memory.
 pub fn judge(nodes: &Nodes, winner: Iface, verdict: Verdict, ack: AckMode) -> Judgement
     requires count { nodes.now.count ≤ 16 }
     requires there { winner < nodes.now.count }

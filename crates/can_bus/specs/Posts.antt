@@ -38,9 +38,13 @@ abbrev pub sender_in : Option Pending → Option ℕ
 sender_in None = None
 sender_in (Some p) = Some p.socket.0
 
+-- a frame that was tried, as a socket receives it
+abbrev pub tried_item : Tried → Received
+tried_item t = record { item = item.Data t.frame; from = t.winner; number = t.number; moment = t.moment }
+
 -- a frame that was tried is put to the interfaces that accepted it, and looped back to the winner's
 abbrev pub data_posts : ℕ → Tried → Option Pending → List Post
-data_posts i t p = if is_in i t.accepted || ((i == t.winner) && is_looped_back t.class p) then record { received = record { item = item.Data t.frame; from = t.winner; number = t.number; moment = t.moment }; sender = sender_in p } ∷ [] else []
+data_posts i t p = if is_in i t.accepted || ((i == t.winner) && is_looped_back t.class p) then record { received = tried_item t; sender = sender_in p } ∷ [] else []
 
 -- an error message frame of interface i: it comes from nobody else, and has no number
 abbrev pub error_posts : ℕ → ℕ → Option ErrorMessage → List Post

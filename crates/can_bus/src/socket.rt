@@ -92,12 +92,7 @@ impl<R: BoundedQueue<Received>> Socket<R> {
     pub fn set_option(&mut self, option: Opt)
         ensures { self.new ≡ record self.old { options = with_option option self.old.options } }
     {
-        match option {
-            Opt::Loopback(on) => self.options.loopback = on,
-            Opt::RecvOwn(on) => self.options.recv_own = on,
-            Opt::Join(on) => self.options.join = on,
-            Opt::ErrMask(mask) => self.options.err_mask = mask,
-        }
+        self.options = option.set_in(self.options);
     }
 
     /// Gives the oldest item.
@@ -125,16 +120,16 @@ impl<R: BoundedQueue<Received>> Socket<R> {
     }
 
     /// Takes an item that it wants, or counts it as dropped where there is no room.
-    pub fn post(&mut self, received: Received, sender: Option<SocketId>)
+    pub fn post(&mut self, received: &Received, sender: Option<SocketId>)
         requires { self.old.dropped + 1 < 2 ^ 64 }
-        ensures { self.new ≡ filled self.old (passing self.old.filters self.old.options self.old.number (record { received = received; sender = option_map (λ (s : SocketId). s.0) sender } ∷ [])) }
+        ensures { self.new ≡ filled self.old (passing self.old.filters self.old.options self.old.number (record { received = received.now; sender = option_map (λ (s : SocketId). s.0) sender } ∷ [])) }
     {
         let is_own = match sender {
             Some(id) => id.0 == self.number,
             None => false,
         };
         if wants(&self.filters, &self.options, &received.item, is_own) {
-            if self.queue.try_push(received).is_err() {
+            if self.queue.try_push(*received).is_err() {
                 self.dropped += 1;
             }
         }
