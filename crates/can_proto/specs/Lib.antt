@@ -1,3 +1,4 @@
+pub mod Stored
 pub mod Messages
 pub mod Scanning
 pub mod Words

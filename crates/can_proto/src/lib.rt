@@ -20,6 +20,7 @@ mod numbers;
 mod scanning;
 mod sending;
 pub mod spelling;
+mod stored;
 pub mod stream;
 pub mod texts;
 mod verbs;
