@@ -3,6 +3,7 @@ pub mod Messages
 pub mod Scanning
 pub mod Words
 pub mod Numbers
+pub mod Pairs
 pub mod Verbs
 pub mod Commands
 pub mod CommandSpelling

@@ -17,6 +17,7 @@ mod filtering;
 pub mod laws;
 pub mod messages;
 mod numbers;
+mod pairs;
 mod scanning;
 mod sending;
 pub mod spelling;
