@@ -6,8 +6,7 @@ ghost use Rattle.can_proto.specs.Pairs.{IsFirstByte};
 /// What a byte that is no digit stands for.
 const NO_DIGIT: u8 = 16;
 
-/// What a hexadecimal digit stands for, or else 16. No byte decides early, so that the compiler needs no
-/// jumps.
+/// What a hexadecimal digit stands for, or else 16.
 fn digit_or_16(byte: u8) -> u8
     ensures value { MatchOption (hex_digit byte) (result ≡ 16) (λ v. (result ≡ v) × (v < 16)) }
     ensures solid { result < 16 → is_blank byte ≡ false }
