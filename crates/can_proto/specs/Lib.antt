@@ -1,6 +1,8 @@
+pub mod Stored
 pub mod Messages
 pub mod Scanning
 pub mod Words
+pub mod Pairs
 pub mod Verbs
 pub mod Commands
 pub mod CommandSpelling

@@ -1,11 +1,11 @@
-ghost use Rattle.std.specs.Prelude.{◌≡◌, IfOk};
+ghost use Rattle.std.specs.Prelude.{◌≡◌, Some, IfOk};
 ghost use Rattle.can_proto.specs.Words.{words_of};
-ghost use Rattle.can_proto.specs.Commands.{GivesBut, takes_memory, reading};
+ghost use Rattle.can_proto.specs.Commands.{GivesBut, takes_memory, command_of, reading};
 
 use crate::arguments::read_arguments;
 use crate::faults::ProtoFault;
 use crate::messages::Message;
-use crate::verbs::{may_stand, verb_of};
+use crate::verbs::{Verb, after_send, may_stand, verb_of};
 use crate::words::next_word;
 use can_bus::Opt;
 use can_filter::FilterSet;
@@ -88,15 +88,26 @@ impl Command {
     pub fn read(alloc: Global, mode: Mode, message: &Message) -> Result<Command, ProtoFault>
         ensures { GivesBut takes_memory result (reading mode (words_of message.now)) }
     {
-        let Some((word, rest)) = next_word(message.inside()) else {
+        let text = message.inside();
+        if let Some(rest) = after_send(text) {
+            return read_verb(alloc, Verb::Send, mode, rest);
+        }
+        let Some((word, rest)) = next_word(text) else {
             return Err(ProtoFault::EmptyMessage);
         };
         let Some(verb) = verb_of(word) else {
             return Err(ProtoFault::UnknownCommand);
         };
-        if !may_stand(verb, mode) {
-            return Err(ProtoFault::WrongState);
-        }
-        read_arguments(alloc, verb, rest)
+        read_verb(alloc, verb, mode, rest)
     }
+}
+
+/// What a verb says in a mode, with what follows it.
+fn read_verb(alloc: Global, verb: Verb, mode: Mode, rest: &[u8]) -> Result<Command, ProtoFault>
+    ensures { GivesBut takes_memory result (command_of mode (words_of rest.now) (Some verb)) }
+{
+    if !may_stand(verb, mode) {
+        return Err(ProtoFault::WrongState);
+    }
+    read_arguments(alloc, verb, rest)
 }

@@ -1,20 +1,22 @@
 ghost use Rattle.std.specs.Prelude.{◌≡◌, ◌++◌, IfOk};
 
+use crate::stored::Stored;
 use std::alloc::{AllocError, Global};
 use std::marker::Model;
 
 /// A message: the bytes that stood between `<` and `>`, at most 1,024, neither mark among them.
 #[derive(Debug, Drop)]
 pub struct Message {
-    inside: Vec<u8>,
+    inside: Stored,
 }
 
 impl Model for Message {
     ghost use Rattle.std.specs.Prelude.{ℕ, List};
+    ghost use Rattle.can_proto.specs.Stored.{stored_bytes};
 
     ghost Value = { List ℕ };
 
-    ghost view = { λ m. m.inside.items };
+    ghost view = { λ m. stored_bytes m.inside };
 }
 
 impl Message {
@@ -22,15 +24,14 @@ impl Message {
     pub fn inside(&self) -> &[u8]
         ensures { result.now ≡ self.now }
     {
-        &self.inside
+        self.inside.bytes()
     }
 
     /// The message of the bytes held and those that followed them.
     pub(crate) fn joined(alloc: Global, held: &[u8], more: &[u8]) -> Result<Message, AllocError>
         ensures { IfOk result (λ m. m ≡ held.now ++ more.now) }
     {
-        let mut inside = Vec::from_slice(alloc, held)?;
-        inside.extend_from_slice(more)?;
+        let inside = Stored::joined(alloc, held, more)?;
         Ok(Message { inside })
     }
 }

@@ -1,11 +1,13 @@
-ghost use Rattle.std.specs.Prelude.{◌≡◌, ◌==◌, ◌≤◌, true, if◌then◌else◌, Ok, Err, length, take, IfOk, IfErr};
+ghost use Rattle.std.specs.Prelude.{◌≡◌, ◌==◌, ◌≤◌, ◌+◌, true, if◌then◌else◌, Ok, Err, length, take, IfOk, IfErr};
 ghost use Rattle.can_frame.specs.Numbers.{number_in};
 ghost use Rattle.can_proto.specs.Words.{words_of};
+ghost use Rattle.can_proto.specs.Pairs.{IsFirstByte};
 ghost use Rattle.can_proto.specs.Commands.{Gives, id_of, length_of, bytes_of, IsDataFault, send_of, remote_of};
 
 use crate::commands::Command;
 use crate::faults::ProtoFault;
-use crate::words::{has_words, next_short_word, next_word};
+use crate::pairs::next_pair;
+use crate::words::{has_words, next_word};
 use can_frame::{CanId, Frame, read_hexadecimal};
 
 /// An identifier of 8 digits (29 bits) or of 1 to 3 (11 bits).
@@ -68,18 +70,30 @@ fn read_bytes(rest: &[u8], len: usize) -> Result<[u8; 8], ProtoFault>
     let mut bytes = [0u8; 8];
     let mut rest = rest;
     for i in 0..len {
-        let Some((word, after)) = next_short_word(rest) else {
-            return Err(ProtoFault::BadCount);
-        };
-        let Some(byte) = read_byte(word) else {
-            return Err(bad_byte(after, len - i - 1));
-        };
+        let (byte, after) = next_byte(rest, len - i - 1)?;
         bytes[i] = byte;
         rest = after;
     }
     match next_word(rest) {
         None => Ok(bytes),
         Some(_) => Err(ProtoFault::BadCount),
+    }
+}
+
+/// The byte that the first word spells, and what follows it, where so many words should follow.
+fn next_byte(text: &[u8], left: usize) -> Result<(u8, &[u8]), ProtoFault>
+    ensures value { IfOk result (λ found. IsFirstByte found.0 (words_of text.now) (words_of found.1.now)) }
+    ensures fault { IfErr result (IsDataFault (left + 1) (words_of text.now)) }
+{
+    if let Some(found) = next_pair(text) {
+        return Ok(found);
+    }
+    let Some((word, after)) = next_word(text) else {
+        return Err(ProtoFault::BadCount);
+    };
+    match read_byte(word) {
+        Some(byte) => Ok((byte, after)),
+        None => Err(bad_byte(after, left)),
     }
 }
 

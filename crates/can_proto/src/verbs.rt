@@ -1,4 +1,5 @@
-ghost use Rattle.std.specs.Prelude.{◌≡◌};
+ghost use Rattle.std.specs.Prelude.{◌≡◌, ◌∷◌, codes, IfSome};
+ghost use Rattle.can_proto.specs.Words.{words_of};
 ghost use Rattle.can_proto.specs.Verbs.{is_word, is_other_mode, named, stands_in};
 
 use crate::commands::Mode;
@@ -66,6 +67,17 @@ pub fn verb_of(word: &[u8]) -> Option<Verb>
         Some(Verb::OtherMode)
     } else {
         None
+    }
+}
+
+/// What follows `send` and a space, where these and a space before them begin the text, as they begin
+/// most messages.
+pub fn after_send(text: &[u8]) -> Option<&[u8]>
+    ensures { IfSome result (λ rest. words_of text.now ≡ codes "send" ∷ words_of rest.now) }
+{
+    match text {
+        [b' ', b's', b'e', b'n', b'd', b' ', rest @ ..] => Some(rest),
+        _ => None,
     }
 }
 

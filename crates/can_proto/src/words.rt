@@ -1,4 +1,4 @@
-ghost use Rattle.std.specs.Prelude.{◌≡◌, ◌==◌, ◌≤◌, ◌<◌, ◌∷◌, [], List, ℕ, false, length, take, drop, slice_index, IfSome, MatchOption};
+ghost use Rattle.std.specs.Prelude.{◌≡◌, ◌==◌, ◌≤◌, ◌<◌, ◌∷◌, [], List, ℕ, false, length, take, drop, slice_index, MatchOption};
 ghost use Rattle.can_proto.specs.Words.{is_blank, front, words_after, words_of};
 
 fn is_space(byte: u8) -> bool
@@ -46,32 +46,6 @@ pub fn next_word(text: &[u8]) -> Option<(&[u8], &[u8])>
     let rest = &text[start..];
     let (word, after) = rest.split_at(letters(rest));
     Some((word, after))
-}
-
-/// The word of two letters between two spaces in front, and what follows it.
-fn next_pair(text: &[u8]) -> Option<(&[u8], &[u8])>
-    ensures { IfSome result (λ found. words_of text.now ≡ found.0.now ∷ words_of found.1.now) }
-{
-    if text.len() < 4
-        || text[0] != b' '
-        || is_space(text[1])
-        || is_space(text[2])
-        || text[3] != b' '
-    {
-        return None;
-    }
-    Some((&text[1..3], &text[3..]))
-}
-
-/// The first word, and what follows it: quicker than `next_word` where single spaces stand between words
-/// of two letters.
-pub fn next_short_word(text: &[u8]) -> Option<(&[u8], &[u8])>
-    ensures { MatchOption result (words_of text.now ≡ []) (λ found. words_of text.now ≡ found.0.now ∷ words_of found.1.now) }
-{
-    match next_pair(text) {
-        Some(found) => Some(found),
-        None => next_word(text),
-    }
 }
 
 /// Whether the text has so many words.

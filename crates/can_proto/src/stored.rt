@@ -1,0 +1,51 @@
+ghost use Rattle.std.specs.Prelude.{◌≡◌, ◌++◌, IfOk, IfSome};
+ghost use Rattle.can_proto.specs.Stored.{stored_bytes};
+
+use arrayvec::ArrayVec;
+use std::alloc::{AllocError, Global};
+
+/// How many bytes a message keeps in itself: enough for each `send` with single spaces.
+const SHORT: usize = 48;
+
+/// The bytes of a message. Few of them lie in the value itself, so that messages of usual length take no
+/// memory.
+#[derive(Debug, Drop)]
+pub enum Stored {
+    Short(ArrayVec<u8, SHORT>),
+    Long(Vec<u8>),
+}
+
+impl Stored {
+    /// The bytes in order.
+    pub fn bytes(&self) -> &[u8]
+        ensures { result.now ≡ stored_bytes self.now }
+    {
+        match self {
+            Stored::Short(bytes) => bytes.as_slice(),
+            Stored::Long(bytes) => bytes.as_slice(),
+        }
+    }
+
+    /// The bytes held and those that followed them. Memory is taken once, and only for more than 48.
+    pub fn joined(alloc: Global, held: &[u8], more: &[u8]) -> Result<Stored, AllocError>
+        ensures { IfOk result (λ s. stored_bytes s ≡ held.now ++ more.now) }
+    {
+        if let Some(bytes) = short(held, more) {
+            return Ok(Stored::Short(bytes));
+        }
+        let mut bytes = Vec::with_capacity(alloc, held.len().saturating_add(more.len()))?;
+        bytes.extend_from_slice(held)?;
+        bytes.extend_from_slice(more)?;
+        Ok(Stored::Long(bytes))
+    }
+}
+
+/// Both one after the other, where they are few enough.
+fn short(held: &[u8], more: &[u8]) -> Option<ArrayVec<u8, SHORT>>
+    ensures { IfSome result (λ v. v.items ≡ held.now ++ more.now) }
+{
+    let mut bytes = ArrayVec::new();
+    bytes.try_extend_from_slice(held).ok()?;
+    bytes.try_extend_from_slice(more).ok()?;
+    Some(bytes)
+}
