@@ -1,3 +1,6 @@
+ghost use Rattle.std.specs.Prelude.{◌≡◌};
+ghost use Rattle.can_attempt.specs.Words.{class_word};
+
 /// What becomes of a frame in one attempt.
 #[derive(Debug, Clone, Copy, PartialEq, Eq)]
 pub enum Class {
@@ -10,4 +13,18 @@ pub enum Class {
     Destroyed,
     /// Nobody acknowledged the frame. It is sent again.
     NoAck,
+}
+
+impl Class {
+    /// The word for it in records and in what the bench puts out: at most 9 bytes, all lower case letters.
+    pub fn word(self) -> &'static [u8]
+        ensures { result.now ≡ class_word self }
+    {
+        match self {
+            Class::Done => b"done",
+            Class::LastBit => b"lastbit",
+            Class::Destroyed => b"destroyed",
+            Class::NoAck => b"noack",
+        }
+    }
 }

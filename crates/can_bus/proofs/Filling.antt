@@ -9,7 +9,8 @@ use Rattle.can_attempt.specs.Attempts.{counts_at, counts_after}
 use Rattle.can_errframe.specs.ErrorMessages.{state_message}
 use Rattle.can_bus.specs.declared.events.Received.{Received}
 use Rattle.can_bus.specs.declared.news.News.{News}
-use Rattle.can_bus.specs.News.{transmission_of, told_news}
+use Rattle.can_bus.specs.Attempted.{transmission_of}
+use Rattle.can_bus.specs.News.{told_news}
 use Rattle.can_bus.specs.Posts.{Post, is_own, data_posts, error_posts, fault_message_for, role_at}
 use Rattle.can_bus.specs.Queues.{passing}
 use Rattle.can_bus.specs.State.{SocketState, filled, reached}
@@ -81,24 +82,24 @@ filled-dropped v w ps is = omega (arith, ap (λ (u : SocketState). u.dropped) is
 
 -- a frame, a fault and a change of state, one after another
 pub told : (n : News) (v s1 s2 s3 : SocketState) (i : ℕ) (fault state : Option ErrorMessage) → i ≡ v.iface →
-    s1 ≡ filled v (wanted v (data_posts v.iface n.tried (Some n.pending))) →
-    s2 ≡ filled s1 (wanted s1 (if is_in i n.reporting then error_posts s1.iface n.tried.moment fault else [])) →
-    fault ≡ fault_message_for n.tried.class n.verdict (role_at (transmission_of n) i) →
-    s3 ≡ filled s2 (wanted s2 (error_posts s2.iface n.tried.moment state)) →
-    state ≡ state_message (counts_at n.nodes i) (counts_after (transmission_of n) i) →
+    s1 ≡ filled v (wanted v (data_posts v.iface n.attempted.tried (Some n.pending))) →
+    s2 ≡ filled s1 (wanted s1 (if is_in i n.reporting then error_posts s1.iface n.attempted.tried.moment fault else [])) →
+    fault ≡ fault_message_for n.attempted.tried.class n.attempted.verdict (role_at (transmission_of n.attempted) i) →
+    s3 ≡ filled s2 (wanted s2 (error_posts s2.iface n.attempted.tried.moment state)) →
+    state ≡ state_message (counts_at n.attempted.nodes i) (counts_after (transmission_of n.attempted) i) →
     s3 ≡ reached (told_news n) v
 told n v s1 s2 s3 i fault state at one two fault_is three state_is =
     let first : s1.iface ≡ v.iface = ap (λ (u : SocketState). u.iface) one in
     let second : s2.iface ≡ v.iface = ap (λ (u : SocketState). u.iface) two ∙ first in
-    let faults : (if is_in i n.reporting then error_posts s1.iface n.tried.moment fault else []) ≡ (if is_in v.iface n.reporting then error_posts v.iface n.tried.moment (fault_message_for n.tried.class n.verdict (role_at (transmission_of n) v.iface)) else []) =
-    ap (λ (k : ℕ). if is_in i n.reporting then error_posts k n.tried.moment fault else []) first
-    ∙ ap (λ (e : Option ErrorMessage). if is_in i n.reporting then error_posts v.iface n.tried.moment e else []) fault_is
-    ∙ ap (λ (k : ℕ). if is_in k n.reporting then error_posts v.iface n.tried.moment (fault_message_for n.tried.class n.verdict (role_at (transmission_of n) k)) else []) at in
-    let states : error_posts s2.iface n.tried.moment state ≡ error_posts v.iface n.tried.moment (state_message (counts_at n.nodes v.iface) (counts_after (transmission_of n) v.iface)) =
-    ap (λ (k : ℕ). error_posts k n.tried.moment state) second
-    ∙ ap (error_posts v.iface n.tried.moment) state_is
-    ∙ ap (λ (k : ℕ). error_posts v.iface n.tried.moment (state_message (counts_at n.nodes k) (counts_after (transmission_of n) k))) at in
-    let frame_posts = data_posts v.iface n.tried (Some n.pending) in
-    let fault_posts = if is_in v.iface n.reporting then error_posts v.iface n.tried.moment (fault_message_for n.tried.class n.verdict (role_at (transmission_of n) v.iface)) else [] in
-    let state_posts = error_posts v.iface n.tried.moment (state_message (counts_at n.nodes v.iface) (counts_after (transmission_of n) v.iface)) in
+    let faults : (if is_in i n.reporting then error_posts s1.iface n.attempted.tried.moment fault else []) ≡ (if is_in v.iface n.reporting then error_posts v.iface n.attempted.tried.moment (fault_message_for n.attempted.tried.class n.attempted.verdict (role_at (transmission_of n.attempted) v.iface)) else []) =
+    ap (λ (k : ℕ). if is_in i n.reporting then error_posts k n.attempted.tried.moment fault else []) first
+    ∙ ap (λ (e : Option ErrorMessage). if is_in i n.reporting then error_posts v.iface n.attempted.tried.moment e else []) fault_is
+    ∙ ap (λ (k : ℕ). if is_in k n.reporting then error_posts v.iface n.attempted.tried.moment (fault_message_for n.attempted.tried.class n.attempted.verdict (role_at (transmission_of n.attempted) k)) else []) at in
+    let states : error_posts s2.iface n.attempted.tried.moment state ≡ error_posts v.iface n.attempted.tried.moment (state_message (counts_at n.attempted.nodes v.iface) (counts_after (transmission_of n.attempted) v.iface)) =
+    ap (λ (k : ℕ). error_posts k n.attempted.tried.moment state) second
+    ∙ ap (error_posts v.iface n.attempted.tried.moment) state_is
+    ∙ ap (λ (k : ℕ). error_posts v.iface n.attempted.tried.moment (state_message (counts_at n.attempted.nodes k) (counts_after (transmission_of n.attempted) k))) at in
+    let frame_posts = data_posts v.iface n.attempted.tried (Some n.pending) in
+    let fault_posts = if is_in v.iface n.reporting then error_posts v.iface n.attempted.tried.moment (fault_message_for n.attempted.tried.class n.attempted.verdict (role_at (transmission_of n.attempted) v.iface)) else [] in
+    let state_posts = error_posts v.iface n.attempted.tried.moment (state_message (counts_at n.attempted.nodes v.iface) (counts_after (transmission_of n.attempted) v.iface)) in
     filled-both v s2 s3 (frame_posts ++ fault_posts) state_posts (filled-both v s1 s2 frame_posts fault_posts one (two ∙ ap (λ (ps : List Post). filled s1 (wanted s1 ps)) faults)) (three ∙ ap (λ (ps : List Post). filled s2 (wanted s2 ps)) states)

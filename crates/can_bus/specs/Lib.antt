@@ -10,6 +10,7 @@ pub mod Spelled
 pub mod Copies
 pub mod Fates
 pub mod State
+pub mod Attempted
 pub mod News
 pub mod Changes
 pub mod Answer

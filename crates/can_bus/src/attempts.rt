@@ -5,6 +5,7 @@ use crate::events::{BusConfig, Pending, Received, Refusal, Tried};
 use crate::line::Line;
 use crate::lines;
 use crate::news::{self, News};
+use crate::outcomes::Attempted;
 use crate::socket::Socket;
 use can_arbiter::Arbiter;
 use can_attempt::{Judgement, Nodes, judge};
@@ -50,24 +51,27 @@ fn news_of(
     nodes: Nodes,
     judgement: Judgement,
 ) -> News
-    ensures { result ≡ record { tried = tried; pending = pending; verdict = verdict; ack = config.ack; nodes = nodes; judgement = judgement; reporting = config.reporting } }
+    ensures { result ≡ record { attempted = record { tried = tried; verdict = verdict; ack = config.ack; nodes = nodes; judgement = judgement }; pending = pending; reporting = config.reporting } }
 {
-    News {
+    let attempted = Attempted {
         tried,
-        pending,
         verdict,
         ack: config.ack,
         nodes,
         judgement,
+    };
+    News {
+        attempted,
+        pending,
         reporting: config.reporting,
     }
 }
 
 /// The answer of the attempt that the news is of.
 fn answer_of(news: &News) -> Option<Tried>
-    ensures { result ≡ Some news.now.tried }
+    ensures { result ≡ Some news.now.attempted.tried }
 {
-    Some(news.tried)
+    Some(news.attempted.tried)
 }
 
 /// Tries the frame that wins the bus, and tells the sockets.
@@ -96,7 +100,7 @@ pub fn try_on<T: BoundedQueue<Pending>, R: BoundedQueue<Received>, A: Arbiter>(
     line.settle(tried.class, tried.off.contains(winner));
     lines::compete(arbiter, winner, line);
     let told = news_of(tried, pending, verdict, config, *nodes, judgement);
-    count(nodes, &told.judgement);
+    count(nodes, &told.attempted.judgement);
     news::tell_all(sockets, &told);
     answer_of(&told)
 }

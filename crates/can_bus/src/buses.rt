@@ -9,7 +9,7 @@ ghost use Rattle.can_bus.specs.declared.events.Reply.TheVariants as reply;
 
 use crate::events::{BusConfig, Closed, Event, Opt, Pending, Received, Refusal, SocketId, Tried};
 use crate::line::Line;
-use crate::records::{Record, is_proper};
+use crate::records::Record;
 use crate::replies::{
     attempt_reply, closed_reply, counted, done_reply, is_no_memory, numbered, opened_reply,
     received_reply, sent_reply,
@@ -78,7 +78,7 @@ impl<T: BoundedQueue<Pending>, R: BoundedQueue<Received>, A: Arbiter> Bus<T, R, 
         ensures proper { OnOk result (IsConfig config) }
         ensures bad { (result ≡ Err BusFault.BadConfig) ↔ (¬ IsConfig config) }
     {
-        if !is_proper(config) {
+        if !config.is_proper() {
             return Err(BusFault::BadConfig);
         }
         let Ok(lines) = lines::make(alloc, config.ifaces, config.tx_capacity as usize) else {

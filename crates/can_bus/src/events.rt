@@ -1,6 +1,10 @@
+ghost use Rattle.std.specs.Prelude.{◌≡◌, ◌↔◌, IsTrue};
+ghost use Rattle.can_bus.specs.Journal.{IsConfig};
+ghost use Rattle.can_bus.specs.Sockets.{with_option};
+
 use can_attempt::{AckMode, Class};
 use can_fault::Verdict;
-use can_filter::FilterSet;
+use can_filter::{FilterSet, Options};
 use can_frame::{Frame, Iface, IfaceSet, Item, Moment};
 use thiserror::Error;
 
@@ -19,6 +23,26 @@ pub struct BusConfig {
     pub limit: u32,
 }
 
+impl BusConfig {
+    /// Whether a bus may be made with it: each number is within its limits.
+    pub fn is_proper(self) -> bool
+        ensures { IsTrue result ↔ IsConfig self }
+    {
+        let BusConfig {
+            ifaces,
+            tx_capacity,
+            limit,
+            ..
+        } = self;
+        ifaces >= 1
+            && ifaces <= 16
+            && tx_capacity >= 1
+            && tx_capacity <= 1024
+            && limit >= 1
+            && limit <= 16_777_216
+    }
+}
+
 /// A socket's number. The sockets of a bus are numbered from 0 as they are opened, and no number is
 /// used again.
 #[derive(Debug, Clone, Copy, PartialEq, Eq)]
@@ -35,6 +59,29 @@ pub enum Opt {
     Join(bool),
     /// The error classes whose message frames the socket gets (CAN_RAW_ERR_FILTER).
     ErrMask(u32),
+}
+
+impl Opt {
+    /// These options with this one set.
+    pub fn set_in(self, options: Options) -> Options
+        ensures { result ≡ with_option self options }
+    {
+        match self {
+            Opt::Loopback(loopback) => Options {
+                loopback,
+                ..options
+            },
+            Opt::RecvOwn(recv_own) => Options {
+                recv_own,
+                ..options
+            },
+            Opt::Join(join) => Options { join, ..options },
+            Opt::ErrMask(err_mask) => Options {
+                err_mask,
+                ..options
+            },
+        }
+    }
 }
 
 /// One call on a bus.

@@ -13,6 +13,7 @@ pub mod laws;
 mod line;
 mod lines;
 mod news;
+pub mod outcomes;
 pub mod records;
 mod replies;
 pub mod runs;
@@ -25,6 +26,7 @@ pub use buses::{Bus, BusFault};
 pub use events::{
     BusConfig, Closed, Entry, Event, Opt, Pending, Received, Refusal, Reply, SocketId, Tried,
 };
+pub use outcomes::Attempted;
 pub use records::Record;
 pub use runs::{RunFault, answer, run};
 pub use spelled::is_spelled;

@@ -54,7 +54,7 @@ impl Record {
         ensures history { IfSome result (λ r. r.history ≡ reverse entries.items) }
         ensures fits { IsSome result ↔ IsRecord config entries.items }
     {
-        if !is_proper(config) {
+        if !config.is_proper() {
             return None;
         }
         if !are_spelled(&entries) {
@@ -112,21 +112,6 @@ impl Record {
         let _types: Option<(Item, Received)> = None;
         let _ = self.entries.push(Entry { event, reply });
     }
-}
-
-/// Whether a bus may have this configuration.
-pub(crate) fn is_proper(config: BusConfig) -> bool
-    ensures { IsTrue result ↔ IsConfig config }
-{
-    let ifaces = config.ifaces;
-    let tx_capacity = config.tx_capacity;
-    let limit = config.limit;
-    ifaces >= 1
-        && ifaces <= 16
-        && tx_capacity >= 1
-        && tx_capacity <= 1024
-        && limit >= 1
-        && limit <= 16_777_216
 }
 
 /// Whether the text of a record has a line for each of these entries.

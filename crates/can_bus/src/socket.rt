@@ -92,12 +92,7 @@ impl<R: BoundedQueue<Received>> Socket<R> {
     pub fn set_option(&mut self, option: Opt)
         ensures { self.new ≡ record self.old { options = with_option option self.old.options } }
     {
-        match option {
-            Opt::Loopback(on) => self.options.loopback = on,
-            Opt::RecvOwn(on) => self.options.recv_own = on,
-            Opt::Join(on) => self.options.join = on,
-            Opt::ErrMask(mask) => self.options.err_mask = mask,
-        }
+        self.options = option.set_in(self.options);
     }
 
     /// Gives the oldest item.

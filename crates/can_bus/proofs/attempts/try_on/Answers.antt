@@ -7,7 +7,8 @@ use Rattle.can_attempt.specs.declared.nodes.Nodes.{Nodes}
 use Rattle.can_bus.specs.declared.events.Tried.{Tried}
 use Rattle.can_bus.specs.declared.news.News.{News}
 use Rattle.can_bus.specs.Changes.{Tries, IsReady, settled}
-use Rattle.can_bus.specs.News.{IsNews, told_news}
+use Rattle.can_bus.specs.Attempted.{IsJudged}
+use Rattle.can_bus.specs.News.{told_news}
 use Rattle.can_bus.specs.Posts.{attempt_posts}
 use Rattle.can_bus.specs.State.{LineState, SocketState, reached, key_in}
 use Rattle.can_bus.proofs.Reading.{written_back}
@@ -32,10 +33,13 @@ settle-requires-clause-done g c = subst (λ (l : LineState). l.done + 1 < 2 ^ 64
 pub tell_all-requires-clause-small : goal.tell_all-requires-clause-small
 tell_all-requires-clause-small g c = subst (All (λ (v : SocketState). v.dropped + 3 < 2 ^ 64)) (sym c.deref_mut.ensures.value) c.requires.dropped
 
-pub tell_all-requires-clause-news : goal.tell_all-requires-clause-news
-tell_all-requires-clause-news g c =
-    subst IsNews (sym c.news_of-told.ensures)
-    (c.judge-judgement.ensures ∙ ap (λ (u : Tried). judged (attempt_between c.args.nodes.now u.winner c.args.verdict c.args.config.ack)) (sym c.tried_as-tried.ensures))
+pub tell_all-requires-clause-judged : goal.tell_all-requires-clause-judged
+tell_all-requires-clause-judged g c =
+    subst (λ (n : News). IsJudged n.attempted) (sym c.news_of-told.ensures)
+    (record {
+      judged = c.judge-judgement.ensures ∙ ap (λ (u : Tried). judged (attempt_between c.args.nodes.now u.winner c.args.verdict c.args.config.ack)) (sym c.tried_as-tried.ensures);
+      few = c.requires.few;
+    })
 
 pub returns-clause-tried : goal.returns-clause-tried
 returns-clause-tried g c =
@@ -50,7 +54,7 @@ returns-clause-tried g c =
     (let won = c.in_ok-winner.ensures.first in
     let ready : IsReady lines nodes w = c.requires.ready w won.0 won.1.holds in
     omega (arith, ready.there, c.number.ensures.number)) in
-    let answer : c.answer_of.result ≡ Some t = c.answer_of.ensures ∙ ap (λ (n : News). Some n.tried) c.news_of-told.ensures in
+    let answer : c.answer_of.result ≡ Some t = c.answer_of.ensures ∙ ap (λ (n : News). Some n.attempted.tried) c.news_of-told.ensures in
     let settles : c.settle.new.self ≡ settled t.class (is_in w t.off) line = c.settle.ensures ∙ ap (λ (b : Bool). settled t.class b line) c.contains.ensures in
     subst (λ (r : Option Tried). Tries lines (g.A.Arbiter.keys_of c.args.arbiter.now) nodes c.args.sockets.now.items c.args.config.ack c.args.config.reporting c.args.moment c.args.verdict r (slice_set lines c.number.result c.settle.new.self) (g.A.Arbiter.keys_of c.compete.new.arbiter) c.count.new.nodes (take c.args.sockets.now.len (c.tell_all.new.sockets ++ drop (length c.tell_all.new.sockets) c.args.sockets.now.items))) (sym answer)
     (record {
@@ -66,7 +70,7 @@ returns-clause-tried g c =
       lines_after = ap (slice_set lines c.number.result) settles ∙ ap (λ (k : ℕ). slice_set lines k (settled t.class (is_in w t.off) line)) c.number.ensures.number;
       keys_after = c.compete.ensures ∙ ap (λ (l : LineState). slice_set (g.A.Arbiter.keys_of c.args.arbiter.now) w (key_in (slice_get l.waiting 0))) settles;
       nodes_after = c.count.ensures
-          ∙ ap (λ (n : News). with_counters nodes n.judgement) c.news_of-told.ensures
+          ∙ ap (λ (n : News). with_counters nodes n.attempted.judgement) c.news_of-told.ensures
           ∙ ap (λ (j : Judgement). with_counters nodes j) c.judge-judgement.ensures;
       sockets_after = written_back _ _ _ _ _ _ c.tell_all.ensures c.deref_mut.ensures.value c.deref_mut.ensures.len
           ∙ ap (λ (n : News). map (reached (told_news n)) c.args.sockets.now.items) c.news_of-told.ensures

@@ -1,0 +1,10 @@
+use Rattle.std.specs.Prelude.{ℕ, List, codes}
+use Rattle.can_attempt.specs.declared.classes.Class.{Class}
+use Rattle.can_attempt.specs.declared.classes.Class.TheVariants.{Done, LastBit, Destroyed, NoAck}
+
+-- the word for how an attempt ended (own choice)
+abbrev pub class_word : Class → List ℕ
+class_word Done = codes "done"
+class_word LastBit = codes "lastbit"
+class_word Destroyed = codes "destroyed"
+class_word NoAck = codes "noack"

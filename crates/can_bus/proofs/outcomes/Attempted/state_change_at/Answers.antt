@@ -1,0 +1,20 @@
+use Rattle.std.proofs.Common.{◌≡◌, ◌<◌, ap, ◌∙◌, arith, get_or, map, List}
+use Rattle.std.specs.List.{range_with_len}
+use Rattle.std.proofs.lemmas.List.FromFn.{get_or-map-range_with_len}
+use Rattle.can_confine.specs.Confinement.{ErrorCounts}
+use Rattle.can_attempt.specs.Attempts.{counts_at, counts_after}
+use Rattle.can_attempt.specs.declared.judgements.Judgement.{Judgement}
+use Rattle.can_errframe.specs.ErrorMessages.{state_message}
+use Rattle.can_bus.specs.Attempted.{transmission_of}
+use Rattle.can_bus.proofs.outcomes.Attempted.state_change_at.Goals as goal
+
+pub returns : goal.returns
+returns c =
+    let t = transmission_of c.args.self.now in
+    let lt : c.number.result < 16 = c.number.ensures.below in
+    let counters : c.args.self.now.judgement.counters ≡ map (counts_after t) (range_with_len 0 16) = ap (λ (j : Judgement). j.counters) c.requires.judged in
+    let read : get_or c.args.self.now.judgement.counters c.number.result c.index-self-number.result ≡ counts_after t c.number.result =
+    ap (λ (l : List ErrorCounts). get_or l c.number.result c.index-self-number.result) counters ∙ get_or-map-range_with_len (counts_after t) 0 16 c.number.result c.number.result c.index-self-number.result lt (omega arith) in
+    c.state_frame.ensures
+    ∙ ap (λ (k : ErrorCounts). state_message k (get_or c.args.self.now.judgement.counters c.number.result c.index-self-number.result)) c.counters_of.ensures
+    ∙ ap (state_message (counts_at c.args.self.now.nodes c.args.iface)) (read ∙ ap (counts_after t) c.number.ensures.number)

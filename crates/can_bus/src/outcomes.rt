@@ -1,0 +1,90 @@
+ghost use Rattle.std.specs.Prelude.{◌≡◌};
+
+use crate::events::{Pending, Tried};
+use can_attempt::{AckMode, Class, Judgement, Nodes};
+use can_errframe::{Role, fault_frame, state_frame};
+use can_fault::Verdict;
+use can_frame::{ErrorFrame, Iface};
+
+/// An attempt that tried a frame, and all that followed.
+#[derive(Debug, Clone, Copy, PartialEq, Eq)]
+pub struct Attempted {
+    /// The frame that was tried, and what became of it.
+    pub tried: Tried,
+    /// The faults of the attempt.
+    pub verdict: Verdict,
+    /// Who acknowledges.
+    pub ack: AckMode,
+    /// The interfaces as they were before it, at most 16.
+    pub nodes: Nodes,
+    /// All that followed: what `judge` answers of the other parts.
+    pub judgement: Judgement,
+}
+
+impl Attempted {
+    ghost use Rattle.std.specs.Prelude.{◌||◌, ◌&&◌, ◌==◌};
+    ghost use Rattle.can_frame.specs.Sets.{is_in};
+    ghost use Rattle.can_attempt.specs.Attempts.{counts_after};
+    ghost use Rattle.can_errframe.specs.ErrorMessages.{state_message};
+    ghost use Rattle.can_bus.specs.Attempted.{transmission_of, IsJudged};
+    ghost use Rattle.can_bus.specs.Posts.{is_looped_back, role_at, fault_message_for};
+
+    /// Whether the frame, which waited so, is put to the sockets of an interface: one that accepted it, and
+    /// its own where it is looped back.
+    pub fn is_posted(&self, iface: Iface, pending: Option<Pending>) -> bool
+        ensures { result ≡ (is_in iface self.now.tried.accepted || ((iface == self.now.tried.winner) && is_looped_back self.now.tried.class pending)) }
+    {
+        if self.tried.accepted.contains(iface) {
+            return true;
+        }
+        match pending {
+            Some(pending) => {
+                iface.number() == self.tried.winner.number()
+                    && matches!(self.tried.class, Class::Done)
+                    && pending.loopback
+            }
+            None => false,
+        }
+    }
+
+    /// The part that an interface has in the attempt: none where it is bus off, or not there.
+    pub fn role_of(&self, iface: Iface) -> Option<Role>
+        requires { IsJudged self.now }
+        ensures { result ≡ role_at (transmission_of self.now) iface }
+    {
+        let place = iface.number();
+        if place == self.tried.winner.number() {
+            return Some(Role::Winner);
+        }
+        if self.judgement.hit.contains(iface) {
+            return Some(Role::Named);
+        }
+        if place >= self.nodes.count {
+            return None;
+        }
+        if self.nodes.is_off(iface) {
+            return None;
+        }
+        Some(Role::Other)
+    }
+
+    /// The error message frame of the attempt's fault, as an interface sees it, if it sees one.
+    pub fn fault_at(&self, iface: Iface) -> Option<ErrorFrame>
+        requires { IsJudged self.now }
+        ensures { result ≡ fault_message_for self.now.tried.class self.now.verdict (role_at (transmission_of self.now) iface) }
+    {
+        match self.role_of(iface) {
+            Some(role) => fault_frame(self.tried.class, self.verdict, role),
+            None => None,
+        }
+    }
+
+    /// The error message frame of a change of an interface's state, if the attempt changed it.
+    pub fn state_change_at(&self, iface: Iface) -> Option<ErrorFrame>
+        requires { IsJudged self.now }
+        ensures { result ≡ state_message ((transmission_of self.now).counts iface) (counts_after (transmission_of self.now) iface) }
+    {
+        let after = self.judgement.counters[iface.number() as usize];
+        state_frame(self.nodes.counters_of(iface), after)
+    }
+}
