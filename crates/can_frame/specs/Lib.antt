@@ -5,3 +5,5 @@ pub mod Sets
 pub mod Names
 pub mod FrameText
 pub mod FrameGuess
+pub mod Moments
+pub mod Numbers

@@ -1,7 +1,9 @@
-ghost use Rattle.std.specs.Prelude.{◌≡◌, ◌<◌, ◌≤◌, length, IsTrue, IfSome};
+ghost use Rattle.std.specs.Prelude.{◌≡◌, ◌<◌, ◌≤◌, length, IsTrue, IfSome, Some};
 ghost use Rattle.std.specs.Option.{option_map};
 ghost use Rattle.can_frame.specs.Frames.Payload.{Data, Remote};
 ghost use Rattle.can_frame.specs.FrameGuess.{stands_at, padded, number_in, request_in, data_in, payload_in, frame_in, error_in, standard_in, long_in, short_item_in, long_item_in, item_in};
+ghost use Rattle.can_frame.specs.FrameText.{IsItem, IsSpelling};
+ghost use Rattle.can_frame.specs.declared.items.Item.{Item as AnItem};
 
 use crate::error_frames::ErrorFrame;
 use crate::frames::Frame;
@@ -9,9 +11,23 @@ use crate::identifiers::CanId;
 use crate::items::Item;
 use hex::decode_to_slice;
 
-/// The item that an upper-case text may spell: it has to be written again, and compared.
-#[tactic(auto, unfolding(crate::specs::FrameGuess::item_in))]
+/// The item that an upper-case text spells, if it spells one; the text may also be at fault, as where a
+/// number has a lower-case digit.
+///
+/// It is for callers that write the item again and compare it, or all that they read, with the text: where the
+/// two are equal the text spells the item, and where they differ, or there is `None`, it spells none. To know of
+/// a single text at once what it spells, in either case, use `read_frame_text`. It takes no memory.
 pub fn guess_item(text: &[u8]) -> Option<Item>
+    ensures guess { result ≡ item_in text.now }
+    ensures good { IfSome result IsItem }
+    ensures only { (i : AnItem) → IsItem i → IsSpelling text.now i → result ≡ Some i }
+{
+    by_mark(text)
+}
+
+/// The item of a text with the mark behind 3 digits, or behind 8.
+#[tactic(auto, unfolding(crate::specs::FrameGuess::item_in))]
+fn by_mark(text: &[u8]) -> Option<Item>
     ensures { result ≡ item_in text.now }
 {
     if stands_at(b'#', 3, text) {

@@ -1,10 +1,9 @@
 ghost use Rattle.std.specs.Prelude.{◌≡◌, ◌≤◌, ◌+◌, ◌++◌, ◌↔◌, length, IsTrue, IsErr, IfOk, IfSome, Ok, Err, Some};
-ghost use Rattle.can_frame.specs.FrameText.{id_text, payload_text, frame_spelling, AsksForNothing, IsItem, IsSpelling, Spells};
+ghost use Rattle.can_frame.specs.FrameText.{payload_text, frame_spelling, AsksForNothing, IsItem, IsSpelling, Spells};
 ghost use Rattle.can_frame.specs.declared.items.Item.{Item as AnItem};
 
 use crate::frame_guess::guess_item;
 use crate::frames::Frame;
-use crate::identifiers::CanId;
 use crate::items::Item;
 use crate::texts::Text;
 use thiserror::Error;
@@ -27,27 +26,17 @@ pub fn frame_text(item: &Item) -> FrameText
     let mut text = Text::new();
     match item {
         Item::Data(frame) => {
-            push_id(&mut text, frame.id());
+            text.push_id(frame.id());
             text.push(b'#');
             push_payload(&mut text, *frame);
         }
         Item::Error(error) => {
-            text.push_digits(16, 8, 0x2000_0000 + u64::from(error.class()));
+            text.push_hex(8, 0x2000_0000 + u64::from(error.class()));
             text.push(b'#');
             text.push_pairs(&error.data());
         }
     }
     text
-}
-
-/// Adds an identifier.
-fn push_id(text: &mut FrameText, id: CanId)
-    requires { length text.old + 8 ≤ 32 }
-    ensures text { text.new ≡ text.old ++ id_text id }
-    ensures len { length text.new ≤ length text.old + 8 }
-{
-    let digits = if id.is_extended() { 8 } else { 3 };
-    text.push_digits(16, digits, u64::from(id.number()));
 }
 
 /// Adds the data of a frame, or what a remote frame asks for.

@@ -10,12 +10,13 @@
 //! frames of one identifier and kind can have equal bits.
 //!
 //! `frame_text` writes an item in the shape of candump's logs, and `read_frame_text` reads it in either case:
-//! it answers an item exactly where the text spells one, and no text spells two.
+//! it answers an item exactly where the text spells one, and no text spells two. A `Text` is a text kept in place, to
+//! which identifiers, moments, numbers and data are added; `read_decimal` and `read_hexadecimal` read words of digits.
 #![tactic(auto)]
 
 pub mod arbitration;
 pub mod error_frames;
-mod frame_guess;
+pub mod frame_guess;
 pub mod frame_texts;
 pub mod frames;
 pub mod identifiers;
@@ -24,9 +25,11 @@ pub mod items;
 pub mod laws;
 pub mod moments;
 pub mod names;
+pub mod numbers;
 pub mod texts;
 
 pub use error_frames::{ClassTooLarge, ErrorFrame};
+pub use frame_guess::guess_item;
 pub use frame_texts::{BadText, FrameText, frame_text, read_frame_text};
 pub use frames::{Frame, TooLong};
 pub use identifiers::{CanId, IdTooLarge};
@@ -34,6 +37,7 @@ pub use ifaces::{Iface, IfaceSet};
 pub use items::Item;
 pub use moments::{Moment, MomentTooLarge};
 pub use names::{Names, NamesError, is_name};
+pub use numbers::{read_decimal, read_hexadecimal};
 pub use texts::Text;
 
 #[cfg(test)]

@@ -1,5 +1,6 @@
 use crate::{
-    CanId, ErrorFrame, Frame, Iface, Item, Names, NamesError, frame_text, is_name, read_frame_text,
+    CanId, ErrorFrame, Frame, Iface, Item, Moment, Names, NamesError, Text, frame_text, guess_item,
+    is_name, read_decimal, read_frame_text, read_hexadecimal,
 };
 
 #[test]
@@ -137,4 +138,50 @@ fn other_texts_are_bad(rt: HostRuntime) {
     for text in texts {
         assert_eq!(rt; read_frame_text(text).is_err(), true, "at {text}");
     }
+}
+
+fn is_decimal(word: &str, most: usize, number: Option<u64>) -> bool {
+    read_decimal(word.as_bytes(), most) == number
+}
+
+fn is_hexadecimal(word: &str, most: usize, number: Option<u32>) -> bool {
+    read_hexadecimal(word.as_bytes(), most) == number
+}
+
+#[test]
+fn words_are_read_as_numbers(rt: HostRuntime) {
+    assert_eq!(rt; is_decimal("0", 1, Some(0)), true);
+    assert_eq!(rt; is_decimal("00123", 6, Some(123)), true);
+    assert_eq!(rt;
+        is_decimal("9999999999999999999", 19, Some(9_999_999_999_999_999_999)),
+        true
+    );
+    assert_eq!(rt; is_hexadecimal("fFfFfFfF", 8, Some(0xFFFF_FFFF)), true);
+    assert_eq!(rt; is_hexadecimal("0a9", 3, Some(0xA9)), true);
+    for word in ["", "1234", "1 ", "+1", "-1", "1a", ":", "/"] {
+        assert_eq!(rt; is_decimal(word, 3, None), true, "at {word}");
+    }
+    for word in ["", "1234", "g", "0x1", "+1", "@", "G", "`"] {
+        assert_eq!(rt; is_hexadecimal(word, 3, None), true, "at {word}");
+    }
+}
+
+#[test]
+fn parts_of_texts_are_written(rt: HostRuntime) {
+    let mut text: Text<43> = Text::new();
+    text.push_id(CanId::standard(0xA).expect(&rt, "11 bits"));
+    text.push_id(CanId::extended(0x1FFF_FFFF).expect(&rt, "29 bits"));
+    text.push_moment(Moment::new(23_000_042).expect(&rt, "small"));
+    text.push_hex(3, 0x1234);
+    text.push_decimals(3, 98_765);
+    text.push_moment(Moment::new(9_999_999_999_999_999).expect(&rt, "the last"));
+    let bytes = b"00A1FFFFFFF23.0000422347659999999999.999999";
+    assert_eq!(rt; text.as_bytes(), bytes.as_slice());
+}
+
+#[test]
+fn what_is_guessed_has_to_be_compared(rt: HostRuntime) {
+    assert_eq!(rt; guess_item(b"123#R4") == remote(0x123, 4), true);
+    assert_eq!(rt; guess_item(b"12a#") == data(0x12A, b""), true);
+    assert_eq!(rt; guess_item(b"123#R9").is_none(), true);
 }

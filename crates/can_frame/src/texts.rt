@@ -1,7 +1,10 @@
 ghost use Rattle.std.specs.Prelude.{◌≡◌, ◌≤◌, ◌<◌, ◌+◌, ◌*◌, ◌++◌, ◌∷◌, [], length};
 ghost use Rattle.std.specs.Fmt.{decimal};
-ghost use Rattle.can_frame.specs.FrameText.{digits, digit_of, pairs, upper};
+ghost use Rattle.can_frame.specs.FrameText.{digits, digit_of, pairs, id_text, upper};
+ghost use Rattle.can_frame.specs.Moments.{moment_text};
 
+use crate::identifiers::CanId;
+use crate::moments::Moment;
 use itoa::Buffer;
 use std::marker::Model;
 
@@ -62,28 +65,71 @@ impl<const N: usize> Text<N> {
         self.len = end;
     }
 
-    /// The last `count` digits of a number in a base of at most 16, upper case.
-    pub fn push_digits(&mut self, base: u64, count: usize, number: u64)
-        requires low { 2 ≤ base }
-        requires high { base ≤ 16 }
-        requires room { length self.old + count ≤ N }
-        ensures text { self.new ≡ self.old ++ digits base count number }
+    /// The last `count` hexadecimal digits of a number, upper case.
+    pub fn push_hex(&mut self, count: usize, number: u64)
+        requires { length self.old + count ≤ N }
+        ensures text { self.new ≡ self.old ++ digits 16 count number }
         ensures len { length self.new ≡ length self.old + count }
     {
-        if count > 0 {
-            self.push_digits(base, count - 1, number / base);
-            self.push(digit(number % base));
-        }
+        let end = self.len + count;
+        let all = &mut self.bytes[..];
+        write_digits::<16>(number, &mut all[self.len..end]);
+        self.len = end;
+    }
+
+    /// The last `count` decimal digits of a number.
+    pub fn push_decimals(&mut self, count: usize, number: u64)
+        requires { length self.old + count ≤ N }
+        ensures text { self.new ≡ self.old ++ digits 10 count number }
+        ensures len { length self.new ≡ length self.old + count }
+    {
+        let end = self.len + count;
+        let all = &mut self.bytes[..];
+        write_digits::<10>(number, &mut all[self.len..end]);
+        self.len = end;
     }
 
     /// A number in decimal, without leading zeros.
+    #[tactic(auto, using(crate::proofs::Lengths::count_fits))]
     pub fn push_count(&mut self, number: u64)
         requires room { length self.old + 20 ≤ N }
         ensures text { self.new ≡ self.old ++ decimal number }
         ensures len { length self.new ≤ length self.old + 20 }
     {
+        self.push_number(number);
+    }
+
+    /// A number in decimal, where there is room for its digits.
+    fn push_number(&mut self, number: u64)
+        requires { length self.old + length (decimal number) ≤ N }
+        ensures text { self.new ≡ self.old ++ decimal number }
+        ensures len { length self.new ≡ length self.old + length (decimal number) }
+    {
         let mut buffer = Buffer::new();
         self.push_all(buffer.format(number).as_bytes());
+    }
+
+    /// An identifier: 3 hexadecimal digits, or 8 where it has 29 bits.
+    pub fn push_id(&mut self, id: CanId)
+        requires { length self.old + 8 ≤ N }
+        ensures text { self.new ≡ self.old ++ id_text id }
+        ensures len { length self.new ≤ length self.old + 8 }
+    {
+        let count = if id.is_extended() { 8 } else { 3 };
+        self.push_hex(count, u64::from(id.number()));
+    }
+
+    /// A moment: seconds without leading zeros, a point and 6 digits of microseconds.
+    #[tactic(auto, using(crate::proofs::Lengths::seconds_fit))]
+    pub fn push_moment(&mut self, moment: Moment)
+        requires { length self.old + 17 ≤ N }
+        ensures text { self.new ≡ self.old ++ moment_text moment }
+        ensures len { length self.new ≤ length self.old + 17 }
+    {
+        let micros = moment.micros();
+        self.push_number(micros / 1_000_000);
+        self.push(b'.');
+        self.push_decimals(6, micros % 1_000_000);
     }
 
     /// Bytes as pairs of hexadecimal digits, upper case.
@@ -108,6 +154,20 @@ impl<const N: usize> Text<N> {
         let all = &mut self.bytes[..];
         copy_upper(more, &mut all[self.len..end]);
         self.len = end;
+    }
+}
+
+/// Fills a room with the last digits of a number in a base of at most 16, upper case.
+fn write_digits<const BASE: u64>(number: u64, room: &mut [u8])
+    requires low { 2 ≤ BASE }
+    requires high { BASE ≤ 16 }
+    ensures text { room.new ≡ digits BASE (length room.old) number }
+    ensures len { length room.new ≡ length room.old }
+{
+    let mut left = number;
+    for place in (0..room.len()).rev() {
+        room[place] = digit(left % BASE);
+        left /= BASE;
     }
 }
 

@@ -1,0 +1,31 @@
+use Rattle.std.specs.Prelude.{ℕ, ◌+◌, ◌*◌, ◌-◌, ◌&&◌, nat_lt, nat_le, if◌then◌else◌, List, [], ◌∷◌, length, Option, Some, None}
+
+-- Numbers in digits of either case (own choice).
+
+-- what a hexadecimal digit stands for
+abbrev pub hex_digit : ℕ → Option ℕ
+hex_digit b = if nat_le 48 b && nat_le b 57 then Some (b - 48) else if nat_le 65 b && nat_le b 70 then Some (b - 55) else if nat_le 97 b && nat_le b 102 then Some (b - 87) else None
+
+-- it is a digit of the base
+abbrev pub in_base : ℕ → Option ℕ → Option ℕ
+in_base base None = None
+in_base base (Some v) = if nat_lt v base then Some v else None
+
+-- what a digit of a base stands for
+abbrev pub digit_in : ℕ → ℕ → Option ℕ
+digit_in base b = in_base base (hex_digit b)
+
+-- a digit behind a number
+abbrev pub one_more : ℕ → ℕ → Option ℕ → Option ℕ
+one_more base n None = None
+one_more base n (Some v) = Some (n * base + v)
+
+-- digits behind a number
+abbrev pub number_after : ℕ → Option ℕ → List ℕ → Option ℕ
+number_after base None ds = None
+number_after base (Some n) [] = Some n
+number_after base (Some n) (d ∷ ds) = number_after base (one_more base n (digit_in base d)) ds
+
+-- the number of 1 to `most` digits of a base
+abbrev pub number_in : ℕ → ℕ → List ℕ → Option ℕ
+number_in base most word = if nat_lt 0 (length word) && nat_le (length word) most then number_after base (Some 0) word else None
