@@ -2,11 +2,10 @@ ghost use Rattle.std.specs.Prelude.{IfSome, ◌≡◌, ◌^◌, ◌≤◌, ◌<�
 ghost use Rattle.std.specs.Option.{option_map};
 ghost use Rattle.can_audit.specs.Reading.{number_at, mask_at, moment_at, socket_at, set_at, flag_at, item_at, frame_at};
 
-use crate::frame_words::item_of;
 use crate::numbers::{hexadecimal, moment, number};
 use crate::words::{next_word, same_word};
 use can_bus::SocketId;
-use can_frame::{Frame, Iface, IfaceSet, Item, Moment};
+use can_frame::{Frame, Iface, IfaceSet, Item, Moment, guess_item};
 
 /// A number below the limit, and what follows it.
 #[tactic(auto, unfolding(crate::specs::Reading::number_at))]
@@ -124,7 +123,7 @@ pub fn item_field(text: &[u8]) -> Option<(Item, &[u8])>
     ensures { option_map (λ x. (x.0, x.1.now)) result ≡ item_at text.now }
 {
     let (word, rest) = next_word(text);
-    let item = item_of(word)?;
+    let item = guess_item(word)?;
     Some((item, rest))
 }
 
