@@ -16,6 +16,7 @@ use Rattle.can_fault.specs.declared.verdicts.Verdict.{Verdict}
 use Rattle.can_fault.specs.declared.verdicts.Verdict.TheVariants as verdict
 use Rattle.can_attempt.specs.declared.classes.Class.{Class}
 use Rattle.can_attempt.specs.declared.classes.Class.TheVariants as class
+use Rattle.can_attempt.specs.Words.{class_word}
 use Rattle.can_attempt.specs.declared.acks.AckMode.{AckMode}
 use Rattle.can_attempt.specs.declared.acks.AckMode.TheVariants as ack
 use Rattle.can_bus.specs.declared.events.BusConfig.{BusConfig}
@@ -36,9 +37,9 @@ use Rattle.std.proofs.lemmas.Option.{none-some, same_Some}
 use Rattle.can_audit.specs.declared.faults.Unread.{Unread}
 use Rattle.can_audit.specs.declared.faults.Unread.TheVariants as unread
 use Rattle.can_audit.specs.Words.{is_gap, is_word, gap_before, word, after, spell}
-use Rattle.can_audit.specs.Numerals.{number_in, moment_text}
+use Rattle.can_audit.specs.Numerals.{number_in}
 use Rattle.can_audit.specs.Values.{HoldsFilter, HoldsOption, HoldsVerdict, HoldsEvent, HoldsTried, HoldsReply, HasLine, HasBusLine}
-use Rattle.can_audit.specs.Spelling.{set_word, mask_word, flag_word, class_word, verdict_word, option_words, filter_words, refusal_words, received_words, event_words, reply_words, entry_line, ack_word, bus_words, end_words}
+use Rattle.can_audit.specs.Spelling.{set_word, mask_word, moment_word, flag_word, verdict_word, option_words, filter_words, refusal_words, received_words, event_words, reply_words, entry_line, ack_word, bus_words, end_words}
 use Rattle.can_audit.specs.Reading.{Gives, number_at, mask_at, moment_at, socket_at, set_at, flag_at, item_at, frame_at, option_at, set_behind, verdict_at, class_at, refusal_in, closed_at, data_at, error_at, tried_at, fixed_in, reply_at, moment_of, with_reply, filter_at, filters_at, set_filters_at, set_option_at, setting_at, entry_at, ack_at, config_at}
 use Rattle.can_audit.proofs.Wording.{word-spelled, after-spelled}
 use Rattle.can_audit.proofs.Digits.{number_again, digits_again, is_word-decimal, is_word-digits, moment_again, is_word-moment}
@@ -77,11 +78,11 @@ pub set_field : (set : IfaceSet) (g : ℕ) (rest : List ℕ) → set.0 < 2 ^ 16 
 unfolding set_at mask_at
 set_field set g rest lt gap = rw (word-spelled (set_word set) rest g (set-plain set) gap, after-spelled (set_word set) rest g (set-plain set) gap, set-again set lt, lt-ltb set.0 (2 ^ 16) lt) refl
 
-moment_field : (m g : ℕ) (rest : List ℕ) → m < 10 ^ 16 → is_gap g ≡ true → moment_at (moment_text m ++ g ∷ rest) ≡ Some (m, rest)
+moment_field : (m g : ℕ) (rest : List ℕ) → m < 10 ^ 16 → is_gap g ≡ true → moment_at (moment_word m ++ g ∷ rest) ≡ Some (m, rest)
 unfolding moment_at
 moment_field m g rest lt gap =
     let plain = is_word-moment m lt in
-    rw (word-spelled (moment_text m) rest g plain gap, after-spelled (moment_text m) rest g plain gap, moment_again m lt) refl
+    rw (word-spelled (moment_word m) rest g plain gap, after-spelled (moment_word m) rest g plain gap, moment_again m lt) refl
 
 socket_field : (s : SocketId) (g : ℕ) (rest : List ℕ) → s.0 < 2 ^ 32 → is_gap g ≡ true → socket_at (decimal s.0 ++ g ∷ rest) ≡ Some (s, rest)
 unfolding socket_at
@@ -147,22 +148,22 @@ closed_again : (u d : ℕ) (rest : List ℕ) → u < 2 ^ 64 → d < 2 ^ 64 → c
 unfolding closed_at
 closed_again u d rest hu hd = rw (number_field (2 ^ 64) u 32 (decimal d ++ 10 ∷ rest) hu (omega arith) refl, number_field (2 ^ 64) d 10 rest hd (omega arith) refl) refl
 
-data_again : (f : CanFrame) (from n m : ℕ) (rest : List ℕ) → IsItem (item.Data f) → from < 16 → n < 2 ^ 64 → m < 10 ^ 16 → data_at (decimal from ++ 32 ∷ (decimal n ++ 32 ∷ (frame_spelling (item.Data f) ++ 32 ∷ (moment_text m ++ 10 ∷ rest)))) ≡ Some (reply.Received (Some (record { item = item.Data f; from = from; number = n; moment = m })), rest)
+data_again : (f : CanFrame) (from n m : ℕ) (rest : List ℕ) → IsItem (item.Data f) → from < 16 → n < 2 ^ 64 → m < 10 ^ 16 → data_at (decimal from ++ 32 ∷ (decimal n ++ 32 ∷ (frame_spelling (item.Data f) ++ 32 ∷ (moment_word m ++ 10 ∷ rest)))) ≡ Some (reply.Received (Some (record { item = item.Data f; from = from; number = n; moment = m })), rest)
 unfolding data_at
 data_again f from n m rest good hi hn hm =
     rw (
-      number_field 16 from 32 (decimal n ++ 32 ∷ (frame_spelling (item.Data f) ++ 32 ∷ (moment_text m ++ 10 ∷ rest))) hi (omega arith) refl,
-      number_field (2 ^ 64) n 32 (frame_spelling (item.Data f) ++ 32 ∷ (moment_text m ++ 10 ∷ rest)) hn (omega arith) refl,
-      frame_field f 32 (moment_text m ++ 10 ∷ rest) good refl,
+      number_field 16 from 32 (decimal n ++ 32 ∷ (frame_spelling (item.Data f) ++ 32 ∷ (moment_word m ++ 10 ∷ rest))) hi (omega arith) refl,
+      number_field (2 ^ 64) n 32 (frame_spelling (item.Data f) ++ 32 ∷ (moment_word m ++ 10 ∷ rest)) hn (omega arith) refl,
+      frame_field f 32 (moment_word m ++ 10 ∷ rest) good refl,
       moment_field m 10 rest hm refl,
     ) refl
 
-error_again : (i : Item) (from m : ℕ) (rest : List ℕ) → IsItem i → from < 16 → m < 10 ^ 16 → error_at (decimal from ++ 32 ∷ (frame_spelling i ++ 32 ∷ (moment_text m ++ 10 ∷ rest))) ≡ Some (reply.Received (Some (record { item = i; from = from; number = 0; moment = m })), rest)
+error_again : (i : Item) (from m : ℕ) (rest : List ℕ) → IsItem i → from < 16 → m < 10 ^ 16 → error_at (decimal from ++ 32 ∷ (frame_spelling i ++ 32 ∷ (moment_word m ++ 10 ∷ rest))) ≡ Some (reply.Received (Some (record { item = i; from = from; number = 0; moment = m })), rest)
 unfolding error_at
 error_again i from m rest good hi hm =
     rw (
-      number_field 16 from 32 (frame_spelling i ++ 32 ∷ (moment_text m ++ 10 ∷ rest)) hi (omega arith) refl,
-      item_field i 32 (moment_text m ++ 10 ∷ rest) good refl,
+      number_field 16 from 32 (frame_spelling i ++ 32 ∷ (moment_word m ++ 10 ∷ rest)) hi (omega arith) refl,
+      item_field i 32 (moment_word m ++ 10 ∷ rest) good refl,
       moment_field m 10 rest hm refl,
     ) refl
 
@@ -270,7 +271,7 @@ entry_kinds (SetOption s o) r rest fits holds h = set_option_again s o r rest ho
 entry_kinds (Send s f) r rest fits holds h = rw (socket_field s 32 (frame_spelling (item.Data f) ++ 32 ∷ spell (codes "=" ∷ reply_words r) rest) holds.0 refl, frame_field f 32 (spell (codes "=" ∷ reply_words r) rest) holds.1 refl) (with_reply_again (Send s f) r rest fits h)
 entry_kinds (Receive s) r rest fits holds h = rw (socket_field s 32 (spell (codes "=" ∷ reply_words r) rest) holds refl) (with_reply_again (Receive s) r rest fits h)
 entry_kinds (Attempt m v) r rest fits holds h = rw (moment_field m 32 (verdict_word v ++ 32 ∷ spell (codes "=" ∷ reply_words r) rest) holds.0 refl, verdict_again v (spell (codes "=" ∷ reply_words r) rest) holds.1) (with_reply_again (Attempt m v) r rest fits h)
-entry_kinds (Restart i m) r rest fits holds h = rw (number_field 16 i 32 (moment_text m ++ 32 ∷ spell (codes "=" ∷ reply_words r) rest) holds.0 (omega arith) refl, moment_field m 32 (spell (codes "=" ∷ reply_words r) rest) holds.1 refl) (with_reply_again (Restart i m) r rest fits h)
+entry_kinds (Restart i m) r rest fits holds h = rw (number_field 16 i 32 (moment_word m ++ 32 ∷ spell (codes "=" ∷ reply_words r) rest) holds.0 (omega arith) refl, moment_field m 32 (spell (codes "=" ∷ reply_words r) rest) holds.1 refl) (with_reply_again (Restart i m) r rest fits h)
 
 -- the entry of a line
 pub entry_again : (e : Entry) (rest : List ℕ) → HasLine e → entry_at (entry_line e rest) ≡ Some e

@@ -7,7 +7,8 @@ use Rattle.std.proofs.lemmas.Bool.{le-ltb, lt-leb}
 use native.Mathlib.Numerals.{unary_clauses}
 use Rattle.can_audit.specs.Words.{is_word}
 use Rattle.can_frame.specs.FrameText.{digits, digit_of}
-use Rattle.can_audit.specs.Numerals.{number_from, number_in, step, moment_in, moment_text, digit_in}
+use Rattle.can_audit.specs.Numerals.{number_from, number_in, step, moment_in, digit_in}
+use Rattle.can_audit.specs.Spelling.{moment_word}
 
 number_from-append : (base n : ℕ) (xs ys : List ℕ) → number_from base n (xs ++ ys) ≡ option_and_then (λ m. number_from base m ys) (number_from base n xs)
 unfolding number_from
@@ -95,12 +96,12 @@ moment_of : (a b : List ℕ) (s u : ℕ) → length b ≡ 6 → number_in 10 a �
 unfolding moment_in
 moment_of a b s u six front back few small = rw (moment_long a b six, moment_front a b six, moment_back a b six, front, back, lt-leb 10000000000 s few, lt-leb 1000000 u small) refl
 
-pub moment_again : (m : ℕ) → m < 10 ^ 16 → moment_in (moment_text m) ≡ Some m
-unfolding moment_text
+pub moment_again : (m : ℕ) → m < 10 ^ 16 → moment_in (moment_word m) ≡ Some m
+unfolding moment_word
 moment_again m lt = moment_of (decimal (m / 1000000)) (digits 10 6 (m % 1000000)) (m / 1000000) (m % 1000000) (length-digits 10 6 (m % 1000000)) (number_again (m / 1000000) (omega (arith, lt))) (decimals_again 6 (m % 1000000) (omega arith) (omega arith)) (omega (arith, lt)) (omega arith) ∙ ap Some (omega arith)
 
-pub is_word-moment : (m : ℕ) → m < 10 ^ 16 → is_word (moment_text m) ≡ true
-unfolding moment_text
+pub is_word-moment : (m : ℕ) → m < 10 ^ 16 → is_word (moment_word m) ≡ true
+unfolding moment_word
 is_word-moment m lt = is_word-append (decimal (m / 1000000)) (46 ∷ digits 10 6 (m % 1000000)) (is_word-decimal (m / 1000000) (omega (arith, lt))) (is_word-append (46 ∷ []) (digits 10 6 (m % 1000000)) refl (is_word-digits 10 6 (m % 1000000)))
 
 -- a number is read digit by digit
@@ -115,10 +116,3 @@ read_stops base n d e i w lt at h so_far = sym (so_far ∙ at_drop_more (number_
 pub read_all : (base n i : ℕ) (w : List ℕ) → length w ≤ i → number_in base w ≡ number_from base n (drop i w) → Some n ≡ number_in base w
 unfolding number_from
 read_all base n i w le so_far = sym (so_far ∙ at_drop_all (number_from base n) w i le)
-
-pub digits-more : (base k n : ℕ) → 0 < k → digits base k n ≡ digits base (k - 1) (n / base) ++ digit_of (n % base) ∷ []
-digits-more base zero n h = absurd (omega (arith, h))
-digits-more base (suc k) n h = let e : k ≡ suc k - 1 = omega arith in ap (λ (j : ℕ). digits base j (n / base) ++ digit_of (n % base) ∷ []) e
-
-pub put_more : (out mid new : List ℕ) (base k n d : ℕ) → 0 < k → mid ≡ out ++ digits base (k - 1) (n / base) → d ≡ digit_of (n % base) → new ≡ mid ++ d ∷ [] → new ≡ out ++ digits base k n
-put_more out mid new base k n d h front digit made = made ∙ rw (front, digit) (append_assoc out (digits base (k - 1) (n / base)) (digit_of (n % base) ∷ []) ∙ ap (λ (x : List ℕ). out ++ x) (sym (digits-more base k n h)))

@@ -24,13 +24,6 @@ lines-push (d ∷ es) e rest = ap (λ (x : List ℕ). entry_line d x) (lines-pus
 pub lines-more : (es : List Entry) (e : Entry) → entry_lines es [] ++ entry_line e [] ≡ entry_lines (es ++ e ∷ []) []
 lines-more es e = lines-rest es (entry_line e []) ∙ sym (lines-push es e [])
 
-pub put_more_lines : (out mid new : List ℕ) (es more : List Entry) (e : Entry) → mid ≡ out ++ entry_lines es [] → new ≡ mid ++ entry_line e [] → more ≡ es ++ e ∷ [] → new ≡ out ++ entry_lines more []
-put_more_lines out mid new es more e so_far put is = put ∙ rw (so_far, is) (append_assoc out (entry_lines es []) (entry_line e []) ∙ ap (λ (x : List ℕ). out ++ x) (lines-more es e))
-
-pub no_lines : (out : List ℕ) → out ≡ out ++ entry_lines [] []
-unfolding entry_lines
-no_lines out = sym (Rattle.std.proofs.lemmas.List.append-nil out)
-
 pub first_lines : (text : List ℕ) (es : List Entry) → es ≡ [] → text ≡ entry_lines es text
 unfolding entry_lines
 first_lines text es is = rw is refl

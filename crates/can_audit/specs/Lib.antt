@@ -1,4 +1,3 @@
-pub mod Attempted
 pub mod Audits
 pub mod Counted
 pub mod Histories

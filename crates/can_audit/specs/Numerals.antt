@@ -1,13 +1,7 @@
 use Rattle.std.specs.Prelude.{ℕ, ◌+◌, ◌-◌, ◌*◌, ◌/◌, ◌%◌, ◌^◌, nat_le, nat_lt, ◌&&◌, ◌||◌, List, [], ◌∷◌, ◌++◌, length, take, drop, decimal, Option, Some, None, option_and_then, if◌then◌else◌}
-use Rattle.can_frame.specs.FrameText.{digits}
 
--- Numbers and moments as they are written (own choice).
-
--- a moment: seconds, a point and six digits of microseconds
-unfoldable pub moment_text : ℕ → List ℕ
-moment_text micros = decimal (micros / 1000000) ++ 46 ∷ digits 10 6 (micros % 1000000)
-
--- Reading: a number that was read is written again and compared, so it may be read loosely.
+-- Numbers and moments as they are read (own choice): what was read is written again and compared, so it may be read
+-- loosely.
 
 -- what an upper-case digit stands for
 abbrev pub digit_in : ℕ → Option ℕ

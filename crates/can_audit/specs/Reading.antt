@@ -1,8 +1,6 @@
 use Rattle.std.specs.Prelude.{ℕ, zero, suc, ◌^◌, nat_lt, ◌==◌, ◌&&◌, ◌||◌, bit_and, Bool, true, false, List, [], ◌∷◌, ◌++◌, length, take, drop, codes, Option, Some, None, Result, Ok, Err, ◌≡◌, if◌then◌else◌}
 use Rattle.std.specs.Str.{bytes_eq}
-use Rattle.can_frame.specs.Frames.{CanFrame, Payload}
-use Rattle.can_frame.specs.Frames.Payload.{Data, Remote}
-use Rattle.can_frame.specs.FrameText.{frame_spelling, upper}
+use Rattle.can_frame.specs.Frames.{CanFrame}
 use Rattle.can_frame.specs.FrameGuess.{item_in}
 use Rattle.can_frame.specs.declared.items.Item.{Item}
 use Rattle.can_frame.specs.declared.items.Item.TheVariants as item
@@ -77,27 +75,9 @@ flag_at t =
     else if bytes_eq (word t) (codes "1") then Some (true, after t)
     else None
 
--- a request for no bytes
-abbrev pub is_empty_request : Payload → Bool
-is_empty_request (Data bytes) = false
-is_empty_request (Remote len) = len == 0
-
--- a remote frame that asks for no bytes
-abbrev pub asks_for_nothing : Item → Bool
-asks_for_nothing (item.Data f) = is_empty_request f.payload
-asks_for_nothing (item.Error e) = false
-
--- an upper-case text is the item's frame text, or that of a remote frame of length 0 with this length behind it, `0` (48)
-abbrev pub is_spelling : List ℕ → Item → Bool
-is_spelling t i = bytes_eq t (frame_spelling i) || (asks_for_nothing i && bytes_eq t (frame_spelling i ++ 48 ∷ []))
-
--- the item of a word
-unfoldable pub item_of : List ℕ → Option Item
-item_of w = item_in (upper w) >>= λ i. if is_spelling (upper w) i then Some i else None
-
 -- an item
 unfoldable pub item_at : List ℕ → Option (Item × List ℕ)
-item_at t = item_of (word t) >>= λ i. Some (i, after t)
+item_at t = item_in (word t) >>= λ i. Some (i, after t)
 
 -- the frame of an item
 abbrev pub frame_of_item : Item → Option CanFrame

@@ -3,6 +3,7 @@ use Rattle.can_frame.specs.declared.ifaces.IfaceSet.{IfaceSet}
 use Rattle.can_frame.specs.declared.items.Item.{Item}
 use Rattle.can_frame.specs.declared.items.Item.TheVariants as item
 use Rattle.can_frame.specs.FrameText.{digits, frame_spelling}
+use Rattle.can_frame.specs.Moments.{moment_text}
 use Rattle.can_filter.specs.Filters.{CanFilter}
 use Rattle.can_fault.specs.declared.verdicts.GlobalKind.TheVariants as global
 use Rattle.can_fault.specs.declared.verdicts.LocalKind.{LocalKind}
@@ -11,8 +12,7 @@ use Rattle.can_fault.specs.declared.verdicts.Verdict.{Verdict}
 use Rattle.can_fault.specs.declared.verdicts.Verdict.TheVariants as verdict
 use Rattle.can_attempt.specs.declared.acks.AckMode.{AckMode}
 use Rattle.can_attempt.specs.declared.acks.AckMode.TheVariants as ack
-use Rattle.can_attempt.specs.declared.classes.Class.{Class}
-use Rattle.can_attempt.specs.declared.classes.Class.TheVariants as class
+use Rattle.can_attempt.specs.Words.{class_word}
 use Rattle.can_bus.specs.declared.events.BusConfig.{BusConfig}
 use Rattle.can_bus.specs.declared.events.Opt.{Opt}
 use Rattle.can_bus.specs.declared.events.Opt.TheVariants as opt
@@ -25,7 +25,6 @@ use Rattle.can_bus.specs.declared.events.Reply.{Reply}
 use Rattle.can_bus.specs.declared.events.Reply.TheVariants as reply
 use Rattle.can_bus.specs.declared.events.Entry.{Entry}
 use Rattle.can_audit.specs.Words.{spell}
-use Rattle.can_audit.specs.Numerals.{moment_text}
 
 -- How the lines of a record are written (own choice).
 
@@ -36,6 +35,10 @@ set_word set = digits 16 4 set.0
 -- a word of 32 bits: 8 hexadecimal digits
 unfoldable pub mask_word : ℕ → List ℕ
 mask_word n = digits 16 8 n
+
+-- a moment: seconds, a point and six digits of microseconds
+unfoldable pub moment_word : ℕ → List ℕ
+moment_word micros = moment_text micros
 
 -- a switch: 0 or 1
 abbrev pub flag_word : Bool → List ℕ
@@ -68,13 +71,6 @@ verdict_word (verdict.Global global.Form) = codes "global-form"
 verdict_word verdict.LastBit = codes "lastbit"
 verdict_word (verdict.Local set kind) = local_front kind ++ set_word set
 
--- how an attempt ended
-abbrev pub class_word : Class → List ℕ
-class_word class.Done = codes "done"
-class_word class.LastBit = codes "lastbit"
-class_word class.Destroyed = codes "destroyed"
-class_word class.NoAck = codes "noack"
-
 -- who acknowledges
 abbrev pub ack_word : AckMode → List ℕ
 ack_word ack.Always = codes "always"
@@ -100,13 +96,13 @@ event_words (SetFilters s filters) = codes "filters" ∷ decimal s.0 ∷ decimal
 event_words (SetOption s option) = codes "option" ∷ decimal s.0 ∷ option_words option
 event_words (Send s frame) = codes "send" ∷ decimal s.0 ∷ frame_spelling (item.Data frame) ∷ []
 event_words (Receive s) = codes "receive" ∷ decimal s.0 ∷ []
-event_words (Attempt m verdict) = codes "attempt" ∷ moment_text m ∷ verdict_word verdict ∷ []
-event_words (Restart i m) = codes "restart" ∷ decimal i ∷ moment_text m ∷ []
+event_words (Attempt m verdict) = codes "attempt" ∷ moment_word m ∷ verdict_word verdict ∷ []
+event_words (Restart i m) = codes "restart" ∷ decimal i ∷ moment_word m ∷ []
 
 -- an item that was received: where it comes from, its number if it is a frame, the item, and when it was put to the socket
 abbrev pub received_words : Item → Received → List (List ℕ)
-received_words (item.Data f) r = codes "data" ∷ decimal r.from ∷ decimal r.number ∷ frame_spelling r.item ∷ moment_text r.moment ∷ []
-received_words (item.Error e) r = codes "error" ∷ decimal r.from ∷ frame_spelling r.item ∷ moment_text r.moment ∷ []
+received_words (item.Data f) r = codes "data" ∷ decimal r.from ∷ decimal r.number ∷ frame_spelling r.item ∷ moment_word r.moment ∷ []
+received_words (item.Error e) r = codes "error" ∷ decimal r.from ∷ frame_spelling r.item ∷ moment_word r.moment ∷ []
 
 -- a reply; a frame was tried at the moment of its attempt, which is not repeated
 abbrev pub reply_words : Reply → List (List ℕ)

@@ -2,8 +2,7 @@ ghost use Rattle.std.specs.Prelude.{◌≡◌, ◌++◌, ◌∷◌, [], ◌<◌,
 ghost use Rattle.can_audit.specs.Words.{spaced};
 ghost use Rattle.can_audit.specs.Spelling.{event_words, flag_word, filter_words, option_words, verdict_word, local_front};
 
-use crate::frame_words::put_item;
-use crate::writing::{put_count, put_mask, put_moment, put_set, put_word};
+use crate::writing::{put_count, put_item, put_mask, put_moment, put_set, put_word};
 use can_bus::{Event, Opt};
 use can_fault::{GlobalKind, LocalKind, Verdict};
 use can_filter::Filter;

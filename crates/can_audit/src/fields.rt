@@ -2,19 +2,30 @@ ghost use Rattle.std.specs.Prelude.{IfSome, ◌≡◌, ◌^◌, ◌≤◌, ◌<�
 ghost use Rattle.std.specs.Option.{option_map};
 ghost use Rattle.can_audit.specs.Reading.{number_at, mask_at, moment_at, socket_at, set_at, flag_at, item_at, frame_at};
 
-use crate::frame_words::item_of;
 use crate::numbers::{hexadecimal, moment, number};
 use crate::words::{next_word, same_word};
 use can_bus::SocketId;
-use can_frame::{Frame, Iface, IfaceSet, Item, Moment};
+use can_frame::{Frame, Iface, IfaceSet, Item, Moment, guess_item};
 
 /// A number below the limit, and what follows it.
 #[tactic(auto, unfolding(crate::specs::Reading::number_at))]
 fn below(limit: u64, text: &[u8]) -> Option<(u64, &[u8])>
-    ensures { option_map (λ x. (x.0, x.1.now)) result ≡ number_at limit text.now }
+    ensures value { option_map (λ x. (x.0, x.1.now)) result ≡ number_at limit text.now }
+    ensures small { IfSome result (λ x. x.0 < limit) }
 {
     let (word, rest) = next_word(text);
     let n = number(word)?;
+    if n < limit { Some((n, rest)) } else { None }
+}
+
+/// The same of a number in hexadecimal.
+#[tactic(auto, unfolding(crate::specs::Reading::mask_at))]
+fn mask_below(limit: u64, text: &[u8]) -> Option<(u64, &[u8])>
+    ensures value { option_map (λ x. (x.0, x.1.now)) result ≡ mask_at limit text.now }
+    ensures small { IfSome result (λ x. x.0 < limit) }
+{
+    let (word, rest) = next_word(text);
+    let n = hexadecimal(word)?;
     if n < limit { Some((n, rest)) } else { None }
 }
 
@@ -29,7 +40,6 @@ pub fn long_field(text: &[u8]) -> Option<(u64, &[u8])>
 }
 
 /// A number of 32 bits.
-#[tactic(auto, unfolding(crate::specs::Reading::number_at))]
 pub fn short_field(text: &[u8]) -> Option<(u32, &[u8])>
     ensures { option_map (λ x. (x.0, x.1.now)) result ≡ number_at (2 ^ 32) text.now }
 {
@@ -37,42 +47,27 @@ pub fn short_field(text: &[u8]) -> Option<(u32, &[u8])>
     Some((n as u32, rest))
 }
 
-#[tactic(auto, unfolding(crate::specs::Reading::number_at))]
 pub fn byte_field(text: &[u8]) -> Option<(u8, &[u8])>
     ensures { option_map (λ x. (x.0, x.1.now)) result ≡ number_at 256 text.now }
 {
-    let (word, rest) = next_word(text);
-    let n = number(word)?;
-    if n >= 256 {
-        return None;
-    }
+    let (n, rest) = below(256, text)?;
     Some((n as u8, rest))
 }
 
-#[tactic(auto, unfolding(crate::specs::Reading::number_at))]
 pub fn iface_field(text: &[u8]) -> Option<(Iface, &[u8])>
     ensures { option_map (λ x. (x.0, x.1.now)) result ≡ number_at 16 text.now }
 {
-    let (word, rest) = next_word(text);
-    let n = number(word)?;
-    if n >= 16 {
-        return None;
-    }
+    let (n, rest) = below(16, text)?;
     let iface = Iface::new(n as u8)?;
     Some((iface, rest))
 }
 
 /// How many filters there are, at most 512.
-#[tactic(auto, unfolding(crate::specs::Reading::number_at))]
 pub fn count_field(text: &[u8]) -> Option<(usize, &[u8])>
     ensures value { option_map (λ x. (x.0, x.1.now)) result ≡ number_at 513 text.now }
     ensures few { IfSome result (λ x. x.0 ≤ 512) }
 {
-    let (word, rest) = next_word(text);
-    let n = number(word)?;
-    if n >= 513 {
-        return None;
-    }
+    let (n, rest) = below(513, text)?;
     Some((n as usize, rest))
 }
 
@@ -94,27 +89,18 @@ pub fn socket_field(text: &[u8]) -> Option<(SocketId, &[u8])>
 }
 
 /// A word of 32 bits in hexadecimal.
-#[tactic(auto, unfolding(crate::specs::Reading::mask_at))]
 pub fn mask_field(text: &[u8]) -> Option<(u32, &[u8])>
     ensures { option_map (λ x. (x.0, x.1.now)) result ≡ mask_at (2 ^ 32) text.now }
 {
-    let (word, rest) = next_word(text);
-    let n = hexadecimal(word)?;
-    if n >= 0x1_0000_0000 {
-        return None;
-    }
+    let (n, rest) = mask_below(0x1_0000_0000, text)?;
     Some((n as u32, rest))
 }
 
-#[tactic(auto, unfolding(crate::specs::Reading::mask_at, crate::specs::Reading::set_at))]
+#[tactic(auto, unfolding(crate::specs::Reading::set_at))]
 pub fn set_field(text: &[u8]) -> Option<(IfaceSet, &[u8])>
     ensures { option_map (λ x. (x.0, x.1.now)) result ≡ set_at text.now }
 {
-    let (word, rest) = next_word(text);
-    let n = hexadecimal(word)?;
-    if n >= 0x1_0000 {
-        return None;
-    }
+    let (n, rest) = mask_below(0x1_0000, text)?;
     Some((IfaceSet(n as u16), rest))
 }
 
@@ -137,7 +123,7 @@ pub fn item_field(text: &[u8]) -> Option<(Item, &[u8])>
     ensures { option_map (λ x. (x.0, x.1.now)) result ≡ item_at text.now }
 {
     let (word, rest) = next_word(text);
-    let item = item_of(word)?;
+    let item = guess_item(word)?;
     Some((item, rest))
 }
 

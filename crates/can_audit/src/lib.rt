@@ -16,7 +16,6 @@ mod event_reading;
 mod event_writing;
 pub mod faults;
 mod fields;
-mod frame_words;
 pub mod laws;
 mod lines;
 mod numbers;

@@ -7,57 +7,44 @@ fn digit(d: u8) -> Option<u8>
     ensures value { result ≡ digit_in d }
     ensures small { IfSome result (λ v. v < 16) }
 {
-    if d >= 48 && d <= 57 {
-        return Some(d - 48);
+    match d {
+        b'0'..=b'9' => Some(d - b'0'),
+        b'A'..=b'F' => Some(d - b'A' + 10),
+        _ => None,
     }
-    if d >= 65 && d <= 70 {
-        return Some(d - 55);
-    }
-    None
 }
 
-fn step_10(n: u64, d: u8) -> Option<u64>
-    ensures { result ≡ step 10 n d }
+/// A number with a digit more, where it has 64 bits.
+fn step(base: u64, n: u64, d: u8) -> Option<u64>
+    ensures { result ≡ step base n d }
 {
-    let value = digit(d)? as u128;
-    let next = n as u128 * 10 + value;
-    if next >= 0x1_0000_0000_0000_0000 {
-        return None;
-    }
-    Some(next as u64)
+    let value = u64::from(digit(d)?);
+    n.checked_mul(base)?.checked_add(value)
 }
 
-fn step_16(n: u64, d: u8) -> Option<u64>
-    ensures { result ≡ step 16 n d }
+/// The number of these digits.
+fn number_in(base: u64, word: &[u8]) -> Option<u64>
+    ensures { result ≡ number_in base word.now }
 {
-    let value = digit(d)? as u128;
-    let next = n as u128 * 16 + value;
-    if next >= 0x1_0000_0000_0000_0000 {
-        return None;
+    let mut n = 0;
+    for d in word {
+        n = step(base, n, *d)?;
     }
-    Some(next as u64)
+    Some(n)
 }
 
 /// A decimal number, leading zeros or not.
 pub fn number(word: &[u8]) -> Option<u64>
     ensures { result ≡ number_in 10 word.now }
 {
-    let mut n: u64 = 0;
-    for d in word {
-        n = step_10(n, *d)?;
-    }
-    Some(n)
+    number_in(10, word)
 }
 
 /// A number in upper-case hexadecimal digits.
 pub fn hexadecimal(word: &[u8]) -> Option<u64>
     ensures { result ≡ number_in 16 word.now }
 {
-    let mut n: u64 = 0;
-    for d in word {
-        n = step_16(n, *d)?;
-    }
-    Some(n)
+    number_in(16, word)
 }
 
 /// Seconds, a point and six digits of microseconds.

@@ -1,20 +1,16 @@
-ghost use Rattle.std.specs.Prelude.{◌≡◌, ℕ, ◌++◌, ◌∷◌, ◌||◌, ◌&&◌, ◌==◌, reverse, IfOk};
+ghost use Rattle.std.specs.Prelude.{◌≡◌, ℕ, ◌++◌, ◌∷◌, reverse, IfOk};
 ghost use Rattle.can_filter.specs.Passing.{wants};
-ghost use Rattle.can_frame.specs.Sets.{is_in};
-ghost use Rattle.can_attempt.specs.Attempts.{counts_after};
-ghost use Rattle.can_errframe.specs.ErrorMessages.{state_message};
-ghost use Rattle.can_bus.specs.Posts.{is_looped_back, role_at, fault_message_for, data_posts, error_posts, attempt_posts, restart_posts, posts_of, is_own};
+ghost use Rattle.can_bus.specs.Posts.{sender_in, data_posts, error_posts, attempt_posts, restart_posts, posts_of, is_own};
 ghost use Rattle.can_bus.specs.Queues.{passing};
 ghost use Rattle.can_bus.specs.declared.events.Event.TheVariants as event;
 ghost use Rattle.can_bus.specs.declared.events.Reply.TheVariants as reply;
-ghost use Rattle.can_audit.specs.Attempted.{transmission_of, IsJudged};
+ghost use Rattle.can_bus.specs.Attempted.{transmission_of, IsJudged};
 ghost use Rattle.can_audit.specs.Histories.{IsHistory};
 
 use crate::counters::{judgement_of, nodes_of};
 use crate::transmit::{frame_at, sent_by};
-use can_attempt::{AckMode, Class, Judgement, Nodes};
-use can_bus::{BusConfig, Entry, Event, Pending, Received, Reply, SocketId, Tried};
-use can_errframe::{Role, fault_frame, restart_frame, state_frame};
+use can_bus::{Attempted, BusConfig, Entry, Event, Pending, Received, Reply, SocketId, Tried};
+use can_errframe::restart_frame;
 use can_fault::Verdict;
 use can_filter::{FilterSet, Options, wants};
 use can_frame::{ErrorFrame, Iface, IfaceSet, Item, Moment};
@@ -40,87 +36,28 @@ impl Model for Post {
     ghost inverse = { λ v. record { received = v.received; sender = v.sender } };
 }
 
-/// An attempt that tried a frame, and all that followed.
-#[derive(Debug, Clone, Copy)]
-pub struct Attempted {
-    pub tried: Tried,
-    /// The frame as it waited.
-    pub pending: Option<Pending>,
-    pub verdict: Verdict,
-    pub ack: AckMode,
-    /// The interfaces as they were before it.
-    pub nodes: Nodes,
-    pub judgement: Judgement,
-}
-
-/// Whether the frame is put to the sockets of an interface.
-fn is_posted(attempted: &Attempted, iface: Iface) -> bool
-    ensures { result ≡ (is_in iface attempted.now.tried.accepted || ((iface == attempted.now.tried.winner) && is_looped_back attempted.now.tried.class attempted.now.pending)) }
+/// The number of the socket that sent a frame.
+fn sender_in(pending: &Option<Pending>) -> Option<u32>
+    ensures { result ≡ sender_in pending.now }
 {
-    if attempted.tried.accepted.contains(iface) {
-        return true;
-    }
-    match attempted.pending {
-        Some(pending) => {
-            iface.number() == attempted.tried.winner.number()
-                && matches!(attempted.tried.class, Class::Done)
-                && pending.loopback
-        }
-        None => false,
-    }
-}
-
-/// The part that an interface has in the attempt: none where it is bus off.
-fn role_of(attempted: &Attempted, iface: Iface) -> Option<Role>
-    requires { IsJudged attempted.now }
-    ensures { result ≡ role_at (transmission_of attempted.now) iface }
-{
-    let place = iface.number();
-    if place == attempted.tried.winner.number() {
-        return Some(Role::Winner);
-    }
-    if attempted.judgement.hit.contains(iface) {
-        return Some(Role::Named);
-    }
-    if place >= attempted.nodes.count {
-        return None;
-    }
-    if attempted.nodes.is_off(iface) {
-        return None;
-    }
-    Some(Role::Other)
-}
-
-/// The error message frame of the attempt's fault, as an interface sees it.
-fn fault_at(attempted: &Attempted, iface: Iface) -> Option<ErrorFrame>
-    requires { IsJudged attempted.now }
-    ensures { result ≡ fault_message_for attempted.now.tried.class attempted.now.verdict (role_at (transmission_of attempted.now) iface) }
-{
-    match role_of(attempted, iface) {
-        Some(role) => fault_frame(attempted.tried.class, attempted.verdict, role),
+    match pending {
+        Some(pending) => Some(pending.socket.0),
         None => None,
     }
 }
 
-/// The error message frame of a change of an interface's state.
-fn state_change_at(attempted: &Attempted, iface: Iface) -> Option<ErrorFrame>
-    requires { IsJudged attempted.now }
-    ensures { result ≡ state_message ((transmission_of attempted.now).counts iface) (counts_after (transmission_of attempted.now) iface) }
-{
-    let after = attempted.judgement.counters[iface.number() as usize];
-    state_frame(attempted.nodes.counters_of(iface), after)
-}
-
 /// Adds the frame that was tried, where it comes to the interface.
-fn put_frame(posts: &mut Vec<Post>, attempted: &Attempted, iface: Iface) -> Result<(), AllocError>
-    ensures { IfOk result (λ u. posts.new.items ≡ posts.old.items ++ data_posts iface attempted.now.tried attempted.now.pending) }
+fn put_frame(
+    posts: &mut Vec<Post>,
+    attempted: &Attempted,
+    pending: &Option<Pending>,
+    iface: Iface,
+) -> Result<(), AllocError>
+    ensures { IfOk result (λ u. posts.new.items ≡ posts.old.items ++ data_posts iface attempted.now.tried pending.now) }
 {
-    if is_posted(attempted, iface) {
+    let sender = sender_in(pending);
+    if attempted.is_posted(iface, *pending) {
         let tried = &attempted.tried;
-        let sender = match attempted.pending {
-            Some(pending) => Some(pending.socket.0),
-            None => None,
-        };
         let received = Received {
             item: Item::Data(tried.frame),
             from: tried.winner,
@@ -161,18 +98,19 @@ fn attempt_posts(
     alloc: Global,
     reporting: IfaceSet,
     attempted: &Attempted,
+    pending: Option<Pending>,
     iface: Iface,
 ) -> Result<Vec<Post>, AllocError>
     requires { IsJudged attempted.now }
-    ensures { IfOk result (λ ps. ps.items ≡ attempt_posts reporting (transmission_of attempted.now) attempted.now.tried attempted.now.pending iface) }
+    ensures { IfOk result (λ ps. ps.items ≡ attempt_posts reporting (transmission_of attempted.now) attempted.now.tried pending iface) }
 {
     let moment = attempted.tried.moment;
     let mut posts = Vec::new(alloc);
-    put_frame(&mut posts, attempted, iface)?;
+    put_frame(&mut posts, attempted, &pending, iface)?;
     if reporting.contains(iface) {
-        put_error(&mut posts, iface, moment, fault_at(attempted, iface))?;
+        put_error(&mut posts, iface, moment, attempted.fault_at(iface))?;
     }
-    put_error(&mut posts, iface, moment, state_change_at(attempted, iface))?;
+    put_error(&mut posts, iface, moment, attempted.state_change_at(iface))?;
     Ok(posts)
 }
 
@@ -193,15 +131,15 @@ fn tried_posts(
         None => return Ok(Vec::new(alloc)),
     };
     let sent = sent_by(alloc, past, tried.winner)?;
+    let pending = frame_at(&sent, tried.number as usize);
     let attempted = Attempted {
         tried: *tried,
-        pending: frame_at(&sent, tried.number as usize),
         verdict,
         ack: config.ack,
         nodes,
         judgement,
     };
-    attempt_posts(alloc, config.reporting, &attempted, iface)
+    attempt_posts(alloc, config.reporting, &attempted, pending, iface)
 }
 
 /// What a restart puts to the sockets of an interface.

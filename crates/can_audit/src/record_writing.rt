@@ -18,11 +18,10 @@ pub fn record_text(alloc: Global, record: &Record) -> Result<Vec<u8>, AllocError
     ensures { IfOk result (λ text. text.items ≡ record_spelling «record».now.config (reverse «record».now.history)) }
 {
     let mut text = Vec::new(alloc);
-    text.extend_from_slice(FIRST_LINE)?;
-    put_bus(&mut text, record.config())?;
-    put_lines(&mut text, record.entries())?;
-    put_end(&mut text, record.len() as u64)?;
-    Ok(text)
+    match write_record(alloc, record, &mut text) {
+        Ok(()) => Ok(text),
+        Err(_) => Err(AllocError),
+    }
 }
 
 /// Writes the text of a record, in one write for each line, so a writer to a file is best a `BufWriter`.
@@ -62,16 +61,5 @@ fn write_line<W: Write>(line: &mut Vec<u8>, entry: &Entry, writer: &mut W) -> io
     line.clear();
     put_line(line, entry)?;
     writer.write_all(line)?;
-    Ok(())
-}
-
-/// The lines of entries.
-fn put_lines(out: &mut Vec<u8>, entries: &[Entry]) -> Result<(), AllocError>
-    requires { All IsSpelled entries.now }
-    ensures { OnOk result (out.new.items ≡ out.old.items ++ entry_lines entries.now []) }
-{
-    for entry in entries {
-        put_line(out, entry)?;
-    }
     Ok(())
 }

@@ -1,4 +1,4 @@
-ghost use Rattle.std.specs.Prelude.{◌≡◌, ℕ, ◌≤◌, ◌<◌, ◌↔◌, IsTrue, [], ◌∷◌, ◌++◌, reverse, length, IfOk, OnOk, Err};
+ghost use Rattle.std.specs.Prelude.{◌≡◌, ℕ, ◌≤◌, ◌<◌, ◌↔◌, [], ◌∷◌, ◌++◌, reverse, length, IfOk, OnOk, Err};
 ghost use Rattle.can_frame.specs.Frames.{CanFrame};
 ghost use Rattle.can_bus.specs.Journal.{IsConfig};
 ghost use Rattle.can_bus.specs.Legal.{legal_reply, if_open};
@@ -26,21 +26,6 @@ pub enum ReplayFault {
     /// Memory was refused.
     #[error("no memory")]
     NoMemory,
-}
-
-/// Whether a bus may have this configuration.
-fn is_proper(config: BusConfig) -> bool
-    ensures { IsTrue result ↔ IsConfig config }
-{
-    let ifaces = config.ifaces;
-    let tx_capacity = config.tx_capacity;
-    let limit = config.limit;
-    ifaces >= 1
-        && ifaces <= 16
-        && tx_capacity >= 1
-        && tx_capacity <= 1024
-        && limit >= 1
-        && limit <= 16_777_216
 }
 
 /// The reply of an open.
@@ -249,7 +234,7 @@ pub fn replies_of(
     ensures proper { OnOk result (IsConfig config) }
     ensures bad { (result ≡ Err ReplayFault.BadConfig) ↔ (¬ IsConfig config) }
 {
-    if !is_proper(config) {
+    if !config.is_proper() {
         return Err(ReplayFault::BadConfig);
     }
     match replies(alloc, events, config) {

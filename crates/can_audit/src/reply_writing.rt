@@ -1,11 +1,9 @@
 ghost use Rattle.std.specs.Prelude.{◌≡◌, ◌++◌, ◌∷◌, [], decimal, OnOk};
 ghost use Rattle.can_audit.specs.Words.{spell};
-ghost use Rattle.can_audit.specs.Spelling.{reply_words, received_words, class_word, refusal_words};
+ghost use Rattle.can_audit.specs.Spelling.{reply_words, received_words, refusal_words};
 ghost use Rattle.can_bus.specs.declared.events.Reply.TheVariants as reply;
 
-use crate::frame_words::put_item;
-use crate::writing::{put_count, put_moment, put_set, put_word};
-use can_attempt::Class;
+use crate::writing::{put_count, put_item, put_moment, put_set, put_word};
 use can_bus::{Received, Refusal, Reply, Tried};
 use can_frame::Item;
 use std::alloc::AllocError;
@@ -66,21 +64,9 @@ fn put_tried(out: &mut Vec<u8>, tried: &Tried) -> Result<(), AllocError>
     put_count(out, u64::from(tried.winner.number()), b' ')?;
     put_count(out, tried.number, b' ')?;
     put_item(out, &Item::Data(tried.frame), b' ')?;
-    put_class(out, tried.class)?;
+    put_word(out, tried.class.word(), b' ')?;
     put_set(out, tried.accepted, b' ')?;
     put_set(out, tried.off, b'\n')
-}
-
-/// How an attempt ended, and a space.
-fn put_class(out: &mut Vec<u8>, class: Class) -> Result<(), AllocError>
-    ensures { OnOk result (out.new.items ≡ out.old.items ++ (class_word class ++ 32 ∷ [])) }
-{
-    match class {
-        Class::Done => put_word(out, b"done", b' '),
-        Class::LastBit => put_word(out, b"lastbit", b' '),
-        Class::Destroyed => put_word(out, b"destroyed", b' '),
-        Class::NoAck => put_word(out, b"noack", b' '),
-    }
 }
 
 /// The name of a refusal, and the end of its line; nothing where it has no line.

@@ -1,30 +1,11 @@
 ghost use Rattle.std.specs.Prelude.{◌≡◌, ◌↔◌, IsTrue};
 
-use can_attempt::Class;
-use can_bus::{Closed, Received, Refusal, Reply, Tried};
-use can_frame::{ErrorFrame, Frame, Item};
+use can_bus::{Closed, Received, Reply, Tried};
+use can_frame::{Frame, Item};
 
 // Whether two replies are one. Each type has a function of its own, so that the proof meets them one by one.
 
-fn same_class(one: Class, other: Class) -> bool
-    ensures { IsTrue result ↔ (one ≡ other) }
-{
-    one == other
-}
-
-fn same_refusal(one: Refusal, other: Refusal) -> bool
-    ensures { IsTrue result ↔ (one ≡ other) }
-{
-    one == other
-}
-
 fn same_frame(one: Frame, other: Frame) -> bool
-    ensures { IsTrue result ↔ (one ≡ other) }
-{
-    one == other
-}
-
-fn same_message(one: ErrorFrame, other: ErrorFrame) -> bool
     ensures { IsTrue result ↔ (one ≡ other) }
 {
     one == other
@@ -40,7 +21,7 @@ fn same_item(one: &Item, other: &Item) -> bool
         },
         Item::Error(message) => match other {
             Item::Data(_) => false,
-            Item::Error(more) => same_message(*message, *more),
+            Item::Error(more) => *message == *more,
         },
     }
 }
@@ -73,7 +54,7 @@ fn same_tried(one: &Tried, other: &Tried) -> bool
         && one.winner.number() == other.winner.number()
         && one.number == other.number
         && same_frame(one.frame, other.frame)
-        && same_class(one.class, other.class)
+        && one.class == other.class
         && one.accepted.0 == other.accepted.0
         && one.off.0 == other.off.0
 }
@@ -112,7 +93,7 @@ pub(crate) fn same_reply(one: &Reply, other: &Reply) -> bool
             _ => false,
         },
         Reply::Refused(why) => match other {
-            Reply::Refused(more) => same_refusal(*why, *more),
+            Reply::Refused(more) => *why == *more,
             _ => false,
         },
     }

@@ -1,8 +1,8 @@
 ghost use Rattle.std.specs.Prelude.{◌≡◌, ◌<◌, ◌==◌, not, filter, reverse, length, slice_get, IfOk};
 ghost use Rattle.std.specs.List.{list_any};
-ghost use Rattle.can_bus.specs.Sockets.{places, places_after, open_sockets, open_after, is_open, iface_in, capacity_in, with_option, options_of, options_after, filters_of, filters_after};
+ghost use Rattle.can_bus.specs.Sockets.{places, places_after, open_sockets, open_after, is_open, iface_in, capacity_in, options_of, options_after, filters_of, filters_after};
 
-use can_bus::{Entry, Event, Opt, Reply, SocketId};
+use can_bus::{Entry, Event, Reply, SocketId};
 use can_filter::{FilterSet, Options};
 use can_frame::Iface;
 use std::alloc::{AllocError, Global};
@@ -127,27 +127,6 @@ pub fn sockets_of(alloc: Global, past: &[Entry]) -> Result<Sockets, AllocError>
     Ok(sockets)
 }
 
-/// These options with one set.
-fn with_option(option: Opt, options: Options) -> Options
-    ensures { result ≡ with_option option options }
-{
-    match option {
-        Opt::Loopback(loopback) => Options {
-            loopback,
-            ..options
-        },
-        Opt::RecvOwn(recv_own) => Options {
-            recv_own,
-            ..options
-        },
-        Opt::Join(join) => Options { join, ..options },
-        Opt::ErrMask(err_mask) => Options {
-            err_mask,
-            ..options
-        },
-    }
-}
-
 /// What an entry does to the options of a socket.
 fn options_after(entry: &Entry, id: SocketId, before: Options) -> Options
     ensures { result ≡ options_after entry.now.event entry.now.reply id.0 before }
@@ -155,7 +134,7 @@ fn options_after(entry: &Entry, id: SocketId, before: Options) -> Options
     match &entry.event {
         Event::SetOption(of, option) => {
             if of.0 == id.0 && matches!(&entry.reply, Reply::Done) {
-                with_option(*option, before)
+                option.set_in(before)
             } else {
                 before
             }

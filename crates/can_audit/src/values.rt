@@ -8,8 +8,8 @@ use can_fault::Verdict;
 use can_filter::Filter;
 use can_frame::{ErrorFrame, Frame, Item};
 
-// What the types of a value say of it. These functions do nothing: they read the parts of a value, and the
-// checker knows the range of a number that is read.
+// What the types of a value say of it. These functions do nothing when they run: the checker knows the ranges
+// of a parameter, and of a number that is read.
 
 /// The arguments of an event are within their types.
 pub fn hold_event(event: &Event)
@@ -20,7 +20,7 @@ pub fn hold_event(event: &Event)
             let _number = iface.number();
             let _capacity = *capacity;
         }
-        Event::Close(id) => hold_socket(*id),
+        Event::Close(id) | Event::Receive(id) => hold_socket(*id),
         Event::SetFilters(id, set) => {
             hold_socket(*id);
             hold_filters(set.filters());
@@ -33,7 +33,6 @@ pub fn hold_event(event: &Event)
             hold_socket(*id);
             hold_frame(*frame);
         }
-        Event::Receive(id) => hold_socket(*id),
         Event::Attempt(moment, verdict) => {
             let _micros = moment.micros();
             hold_verdict(*verdict);
@@ -47,16 +46,11 @@ pub fn hold_event(event: &Event)
 
 fn hold_socket(id: SocketId)
     ensures { id.0 < 2 ^ 32 }
-{
-    let _number = id.0;
-}
+{}
 
 fn hold_counts(counts: Closed)
     ensures { (counts.unread < 2 ^ 64) × (counts.dropped < 2 ^ 64) }
-{
-    let _unread = counts.unread;
-    let _dropped = counts.dropped;
-}
+{}
 
 fn hold_filters(filters: &[Filter])
     ensures { All HoldsFilter filters.now }
@@ -68,36 +62,15 @@ fn hold_filters(filters: &[Filter])
 
 fn hold_filter(filter: Filter)
     ensures { HoldsFilter filter }
-{
-    let _id = filter.id();
-    let _mask = filter.mask();
-}
+{}
 
 fn hold_option(option: Opt)
     ensures { HoldsOption option }
-{
-    match option {
-        Opt::Loopback(_) => {}
-        Opt::RecvOwn(_) => {}
-        Opt::Join(_) => {}
-        Opt::ErrMask(mask) => {
-            let _mask = mask;
-        }
-    }
-}
+{}
 
 fn hold_verdict(verdict: Verdict)
     ensures { HoldsVerdict verdict }
-{
-    match verdict {
-        Verdict::Good => {}
-        Verdict::Global(_) => {}
-        Verdict::LastBit => {}
-        Verdict::Local(set, _) => {
-            let _bits = set.0;
-        }
-    }
-}
+{}
 
 fn hold_frame(frame: Frame)
     ensures { IsItem (item.Data frame) }
@@ -115,10 +88,7 @@ fn hold_bytes(bytes: &[u8])
 
 fn hold_error(error: ErrorFrame)
     ensures { IsItem (item.Error error) }
-{
-    let _class = error.class();
-    let _bytes = error.data();
-}
+{}
 
 fn hold_item(item: &Item)
     ensures { IsItem item.now }
@@ -136,15 +106,12 @@ pub fn hold_reply(reply: &Reply)
     match reply {
         Reply::Opened(id) => hold_socket(*id),
         Reply::Closed(counts) => hold_counts(*counts),
-        Reply::Done => {}
         Reply::Sent(number) => {
             let _number = *number;
         }
-        Reply::Received(None) => {}
         Reply::Received(Some(received)) => hold_received(received),
-        Reply::Idle => {}
         Reply::Tried(tried) => hold_tried(tried),
-        Reply::Refused(_) => {}
+        Reply::Done | Reply::Received(None) | Reply::Idle | Reply::Refused(_) => {}
     }
 }
 

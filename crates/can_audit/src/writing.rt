@@ -1,10 +1,8 @@
-ghost use Rattle.std.specs.Prelude.{◌≡◌, ◌<◌, ◌≤◌, ◌^◌, ◌++◌, ◌∷◌, [], length, decimal, OnOk};
-ghost use Rattle.can_audit.specs.Numerals.{moment_text};
-ghost use Rattle.can_frame.specs.FrameText.{digits};
-ghost use Rattle.can_audit.specs.Spelling.{mask_word, set_word};
+ghost use Rattle.std.specs.Prelude.{◌≡◌, ◌++◌, ◌∷◌, [], decimal, OnOk};
+ghost use Rattle.can_frame.specs.FrameText.{frame_spelling};
+ghost use Rattle.can_audit.specs.Spelling.{mask_word, moment_word, set_word};
 
-use can_frame::{IfaceSet, Moment};
-use itoa::Buffer;
+use can_frame::{IfaceSet, Item, Moment, Text, frame_text};
 use std::alloc::AllocError;
 
 /// A word, and the byte that ends it.
@@ -16,64 +14,36 @@ pub fn put_word(out: &mut Vec<u8>, word: &[u8], gap: u8) -> Result<(), AllocErro
     Ok(())
 }
 
-/// A decimal number.
-fn put_number(out: &mut Vec<u8>, n: u64) -> Result<(), AllocError>
-    ensures { OnOk result (out.new.items ≡ out.old.items ++ decimal n) }
-{
-    let mut buffer = Buffer::new();
-    out.extend_from_slice(buffer.format(n).as_bytes())
-}
-
-fn digit_of(d: u8) -> u8
-    requires { d < 16 }
-    ensures { result ≡ Rattle.can_frame.specs.FrameText.digit_of d }
-{
-    if d < 10 { 48 + d } else { 55 + d }
-}
-
-/// So many digits to a base.
-fn put_digits(out: &mut Vec<u8>, base: u32, count: u32, n: u32) -> Result<(), AllocError>
-    requires low { 2 ≤ base }
-    requires high { base ≤ 16 }
-    ensures { OnOk result (out.new.items ≡ out.old.items ++ digits base count n) }
-{
-    if count == 0 {
-        return Ok(());
-    }
-    put_digits(out, base, count - 1, n / base)?;
-    out.push(digit_of((n % base) as u8))?;
-    Ok(())
-}
-
 /// A decimal number, and the byte that ends it.
 pub fn put_count(out: &mut Vec<u8>, n: u64, gap: u8) -> Result<(), AllocError>
     ensures { OnOk result (out.new.items ≡ out.old.items ++ (decimal n ++ gap ∷ [])) }
 {
-    put_number(out, n)?;
-    out.push(gap)?;
-    Ok(())
+    let mut word: Text<24> = Text::new();
+    word.push_count(n);
+    word.push(gap);
+    out.extend_from_slice(word.as_bytes())
 }
 
 /// Seconds, a point and six digits of microseconds, and the byte that ends it.
-#[tactic(auto, unfolding(crate::specs::Numerals::moment_text))]
+#[tactic(auto, unfolding(crate::specs::Spelling::moment_word))]
 pub fn put_moment(out: &mut Vec<u8>, moment: Moment, gap: u8) -> Result<(), AllocError>
-    ensures { OnOk result (out.new.items ≡ out.old.items ++ (moment_text moment ++ gap ∷ [])) }
+    ensures { OnOk result (out.new.items ≡ out.old.items ++ (moment_word moment ++ gap ∷ [])) }
 {
-    let micros = moment.micros();
-    put_count(out, micros / 1_000_000, b'.')?;
-    put_digits(out, 10, 6, (micros % 1_000_000) as u32)?;
-    out.push(gap)?;
-    Ok(())
+    let mut word: Text<24> = Text::new();
+    word.push_moment(moment);
+    word.push(gap);
+    out.extend_from_slice(word.as_bytes())
 }
 
 /// A word of 32 bits in hexadecimal, and the byte that ends it.
 #[tactic(auto, unfolding(crate::specs::Spelling::mask_word))]
-pub fn put_mask(out: &mut Vec<u8>, word: u32, gap: u8) -> Result<(), AllocError>
-    ensures { OnOk result (out.new.items ≡ out.old.items ++ (mask_word word ++ gap ∷ [])) }
+pub fn put_mask(out: &mut Vec<u8>, mask: u32, gap: u8) -> Result<(), AllocError>
+    ensures { OnOk result (out.new.items ≡ out.old.items ++ (mask_word mask ++ gap ∷ [])) }
 {
-    put_digits(out, 16, 8, word)?;
-    out.push(gap)?;
-    Ok(())
+    let mut word: Text<16> = Text::new();
+    word.push_hex(8, u64::from(mask));
+    word.push(gap);
+    out.extend_from_slice(word.as_bytes())
 }
 
 /// A set of interfaces, and the byte that ends it.
@@ -81,7 +51,17 @@ pub fn put_mask(out: &mut Vec<u8>, word: u32, gap: u8) -> Result<(), AllocError>
 pub fn put_set(out: &mut Vec<u8>, set: IfaceSet, gap: u8) -> Result<(), AllocError>
     ensures { OnOk result (out.new.items ≡ out.old.items ++ (set_word set ++ gap ∷ [])) }
 {
-    put_digits(out, 16, 4, u32::from(set.0))?;
-    out.push(gap)?;
-    Ok(())
+    let mut word: Text<8> = Text::new();
+    word.push_hex(4, u64::from(set.0));
+    word.push(gap);
+    out.extend_from_slice(word.as_bytes())
+}
+
+/// An item as frame text, and the byte that ends it.
+pub fn put_item(out: &mut Vec<u8>, item: &Item, gap: u8) -> Result<(), AllocError>
+    ensures { OnOk result (out.new.items ≡ out.old.items ++ (frame_spelling item.now ++ gap ∷ [])) }
+{
+    let mut word = frame_text(item);
+    word.push(gap);
+    out.extend_from_slice(word.as_bytes())
 }

@@ -15,5 +15,5 @@ pub returns : goal.returns
 returns c = λ m h.
     let past = reverse c.args.past.now in
     let t = c.args.tried.now in
-    let frame : c.frame_at.result ≡ slice_get (sent_by past t.winner) t.number = c.frame_at.ensures ∙ ap (λ (ps : List Pending). slice_get ps t.number) (c.deref.ensures.value ∙ c.in_ok-sent.ensures) in
-    subst (λ (ps : List Post). IfOk c.attempt_posts.result (λ xs. xs.items ≡ ps)) (tried-posts c.args.config past m c.args.verdict t c.args.iface c.nodes_of-nodes.result c.frame_at.result h (c.nodes_of-nodes.ensures (earlier c.args.config (tried_entry m c.args.verdict t) past h)) frame) c.attempt_posts.ensures
+    let frame : c.frame_at-pending.result ≡ slice_get (sent_by past t.winner) t.number = c.frame_at-pending.ensures ∙ ap (λ (ps : List Pending). slice_get ps t.number) (c.deref.ensures.value ∙ c.in_ok-sent.ensures) in
+    subst (λ (ps : List Post). IfOk c.attempt_posts.result (λ xs. xs.items ≡ ps)) (tried-posts c.args.config past m c.args.verdict t c.args.iface c.nodes_of-nodes.result c.frame_at-pending.result h (c.nodes_of-nodes.ensures (earlier c.args.config (tried_entry m c.args.verdict t) past h)) frame) c.attempt_posts.ensures
