@@ -1,15 +1,19 @@
-use crate::faults::Fault;
-use crate::files::read_script;
+use crate::faults::{Failure, Fault};
+use crate::files::{OUTPUT, read_script, write_failure};
+use crate::notes::{fixed_note, input_note, limits_note, names_note, reason_note};
 use crate::options::BenchOptions;
+use crate::recent::Recent;
 use can_audit::write_record;
 use can_bus::{BusConfig, Record};
 use can_fault::{FaultSource, Perfect};
 use can_frame::{Iface, IfaceSet, Names, NamesError};
 use can_session::{BenchConfig, BenchFault, bench};
-use std::alloc::Global;
+use std::alloc::{AllocError, Global};
 use std::fs;
 use std::io::{BufWriter, Error, ErrorKind, Read, Write};
 use std::rt::Files;
+
+const INPUT: &str = "standard input";
 
 /// Runs the bench that the options describe, over the lines of an input. The names are looked at first, then the
 /// script, and then the limits of the bus. The record is written behind a run that came to its end, once all its
@@ -20,42 +24,83 @@ pub fn run_bench<'a, H: Files, R: Read + Drop, W: Write>(
     options: BenchOptions<'a>,
     input: R,
     output: &mut W,
-) -> Result<(), Fault<'a>> {
-    let names = Names::read(alloc, options.names).map_err(|error| match error {
-        NamesError::BadNames => Fault::BadNames,
-        NamesError::NoMemory => Fault::NoMemory,
-    })?;
+) -> Result<(), Failure<'a>> {
+    let names = read_names(alloc, options.names)?;
     let record = match options.script {
         Some(path) => {
-            let script = read_script(rt, alloc, path, &names)?;
-            run_on(alloc, options, names, script, input, output)
+            let script = read_script(rt, alloc, path, options.names, &names)?;
+            run_on(alloc, options, names, script, input, output)?
         }
-        None => run_on(alloc, options, names, Perfect, input, output),
+        None => run_on(alloc, options, names, Perfect, input, output)?,
     };
-    let record = record.map_err(|fault| Fault::Bench(fault))?;
-    output.flush().map_err(|_| Fault::Write)?;
+    output
+        .flush()
+        .map_err(|error| write_failure(alloc, OUTPUT, &error))?;
     match options.record {
         Some(path) => save_record(rt, alloc, path, &record),
         None => Ok(()),
     }
 }
 
+fn read_names<'a>(alloc: Global, bus: &str) -> Result<Names, Failure<'a>> {
+    Names::read(alloc, bus).map_err(|error| match error {
+        NamesError::BadNames => Failure::with(alloc, Fault::BadNames, names_note(alloc, bus)),
+        NamesError::NoMemory => Failure::new(alloc, Fault::NoMemory),
+    })
+}
+
 // Runs the bench of these names and faults.
-fn run_on<F: FaultSource + Drop, R: Read + Drop, W: Write>(
+fn run_on<'a, F: FaultSource + Drop, R: Read + Drop, W: Write>(
     alloc: Global,
     options: BenchOptions<'_>,
     names: Names,
     script: F,
     input: R,
     output: &mut W,
-) -> Result<Record, BenchFault> {
+) -> Result<Record, Failure<'a>> {
     let config = BenchConfig {
         config: bus_config(options, &names),
         names,
         script,
         rx_capacity: options.rx_capacity,
     };
-    bench(alloc, config, input, output)
+    let mut input = Recent::new(alloc, input);
+    match bench(alloc, config, &mut input, output) {
+        Ok(record) => Ok(record),
+        Err(fault) => {
+            let notes = bench_note(alloc, fault, &options, &input);
+            Err(Failure::with(alloc, Fault::Bench(fault), notes))
+        }
+    }
+}
+
+// What is told of a fault of the bench.
+fn bench_note<R: Read + Drop>(
+    alloc: Global,
+    fault: BenchFault,
+    options: &BenchOptions<'_>,
+    input: &Recent<R>,
+) -> Result<String, AllocError> {
+    match fault {
+        BenchFault::BadConfig => limits_note(alloc, options),
+        BenchFault::BadLine(number) => match input.line(number) {
+            Some(line) => input_note(alloc, INPUT, number, line),
+            None => Ok(String::new(alloc)),
+        },
+        BenchFault::InputTooLong => fixed_note(
+            alloc,
+            "the input has at most 16777216 bytes, and takes at most as many reads",
+        ),
+        BenchFault::Read => match input.error() {
+            Some(error) => reason_note(alloc, INPUT, &error),
+            None => Ok(String::new(alloc)),
+        },
+        BenchFault::Write => Ok(String::new(alloc)),
+        BenchFault::NoMemory => fixed_note(
+            alloc,
+            "a run takes 96 bytes of memory for each event of --limit",
+        ),
+    }
 }
 
 // Writes the text of a record to the file with this path.
@@ -64,19 +109,23 @@ fn save_record<'a, H: Files>(
     alloc: Global,
     path: &'a str,
     record: &Record,
-) -> Result<(), Fault<'a>> {
-    let file = fs::create(rt, path).map_err(|_| Fault::CannotOpen(path))?;
-    let mut file = BufWriter::new(alloc, file).map_err(|_| Fault::NoMemory)?;
-    write_record(alloc, record, &mut file).map_err(|error| fault_of(&error))?;
-    file.flush().map_err(|_| Fault::Write)
+) -> Result<(), Failure<'a>> {
+    let file = fs::create(rt, path).map_err(|error| {
+        let reason = reason_note(alloc, path, &error);
+        Failure::with(alloc, Fault::CannotOpen(path), reason)
+    })?;
+    let mut file = BufWriter::new(alloc, file).map_err(|_| Failure::new(alloc, Fault::NoMemory))?;
+    write_record(alloc, record, &mut file).map_err(|error| record_failure(alloc, path, &error))?;
+    file.flush()
+        .map_err(|error| write_failure(alloc, path, &error))
 }
 
 // What a fault of writing a record is told as.
-fn fault_of<'a>(error: &Error) -> Fault<'a> {
+fn record_failure<'a>(alloc: Global, path: &str, error: &Error) -> Failure<'a> {
     if error.kind() == ErrorKind::OutOfMemory {
-        Fault::NoMemory
+        Failure::new(alloc, Fault::NoMemory)
     } else {
-        Fault::Write
+        write_failure(alloc, path, error)
     }
 }
 

@@ -1,6 +1,7 @@
 use can_audit::{AuditFault, ReadFault};
 use can_fault::ScriptError;
 use can_session::BenchFault;
+use std::alloc::{AllocError, Global};
 use thiserror::Error;
 
 /// Why a command line was not carried out, in the words that the program prints.
@@ -27,4 +28,29 @@ pub enum Fault<'a> {
     Write,
     #[error("no memory")]
     NoMemory,
+}
+
+/// A fault with the lines that are told behind its text.
+#[derive(Drop)]
+pub struct Failure<'a> {
+    pub fault: Fault<'a>,
+    pub notes: String,
+}
+
+impl<'a> Failure<'a> {
+    /// A fault alone.
+    pub fn new(alloc: Global, fault: Fault<'a>) -> Failure<'a> {
+        Failure {
+            fault,
+            notes: String::new(alloc),
+        }
+    }
+
+    /// A fault with notes, or alone where there was no memory for them.
+    pub fn with(alloc: Global, fault: Fault<'a>, notes: Result<String, AllocError>) -> Failure<'a> {
+        match notes {
+            Ok(notes) => Failure { fault, notes },
+            Err(_) => Failure::new(alloc, fault),
+        }
+    }
 }

@@ -1,49 +1,105 @@
-use crate::faults::Fault;
+use crate::faults::{Failure, Fault};
+use crate::notes::{reason_note, script_note};
+use crate::shown::{Line, Shown};
 use can_fault::{Script, ScriptError};
 use can_frame::Names;
-use std::alloc::Global;
+use std::alloc::{AllocError, Global};
 use std::fs;
-use std::io::Read;
+use std::io::{Error, Read};
 use std::rt::Files;
+
+/// What standard output is called where it fails.
+pub const OUTPUT: &str = "standard output";
 
 const MOST_READS: u32 = 16_777_216;
 
 /// The text of the file with this path. The file is opened, then read in at most 16,777,216 reads.
-pub fn read_file<'a, H: Files>(rt: &H, alloc: Global, path: &'a str) -> Result<String, Fault<'a>> {
-    let mut file = fs::open(rt, path).map_err(|_| Fault::CannotOpen(path))?;
-    read_text(alloc, &mut file, MOST_READS)
+pub fn read_file<'a, H: Files>(
+    rt: &H,
+    alloc: Global,
+    path: &'a str,
+) -> Result<String, Failure<'a>> {
+    match fs::open(rt, path) {
+        Ok(mut file) => read_text(alloc, path, &mut file, MOST_READS),
+        Err(error) => {
+            let reason = reason_note(alloc, path, &error);
+            Err(Failure::with(alloc, Fault::CannotOpen(path), reason))
+        }
+    }
 }
 
-/// The script of faults in the file with this path, for a bus with these names.
+/// The script of faults in the file with this path, for a bus with these names, which are given as they are read too.
 pub fn read_script<'a, H: Files>(
     rt: &H,
     alloc: Global,
     path: &'a str,
+    bus: &str,
     names: &Names,
-) -> Result<Script, Fault<'a>> {
+) -> Result<Script, Failure<'a>> {
     let text = read_file(rt, alloc, path)?;
     Script::read(alloc, &text, names).map_err(|error| match error {
-        ScriptError::NoMemory => Fault::NoMemory,
-        fault => Fault::Script(fault),
+        ScriptError::NoMemory => Failure::new(alloc, Fault::NoMemory),
+        fault => {
+            let notes = script_note(alloc, path, &text, bus, fault);
+            Failure::with(alloc, Fault::Script(fault), notes)
+        }
     })
 }
 
-/// All that a reader has, as UTF-8 text, which it gives in at most so many reads; the last finds its end.
+/// All that a reader of the file with this path has, as UTF-8 text, which it gives in at most so many reads; the last
+/// finds its end.
 pub fn read_text<'a, R: Read>(
     alloc: Global,
+    path: &'a str,
     file: &mut R,
     most_reads: u32,
-) -> Result<String, Fault<'a>> {
+) -> Result<String, Failure<'a>> {
     let mut bytes = Vec::new(alloc);
     let mut piece = [0; 8192];
     for _ in 0..most_reads {
-        let read = file.read(&mut piece).map_err(|_| Fault::Read)?;
+        let read = match file.read(&mut piece) {
+            Ok(read) => read,
+            Err(error) => return Err(read_failure(alloc, reason_note(alloc, path, &error))),
+        };
         if read == 0 {
-            return String::from_utf8(bytes).map_err(|_| Fault::Read);
+            return text_of(alloc, path, bytes);
         }
-        bytes
-            .extend_from_slice(&piece[..read])
-            .map_err(|_| Fault::NoMemory)?;
+        if bytes.extend_from_slice(&piece[..read]).is_err() {
+            return Err(Failure::new(alloc, Fault::NoMemory));
+        }
     }
-    Err(Fault::Read)
+    Err(read_failure(alloc, reads_note(alloc, path, most_reads)))
+}
+
+fn read_failure<'a>(alloc: Global, note: Result<String, AllocError>) -> Failure<'a> {
+    Failure::with(alloc, Fault::Read, note)
+}
+
+fn reads_note(alloc: Global, path: &str, most_reads: u32) -> Result<String, AllocError> {
+    let file = Shown::whole(path);
+    format!(in alloc; "  {file}: it is not read in {most_reads} reads\n")
+}
+
+fn text_of<'a>(alloc: Global, path: &str, bytes: Vec<u8>) -> Result<String, Failure<'a>> {
+    String::from_utf8(bytes).map_err(|error| {
+        let valid = error.utf8_error().valid_up_to();
+        read_failure(alloc, utf8_note(alloc, path, error.as_bytes(), valid))
+    })
+}
+
+// The line where the bytes of a file are no UTF-8 text, behind so many that are.
+fn utf8_note(alloc: Global, path: &str, bytes: &[u8], valid: usize) -> Result<String, AllocError> {
+    let ends = bytes
+        .iter()
+        .take(valid)
+        .filter(|byte| **byte == b'\n')
+        .count();
+    let text = bytes.split(|byte| *byte == b'\n').nth(ends).unwrap_or(b"");
+    let line = Line::new(path, (ends as u64).saturating_add(1), text);
+    format!(in alloc; "  {line}\n  this line is no UTF-8 text\n")
+}
+
+/// What a fault of writing to a file or a stream is told as.
+pub fn write_failure<'a>(alloc: Global, place: &str, error: &Error) -> Failure<'a> {
+    Failure::with(alloc, Fault::Write, reason_note(alloc, place, error))
 }

@@ -2,9 +2,9 @@
 //!
 //! `canbusd bench BUS` reads lines that open sessions, feed them commands and put frames on one bus, and
 //! writes what the sessions are told; `canbusd audit FILE` checks the record of such a run. `program` carries
-//! out a command line, whose words `options` reads; `bench_job` and `audit_job` are the two jobs, and `files`
-//! reads what they need. The bench itself is `can_session::bench`, the record's text and its audit are
-//! can_audit's: what they write and answer is proved there.
+//! out a command line, whose words `options` reads; `bench_job` and `audit_job` are the two jobs, `files` reads
+//! what they need, and `notes` has what is told behind a fault's text. The bench itself is `can_session::bench`,
+//! the record's text and its audit are can_audit's: what they write and answer is proved there.
 //!
 //! What is proved here: no command line, file or input makes a function fail or run on for ever.
 #![tactic(auto)]
@@ -13,10 +13,14 @@ mod audit_job;
 mod bench_job;
 mod faults;
 mod files;
+mod notes;
 mod options;
 mod program;
+mod recent;
+mod shown;
+mod wrong_entries;
 
-use faults::Fault;
+use faults::{Failure, Fault};
 use program::{fail, run_words};
 use std::io::ErrorKind;
 use std::process::ExitCode;
@@ -35,7 +39,7 @@ fn main(rt: HostRuntime) -> ExitCode {
             &mut rt.stderr(),
         ),
         Err(error) if error.kind() == ErrorKind::OutOfMemory => {
-            fail(Fault::NoMemory, &mut rt.stderr())
+            fail(&Failure::new(alloc, Fault::NoMemory), &mut rt.stderr())
         }
         Err(_) => {
             let _ = eprintln!(rt; "error: the command line is no UTF-8 text");

@@ -24,37 +24,71 @@ const BUS: &str = "BUS";
 const FILE: &str = "FILE";
 
 const PROGRAM_HELP: &str =
-    "`canbusd help bench` explains the options of bench and the lines that it reads.
+    "`canbusd help bench` has the options of bench, the lines that it reads, and an example to copy.
+`man canbusd` has all of it, the statuses and the texts of faults.
 
-Examples:
-  canbusd bench --record first.rec can0,can1 < examples/first_frame.bench
-  canbusd audit first.rec";
+Statuses: 0 done; 1 a fault, told as `canbusd: TEXT`; 2 a fault of the command line.
+
+Example, with what it writes:
+  $ printf '%s\\n' 'session 1' 'feed 1 < open can0 >< rawmode >< send 123 2 AB CD >' attempt | canbusd bench can0,can1
+  1 < hi >
+  1 < ok >< ok >
+  tried can0 0 done can1 -";
 
 const AUDIT_HELP: &str =
     "Prints `ok N entries` where each reply in the record is the one that the entries before it allow.
-Else it tells the first line that no record may have, or the first entry (from 0) whose reply is wrong.
+Else it tells the first line that no record may have, or the first entry (from 0) whose reply is wrong,
+with the reply that would be legal.
 
-Example:
-  canbusd audit first.rec";
+Example, with what it writes:
+  $ printf '%s\\n' 'session 1' 'feed 1 < open can0 >< rawmode >' | canbusd bench --record run.rec can0
+  1 < hi >
+  1 < ok >< ok >
+  $ canbusd audit run.rec
+  ok 1 entries";
 
 const BENCH_HELP: &str = "Lines of standard input, carried out one after the other:
   at SECONDS.MICROS  Set the moment, at first 0.000000: 1 to 10 digits, a point, 6 digits
   session S          Start session S, 1 to 64
   feed S BYTES       Feed session S bytes of its client: messages, in one piece or cut anywhere
-  drain S            Give session S what its socket received
+  drain S            Write what the socket of session S received
   end S              End session S
-  attempt            Put the frame that wins arbitration on the bus
+  attempt            Put the frame that wins arbitration on the bus, and write what became of it
 Empty lines and lines that begin with # do nothing. A line has at most 4096 bytes, and all lines 16777216.
 
-Messages of a session (socketcand's raw mode): < open NAME >, < rawmode >, < send ID LEN BYTE .. >,
-< sendrtr ID LEN >, < filter N ID MASK .. >, < join 0|1 >, < loopback 0|1 >, < recvown 0|1 >, < errmask HEX >,
-< errdata 0|1 >, < stats >, < restart >, < echo >, < close >.
+Messages of a session (socketcand's raw mode), in the order of a first run:
+  < open NAME >              Take an interface of the bus
+  < rawmode >                Get a socket there; the messages below need one
+  < send ID LEN BYTE .. >    Send a frame: ID of 1 to 3 hexadecimal digits for 11 bits, of 8 for 29 bits
+  < sendrtr ID LEN >         Send a remote frame
+  < filter N ID MASK .. >    Receive what matches one of N filters, in words of linux/can.h; at first everything
+  < join 0|1 >               Receive what matches all filters, not one of them (0)
+  < loopback 0|1 >           Give frames to other sockets of the interface too (1)
+  < recvown 0|1 >            Receive own frames too (0)
+  < errmask HEX >            Receive error message frames of these classes (0)
+  < errdata 0|1 >            Write error message frames with their data (0)
+  < stats >                  Write < stats QUEUED DROPPED TAKEN SENT DONE WAITING LOST REFUSED >
+  < restart >                Bring the interface back that is bus off
+  < close >                  Close the socket, and write < closed UNREAD DROPPED >
+What is done is answered < ok >, a send nothing, what is refused < error TEXT >. < echo > is answered at any time.
 
-Lines of FILE: NUMBER VERDICT, for the attempt of that number, from 0. VERDICT is good, lastbit,
-global bit, global form, local stuff NAMES, local crc NAMES or local form NAMES.
+What is received: < frame ID MOMENT DATA >, < remote ID MOMENT LEN >, < error CLASS MOMENT > or with DATA.
+What an attempt writes: tried NAME NUMBER CLASS ACCEPTED OFF, or idle, or record full. NUMBER counts the frames of
+NAME from 0; CLASS is done, or lastbit, destroyed or noack, and then the frame is sent again; ACCEPTED and OFF are
+the interfaces that accepted it and that went bus off, or -.
 
-Example:
-  canbusd bench --ack peers --limit 1000 can0,can1@examples/last_bit.script < examples/last_bit.bench";
+Lines of a script: NUMBER VERDICT, for the attempt of that number, from 0. VERDICT is good, lastbit,
+global bit, global form, local stuff NAMES, local crc NAMES or local form NAMES. Other attempts are good.
+
+Example, with what it writes:
+  $ printf '%s\\n' 'session 1' 'feed 1 < open can0 >< rawmode >' 'session 2' 'feed 2 < open can1 >< rawmode >' \\
+      'feed 1 < send 123 2 AB CD >' attempt 'drain 2' | canbusd bench can0,can1
+  1 < hi >
+  1 < ok >< ok >
+  2 < hi >
+  2 < ok >< ok >
+  tried can0 0 done can1 -
+  2 < frame 123 0.000000 ABCD >";
 
 /// What a command line asks for.
 #[derive(Debug, Clone, Copy)]
@@ -136,7 +170,7 @@ fn number_given(alloc: Global, bench: &ArgMatches<'_>, option: &str) -> Result<u
         Ok(number) if text.bytes().all(|byte| byte.is_ascii_digit()) => Ok(number),
         _ => {
             let message = format!(in alloc;
-                "invalid value '{text}' for '--{option} <N>': not a decimal number of 32 bits"
+                "invalid value '{text}' for '--{option} <N>': not a number from 0 to 4294967295 in decimal digits"
             )?;
             Err(bench_error(alloc, &message)?)
         }
@@ -163,8 +197,7 @@ fn program_command<'a>(alloc: Global) -> Result<Command<'a>, AllocError> {
 fn bench_command<'a>(alloc: Global) -> Result<Command<'a>, AllocError> {
     let tx_help = "Frames that an interface keeps to be sent, 1 to 1024";
     let rx_help = "Frames that a socket keeps to be received, 1 to 65536";
-    let limit_help =
-        "Events of the run, 1 to 16777216: each call on the bus is one, and each attempt";
+    let limit_help = "Calls and attempts of the run, 1 to 16777216, of 96 bytes of memory each";
     Command::new(alloc, "bench")
         .about("Carry out the lines of standard input on one bus")
         .after_help(BENCH_HELP)
@@ -190,18 +223,14 @@ fn ack_option<'a>(alloc: Global) -> Arg<'a> {
         .value_name("MODE")
         .value_parser([ALWAYS, PEERS].as_slice())
         .default_value(ALWAYS)
-        .help(
-            "Who acknowledges frames: always a node that only listens, or the other interfaces (peers) alone",
-        )
+        .help("Who acknowledges: a silent node, or the other interfaces alone")
 }
 
 fn report_option<'a>(alloc: Global) -> Arg<'a> {
     Arg::new(alloc, REPORT)
         .long(REPORT)
         .action(ArgAction::SetTrue)
-        .help(
-            "Make error message frames of each fault (classes 088 and 0A0), not only of changes of state",
-        )
+        .help("Make error message frames of each fault too, not of changes of state alone")
 }
 
 fn number_option<'a>(alloc: Global, name: &'a str, default: &'a str, help: &'a str) -> Arg<'a> {
@@ -214,7 +243,7 @@ fn number_option<'a>(alloc: Global, name: &'a str, default: &'a str, help: &'a s
 
 fn record_option<'a>(alloc: Global) -> Arg<'a> {
     Arg::new(alloc, RECORD).long(RECORD).value_name("FILE").help(
-        "Write the record of the run to FILE, once the input has come to its end",
+        "Write the record of the run to FILE once the input has ended; audit checks it",
     )
 }
 
@@ -226,6 +255,6 @@ fn file_argument<'a>(alloc: Global) -> Arg<'a> {
 
 fn bus_argument<'a>(alloc: Global) -> Arg<'a> {
     Arg::new(alloc, BUS).required(true).help(
-        "Names of 1 to 16 interfaces, joined by commas, or NAMES@FILE with a script of faults",
+        "Names of 1 to 16 interfaces, joined by commas; @FILE behind them is a script of faults",
     )
 }

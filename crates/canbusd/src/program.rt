@@ -2,7 +2,8 @@ ghost use Rattle.std.specs.Prelude.{◌≡◌, ◌≤◌};
 
 use crate::audit_job::audit_file;
 use crate::bench_job::run_bench;
-use crate::faults::Fault;
+use crate::faults::{Failure, Fault};
+use crate::files::{OUTPUT, write_failure};
 use crate::options::{Job, read_options};
 use clap::error::ErrorKind;
 use std::alloc::Global;
@@ -15,9 +16,9 @@ const FAILED: u8 = 1;
 
 const BAD_WORDS: u8 = 2;
 
-/// Carries out a command line, the program's name among its words, and answers its status: 0, 1 with
-/// `canbusd: TEXT` among the errors, or 2 for a fault of the words with the parser's own text. All output
-/// was written, or the status is 1 and the text `write fault`.
+/// Carries out a command line, the program's name among its words, and answers its status: 0, 1 with a line
+/// `canbusd: TEXT` among the errors and notes behind it, or 2 for a fault of the words with the parser's own text.
+/// All output was written, or the status is 1 and the text `write fault`.
 pub fn run_words<H: Files, R: Read + Drop, W: Write + Drop, E: Write>(
     rt: &H,
     alloc: Global,
@@ -29,7 +30,7 @@ pub fn run_words<H: Files, R: Read + Drop, W: Write + Drop, E: Write>(
     ensures { result ≤ 2 }
 {
     let Ok(mut output) = BufWriter::new(alloc, output) else {
-        return fail(Fault::NoMemory, errors);
+        return fail(&Failure::new(alloc, Fault::NoMemory), errors);
     };
     match read_options(alloc, words) {
         Ok(job) => {
@@ -37,37 +38,48 @@ pub fn run_words<H: Files, R: Read + Drop, W: Write + Drop, E: Write>(
                 Job::Bench(options) => run_bench(rt, alloc, options, input, &mut output),
                 Job::Audit(path) => audit_file(rt, alloc, path, &mut output),
             };
-            finish(outcome, &mut output, errors)
+            finish(alloc, outcome, &mut output, errors)
         }
-        Err(error) if error.kind() == ErrorKind::OutOfMemory => fail(Fault::NoMemory, errors),
+        Err(error) if error.kind() == ErrorKind::OutOfMemory => {
+            fail(&Failure::new(alloc, Fault::NoMemory), errors)
+        }
         Err(error) if error.use_stderr() => {
             let _ = write!(errors, "{error}");
             BAD_WORDS
         }
         Err(help) => {
-            let outcome = write!(output, "{help}").map_err(|_| Fault::Write);
-            finish(outcome, &mut output, errors)
+            let outcome = write!(output, "{help}").map_err(|error| write_failure(
+                alloc, OUTPUT, &error,
+            ));
+            finish(alloc, outcome, &mut output, errors)
         }
     }
 }
 
 // Writes what was put out, also before a fault; a fault of that comes first. Answers the status.
-fn finish<W: Write, E: Write>(outcome: Result<(), Fault<'_>>, output: &mut W, errors: &mut E) -> u8
+fn finish<W: Write, E: Write>(
+    alloc: Global,
+    outcome: Result<(), Failure<'_>>,
+    output: &mut W,
+    errors: &mut E,
+) -> u8
     ensures { result ≤ 1 }
 {
-    if output.flush().is_err() {
-        return fail(Fault::Write, errors);
+    if let Err(error) = output.flush() {
+        return fail(&write_failure(alloc, OUTPUT, &error), errors);
     }
     match outcome {
         Ok(()) => DONE,
-        Err(fault) => fail(fault, errors),
+        Err(failure) => fail(&failure, errors),
     }
 }
 
 /// Tells why a command line was not carried out, and answers its status.
-pub fn fail<E: Write>(fault: Fault<'_>, errors: &mut E) -> u8
+pub fn fail<E: Write>(failure: &Failure<'_>, errors: &mut E) -> u8
     ensures { result ≡ 1 }
 {
+    let fault = failure.fault;
     let _ = writeln!(errors, "canbusd: {fault}");
+    let _ = errors.write_all(failure.notes.as_bytes());
     FAILED
 }

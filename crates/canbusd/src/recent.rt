@@ -1,0 +1,84 @@
+use std::alloc::Global;
+use std::io;
+use std::io::{Error, Read};
+
+/// How many of the last bytes are kept at least. The bench has no more of its input at any time.
+const KEPT: usize = 8192;
+
+/// A reader that keeps the last bytes that it gave, so that a line among them can be told, and its last error.
+#[derive(Drop)]
+pub struct Recent<R: Read + Drop> {
+    input: R,
+    bytes: Vec<u8>,
+    // How many lines ended before the bytes that are kept.
+    lines_gone: u64,
+    // Whether there was no memory for some bytes.
+    is_lost: bool,
+    error: Option<Error>,
+}
+
+impl<R: Read + Drop> Recent<R> {
+    /// It keeps at most 24,576 bytes, and none before the first read.
+    pub fn new(alloc: Global, input: R) -> Recent<R> {
+        Recent {
+            input,
+            bytes: Vec::new(alloc),
+            lines_gone: 0,
+            is_lost: false,
+            error: None,
+        }
+    }
+
+    /// The line of this number, from 1, as far as it was read; it has to begin within the last 8,192 bytes.
+    pub fn line(&self, number: u32) -> Option<&[u8]> {
+        if self.is_lost {
+            return None;
+        }
+        let gone = self.lines_gone.saturating_add(1);
+        let place = u64::from(number).checked_sub(gone)?;
+        self.bytes.split(|byte| *byte == b'\n').nth(place as usize)
+    }
+
+    /// Why the last read failed.
+    pub fn error(&self) -> Option<Error> {
+        self.error
+    }
+
+    // Keeps what was read, at most 8,192 bytes.
+    fn keep(&mut self, read: &[u8]) {
+        if self.bytes.len() > 2 * KEPT {
+            self.forget();
+        }
+        if self.bytes.extend_from_slice(read).is_err() {
+            self.is_lost = true;
+        }
+    }
+
+    // Lets all but the last 8,192 bytes go.
+    fn forget(&mut self) {
+        let gone = self.bytes.len().saturating_sub(KEPT);
+        let ends = self.bytes[..gone]
+            .iter()
+            .filter(|byte| **byte == b'\n')
+            .count();
+        self.lines_gone = self.lines_gone.saturating_add(ends as u64);
+        self.bytes.copy_within(gone.., 0);
+        self.bytes.truncate(KEPT);
+    }
+}
+
+impl<R: Read + Drop> Read for Recent<R> {
+    fn read(&mut self, buf: &mut [u8]) -> io::Result<usize> {
+        let most = buf.len().min(KEPT);
+        match self.input.read(&mut buf[..most]) {
+            Ok(read) => {
+                self.keep(&buf[..read]);
+                Ok(read)
+            }
+            Err(error) => {
+                self.error = Some(error);
+                Err(error)
+            }
+        }
+    }
+}

@@ -1,0 +1,80 @@
+ghost use Rattle.std.specs.Prelude.{◌≤◌};
+
+use std::fmt;
+
+/// How many bytes of a line or a name are shown.
+const MOST_SHOWN: usize = 72;
+
+/// Bytes as they may go to a terminal: one that is no printable ASCII is shown as `?`.
+#[derive(Clone, Copy)]
+pub struct Shown<'a> {
+    bytes: &'a [u8],
+    is_cut: bool,
+}
+
+impl<'a> Shown<'a> {
+    /// All of a text.
+    pub fn whole(text: &'a str) -> Shown<'a> {
+        Shown {
+            bytes: text.as_bytes(),
+            is_cut: false,
+        }
+    }
+
+    /// The first 72 bytes, and `..` where there are more.
+    pub fn cut(bytes: &'a [u8]) -> Shown<'a> {
+        let len = bytes.len().min(MOST_SHOWN);
+        Shown {
+            bytes: &bytes[..len],
+            is_cut: len < bytes.len(),
+        }
+    }
+}
+
+impl fmt::Display for Shown<'_> {
+    fn fmt<W: fmt::Write>(&self, f: &mut fmt::Formatter<W>) -> fmt::Result {
+        for byte in self.bytes {
+            f.write_char(printable(*byte))?;
+        }
+        if self.is_cut {
+            f.write_str("..")?;
+        }
+        Ok(())
+    }
+}
+
+// The character of a byte, or `?`: one from the space to `~`.
+fn printable(byte: u8) -> char
+    ensures low { 32 ≤ result }
+    ensures high { result ≤ 126 }
+{
+    if byte.is_ascii_graphic() || byte == b' ' {
+        char::from(byte)
+    } else {
+        '?'
+    }
+}
+
+/// A line and where it stands, as `FILE:NUMBER: TEXT`.
+#[derive(Clone, Copy)]
+pub struct Line<'a> {
+    file: &'a str,
+    number: u64,
+    text: &'a [u8],
+}
+
+impl<'a> Line<'a> {
+    /// The line of this number, from 1.
+    pub fn new(file: &'a str, number: u64, text: &'a [u8]) -> Line<'a> {
+        Line { file, number, text }
+    }
+}
+
+impl fmt::Display for Line<'_> {
+    fn fmt<W: fmt::Write>(&self, f: &mut fmt::Formatter<W>) -> fmt::Result {
+        let file = Shown::whole(self.file);
+        let number = self.number;
+        let text = Shown::cut(self.text);
+        write!(f, "{file}:{number}: {text}")
+    }
+}

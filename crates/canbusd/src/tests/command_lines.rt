@@ -1,0 +1,57 @@
+//! Command lines that are refused, and those that ask for help.
+use super::support::run;
+use std::alloc::Global;
+use std::process::Abort;
+use std::rt::Files;
+use std::test::Fail;
+
+/// How what a command line writes to its output and its errors begins, and its status.
+fn tells(
+    rt: &(impl Abort + Files),
+    alloc: Global,
+    line: &str,
+    wanted: (&str, &str, u8),
+) -> Result<(), Fail> {
+    let (output, errors, status) = wanted;
+    let ended = run(rt, alloc, line, b"".as_slice())?;
+    assert!(rt; ended.begins(output, errors));
+    assert_eq!(rt; ended.status, status);
+    Ok(())
+}
+
+#[test]
+fn reads_command_lines(rt: HostRuntime) -> Result<(), Fail> {
+    let alloc = rt.alloc();
+    let faulty = [
+        "canbusd",
+        "canbusd serve",
+        "canbusd bench",
+        "canbusd bench can0 can1",
+        "canbusd bench --limit",
+        "canbusd bench --limit= can0",
+        "canbusd bench --limit +5 can0",
+        "canbusd bench --txqueue 4294967296 can0",
+        "canbusd bench --rxqueue x can0",
+        "canbusd bench --limit 1 --limit 1 can0",
+        "canbusd bench --ack never can0",
+        "canbusd bench --ack",
+        "canbusd bench --report=1 can0",
+        "canbusd bench --record",
+        "canbusd audit",
+        "canbusd audit a b",
+    ];
+    for line in faulty {
+        tells(&rt, alloc, line, ("", "error: ", 2))?;
+    }
+    let shown = [
+        ("canbusd --version", "canbusd 0.1.0\n"),
+        ("canbusd --help", "Simulated CAN buses\n"),
+        ("canbusd bench -h", "Carry out the lines"),
+        ("canbusd help bench", "Carry out the lines"),
+        ("canbusd help audit", "Check that a record"),
+    ];
+    for (line, start) in shown {
+        tells(&rt, alloc, line, (start, "", 0))?;
+    }
+    Ok(())
+}

@@ -1,0 +1,258 @@
+//! Lines that are carried out, and the limits of lines and of the input.
+use super::support::{
+    Pieces, TWO_SESSIONS, TWO_STARTED, carries_out, joined, runs, runs_however_cut, times,
+};
+use std::alloc::Global;
+use std::process::Abort;
+use std::rt::Files;
+use std::test::Fail;
+
+#[test]
+fn carries_out_lines(rt: HostRuntime) -> Result<(), Fail> {
+    let alloc = rt.alloc();
+    // The words, what follows the two sessions, and what they write then.
+    let table = [
+        (
+            "canbusd bench can0,can1",
+            "feed 1 < send 123 4 11 22 33 44 >\nat 23.424242\nattempt\ndrain 2\ndrain 1\n",
+            "tried can0 0 done can1 -\n2 < frame 123 23.424242 11223344 >\n",
+        ),
+        (
+            "canbusd bench can0,can1",
+            "feed 1 < send 123 0  >\nat 9999999999.999999\nattempt\ndrain 2",
+            "tried can0 0 done can1 -\n2 < frame 123 9999999999.999999  >\n",
+        ),
+        (
+            "canbusd bench can0,can1",
+            "feed 1 < send 123 2 1 ff >\n# sent\n\nattempt\ndrain 2\n",
+            "tried can0 0 done can1 -\n2 < frame 123 0.000000 01FF >\n",
+        ),
+        (
+            "canbusd bench can0,can1",
+            "feed 2 x>< send< send 80000123 1 0A >y< send 1FFFFFFF\t8 1 2 3 4 5 6 7 8 >\nattempt\nattempt\nat 0000000007.000050\nattempt\ndrain 1\n",
+            "tried can1 0 done can0 -\ntried can1 1 done can0 -\nidle\n1 < frame 00000123 0.000000 0A >< frame 1FFFFFFF 0.000000 0102030405060708 >\n",
+        ),
+        (
+            "canbusd bench --txqueue 1 can0,can1",
+            "feed 1 < send 123 0 >< send 124 0 >\nattempt\nfeed 1 < send 124 0 >\nattempt\n",
+            "1 < error no buffers >\ntried can0 0 done can1 -\ntried can0 1 done can1 -\n",
+        ),
+        (
+            "canbusd bench can0,can1 --rxqueue 1",
+            "feed 1 < send 123 0 >< send 124 0 >\nattempt\nattempt\ndrain 2\n",
+            "tried can0 0 done can1 -\ntried can0 1 done can1 -\n2 < frame 123 0.000000  >\n",
+        ),
+        (
+            "canbusd bench --limit 4 can0,can1",
+            "feed 1 < send 123 0 >\nattempt\nattempt\nfeed 1 < send 123 0 >\ndrain 1\n",
+            "tried can0 0 done can1 -\nrecord full\n1 < error record full >\n1 < error record full >\n",
+        ),
+        (
+            "canbusd bench can0,can1",
+            "feed 1 < open can0 >< rawmode >\nsession 64\nfeed 64 < rawmode >< send 1 0 >< open can2 >\nfeed 64 \ndrain 64\n",
+            "1 < error wrong state >< ok >\n64 < hi >\n64 < error wrong state >< error wrong state >< error no such interface >\n",
+        ),
+        // Who wins: the 11-bit identifier where the first 11 bits are equal, then the lower interface.
+        (
+            "canbusd bench --ack always --report can0,can1,can2",
+            "feed 1 < send 048C0000 0 >\nfeed 2 < send 123 0 >\nattempt\nattempt\n",
+            "tried can1 0 done can0,can2 -\ntried can0 0 done can1,can2 -\n",
+        ),
+        (
+            "canbusd bench can0,can1",
+            "feed 2 < send 123 0 >\nfeed 1 < send 123 0 >\nattempt\nattempt\n",
+            "tried can0 0 done can1 -\ntried can1 0 done can0 -\n",
+        ),
+        (
+            "canbusd bench can0,can1",
+            "feed 1 < send 124 0 >\nfeed 2 < send 048C0000 0 >\nattempt\nattempt\n",
+            "tried can1 0 done can0 -\ntried can0 0 done can1 -\n",
+        ),
+    ];
+    for (line, rest, wanted) in table {
+        carries_out(&rt, alloc, line, rest, wanted)?;
+    }
+    Ok(())
+}
+
+#[test]
+fn nobody_acknowledges_without_a_receiver(rt: HostRuntime) -> Result<(), Fail> {
+    let alloc = rt.alloc();
+    let attempts = times(alloc, "attempt\n", 17)?;
+    let started = "session 1\nfeed 1 < open can0 >< rawmode >< send 123 0 >\n";
+    let input = joined(alloc, &[started, &attempts])?;
+    let told = times(alloc, "tried can0 0 noack - -\n", 17)?;
+    let output = joined(alloc, &["1 < hi >\n1 < ok >< ok >\n", &told])?;
+    let line = "canbusd bench --ack peers can0";
+    runs(&rt, alloc, line, input.as_bytes(), (&output, "", 0))
+}
+
+const AT: &str = "  at SECONDS.MICROS: 1 to 10 digits, a point, 6 digits, as at 1.500000\n";
+
+const ATTEMPT: &str = "  nothing stands behind attempt\n";
+
+const NUMBER: &str = "  one space stands before the session, which is 1 to 64\n";
+
+const MISSING: &str = "  no line before it starts session 3\n";
+
+const WITH_CR: &str = "  this line ends with CR and LF: lines end with LF alone\n";
+
+const OTHER: &str =
+    "  a line begins with at, session, feed, drain, end or attempt; see canbusd help bench\n";
+
+#[test]
+fn refuses_lines(rt: HostRuntime) -> Result<(), Fail> {
+    let alloc = rt.alloc();
+    // A line that is refused, how it is shown, and what is told of it.
+    let faulty = [
+        ("at 10000000000.000000", "at 10000000000.000000", AT),
+        ("at 1.00000", "at 1.00000", AT),
+        ("at 1.0000000", "at 1.0000000", AT),
+        ("at .000000", "at .000000", AT),
+        ("at 1,000000", "at 1,000000", AT),
+        ("attempt ", "attempt ", ATTEMPT),
+        ("attempt\r", "attempt?", WITH_CR),
+        (" ", " ", OTHER),
+        ("Attempt", "Attempt", OTHER),
+        ("\u{1b}[2J\u{e9}", "?[2J??", OTHER),
+        (
+            "session 1",
+            "session 1",
+            "  session 1 was started before: a number is used once\n",
+        ),
+        ("session 0", "session 0", NUMBER),
+        ("session 03", "session 03", NUMBER),
+        ("session 65", "session 65", NUMBER),
+        ("drain 3", "drain 3", MISSING),
+        ("drain  1", "drain  1", NUMBER),
+        ("feed 3 < open can0 >", "feed 3 < open can0 >", MISSING),
+        (
+            "feed 1",
+            "feed 1",
+            "  feed S BYTES: S is 1 to 64, and one space stands before BYTES\n",
+        ),
+        ("end 3", "end 3", MISSING),
+    ];
+    for (line, shown, note) in faulty {
+        let input = joined(alloc, &[TWO_SESSIONS, line, "\nattempt\n"])?;
+        let first = "canbusd: line 5: bad line\n  standard input:5: ";
+        let errors = joined(alloc, &[first, shown, "\n", note])?;
+        let wanted = (TWO_STARTED, errors.as_str(), 1);
+        runs_however_cut(&rt, alloc, "canbusd bench can0,can1", &input, wanted)?;
+    }
+    Ok(())
+}
+
+#[test]
+fn tells_lines_far_down(rt: HostRuntime) -> Result<(), Fail> {
+    let alloc = rt.alloc();
+    // So many lines of 8 bytes stand before a line that is refused: more than are kept.
+    for count in [0, 1, 1023, 1024, 1025, 2048, 2049, 5000] {
+        let remarks = times(alloc, "# seven\n", count)?;
+        let input = joined(alloc, &[&remarks, "drain 64\n# seven\n"])?;
+        let line = count + 1;
+        let errors = format!(in alloc;
+            "canbusd: line {line}: bad line\n  standard input:{line}: drain 64\n  no line before it starts session 64\n"
+        )?;
+        runs_however_cut(&rt, alloc, "canbusd bench can0", &input, ("", &errors, 1))?;
+    }
+    Ok(())
+}
+
+#[test]
+fn keeps_limits_of_lines(rt: HostRuntime) -> Result<(), Fail> {
+    let alloc = rt.alloc();
+    // 72 bytes of a line are shown.
+    let shown = times(alloc, "#", 72)?;
+    let long = "..\n  a line has at most 4096 bytes\n";
+    let first = "canbusd: line 2: bad line\n  standard input:2: ";
+    let second = joined(alloc, &[first, &shown, long])?;
+    let first = "canbusd: line 3: bad line\n  standard input:3: ";
+    let third = joined(alloc, &[first, &shown, long])?;
+    // What stands before and behind so many bytes, what is told then, the errors and the status.
+    let table = [
+        (("", "#", 4096, "\n"), ("", "", 0)),
+        (("", "#", 4096, ""), ("", "", 0)),
+        (("", "#", 4096, "#"), ("", second.as_str(), 1)),
+        (("\n", "#", 4096, "#\n"), ("", third.as_str(), 1)),
+        (
+            ("feed 1 <rawmode", " ", 1017, ">"),
+            ("1 < error wrong state >\n", "", 0),
+        ),
+        (
+            ("feed 1 <rawmode", " ", 1017, "><"),
+            ("1 < error wrong state >\n", "", 0),
+        ),
+        (
+            ("feed 1 <rawmode", " ", 1018, ">< echo >"),
+            ("1 < error message too long >< echo >\n", "", 0),
+        ),
+    ];
+    for (line, wanted) in table {
+        answers(&rt, alloc, line, wanted)?;
+    }
+    Ok(())
+}
+
+/// A line of session 1, and what is told then, the errors and the status.
+fn answers(
+    rt: &(impl Abort + Files),
+    alloc: Global,
+    line: (&str, &str, usize, &str),
+    wanted: (&str, &str, u8),
+) -> Result<(), Fail> {
+    let (before, piece, count, behind) = line;
+    let (told, errors, status) = wanted;
+    let long = times(alloc, piece, count)?;
+    let input = joined(alloc, &["session 1\n", before, &long, behind])?;
+    let output = joined(alloc, &["1 < hi >\n", told])?;
+    let bench = "canbusd bench can0";
+    runs(
+        rt,
+        alloc,
+        bench,
+        input.as_bytes(),
+        (&output, errors, status),
+    )
+}
+
+#[test]
+fn tells_long_lines(rt: HostRuntime) -> Result<(), Fail> {
+    let alloc = rt.alloc();
+    // A line of 4,097 bytes that would be good if it were shorter, of which 72 are shown.
+    let bytes = times(alloc, "x", 4090)?;
+    let input = joined(alloc, &["feed 1 ", &bytes, "\n"])?;
+    let shown = times(alloc, "x", 65)?;
+    let first = "canbusd: line 1: bad line\n  standard input:1: feed 1 ";
+    let errors = joined(
+        alloc,
+        &[first, &shown, "..\n  a line has at most 4096 bytes\n"],
+    )?;
+    runs_however_cut(&rt, alloc, "canbusd bench can0", &input, ("", &errors, 1))
+}
+
+#[test]
+fn keeps_limits_of_the_input(rt: HostRuntime) -> Result<(), Fail> {
+    let alloc = rt.alloc();
+    let remark = times(alloc, "#", 4095)?;
+    let remark = joined(alloc, &[&remark, "\n"])?;
+    let remarks = times(alloc, &remark, 4097)?;
+    let too_long =
+        "canbusd: input too long\n  the input has at most 16777216 bytes, and takes at most as many reads\n";
+    // How many bytes, in pieces of how many: each read counts, and so does the last.
+    let table = [
+        (16_777_216, 4096, "", 0),
+        (16_777_217, 4096, too_long, 1),
+        (16_777_216, 1, too_long, 1),
+    ];
+    for (len, size, errors, status) in table {
+        let pieces = Pieces {
+            rest: &remarks.as_bytes()[..remarks.len().min(len)],
+            size,
+            is_broken: false,
+        };
+        let wanted = ("", errors, status);
+        runs(&rt, alloc, "canbusd bench can0", pieces, wanted)?;
+    }
+    Ok(())
+}

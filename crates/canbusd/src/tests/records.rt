@@ -1,0 +1,126 @@
+//! Records that are written and audited.
+use super::support::{carries_out, runs};
+use std::fs;
+use std::test::Fail;
+
+const RECORD: &str = "written.rec";
+
+/// The record of two sockets with room for an item, a frame between them, and the close of the second socket.
+const RECORDED: &str = "canbus record 1
+bus 2 always 0000 10 100
+open 0 1 = socket 0
+open 1 1 = socket 1
+send 0 123#01FF = number 0
+attempt 0.000001 good = tried 0 0 123#01FF done 0002 0000
+receive 1 = data 0 0 123#01FF 0.000001
+receive 1 = none
+close 1 = closed 0 0
+end 7
+";
+
+#[test]
+fn writes_and_audits_records(rt: HostRuntime) -> Result<(), Fail> {
+    let alloc = rt.alloc();
+    let rest = "feed 1 < send 123 2 1 ff >\nat 0.000001\nattempt\ndrain 2\nfeed 2 < close >\n";
+    let wanted = "tried can0 0 done can1 -\n2 < frame 123 0.000001 01FF >\n2 < closed 0 0 >\n";
+    let line = "canbusd bench --record written.rec --rxqueue 1 --limit 100 can0,can1";
+    carries_out(&rt, alloc, line, rest, wanted)?;
+    let record = fs::read_to_string(&rt, RECORD)?;
+    assert_eq!(rt; record.as_bytes(), RECORDED.as_bytes());
+    let audited = ("ok 7 entries\n", "", 0);
+    runs(
+        &rt,
+        alloc,
+        "canbusd audit written.rec",
+        b"".as_slice(),
+        audited,
+    )?;
+    fs::remove_file(&rt, RECORD)?;
+    // A run that ends in a fault makes no file.
+    let line = "canbusd bench --record written.rec can0";
+    let told =
+        "canbusd: line 1: bad line\n  standard input:1: attempt 1\n  nothing stands behind attempt\n";
+    let told = ("", told, 1);
+    runs(&rt, alloc, line, b"attempt 1\n".as_slice(), told)?;
+    let told =
+        "canbusd: cannot open written.rec\n  written.rec: No such file or directory (os error 2)\n";
+    let told = ("", told, 1);
+    runs(
+        &rt,
+        alloc,
+        "canbusd audit written.rec",
+        b"".as_slice(),
+        told,
+    )?;
+    let told =
+        "canbusd: cannot open none/written.rec\n  none/written.rec: No such file or directory (os error 2)\n";
+    let told = ("", told, 1);
+    let line = "canbusd bench --record none/written.rec can0";
+    runs(&rt, alloc, line, b"".as_slice(), told)
+}
+
+#[test]
+fn tells_what_is_wrong_with_records(rt: HostRuntime) -> Result<(), Fail> {
+    let alloc = rt.alloc();
+    // What is put in place of what, and what is told then.
+    let table = [
+        (
+            "done 0002",
+            "done 0000",
+            "canbusd: entry 3: wrong\n  damaged.rec:6: attempt 0.000001 good = tried 0 0 123#01FF done 0000 0000\n  legal is: attempt 0.000001 good = tried 0 0 123#01FF done 0002 0000\n",
+        ),
+        (
+            "10 100",
+            "10 6",
+            "canbusd: entry 6: wrong\n  damaged.rec:9: close 1 = closed 0 0\n  line 2 allows at most 6 entries\n",
+        ),
+        (
+            "record 1",
+            "record 9",
+            "canbusd: bad version\n  damaged.rec:1: canbus record 9\n  the first line of a record is canbus record 1\n",
+        ),
+        (
+            "bus 2",
+            "bus 17",
+            "canbusd: line 2: bad line\n  damaged.rec:2: bus 17 always 0000 10 100\n  the second line is bus IFACES ACK REPORTING TXCAPACITY LIMIT\n",
+        ),
+        (
+            "send 0 123#01FF",
+            "send 0 123#01ff",
+            "canbusd: line 5: bad line\n  damaged.rec:5: send 0 123#01ff = number 0\n  a line is EVENT = REPLY, and the last is end COUNT; each ends with LF\n",
+        ),
+        (
+            "end 7",
+            "end 8",
+            "canbusd: line 10: bad line\n  damaged.rec:10: end 8\n  a line is EVENT = REPLY, and the last is end COUNT; each ends with LF\n",
+        ),
+        (
+            "end 7\n",
+            "end 7\n\n",
+            "canbusd: line 11: bad line\n  damaged.rec:11: \n  a line is EVENT = REPLY, and the last is end COUNT; each ends with LF\n",
+        ),
+    ];
+    for (old, new, told) in table {
+        let text = RECORDED.replace(alloc, old, new)?;
+        fs::write(&rt, "damaged.rec", text.as_bytes())?;
+        runs(
+            &rt,
+            alloc,
+            "canbusd audit damaged.rec",
+            b"".as_slice(),
+            ("", told, 1),
+        )?;
+    }
+    fs::write(&rt, "damaged.rec", b"\xFF")?;
+    let told = "canbusd: read fault\n  damaged.rec:1: ?\n  this line is no UTF-8 text\n";
+    let told = ("", told, 1);
+    runs(
+        &rt,
+        alloc,
+        "canbusd audit damaged.rec",
+        b"".as_slice(),
+        told,
+    )?;
+    fs::remove_file(&rt, "damaged.rec")?;
+    Ok(())
+}

@@ -1,0 +1,179 @@
+//! Scripts that are followed, and those that are refused.
+use super::support::{carries_out, joined, runs, times};
+use std::alloc::Global;
+use std::fs;
+use std::process::Abort;
+use std::rt::Files;
+use std::test::Fail;
+
+const SCRIPT: &str = "followed.script";
+
+const NUMBERS: &str =
+    "0 1 2 3 4 5 6 7 8 9 10 11 12 13 14 15 16 17 18 19 20 21 22 23 24 25 26 27 28 29 30 31";
+
+/// The script that gives the attempts 0 to 31 this verdict.
+fn ever(alloc: Global, verdict: &str) -> Result<String, Fail> {
+    let mut script = String::new(alloc);
+    for number in NUMBERS.split(' ') {
+        let line = joined(alloc, &[number, " ", verdict, "\n"])?;
+        script.push_str(&line)?;
+    }
+    Ok(script)
+}
+
+/// A frame of session 1 that goes out under this verdict until can0 is bus off: what each attempt but the
+/// last of them tells, what that one tells, and what session 2 has received then.
+fn goes_off(
+    rt: &(impl Abort + Files),
+    alloc: Global,
+    verdict: &str,
+    wanted: (&str, &str, &str),
+) -> Result<(), Fail> {
+    let (each, last, received) = wanted;
+    let script = ever(alloc, verdict)?;
+    fs::write(rt, SCRIPT, script.as_bytes())?;
+    let attempts = times(alloc, "attempt\n", 32)?;
+    let sent = "feed 1 < send 123 0 >< send 124 0 >\n";
+    let then = "drain 2\nfeed 1 < send 123 0 >\nattempt\n";
+    let rest = joined(alloc, &[sent, &attempts, then])?;
+    let told = times(alloc, each, 31)?;
+    let refused = "1 < error bus off >\nidle\n";
+    let output = joined(alloc, &[&told, last, received, refused])?;
+    let line = "canbusd bench can0,can1@followed.script";
+    carries_out(rt, alloc, line, &rest, &output)
+}
+
+#[test]
+fn follows_scripts(rt: HostRuntime) -> Result<(), Fail> {
+    let alloc = rt.alloc();
+    // The script, what follows the two sessions, and what they write then.
+    let table = [
+        (
+            "# An idle attempt has no verdict.\n\n0 lastbit",
+            "session 3\nfeed 3 < open can0 >< rawmode >\nattempt\nfeed 1 < send 123 0 >\nat 0.000001\nattempt\nat 0.000002\nattempt\ndrain 2\ndrain 3\ndrain 1\n",
+            "3 < hi >\n3 < ok >< ok >\nidle\ntried can0 0 lastbit can1 -\ntried can0 0 done can1 -\n2 < frame 123 0.000001  >< frame 123 0.000002  >\n3 < frame 123 0.000002  >\n",
+        ),
+        (
+            "1 good\n0 local crc can1\n",
+            "feed 1 < send 123 0 >\nattempt\nattempt\n",
+            "tried can0 0 destroyed - -\ntried can0 0 done can1 -\n",
+        ),
+        (
+            "",
+            "feed 1 < send 123 0 >\nattempt\n",
+            "tried can0 0 done can1 -\n",
+        ),
+    ];
+    for (script, rest, wanted) in table {
+        fs::write(&rt, SCRIPT, script.as_bytes())?;
+        let line = "canbusd bench can0,can1@followed.script";
+        carries_out(&rt, alloc, line, rest, wanted)?;
+    }
+    let frames = times(alloc, "< frame 123 0.000000  >", 32)?;
+    let received = joined(alloc, &["2 ", &frames, "\n"])?;
+    let lastbit = (
+        "tried can0 0 lastbit can1 -\n",
+        "tried can0 0 lastbit can1 can0\n",
+        received.as_str(),
+    );
+    goes_off(&rt, alloc, "lastbit", lastbit)?;
+    let destroyed = (
+        "tried can0 0 destroyed - -\n",
+        "tried can0 0 destroyed - can0\n",
+        "",
+    );
+    goes_off(&rt, alloc, "global bit", destroyed)?;
+    fs::remove_file(&rt, SCRIPT)?;
+    Ok(())
+}
+
+#[test]
+fn reports_faults_where_it_is_told_to(rt: HostRuntime) -> Result<(), Fail> {
+    let alloc = rt.alloc();
+    fs::write(&rt, "reported.script", b"0 global bit")?;
+    let asked =
+        "feed 1 < errmask 88 >< errdata 1 >< send 123 0 >\nfeed 2 < errmask 88 >< errdata 1 >\n";
+    let rest = joined(alloc, &[asked, "at 0.000001\nattempt\ndrain 1\ndrain 2\n"])?;
+    let answered = "1 < ok >< ok >\n2 < ok >< ok >\ntried can0 0 destroyed - -\n";
+    let sent = "1 < error 088 0.000001 0000810A00000000 >\n";
+    let heard = "2 < error 088 0.000001 0000040000000000 >\n";
+    let output = joined(alloc, &[answered, sent, heard])?;
+    let line = "canbusd bench --report can0,can1@reported.script";
+    carries_out(&rt, alloc, line, &rest, &output)?;
+    let line = "canbusd bench can0,can1@reported.script";
+    carries_out(&rt, alloc, line, &rest, answered)?;
+    fs::remove_file(&rt, "reported.script")?;
+    Ok(())
+}
+
+#[test]
+fn tells_faults_of_scripts(rt: HostRuntime) -> Result<(), Fail> {
+    let alloc = rt.alloc();
+    // The script, the words, and what is told of them.
+    let faulty = [
+        (
+            b"0 good\n5 local crc can1\n# 05\n05 good".as_slice(),
+            "canbusd bench --limit 0 can0,can1@faulty.script",
+            "canbusd: script line 4: repeated attempt\n  faulty.script:4: 05 good\n  line 2 has a verdict for this attempt\n",
+        ),
+        (
+            b"0 good\n5 local crc can1,can2\n",
+            "canbusd bench can0,can1@faulty.script",
+            "canbusd: script line 2: unknown interface\n  faulty.script:2: 5 local crc can1,can2\n  can2 is none of can0,can1\n",
+        ),
+        (
+            b"0 good\n5 local crc\n",
+            "canbusd bench can0,can1@faulty.script",
+            "canbusd: script line 2: bad line\n  faulty.script:2: 5 local crc\n  a line is NUMBER VERDICT, as 0 lastbit; see canbusd help bench\n",
+        ),
+        (
+            b"0 good\r\n",
+            "canbusd bench can0,can1@faulty.script",
+            "canbusd: script line 1: bad line\n  faulty.script:1: 0 good?\n  this line ends with CR and LF: lines end with LF alone\n",
+        ),
+        (
+            b"0 good\n1 g\xFFod\n",
+            "canbusd bench can0@faulty.script",
+            "canbusd: read fault\n  faulty.script:2: 1 g?od\n  this line is no UTF-8 text\n",
+        ),
+        (
+            b"0 good",
+            "canbusd bench --limit 0 can0@faulty.script",
+            "canbusd: bad bus\n  --limit 0: from 1 to 16777216\n",
+        ),
+    ];
+    for (script, line, errors) in faulty {
+        fs::write(&rt, "faulty.script", script)?;
+        let input = b"session 1\n".as_slice();
+        runs(&rt, alloc, line, input, ("", errors, 1))?;
+    }
+    fs::remove_file(&rt, "faulty.script")?;
+    Ok(())
+}
+
+#[test]
+fn tells_why_scripts_are_not_opened(rt: HostRuntime) -> Result<(), Fail> {
+    let alloc = rt.alloc();
+    let missing = [
+        (
+            "canbusd bench --limit 0 can0@none",
+            "canbusd: cannot open none\n  none: No such file or directory (os error 2)\n",
+        ),
+        (
+            "canbusd bench can0@",
+            "canbusd: cannot open \n  : No such file or directory (os error 2)\n",
+        ),
+        (
+            "canbusd bench can0@a@b",
+            "canbusd: cannot open a@b\n  a@b: No such file or directory (os error 2)\n",
+        ),
+        (
+            "canbusd bench can0@.",
+            "canbusd: read fault\n  .: Is a directory (os error 21)\n",
+        ),
+    ];
+    for (line, errors) in missing {
+        runs(&rt, alloc, line, b"".as_slice(), ("", errors, 1))?;
+    }
+    Ok(())
+}

@@ -1,0 +1,58 @@
+//! Streams and files that fail.
+use super::support::{Closed, Pieces, runs, words_of};
+use crate::faults::Fault;
+use crate::files::read_text;
+use crate::program::run_words;
+use std::test::Fail;
+
+#[test]
+fn tells_faults(rt: HostRuntime) -> Result<(), Fail> {
+    let alloc = rt.alloc();
+    let broken = Pieces {
+        rest: b"session 1\nsession",
+        size: 8,
+        is_broken: true,
+    };
+    let wanted = (
+        "1 < hi >\n",
+        "canbusd: read fault\n  standard input: timed out\n",
+        1,
+    );
+    runs(&rt, alloc, "canbusd bench can0", broken, wanted)?;
+    let words = words_of(alloc, "canbusd bench can0")?;
+    let mut errors = Vec::new(alloc);
+    let input = b"session 1\n".as_slice();
+    let status = run_words(&rt, alloc, &words, input, Closed, &mut errors);
+    let told = b"canbusd: write fault\n  standard output: broken pipe\n";
+    assert_eq!(rt; errors.as_slice(), told.as_slice());
+    assert_eq!(rt; status, 1);
+    Ok(())
+}
+
+#[test]
+fn reads_files_in_so_many_reads(rt: HostRuntime) -> Result<(), Fail> {
+    let alloc = rt.alloc();
+    // Three bytes take three reads, and one more finds the end. What is told where it does not.
+    for (most_reads, is_broken, told) in [
+        (4, false, ""),
+        (3, false, "  f.rec: it is not read in 3 reads\n"),
+        (9, true, "  f.rec: timed out\n"),
+    ] {
+        let mut file = Pieces {
+            rest: b"abc",
+            size: 1,
+            is_broken,
+        };
+        match read_text(alloc, "f.rec", &mut file, most_reads) {
+            Ok(text) => {
+                assert_eq!(rt; text.as_str(), "abc");
+                assert!(rt; told.is_empty());
+            }
+            Err(failure) => {
+                assert_eq!(rt; failure.fault, Fault::Read);
+                assert_eq!(rt; failure.notes.as_str(), told);
+            }
+        }
+    }
+    Ok(())
+}

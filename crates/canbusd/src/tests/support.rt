@@ -1,0 +1,157 @@
+//! A command line carried out over an input, and what it wrote.
+use crate::program::run_words;
+use std::alloc::Global;
+use std::io;
+use std::io::{ErrorKind, Read, Write};
+use std::process::Abort;
+use std::rt::Files;
+use std::test::Fail;
+
+/// What a command line ended with.
+#[derive(Drop)]
+pub struct Ended {
+    pub output: Vec<u8>,
+    pub errors: Vec<u8>,
+    pub status: u8,
+}
+
+impl Ended {
+    /// Whether what was written begins so, and nothing was written where nothing is wanted.
+    pub fn begins(&self, output: &str, errors: &str) -> bool {
+        self.output.starts_with(output.as_bytes())
+            && self.errors.starts_with(errors.as_bytes())
+            && self.output.is_empty() == output.is_empty()
+            && self.errors.is_empty() == errors.is_empty()
+    }
+}
+
+/// Runs the words of a line, parted by spaces.
+pub fn run<R: Read + Drop>(
+    rt: &impl Files,
+    alloc: Global,
+    line: &str,
+    input: R,
+) -> Result<Ended, Fail> {
+    let words = words_of(alloc, line)?;
+    let mut output = Vec::new(alloc);
+    let mut errors = Vec::new(alloc);
+    let status = run_words(rt, alloc, &words, input, &mut output, &mut errors);
+    Ok(Ended {
+        output,
+        errors,
+        status,
+    })
+}
+
+pub fn words_of(alloc: Global, line: &str) -> Result<Vec<String>, Fail> {
+    let mut words = Vec::new(alloc);
+    for word in line.split(' ') {
+        words.push(String::from_str(alloc, word)?)?;
+    }
+    Ok(words)
+}
+
+/// Runs the words of a line and compares what it ends with: the output, the errors and the status.
+pub fn runs<R: Read + Drop>(
+    rt: &(impl Abort + Files),
+    alloc: Global,
+    line: &str,
+    input: R,
+    wanted: (&str, &str, u8),
+) -> Result<(), Fail> {
+    let (output, errors, status) = wanted;
+    let ended = run(rt, alloc, line, input)?;
+    assert_eq!(rt; ended.output.as_slice(), output.as_bytes());
+    assert_eq!(rt; ended.errors.as_slice(), errors.as_bytes());
+    assert_eq!(rt; ended.status, status);
+    Ok(())
+}
+
+/// The pieces, one behind the other.
+pub fn joined(alloc: Global, pieces: &[&str]) -> Result<String, Fail> {
+    let mut text = String::new(alloc);
+    for piece in pieces {
+        text.push_str(piece)?;
+    }
+    Ok(text)
+}
+
+/// A text so many times.
+pub fn times(alloc: Global, text: &str, count: usize) -> Result<String, Fail> {
+    let mut all = String::new(alloc);
+    for _ in 0..count {
+        all.push_str(text)?;
+    }
+    Ok(all)
+}
+
+/// A reader of pieces of so many bytes, which fails at the end where it is broken.
+#[derive(Drop)]
+pub struct Pieces<'a> {
+    pub rest: &'a [u8],
+    pub size: usize,
+    pub is_broken: bool,
+}
+
+impl Read for Pieces<'_> {
+    fn read(&mut self, buf: &mut [u8]) -> io::Result<usize> {
+        if self.rest.is_empty() && self.is_broken {
+            return Err(io::Error::from(ErrorKind::TimedOut));
+        }
+        let size = self.size.min(self.rest.len()).min(buf.len());
+        buf[..size].copy_from_slice(&self.rest[..size]);
+        self.rest = &self.rest[size..];
+        Ok(size)
+    }
+}
+
+/// A writer that fails.
+#[derive(Drop)]
+pub struct Closed;
+
+impl Write for Closed {
+    fn write(&mut self, _buf: &[u8]) -> io::Result<usize> {
+        Err(io::Error::from(ErrorKind::BrokenPipe))
+    }
+
+    fn flush(&mut self) -> io::Result<()> {
+        Ok(())
+    }
+}
+
+pub const TWO_SESSIONS: &str =
+    "session 1\nsession 2\nfeed 1 < open can0 >< rawmode >\nfeed 2 < open can1 >< rawmode >\n";
+
+pub const TWO_STARTED: &str = "1 < hi >\n2 < hi >\n1 < ok >< ok >\n2 < ok >< ok >\n";
+
+/// Runs the words of a line over an input behind two sessions.
+pub fn carries_out(
+    rt: &(impl Abort + Files),
+    alloc: Global,
+    line: &str,
+    rest: &str,
+    wanted: &str,
+) -> Result<(), Fail> {
+    let input = joined(alloc, &[TWO_SESSIONS, rest])?;
+    let output = joined(alloc, &[TWO_STARTED, wanted])?;
+    runs_however_cut(rt, alloc, line, &input, (&output, "", 0))
+}
+
+/// As `runs`, over an input that comes a byte at a time, and over one that comes as a whole.
+pub fn runs_however_cut(
+    rt: &(impl Abort + Files),
+    alloc: Global,
+    line: &str,
+    input: &str,
+    wanted: (&str, &str, u8),
+) -> Result<(), Fail> {
+    for size in [1, 4096] {
+        let pieces = Pieces {
+            rest: input.as_bytes(),
+            size,
+            is_broken: false,
+        };
+        runs(rt, alloc, line, pieces, wanted)?;
+    }
+    Ok(())
+}
