@@ -12,6 +12,7 @@ pub mod bench_run;
 pub mod bus_port;
 mod commands;
 mod decimals;
+mod deliveries;
 mod dialog;
 pub mod laws;
 pub mod line_law;
@@ -21,8 +22,10 @@ mod output;
 mod places;
 pub mod port;
 pub mod session;
+mod spoken;
 pub mod stages;
 mod stand;
+mod starts;
 mod turns;
 mod window;
 
@@ -38,5 +41,7 @@ pub use stages::{Dialog, RawSocket, Stage};
 mod bench_tests;
 #[cfg(test)]
 mod line_tests;
+#[cfg(test)]
+mod test_streams;
 #[cfg(test)]
 mod tests;
