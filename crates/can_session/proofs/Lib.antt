@@ -11,3 +11,4 @@ pub mod Speaking
 pub mod Running
 pub mod Living
 pub mod Naming
+pub mod FirstPlaces

@@ -11,3 +11,4 @@ pub mod AttemptLines
 pub mod Benches
 pub mod Runs
 pub mod Lives
+pub mod Deliveries

@@ -46,11 +46,6 @@ abbrev pub voiced : Option Answer → List ℕ
 voiced None = []
 voiced (Some a) = reply_text a
 
--- the text, if there is one
-abbrev pub written : Option (List ℕ) → List ℕ
-written None = []
-written (Some text) = text
-
 -- an answer without a call
 abbrev pub tells : Answer → Dialog → Plan Dialog
 tells a d = Tell (reply_text a) d

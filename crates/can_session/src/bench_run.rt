@@ -6,6 +6,7 @@ ghost use Rattle.can_session.specs.Benches.{IsCarriedOut};
 ghost use Rattle.can_session.specs.Runs.{IsBench, IsRecordOf, at_start, Ends, EndsAt, fault_of};
 
 use crate::lines::{LineFault, Lines};
+use crate::output::put;
 use crate::stand::Stand;
 use can_bus::{BusConfig, Record};
 use can_fault::FaultSource;
@@ -128,9 +129,10 @@ fn go_on<F: FaultSource, R: Read + Drop, W: Write>(
         Ok(false) => return Err(BenchFault::BadLine(number)),
         Err(_) => return Err(BenchFault::NoMemory),
     }
-    match out.write_all(said) {
-        Ok(()) => Ok(true),
-        Err(_) => Err(BenchFault::Write),
+    if put(out, said) {
+        Ok(true)
+    } else {
+        Err(BenchFault::Write)
     }
 }
 

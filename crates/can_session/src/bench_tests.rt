@@ -1,11 +1,10 @@
 use crate::bench_run::{BenchConfig, BenchFault, bench};
+use crate::test_streams::{Closed, Pieces};
 use can_attempt::AckMode;
 use can_bus::BusConfig;
 use can_fault::Script;
 use can_frame::{IfaceSet, Names};
 use std::alloc::Global;
-use std::io;
-use std::io::{ErrorKind, Read, Write};
 use std::process::Abort;
 use std::test::Fail;
 
@@ -35,40 +34,6 @@ struct Ran {
     output: Vec<u8>,
     fault: Option<BenchFault>,
     entries: usize,
-}
-
-/// A reader of pieces of so many bytes, which fails at the end where it is broken.
-#[derive(Drop)]
-struct Pieces<'a> {
-    rest: &'a [u8],
-    size: usize,
-    is_broken: bool,
-}
-
-impl Read for Pieces<'_> {
-    fn read(&mut self, buf: &mut [u8]) -> io::Result<usize> {
-        if self.rest.is_empty() && self.is_broken {
-            return Err(io::Error::from(ErrorKind::TimedOut));
-        }
-        let size = self.size.min(self.rest.len()).min(buf.len());
-        buf[..size].copy_from_slice(&self.rest[..size]);
-        self.rest = &self.rest[size..];
-        Ok(size)
-    }
-}
-
-/// A writer that fails.
-#[derive(Drop)]
-struct Closed;
-
-impl Write for Closed {
-    fn write(&mut self, _buf: &[u8]) -> io::Result<usize> {
-        Err(io::Error::from(ErrorKind::BrokenPipe))
-    }
-
-    fn flush(&mut self) -> io::Result<()> {
-        Ok(())
-    }
 }
 
 fn config_of(alloc: Global, made: Made, script: &str) -> Result<BenchConfig<Script>, Fail> {

@@ -1,12 +1,12 @@
 ghost use Rattle.std.specs.Prelude.{◌≡◌, Bool, []};
 ghost use Rattle.can_session.specs.Plans.{Plays};
-ghost use Rattle.can_session.specs.Turns.{voiced, written, turn, ending, delivery};
+ghost use Rattle.can_session.specs.Turns.{voiced, turn, ending};
 
 use crate::commands::carry_out;
 use crate::port::Port;
 use crate::stages::{Dialog, Stage};
 use can_frame::Moment;
-use can_proto::{Answer, Cause, Command, Incoming, ItemText, item_text, refusal_text};
+use can_proto::{Answer, Cause, Command, Incoming};
 use std::alloc::Global;
 
 /// One item of the client's stream: what the client is told, if anything.
@@ -41,22 +41,4 @@ pub fn finish<P: Port>(dialog: &mut Dialog, port: &mut P)
         let _ = port.close(raw.socket);
     }
     dialog.stage = Stage::Ended;
-}
-
-/// One receive in raw mode, no call elsewhere: what the client is told, if anything, and whether it was an
-/// item.
-pub fn take_delivery<P: Port>(stage: Stage, port: &mut P) -> (Option<ItemText>, bool)
-    ensures { Plays P.step (delivery stage) port.old port.new (written result.0) result.1 }
-{
-    let Stage::Raw(raw) = stage else {
-        return (None, false);
-    };
-    match port.receive(raw.socket) {
-        Ok(Some(received)) => {
-            let text = item_text(received.item, received.moment, raw.errdata);
-            (Some(text), true)
-        }
-        Ok(None) => (None, false),
-        Err(refusal) => (Some(refusal_text(refusal.cause())), false),
-    }
 }

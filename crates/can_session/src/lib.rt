@@ -11,6 +11,7 @@ mod attempt_lines;
 pub mod bench_run;
 pub mod bus_port;
 mod commands;
+mod deliveries;
 mod dialog;
 pub mod laws;
 pub mod line_law;
@@ -20,8 +21,10 @@ mod output;
 mod places;
 pub mod port;
 pub mod session;
+mod spoken;
 pub mod stages;
 mod stand;
+mod starts;
 mod turns;
 mod window;
 
@@ -37,5 +40,7 @@ pub use stages::{Dialog, RawSocket, Stage};
 mod bench_tests;
 #[cfg(test)]
 mod line_tests;
+#[cfg(test)]
+mod test_streams;
 #[cfg(test)]
 mod tests;

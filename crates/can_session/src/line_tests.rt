@@ -1,27 +1,7 @@
+use crate::test_streams::Pieces;
 use crate::{LineFault, Lines, Order, read_order};
 use std::alloc::{AllocError, Global};
-use std::io;
-use std::io::{ErrorKind, Read};
-
-/// A reader of pieces of so many bytes, which fails at the end where it is broken.
-#[derive(Drop)]
-struct Pieces<'a> {
-    rest: &'a [u8],
-    size: usize,
-    is_broken: bool,
-}
-
-impl Read for Pieces<'_> {
-    fn read(&mut self, buf: &mut [u8]) -> io::Result<usize> {
-        if self.rest.is_empty() && self.is_broken {
-            return Err(io::Error::from(ErrorKind::TimedOut));
-        }
-        let size = self.size.min(self.rest.len()).min(buf.len());
-        buf[..size].copy_from_slice(&self.rest[..size]);
-        self.rest = &self.rest[size..];
-        Ok(size)
-    }
-}
+use std::io::Read;
 
 /// How many lines there are, at most 5,000, and the fault behind them.
 fn count_lines<R: Read + Drop>(

@@ -4,7 +4,8 @@ ghost use Rattle.can_session.specs.Plans.{Plays};
 ghost use Rattle.can_session.specs.Turns.{ending, delivery, greeting};
 ghost use Rattle.can_session.specs.Sessions.{IsNotRaw, Turns, Says, Cut, Wrote, Delivers, DeliveryCut};
 
-use crate::dialog::{finish, take_delivery, take_turn};
+use crate::deliveries::take_delivery;
+use crate::dialog::{finish, take_turn};
 use crate::output::{make_room, put, say};
 use crate::port::Port;
 use crate::stages::{Dialog, Stage};
@@ -184,14 +185,12 @@ impl Session {
         if let Stage::Ended = self.dialog.stage {
             return Err(SessionFault::Ended);
         }
-        let (text, more) = take_delivery(self.dialog.stage, port);
-        if let Some(text) = text {
-            if !put(out, text.as_bytes()) {
-                finish(&mut self.dialog, port);
-                return Err(SessionFault::Write);
-            }
+        let delivery = take_delivery(self.dialog.stage, port);
+        if !delivery.write(out) {
+            finish(&mut self.dialog, port);
+            return Err(SessionFault::Write);
         }
-        Ok(more)
+        Ok(delivery.is_item())
     }
 
     /// Ends the session: a raw socket is closed, and where the port refuses that, the session is over all

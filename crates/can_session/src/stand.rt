@@ -1,24 +1,22 @@
-ghost use Rattle.std.specs.Prelude.{◌≡◌, ◌≢◌, ◌++◌, ◌-◌, ◌<◌, [], ◌∷◌, ◌⊎◌, ◌↔◌, Some, None, Err, true, length, replicate, OnOk, IfOk, IfErr, MatchBool};
-ghost use Rattle.can_bus.specs.Journal.{IsConfig};
+ghost use Rattle.std.specs.Prelude.{◌≡◌, ◌≢◌, ◌-◌, ◌<◌, [], ◌⊎◌, ◌↔◌, Some, None, Err, true, OnOk, IfOk, IfErr, MatchBool};
 ghost use Rattle.can_bus.specs.Legal.{IsLegal};
 ghost use Rattle.can_session.specs.Runs.{IsBench, IsRecordOf, at_start};
-ghost use Rattle.std.specs.Fmt.{decimal};
 ghost use Rattle.can_fault.specs.Sources.{no_verdicts};
-ghost use Rattle.can_session.specs.AttemptLines.{attempt_line};
-ghost use Rattle.can_session.specs.Turns.{greeting};
 ghost use Rattle.can_session.specs.Orders.{Effect, order_of};
-ghost use Rattle.can_session.specs.Benches.{spoken, beginning, session_at, Speaks, IsFed, IsDrained, IsEnded, IsTried, Does, IsCarriedOut, IsRefused};
+ghost use Rattle.can_session.specs.Benches.{session_at, Speaks, IsFed, IsDrained, IsEnded, IsTried, Does, IsCarriedOut, IsRefused};
 
-use crate::attempt_lines::{put_attempt, put_number};
+use crate::attempt_lines::put_attempt;
 use crate::bench_run::BenchFault;
 use crate::bus_port::BusPort;
 use crate::orders::{Order, SessionNumber, read_order};
 use crate::session::Session;
-use crate::turns::{self, BenchBus, BenchPort, NoMemory};
-use can_bus::{BusConfig, BusFault, Record, Refusal, Tried};
+use crate::spoken::{begin_spoken, end_spoken};
+use crate::starts::{make_bus, no_sessions, the_start};
+use crate::turns::{self, BenchPort, NoMemory};
+use can_bus::{BusConfig, Record};
 use can_fault::FaultSource;
 use can_frame::{Moment, Names};
-use std::alloc::{AllocError, Global};
+use std::alloc::Global;
 use std::marker::Model;
 
 /// One bus with up to 64 sessions, at a moment.
@@ -29,8 +27,6 @@ pub struct Stand {
     capacity: u32,
     sessions: Vec<Option<Session>>,
     moment: Moment,
-    // What a session says in a line.
-    text: Vec<u8>,
 }
 
 impl Model for Stand {
@@ -70,7 +66,6 @@ impl Stand {
             capacity,
             sessions,
             moment: the_start(),
-            text: Vec::new(alloc),
         })
     }
 
@@ -124,19 +119,19 @@ impl Stand {
         requires { said.old.items ≡ [] }
         ensures { IfOk result (λ good. MatchBool good (Speaks (λ old. IsFed old.dialog.stage self.old.moment bytes.now old) session self.old said.new.items self.new) (session_at self.old session ≡ Some None)) }
     {
-        self.text.clear();
         match &mut self.sessions[place_of(session)] {
             None => Ok(false),
             Some(speaker) => {
+                let begun = begin_spoken(said, session)?;
                 turns::feed(
                     speaker,
                     self.alloc,
                     bytes,
                     self.moment,
                     &mut self.port,
-                    &mut self.text,
+                    said,
                 )?;
-                put_spoken(said, session, &self.text)?;
+                end_spoken(said, begun)?;
                 Ok(true)
             }
         }
@@ -147,12 +142,12 @@ impl Stand {
         requires { said.old.items ≡ [] }
         ensures { IfOk result (λ good. MatchBool good (Speaks IsDrained session self.old said.new.items self.new) (session_at self.old session ≡ Some None)) }
     {
-        self.text.clear();
         match &mut self.sessions[place_of(session)] {
             None => Ok(false),
             Some(speaker) => {
-                turns::drain(speaker, &mut self.port, &mut self.text)?;
-                put_spoken(said, session, &self.text)?;
+                let begun = begin_spoken(said, session)?;
+                turns::drain(speaker, &mut self.port, said)?;
+                end_spoken(said, begun)?;
                 Ok(true)
             }
         }
@@ -180,10 +175,8 @@ impl Stand {
         if self.sessions[place].is_some() {
             return Ok(false);
         }
-        self.text.clear();
-        let begun = begin(self.alloc, self.capacity, &mut self.text)?;
-        self.sessions[place] = Some(begun);
-        put_spoken(said, session, &self.text)?;
+        let speaker = turns::begin(self.alloc, self.capacity, session, said)?;
+        self.sessions[place] = Some(speaker);
         Ok(true)
     }
 
@@ -206,69 +199,9 @@ impl Stand {
     {
         let verdict = script.verdict(self.port.next_attempt());
         let outcome = self.port.attempt(self.moment, verdict);
-        put_line(said, self.port.names(), &outcome)?;
+        put_attempt(said, self.port.names(), &outcome)?;
         Ok(())
     }
-}
-
-/// A session at its start, and what it says.
-fn begin(alloc: Global, capacity: u32, text: &mut Vec<u8>) -> Result<Session, NoMemory>
-    requires { text.old.items ≡ [] }
-    ensures { IfOk result (λ s. (s ≡ beginning capacity) × (text.new.items ≡ greeting)) }
-{
-    let Ok(mut session) = Session::new(alloc, capacity) else {
-        return Err(NoMemory);
-    };
-    match session.greet(text) {
-        Ok(()) => Ok(session),
-        Err(_) => Err(NoMemory),
-    }
-}
-
-/// Adds the line of an attempt.
-fn put_line(
-    said: &mut Vec<u8>,
-    names: &Names,
-    outcome: &Result<Option<Tried>, Refusal>,
-) -> Result<(), NoMemory>
-    requires { said.old.items ≡ [] }
-    ensures { OnOk result (said.new.items ≡ attempt_line names.now outcome.now) }
-{
-    put_attempt(said, names, outcome).map_err(|_| NoMemory)
-}
-
-fn make_bus(alloc: Global, config: BusConfig) -> Result<BenchBus, BenchFault>
-    ensures made { IfOk result (λ b. b ≡ record { config = config; history = [] }) }
-    ensures proper { OnOk result (IsConfig config) }
-    ensures bad { (result ≡ Err BenchFault.BadConfig) ↔ (¬ IsConfig config) }
-    ensures faults { IfErr result (λ e. (e ≡ BenchFault.BadConfig) ⊎ (e ≡ BenchFault.NoMemory)) }
-{
-    match BenchBus::new(alloc, config) {
-        Ok(bus) => Ok(bus),
-        Err(BusFault::BadConfig) => Err(BenchFault::BadConfig),
-        Err(BusFault::NoMemory) => Err(BenchFault::NoMemory),
-    }
-}
-
-/// The moment at which a bench starts.
-fn the_start() -> Moment
-    ensures { result ≡ 0 }
-{
-    match Moment::new(0) {
-        Ok(moment) => moment,
-        Err(_) => unreachable!(),
-    }
-}
-
-/// Places for 64 sessions, none of them started.
-fn no_sessions(alloc: Global) -> Result<Vec<Option<Session>>, AllocError>
-    ensures { IfOk result (λ sessions. sessions.items ≡ replicate 64 None) }
-{
-    let mut sessions = Vec::with_capacity(alloc, 64)?;
-    for _ in 0..64_usize {
-        sessions.push(None)?;
-    }
-    Ok(sessions)
 }
 
 /// The place of a session.
@@ -277,24 +210,4 @@ fn place_of(session: SessionNumber) -> usize
     ensures within { result < 64 }
 {
     usize::from(session.number()) - 1
-}
-
-/// Adds what a session says in a line: its number, a space, the text and LF, or nothing at all.
-fn put_spoken(said: &mut Vec<u8>, session: SessionNumber, text: &[u8]) -> Result<(), NoMemory>
-    requires { said.old.items ≡ [] }
-    ensures { OnOk result (said.new.items ≡ spoken session text.now) }
-{
-    if text.is_empty() {
-        return Ok(());
-    }
-    put_words(said, session, text).map_err(|_| NoMemory)
-}
-
-fn put_words(said: &mut Vec<u8>, session: SessionNumber, text: &[u8]) -> Result<(), AllocError>
-    ensures { OnOk result (said.new.items ≡ said.old.items ++ decimal session ++ 32 ∷ text.now ++ 10 ∷ []) }
-{
-    put_number(said, u64::from(session.number()))?;
-    said.extend_from_slice(b" ")?;
-    said.extend_from_slice(text)?;
-    said.extend_from_slice(b"\n")
 }

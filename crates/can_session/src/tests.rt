@@ -1,3 +1,4 @@
+use crate::test_streams::Output;
 use crate::{BusPort, Port, PortRefusal, Session, SessionFault, Stage};
 use can_arbiter::ScanArbiter;
 use can_attempt::AckMode;
@@ -9,42 +10,6 @@ use can_filter::FilterSet;
 use can_frame::{CanId, Frame, Iface, IfaceSet, Item, Moment, Names};
 use can_queue::ListQueue;
 use std::alloc::Global;
-use std::io;
-use std::io::Write;
-
-/// A writer with room for so many bytes, that counts its calls.
-#[derive(Drop)]
-struct Output {
-    text: Vec<u8>,
-    room: usize,
-    writes: u32,
-}
-
-impl Output {
-    fn new(alloc: Global, room: usize) -> Output {
-        Output {
-            text: Vec::new(alloc),
-            room,
-            writes: 0,
-        }
-    }
-}
-
-impl Write for Output {
-    fn write(&mut self, buf: &[u8]) -> io::Result<usize> {
-        self.writes = self.writes.saturating_add(1);
-        let count = buf.len().min(self.room);
-        if self.text.extend_from_slice(&buf[..count]).is_err() {
-            return Ok(0);
-        }
-        self.room -= count;
-        Ok(count)
-    }
-
-    fn flush(&mut self) -> io::Result<()> {
-        Ok(())
-    }
-}
 
 /// A port that gives one item at each receive, and counts its calls.
 #[derive(Drop)]

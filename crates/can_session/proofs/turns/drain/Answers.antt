@@ -1,4 +1,4 @@
-use Rattle.std.proofs.Common.{suc, Bool, true, subst, ◌∙◌}
+use Rattle.std.proofs.Common.{◌++◌, ℕ, List, suc, Bool, true, refl, subst, ap, ◌∙◌, append_assoc}
 use Rattle.can_session.specs.Plans.{Plays}
 use Rattle.can_session.specs.Turns.{delivery}
 use Rattle.can_session.specs.Sessions.{SessionState}
@@ -11,6 +11,11 @@ loop-preserved c =
     let delivered = c.in-Ok-true.ensures.said in
     let one = delivered.0 in
     let played : Plays BusStep (delivery c.args.session.now.dialog.stage) c.loop.port c.deliver.new.port one.text true
-    = subst (λ (st : SessionState). Plays BusStep (delivery st.dialog.stage) c.loop.port c.deliver.new.port one.text true) inv.2
-    (subst (λ (more : Bool). Plays BusStep (delivery c.loop.session.dialog.stage) c.loop.port c.deliver.new.port one.text more) c.in-Ok-true.field-0-test one.plays) in
-    (suc inv.0, (c.loop.text.items, c.loop.port, one.text, inv.1, played, one.wrote.grows), delivered.1 ∙ inv.2)
+    = subst (λ (st : SessionState). Plays BusStep (delivery st.dialog.stage) c.loop.port c.deliver.new.port one.text true) inv.4
+    (subst (λ (more : Bool). Plays BusStep (delivery c.loop.session.dialog.stage) c.loop.port c.deliver.new.port one.text more) c.in-Ok-true.field-0-test one.plays) in (
+      suc inv.0,
+      inv.1 ++ one.text,
+      (inv.1, c.loop.port, one.text, inv.2, played, refl),
+      one.wrote.grows ∙ ap (λ (t : List ℕ). t ++ one.text) inv.3 ∙ append_assoc c.args.said.now.items inv.1 one.text,
+      delivered.1 ∙ inv.4,
+    )

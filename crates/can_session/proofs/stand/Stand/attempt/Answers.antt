@@ -1,4 +1,4 @@
-use Rattle.std.proofs.Common.{ℕ, List, ap, subst, ◌∙◌}
+use Rattle.std.proofs.Common.{ℕ, List, ◌++◌, ap, subst, ◌∙◌}
 use Rattle.can_fault.specs.declared.verdicts.Verdict.{Verdict}
 use Rattle.can_fault.specs.Sources.{verdict_in}
 use Rattle.can_bus.specs.declared.events.Event.TheVariants as event
@@ -16,11 +16,11 @@ returns-clause-tried g c =
     let after : BenchState = record old { bus = new } in
     let verdict = c.verdict-verdict.ensures.answer ∙ ap (λ (n : ℕ). verdict_in verdicts n) c.next_attempt.ensures in
     let names = c.names.ensures ∙ c.attempt-outcome.ensures.names in
-    subst (λ (b : BenchState). IsTried verdicts b c.put_line.new.said.items after) c.self.view_is
+    subst (λ (b : BenchState). IsTried verdicts b c.put_attempt.new.said.items after) c.self.view_is
     (record {
       outcome = c.attempt-outcome.result;
       journal = new.journal;
       answers = subst (λ (v : Verdict). Answers told_attempt stood.port.journal (event.Attempt stood.moment v) c.attempt-outcome.result new.journal) verdict c.attempt-outcome.ensures.answer;
-      text_is = c.in_ok-put_line.ensures ∙ ap (λ (ns : List (List ℕ)). attempt_line ns c.attempt-outcome.result) names;
+      text_is = c.in_ok-put_attempt.ensures ∙ ap (λ (said : List ℕ). said ++ attempt_line c.names.result.now c.attempt-outcome.result) c.requires ∙ ap (λ (ns : List (List ℕ)). attempt_line ns c.attempt-outcome.result) names;
       after_is = ap (λ (ns : List (List ℕ)). record old { bus = record { names = ns; journal = new.journal } }) c.attempt-outcome.ensures.names;
     })

@@ -1,0 +1,45 @@
+//! What a session says in a line: its number, a space, its words and LF, or nothing at all.
+ghost use Rattle.std.specs.Prelude.{◌≡◌, ◌++◌, ◌∷◌, ◌<◌, ◌≤◌, [], length, OnOk, IfOk};
+ghost use Rattle.std.specs.Fmt.{decimal};
+
+use crate::orders::SessionNumber;
+use std::alloc::AllocError;
+
+/// Puts the session's number and a space, and answers how long they are.
+pub fn begin_spoken(said: &mut Vec<u8>, session: SessionNumber) -> Result<usize, AllocError>
+    requires { said.old.items ≡ [] }
+    ensures text { OnOk result (said.new.items ≡ decimal session ++ 32 ∷ []) }
+    ensures len { IfOk result (λ n. n ≡ length said.new.items) }
+{
+    put_number(said, session.number())?;
+    said.push(b' ')?;
+    Ok(said.len())
+}
+
+/// Puts LF behind the words of a session, or takes all away where it said none. So many bytes stand before its words.
+pub fn end_spoken(said: &mut Vec<u8>, begun: usize) -> Result<(), AllocError>
+    ensures none { length said.old.items ≡ begun → said.new.items ≡ [] }
+    ensures some { OnOk result (begun < length said.old.items → said.new.items ≡ said.old.items ++ 10 ∷ []) }
+{
+    if said.len() == begun {
+        said.clear();
+        return Ok(());
+    }
+    said.push(b'\n')?;
+    Ok(())
+}
+
+/// Adds a number of one or two digits.
+#[tactic(auto, using(crate::proofs::Speaking::one_digit, crate::proofs::Speaking::two_digits))]
+fn put_number(said: &mut Vec<u8>, number: u8) -> Result<(), AllocError>
+    requires { number ≤ 99 }
+    ensures { OnOk result (said.new.items ≡ said.old.items ++ decimal number) }
+{
+    if number < 10 {
+        said.push(b'0' + number)?;
+        return Ok(());
+    }
+    said.push(b'0' + number / 10)?;
+    said.push(b'0' + number % 10)?;
+    Ok(())
+}

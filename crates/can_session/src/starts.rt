@@ -1,0 +1,45 @@
+//! What a bench begins with.
+ghost use Rattle.std.specs.Prelude.{◌≡◌, [], ◌⊎◌, ◌↔◌, None, Err, replicate, OnOk, IfOk, IfErr};
+ghost use Rattle.can_bus.specs.Journal.{IsConfig};
+
+use crate::bench_run::BenchFault;
+use crate::session::Session;
+use crate::turns::BenchBus;
+use can_bus::{BusConfig, BusFault};
+use can_frame::Moment;
+use std::alloc::{AllocError, Global};
+
+/// A bus without history.
+pub fn make_bus(alloc: Global, config: BusConfig) -> Result<BenchBus, BenchFault>
+    ensures made { IfOk result (λ b. b ≡ record { config = config; history = [] }) }
+    ensures proper { OnOk result (IsConfig config) }
+    ensures bad { (result ≡ Err BenchFault.BadConfig) ↔ (¬ IsConfig config) }
+    ensures faults { IfErr result (λ e. (e ≡ BenchFault.BadConfig) ⊎ (e ≡ BenchFault.NoMemory)) }
+{
+    match BenchBus::new(alloc, config) {
+        Ok(bus) => Ok(bus),
+        Err(BusFault::BadConfig) => Err(BenchFault::BadConfig),
+        Err(BusFault::NoMemory) => Err(BenchFault::NoMemory),
+    }
+}
+
+/// The moment at which a bench starts.
+pub fn the_start() -> Moment
+    ensures { result ≡ 0 }
+{
+    match Moment::new(0) {
+        Ok(moment) => moment,
+        Err(_) => unreachable!(),
+    }
+}
+
+/// Places for 64 sessions, none of them started.
+pub fn no_sessions(alloc: Global) -> Result<Vec<Option<Session>>, AllocError>
+    ensures { IfOk result (λ sessions. sessions.items ≡ replicate 64 None) }
+{
+    let mut sessions = Vec::with_capacity(alloc, 64)?;
+    for _ in 0..64_usize {
+        sessions.push(None)?;
+    }
+    Ok(sessions)
+}
