@@ -2,19 +2,11 @@ use Rattle.std.specs.Prelude.{ℕ, ◌+◌, Bool, true, false, if◌then◌else�
 use Rattle.std.specs.Fmt.{decimal}
 use Rattle.can_frame.specs.Sets.{is_in}
 use Rattle.can_frame.specs.declared.ifaces.IfaceSet.{IfaceSet}
-use Rattle.can_attempt.specs.declared.classes.Class.{Class}
-use Rattle.can_attempt.specs.declared.classes.Class.TheVariants.{Done, LastBit, Destroyed, NoAck}
+use Rattle.can_attempt.specs.Words.{class_word}
 use Rattle.can_bus.specs.declared.events.Refusal.{Refusal}
 use Rattle.can_bus.specs.declared.events.Tried.{Tried}
 
 -- What the bench puts out for an attempt (own choice).
-
--- the word for how an attempt ended
-abbrev pub class_word : Class → List ℕ
-class_word Done = codes "done"
-class_word LastBit = codes "lastbit"
-class_word Destroyed = codes "destroyed"
-class_word NoAck = codes "noack"
 
 -- the names of the interfaces of a set by rising number, where the first of these names is interface i's
 abbrev pub names_from : ℕ → List (List ℕ) → IfaceSet → List (List ℕ)

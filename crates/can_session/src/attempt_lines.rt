@@ -1,8 +1,7 @@
 ghost use Rattle.std.specs.Prelude.{◌≡◌, ◌++◌, OnOk, slice_get};
 ghost use Rattle.std.specs.Fmt.{decimal};
-ghost use Rattle.can_session.specs.AttemptLines.{class_word as word_of, set_text, name_text, member_text, whose_text, ending_text, tried_line, attempt_line};
+ghost use Rattle.can_session.specs.AttemptLines.{set_text, name_text, member_text, whose_text, ending_text, tried_line, attempt_line};
 
-use can_attempt::Class;
 use can_bus::{Refusal, Tried};
 use can_frame::{Iface, IfaceSet, Names};
 use itoa::Buffer;
@@ -44,7 +43,7 @@ fn put_ending(said: &mut Vec<u8>, names: &Names, tried: &Tried) -> Result<(), Al
     ensures { OnOk result (said.new.items ≡ said.old.items ++ ending_text names.now tried.now) }
 {
     said.extend_from_slice(b" ")?;
-    said.extend_from_slice(class_word(tried.class))?;
+    said.extend_from_slice(tried.class.word())?;
     said.extend_from_slice(b" ")?;
     put_set(said, names, tried.accepted)?;
     said.extend_from_slice(b" ")?;
@@ -101,15 +100,4 @@ fn put_member(
         said.extend_from_slice(b",")?;
     }
     put_name(said, names, iface)
-}
-
-fn class_word(class: Class) -> &'static [u8]
-    ensures { result.now ≡ word_of class }
-{
-    match class {
-        Class::Done => b"done",
-        Class::LastBit => b"lastbit",
-        Class::Destroyed => b"destroyed",
-        Class::NoAck => b"noack",
-    }
 }
