@@ -150,7 +150,7 @@ fn tells_lines_far_down(rt: HostRuntime) -> Result<(), Fail> {
     for count in [0, 1, 1023, 1024, 1025, 2048, 2049, 5000] {
         let remarks = times(alloc, "# seven\n", count)?;
         let input = joined(alloc, &[&remarks, "drain 64\n# seven\n"])?;
-        let line = count + 1;
+        let line = count.saturating_add(1);
         let errors = format!(in alloc;
             "canbusd: line {line}: bad line\n  standard input:{line}: drain 64\n  no line before it starts session 64\n"
         )?;
@@ -162,19 +162,10 @@ fn tells_lines_far_down(rt: HostRuntime) -> Result<(), Fail> {
 #[test]
 fn keeps_limits_of_lines(rt: HostRuntime) -> Result<(), Fail> {
     let alloc = rt.alloc();
-    // 72 bytes of a line are shown.
-    let shown = times(alloc, "#", 72)?;
-    let long = "..\n  a line has at most 4096 bytes\n";
-    let first = "canbusd: line 2: bad line\n  standard input:2: ";
-    let second = joined(alloc, &[first, &shown, long])?;
-    let first = "canbusd: line 3: bad line\n  standard input:3: ";
-    let third = joined(alloc, &[first, &shown, long])?;
     // What stands before and behind so many bytes, what is told then, the errors and the status.
     let table = [
         (("", "#", 4096, "\n"), ("", "", 0)),
         (("", "#", 4096, ""), ("", "", 0)),
-        (("", "#", 4096, "#"), ("", second.as_str(), 1)),
-        (("\n", "#", 4096, "#\n"), ("", third.as_str(), 1)),
         (
             ("feed 1 <rawmode", " ", 1017, ">"),
             ("1 < error wrong state >\n", "", 0),
@@ -192,6 +183,33 @@ fn keeps_limits_of_lines(rt: HostRuntime) -> Result<(), Fail> {
         answers(&rt, alloc, line, wanted)?;
     }
     Ok(())
+}
+
+#[test]
+fn tells_lines_that_are_too_long(rt: HostRuntime) -> Result<(), Fail> {
+    let alloc = rt.alloc();
+    // 72 bytes of a line are shown.
+    let shown = times(alloc, "#", 72)?;
+    let second = too_long(
+        alloc,
+        "canbusd: line 2: bad line\n  standard input:2: ",
+        &shown,
+    )?;
+    answers(&rt, alloc, ("", "#", 4096, "#"), ("", &second, 1))?;
+    let third = too_long(
+        alloc,
+        "canbusd: line 3: bad line\n  standard input:3: ",
+        &shown,
+    )?;
+    answers(&rt, alloc, ("\n", "#", 4096, "#\n"), ("", &third, 1))
+}
+
+/// What is told of a line of which so much is shown.
+fn too_long(alloc: Global, place: &str, shown: &str) -> Result<String, Fail> {
+    joined(
+        alloc,
+        &[place, shown, "..\n  a line has at most 4096 bytes\n"],
+    )
 }
 
 /// A line of session 1, and what is told then, the errors and the status.
