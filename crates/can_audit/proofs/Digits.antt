@@ -7,7 +7,9 @@ use Rattle.std.proofs.lemmas.Bool.{le-ltb, lt-leb}
 use native.Mathlib.Numerals.{unary_clauses}
 use Rattle.can_audit.specs.Words.{is_word}
 use Rattle.can_frame.specs.FrameText.{digits, digit_of}
-use Rattle.can_audit.specs.Numerals.{number_from, number_in, step, moment_in, digit_in}
+use Rattle.can_frame.specs.Numbers.{digit_in}
+use Rattle.can_frame.proofs.Numerals.{digit-again}
+use Rattle.can_audit.specs.Numerals.{number_from, number_in, step, moment_in}
 use Rattle.can_audit.specs.Spelling.{moment_word}
 
 number_from-append : (base n : ℕ) (xs ys : List ℕ) → number_from base n (xs ++ ys) ≡ option_and_then (λ m. number_from base m ys) (number_from base n xs)
@@ -18,29 +20,26 @@ number_from-append base n (x ∷ xs) ys = elim (step base n x) as (λ (o : Optio
   | Some m ↦ number_from-append base m xs ys
 ]
 
-digit_in-digit_of : (d : ℕ) → d < 16 → digit_in (digit_of d) ≡ Some d
-digit_in-digit_of d lt = grind arith
+step-digit : (base n d : ℕ) → base ≤ 16 → d < base → n * base + d < 2 ^ 64 → step base n (digit_of d) ≡ Some (n * base + d)
+step-digit base n d few small lt = rw (digit-again base d few small) (grind arith)
 
-step-digit : (base n d : ℕ) → d < 16 → n * base + d < 2 ^ 64 → step base n (digit_of d) ≡ Some (n * base + d)
-step-digit base n d small lt = rw (digit_in-digit_of d small) (grind arith)
-
-more-digit : (base n m d : ℕ) (ds : List ℕ) → d < 16 → n * base + d < 2 ^ 64 → number_from base m ds ≡ Some n → number_from base m (ds ++ digit_of d ∷ []) ≡ Some (n * base + d)
+more-digit : (base n m d : ℕ) (ds : List ℕ) → base ≤ 16 → d < base → n * base + d < 2 ^ 64 → number_from base m ds ≡ Some n → number_from base m (ds ++ digit_of d ∷ []) ≡ Some (n * base + d)
 unfolding number_from
-more-digit base n m d ds small lt h = number_from-append base m ds (digit_of d ∷ []) ∙ rw (h, step-digit base n d small lt) refl
+more-digit base n m d ds few small lt h = number_from-append base m ds (digit_of d ∷ []) ∙ rw (h, step-digit base n d few small lt) refl
 
-digit_in-low : (d : ℕ) → d < 10 → digit_in (48 + d) ≡ Some d
+digit_in-low : (d : ℕ) → d < 10 → digit_in 10 (48 + d) ≡ Some d
 digit_in-low d lt = grind arith
 
-step-low : (base n d : ℕ) → d < 10 → n * base + d < 2 ^ 64 → step base n (48 + d) ≡ Some (n * base + d)
-step-low base n d small lt = rw (digit_in-low d small) (grind arith)
+step-low : (n d : ℕ) → d < 10 → n * 10 + d < 2 ^ 64 → step 10 n (48 + d) ≡ Some (n * 10 + d)
+step-low n d small lt = rw (digit_in-low d small) (grind arith)
 
 one-low : (n : ℕ) → n < 10 → number_from 10 0 ((48 + n) ∷ []) ≡ Some n
 unfolding number_from
-one-low n lt = rw (step-low 10 0 n lt (omega arith)) (ap Some (omega arith))
+one-low n lt = rw (step-low 0 n lt (omega arith)) (ap Some (omega arith))
 
 more-low : (n : ℕ) (ds : List ℕ) → n < 2 ^ 64 → number_from 10 0 ds ≡ Some (n / 10) → number_from 10 0 (ds ++ (48 + n % 10) ∷ []) ≡ Some n
 unfolding number_from
-more-low n ds lt h = number_from-append 10 0 ds ((48 + n % 10) ∷ []) ∙ rw (h, step-low 10 (n / 10) (n % 10) (omega arith) (omega arith)) (ap Some (omega arith))
+more-low n ds lt h = number_from-append 10 0 ds ((48 + n % 10) ∷ []) ∙ rw (h, step-low (n / 10) (n % 10) (omega arith) (omega arith)) (ap Some (omega arith))
 
 pub number_again : (n : ℕ) → n < 2 ^ 64 → number_in 10 (decimal n) ≡ Some n
 number_again n lt = decimal_by_steps (λ m ds. m < 2 ^ 64 → number_from 10 0 ds ≡ Some m) (λ m small below. one-low m small) (λ m ds ten h below. more-low m ds below (h (omega (arith, below)))) n lt lt
@@ -74,14 +73,14 @@ unfolding number_from
 digits_again zero n lt fits = ap Some (omega (arith, lt))
 digits_again (suc k) n lt fits =
     let below : n < 16 ^ k * 16 = simp unary_clauses at lt in
-    more-digit 16 (n / 16) 0 (n % 16) (digits 16 k (n / 16)) (omega arith) (omega (arith, fits)) (digits_again k (n / 16) (omega (arith, below)) (omega (arith, fits))) ∙ ap Some (omega arith)
+    more-digit 16 (n / 16) 0 (n % 16) (digits 16 k (n / 16)) (omega arith) (omega arith) (omega (arith, fits)) (digits_again k (n / 16) (omega (arith, below)) (omega (arith, fits))) ∙ ap Some (omega arith)
 
 pub decimals_again : (k n : ℕ) → n < 10 ^ k → n < 2 ^ 64 → number_in 10 (digits 10 k n) ≡ Some n
 unfolding number_from
 decimals_again zero n lt fits = ap Some (omega (arith, lt))
 decimals_again (suc k) n lt fits =
     let below : n < 10 ^ k * 10 = simp unary_clauses at lt in
-    more-digit 10 (n / 10) 0 (n % 10) (digits 10 k (n / 10)) (omega arith) (omega (arith, fits)) (decimals_again k (n / 10) (omega (arith, below)) (omega (arith, fits))) ∙ ap Some (omega arith)
+    more-digit 10 (n / 10) 0 (n % 10) (digits 10 k (n / 10)) (omega arith) (omega arith) (omega (arith, fits)) (decimals_again k (n / 10) (omega (arith, below)) (omega (arith, fits))) ∙ ap Some (omega arith)
 
 moment_front : (a b : List ℕ) → length b ≡ 6 → take (length (a ++ 46 ∷ b) - 7) (a ++ 46 ∷ b) ≡ a
 moment_front a b h = take_at a (46 ∷ b) (length (a ++ 46 ∷ b) - 7) (omega (arith, length-append a (46 ∷ b), h))

@@ -1,15 +1,12 @@
-use Rattle.std.specs.Prelude.{ℕ, ◌+◌, ◌-◌, ◌*◌, ◌/◌, ◌%◌, ◌^◌, nat_le, nat_lt, ◌&&◌, ◌||◌, List, [], ◌∷◌, ◌++◌, length, take, drop, decimal, Option, Some, None, option_and_then, if◌then◌else◌}
+use Rattle.std.specs.Prelude.{ℕ, ◌+◌, ◌-◌, ◌*◌, ◌/◌, ◌%◌, ◌^◌, nat_le, nat_lt, ◌||◌, List, [], ◌∷◌, ◌++◌, length, take, drop, decimal, Option, Some, None, option_and_then, if◌then◌else◌}
+use Rattle.can_frame.specs.Numbers.{digit_in}
 
 -- Numbers and moments as they are read (own choice): what was read is written again and compared, so it may be read
 -- loosely.
 
--- what an upper-case digit stands for
-abbrev pub digit_in : ℕ → Option ℕ
-digit_in d = if nat_le 48 d && nat_le d 57 then Some (d - 48) else if nat_le 65 d && nat_le d 70 then Some (d - 55) else None
-
 -- one digit more; there is no number from 2 ^ 64 on
 abbrev pub step : ℕ → ℕ → ℕ → Option ℕ
-step base n d = option_and_then (λ v. if nat_le (2 ^ 64) (n * base + v) then None else Some (n * base + v)) (digit_in d)
+step base n d = option_and_then (λ v. if nat_le (2 ^ 64) (n * base + v) then None else Some (n * base + v)) (digit_in base d)
 
 -- the number of these digits, behind those that made n
 unfoldable pub number_from : ℕ → ℕ → List ℕ → Option ℕ

@@ -40,8 +40,3 @@ pub use queues::{candidates, projected, queued};
 pub use record_reading::{read_record, read_record_bytes};
 pub use record_writing::{record_text, write_record};
 pub use replies::{ReplayFault, replies_of};
-
-#[cfg(test)]
-mod tests;
-#[cfg(test)]
-mod text_tests;

@@ -1,24 +1,13 @@
-ghost use Rattle.std.specs.Prelude.{IfSome, ◌≡◌, ◌<◌, ◌^◌, length};
-ghost use Rattle.can_audit.specs.Numerals.{digit_in, step, number_in, moment_in};
+ghost use Rattle.std.specs.Prelude.{◌≡◌};
+ghost use Rattle.can_audit.specs.Numerals.{step, number_in, moment_in};
 
-use can_frame::Moment;
-
-fn digit(d: u8) -> Option<u8>
-    ensures value { result ≡ digit_in d }
-    ensures small { IfSome result (λ v. v < 16) }
-{
-    match d {
-        b'0'..=b'9' => Some(d - b'0'),
-        b'A'..=b'F' => Some(d - b'A' + 10),
-        _ => None,
-    }
-}
+use can_frame::{Moment, read_digit};
 
 /// A number with a digit more, where it has 64 bits.
 fn step(base: u64, n: u64, d: u8) -> Option<u64>
     ensures { result ≡ step base n d }
 {
-    let value = u64::from(digit(d)?);
+    let value = read_digit(d, base)?;
     n.checked_mul(base)?.checked_add(value)
 }
 
@@ -40,7 +29,7 @@ pub fn number(word: &[u8]) -> Option<u64>
     number_in(10, word)
 }
 
-/// A number in upper-case hexadecimal digits.
+/// A number in hexadecimal digits.
 pub fn hexadecimal(word: &[u8]) -> Option<u64>
     ensures { result ≡ number_in 16 word.now }
 {

@@ -31,6 +31,3 @@ pub use records::Record;
 pub use runs::{RunFault, answer, run};
 pub use spelled::is_spelled;
 pub use stats::{IfaceStats, SocketStats};
-
-#[cfg(test)]
-mod tests;

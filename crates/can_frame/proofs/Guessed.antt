@@ -8,7 +8,8 @@ use Rattle.can_frame.specs.Frames.Payload.{Data, Remote}
 use Rattle.can_frame.specs.declared.items.Item.{Item}
 use Rattle.can_frame.specs.declared.items.Item.TheVariants as item
 use Rattle.can_frame.specs.FrameText.{IsPayload, IsItem}
-use Rattle.can_frame.specs.FrameGuess.{bytes_in, number_in, stands_at, request_in, data_in, payload_in, frame_in, error_in, standard_in, long_in, short_item_in, long_item_in, item_in}
+use Rattle.can_frame.specs.Numbers.{number_in}
+use Rattle.can_frame.specs.FrameGuess.{bytes_in, stands_at, request_in, data_in, payload_in, frame_in, error_in, standard_in, long_in, short_item_in, long_item_in, item_in}
 
 -- What is guessed is an item that there is.
 
@@ -105,6 +106,6 @@ unfolding item_in short_item_in long_item_in
 item-good text i h = by_mark (stands_at 35 3 text) (stands_at 35 8 text) h
   where
     by_mark : (three eight : Bool) → cond three (short_item_in text) (cond eight (long_item_in text) None) ≡ Some i → IsItem i
-    by_mark true eight e = let found = then_some _ (number_in (take 3 text)) i e in standard-good found.0 (drop 4 text) i found.2
-    by_mark false true e = let found = then_some _ (number_in (take 8 text)) i e in long-good found.0 (drop 9 text) i found.2
+    by_mark true eight e = let found = then_some _ (number_in 16 3 (take 3 text)) i e in standard-good found.0 (drop 4 text) i found.2
+    by_mark false true e = let found = then_some _ (number_in 16 8 (take 8 text)) i e in long-good found.0 (drop 9 text) i found.2
     by_mark false false e = absurd cc

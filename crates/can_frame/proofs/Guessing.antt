@@ -1,6 +1,5 @@
 use Rattle.std.proofs.Common.{◌≡◌, inl, inr, ℕ, zero, suc, ◌+◌, ◌-◌, ◌*◌, ◌/◌, ◌%◌, ◌^◌, ◌<◌, ◌≤◌, Bool, true, false, eqb, ltb, leb, List, [], ◌∷◌, ◌++◌, length, Option, Some, None, refl, sym, ap, ◌∙◌, arith, append_assoc, length-append}
 use Rattle.std.specs.Option.{option_and_then}
-use Rattle.std.specs.Int.{w32, from_be_bytes}
 use Rattle.std.proofs.lemmas.List.{length_push}
 use Rattle.hex.specs.Hex.{IsBytes, encode_upper, upper_digits}
 use Rattle.hex.proofs.HexLemmas.{decode_sized-twice, decode_of-encode_upper, length-encode_with}
@@ -9,8 +8,10 @@ use Rattle.can_frame.specs.Frames.Payload.{Data, Remote}
 use Rattle.can_frame.specs.declared.items.Item.{Item}
 use Rattle.can_frame.specs.declared.items.Item.TheVariants as item
 use Rattle.can_frame.specs.FrameText.{digit_of, digits, pairs, id_text, payload_text, frame_spelling, AsksForNothing, IsPayload, IsItem, IsSpelling}
-use Rattle.can_frame.specs.FrameGuess.{bytes_in, padded, number_in, stands_at, request_in, data_in, payload_in, frame_in, error_in, standard_in, long_in, short_item_in, long_item_in, item_in}
+use Rattle.can_frame.specs.FrameGuess.{bytes_in, stands_at, request_in, data_in, payload_in, frame_in, error_in, standard_in, long_in, short_item_in, long_item_in, item_in}
+use Rattle.can_frame.specs.Numbers.{number_in}
 use Rattle.can_frame.proofs.Digits.{pairs-upper, request-text}
+use Rattle.can_frame.proofs.Numerals.{value-digits}
 
 -- What is spelled is guessed.
 
@@ -30,40 +31,12 @@ length-pairs : (bytes : List ℕ) → length (pairs bytes) ≡ 2 * length bytes
 length-pairs [] = refl
 length-pairs (b ∷ bs) = let again = length-pairs bs in omega (arith, again)
 
-cons : (x y : ℕ) (xs ys : List ℕ) → x ≡ y → xs ≡ ys → digit_of x ∷ xs ≡ digit_of y ∷ ys
-cons x y xs ys e es = ap (λ (z : ℕ). digit_of z ∷ xs) e ∙ ap (λ (zs : List ℕ). digit_of y ∷ zs) es
+-- a number's digits are its own
+number_again : (n : ℕ) → n < 2 ^ 32 → number_in 16 8 (digits 16 8 n) ≡ Some n
+number_again n h = value-digits 16 8 n (omega arith) (omega arith) (omega (arith, h))
 
--- a number's four bytes
-abbrev four : ℕ → List ℕ
-four n = n / 2 ^ 24 ∷ n / 2 ^ 16 % 256 ∷ n / 2 ^ 8 % 256 ∷ n % 256 ∷ []
-
-digits-four : (n : ℕ) → n < 2 ^ 32 → digits 16 8 n ≡ pairs (four n)
-digits-four n h =
-    cons _ _ _ _ (omega arith) (cons _ _ _ _ (omega arith) (cons _ _ _ _ (omega arith) (cons _ _ _ _ (omega arith)
-    (cons _ _ _ _ (omega arith) (cons _ _ _ _ (omega arith) (cons _ _ _ _ (omega arith) (cons _ _ _ _ (omega arith) refl)))))))
-
-IsBytes-four : (n : ℕ) → n < 2 ^ 32 → IsBytes (four n)
-IsBytes-four n h zero = omega arith
-IsBytes-four n h (suc zero) = omega arith
-IsBytes-four n h (suc (suc zero)) = omega arith
-IsBytes-four n h (suc (suc (suc zero))) = omega arith
-IsBytes-four n h (suc (suc (suc (suc k)))) = omega arith
-
-from-four : (n : ℕ) → n < 2 ^ 32 → from_be_bytes w32 (four n) ≡ n
-from-four n h = omega arith
-
-number_again : (n : ℕ) → n < 2 ^ 32 → number_in (digits 16 8 n) ≡ Some n
-unfolding number_in
-number_again n h = rw (digits-four n h) (rw (bytes_again 4 (four n) refl (IsBytes-four n h)) (ap Some (from-four n h)))
-
-digits-three : (n : ℕ) → n < 2 ^ 11 → padded (digits 16 3 n) ≡ digits 16 8 n
-digits-three n h =
-    cons 0 _ _ _ (omega arith) (cons 0 _ _ _ (omega arith) (cons 0 _ _ _ (omega arith) (cons 0 _ _ _ (omega arith)
-    (cons 0 _ _ _ (omega arith) (cons _ _ _ _ (omega arith) (cons _ _ _ _ (omega arith) (cons _ _ _ _ (omega arith) refl)))))))
-
-number_again-short : (n : ℕ) → n < 2 ^ 11 → number_in (digits 16 3 n) ≡ Some n
-unfolding number_in
-number_again-short n h = rw (digits-three n h) (number_again n (omega (arith, h)))
+number_again-short : (n : ℕ) → n < 2 ^ 11 → number_in 16 3 (digits 16 3 n) ≡ Some n
+number_again-short n h = value-digits 16 3 n (omega arith) (omega arith) (omega (arith, h))
 
 lt-true : (a b : ℕ) → a < b → ltb a b ≡ true
 lt-true a b h = grind arith
@@ -82,12 +55,12 @@ no-request : (v : ℕ) → v < 16 → eqb (digit_of v) 82 ≡ false
 no-request v h = grind arith
 
 -- three bytes before the mark
-at_three : (a b c : ℕ) (rest : List ℕ) → item_in (a ∷ b ∷ c ∷ 35 ∷ rest) ≡ option_and_then (λ n. standard_in n rest) (number_in (a ∷ b ∷ c ∷ []))
+at_three : (a b c : ℕ) (rest : List ℕ) → item_in (a ∷ b ∷ c ∷ 35 ∷ rest) ≡ option_and_then (λ n. standard_in n rest) (number_in 16 3 (a ∷ b ∷ c ∷ []))
 unfolding item_in short_item_in
 at_three a b c rest = rw (lt-true 3 (length (a ∷ b ∷ c ∷ 35 ∷ rest)) (omega arith)) refl
 
 -- eight bytes before it
-at_eight : (a b c d e f g h : ℕ) (rest : List ℕ) → eqb d 35 ≡ false → item_in (a ∷ b ∷ c ∷ d ∷ e ∷ f ∷ g ∷ h ∷ 35 ∷ rest) ≡ option_and_then (λ n. long_in n rest) (number_in (a ∷ b ∷ c ∷ d ∷ e ∷ f ∷ g ∷ h ∷ []))
+at_eight : (a b c d e f g h : ℕ) (rest : List ℕ) → eqb d 35 ≡ false → item_in (a ∷ b ∷ c ∷ d ∷ e ∷ f ∷ g ∷ h ∷ 35 ∷ rest) ≡ option_and_then (λ n. long_in n rest) (number_in 16 8 (a ∷ b ∷ c ∷ d ∷ e ∷ f ∷ g ∷ h ∷ []))
 unfolding item_in long_item_in
 at_eight a b c d e f g h rest k =
     let long = lt-true 8 (length (a ∷ b ∷ c ∷ d ∷ e ∷ f ∷ g ∷ h ∷ 35 ∷ rest)) (omega arith) in

@@ -1,8 +1,8 @@
-use Rattle.std.specs.Prelude.{ℕ, ◌-◌, ◌/◌, ◌^◌, ◌==◌, ◌&&◌, nat_lt, nat_le, Bool, true, false, if◌then◌else◌, List, ◌++◌, length, take, drop, replicate, slice_index, Option, Some, None}
+use Rattle.std.specs.Prelude.{ℕ, ◌-◌, ◌/◌, ◌^◌, ◌==◌, ◌&&◌, nat_lt, nat_le, Bool, true, false, if◌then◌else◌, List, length, take, drop, slice_index, Option, Some, None}
 use Rattle.std.specs.Result.{result_ok}
-use Rattle.std.specs.Int.{w32, from_be_bytes}
 use Rattle.std.specs.Option.{option_map, option_and_then}
 use Rattle.hex.specs.Hex.{decode_sized}
+use Rattle.can_frame.specs.Numbers.{number_in}
 use Rattle.can_frame.specs.Frames.{Identifier, Payload}
 use Rattle.can_frame.specs.Frames.Payload.{Data, Remote}
 use Rattle.can_frame.specs.declared.items.Item.{Item}
@@ -13,14 +13,6 @@ use Rattle.can_frame.specs.declared.items.Item.TheVariants as item
 -- the bytes of pairs of digits
 unfoldable pub bytes_in : ℕ → List ℕ → Option (List ℕ)
 bytes_in n text = result_ok (decode_sized text n)
-
--- at most 8 digits with zeros in front of them
-abbrev pub padded : List ℕ → List ℕ
-padded ds = replicate (8 - length ds) 48 ++ ds
-
--- the number of at most 8 digits
-unfoldable pub number_in : List ℕ → Option ℕ
-number_in ds = option_map (from_be_bytes w32) (bytes_in 4 (padded ds))
 
 -- a mark stands at a place
 abbrev pub stands_at : ℕ → ℕ → List ℕ → Bool
@@ -56,11 +48,11 @@ long_in n text = if nat_lt n (2 ^ 29) then frame_in (record { extended = true; n
 
 -- 3 digits, the mark, and the rest
 unfoldable pub short_item_in : List ℕ → Option Item
-short_item_in text = option_and_then (λ n. standard_in n (drop 4 text)) (number_in (take 3 text))
+short_item_in text = option_and_then (λ n. standard_in n (drop 4 text)) (number_in 16 3 (take 3 text))
 
 -- 8 digits, the mark, and the rest
 unfoldable pub long_item_in : List ℕ → Option Item
-long_item_in text = option_and_then (λ n. long_in n (drop 9 text)) (number_in (take 8 text))
+long_item_in text = option_and_then (λ n. long_in n (drop 9 text)) (number_in 16 8 (take 8 text))
 
 -- the `#` (35) stands behind 3 digits or behind 8
 unfoldable pub item_in : List ℕ → Option Item

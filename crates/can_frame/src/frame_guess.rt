@@ -1,7 +1,7 @@
 ghost use Rattle.std.specs.Prelude.{◌≡◌, ◌<◌, ◌≤◌, length, IsTrue, IfSome, Some};
 ghost use Rattle.std.specs.Option.{option_map};
 ghost use Rattle.can_frame.specs.Frames.Payload.{Data, Remote};
-ghost use Rattle.can_frame.specs.FrameGuess.{stands_at, padded, number_in, request_in, data_in, payload_in, frame_in, error_in, standard_in, long_in, short_item_in, long_item_in, item_in};
+ghost use Rattle.can_frame.specs.FrameGuess.{stands_at, request_in, data_in, payload_in, frame_in, error_in, standard_in, long_in, short_item_in, long_item_in, item_in};
 ghost use Rattle.can_frame.specs.FrameText.{IsItem, IsSpelling};
 ghost use Rattle.can_frame.specs.declared.items.Item.{Item as AnItem};
 
@@ -9,6 +9,7 @@ use crate::error_frames::ErrorFrame;
 use crate::frames::Frame;
 use crate::identifiers::CanId;
 use crate::items::Item;
+use crate::numbers::read_hexadecimal;
 use hex::decode_to_slice;
 
 /// The item that an upper-case text spells, if it spells one; the text may also be at fault, as where a
@@ -53,7 +54,7 @@ fn with_three(text: &[u8]) -> Option<Item>
     requires { 3 < length text.now }
     ensures { result ≡ short_item_in text.now }
 {
-    let number = number(&text[..3])?;
+    let number = read_hexadecimal(&text[..3], 3)?;
     standard(number, &text[4..])
 }
 
@@ -63,7 +64,7 @@ fn with_eight(text: &[u8]) -> Option<Item>
     requires { 8 < length text.now }
     ensures { result ≡ long_item_in text.now }
 {
-    let number = number(&text[..8])?;
+    let number = read_hexadecimal(&text[..8], 8)?;
     long(number, &text[9..])
 }
 
@@ -148,26 +149,4 @@ fn error(class: u32, text: &[u8]) -> Option<Item>
     decode_to_slice(text, &mut bytes[..]).ok()?;
     let error = ErrorFrame::new(class, bytes).ok()?;
     Some(Item::Error(error))
-}
-
-/// The number of at most 8 hexadecimal digits.
-#[tactic(auto, unfolding(crate::specs::FrameGuess::number_in, crate::specs::FrameGuess::bytes_in))]
-fn number(digits: &[u8]) -> Option<u32>
-    requires { length digits.now ≤ 8 }
-    ensures { result ≡ number_in digits.now }
-{
-    let all = padded(digits);
-    let mut bytes = [0; 4];
-    decode_to_slice(&all[..], &mut bytes[..]).ok()?;
-    Some(u32::from_be_bytes(bytes))
-}
-
-/// The digits with zeros in front of them.
-fn padded(digits: &[u8]) -> [u8; 8]
-    requires { length digits.now ≤ 8 }
-    ensures { result ≡ padded digits.now }
-{
-    let mut all = [b'0'; 8];
-    all[8 - digits.len()..].copy_from_slice(digits);
-    all
 }

@@ -37,7 +37,7 @@ pub use ifaces::{Iface, IfaceSet};
 pub use items::Item;
 pub use moments::{Moment, MomentTooLarge};
 pub use names::{Names, NamesError, is_name};
-pub use numbers::{read_decimal, read_hexadecimal};
+pub use numbers::{read_decimal, read_digit, read_hexadecimal};
 pub use texts::Text;
 
 #[cfg(test)]

@@ -33,13 +33,13 @@ fn read_number<const BASE: u64>(word: &[u8], most: usize) -> Option<u64>
     }
     let mut number = 0;
     for byte in word {
-        number = number * BASE + digit(*byte, BASE)?;
+        number = number * BASE + read_digit(*byte, BASE)?;
     }
     Some(number)
 }
 
-/// What a digit of a base stands for, in either case.
-fn digit(byte: u8, base: u64) -> Option<u64>
+/// What a digit of a base stands for, in either case; `None` of another byte. No digit is above 15.
+pub fn read_digit(byte: u8, base: u64) -> Option<u64>
     ensures value { result ≡ digit_in base byte }
     ensures below { IfSome result (λ v. v < base) }
 {

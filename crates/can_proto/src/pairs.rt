@@ -3,6 +3,8 @@ ghost use Rattle.can_proto.specs.Words.{is_blank, words_of};
 ghost use Rattle.can_frame.specs.Numbers.{hex_digit, number_in};
 ghost use Rattle.can_proto.specs.Pairs.{IsFirstByte};
 
+use can_frame::read_digit;
+
 /// What a byte that is no digit stands for.
 const NO_DIGIT: u8 = 16;
 
@@ -11,11 +13,9 @@ fn digit_or_16(byte: u8) -> u8
     ensures value { MatchOption (hex_digit byte) (result ≡ 16) (λ v. (result ≡ v) × (v < 16)) }
     ensures solid { result < 16 → is_blank byte ≡ false }
 {
-    match byte {
-        b'0'..=b'9' => byte - b'0',
-        b'A'..=b'F' => byte - b'A' + 10,
-        b'a'..=b'f' => byte - b'a' + 10,
-        _ => NO_DIGIT,
+    match read_digit(byte, 16) {
+        Some(value) => value as u8,
+        None => NO_DIGIT,
     }
 }
 

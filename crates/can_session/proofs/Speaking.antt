@@ -1,6 +1,5 @@
-use Rattle.std.proofs.Common.{◌≡◌, ℕ, ◌+◌, ◌-◌, ◌<◌, ◌≤◌, ◌/◌, ◌%◌, List, [], ◌∷◌, ◌++◌, length, Some, slice_get, slice_set, sym, ap, ◌∙◌, append_assoc, arith}
+use Rattle.std.proofs.Common.{◌≡◌, ℕ, ◌+◌, ◌-◌, ◌<◌, List, [], ◌∷◌, ◌++◌, length, Some, slice_get, slice_set, sym, ap, ◌∙◌, append_assoc, arith}
 use Rattle.std.specs.Fmt.{decimal}
-use Rattle.std.proofs.lemmas.Fmt.{decimal_digit, decimal_step}
 use Rattle.std.proofs.lemmas.List.{append-nil, length-append}
 use Rattle.can_session.specs.Sessions.{SessionState}
 use Rattle.can_session.specs.BusSteps.{NamedBus}
@@ -30,12 +29,3 @@ ends_spoken s n (b ∷ bs) begun said after front len is none some =
     let count : length said ≡ length begun + length (b ∷ bs) = ap length is ∙ length-append begun (b ∷ bs) in
     some (omega (arith, len, count))
     ∙ ap (λ (t : List ℕ). t ++ 10 ∷ []) (is ∙ ap (λ (t : List ℕ). t ++ (b ∷ bs)) front ∙ append_assoc (decimal s) (32 ∷ []) (b ∷ bs))
-
--- a number behind a text, in one digit or two
-pub one_digit : (n : ℕ) (text : List ℕ) → n < 10 → text ++ (48 + n) ∷ [] ≡ text ++ decimal n
-one_digit n text few = ap (λ (t : List ℕ). text ++ t) (sym (decimal_digit n few))
-
-pub two_digits : (n : ℕ) (text : List ℕ) → 10 ≤ n → n ≤ 99 → (text ++ (48 + n / 10) ∷ []) ++ (48 + n % 10) ∷ [] ≡ text ++ decimal n
-two_digits n text some few =
-    append_assoc text ((48 + n / 10) ∷ []) ((48 + n % 10) ∷ [])
-    ∙ ap (λ (t : List ℕ). text ++ t) (sym (decimal_step n some (omega arith) ∙ ap (λ (t : List ℕ). t ++ (48 + n % 10) ∷ []) (decimal_digit (n / 10) (omega arith))))

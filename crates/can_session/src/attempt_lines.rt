@@ -1,10 +1,9 @@
 ghost use Rattle.std.specs.Prelude.{◌≡◌, ◌++◌, OnOk, slice_get};
-ghost use Rattle.std.specs.Fmt.{decimal};
 ghost use Rattle.can_session.specs.AttemptLines.{set_text, name_text, member_text, whose_text, ending_text, tried_line, attempt_line};
 
+use crate::numbers::put_number;
 use can_bus::{Refusal, Tried};
 use can_frame::{Iface, IfaceSet, Names};
-use itoa::Buffer;
 use std::alloc::AllocError;
 
 /// Adds the line of an attempt.
@@ -48,14 +47,6 @@ fn put_ending(said: &mut Vec<u8>, names: &Names, tried: &Tried) -> Result<(), Al
     put_set(said, names, tried.accepted)?;
     said.extend_from_slice(b" ")?;
     put_set(said, names, tried.off)
-}
-
-/// Adds a number in decimal.
-pub fn put_number(said: &mut Vec<u8>, number: u64) -> Result<(), AllocError>
-    ensures { OnOk result (said.new.items ≡ said.old.items ++ decimal number) }
-{
-    let mut digits = Buffer::new();
-    said.extend_from_slice(digits.format(number).as_bytes())
 }
 
 fn put_name(said: &mut Vec<u8>, names: &Names, iface: Iface) -> Result<(), AllocError>

@@ -16,6 +16,7 @@ mod dialog;
 pub mod laws;
 pub mod line_law;
 pub mod lines;
+mod numbers;
 pub mod orders;
 mod output;
 mod places;
@@ -35,12 +36,3 @@ pub use orders::{Order, SessionNumber, read_order};
 pub use port::{Port, PortRefusal};
 pub use session::{Session, SessionFault};
 pub use stages::{Dialog, RawSocket, Stage};
-
-#[cfg(test)]
-mod bench_tests;
-#[cfg(test)]
-mod line_tests;
-#[cfg(test)]
-mod test_streams;
-#[cfg(test)]
-mod tests;

@@ -2,6 +2,7 @@
 ghost use Rattle.std.specs.Prelude.{◌≡◌, ◌++◌, ◌∷◌, ◌<◌, ◌≤◌, [], length, OnOk, IfOk};
 ghost use Rattle.std.specs.Fmt.{decimal};
 
+use crate::numbers::put_number;
 use crate::orders::SessionNumber;
 use std::alloc::AllocError;
 
@@ -11,7 +12,7 @@ pub fn begin_spoken(said: &mut Vec<u8>, session: SessionNumber) -> Result<usize,
     ensures text { OnOk result (said.new.items ≡ decimal session ++ 32 ∷ []) }
     ensures len { IfOk result (λ n. n ≡ length said.new.items) }
 {
-    put_number(said, session.number())?;
+    put_number(said, u64::from(session.number()))?;
     said.push(b' ')?;
     Ok(said.len())
 }
@@ -26,20 +27,5 @@ pub fn end_spoken(said: &mut Vec<u8>, begun: usize) -> Result<(), AllocError>
         return Ok(());
     }
     said.push(b'\n')?;
-    Ok(())
-}
-
-/// Adds a number of one or two digits.
-#[tactic(auto, using(crate::proofs::Speaking::one_digit, crate::proofs::Speaking::two_digits))]
-fn put_number(said: &mut Vec<u8>, number: u8) -> Result<(), AllocError>
-    requires { number ≤ 99 }
-    ensures { OnOk result (said.new.items ≡ said.old.items ++ decimal number) }
-{
-    if number < 10 {
-        said.push(b'0' + number)?;
-        return Ok(());
-    }
-    said.push(b'0' + number / 10)?;
-    said.push(b'0' + number % 10)?;
     Ok(())
 }

@@ -1,9 +1,9 @@
 // The bus and the slow answer, side by side.
 
 use super::*;
-use crate::{ReplayFault, replies_of};
 use can_arbiter::ScanArbiter;
 use can_attempt::Class;
+use can_audit::{ReplayFault, replies_of};
 use can_bus::{Bus, Closed, Pending, Received, Refusal, Reply, Tried, run};
 use can_frame::Item;
 use can_queue::ListQueue;

@@ -1,9 +1,9 @@
 // Whether records are legal histories.
 
 use super::*;
-use crate::{AuditFault, audit};
 use can_arbiter::ScanArbiter;
 use can_attempt::Class;
+use can_audit::{AuditFault, audit};
 use can_bus::{Bus, Closed, Entry, Pending, Received, Record, Reply, Tried, run};
 use can_frame::Item;
 use can_queue::ListQueue;

@@ -1,8 +1,8 @@
 // What reached a socket, of a record.
 
 use super::*;
-use crate::{candidates, projected, queued};
 use can_arbiter::ScanArbiter;
+use can_audit::{candidates, projected, queued};
 use can_bus::{Bus, Pending, Received, run};
 use can_fault::Verdict;
 use can_frame::Item;

@@ -1,5 +1,5 @@
-use crate::test_streams::Pieces;
-use crate::{LineFault, Lines, Order, read_order};
+use super::streams::Pieces;
+use can_session::{LineFault, Lines, Order, read_order};
 use std::alloc::{AllocError, Global};
 use std::io::Read;
 

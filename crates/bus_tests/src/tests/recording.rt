@@ -1,8 +1,8 @@
 // Records that are made of entries.
 
 use super::*;
-use crate::{Entry, Record, answer, is_spelled};
 use can_attempt::Class;
+use can_bus::{Entry, Record, answer, is_spelled};
 use can_frame::ErrorFrame;
 
 /// Adds an entry where there is room for it.

@@ -2,6 +2,7 @@ mod auditing;
 mod events;
 mod reaching;
 mod replying;
+mod texts;
 
 use can_attempt::AckMode;
 use can_bus::{BusConfig, Event, SocketId};

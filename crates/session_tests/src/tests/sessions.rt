@@ -1,5 +1,4 @@
-use crate::test_streams::Output;
-use crate::{BusPort, Port, PortRefusal, Session, SessionFault, Stage};
+use super::streams::Output;
 use can_arbiter::ScanArbiter;
 use can_attempt::AckMode;
 use can_bus::{
@@ -9,6 +8,7 @@ use can_fault::{GlobalKind, Verdict};
 use can_filter::FilterSet;
 use can_frame::{CanId, Frame, Iface, IfaceSet, Item, Moment, Names};
 use can_queue::ListQueue;
+use can_session::{BusPort, Port, PortRefusal, Session, SessionFault, Stage};
 use std::alloc::Global;
 
 /// A port that gives one item at each receive, and counts its calls.

@@ -1,9 +1,9 @@
-use crate::bench_run::{BenchConfig, BenchFault, bench};
-use crate::test_streams::{Closed, Pieces};
+use super::streams::{Closed, Pieces};
 use can_attempt::AckMode;
 use can_bus::BusConfig;
 use can_fault::Script;
 use can_frame::{IfaceSet, Names};
+use can_session::{BenchConfig, BenchFault, bench};
 use std::alloc::Global;
 use std::process::Abort;
 use std::test::Fail;

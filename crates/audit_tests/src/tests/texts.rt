@@ -1,9 +1,9 @@
 // Record texts, written and read.
 
-use crate::text_laws::read_back;
-use crate::{ReadFault, read_record, read_record_bytes, record_text, write_record};
 use can_arbiter::ScanArbiter;
 use can_attempt::AckMode;
+use can_audit::text_laws::read_back;
+use can_audit::{ReadFault, read_record, read_record_bytes, record_text, write_record};
 use can_bus::{Bus, BusConfig, Event, Pending, Received, Record, SocketId, run};
 use can_fault::Verdict;
 use can_frame::{CanId, Frame, Iface, IfaceSet, Moment};

@@ -1,0 +1,13 @@
+ghost use Rattle.std.specs.Prelude.{◌≡◌, ◌++◌, OnOk};
+ghost use Rattle.std.specs.Fmt.{decimal};
+
+use itoa::Buffer;
+use std::alloc::AllocError;
+
+/// Adds a number in decimal.
+pub fn put_number(said: &mut Vec<u8>, number: u64) -> Result<(), AllocError>
+    ensures { OnOk result (said.new.items ≡ said.old.items ++ decimal number) }
+{
+    let mut digits = Buffer::new();
+    said.extend_from_slice(digits.format(number).as_bytes())
+}

@@ -1,0 +1,4 @@
+mod bench;
+mod lines;
+mod sessions;
+mod streams;
