@@ -2,25 +2,14 @@
 //!
 //! `canbusd bench BUS` reads lines that open sessions, feed them commands and put frames on one bus, and
 //! writes what the sessions are told; `canbusd audit FILE` checks the record of such a run. `program` carries
-//! out a command line, whose words `options` reads; `bench_job` and `audit_job` are the two jobs, `files` reads
-//! what they need, and `notes` has what is told behind a fault's text. The bench itself is `can_session::bench`,
-//! the record's text and its audit are can_audit's: what they write and answer is proved there.
+//! out a command line and answers its status; the two jobs are can_jobs'.
 //!
 //! What is proved here: no command line, file or input makes a function fail or run on for ever.
 #![tactic(auto)]
 
-mod audit_job;
-mod bench_job;
-mod faults;
-mod files;
-mod notes;
-mod options;
 mod program;
-mod recent;
-mod shown;
-mod wrong_entries;
 
-use faults::{Failure, Fault};
+use can_jobs::{Failure, Fault};
 use program::{fail, run_words};
 use std::io::ErrorKind;
 use std::process::ExitCode;

@@ -1,10 +1,6 @@
 ghost use Rattle.std.specs.Prelude.{◌≡◌, ◌≤◌};
 
-use crate::audit_job::audit_file;
-use crate::bench_job::run_bench;
-use crate::faults::{Failure, Fault};
-use crate::files::{OUTPUT, write_failure};
-use crate::options::{Job, read_options};
+use can_jobs::{Failure, Fault, Job, OUTPUT, audit_file, read_options, run_bench, write_failure};
 use clap::error::ErrorKind;
 use std::alloc::Global;
 use std::io::{BufWriter, Read, Write};

@@ -1,4 +1,3 @@
 mod bench;
 mod lines;
 mod sessions;
-mod streams;

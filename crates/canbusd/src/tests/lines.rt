@@ -1,11 +1,12 @@
 //! Lines that are carried out, and the limits of lines and of the input.
 use super::support::{
-    Pieces, TWO_SESSIONS, TWO_STARTED, carries_out, joined, runs, runs_however_cut, times,
+    TWO_SESSIONS, TWO_STARTED, carries_out, joined, runs, runs_however_cut, times,
 };
 use std::alloc::Global;
 use std::process::Abort;
 use std::rt::Files;
 use std::test::Fail;
+use test_streams::Pieces;
 
 #[test]
 fn carries_out_lines(rt: HostRuntime) -> Result<(), Fail> {

@@ -1,9 +1,9 @@
 //! Streams and files that fail.
-use super::support::{Closed, Pieces, runs, words_of};
-use crate::faults::Fault;
-use crate::files::read_text;
+use super::support::{runs, words_of};
 use crate::program::run_words;
+use can_jobs::{Fault, read_text};
 use std::test::Fail;
+use test_streams::{Closed, Pieces};
 
 #[test]
 fn tells_faults(rt: HostRuntime) -> Result<(), Fail> {

@@ -1,11 +1,11 @@
 //! A command line carried out over an input, and what it wrote.
 use crate::program::run_words;
 use std::alloc::Global;
-use std::io;
-use std::io::{ErrorKind, Read, Write};
+use std::io::Read;
 use std::process::Abort;
 use std::rt::Files;
 use std::test::Fail;
+use test_streams::Pieces;
 
 /// What a command line ended with.
 #[derive(Drop)]
@@ -83,40 +83,6 @@ pub fn times(alloc: Global, text: &str, count: usize) -> Result<String, Fail> {
         all.push_str(text)?;
     }
     Ok(all)
-}
-
-/// A reader of pieces of so many bytes, which fails at the end where it is broken.
-#[derive(Drop)]
-pub struct Pieces<'a> {
-    pub rest: &'a [u8],
-    pub size: usize,
-    pub is_broken: bool,
-}
-
-impl Read for Pieces<'_> {
-    fn read(&mut self, buf: &mut [u8]) -> io::Result<usize> {
-        if self.rest.is_empty() && self.is_broken {
-            return Err(io::Error::from(ErrorKind::TimedOut));
-        }
-        let size = self.size.min(self.rest.len()).min(buf.len());
-        buf[..size].copy_from_slice(&self.rest[..size]);
-        self.rest = &self.rest[size..];
-        Ok(size)
-    }
-}
-
-/// A writer that fails.
-#[derive(Drop)]
-pub struct Closed;
-
-impl Write for Closed {
-    fn write(&mut self, _buf: &[u8]) -> io::Result<usize> {
-        Err(io::Error::from(ErrorKind::BrokenPipe))
-    }
-
-    fn flush(&mut self) -> io::Result<()> {
-        Ok(())
-    }
 }
 
 pub const TWO_SESSIONS: &str =

@@ -1,4 +1,3 @@
-use super::streams::{Closed, Pieces};
 use can_attempt::AckMode;
 use can_bus::BusConfig;
 use can_fault::Script;
@@ -7,6 +6,7 @@ use can_session::{BenchConfig, BenchFault, bench};
 use std::alloc::Global;
 use std::process::Abort;
 use std::test::Fail;
+use test_streams::{Closed, Pieces};
 
 /// A bench of a test: its names, who acknowledges, its script, and how many events it has.
 #[derive(Clone, Copy)]

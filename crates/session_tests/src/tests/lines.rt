@@ -1,7 +1,7 @@
-use super::streams::Pieces;
 use can_session::{LineFault, Lines, Order, read_order};
 use std::alloc::{AllocError, Global};
 use std::io::Read;
+use test_streams::Pieces;
 
 /// How many lines there are, at most 5,000, and the fault behind them.
 fn count_lines<R: Read + Drop>(

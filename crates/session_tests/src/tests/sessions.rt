@@ -1,4 +1,3 @@
-use super::streams::Output;
 use can_arbiter::ScanArbiter;
 use can_attempt::AckMode;
 use can_bus::{
@@ -10,6 +9,7 @@ use can_frame::{CanId, Frame, Iface, IfaceSet, Item, Moment, Names};
 use can_queue::ListQueue;
 use can_session::{BusPort, Port, PortRefusal, Session, SessionFault, Stage};
 use std::alloc::Global;
+use test_streams::Output;
 
 /// A port that gives one item at each receive, and counts its calls.
 #[derive(Drop)]

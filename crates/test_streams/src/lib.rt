@@ -1,4 +1,6 @@
-//! Readers and writers that fail, that give or take little at a time, or that count.
+//! Readers and writers for tests: they fail, they give or take little at a time, or they count.
+#![tactic(auto)]
+
 use std::alloc::Global;
 use std::io;
 use std::io::{ErrorKind, Read, Write};

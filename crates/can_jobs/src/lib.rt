@@ -1,0 +1,23 @@
+//! The jobs of the program: what the words of a command line ask for, carried out over files and streams.
+//!
+//! `read_options` reads the words; `run_bench` and `audit_file` are the two jobs, `files` reads what they need, and
+//! `notes` has what is told behind a fault's text. The bench itself is `can_session::bench`, the record's text and its
+//! audit are can_audit's: what they write and answer is proved there. What is proved here: no words, file or input
+//! make a function fail or run on for ever.
+#![tactic(auto)]
+
+mod audit_job;
+mod bench_job;
+pub mod faults;
+pub mod files;
+mod notes;
+pub mod options;
+mod recent;
+mod shown;
+mod wrong_entries;
+
+pub use audit_job::audit_file;
+pub use bench_job::run_bench;
+pub use faults::{Failure, Fault};
+pub use files::{OUTPUT, read_text, write_failure};
+pub use options::{BenchOptions, Job, read_options};
