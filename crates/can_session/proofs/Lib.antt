@@ -1,6 +1,7 @@
 pub mod Faulting
 pub mod Turning
 pub mod Room
+pub mod Counts
 pub mod Cuts
 pub mod HeldBytes
 pub mod Inputs
