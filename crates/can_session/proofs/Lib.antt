@@ -1,4 +1,5 @@
 pub mod Faulting
+pub mod FirstWords
 pub mod Turning
 pub mod Room
 pub mod Counts

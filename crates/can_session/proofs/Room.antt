@@ -1,5 +1,5 @@
 -- How many answers a piece can ask for.
-use Rattle.std.proofs.Common.{◌≡◌, ℕ, ◌+◌, ◌*◌, ◌<◌, ◌≤◌, List, [], ◌∷◌, ◌++◌, length, cond, refl, ap, arith, length-append}
+use Rattle.std.proofs.Common.{◌≡◌, ℕ, ◌+◌, ◌*◌, ◌≤◌, List, [], ◌∷◌, ◌++◌, length, cond, refl, ap, arith, length-append}
 use Rattle.std.proofs.lemmas.List.Sums.{sum_by-append, sum_by-cons}
 use Rattle.can_proto.specs.declared.messages.Incoming.{Incoming}
 use Rattle.can_proto.specs.Messages.{is_open_mark, run_of, given_by, messages_of, left_by, kept_of}
