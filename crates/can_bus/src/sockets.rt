@@ -12,12 +12,16 @@ use can_frame::Iface;
 use can_queue::BoundedQueue;
 use std::alloc::Global;
 
-/// The place of a socket.
+/// The place of a socket: that of its number, as long as none before it was closed.
 pub fn find<R: BoundedQueue<Received>>(sockets: &[Socket<R>], id: SocketId) -> Option<usize>
     ensures found { IfSome result (λ k. IsSomeAnd (slice_get sockets.now k) (λ v. v.number ≡ id.0)) }
     ensures within { IfSome result (λ k. k < length sockets.now) }
     ensures absent { IfNone result (list_any (λ v. v.number == id.0) sockets.now ≡ false) }
 {
+    let place = id.0 as usize;
+    if place < sockets.len() && sockets[place].number() == id.0 {
+        return Some(place);
+    }
     for (i, socket) in sockets.iter().enumerate() {
         if socket.number() == id.0 {
             return Some(i);

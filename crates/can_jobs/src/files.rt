@@ -3,6 +3,7 @@ use crate::notes::{reason_note, script_note};
 use crate::shown::{Line, Shown};
 use can_fault::{Script, ScriptError};
 use can_frame::Names;
+use can_session::count_of;
 use std::alloc::{AllocError, Global};
 use std::fs;
 use std::io::{Error, Read};
@@ -89,11 +90,7 @@ fn text_of<'a>(alloc: Global, path: &str, bytes: Vec<u8>) -> Result<String, Fail
 
 // The line where the bytes of a file are no UTF-8 text, behind so many that are.
 fn utf8_note(alloc: Global, path: &str, bytes: &[u8], valid: usize) -> Result<String, AllocError> {
-    let ends = bytes
-        .iter()
-        .take(valid)
-        .filter(|byte| **byte == b'\n')
-        .count();
+    let ends = count_of(&bytes[..valid.min(bytes.len())], b'\n');
     let text = bytes.split(|byte| *byte == b'\n').nth(ends).unwrap_or(b"");
     let line = Line::new(path, (ends as u64).saturating_add(1), text);
     format!(in alloc; "  {line}\n  this line is no UTF-8 text\n")

@@ -1,3 +1,4 @@
+use can_session::count_of;
 use std::alloc::Global;
 use std::io;
 use std::io::{Error, Read};
@@ -57,10 +58,7 @@ impl<R: Read + Drop> Recent<R> {
     // Lets all but the last 8,192 bytes go.
     fn forget(&mut self) {
         let gone = self.bytes.len().saturating_sub(KEPT);
-        let ends = self.bytes[..gone]
-            .iter()
-            .filter(|byte| **byte == b'\n')
-            .count();
+        let ends = count_of(&self.bytes[..gone], b'\n');
         self.lines_gone = self.lines_gone.saturating_add(ends as u64);
         self.bytes.copy_within(gone.., 0);
         self.bytes.truncate(KEPT);

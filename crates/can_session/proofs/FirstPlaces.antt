@@ -1,6 +1,6 @@
 -- The first place of a byte, as a search by blocks finds it.
-use Rattle.std.proofs.Common.{◌≡◌, ℕ, ◌<◌, true, false, List, length, get_or, slice_index, Option, Some, None, ap, arith, ◌==◌, cond}
-use Rattle.std.specs.List.{position, position_or_len}
+use Rattle.std.proofs.Common.{◌≡◌, ℕ, false, List, length, get_or, Option, Some, None, arith, ◌==◌}
+use Rattle.std.specs.List.{position}
 use Rattle.std.proofs.lemmas.List.Sums.{position_or_len_is}
 use Rattle.memchr.specs.Find.{IsFirstByte, Passes, is_byte}
 

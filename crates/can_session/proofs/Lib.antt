@@ -1,6 +1,8 @@
 pub mod Faulting
+pub mod FirstWords
 pub mod Turning
 pub mod Room
+pub mod Counts
 pub mod Cuts
 pub mod HeldBytes
 pub mod Inputs

@@ -1,6 +1,6 @@
 -- How many answers a piece can ask for.
-use Rattle.std.proofs.Common.{◌≡◌, ℕ, ◌+◌, ◌*◌, ◌<◌, ◌≤◌, List, [], ◌∷◌, ◌++◌, length, take, get_or, cond, refl, ap, arith, length-append}
-use Rattle.std.proofs.lemmas.List.Sums.{sum_by-append, sum_by-cons, sum_by_more}
+use Rattle.std.proofs.Common.{◌≡◌, ℕ, ◌+◌, ◌*◌, ◌≤◌, List, [], ◌∷◌, ◌++◌, length, cond, refl, ap, arith, length-append}
+use Rattle.std.proofs.lemmas.List.Sums.{sum_by-append, sum_by-cons}
 use Rattle.can_proto.specs.declared.messages.Incoming.{Incoming}
 use Rattle.can_proto.specs.Messages.{is_open_mark, run_of, given_by, messages_of, left_by, kept_of}
 use Rattle.can_session.specs.Sessions.{begun}
@@ -10,10 +10,6 @@ begun-append a b = sum_by-append (λ x. cond (is_open_mark x) 1 0) a b
 
 begun-cons : (b : ℕ) (bs : List ℕ) → begun (b ∷ bs) ≡ cond (is_open_mark b) 1 0 + begun bs
 begun-cons b bs = sum_by-cons (λ x. cond (is_open_mark x) 1 0) b bs
-
--- one byte more
-pub begun_more : (piece : List ℕ) (i : ℕ) → i < length piece → begun (take (i + 1) piece) ≡ begun (take i piece) + cond (is_open_mark (get_or piece i 0)) 1 0
-begun_more piece i inside = sum_by_more (λ x. cond (is_open_mark x) 1 0) piece i 0 inside
 
 one : (bytes : List ℕ) → length (given_by bytes) ≤ 1
 one bytes = grind arith

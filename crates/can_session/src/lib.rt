@@ -33,6 +33,7 @@ pub use bench_run::{BenchConfig, BenchFault, bench};
 pub use bus_port::BusPort;
 pub use lines::{LineFault, Lines};
 pub use orders::{Order, SessionNumber, read_order};
+pub use places::count_of;
 pub use port::{Port, PortRefusal};
 pub use session::{Session, SessionFault};
 pub use stages::{Dialog, RawSocket, Stage};

@@ -8,6 +8,10 @@ use std::alloc::AllocError;
 pub fn put_number(said: &mut Vec<u8>, number: u64) -> Result<(), AllocError>
     ensures { OnOk result (said.new.items ≡ said.old.items ++ decimal number) }
 {
+    if number < 10 {
+        said.push(b'0' + number as u8)?;
+        return Ok(());
+    }
     let mut digits = Buffer::new();
     said.extend_from_slice(digits.format(number).as_bytes())
 }

@@ -1,5 +1,5 @@
-ghost use Rattle.std.specs.Prelude.{◌≡◌, ◌≤◌, ◌<◌, ◌^◌, length, option_map, IfSome};
-ghost use Rattle.can_session.specs.Orders.{effect_of, order_of, asked_by, is_remark, session_number, session_of, moment_of, parted};
+ghost use Rattle.std.specs.Prelude.{◌≡◌, ◌≤◌, ◌<◌, ◌^◌, ◌∷◌, length, option_map, option_and_then, IfSome};
+ghost use Rattle.can_session.specs.Orders.{Effect, effect_of, order_of, asked_by, fed_by, is_remark, session_number, session_of, moment_of, parted};
 ghost use Rattle.can_proto.specs.Verbs.{is_word};
 
 use crate::places::place_of;
@@ -68,6 +68,15 @@ pub enum Order<'a> {
 pub fn read_order(line: &[u8]) -> Option<Order<'_>>
     ensures { option_map effect_of result ≡ order_of line.now }
 {
+    if let Some(rest) = after_feed(line) {
+        return read_feed(rest);
+    }
+    if let Some(rest) = after_at(line) {
+        return read_at(rest);
+    }
+    if let Some(rest) = after_drain(line) {
+        return read_drain(rest);
+    }
     if says_nothing(line) {
         return Some(Order::Nothing);
     }
@@ -83,19 +92,68 @@ fn read_asked<'a>(word: &[u8], rest: &'a [u8]) -> Option<Order<'a>>
     ensures { option_map effect_of result ≡ asked_by (word.now, rest.now) }
 {
     if matches(word, b"at") {
-        Some(Order::At(read_moment(rest)?))
+        read_at(rest)
     } else if matches(word, b"session") {
         Some(Order::Session(read_session(rest)?))
     } else if matches(word, b"feed") {
-        let (session, bytes) = split_at_first(rest, b' ')?;
-        Some(Order::Feed(read_session(session)?, bytes))
+        read_feed(rest)
     } else if matches(word, b"drain") {
-        Some(Order::Drain(read_session(rest)?))
+        read_drain(rest)
     } else if matches(word, b"end") {
         Some(Order::End(read_session(rest)?))
     } else {
         None
     }
+}
+
+// What follows the words that most lines begin with: these lines are not searched for a space.
+fn after_at(line: &[u8]) -> Option<&[u8]>
+    ensures { IfSome result (λ rest. line.now ≡ 97 ∷ 116 ∷ 32 ∷ rest.now) }
+{
+    match line {
+        [b'a', b't', b' ', rest @ ..] => Some(rest),
+        _ => None,
+    }
+}
+
+fn after_feed(line: &[u8]) -> Option<&[u8]>
+    ensures { IfSome result (λ rest. line.now ≡ 102 ∷ 101 ∷ 101 ∷ 100 ∷ 32 ∷ rest.now) }
+{
+    match line {
+        [b'f', b'e', b'e', b'd', b' ', rest @ ..] => Some(rest),
+        _ => None,
+    }
+}
+
+fn after_drain(line: &[u8]) -> Option<&[u8]>
+    ensures { IfSome result (λ rest. line.now ≡ 100 ∷ 114 ∷ 97 ∷ 105 ∷ 110 ∷ 32 ∷ rest.now) }
+{
+    match line {
+        [b'd', b'r', b'a', b'i', b'n', b' ', rest @ ..] => Some(rest),
+        _ => None,
+    }
+}
+
+// What the word `at` asks for, by what follows it.
+fn read_at(rest: &[u8]) -> Option<Order<'_>>
+    ensures { option_map effect_of result ≡ option_map Effect.Sets (moment_of rest.now) }
+{
+    Some(Order::At(read_moment(rest)?))
+}
+
+// The same of `feed`.
+fn read_feed(rest: &[u8]) -> Option<Order<'_>>
+    ensures { option_map effect_of result ≡ option_and_then fed_by (parted 32 rest.now) }
+{
+    let (session, bytes) = split_at_first(rest, b' ')?;
+    Some(Order::Feed(read_session(session)?, bytes))
+}
+
+// The same of `drain`.
+fn read_drain(rest: &[u8]) -> Option<Order<'_>>
+    ensures { option_map effect_of result ≡ option_map Effect.Drains (session_of rest.now) }
+{
+    Some(Order::Drain(read_session(rest)?))
 }
 
 fn says_nothing(line: &[u8]) -> bool

@@ -2,6 +2,7 @@ ghost use Rattle.std.specs.Prelude.{◌≡◌, ◌≢◌, ◌+◌, ◌*◌, ◌�
 ghost use Rattle.can_proto.specs.Spelling.{reply_text};
 ghost use Rattle.can_session.specs.Sessions.{begun, Wrote};
 
+use crate::places::count_of;
 use can_proto::{Answer, reply_text};
 use std::alloc::AllocError;
 use std::io::Write;
@@ -16,20 +17,10 @@ pub fn make_room(said: &mut Vec<u8>, piece: &[u8]) -> Result<(), AllocError>
     ensures room { OnOk result ((begun piece.now + 1) * 256 ≤ vec_capacity said.new) }
 {
     said.clear();
-    let room = count_begun(piece).saturating_add(1).saturating_mul(LONGEST);
+    let room = count_of(piece, b'<')
+        .saturating_add(1)
+        .saturating_mul(LONGEST);
     said.reserve(room)
-}
-
-/// How many messages a piece begins. No byte decides what is done, so that the compiler can count many at once.
-#[tactic(auto, using(crate::proofs::Room::begun_more))]
-fn count_begun(piece: &[u8]) -> usize
-    ensures { result ≡ begun piece.now }
-{
-    let mut count = 0;
-    for byte in piece {
-        count += usize::from(*byte == b'<');
-    }
-    count
 }
 
 /// Adds the text of an answer where there is room for it.
