@@ -1,5 +1,6 @@
-pub mod Places
-pub mod Seeing
-pub mod Same
+pub mod Calm
 pub mod Judged
+pub mod Places
+pub mod Same
+pub mod Seeing
 pub mod Standing

@@ -1,8 +1,10 @@
-ghost use Rattle.std.specs.Prelude.{◌≡◌, ◌<◌, ◌≤◌, ◌||◌, [], ◌∷◌, map, false, if◌then◌else◌};
+ghost use Rattle.std.specs.Prelude.{◌≡◌, ◌<◌, ◌≤◌, ◌||◌, [], ◌∷◌, map, false, if◌then◌else◌, All, IsTrue};
 ghost use Rattle.std.specs.List.{range_with_len};
-ghost use Rattle.can_confine.specs.Confinement.{all_stepped, is_off, state_of};
+ghost use Rattle.can_confine.specs.Confinement.{all_stepped, at_start, is_off, state_of};
 ghost use Rattle.can_attempt.specs.Attempts.{Transmission, accepted_in, attempt_between, class_when, counts_in, counts_at, is_always, is_global, is_last_bit, judged, set_of, unhurt, winner_step, receiver_step};
 ghost use Rattle.can_attempt.specs.declared.acks.AckMode.{AckMode};
+ghost use Rattle.can_attempt.specs.declared.classes.Class.TheVariants.{Done};
+ghost use Rattle.can_fault.specs.declared.verdicts.Verdict.TheVariants.{Good};
 
 use crate::acks::AckMode;
 use crate::classes::Class;
@@ -76,8 +78,20 @@ fn counters_after(
     }
 }
 
-/// All counters after an attempt of this class: those of interfaces that are not there stay.
-fn all_counters_after(
+/// Whether all counts are 0, as on a bus without faults. There is no branch for each interface.
+fn all_at_start(counters: &[Counters; 16]) -> bool
+    ensures { IsTrue result → All (λ c. c ≡ at_start) counters.now }
+{
+    let mut all = true;
+    for one in counters {
+        all &= *one == Counters::zero();
+    }
+    all
+}
+
+/// All counters after an attempt of this class, looked at one by one: those of interfaces that are not there
+/// stay.
+fn each_counters_after(
     nodes: &Nodes,
     winner: Iface,
     verdict: Verdict,
@@ -93,6 +107,37 @@ fn all_counters_after(
         counters[place as usize] = counters_after(nodes, winner, verdict, class, place);
     }
     counters
+}
+
+/// Whether an attempt of this class finds all counts 0, and leaves them so: the frame went over the bus
+/// without a fault.
+fn is_calm(nodes: &Nodes, verdict: Verdict, class: Class) -> bool
+    ensures class { IsTrue result → class ≡ Done }
+    ensures verdict { IsTrue result → verdict ≡ Good }
+    ensures counters { IsTrue result → All (λ c. c ≡ at_start) nodes.now.counters }
+{
+    matches!(class, Class::Done)
+        && matches!(verdict, Verdict::Good)
+        && all_at_start(&nodes.counters)
+}
+
+/// All counters after an attempt of this class: most often they are all 0, and stay so.
+fn all_counters_after(
+    nodes: &Nodes,
+    winner: Iface,
+    verdict: Verdict,
+    class: Class,
+) -> [Counters; 16]
+    requires count { nodes.now.count ≤ 16 }
+    requires winner { winner < nodes.now.count }
+    requires live { (counts_at nodes.now winner).tec < 256 }
+    ensures { (a : AckMode) → result ≡ map (counts_in class (attempt_between nodes.now winner verdict a)) (range_with_len 0 16) }
+{
+    if is_calm(nodes, verdict, class) {
+        nodes.counters
+    } else {
+        each_counters_after(nodes, winner, verdict, class)
+    }
 }
 
 /// The receivers that accept the frame in an attempt of this class, of those that got every bit right.

@@ -19,11 +19,23 @@ pub(crate) fn frame_of(class: u32, bytes: [u8; 8]) -> ErrorFrame
 
 /// The frame that tells of a change of an interface's counters: `None` where its state stays, a bus off
 /// frame where it went off, else a controller frame with both counts.
+#[inline]
 pub fn state_frame(old: Counters, new: Counters) -> Option<ErrorFrame>
     ensures { result ≡ state_message old new }
 {
     // Most often the counts stay, and equal counts are compared faster than their states.
-    if old == new || old.state() == new.state() {
+    if old == new {
+        return None;
+    }
+    frame_of_change(old, new)
+}
+
+/// `state_frame`, of counts that most often differ.
+#[inline(never)]
+fn frame_of_change(old: Counters, new: Counters) -> Option<ErrorFrame>
+    ensures { result ≡ state_message old new }
+{
+    if old.state() == new.state() {
         return None;
     }
     if new.state() == State::Off {

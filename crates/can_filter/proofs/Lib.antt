@@ -1,3 +1,4 @@
 pub mod Blocks
 pub mod Inverses
 pub mod Joins
+pub mod Widening

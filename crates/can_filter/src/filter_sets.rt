@@ -2,6 +2,7 @@ ghost use Rattle.std.specs.Prelude.{◌≡◌, ◌<◌, ◌≤◌, ◌↔◌, []
 ghost use Rattle.can_filter.specs.Filters.{receives_all, passes};
 
 use crate::filters::Filter;
+use crate::gates::gate_of;
 use crate::joining::{all_match, some_match};
 use std::alloc::{AllocError, Global};
 use std::marker::Model;
@@ -25,17 +26,19 @@ pub enum FilterError {
 #[derive(Debug, Drop)]
 pub struct FilterSet {
     filters: Vec<Filter>,
+    gate: Filter,
 }
 
 impl Model for FilterSet {
     ghost use Rattle.std.specs.Prelude.{◌≤◌, List, length};
     ghost use Rattle.can_filter.specs.Filters.{CanFilter};
+    ghost use Rattle.can_filter.specs.Gates.{IsGate};
 
     ghost Value = { List CanFilter };
 
     ghost view = { λ s. s.filters.items };
 
-    ghost invariant = { λ s. length s.filters.items ≤ 512 };
+    ghost invariant = { λ s. (length s.filters.items ≤ 512) × IsGate s.gate s.filters.items };
 }
 
 impl FilterSet {
@@ -45,7 +48,8 @@ impl FilterSet {
     {
         let mut filters = Vec::with_capacity(alloc, 1)?;
         filters.push_reserved(Filter::everything());
-        Ok(FilterSet { filters })
+        let gate = Filter::everything();
+        Ok(FilterSet { filters, gate })
     }
 
     /// No filters, so that no data frame passes. It takes no memory.
@@ -54,6 +58,7 @@ impl FilterSet {
     {
         FilterSet {
             filters: Vec::new(alloc),
+            gate: Filter::everything(),
         }
     }
 
@@ -65,8 +70,9 @@ impl FilterSet {
         if filters.len() > MAX_FILTERS {
             return Err(FilterError::TooManyFilters);
         }
+        let gate = gate_of(filters);
         match Vec::from_slice(alloc, filters) {
-            Ok(filters) => Ok(FilterSet { filters }),
+            Ok(filters) => Ok(FilterSet { filters, gate }),
             Err(_) => Err(FilterError::NoMemory),
         }
     }
@@ -84,18 +90,20 @@ impl FilterSet {
         ensures { IfOk result (λ set. set ≡ self.now) }
     {
         let filters = Vec::from_slice(alloc, &self.filters)?;
-        Ok(FilterSet { filters })
+        let gate = self.gate;
+        Ok(FilterSet { filters, gate })
     }
 
     /// Whether a data frame with this identifier word passes the filters, which are joined by AND where
-    /// `join` says so and else by OR. The time grows with the number of filters.
+    /// `join` says so and else by OR. The time grows with the number of filters, unless they all differ from
+    /// the word in the same bit.
     pub fn passes(&self, word: u32, join: bool) -> bool
         ensures { result ≡ passes self.now join word }
     {
         if join {
             !self.filters.is_empty() && all_match(&self.filters, word)
         } else {
-            some_match(&self.filters, word)
+            self.gate.agrees(word) && some_match(&self.filters, word)
         }
     }
 }

@@ -9,6 +9,7 @@ use crate::filters::Filter;
 const BLOCK: usize = 8;
 
 /// Whether some filter matches the word.
+#[inline(never)]
 pub fn some_match(filters: &[Filter], word: u32) -> bool
     ensures { result ≡ list_any (λ f. matches f word) filters.now }
 {
@@ -26,6 +27,7 @@ pub fn some_match(filters: &[Filter], word: u32) -> bool
 }
 
 /// Whether each filter matches the word.
+#[inline(never)]
 pub fn all_match(filters: &[Filter], word: u32) -> bool
     ensures { result ≡ list_all (λ f. matches f word) filters.now }
 {
