@@ -1,5 +1,5 @@
 -- Frame text as a word of a line.
-use Rattle.std.proofs.Common.{◌≡◌, inl, ℕ, ◌+◌, ◌^◌, ◌≤◌, true, false, cond, eqb, List, [], ◌∷◌, ◌++◌, Some, refl, arith}
+use Rattle.std.proofs.Common.{◌≡◌, inl, ℕ, ◌+◌, ◌^◌, ◌≤◌, true, false, cond, eqb, List, [], ◌∷◌, Some, refl, arith}
 use Rattle.std.specs.Prelude.{decimal}
 use Rattle.can_frame.specs.Frames.{Payload}
 use Rattle.can_frame.specs.Frames.Payload.{Data, Remote}
