@@ -4,13 +4,9 @@ ghost use Rattle.can_bus.specs.Legal.{IsLegal};
 ghost use Rattle.can_audit.specs.Audits.{Blames};
 
 use crate::same::same_reply;
-use can_arbiter::ScanArbiter;
-use can_bus::{Bus, BusConfig, BusFault, Entry, Pending, Received, Record, Refusal, Reply, answer};
-use can_queue::RingQueue;
+use can_bus::{BusConfig, Entry, Record, Refusal, Reply, RingBus, answer};
 use std::alloc::Global;
 use thiserror::Error;
-
-type RingBus = Bus<RingQueue<Pending>, RingQueue<Received>, ScanArbiter>;
 
 /// Why a record was not found to be legal.
 #[derive(Debug, Clone, Copy, PartialEq, Eq, Error)]
@@ -38,8 +34,7 @@ fn replay(alloc: Global, config: BusConfig, entries: &[Entry]) -> Result<(), Aud
     ensures wrong { IfErr result (Blames config entries.now) }
 {
     let limit = config.limit as usize;
-    let made: Result<RingBus, BusFault> = Bus::new(alloc, config);
-    let Ok(mut bus) = made else {
+    let Ok(mut bus) = RingBus::new(alloc, config) else {
         return Err(AuditFault::NoMemory);
     };
     for i in 0..entries.len() {

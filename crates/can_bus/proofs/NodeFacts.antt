@@ -1,4 +1,4 @@
-use Rattle.std.proofs.Common.{◌≡◌, ℕ, zero, suc, ◌+◌, ◌<◌, List, map, slice_index_or, ap, ◌∙◌, arith}
+use Rattle.std.proofs.Common.{◌≡◌, ℕ, zero, suc, ◌+◌, ◌<◌, List, map, slice_index_or, refl, ap, ◌∙◌, arith}
 use Rattle.std.specs.List.{range_with_len}
 use Rattle.can_confine.specs.Confinement.{ErrorCounts, at_start, state_of, is_off}
 use Rattle.can_attempt.specs.Attempts.{counts_at}
@@ -6,6 +6,7 @@ use Rattle.can_bus.specs.declared.events.BusConfig.{BusConfig}
 use Rattle.can_bus.specs.declared.events.Entry.{Entry}
 use Rattle.can_bus.specs.Counters.{counts_of, state_at}
 use Rattle.can_bus.specs.State.{kept_nodes}
+use Rattle.can_bus.specs.Stats.{all_counts}
 use Rattle.can_bus.specs.Changes.{is_off_at}
 
 index-map : {X : Type 0} (f : ℕ → X) (a n k : ℕ) (d : X) → k < n → slice_index_or (map f (range_with_len a n)) k d ≡ f (a + k)
@@ -24,3 +25,8 @@ counts_at-kept c past i below = at 16 below
 -- whether an interface is bus off
 pub is_off_at-kept : (c : BusConfig) (past : List Entry) (i : ℕ) → i < 16 → is_off_at (kept_nodes c past) i ≡ is_off (state_at c past i)
 is_off_at-kept c past i below = ap (λ (k : ErrorCounts). is_off (state_of k)) (counts_at-kept c past i below)
+
+-- the kept error counts of all places
+pub counters-kept : (c : BusConfig) (past : List Entry) → (kept_nodes c past).counters ≡ all_counts c past
+unfolding kept_nodes all_counts
+counters-kept c past = refl

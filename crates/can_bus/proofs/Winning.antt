@@ -1,4 +1,4 @@
-use Rattle.std.proofs.Common.{◌≡◌, ◌≢◌, ℕ, zero, suc, ◌+◌, ◌<◌, ◌≤◌, ◌==◌, nat_le, nat_lt, Bool, true, false, not, ◌&&◌, ◌||◌, List, [], ◌∷◌, length, map, filter, find, slice_get, slice_index_or, Option, Some, None, is_some, inl, inr, refl, sym, ap, ◌∙◌, subst, arith}
+use Rattle.std.proofs.Common.{◌≡◌, ◌≢◌, ℕ, zero, suc, ◌+◌, ◌<◌, ◌≤◌, ◌==◌, nat_le, nat_lt, Bool, true, false, not, ◌&&◌, ◌||◌, List, [], ◌∷◌, length, map, filter, find, slice_get, slice_index_or, Option, Some, None, IfSome, IsNone, is_some, inl, inr, refl, sym, ap, ◌∙◌, subst, arith}
 use Rattle.std.specs.List.{list_any, range_with_len}
 use Rattle.std.specs.Option.{option_map}
 use Rattle.std.proofs.lemmas.Bool.{cases_Bool, cond-true, cond-false, and_from, and_parts, and_left, lt-ltb, ltb-true, eqb-true, eq-eqb, or_left, or_right, or_cases, le-leb}
@@ -190,3 +190,8 @@ idle-is c past few idle =
         let none = idle i (Some 0) (omega (arith, long)) in
         let read = slice_get-read (kept_keys past) i (Some 0) (key_in (head_of past i)) at in
         sym read ∙ none
+
+-- what an arbiter answers of the kept keys is the history's winner
+pub answered-is : (c : BusConfig) (past : List Entry) → IsLegal c past → c.ifaces ≤ 16 → (w : Option ℕ) → IfSome w (IsWinner (kept_keys past)) → (IsNone w → IsIdle (kept_keys past)) → w ≡ winner c past
+answered-is c past legal few None first none = sym (idle-is c past few (none refl))
+answered-is c past legal few (Some w) first none = sym (winner-is c past legal few w first)

@@ -1,4 +1,5 @@
-use Rattle.std.specs.Prelude.{◌≡◌, ℕ, ◌+◌, ◌-◌, nat_lt, List, length, Option, Some, None, if◌then◌else◌}
+use Rattle.std.specs.Prelude.{◌≡◌, ℕ, ◌+◌, ◌-◌, nat_lt, List, length, map, Option, Some, None, if◌then◌else◌}
+use Rattle.std.specs.List.{range_with_len}
 use Rattle.can_confine.specs.Confinement.{ErrorCounts}
 use Rattle.can_bus.specs.declared.events.BusConfig.{BusConfig}
 use Rattle.can_bus.specs.declared.events.Entry.{Entry}
@@ -20,6 +21,10 @@ socket_stats_of c past s = if is_open past s then Some (record { queued = length
 -- of an interface that is there: the frames sent, done, waiting, lost and refused, and the error counts
 abbrev pub iface_stats_of : BusConfig → List Entry → ℕ → Option IfaceStats
 iface_stats_of c past i = if nat_lt i c.ifaces then Some (record { sent = length (sent_by past i); done = done_count past i; waiting = length (sent_by past i) - gone_count past i; lost = lost_count past i; refused = refused_count past i; counters = counts_of c past i }) else None
+
+-- the error counts of the places of all 16 interfaces
+unfoldable pub all_counts : BusConfig → List Entry → List ErrorCounts
+all_counts c past = map (counts_of c past) (range_with_len 0 16)
 
 -- the same, from what is kept
 abbrev pub told_line : ErrorCounts → LineState → IfaceStats

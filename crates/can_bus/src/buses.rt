@@ -1,8 +1,9 @@
 ghost use Rattle.std.specs.Prelude.{◌≡◌, ◌+◌, ◌<◌, ◌≤◌, ◌^◌, [], length, IfOk, OnOk, IsTrue, ◌↔◌};
 ghost use Rattle.can_bus.specs.Answer.{Answers, done_reply, told_attempt};
+ghost use Rattle.can_bus.specs.Attempts.{winner};
 ghost use Rattle.can_bus.specs.Journal.{IsConfig};
 ghost use Rattle.can_bus.specs.Legal.{IsLegal};
-ghost use Rattle.can_bus.specs.Stats.{socket_stats_of, iface_stats_of};
+ghost use Rattle.can_bus.specs.Stats.{socket_stats_of, iface_stats_of, all_counts};
 ghost use Rattle.can_bus.specs.Transmit.{tape};
 ghost use Rattle.can_bus.specs.declared.events.Event.TheVariants as event;
 ghost use Rattle.can_bus.specs.declared.events.Reply.TheVariants as reply;
@@ -17,13 +18,13 @@ use crate::replies::{
 use crate::socket::Socket;
 use crate::stats::{IfaceStats, SocketStats};
 use crate::{attempts, lines, sockets};
-use can_arbiter::Arbiter;
+use can_arbiter::{Arbiter, ScanArbiter};
 use can_attempt::Nodes;
 use can_confine::Counters;
 use can_fault::Verdict;
 use can_filter::FilterSet;
 use can_frame::{Frame, Iface, Moment};
-use can_queue::BoundedQueue;
+use can_queue::{BoundedQueue, ListQueue, RingQueue};
 use std::alloc::Global;
 use std::marker::Model;
 use thiserror::Error;
@@ -58,6 +59,12 @@ pub struct Bus<T: BoundedQueue<Pending>, R: BoundedQueue<Received>, A: Arbiter> 
     opened: u32,
     tried: u64,
 }
+
+/// The bus of the program: rings for its queues.
+pub type RingBus = Bus<RingQueue<Pending>, RingQueue<Received>, ScanArbiter>;
+
+/// The plainest bus, with lists for its queues.
+pub type ListBus = Bus<ListQueue<Pending>, ListQueue<Received>, ScanArbiter>;
 
 impl<T: BoundedQueue<Pending>, R: BoundedQueue<Received>, A: Arbiter> Model for Bus<T, R, A> {
     ghost use Rattle.std.specs.Prelude.{◌≤◌, vec_capacity};
@@ -303,5 +310,19 @@ impl<T: BoundedQueue<Pending>, R: BoundedQueue<Received>, A: Arbiter> Bus<T, R, 
         ensures { result ≡ iface_stats_of self.now.config self.now.history iface }
     {
         lines::stats_of(&self.lines, &self.nodes, iface)
+    }
+    /// The interface whose frame the next attempt tries: `None` where no live interface has one to send.
+    /// No event.
+    pub fn next_winner(&self) -> Option<Iface>
+        ensures { result ≡ winner self.now.config self.now.history }
+    {
+        self.arbiter.winner()
+    }
+
+    /// The error counters of all 16 places, by interface; where there is no interface they are 0. No event.
+    pub fn counters(&self) -> [Counters; 16]
+        ensures { result ≡ all_counts self.now.config self.now.history }
+    {
+        self.nodes.counters
     }
 }

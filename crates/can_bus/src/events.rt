@@ -1,4 +1,4 @@
-ghost use Rattle.std.specs.Prelude.{◌≡◌, ◌↔◌, IsTrue};
+ghost use Rattle.std.specs.Prelude.{◌≡◌, ◌↔◌, IsTrue, IfOk};
 ghost use Rattle.can_bus.specs.Journal.{IsConfig};
 ghost use Rattle.can_bus.specs.Posts.{tried_item};
 ghost use Rattle.can_bus.specs.Sockets.{with_option};
@@ -7,6 +7,7 @@ use can_attempt::{AckMode, Class};
 use can_fault::Verdict;
 use can_filter::{FilterSet, Options};
 use can_frame::{Frame, Iface, IfaceSet, Item, Moment};
+use std::alloc::{AllocError, Global};
 use thiserror::Error;
 
 /// What a bus is made with.
@@ -104,6 +105,24 @@ pub enum Event {
     Attempt(Moment, Verdict),
     /// Restart an interface that is bus off, at a moment.
     Restart(Iface, Moment),
+}
+
+impl Event {
+    /// Another event that asks for the same. Only a set of filters takes memory, and time by its length.
+    pub fn try_copy(&self, alloc: Global) -> Result<Event, AllocError>
+        ensures { IfOk result (λ event. event ≡ self.now) }
+    {
+        Ok(match self {
+            Event::Open(iface, capacity) => Event::Open(*iface, *capacity),
+            Event::Close(id) => Event::Close(*id),
+            Event::SetFilters(id, filters) => Event::SetFilters(*id, filters.try_copy(alloc)?),
+            Event::SetOption(id, option) => Event::SetOption(*id, *option),
+            Event::Send(id, frame) => Event::Send(*id, *frame),
+            Event::Receive(id) => Event::Receive(*id),
+            Event::Attempt(moment, verdict) => Event::Attempt(*moment, *verdict),
+            Event::Restart(iface, moment) => Event::Restart(*iface, *moment),
+        })
+    }
 }
 
 /// Why a call was refused.

@@ -22,7 +22,7 @@ mod sockets;
 pub mod spelled;
 pub mod stats;
 
-pub use buses::{Bus, BusFault};
+pub use buses::{Bus, BusFault, ListBus, RingBus};
 pub use events::{
     BusConfig, Closed, Entry, Event, Opt, Pending, Received, Refusal, Reply, SocketId, Tried,
 };

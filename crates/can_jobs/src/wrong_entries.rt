@@ -1,13 +1,9 @@
 use crate::shown::{Line, Shown};
-use can_arbiter::ScanArbiter;
 use can_audit::write_record;
-use can_bus::{Bus, BusConfig, BusFault, Pending, Received, Record, answer};
-use can_queue::RingQueue;
+use can_bus::{BusConfig, Record, RingBus, answer};
 use std::alloc::{AllocError, Global};
 use std::io;
 use std::io::{ErrorKind, Write};
-
-type RingBus = Bus<RingQueue<Pending>, RingQueue<Received>, ScanArbiter>;
 
 /// How many lines of a record's text stand before those of its entries.
 const HEAD: usize = 2;
@@ -39,8 +35,7 @@ fn legal_line(alloc: Global, record: &Record, entry: usize) -> Result<Vec<u8>, A
         limit: count.min(config.limit),
         ..config
     };
-    let made: Result<RingBus, BusFault> = Bus::new(alloc, config);
-    let Ok(mut bus) = made else {
+    let Ok(mut bus) = RingBus::new(alloc, config) else {
         return Err(AllocError);
     };
     for past in record.entries().iter().take(entry.saturating_add(1)) {

@@ -1,15 +1,11 @@
 use crate::{LogFault, write_tape};
-use can_arbiter::ScanArbiter;
 use can_attempt::AckMode;
-use can_bus::{Bus, BusConfig, Pending, Received, SocketId};
+use can_bus::{BusConfig, ListBus, SocketId};
 use can_fault::{GlobalKind, Verdict};
 use can_frame::{CanId, Frame, Iface, IfaceSet, Moment, Names};
-use can_queue::ListQueue;
 use std::alloc::AllocGlobal;
 use std::process::Abort;
 use std::test::Fail;
-
-type ListBus = Bus<ListQueue<Pending>, ListQueue<Received>, ScanArbiter>;
 
 const LINE: &[u8] = b"(0000000000.000005) can0 00000123#R3\n";
 
@@ -26,7 +22,7 @@ fn bus(rt: &impl AllocGlobal, ifaces: u8, ack: AckMode) -> Result<ListBus, Fail>
         tx_capacity: 10,
         limit: 1000,
     };
-    let mut bus: ListBus = Bus::new(rt.alloc(), config)?;
+    let mut bus = ListBus::new(rt.alloc(), config)?;
     for number in 0..ifaces {
         let iface = Iface::new(number).ok_or("no interface")?;
         let _ = bus.open(rt.alloc(), iface, 10)?;

@@ -4,19 +4,18 @@ ghost use Rattle.can_bus.specs.Journal.{IsConfig};
 
 use crate::bench_run::BenchFault;
 use crate::session::Session;
-use crate::turns::BenchBus;
-use can_bus::{BusConfig, BusFault};
+use can_bus::{BusConfig, BusFault, RingBus};
 use can_frame::Moment;
 use std::alloc::{AllocError, Global};
 
 /// A bus without history.
-pub fn make_bus(alloc: Global, config: BusConfig) -> Result<BenchBus, BenchFault>
+pub fn make_bus(alloc: Global, config: BusConfig) -> Result<RingBus, BenchFault>
     ensures made { IfOk result (λ b. b ≡ record { config = config; history = [] }) }
     ensures proper { OnOk result (IsConfig config) }
     ensures bad { (result ≡ Err BenchFault.BadConfig) ↔ (¬ IsConfig config) }
     ensures faults { IfErr result (λ e. (e ≡ BenchFault.BadConfig) ⊎ (e ≡ BenchFault.NoMemory)) }
 {
-    match BenchBus::new(alloc, config) {
+    match RingBus::new(alloc, config) {
         Ok(bus) => Ok(bus),
         Err(BusFault::BadConfig) => Err(BenchFault::BadConfig),
         Err(BusFault::NoMemory) => Err(BenchFault::NoMemory),

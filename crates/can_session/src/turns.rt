@@ -7,15 +7,12 @@ use crate::orders::SessionNumber;
 use crate::session::{Session, SessionFault};
 use crate::spoken::{begin_spoken, end_spoken};
 use can_arbiter::ScanArbiter;
-use can_bus::{Bus, Pending, Received};
+use can_bus::{Pending, Received};
 use can_frame::Moment;
 use can_queue::RingQueue;
 use std::alloc::{AllocError, Global};
 
-/// The bus of a bench.
-pub type BenchBus = Bus<RingQueue<Pending>, RingQueue<Received>, ScanArbiter>;
-
-/// The same with its names.
+/// The bus of a bench, with its names.
 pub type BenchPort = BusPort<RingQueue<Pending>, RingQueue<Received>, ScanArbiter>;
 
 /// Memory was refused.

@@ -1,16 +1,12 @@
 // Whether records are legal histories.
 
 use super::*;
-use can_arbiter::ScanArbiter;
 use can_attempt::Class;
 use can_audit::{AuditFault, audit};
-use can_bus::{Bus, Closed, Entry, Pending, Received, Record, Reply, Tried, run};
+use can_bus::{Closed, Entry, ListBus, Received, Record, Reply, Tried, run};
 use can_frame::Item;
-use can_queue::ListQueue;
 use std::alloc::AllocGlobal;
 use std::process::Abort;
-
-type ListBus = Bus<ListQueue<Pending>, ListQueue<Received>, ScanArbiter>;
 
 /// A bus of two interfaces, without reports of faults.
 fn made_for(limit: u32) -> BusConfig {
@@ -118,7 +114,7 @@ fn the_first_wrong_entry_is_found(rt: HostRuntime) -> Result<(), Fail> {
 
 /// The record of a bus that carried out these events.
 fn carried_out(rt: &impl AllocGlobal, events: &[Event]) -> Result<Record, Fail> {
-    let mut bus: ListBus = Bus::new(rt.alloc(), config(3, 16_000))?;
+    let mut bus = ListBus::new(rt.alloc(), config(3, 16_000))?;
     let _ = run(&mut bus, rt.alloc(), events)?;
     Ok(bus.into_record())
 }

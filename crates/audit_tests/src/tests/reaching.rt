@@ -1,16 +1,12 @@
 // What reached a socket, of a record.
 
 use super::*;
-use can_arbiter::ScanArbiter;
 use can_audit::{candidates, projected, queued};
-use can_bus::{Bus, Pending, Received, run};
+use can_bus::{Bus, ListBus, Received, run};
 use can_fault::Verdict;
 use can_frame::Item;
-use can_queue::ListQueue;
 use std::alloc::AllocGlobal;
 use std::process::Abort;
-
-type ListBus = Bus<ListQueue<Pending>, ListQueue<Received>, ScanArbiter>;
 
 /// Two more frames, before the socket's close and after it.
 fn more_frames(rt: &impl AllocGlobal) -> Result<Vec<Event>, Fail> {

@@ -1,16 +1,12 @@
 // The bus and the slow answer, side by side.
 
 use super::*;
-use can_arbiter::ScanArbiter;
 use can_attempt::Class;
 use can_audit::{ReplayFault, replies_of};
-use can_bus::{Bus, Closed, Pending, Received, Refusal, Reply, Tried, run};
+use can_bus::{Closed, ListBus, Received, Refusal, Reply, Tried, run};
 use can_frame::Item;
-use can_queue::ListQueue;
 use std::alloc::AllocGlobal;
 use std::process::Abort;
-
-type ListBus = Bus<ListQueue<Pending>, ListQueue<Received>, ScanArbiter>;
 
 /// What a bus answers.
 fn carried_out(
@@ -18,7 +14,7 @@ fn carried_out(
     events: &[Event],
     config: BusConfig,
 ) -> Result<Vec<Reply>, Fail> {
-    let mut bus: ListBus = Bus::new(rt.alloc(), config)?;
+    let mut bus = ListBus::new(rt.alloc(), config)?;
     Ok(run(&mut bus, rt.alloc(), events)?)
 }
 

@@ -1,13 +1,11 @@
 // Record texts, written and read.
 
-use can_arbiter::ScanArbiter;
 use can_attempt::AckMode;
 use can_audit::text_laws::read_back;
 use can_audit::{ReadFault, read_record, read_record_bytes, record_text, write_record};
-use can_bus::{Bus, BusConfig, Event, Pending, Received, Record, SocketId, run};
+use can_bus::{Bus, BusConfig, Event, ListBus, Record, SocketId, run};
 use can_fault::Verdict;
 use can_frame::{CanId, Frame, Iface, IfaceSet, Moment};
-use can_queue::ListQueue;
 use std::alloc::AllocGlobal;
 use std::io;
 use std::io::Write;
@@ -31,8 +29,6 @@ end 7
 const FRONT: &str = "canbus record 1\nbus 3 peers FFFF 1024 16777216\n";
 
 const BACK: &str = "\nend 1\n";
-
-type ListBus = Bus<ListQueue<Pending>, ListQueue<Received>, ScanArbiter>;
 
 // The calls, without their clauses: a test runs them, and its proof has nothing to say of them.
 
