@@ -42,7 +42,7 @@ by_one : {X : Type 0} (b : Bool) (xs : List X) (x : X) → length (if b then xs 
 by_one true xs x = omega (arith, length_push xs x)
 by_one false xs x = omega arith
 
-sent_by-step : (past : List Entry) (i : ℕ) (e : Event) (r : Reply) (before : List Pending) → length before ≤ length (sent_after past i e r before)
+pub sent_by-step : (past : List Entry) (i : ℕ) (e : Event) (r : Reply) (before : List Pending) → length before ≤ length (sent_after past i e r before)
 sent_by-step past i (Send s f) (reply.Sent n) before = grown (iface_of past s.0 == i) before _
 sent_by-step past i _ _ before = omega arith
 

@@ -34,3 +34,4 @@ pub mod FateFacts
 pub mod SilentFacts
 pub mod QueueFacts
 pub mod LostFacts
+pub mod CopyBound

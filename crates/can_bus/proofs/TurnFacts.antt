@@ -127,7 +127,7 @@ comes-over-if k true y p h from = from refl
 comes-over-if k false true p h from = ap went_over (looped-done k p h)
 comes-over-if k false false p h from = cc
 
-comes-over : (c : BusConfig) (past : List Entry) (m : ℕ) (v : Verdict) (t : Tried) (j : ℕ) (p : Option Pending) → WasTried c past m v t → comes_to j t p ≡ true → went_over t.class ≡ true
+pub comes-over : (c : BusConfig) (past : List Entry) (m : ℕ) (v : Verdict) (t : Tried) (j : ℕ) (p : Option Pending) → WasTried c past m v t → comes_to j t p ≡ true → went_over t.class ≡ true
 comes-over c past m v t j p w h =
     comes-over-if t.class (is_in j t.accepted) (j == t.winner) p h
     (λ a.

@@ -8,6 +8,7 @@ pub mod Queues
 pub mod Legal
 pub mod Spelled
 pub mod Copies
+pub mod Repeats
 pub mod Fates
 pub mod State
 pub mod Attempted

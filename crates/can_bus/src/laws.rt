@@ -9,6 +9,7 @@ ghost use Rattle.can_bus.specs.Journal.{IsConfig};
 ghost use Rattle.can_bus.specs.Transmit.{sent_by, gone_count, done_count, lost_count, head_of};
 ghost use Rattle.can_bus.specs.Counters.{state_at, counts_of};
 ghost use Rattle.can_bus.specs.Copies.{received_from, copying, copy_of, numbers_from, NeverFall, went_over, InTurn, IsOfSent};
+ghost use Rattle.can_bus.specs.Repeats.{AtMost32Copies, RisesAtTheHead, LastBitAdds8};
 ghost use Rattle.can_bus.specs.Queues.{queued_to, dropped_at, taken_from, candidates_for};
 ghost use Rattle.can_bus.specs.Sockets.{places, open_sockets, is_open, iface_of, capacity_of};
 ghost use Rattle.can_bus.specs.Fates.{numbers_given, opening, closing, is_restart_of, frames_with, goes_off};
@@ -60,6 +61,15 @@ pub fn each_number_stands_once_for_each_attempt(config: BusConfig)
 pub fn own_copies_are_single(config: BusConfig)
     ensures done { (past : List Entry) → IsLegal config past → (s : ℕ) → All (λ t. t.class ≡ class.Done) (copying config past (iface_of past s) s) }
     ensures single { (past : List Entry) → IsLegal config past → (s : ℕ) → AllPairs (λ (x y : Tried). x.number < y.number) (copying config past (iface_of past s) s) }
+{}
+
+/// On a bus of proper configuration a frame reaches a socket at most 32 times. While it is at the head of its
+/// queue the transmit error count of its interface never falls, and each attempt that failed at the last bit
+/// alone adds 8: by the 32nd the interface is bus off, and the frame lost.
+pub fn at_most_32_copies(config: BusConfig)
+    ensures copies { IsConfig config → (past : List Entry) → IsLegal config past → AtMost32Copies config past }
+    ensures rising { IsConfig config → (past : List Entry) → (e : Entry) → IsLegal config (e ∷ past) → RisesAtTheHead config e past }
+    ensures last_bit { (past : List Entry) → (e : Entry) → IsLegal config (e ∷ past) → LastBitAdds8 config e past }
 {}
 
 // ---- frames

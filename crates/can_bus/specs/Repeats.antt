@@ -1,0 +1,34 @@
+use Rattle.std.specs.Prelude.{◌≡◌, ℕ, ◌+◌, ◌≤◌, ◌==◌, List, ◌∷◌, count_by, Some}
+use Rattle.can_attempt.specs.declared.classes.Class.TheVariants as class
+use Rattle.can_bus.specs.declared.events.BusConfig.{BusConfig}
+use Rattle.can_bus.specs.declared.events.Entry.{Entry}
+use Rattle.can_bus.specs.declared.events.Pending.{Pending}
+use Rattle.can_bus.specs.declared.events.Reply.TheVariants as reply
+use Rattle.can_bus.specs.declared.events.Tried.{Tried}
+use Rattle.can_bus.specs.Transmit.{gone_count, head_of}
+use Rattle.can_bus.specs.Counters.{counts_of}
+use Rattle.can_bus.specs.Queues.{queued_to}
+use Rattle.can_bus.specs.Copies.{numbers_from}
+
+-- How often one frame can reach a socket. A fault in the last bit of end of frame reaches the transmitter alone:
+-- it sends again a frame that the receivers have accepted (Bosch CAN Specification 2.0, message validation).
+
+-- how often number n stands among the data frames of interface i that socket s got
+abbrev pub copies_queued : BusConfig → List Entry → ℕ → ℕ → ℕ → ℕ
+copies_queued c past i s n = count_by (λ m. m == n) (numbers_from i (queued_to c past s))
+
+-- no frame reaches a socket more than 32 times
+abbrev pub AtMost32Copies : BusConfig → List Entry → Type 0
+AtMost32Copies c past = (i s n : ℕ) → copies_queued c past i s n ≤ 32
+
+-- the transmit error count of interface i
+abbrev pub transmit_count : BusConfig → List Entry → ℕ → ℕ
+transmit_count c past i = (counts_of c past i).tec
+
+-- while a frame is at the head of its queue, the transmit error count of its interface never falls
+abbrev pub RisesAtTheHead : BusConfig → Entry → List Entry → Type 0
+RisesAtTheHead c e past = (i : ℕ) (p : Pending) → head_of past i ≡ Some p → gone_count (e ∷ past) i ≡ gone_count past i → transmit_count c past i ≤ transmit_count c (e ∷ past) i
+
+-- an attempt that failed at the last bit alone adds 8 to the transmit error count of its winner
+abbrev pub LastBitAdds8 : BusConfig → Entry → List Entry → Type 0
+LastBitAdds8 c e past = (t : Tried) → e.reply ≡ reply.Tried t → t.class ≡ class.LastBit → transmit_count c (e ∷ past) t.winner ≡ transmit_count c past t.winner + 8
