@@ -1,0 +1,81 @@
+use Rattle.std.proofs.Common.{◌≡◌, ◌≢◌, ℕ, suc, ◌+◌, ◌<◌, ◌≤◌, ◌==◌, Bool, true, false, List, [], ◌∷◌, ◌++◌, length, refl, ap, sym, ◌∙◌, subst, arith, length-append}
+use Rattle.std.specs.Prelude.{if◌then◌else◌}
+use Rattle.std.proofs.lemmas.Bool.Decides.{nat_tests}
+use mathlib.Core.Logic.{dite}
+use native.Mathlib.Decide.{ℕ_discrete}
+use Rattle.can_bus.specs.declared.events.Entry.{Entry}
+use Rattle.can_bus.specs.declared.events.Event.{Event}
+use Rattle.can_bus.specs.declared.events.Reply.{Reply}
+use Rattle.can_bus.specs.Journal.{Journal}
+use Rattle.can_bus.specs.Run.{history_after}
+use Rattle.can_roll.specs.Lists.{row, added, entry, AllBelow}
+use Rattle.can_roll.specs.Seen.{RollSeen, roll_seen}
+use Rattle.can_roll.proofs.Rows.{row_added, row_added_else, length-added, row_front}
+use Rattle.can_roll.proofs.Passes.{below_more}
+use Rattle.can_station.specs.Held.{enters, lists_after, marks_after}
+use Rattle.can_station.specs.Marks.{marked, IsMarked, IsBooked}
+use Rattle.can_station.proofs.Replies.{after-entered, after-kept}
+
+-- Marks of a history that is one entry longer.
+
+if_same : (p : ℕ) (x y : List Entry) → (if p == p then x else y) ≡ x
+if_same p x y = rw (same p) refl
+  where
+    same : (p : ℕ) → (p == p) ≡ true
+    same p = grind (arith, nat_tests)
+
+if_other : (p q : ℕ) (x y : List Entry) → p ≢ q → (if p == q then x else y) ≡ y
+if_other p q x y n = rw (no p q n) refl
+  where
+    no : (p q : ℕ) → p ≢ q → (p == q) ≡ false
+    no p q n = grind (arith, nat_tests)
+
+-- one entry more, marked with p, in the list of p
+pub marked-more : (lists : List (List Entry)) (ms : List ℕ) (past : List Entry) (p : ℕ) (e : Entry) → IsMarked lists ms past → p < length lists → IsMarked (added lists p e) (p ∷ ms) (e ∷ past)
+marked-more lists ms past p e h lt =
+    let len : length (added lists p e) ≡ length lists = length-added lists p e in
+    record {
+      long = ap suc h.long;
+      below = (subst (λ n. p < n) (sym len) lt, subst (λ n. AllBelow n ms) (sym len) h.below);
+      each = λ q. dite (ℕ_discrete q p)
+          (λ (is : q ≡ p). subst (λ k. row (added lists p e) k ≡ marked k (p ∷ ms) (e ∷ past)) (sym is) (row_added lists p e lt ∙ (ap (λ l. e ∷ l) (h.each p) ∙ sym (if_same p (e ∷ marked p ms past) (marked p ms past)))))
+          (λ (n : q ≢ p). row_added_else lists p q e n ∙ (h.each q ∙ sym (if_other p q (e ∷ marked q ms past) (marked q ms past) (λ is. n (sym is)))));
+    }
+
+booked_more : (roll : RollSeen) (ms : List ℕ) (places : ℕ) (j : Journal) (p : ℕ) (e : Entry) → IsBooked roll ms places j → p < length roll.lists
+    → IsBooked (roll_seen roll.number (added roll.lists p e) roll.called) (p ∷ ms) places (record { config = j.config; history = e ∷ j.history })
+booked_more roll ms places j p e h below = record {
+  proper = h.proper;
+  room = h.room;
+  none_in = h.none_in;
+  few = omega (arith, length-added roll.lists p e, h.few);
+  marked = marked-more roll.lists ms j.history p e h.marked below;
+}
+
+booked_as : (b : Bool) (roll : RollSeen) (ms : List ℕ) (places : ℕ) (j : Journal) (p : ℕ) (e : Event) (r : Reply) → enters r ≡ b → IsBooked roll ms places j → (enters r ≡ true → p < length roll.lists)
+    → IsBooked (roll_seen roll.number (if b then added roll.lists p (entry e r) else roll.lists) roll.called) (if b then p ∷ ms else ms) places (record { config = j.config; history = history_after e r j.history })
+booked_as true roll ms places j p e r is h below = subst (λ (past : List Entry). IsBooked (roll_seen roll.number (added roll.lists p (entry e r)) roll.called) (p ∷ ms) places (record { config = j.config; history = past })) (sym (after-entered e r j.history is)) (booked_more roll ms places j p (entry e r) h (below is))
+booked_as false roll ms places j p e r is h below = subst (λ (past : List Entry). IsBooked (roll_seen roll.number roll.lists roll.called) ms places (record { config = j.config; history = past })) (sym (after-kept e r j.history is)) h
+
+-- what lies under the lock, one call later
+pub booked_after : (roll roll' : RollSeen) (ms ms' : List ℕ) (places places' : ℕ) (j j' : Journal) (p : ℕ) (e : Event) (r : Reply) → IsBooked roll ms places j → (enters r ≡ true → p < length roll.lists)
+    → roll' ≡ roll_seen roll.number (lists_after p e r roll.lists) roll.called → ms' ≡ marks_after p r ms → places' ≡ places → j' ≡ record j { history = history_after e r j.history } → IsBooked roll' ms' places' j'
+booked_after roll roll' ms ms' places places' j j' p e r h below er em ep ej =
+    subst (λ (x : RollSeen × List ℕ × ℕ × Journal). IsBooked x.0 x.1 x.2 x.3) (λ k. (sym er k, sym em k, sym ep k, sym ej k)) (booked_as (enters r) roll ms places j p e r refl h below)
+
+-- a pass more
+pub marked-enter : (lists : List (List Entry)) (ms : List ℕ) (past : List Entry) → IsMarked lists ms past → IsMarked (lists ++ [] ∷ []) ms past
+marked-enter lists ms past h = record {
+  long = h.long;
+  below = below_more (length lists) (length (lists ++ [] ∷ [])) ms (omega (arith, length-append lists ([] ∷ []))) h.below;
+  each = λ p. row_front lists p ∙ h.each p;
+}
+
+pub booked_enter : (roll roll' : RollSeen) (ms : List ℕ) (places : ℕ) (j : Journal) → IsBooked roll ms places j → length roll.lists < 4096 → roll' ≡ roll_seen roll.number (roll.lists ++ [] ∷ []) roll.called → IsBooked roll' ms places j
+booked_enter roll roll' ms places j h few er = subst (λ (x : RollSeen). IsBooked x ms places j) (sym er) (record {
+  proper = h.proper;
+  room = h.room;
+  none_in = h.none_in;
+  few = omega (arith, few, length-append roll.lists ([] ∷ []));
+  marked = marked-enter roll.lists ms j.history h.marked;
+})

@@ -1,0 +1,92 @@
+use Rattle.std.proofs.Common.{◌≡◌, ◌≢◌, ℕ, zero, suc, ◌+◌, ◌<◌, ◌≤◌, ◌==◌, Bool, true, false, ◌&&◌, List, [], ◌∷◌, length, All, slice_index_or, refl, ap, sym, ◌∙◌, subst, arith}
+use Rattle.std.specs.Prelude.{if◌then◌else◌}
+use mathlib.Core.List.{IsSuffix}
+use Rattle.can_confine.specs.Confinement.{ErrorCounts, at_start}
+use Rattle.can_bus.specs.declared.events.BusConfig.{BusConfig}
+use Rattle.can_bus.specs.declared.events.Entry.{Entry}
+use Rattle.can_bus.specs.declared.events.Event.{Event}
+use Rattle.can_bus.specs.declared.events.Reply.{Reply}
+use Rattle.can_bus.specs.Counters.{counts_of}
+use Rattle.can_bus.specs.Journal.{Journal, IsConfig}
+use Rattle.can_bus.specs.Run.{history_after}
+use Rattle.can_bus.specs.Stats.{all_counts}
+use Rattle.can_bus.proofs.NodeFacts.{all_counts-at}
+use Rattle.can_meter.specs.declared.status.Status.{Status}
+use Rattle.can_meter.specs.Publications.{published, newest, Ends}
+use Rattle.can_meter.specs.Readings.{Readings, readings}
+use Rattle.can_roll.specs.Lists.{entry}
+use Rattle.can_station.specs.Held.{enters}
+use Rattle.can_station.specs.Published.{published_after, publications_of, counts_in, IsPublished, AllSeen, AllTrue}
+use Rattle.can_station.proofs.Replies.{after-entered, after-kept}
+
+-- Publications of a history that is one entry longer.
+
+-- the newest publication is of an entry of the history
+newest_after : (b : Bool) (at n : ℕ) (counts : ErrorCounts) (before : List Status) → at ≤ n → (newest before).at ≤ n
+    → (newest (if b then before else record { at = at; counters = counts } ∷ before)).at ≤ n
+newest_after true at n counts before le is = is
+newest_after false at n counts before le is = le
+
+pub newest-within : (c : BusConfig) (past : List Entry) (i : ℕ) → (newest (publications_of c past i)).at ≤ length past
+newest-within c [] i = omega arith
+newest-within c (e ∷ past) i =
+    let old = counts_of c past i in
+    let new = counts_of c (e ∷ past) i in
+    newest_after (old.tec == new.tec && old.rec == new.rec) (suc (length past)) (suc (length past)) new (publications_of c past i) (omega arith) (omega (arith, newest-within c past i))
+
+-- so a later one may come with the next entry
+pub later : (keeper : Readings) (number : ℕ) (j : Journal) (past : List Entry) (at : ℕ) → IsPublished keeper number j → length j.history < at → (i : ℕ) → i < keeper.ifaces → (newest (published keeper.lists i)).at < at
+later keeper number j past at is above i below =
+    let there : i < j.config.ifaces = omega (arith, is.ifaces_are) in
+    subst (λ (ps : List Status). (newest ps).at < at) (sym (is.each i there)) (omega (arith, newest-within j.config j.history i))
+
+-- an entry more
+entered : (keeper keeper' : Readings) (number : ℕ) (j : Journal) (e : Entry) (before after : List ErrorCounts) (at : ℕ) → IsConfig j.config → IsPublished keeper number j
+    → keeper'.number ≡ keeper.number → keeper'.ifaces ≡ keeper.ifaces → at ≡ suc (length j.history)
+    → before ≡ all_counts j.config j.history → after ≡ all_counts j.config (e ∷ j.history)
+    → ((i : ℕ) → i < keeper.ifaces → published keeper'.lists i ≡ published_after (counts_in before i) (counts_in after i) at (published keeper.lists i))
+    → IsPublished keeper' number (record { config = j.config; history = e ∷ j.history })
+entered keeper keeper' number j e before after at proper is number_same ifaces_same at_is before_is after_is lists = record {
+  number_is = number_same ∙ is.number_is;
+  ifaces_are = ifaces_same ∙ is.ifaces_are;
+  each = λ i below.
+      let few : i < 16 = omega (arith, proper.few_ifaces) in
+      let old : counts_in before i ≡ counts_of j.config j.history i = ap (λ cs. counts_in cs i) before_is ∙ all_counts-at j.config j.history i few in
+      let new : counts_in after i ≡ counts_of j.config (e ∷ j.history) i = ap (λ cs. counts_in cs i) after_is ∙ all_counts-at j.config (e ∷ j.history) i few in
+      lists i (omega (arith, is.ifaces_are))
+      ∙ (λ k. published_after (old k) (new k) (at_is k) (is.each i below k));
+}
+
+-- what was published is that of the history after a call
+published_as : (b : Bool) (keeper keeper' : Readings) (number : ℕ) (j : Journal) (e : Event) (r : Reply) (before after : List ErrorCounts) (at : ℕ) → enters r ≡ b → IsConfig j.config → IsPublished keeper number j
+    → keeper'.number ≡ keeper.number → keeper'.ifaces ≡ keeper.ifaces → at ≡ length (history_after e r j.history)
+    → before ≡ all_counts j.config j.history → after ≡ all_counts j.config (history_after e r j.history)
+    → ((i : ℕ) → i < keeper.ifaces → published keeper'.lists i ≡ (if b then published_after (counts_in before i) (counts_in after i) at (published keeper.lists i) else published keeper.lists i))
+    → IsPublished keeper' number (record { config = j.config; history = history_after e r j.history })
+published_as true keeper keeper' number j e r before after at enters_is proper is number_same ifaces_same at_is before_is after_is lists =
+    let longer : history_after e r j.history ≡ entry e r ∷ j.history = after-entered e r j.history enters_is in
+    subst (λ (past : List Entry). IsPublished keeper' number (record { config = j.config; history = past })) (sym longer)
+    (entered keeper keeper' number j (entry e r) before after at proper is number_same ifaces_same (at_is ∙ ap length longer) before_is (after_is ∙ ap (all_counts j.config) longer) lists)
+published_as false keeper keeper' number j e r before after at enters_is proper is number_same ifaces_same at_is before_is after_is lists =
+    subst (λ (past : List Entry). IsPublished keeper' number (record { config = j.config; history = past })) (sym (after-kept e r j.history enters_is))
+    (record { number_is = number_same ∙ is.number_is; ifaces_are = ifaces_same ∙ is.ifaces_are; each = λ i below. lists i (omega (arith, is.ifaces_are)) ∙ is.each i below })
+
+pub published_after_call : (keeper keeper' : Readings) (number number' : ℕ) (j j' : Journal) (e : Event) (r : Reply) (before after : List ErrorCounts) (at : ℕ) → IsConfig j.config → IsPublished keeper number j
+    → number' ≡ number → j' ≡ record j { history = history_after e r j.history }
+    → keeper'.number ≡ keeper.number → keeper'.ifaces ≡ keeper.ifaces → at ≡ length j'.history
+    → before ≡ all_counts j.config j.history → after ≡ all_counts j'.config j'.history
+    → ((i : ℕ) → i < keeper.ifaces → published keeper'.lists i ≡ (if enters r then published_after (counts_in before i) (counts_in after i) at (published keeper.lists i) else published keeper.lists i))
+    → IsPublished keeper' number' j'
+published_after_call keeper keeper' number number' j j' e r before after at proper is number_is journal_is number_same ifaces_same at_is before_is after_is lists =
+    subst (λ (x : ℕ × Journal). IsPublished keeper' x.0 x.1) (λ k. (sym number_is k, sym journal_is k))
+    (published_as (enters r) keeper keeper' number j e r before after at refl proper is number_same ifaces_same (at_is ∙ ap (λ (x : Journal). length x.history) journal_is) before_is (after_is ∙ ap (λ (x : Journal). all_counts x.config x.history) journal_is) lists)
+
+-- nothing is published of an empty history
+pub nothing_published : (number : ℕ) (c : BusConfig) → IsPublished (readings number c.ifaces []) number (record { config = c; history = [] })
+nothing_published number c = record { number_is = refl; ifaces_are = refl; each = λ i below. refl }
+
+-- what gauges saw of a keeper are publications of the history
+pub all_true : (keeper : Readings) (number : ℕ) (j : Journal) (gauges : List Readings) → IsPublished keeper number j → AllSeen gauges keeper → AllTrue j.config j.history gauges
+all_true keeper number j [] is seen = tt
+all_true keeper number j (g ∷ gs) is seen =
+    ((λ i below. subst (IsSuffix (published g.lists i)) (is.each i below) (seen.0 i)), all_true keeper number j gs is seen.1)

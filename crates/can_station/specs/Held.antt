@@ -1,0 +1,50 @@
+use Rattle.std.specs.Prelude.{◌≡◌, ℕ, Bool, true, false, List, [], ◌∷◌, ◌++◌, if◌then◌else◌}
+use Rattle.can_bus.specs.declared.events.Entry.{Entry}
+use Rattle.can_bus.specs.declared.events.Event.{Event}
+use Rattle.can_bus.specs.declared.events.Reply.{Reply}
+use Rattle.can_bus.specs.declared.events.Reply.TheVariants as reply
+use Rattle.can_bus.specs.declared.events.Refusal.TheVariants as refusal
+use Rattle.can_bus.specs.Journal.{Journal}
+use Rattle.can_bus.specs.Run.{history_after}
+use Rattle.can_roll.specs.Lists.{added, entry}
+use Rattle.can_roll.specs.Seen.{SlipSeen}
+
+-- What a station keeps under its lock (own).
+
+-- the station's number, its bus, the calls of each pass, and the source of verdicts
+pub record Held (F : Type 0) : Type 0 where
+  pub number : ℕ
+  pub journal : Journal
+  pub lists : List (List Entry)
+  pub source : F
+
+-- whether a call with this answer is an entry of the record
+abbrev pub enters : Reply → Bool
+enters (reply.Refused refusal.RecordFull) = false
+enters (reply.Refused refusal.NoMemory) = false
+enters _ = true
+
+-- the calls of each pass, after a call of pass p
+abbrev pub lists_after : ℕ → Event → Reply → List (List Entry) → List (List Entry)
+lists_after p e r lists = if enters r then added lists p (entry e r) else lists
+
+-- the marks of the record's entries, the newest first, after a call of pass p
+abbrev pub marks_after : ℕ → Reply → List ℕ → List ℕ
+marks_after p r marks = if enters r then p ∷ marks else marks
+
+-- what is kept after a call of pass p: one event of the bus, which is that pass's
+abbrev pub held_after : {F : Type 0} → ℕ → Event → Reply → Held F → Held F
+held_after p e r h = record {
+  number = h.number;
+  journal = record { config = h.journal.config; history = history_after e r h.journal.history };
+  lists = lists_after p e r h.lists;
+  source = h.source;
+}
+
+-- a pass's part of the roll after a call of its own
+abbrev pub slip_after : Event → Reply → SlipSeen → SlipSeen
+slip_after e r s = record { number = s.number; pass = s.pass; calls = history_after e r s.calls }
+
+-- with one pass more, which has made no call
+abbrev pub with_pass : {F : Type 0} → Held F → Held F
+with_pass h = record { number = h.number; journal = h.journal; lists = h.lists ++ [] ∷ []; source = h.source }

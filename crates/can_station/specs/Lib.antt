@@ -1,0 +1,4 @@
+pub mod Held
+pub mod Marks
+pub mod Published
+pub mod Passes

@@ -1,0 +1,28 @@
+use Rattle.std.specs.Prelude.{◌≡◌, ℕ, ◌==◌, ◌≤◌, List, [], ◌∷◌, length, if◌then◌else◌}
+use Rattle.can_bus.specs.declared.events.Entry.{Entry}
+use Rattle.can_bus.specs.Journal.{Journal, IsConfig}
+use Rattle.can_roll.specs.Lists.{row, AllBelow}
+use Rattle.can_roll.specs.Seen.{RollSeen}
+
+-- Histories whose entries are marked with the passes that made them, the newest first (own).
+
+-- the entries marked with pass p
+abbrev pub marked : ℕ → List ℕ → List Entry → List Entry
+marked p [] past = []
+marked p (m ∷ ms) [] = []
+marked p (m ∷ ms) (e ∷ past) = if m == p then e ∷ marked p ms past else marked p ms past
+
+-- each entry has a mark, the number of a pass, and the roll's list of each pass is the entries marked with it
+pub record IsMarked (lists : List (List Entry)) (marks : List ℕ) (past : List Entry) : Type 0 where
+  pub long : length marks ≡ length past
+  pub below : AllBelow (length lists) marks
+  pub each : (p : ℕ) → row lists p ≡ marked p marks past
+
+-- what lies under the lock agrees: the marks and the roll are those of the bus's history, no pass is called in, and there
+-- is room for the marks of all entries
+pub record IsBooked (roll : RollSeen) (marks : List ℕ) (places : ℕ) (journal : Journal) : Type 0 where
+  pub proper : IsConfig journal.config
+  pub room : journal.config.limit ≤ places
+  pub none_in : roll.called ≡ []
+  pub few : length roll.lists ≤ 4096
+  pub marked : IsMarked roll.lists marks journal.history

@@ -1,0 +1,48 @@
+use Rattle.std.specs.Prelude.{◌≡◌, ℕ, suc, ◌==◌, ◌&&◌, ◌<◌, List, [], ◌∷◌, length, All, slice_index_or, if◌then◌else◌}
+use mathlib.Core.List.{IsSuffix}
+use Rattle.can_confine.specs.Confinement.{ErrorCounts, at_start}
+use Rattle.can_bus.specs.declared.events.BusConfig.{BusConfig}
+use Rattle.can_bus.specs.declared.events.Entry.{Entry}
+use Rattle.can_bus.specs.Counters.{counts_of}
+use Rattle.can_bus.specs.Journal.{Journal}
+use Rattle.can_meter.specs.declared.status.Status.{Status}
+use Rattle.can_meter.specs.Publications.{published, Ends}
+use Rattle.can_meter.specs.Readings.{Readings}
+
+-- What is published of a history: the error counters of each interface, each time that they change (own).
+
+-- an interface's publications, the newest first, after an entry that makes the record this long
+abbrev pub published_after : ErrorCounts → ErrorCounts → ℕ → List Status → List Status
+published_after old new at before = if old.tec == new.tec && old.rec == new.rec then before else record { at = at; counters = new } ∷ before
+
+-- the publications of interface i: for each entry that changes its error counters, the record's length with that
+-- entry, and the counters then
+abbrev pub publications_of : BusConfig → List Entry → ℕ → List Status
+publications_of c [] i = []
+publications_of c (e ∷ past) i = published_after (counts_of c past i) (counts_of c (e ∷ past) i) (suc (length past)) (publications_of c past i)
+
+-- the counters at a place of a list of them
+abbrev pub counts_in : List ErrorCounts → ℕ → ErrorCounts
+counts_in counts i = slice_index_or counts i at_start
+
+-- the keeper is this station's, and has published of each interface what its history has changed
+pub record IsPublished (keeper : Readings) (number : ℕ) (j : Journal) : Type 0 where
+  pub number_is : keeper.number ≡ number
+  pub ifaces_are : keeper.ifaces ≡ j.config.ifaces
+  pub each : (i : ℕ) → i < j.config.ifaces → published keeper.lists i ≡ publications_of j.config j.history i
+
+-- all gauges are of the station with this number
+abbrev pub GaugesOf : ℕ → List Readings → Type 0
+GaugesOf number gauges = All (λ g. g.number ≡ number) gauges
+
+-- some gauge is of another station
+abbrev pub SomeOtherGauge : ℕ → List Readings → Type 0
+SomeOtherGauge number gauges = ¬ GaugesOf number gauges
+
+-- what each gauge has seen was published by this keeper
+abbrev pub AllSeen : List Readings → Readings → Type 0
+AllSeen gauges keeper = All (λ g. Ends g.lists keeper.lists) gauges
+
+-- what each gauge has seen of an interface are publications of the history, all but the newest if it missed some
+abbrev pub AllTrue : BusConfig → List Entry → List Readings → Type 0
+AllTrue c past gauges = All (λ g. (i : ℕ) → i < c.ifaces → IsSuffix (published g.lists i) (publications_of c past i)) gauges

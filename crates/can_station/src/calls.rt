@@ -1,0 +1,152 @@
+ghost use Rattle.can_bus.specs.Answer.{done_reply};
+ghost use Rattle.can_bus.specs.declared.events.Event.TheVariants as event;
+ghost use Rattle.can_bus.specs.declared.events.Reply.TheVariants as reply;
+ghost use Rattle.can_station.specs.Passes.{Called};
+
+use crate::gates::Gate;
+use crate::passes::Pass;
+use crate::refusals::StationRefusal;
+use crate::stations::Station;
+use can_bus::{Closed, Event, Opt, Received, Refusal, Reply, SocketId};
+use can_fault::FaultSource;
+use can_filter::FilterSet;
+use can_frame::{Frame, Iface, Moment};
+use can_meter::MeterName;
+use can_roll::RollName;
+use std::alloc::Global;
+use std::sync::Wait;
+
+// The calls of a pass: each is one event of the bus. Before the bus's own refusals come `NoMemory`, where the pass's
+// list of calls can't grow, and `WrongStation`, where the pass is another station's; neither changes anything.
+impl<N: RollName + MeterName, F: FaultSource + Drop, G: Gate + Drop> Station<N, F, G> {
+    /// Opens a socket on an interface, where `capacity` items may wait. Refusals of the bus: `RecordFull`,
+    /// `NoInterface`, `BadCapacity`, `TooManySockets`, `NoMemory`.
+    pub fn open<R: Wait>(
+        &self,
+        rt: &R,
+        alloc: Global,
+        pass: &mut Pass<N>,
+        iface: Iface,
+        capacity: u32,
+    ) -> Result<SocketId, StationRefusal>
+        ensures { Called reply.Opened self.now pass.old (event.Open iface capacity) result pass.new }
+    {
+        match self.call(rt, alloc, pass, Event::Open(iface, capacity))? {
+            Reply::Opened(socket) => Ok(socket),
+            Reply::Refused(why) => Err(StationRefusal::Bus(why)),
+            _ => unreachable!(),
+        }
+    }
+
+    /// Closes a socket, and counts what nobody took and what found no room. Refusals of the bus: `RecordFull`,
+    /// `NoSocket`.
+    pub fn close<R: Wait>(
+        &self,
+        rt: &R,
+        alloc: Global,
+        pass: &mut Pass<N>,
+        socket: SocketId,
+    ) -> Result<Closed, StationRefusal>
+        ensures { Called reply.Closed self.now pass.old (event.Close socket) result pass.new }
+    {
+        match self.call(rt, alloc, pass, Event::Close(socket))? {
+            Reply::Closed(counts) => Ok(counts),
+            Reply::Refused(why) => Err(StationRefusal::Bus(why)),
+            _ => unreachable!(),
+        }
+    }
+
+    /// Sets the filters of a socket, to a copy of these. Refusals of the bus: `RecordFull`, `NoMemory`, `NoSocket`.
+    pub fn set_filters<R: Wait>(
+        &self,
+        rt: &R,
+        alloc: Global,
+        pass: &mut Pass<N>,
+        socket: SocketId,
+        filters: &FilterSet,
+    ) -> Result<(), StationRefusal>
+        ensures { Called done_reply self.now pass.old (event.SetFilters socket filters.now) result pass.new }
+    {
+        let Ok(copy) = filters.try_copy(alloc) else {
+            return Err(StationRefusal::Bus(Refusal::NoMemory));
+        };
+        match self.call(rt, alloc, pass, Event::SetFilters(socket, copy))? {
+            Reply::Done => Ok(()),
+            Reply::Refused(why) => Err(StationRefusal::Bus(why)),
+            _ => unreachable!(),
+        }
+    }
+
+    /// Sets an option of a socket. Refusals of the bus: `RecordFull`, `NoSocket`.
+    pub fn set_option<R: Wait>(
+        &self,
+        rt: &R,
+        alloc: Global,
+        pass: &mut Pass<N>,
+        socket: SocketId,
+        option: Opt,
+    ) -> Result<(), StationRefusal>
+        ensures { Called done_reply self.now pass.old (event.SetOption socket option) result pass.new }
+    {
+        match self.call(rt, alloc, pass, Event::SetOption(socket, option))? {
+            Reply::Done => Ok(()),
+            Reply::Refused(why) => Err(StationRefusal::Bus(why)),
+            _ => unreachable!(),
+        }
+    }
+
+    /// Sends a frame on a socket, and answers its number at the interface. Refusals of the bus: `RecordFull`,
+    /// `NoSocket`, `BusOff`, `NoBuffers`.
+    pub fn send<R: Wait>(
+        &self,
+        rt: &R,
+        alloc: Global,
+        pass: &mut Pass<N>,
+        socket: SocketId,
+        frame: Frame,
+    ) -> Result<u64, StationRefusal>
+        ensures { Called reply.Sent self.now pass.old (event.Send socket frame) result pass.new }
+    {
+        match self.call(rt, alloc, pass, Event::Send(socket, frame))? {
+            Reply::Sent(number) => Ok(number),
+            Reply::Refused(why) => Err(StationRefusal::Bus(why)),
+            _ => unreachable!(),
+        }
+    }
+
+    /// Takes the oldest item of a socket: `None` where nothing waits. Refusals of the bus: `RecordFull`, `NoSocket`.
+    pub fn receive<R: Wait>(
+        &self,
+        rt: &R,
+        alloc: Global,
+        pass: &mut Pass<N>,
+        socket: SocketId,
+    ) -> Result<Option<Received>, StationRefusal>
+        ensures { Called reply.Received self.now pass.old (event.Receive socket) result pass.new }
+    {
+        match self.call(rt, alloc, pass, Event::Receive(socket))? {
+            Reply::Received(item) => Ok(item),
+            Reply::Refused(why) => Err(StationRefusal::Bus(why)),
+            _ => unreachable!(),
+        }
+    }
+
+    /// Brings an interface that is bus off back, at a moment. Refusals of the bus: `RecordFull`, `NoInterface`,
+    /// `NotBusOff`.
+    pub fn restart<R: Wait>(
+        &self,
+        rt: &R,
+        alloc: Global,
+        pass: &mut Pass<N>,
+        iface: Iface,
+        moment: Moment,
+    ) -> Result<(), StationRefusal>
+        ensures { Called done_reply self.now pass.old (event.Restart iface moment) result pass.new }
+    {
+        match self.call(rt, alloc, pass, Event::Restart(iface, moment))? {
+            Reply::Done => Ok(()),
+            Reply::Refused(why) => Err(StationRefusal::Bus(why)),
+            _ => unreachable!(),
+        }
+    }
+}

@@ -1,0 +1,24 @@
+/// Where a station asks its gate.
+#[derive(Debug, Clone, Copy, PartialEq, Eq)]
+pub enum Point {
+    /// In `step`, before the lock is taken.
+    BeforeStep,
+    /// In `step`, with the lock taken.
+    InStep,
+    /// In each call of a pass, once the lock is free again.
+    AfterReply,
+}
+
+/// A place where a test may hold a thread.
+pub trait Gate {
+    /// Returns once the thread may go on.
+    fn at(&self, point: Point);
+}
+
+/// The gate of production: it holds nobody.
+#[derive(Debug, Clone, Copy, PartialEq, Eq)]
+pub struct Open;
+
+impl Gate for Open {
+    fn at(&self, _point: Point) {}
+}

@@ -1,0 +1,28 @@
+//! A bus that threads share.
+//!
+//! A caller enters the station and gets a pass. Each call with a pass is one event of the bus, made in one hold
+//! of the station's lock, and the pass keeps it with its answer. At the end `settle` takes the passes back and
+//! hands out the record: a legal history in which each pass's calls stand in the order that it made them.
+//!
+//! What the lock keeps is a [`StationState`]. Its calls carry the proofs; a [`Station`] adds the lock and the
+//! waiting. Who waits sleeps, and is woken only by a call that can matter to it.
+//!
+//! Not promised of threads: how long a call waits for the lock, who comes first, that no two wait for each other.
+#![tactic(auto)]
+
+mod calls;
+pub mod gates;
+mod gauges;
+pub mod passes;
+mod publishing;
+pub mod refusals;
+pub mod state;
+pub mod stations;
+mod waits;
+
+pub use gates::{Gate, Open, Point};
+pub use passes::{Pass, Settled};
+pub use refusals::{StationRefusal, TooManyPasses, WrongStation};
+pub use state::StationState;
+pub use stations::{Blanks, Station};
+pub use waits::Wake;

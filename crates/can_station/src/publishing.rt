@@ -1,0 +1,49 @@
+ghost use Rattle.std.specs.Prelude.{◌≡◌, ◌<◌, ◌≤◌, ℕ, true, if◌then◌else◌};
+ghost use Rattle.can_meter.specs.Publications.{published, newest};
+ghost use Rattle.can_station.specs.Held.{enters};
+ghost use Rattle.can_station.specs.Published.{published_after, counts_in};
+
+use crate::passes::enters;
+use can_bus::Reply;
+use can_confine::Counters;
+use can_meter::{Keeper, MeterName};
+
+/// Publishes the counters that a call changed, where it left an entry: all with the record's length, that entry
+/// included.
+pub(crate) fn publish_changes<N: MeterName>(
+    keeper: &mut Keeper<N>,
+    reply: &Reply,
+    at: u32,
+    before: &[Counters; 16],
+    after: &[Counters; 16],
+)
+    requires few { keeper.old.ifaces ≤ 16 }
+    requires later { enters reply.now ≡ true → (i : ℕ) → i < keeper.old.ifaces → (newest (published keeper.old.lists i)).at < at }
+    ensures number { keeper.new.number ≡ keeper.old.number }
+    ensures ifaces { keeper.new.ifaces ≡ keeper.old.ifaces }
+    ensures lists { (i : ℕ) → i < keeper.old.ifaces → published keeper.new.lists i ≡ (if enters reply.now then published_after (counts_in before.now i) (counts_in after.now i) at (published keeper.old.lists i) else published keeper.old.lists i) }
+{
+    if enters(reply) {
+        publish_all(keeper, at, before, after);
+    }
+}
+
+/// Publishes each interface's counters that differ.
+fn publish_all<N: MeterName>(
+    keeper: &mut Keeper<N>,
+    at: u32,
+    before: &[Counters; 16],
+    after: &[Counters; 16],
+)
+    requires few { keeper.old.ifaces ≤ 16 }
+    requires later { (i : ℕ) → i < keeper.old.ifaces → (newest (published keeper.old.lists i)).at < at }
+    ensures number { keeper.new.number ≡ keeper.old.number }
+    ensures ifaces { keeper.new.ifaces ≡ keeper.old.ifaces }
+    ensures lists { (i : ℕ) → i < keeper.old.ifaces → published keeper.new.lists i ≡ published_after (counts_in before.now i) (counts_in after.now i) at (published keeper.old.lists i) }
+{
+    for place in 0..keeper.ifaces() {
+        if before[place] != after[place] {
+            keeper.publish(place, at, after[place]);
+        }
+    }
+}

@@ -1,0 +1,261 @@
+ghost use Rattle.std.specs.Prelude.{◌≡◌, ◌<◌, ◌≤◌, ◌⊎◌, ℕ, [], true, List, length, reverse, IfOk, OnErr, MatchResult, vec_len, vec_capacity};
+ghost use Rattle.can_fault.specs.Sources.{verdict_in};
+ghost use Rattle.can_bus.specs.Journal.{IsConfig};
+ghost use Rattle.can_bus.specs.Legal.{IsLegal};
+ghost use Rattle.can_bus.specs.Run.{IsAnswer};
+ghost use Rattle.can_bus.specs.Transmit.{tape};
+ghost use Rattle.can_bus.specs.declared.events.Event.TheVariants as event;
+ghost use Rattle.can_meter.specs.Readings.{readings};
+ghost use Rattle.can_roll.specs.Seen.{roll_seen, slip_seen};
+ghost use Rattle.can_station.specs.Held.{enters, held_after, lists_after, marks_after, slip_after, with_pass};
+ghost use Rattle.can_station.specs.Marks.{IsMarked};
+ghost use Rattle.can_station.specs.Passes.{AllOf, SomeOther, Settles, Suits};
+ghost use Rattle.can_station.specs.Published.{AllTrue, GaugesOf, SomeOtherGauge, IsPublished};
+
+use crate::gauges::{absorb_all, are_gauges_of};
+use crate::passes::{Pass, Settled, are_all_of, enters, recall_all};
+use crate::publishing::publish_changes;
+use crate::refusals::{TooManyPasses, WrongStation};
+use crate::waits::Wake;
+use can_bus::{
+    Event, IfaceStats, Record, Reply, RingBus, SocketId, SocketStats, answer,
+};
+use can_fault::{FaultSource, Verdict};
+use can_frame::{Iface, Moment};
+use can_meter::{Gauge, Keeper, MeterName};
+use can_roll::{Roll, RollBlank, RollName, Slip};
+use std::alloc::{AllocError, Global};
+use std::marker::Model;
+
+/// The most passes of a station.
+const MAX_PASSES: u32 = 4096;
+
+/// What a station keeps under its lock: the bus with the source of its verdicts, the roll with a mark for each
+/// entry, and the keeper of its meter.
+///
+/// Whenever the lock is free the record is a legal history, the roll's list of each pass is the entries marked with
+/// it, and the keeper has published each change of an interface's error counters.
+#[derive(Drop)]
+pub struct StationState<N: RollName + MeterName, F: FaultSource + Drop> {
+    bus: RingBus,
+    source: F,
+    roll: Roll<N>,
+    marks: Vec<u32>,
+    keeper: Keeper<N>,
+    spare: Gauge<N>,
+    stopped: bool,
+}
+
+impl<N: RollName + MeterName, F: FaultSource + Drop> Model for StationState<N, F> {
+    ghost use Rattle.std.specs.Prelude.{◌≡◌, reverse, vec_capacity};
+    ghost use Rattle.can_station.specs.Held.{Held};
+    ghost use Rattle.can_station.specs.Marks.{IsBooked};
+    ghost use Rattle.can_station.specs.Published.{IsPublished};
+
+    ghost Value = { Held F };
+
+    ghost view = { λ s. record { number = s.roll.number; journal = s.bus; lists = s.roll.lists; source = s.source } };
+
+    ghost invariant = { λ s. IsBooked s.roll (reverse s.marks.items) (vec_capacity s.marks) s.bus × IsPublished s.keeper s.roll.number s.bus × (s.spare.number ≡ s.roll.number) };
+}
+
+impl<N: RollName + MeterName, F: FaultSource + Drop> StationState<N, F> {
+    /// The state of a station whose bus has an empty record.
+    pub(crate) fn new(
+        blank: RollBlank,
+        number: u8,
+        bus: RingBus,
+        source: F,
+        marks: Vec<u32>,
+        keeper: Keeper<N>,
+        spare: Gauge<N>,
+    ) -> StationState<N, F>
+        requires name { blank ≡ N.roll number }
+        requires proper { IsConfig bus.config }
+        requires empty { (bus.history ≡ []) × (marks.items ≡ []) }
+        requires room { bus.config.limit ≤ vec_capacity marks }
+        requires keeper { keeper ≡ readings number bus.config.ifaces [] }
+        requires spare { spare.number ≡ number }
+        ensures { result ≡ record { number = number; journal = bus; lists = []; source = source } }
+    {
+        StationState {
+            bus,
+            source,
+            roll: Roll::new(blank, number),
+            marks,
+            keeper,
+            spare,
+            stopped: false,
+        }
+    }
+
+    /// The number of the station.
+    pub fn number(&self) -> u8
+        ensures { result ≡ self.now.number }
+    {
+        self.roll.number()
+    }
+
+    /// The record: a legal history, whose entries are marked with the passes that made them.
+    pub fn record(&self) -> &Record
+        ensures config { result.now.config ≡ self.now.journal.config }
+        ensures history { result.now.history ≡ self.now.journal.history }
+        ensures legal { IsLegal self.now.journal.config self.now.journal.history }
+        ensures marked { (marks : List ℕ) × IsMarked self.now.lists marks self.now.journal.history }
+    {
+        self.bus.record()
+    }
+
+    /// The keeper of the station's meter: it has published each change of an interface's error counters.
+    pub fn keeper(&self) -> &Keeper<N>
+        ensures { IsPublished result.now self.now.number self.now.journal }
+    {
+        &self.keeper
+    }
+
+    /// The next pass, numbered from 0, which has made no call. `TooManyPasses` exactly where there are 4,096.
+    pub fn enter(&mut self) -> Result<Slip<N>, TooManyPasses>
+        ensures ok { IfOk result (λ s. (s ≡ slip_seen self.old.number (length self.old.lists) []) × (self.new ≡ with_pass self.old) × (length self.old.lists < 4096)) }
+        ensures err { OnErr result ((self.new ≡ self.old) × (4096 ≤ length self.old.lists)) }
+    {
+        if self.roll.passes() >= MAX_PASSES {
+            return Err(TooManyPasses);
+        }
+        Ok(self.roll.enter())
+    }
+
+    /// Another gauge of the station's meter, or `AllocError` where there is no memory for it.
+    pub fn gauge(&mut self) -> Result<Gauge<N>, AllocError>
+        ensures same { self.new ≡ self.old }
+        ensures gauge { IfOk result (λ g. g.number ≡ self.old.number) }
+    {
+        self.spare.another()
+    }
+
+    /// Carries out an event for the pass of this slip: it is answered from the record, noted there and in the
+    /// pass's list, and what it changed of the error counters is published.
+    pub fn call(&mut self, alloc: Global, slip: &mut Slip<N>, event: &Event) -> Reply
+        requires { slip.old.number ≡ self.old.number }
+        ensures answer { IsAnswer self.old.journal.config self.old.journal.history event.now result }
+        ensures suits { Suits event.now result }
+        ensures after { self.new ≡ held_after slip.old.pass event.now result self.old }
+        ensures slip { slip.new ≡ slip_after event.now result slip.old }
+    {
+        let before = self.bus.counters();
+        let reply = answer(&mut self.bus, alloc, event);
+        book(&mut self.roll, &mut self.marks, slip, event, &reply);
+        let after = self.bus.counters();
+        let at = self.bus.record().len() as u32;
+        publish_changes(&mut self.keeper, &reply, at, &before, &after);
+        reply
+    }
+
+    /// Carries out an attempt at a moment, with the verdict that the source has for its number.
+    pub fn step(&mut self, alloc: Global, slip: &mut Slip<N>, moment: Moment) -> (Verdict, Reply)
+        requires { slip.old.number ≡ self.old.number }
+        ensures verdict { result.0 ≡ verdict_in (F.verdicts self.old.source) (length (tape self.old.journal.history)) }
+        ensures answer { IsAnswer self.old.journal.config self.old.journal.history (event.Attempt moment result.0) result.1 }
+        ensures suits { Suits (event.Attempt moment result.0) result.1 }
+        ensures after { self.new ≡ held_after slip.old.pass (event.Attempt moment result.0) result.1 (record self.old { source = self.new.source }) }
+        ensures source { F.verdicts self.new.source ≡ F.verdicts self.old.source }
+        ensures slip { slip.new ≡ slip_after (event.Attempt moment result.0) result.1 slip.old }
+    {
+        let verdict = self.source.verdict(self.bus.next_attempt());
+        let reply = self.call(alloc, slip, &Event::Attempt(moment, verdict));
+        (verdict, reply)
+    }
+
+    /// The counts of a socket and of an interface.
+    pub(crate) fn stats(
+        &self,
+        socket: SocketId,
+        iface: Iface,
+    ) -> (Option<SocketStats>, Option<IfaceStats>) {
+        (self.bus.socket_stats(socket), self.bus.iface_stats(iface))
+    }
+
+    /// Why a wait for an item of this socket ends, if it does.
+    pub(crate) fn frame_wake(&self, socket: SocketId) -> Option<Wake> {
+        match self.bus.socket_stats(socket) {
+            None => Some(Wake::Closed),
+            Some(counts) if counts.queued > counts.taken => Some(Wake::Ready),
+            Some(_) => self.stopped_wake(),
+        }
+    }
+
+    /// Why a wait for a frame to send ends, if it does.
+    pub(crate) fn work_wake(&self) -> Option<Wake> {
+        match self.bus.next_winner() {
+            Some(_) => Some(Wake::Ready),
+            None => self.stopped_wake(),
+        }
+    }
+
+    /// What a stop tells those who wait.
+    fn stopped_wake(&self) -> Option<Wake> {
+        if self.stopped { Some(Wake::Stopped) } else { None }
+    }
+
+    /// Ends all waits, now and from now on.
+    pub(crate) fn stop(&mut self)
+        ensures { self.new ≡ self.old }
+    {
+        self.stopped = true;
+    }
+
+    /// The record, with all these passes and gauges taken in. `WrongStation` exactly where some of them is
+    /// another station's.
+    pub fn settle(
+        self,
+        passes: Vec<Pass<N>>,
+        gauges: Vec<Gauge<N>>,
+    ) -> Result<Settled, WrongStation>
+        ensures config { IfOk result (λ s. s.history.config ≡ self.journal.config) }
+        ensures history { IfOk result (λ s. s.history.history ≡ self.journal.history) }
+        ensures passes { IfOk result (λ s. s.passes ≡ length self.lists) }
+        ensures settled { IfOk result (λ s. Settles s.history.config s.history.history s.passes passes.items) }
+        ensures gauges { IfOk result (λ s. AllTrue s.history.config s.history.history gauges.items) }
+        ensures refused { MatchResult result (λ _. AllOf self.number passes.items × GaugesOf self.number gauges.items) (λ _. SomeOther self.number passes.items ⊎ SomeOtherGauge self.number gauges.items) }
+    {
+        let StationState {
+            bus,
+            source: _,
+            mut roll,
+            marks: _,
+            mut keeper,
+            spare: _,
+            stopped: _,
+        } = self;
+        if !are_all_of(&passes, roll.number()) || !are_gauges_of(&gauges, roll.number()) {
+            return Err(WrongStation);
+        }
+        recall_all(&mut roll, passes);
+        absorb_all(&mut keeper, gauges);
+        Ok(Settled {
+            history: bus.into_record(),
+            passes: roll.passes(),
+        })
+    }
+}
+
+/// Notes a call of a slip's pass, and marks the entry with it, where it left one.
+fn book<N: RollName>(
+    roll: &mut Roll<N>,
+    marks: &mut Vec<u32>,
+    slip: &mut Slip<N>,
+    event: &Event,
+    reply: &Reply,
+)
+    requires slip { slip.old.number ≡ roll.old.number }
+    requires room { enters reply.now ≡ true → vec_len marks.old < vec_capacity marks.old }
+    ensures roll { roll.new ≡ roll_seen roll.old.number (lists_after slip.old.pass event.now reply.now roll.old.lists) roll.old.called }
+    ensures marks { reverse marks.new.items ≡ marks_after slip.old.pass reply.now (reverse marks.old.items) }
+    ensures places { vec_capacity marks.new ≡ vec_capacity marks.old }
+    ensures slip { slip.new ≡ slip_after event.now reply.now slip.old }
+    ensures below { enters reply.now ≡ true → slip.old.pass < length roll.old.lists }
+{
+    if enters(reply) {
+        roll.note(slip, event, reply);
+        marks.push_reserved(slip.pass());
+    }
+}

@@ -1,0 +1,262 @@
+ghost use Rattle.std.specs.Prelude.{◌≡◌, ◌<◌, ◌≤◌, ◌⊎◌, [], reverse, vec_len, vec_capacity, IfOk, MatchResult, ◌↔◌};
+ghost use Rattle.std.specs.Sync.Mutex.{mutex_guard_value};
+ghost use Rattle.can_bus.specs.Journal.{IsConfig};
+ghost use Rattle.can_bus.specs.Run.{history_after};
+ghost use Rattle.can_station.specs.Held.{slip_after};
+ghost use Rattle.can_station.specs.Passes.{Attempted, AllOf, SomeOther, Settles, Suits, Called, Stepped, same};
+ghost use Rattle.can_station.specs.Published.{AllTrue, GaugesOf, SomeOtherGauge};
+
+use crate::gates::{Gate, Point};
+use crate::passes::{Pass, Settled, keep};
+use crate::refusals::{StationRefusal, TooManyPasses, WrongStation};
+use crate::state::StationState;
+use can_bus::{BusConfig, BusFault, Entry, Event, Refusal, Reply, RingBus, Tried};
+use can_fault::FaultSource;
+use can_frame::Moment;
+use can_meter::{Gauge, MeterBlank, MeterName, meter, meter_blank};
+use can_roll::{RollBlank, RollName, Slip, roll_blank};
+use std::alloc::{AllocError, Global};
+use std::marker::Model;
+use std::sync::{Condvar, Mutex, MutexGuard, Wait};
+
+/// What a station is made of before it has a name: the blanks of its roll and of its meter.
+#[derive(Drop)]
+pub struct Blanks {
+    pub roll: RollBlank,
+    pub meter: MeterBlank,
+}
+
+impl Blanks {
+    /// Blanks for a bus of 1 to 16 interfaces. `AllocError` where there is no memory.
+    pub fn new(alloc: Global, ifaces: usize) -> Result<Blanks, AllocError>
+        requires { (0 < ifaces) × (ifaces ≤ 16) }
+        ensures { IfOk result (λ b. b.meter.words ≡ ifaces) }
+    {
+        Ok(Blanks {
+            roll: roll_blank(alloc)?,
+            meter: meter_blank(alloc, ifaces)?,
+        })
+    }
+}
+
+/// A bus that threads share. Contracts see it as its number.
+///
+/// Each of the eight calls of a pass, and `step`, is one event of the bus in one hold of the lock. What the lock
+/// keeps is a [`StationState`].
+#[derive(Drop)]
+pub struct Station<N: RollName + MeterName, F: FaultSource + Drop, G: Gate + Drop> {
+    pub(crate) state: Mutex<StationState<N, F>>,
+    /// Where drivers wait for frames to send.
+    pub(crate) work: Condvar,
+    /// Where receivers wait for items.
+    pub(crate) items: Condvar,
+    pub(crate) gate: G,
+    pub(crate) number: u8,
+}
+
+impl<N: RollName + MeterName, F: FaultSource + Drop, G: Gate + Drop> Model for Station<N, F, G> {
+    ghost use Rattle.std.specs.Prelude.{ℕ};
+
+    ghost Value = { ℕ };
+
+    ghost view = { λ s. s.number };
+}
+
+impl<N: RollName + MeterName, F: FaultSource + Drop, G: Gate + Drop> Station<N, F, G> {
+    /// A station with an empty record, named by `N` under this number. It takes memory for all of `limit` entries
+    /// and their marks.
+    ///
+    /// `BadConfig` exactly where the configuration is outside the limits of a bus, or has another number of
+    /// interfaces than the blanks; else `NoMemory` where memory was refused.
+    pub fn new(
+        alloc: Global,
+        blanks: Blanks,
+        number: u8,
+        config: BusConfig,
+        source: F,
+        gate: G,
+    ) -> Result<Station<N, F, G>, BusFault>
+        requires roll { blanks.roll ≡ N.roll number }
+        requires meter { blanks.meter ≡ N.meter number }
+        ensures made { IfOk result (λ s. s ≡ number) }
+        ensures bad { (result ≡ Err BusFault.BadConfig) ↔ (¬ (IsConfig config × (blanks.meter.words ≡ config.ifaces))) }
+    {
+        if !config.is_proper() || blanks.meter.ifaces() != usize::from(config.ifaces) {
+            return Err(BusFault::BadConfig);
+        }
+        let bus = RingBus::new(alloc, config)?;
+        let Ok(marks) = Vec::with_capacity(alloc, config.limit as usize) else {
+            return Err(BusFault::NoMemory);
+        };
+        let Blanks { roll, meter: blank } = blanks;
+        let Ok((keeper, spare)) = meter::<N>(alloc, blank, number) else {
+            return Err(BusFault::NoMemory);
+        };
+        let state = StationState::new(roll, number, bus, source, marks, keeper, spare);
+        Ok(Station {
+            state: Mutex::new(state),
+            work: Condvar::new(),
+            items: Condvar::new(),
+            gate,
+            number,
+        })
+    }
+
+    /// The state under the lock. It has the station's number since `new`. No type says so: for another number this
+    /// would wait for ever.
+    fn hold<R: Wait>(&self, rt: &R) -> MutexGuard<'_, StationState<N, F>>
+        ensures { (mutex_guard_value result).number ≡ self.now }
+    {
+        let state = self.state.lock(rt);
+        if state.number() == self.number {
+            return state;
+        }
+        for _ in rt.forever() {}
+        unreachable!()
+    }
+
+    /// The next pass, with which no call was made. Passes are numbered from 0; `TooManyPasses` from the 4,097th on.
+    pub fn enter<R: Wait>(&self, rt: &R, alloc: Global) -> Result<Pass<N>, TooManyPasses>
+        ensures { IfOk result (λ p. p ≡ record { number = self.now; pass = p.pass; calls = [] }) }
+    {
+        let slip = self.hold(rt).enter()?;
+        Ok(Pass {
+            slip,
+            calls: Vec::new(alloc),
+        })
+    }
+
+    /// Another gauge of the station's meter, which reads the error counters without the lock. `AllocError` where
+    /// there is no memory.
+    pub fn gauge<R: Wait>(&self, rt: &R) -> Result<Gauge<N>, AllocError>
+        ensures { IfOk result (λ g. g.number ≡ self.now) }
+    {
+        self.hold(rt).gauge()
+    }
+
+    /// Carries out an event for a pass: one hold of the lock.
+    pub(crate) fn call<R: Wait>(
+        &self,
+        rt: &R,
+        alloc: Global,
+        pass: &mut Pass<N>,
+        event: Event,
+    ) -> Result<Reply, StationRefusal>
+        ensures called { Called same self.now pass.old event result pass.new }
+        ensures suits { IfOk result (λ r. Suits event r) }
+    {
+        if pass.calls.reserve(1).is_err() {
+            return Err(StationRefusal::Bus(Refusal::NoMemory));
+        }
+        if pass.slip.number() != self.number {
+            return Err(StationRefusal::WrongStation);
+        }
+        let reply = self.carry_out(rt, alloc, &mut pass.slip, &mut pass.calls, event);
+        self.gate.at(Point::AfterReply);
+        Ok(reply)
+    }
+
+    /// Carries out an event for the pass of this slip, and keeps it among its calls.
+    fn carry_out<R: Wait>(
+        &self,
+        rt: &R,
+        alloc: Global,
+        slip: &mut Slip<N>,
+        calls: &mut Vec<Entry>,
+        event: Event,
+    ) -> Reply
+        requires own { slip.old.number ≡ self.now }
+        requires room { vec_len calls.old < vec_capacity calls.old }
+        ensures slip { slip.new ≡ slip_after event result slip.old }
+        ensures calls { reverse calls.new.items ≡ history_after event result (reverse calls.old.items) }
+        ensures suits { Suits event result }
+    {
+        let mut state = self.hold(rt);
+        let reply = state.call(alloc, slip, &event);
+        drop(state);
+        self.wake(&event, &reply);
+        keep(calls, event, &reply);
+        reply
+    }
+
+    /// Tries the frame that wins the bus, with the verdict that the source has for the next attempt: `None` where no
+    /// live interface has a frame to send.
+    ///
+    /// Refusals, in this order: `NoMemory` where the pass's list of calls can't grow, `WrongStation`, `RecordFull`.
+    pub fn step<R: Wait>(
+        &self,
+        rt: &R,
+        alloc: Global,
+        pass: &mut Pass<N>,
+        moment: Moment,
+    ) -> Result<Option<Tried>, StationRefusal>
+        ensures { Stepped self.now pass.old moment result pass.new }
+    {
+        if pass.calls.reserve(1).is_err() {
+            return Err(StationRefusal::Bus(Refusal::NoMemory));
+        }
+        if pass.slip.number() != self.number {
+            return Err(StationRefusal::WrongStation);
+        }
+        self.gate.at(Point::BeforeStep);
+        match self.attempt(rt, alloc, &mut pass.slip, &mut pass.calls, moment) {
+            Reply::Tried(tried) => Ok(Some(tried)),
+            Reply::Idle => Ok(None),
+            Reply::Refused(why) => Err(StationRefusal::Bus(why)),
+            _ => unreachable!(),
+        }
+    }
+
+    /// Carries out an attempt at a moment, with the source's verdict.
+    fn attempt<R: Wait>(
+        &self,
+        rt: &R,
+        alloc: Global,
+        slip: &mut Slip<N>,
+        calls: &mut Vec<Entry>,
+        moment: Moment,
+    ) -> Reply
+        requires own { slip.old.number ≡ self.now }
+        requires room { vec_len calls.old < vec_capacity calls.old }
+        ensures { Attempted moment slip.old (reverse calls.old.items) result slip.new (reverse calls.new.items) }
+    {
+        let mut state = self.hold(rt);
+        self.gate.at(Point::InStep);
+        let (verdict, reply) = state.step(alloc, slip, moment);
+        drop(state);
+        let event = Event::Attempt(moment, verdict);
+        self.wake(&event, &reply);
+        keep(calls, event, &reply);
+        reply
+    }
+
+    /// Takes passes and gauges back, and hands out the record: a legal history whose entries can be marked with
+    /// passes so that the calls of each of these passes are its entries, in order. What the gauges have seen are
+    /// publications of that history.
+    ///
+    /// `WrongStation` exactly where some pass or gauge is another station's; then nothing is handed back.
+    pub fn settle<R: Wait>(
+        self,
+        rt: &R,
+        passes: Vec<Pass<N>>,
+        gauges: Vec<Gauge<N>>,
+    ) -> Result<Settled, WrongStation>
+        ensures settled { IfOk result (λ s. Settles s.history.config s.history.history s.passes passes.items) }
+        ensures gauges { IfOk result (λ s. AllTrue s.history.config s.history.history gauges.items) }
+        ensures refused { MatchResult result (λ _. AllOf self passes.items × GaugesOf self gauges.items) (λ _. SomeOther self passes.items ⊎ SomeOtherGauge self gauges.items) }
+    {
+        let Station {
+            state,
+            work: _,
+            items: _,
+            gate: _,
+            number,
+        } = self;
+        let state = state.into_inner();
+        if state.number() != number {
+            for _ in rt.forever() {}
+            unreachable!()
+        }
+        state.settle(passes, gauges)
+    }
+}
