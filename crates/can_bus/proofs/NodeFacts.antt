@@ -14,13 +14,13 @@ index-map f a zero k d lt = absurd (omega arith)
 index-map f a (suc n) zero d lt = ap f (omega arith)
 index-map f a (suc n) (suc k) d lt = index-map f (a + 1) n k d (omega arith) ∙ ap f (omega arith)
 
+counts-at : (c : BusConfig) (past : List Entry) (i n : ℕ) → i < n → slice_index_or (map (counts_of c past) (range_with_len 0 n)) i at_start ≡ counts_of c past i
+counts-at c past i n below = index-map (counts_of c past) 0 n i at_start below ∙ ap (counts_of c past) (omega arith)
+
 -- the kept error counts of an interface
 pub counts_at-kept : (c : BusConfig) (past : List Entry) (i : ℕ) → i < 16 → counts_at (kept_nodes c past) i ≡ counts_of c past i
 unfolding kept_nodes
-counts_at-kept c past i below = at 16 below
-  where
-    at : (n : ℕ) → i < n → slice_index_or (map (counts_of c past) (range_with_len 0 n)) i at_start ≡ counts_of c past i
-    at n lt = index-map (counts_of c past) 0 n i at_start lt ∙ ap (counts_of c past) (omega arith)
+counts_at-kept c past i below = counts-at c past i 16 below
 
 -- whether an interface is bus off
 pub is_off_at-kept : (c : BusConfig) (past : List Entry) (i : ℕ) → i < 16 → is_off_at (kept_nodes c past) i ≡ is_off (state_at c past i)
@@ -30,3 +30,8 @@ is_off_at-kept c past i below = ap (λ (k : ErrorCounts). is_off (state_of k)) (
 pub counters-kept : (c : BusConfig) (past : List Entry) → (kept_nodes c past).counters ≡ all_counts c past
 unfolding kept_nodes all_counts
 counters-kept c past = refl
+
+-- the error counts at the place of an interface
+pub all_counts-at : (c : BusConfig) (past : List Entry) (i : ℕ) → i < 16 → slice_index_or (all_counts c past) i at_start ≡ counts_of c past i
+unfolding all_counts
+all_counts-at c past i below = counts-at c past i 16 below
