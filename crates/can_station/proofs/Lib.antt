@@ -1,3 +1,3 @@
 pub mod Replies
 pub mod Marking
-pub mod Publishing
+pub mod PublishedFacts

@@ -14,6 +14,8 @@ use Rattle.can_roll.proofs.Rows.{row_added, row_added_else, length-added, row_fr
 use Rattle.can_roll.proofs.Passes.{below_more}
 use Rattle.can_station.specs.Held.{enters, lists_after, marks_after}
 use Rattle.can_station.specs.Marks.{marked, IsMarked, IsBooked}
+use Rattle.can_station.specs.Passes.{PassSeen, AllMatch, AllMarked}
+use Rattle.std.proofs.lemmas.List.Elements.{All-weaker}
 use Rattle.can_station.proofs.Replies.{after-entered, after-kept}
 
 -- Marks of a history that is one entry longer.
@@ -79,3 +81,7 @@ booked_enter roll roll' ms places j h few er = subst (λ (x : RollSeen). IsBooke
   few = omega (arith, few, length-append roll.lists ([] ∷ []));
   marked = marked-enter roll.lists ms j.history h.marked;
 })
+
+-- passes whose calls are the roll's lists of them are marked so
+pub marked-all : (lists : List (List Entry)) (marks : List ℕ) (past : List Entry) (own : List PassSeen) → IsMarked lists marks past → AllMatch lists own → AllMarked marks past own
+marked-all lists marks past own m = All-weaker (λ (v : PassSeen). row lists v.pass ≡ v.calls) (λ (v : PassSeen). marked v.pass marks past ≡ v.calls) (λ v match. sym (m.each v.pass) ∙ match) own

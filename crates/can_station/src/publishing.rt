@@ -1,4 +1,4 @@
-ghost use Rattle.std.specs.Prelude.{◌≡◌, ◌<◌, ◌≤◌, ℕ, true, if◌then◌else◌};
+ghost use Rattle.std.specs.Prelude.{◌≡◌, ◌≢◌, ◌<◌, ◌≤◌, ℕ, true, if◌then◌else◌};
 ghost use Rattle.can_meter.specs.Publications.{published, newest};
 ghost use Rattle.can_station.specs.Held.{enters};
 ghost use Rattle.can_station.specs.Published.{published_after, counts_in};
@@ -42,8 +42,26 @@ fn publish_all<N: MeterName>(
     ensures lists { (i : ℕ) → i < keeper.old.ifaces → published keeper.new.lists i ≡ published_after (counts_in before.now i) (counts_in after.now i) at (published keeper.old.lists i) }
 {
     for place in 0..keeper.ifaces() {
-        if before[place] != after[place] {
-            keeper.publish(place, at, after[place]);
-        }
+        publish_change(keeper, place, at, before[place], after[place]);
+    }
+}
+
+/// Publishes an interface's counters, where they changed.
+fn publish_change<N: MeterName>(
+    keeper: &mut Keeper<N>,
+    place: usize,
+    at: u32,
+    before: Counters,
+    after: Counters,
+)
+    requires there { place < keeper.old.ifaces }
+    requires later { (newest (published keeper.old.lists place)).at < at }
+    ensures number { keeper.new.number ≡ keeper.old.number }
+    ensures ifaces { keeper.new.ifaces ≡ keeper.old.ifaces }
+    ensures list { published keeper.new.lists place ≡ published_after before after at (published keeper.old.lists place) }
+    ensures others { (i : ℕ) → i ≢ place → published keeper.new.lists i ≡ published keeper.old.lists i }
+{
+    if before != after {
+        keeper.publish(place, at, after);
     }
 }

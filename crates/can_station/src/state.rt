@@ -226,7 +226,10 @@ impl<N: RollName + MeterName, F: FaultSource + Drop> StationState<N, F> {
             spare: _,
             stopped: _,
         } = self;
-        if !are_all_of(&passes, roll.number()) || !are_gauges_of(&gauges, roll.number()) {
+        if !are_all_of(&passes, roll.number()) {
+            return Err(WrongStation);
+        }
+        if !are_gauges_of(&gauges, roll.number()) {
             return Err(WrongStation);
         }
         recall_all(&mut roll, passes);

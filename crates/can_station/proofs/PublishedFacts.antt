@@ -1,5 +1,6 @@
 use Rattle.std.proofs.Common.{◌≡◌, ◌≢◌, ℕ, zero, suc, ◌+◌, ◌<◌, ◌≤◌, ◌==◌, Bool, true, false, ◌&&◌, List, [], ◌∷◌, length, All, slice_index_or, refl, ap, sym, ◌∙◌, subst, arith}
 use Rattle.std.specs.Prelude.{if◌then◌else◌}
+use Rattle.std.proofs.lemmas.List.Elements.{All-weaker}
 use mathlib.Core.List.{IsSuffix}
 use Rattle.can_confine.specs.Confinement.{ErrorCounts, at_start}
 use Rattle.can_bus.specs.declared.events.BusConfig.{BusConfig}
@@ -8,8 +9,10 @@ use Rattle.can_bus.specs.declared.events.Event.{Event}
 use Rattle.can_bus.specs.declared.events.Reply.{Reply}
 use Rattle.can_bus.specs.Counters.{counts_of}
 use Rattle.can_bus.specs.Journal.{Journal, IsConfig}
+use Rattle.can_bus.specs.Legal.{IsLegal}
 use Rattle.can_bus.specs.Run.{history_after}
 use Rattle.can_bus.specs.Stats.{all_counts}
+use Rattle.can_bus.proofs.Bounds.{legal-short}
 use Rattle.can_bus.proofs.NodeFacts.{all_counts-at}
 use Rattle.can_meter.specs.declared.status.Status.{Status}
 use Rattle.can_meter.specs.Publications.{published, newest, Ends}
@@ -35,10 +38,10 @@ newest-within c (e ∷ past) i =
     newest_after (old.tec == new.tec && old.rec == new.rec) (suc (length past)) (suc (length past)) new (publications_of c past i) (omega arith) (omega (arith, newest-within c past i))
 
 -- so a later one may come with the next entry
-pub later : (keeper : Readings) (number : ℕ) (j : Journal) (past : List Entry) (at : ℕ) → IsPublished keeper number j → length j.history < at → (i : ℕ) → i < keeper.ifaces → (newest (published keeper.lists i)).at < at
-later keeper number j past at is above i below =
+pub later : (keeper : Readings) (number : ℕ) (j : Journal) (e : Event) (r : Reply) (at : ℕ) → IsPublished keeper number j → at ≡ length (history_after e r j.history) → enters r ≡ true → (i : ℕ) → i < keeper.ifaces → (newest (published keeper.lists i)).at < at
+later keeper number j e r at is at_is enters_is i below =
     let there : i < j.config.ifaces = omega (arith, is.ifaces_are) in
-    subst (λ (ps : List Status). (newest ps).at < at) (sym (is.each i there)) (omega (arith, newest-within j.config j.history i))
+    subst (λ (ps : List Status). (newest ps).at < at) (sym (is.each i there)) (omega (arith, newest-within j.config j.history i, at_is ∙ ap length (after-entered e r j.history enters_is)))
 
 -- an entry more
 entered : (keeper keeper' : Readings) (number : ℕ) (j : Journal) (e : Entry) (before after : List ErrorCounts) (at : ℕ) → IsConfig j.config → IsPublished keeper number j
@@ -86,7 +89,14 @@ pub nothing_published : (number : ℕ) (c : BusConfig) → IsPublished (readings
 nothing_published number c = record { number_is = refl; ifaces_are = refl; each = λ i below. refl }
 
 -- what gauges saw of a keeper are publications of the history
-pub all_true : (keeper : Readings) (number : ℕ) (j : Journal) (gauges : List Readings) → IsPublished keeper number j → AllSeen gauges keeper → AllTrue j.config j.history gauges
-all_true keeper number j [] is seen = tt
-all_true keeper number j (g ∷ gs) is seen =
-    ((λ i below. subst (IsSuffix (published g.lists i)) (is.each i below) (seen.0 i)), all_true keeper number j gs is seen.1)
+pub all_true : (keeper : Readings) (number : ℕ) (j : Journal) (c : BusConfig) (past : List Entry) (gauges : List Readings) → IsPublished keeper number j → c ≡ j.config → past ≡ j.history → AllSeen gauges keeper → AllTrue c past gauges
+all_true keeper number j c past gauges is config_is past_is seen =
+    subst (λ (x : BusConfig × List Entry). AllTrue x.0 x.1 gauges) (λ k. (sym config_is k, sym past_is k))
+    (All-weaker (λ (g : Readings). Ends g.lists keeper.lists) (λ (g : Readings). (i : ℕ) → i < j.config.ifaces → IsSuffix (published g.lists i) (publications_of j.config j.history i))
+    (λ g ends i below. subst (IsSuffix (published g.lists i)) (is.each i below) (ends i)) gauges seen)
+
+-- the length of a record of a bus fits a word
+pub short : (c c' : BusConfig) (past : List Entry) (n : ℕ) → IsConfig c → c' ≡ c → IsLegal c' past → n ≡ length past → n < 4294967296
+short c c' past n proper same legal is =
+    let few : length past ≤ c'.limit = legal-short c' past legal in
+    omega (arith, proper.few_entries, ap (λ (k : BusConfig). k.limit) same)
