@@ -195,7 +195,7 @@ impl<N: RollName + MeterName, F: FaultSource + Drop, G: Gate + Drop> Station<N, 
         if pass.calls.reserve(1).is_err() {
             return Err(StationRefusal::Bus(Refusal::NoMemory));
         }
-        if pass.slip.number() != self.number {
+        if self.number != pass.slip.number() {
             return Err(StationRefusal::WrongStation);
         }
         self.gate.at(Point::BeforeStep);
