@@ -1,0 +1,48 @@
+-- Lists of calls, one for each pass, each with the newest call in front; and lists of passes.
+use Rattle.std.specs.Prelude.{◌≢◌, ℕ, zero, suc, ◌<◌, List, [], ◌∷◌}
+use Rattle.can_bus.specs.declared.events.Entry.{Entry}
+use Rattle.can_bus.specs.declared.events.Event.{Event}
+use Rattle.can_bus.specs.declared.events.Reply.{Reply}
+
+-- a call with its reply
+abbrev pub entry : Event → Reply → Entry
+entry event reply = record { event = event; reply = reply }
+
+-- the calls of pass p, none where there is no such pass
+abbrev pub row : List (List Entry) → ℕ → List Entry
+row [] p = []
+row (calls ∷ others) zero = calls
+row (calls ∷ others) (suc p) = row others p
+
+-- these lists with one more call in front of those of pass p
+abbrev pub added : List (List Entry) → ℕ → Entry → List (List Entry)
+added [] p call = []
+added (calls ∷ others) zero call = (call ∷ calls) ∷ others
+added (calls ∷ others) (suc p) call = calls ∷ added others p call
+
+-- the last of these passes, 0 where there is none
+abbrev pub last_of : List ℕ → ℕ
+last_of [] = 0
+last_of (p ∷ []) = p
+last_of (p ∷ q ∷ qs) = last_of (q ∷ qs)
+
+-- these passes without the last
+abbrev pub without_last : List ℕ → List ℕ
+without_last [] = []
+without_last (p ∷ []) = []
+without_last (p ∷ q ∷ qs) = p ∷ without_last (q ∷ qs)
+
+-- p is none of these passes
+abbrev pub NotIn : ℕ → List ℕ → Type 0
+NotIn p [] = Unit {0}
+NotIn p (q ∷ qs) = (p ≢ q) × NotIn p qs
+
+-- no pass stands twice among these
+abbrev pub Distinct : List ℕ → Type 0
+Distinct [] = Unit {0}
+Distinct (p ∷ ps) = NotIn p ps × Distinct ps
+
+-- each of these passes is below n
+abbrev pub AllBelow : ℕ → List ℕ → Type 0
+AllBelow n [] = Unit {0}
+AllBelow n (p ∷ ps) = (p < n) × AllBelow n ps

@@ -1,0 +1,235 @@
+ghost use Rattle.std.specs.Prelude.{◌≡◌, ◌<◌, [], ◌∷◌, ◌++◌, length};
+ghost use Rattle.can_roll.specs.declared.rule.View.TheVariants.{Part};
+ghost use Rattle.can_roll.specs.Lists.{entry, row, added, last_of, without_last, NotIn};
+ghost use Rattle.can_roll.specs.Seen.{roll_seen, slip_seen};
+
+use crate::rule::{CallsIn, Enters, Law, Note, Says, Sends, Tell, View};
+use atomic_table::{Badge, Seat, Table};
+use can_bus::{Event, Reply};
+use std::alloc::{AllocError, Global};
+use std::marker::{Brand, Model, PhantomData};
+use std::mem;
+
+/// The table of a roll: one word, and no slot.
+type Word = Table<(), View, (), Law, Global>;
+
+/// Names, for contracts alone, one roll for each number. It has no calls.
+pub trait RollName {
+    ghost use Rattle.std.specs.Prelude.{ℕ};
+    ghost use Rattle.atomic_table.specs.Seated.{TableId};
+
+    ghost roll: { ℕ → TableId };
+}
+
+impl RollName for Brand {
+    ghost use Rattle.can_roll.specs.Rule.{no_table};
+
+    ghost roll = { λ _. no_table };
+}
+
+/// A roll that has no number yet. To a contract it is the identity of its table, which a [`RollName`] can name.
+#[derive(Drop)]
+pub struct RollBlank {
+    table: Word,
+    seat: Seat<(), View>,
+}
+
+impl Model for RollBlank {
+    ghost use Rattle.std.specs.Prelude.{◌≡◌, []};
+    ghost use Rattle.atomic_table.specs.Seated.{TableId, table_id_coded};
+    ghost use Rattle.can_roll.specs.declared.rule.View.TheVariants.{Whole};
+
+    ghost Value = { TableId };
+
+    ghost coded = { table_id_coded };
+
+    ghost view = { λ b. b.table.shared.table_id };
+
+    ghost invariant = { λ b. (b.seat.table_id ≡ b.table.shared.table_id) × (b.seat.me ≡ (Whole [] [] [], [])) × (b.table.shared.table_id.words ≡ 1) };
+}
+
+/// The calls of each pass. To a contract it is its number, the list of calls of each pass with the newest in
+/// front, and the passes called in, in the order of their coming.
+#[derive(Drop)]
+pub struct Roll<N: RollName> {
+    table: Word,
+    seat: Seat<(), View>,
+    number: u8,
+    passes: u32,
+    name: PhantomData<N>,
+}
+
+impl<N: RollName> Model for Roll<N> {
+    ghost use Rattle.std.specs.Prelude.{◌≡◌, length, []};
+    ghost use Rattle.can_roll.specs.declared.rule.View.TheVariants.{Whole};
+    ghost use Rattle.can_roll.specs.Rule.{lists_of, called_of};
+    ghost use Rattle.can_roll.specs.Seen.{RollSeen};
+
+    ghost Value = { RollSeen };
+
+    ghost view = { λ r. record { number = r.number; lists = lists_of r.seat.me.0; called = called_of r.seat.me.0 } };
+
+    ghost invariant = { λ r. (r.table.shared.table_id ≡ N.roll r.number) × (r.seat.table_id ≡ N.roll r.number) × ((N.roll r.number).words ≡ 1) × (r.seat.me ≡ (Whole (lists_of r.seat.me.0) (called_of r.seat.me.0) [], [])) × (length (lists_of r.seat.me.0) ≡ r.passes) };
+}
+
+/// A pass's part of its roll. To a contract it is the roll's number, its own pass, and the calls that were
+/// noted with it, the newest in front.
+#[derive(Drop)]
+pub struct Slip<N: RollName> {
+    badge: Badge<View>,
+    number: u8,
+    pass: u32,
+    name: PhantomData<N>,
+}
+
+impl<N: RollName> Model for Slip<N> {
+    ghost use Rattle.std.specs.Prelude.{◌≡◌, [], ◌∷◌};
+    ghost use Rattle.can_roll.specs.declared.rule.View.TheVariants.{Part};
+    ghost use Rattle.can_roll.specs.Rule.{calls_of, view_in};
+    ghost use Rattle.can_roll.specs.Seen.{SlipSeen};
+
+    ghost Value = { SlipSeen };
+
+    ghost view = { λ s. record { number = s.number; pass = s.pass; calls = calls_of (view_in s.badge.views) } };
+
+    ghost invariant = { λ s. (s.badge.table_id ≡ N.roll s.number) × (s.badge.views ≡ Part s.pass (calls_of (view_in s.badge.views)) ∷ []) };
+}
+
+/// A roll without passes, for [`Roll::new`]. It fails only where memory is refused.
+pub fn roll_blank(alloc: Global) -> Result<RollBlank, AllocError> {
+    let (table, seat) = Table::of_words(alloc, &[0], &())?;
+    Ok(RollBlank { table, seat })
+}
+
+impl<N: RollName> Roll<N> {
+    /// The blank as the roll of this number, with no pass. The caller shows that `N` names the blank so.
+    pub fn new(blank: RollBlank, number: u8) -> Roll<N>
+        requires { blank ≡ N.roll number }
+        ensures { result ≡ roll_seen number [] [] }
+    {
+        let RollBlank { table, seat } = blank;
+        Roll {
+            table,
+            seat,
+            number,
+            passes: 0,
+            name: PhantomData,
+        }
+    }
+
+    /// Its number.
+    pub fn number(&self) -> u8
+        ensures { result ≡ self.now.number }
+    {
+        self.number
+    }
+
+    /// How many passes have entered.
+    pub fn passes(&self) -> u32
+        ensures { result ≡ length self.now.lists }
+    {
+        self.passes
+    }
+
+    /// A slip of the next pass, with no call. Passes are numbered from 0. The caller shows that fewer than 4,096
+    /// have entered.
+    pub fn enter(&mut self) -> Slip<N>
+        requires { length self.old.lists < 4096 }
+        ensures roll { self.new ≡ roll_seen self.old.number (self.old.lists ++ [] ∷ []) self.old.called }
+        ensures slip { result ≡ slip_seen self.old.number (length self.old.lists) [] }
+    {
+        let table = &self.table;
+        let seat = table.shared.split_seat::<Enters>(&mut self.seat);
+        let pass = self.passes;
+        self.passes += 1;
+        Slip {
+            badge: seat.into_badge(),
+            number: self.number,
+            pass,
+            name: PhantomData,
+        }
+    }
+
+    /// Notes a call with its reply: it comes in front of the slip's list and of the roll's list of the slip's
+    /// pass, which are the same before and after. The caller shows that the slip is of this roll's number.
+    pub fn note(&mut self, slip: &mut Slip<N>, event: &Event, reply: &Reply)
+        requires { slip.old.number ≡ self.old.number }
+        ensures roll { self.new ≡ roll_seen self.old.number (added self.old.lists slip.old.pass (entry event.now reply.now)) self.old.called }
+        ensures slip { slip.new ≡ slip_seen slip.old.number slip.old.pass (entry event.now reply.now ∷ slip.old.calls) }
+        ensures below { slip.old.pass < length self.old.lists }
+        ensures before { row self.old.lists slip.old.pass ≡ slip.old.calls }
+        ensures after { row self.new.lists slip.old.pass ≡ slip.new.calls }
+    {
+        let taken: Slip<N> = Slip {
+            badge: mem::replace(&mut slip.badge, Badge::blank()),
+            number: slip.number,
+            pass: slip.pass,
+            name: PhantomData,
+        };
+        self.recall(taken);
+        self.note_last::<Brand>(event, reply);
+        slip.badge = self.send_last();
+    }
+
+    /// Calls a slip's pass in, for good. Its calls are the roll's list of its pass, which had not been called in
+    /// before. The caller shows that the slip is of this roll's number.
+    pub fn recall(&mut self, slip: Slip<N>)
+        requires { slip.number ≡ self.old.number }
+        ensures roll { self.new ≡ roll_seen self.old.number self.old.lists (self.old.called ++ slip.pass ∷ []) }
+        ensures calls { row self.old.lists slip.pass ≡ slip.calls }
+        ensures once { NotIn slip.pass self.old.called }
+        ensures below { slip.pass < length self.old.lists }
+    {
+        let Slip {
+            badge,
+            number: _,
+            pass: _,
+            name: _,
+        } = slip;
+        let table = &self.table;
+        table
+            .shared
+            .join_seat::<CallsIn>(&mut self.seat, badge.into_seat());
+        table.shared.load::<Tell>(&mut self.seat, 0);
+    }
+
+    // Notes a call of the pass that was called in last.
+    fn note_last<C: Says>(&mut self, event: &Event, reply: &Reply)
+        requires said { C.said ≡ entry event.now reply.now }
+        requires some_in { 0 < length self.old.called }
+        ensures { self.new ≡ roll_seen self.old.number (added self.old.lists (last_of self.old.called) (entry event.now reply.now)) self.old.called }
+    {
+        let table = &self.table;
+        table.shared.load::<Note<C>>(&mut self.seat, 0);
+    }
+
+    // Sends the pass that was called in last out again, and gives the badge of its slip.
+    fn send_last(&mut self) -> Badge<View>
+        requires { 0 < length self.old.called }
+        ensures roll { self.new ≡ roll_seen self.old.number self.old.lists (without_last self.old.called) }
+        ensures table { result.table_id ≡ N.roll self.old.number }
+        ensures views { result.views ≡ Part (last_of self.old.called) (row self.old.lists (last_of self.old.called)) ∷ [] }
+    {
+        let table = &self.table;
+        table
+            .shared
+            .split_seat::<Sends>(&mut self.seat)
+            .into_badge()
+    }
+}
+
+impl<N: RollName> Slip<N> {
+    /// The number of its roll.
+    pub fn number(&self) -> u8
+        ensures { result ≡ self.now.number }
+    {
+        self.number
+    }
+
+    /// Its pass.
+    pub fn pass(&self) -> u32
+        ensures { result ≡ self.now.pass }
+    {
+        self.pass
+    }
+}

@@ -1,0 +1,96 @@
+use atomic_table::{Join, Play, Split, TableRule};
+use can_bus::Entry;
+use std::collections::LinkedList;
+use std::marker::{Brand, PhantomData};
+
+/// What a seat of the table knows. It is for contracts alone: no value of it is made.
+pub enum View {
+    /// A roll's seat: the calls of each pass, the passes called in with the last at the end, and, until it is
+    /// told, the one list of calls that the last one brought.
+    Whole(LinkedList<LinkedList<Entry>>, LinkedList<u64>, LinkedList<LinkedList<Entry>>),
+    /// A slip's seat: its pass and its calls.
+    Part(u64, LinkedList<Entry>),
+    /// The seat of a slip that was called in.
+    Spent,
+}
+
+/// The rule that ties slips to their roll.
+pub struct Law;
+
+impl<S> TableRule<S, View, ()> for Law {
+    ghost use Rattle.std.specs.Prelude.{[]};
+    ghost use Rattle.can_roll.specs.declared.rule.View.TheVariants.{Whole};
+    ghost use Rattle.can_roll.specs.Rule.{IsRolled};
+
+    ghost holds = { λ _ s. IsRolled s.words s.views };
+
+    ghost first = { λ _. Whole [] [] [] };
+}
+
+/// The roll hands out a slip of the next pass.
+pub struct Enters;
+
+impl Split<View> for Enters {
+    ghost use Rattle.can_roll.specs.Rule.{entered, newcomer};
+
+    ghost left = { entered };
+
+    ghost right = { newcomer };
+}
+
+/// The roll calls a pass in, and its slip is spent.
+pub struct CallsIn;
+
+impl Join<View> for CallsIn {
+    ghost use Rattle.can_roll.specs.declared.rule.View.TheVariants.{Spent};
+    ghost use Rattle.can_roll.specs.Rule.{called_in};
+
+    ghost both = { called_in };
+
+    ghost spent = { Spent };
+}
+
+/// A load that tells what the pass called in last has brought.
+pub struct Tell;
+
+impl<S> Play<S, View> for Tell {
+    ghost use Rattle.can_roll.specs.Rule.{Tells};
+
+    ghost then = { Tells };
+}
+
+/// A load that notes a call of the pass called in last.
+pub struct Note<C> {
+    call: PhantomData<C>,
+}
+
+impl<S, C: Says> Play<S, View> for Note<C> {
+    ghost use Rattle.can_roll.specs.Rule.{Notes};
+
+    ghost then = { Notes C.said };
+}
+
+/// The roll sends the pass called in last out again, with a new slip.
+pub struct Sends;
+
+impl Split<View> for Sends {
+    ghost use Rattle.can_roll.specs.Rule.{sent_out, sent};
+
+    ghost left = { sent_out };
+
+    ghost right = { sent };
+}
+
+/// Names a call with its reply, for contracts alone.
+pub trait Says {
+    ghost use Rattle.can_bus.specs.declared.events.Entry.{Entry};
+
+    ghost said: { Entry };
+}
+
+impl Says for Brand {
+    ghost use Rattle.can_bus.specs.declared.events.Event.TheVariants.{Receive};
+    ghost use Rattle.can_bus.specs.declared.events.Reply.TheVariants.{Idle};
+
+    ghost said = { record { event = Receive (record { 0 = 0 }); reply = Idle } };
+}
