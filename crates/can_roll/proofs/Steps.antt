@@ -3,12 +3,13 @@ use Rattle.std.proofs.Common.{◌≡◌, ◌≢◌, ℕ, zero, suc, ◌+◌, ◌
 use mathlib.Core.Option.{some, none, some-injective, some-ne-none}
 use lib.ListN.{get_elem?}
 use Rattle.atomic_table.specs.Table.{State, Me, Allows, Splits, Joins, keeps, step}
+use Rattle.atomic_table.specs.Seated.{TableId}
 use Rattle.atomic_table.proofs.Lists.{at_set}
 use Rattle.can_bus.specs.declared.events.Entry.{Entry}
 use Rattle.can_roll.specs.declared.rule.View.{View}
 use Rattle.can_roll.specs.declared.rule.View.TheVariants.{Whole, Part, Spent}
 use Rattle.can_roll.specs.Lists.{row, added, last_of, without_last, NotIn, Distinct, AllBelow}
-use Rattle.can_roll.specs.Rule.{IsBrought, Knows, Apart, IsRolled, entered, newcomer, called_in, sent_out, sent, told, Shows, Tells, noted, Notes}
+use Rattle.can_roll.specs.Rule.{IsBrought, Knows, Apart, IsRolled, entered, newcomer, called_in, sent_out, sent, told, Shows, Tells, noted, Notes, IsAtTable}
 use Rattle.can_roll.proofs.Rows.{row_front, row_past, row_added_else, length-added, at_end}
 use Rattle.can_roll.proofs.Passes.{not_in_below, below_more, last_at_end, without_at_end, not_in_end, distinct_end, below_end, not_the_last, not_in_rest, distinct_rest, last_not_in_rest, below_rest, last_below}
 
@@ -316,6 +317,10 @@ sends_as {S} id me lists called some_in is =
     subst (λ (m : Me S View). Splits (λ (s : State S View). IsRolled s.words s.views) id m.0 (sent_out m.0) (sent m.0)) (sym is) (sends id lists called some_in)
 
 -- ---- seats after a step
+
+-- a roll's seat is at its table, which has a word
+pub at_table : (name table seat : TableId) → IsAtTable name table seat → (seat ≡ table) × (0 < table.words)
+at_table name table seat h = (h.1 ∙ sym h.0, omega (arith, ap (λ (t : TableId). t.words) h.0, h.2))
 
 -- the seat of a slip's badge
 pub seated : {S : Type 0} (views : List View) (me : Me S View) (p : ℕ) (calls : List Entry)

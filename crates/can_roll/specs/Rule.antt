@@ -122,6 +122,18 @@ abbrev pub view_in : List View → View
 view_in [] = Spent
 view_in (v ∷ vs) = v
 
+-- a table of one word that `name` names, and a seat of it
+abbrev pub IsAtTable : TableId → TableId → TableId → Type 0
+IsAtTable name table seat = (table ≡ name) × (seat ≡ name) × (name.words ≡ 1)
+
+-- a roll's seat between two calls: its view is a roll's of so many passes, and nothing is left to be told
+abbrev pub IsRollSeat : {S : Type 0} → Me S View → ℕ → Type 0
+IsRollSeat me passes = (me ≡ (Whole (lists_of me.0) (called_of me.0) [], [])) × (length (lists_of me.0) ≡ passes)
+
+-- the badge of a slip of this pass, in the table that `name` names
+abbrev pub IsSlipBadge : TableId → ℕ → TableId → List View → Type 0
+IsSlipBadge name pass table views = (table ≡ name) × (views ≡ Part pass (calls_of (view_in views)) ∷ [])
+
 -- the name of no table
 abbrev pub no_table : TableId
 no_table = record { words = 0; slots = 0; views_name = 0; atom = 0; block = 0; offset = 0; slot_names = [] }
