@@ -1,6 +1,6 @@
 use std::marker::Brand;
 
-/// Names, for contracts alone, one roll for each number. It has no calls.
+/// Names one roll for each number, 0 to 15, for contracts alone: it has no calls.
 pub trait RollName {
     ghost use Rattle.std.specs.Prelude.{ℕ};
     ghost use Rattle.atomic_table.specs.Seated.{TableId};

@@ -1,5 +1,5 @@
 ghost use Rattle.std.specs.Prelude.{◌≡◌, ◌<◌, [], ◌∷◌, ◌++◌, length};
-ghost use Rattle.can_roll.specs.declared.rule.View.TheVariants.{Part};
+ghost use Rattle.can_roll.specs.declared.rule.View.TheVariants.{OfSlip};
 ghost use Rattle.can_roll.specs.Lists.{entry, row, added, last_of, without_last, NotIn};
 ghost use Rattle.can_roll.specs.Seen.{roll_seen, slip_seen};
 
@@ -25,7 +25,7 @@ pub struct RollBlank {
 impl Model for RollBlank {
     ghost use Rattle.std.specs.Prelude.{◌≡◌, []};
     ghost use Rattle.atomic_table.specs.Seated.{TableId, table_id_coded};
-    ghost use Rattle.can_roll.specs.declared.rule.View.TheVariants.{Whole};
+    ghost use Rattle.can_roll.specs.declared.rule.View.TheVariants.{OfRoll};
 
     ghost Value = { TableId };
 
@@ -33,7 +33,7 @@ impl Model for RollBlank {
 
     ghost view = { λ b. b.table.shared.table_id };
 
-    ghost invariant = { λ b. (b.seat.table_id ≡ b.table.shared.table_id) × (b.seat.me ≡ (Whole [] [] [], [])) × (b.table.shared.table_id.words ≡ 1) };
+    ghost invariant = { λ b. (b.seat.table_id ≡ b.table.shared.table_id) × (b.seat.me ≡ (OfRoll [] [] [], [])) × (b.table.shared.table_id.words ≡ 1) };
 }
 
 /// The calls of each pass. To a contract it is its number, the list of calls of each pass with the newest in
@@ -172,7 +172,7 @@ impl<N: RollName> Roll<N> {
         requires { 0 < length self.old.called }
         ensures roll { self.new ≡ roll_seen self.old.number self.old.lists (without_last self.old.called) }
         ensures table { result.table_id ≡ N.roll self.old.number }
-        ensures views { result.views ≡ Part (last_of self.old.called) (row self.old.lists (last_of self.old.called)) ∷ [] }
+        ensures views { result.views ≡ OfSlip (last_of self.old.called) (row self.old.lists (last_of self.old.called)) ∷ [] }
     {
         let table = &self.table;
         table

@@ -1,5 +1,5 @@
 use Rattle.std.proofs.Common.{◌<◌, [], length, sym, ap, ◌∙◌, subst}
-use Rattle.can_roll.specs.declared.rule.View.TheVariants.{Whole}
+use Rattle.can_roll.specs.declared.rule.View.TheVariants.{OfRoll}
 use Rattle.can_roll.specs.Lists.{last_of}
 use Rattle.can_roll.specs.Rule.{lists_of, called_of}
 use Rattle.can_roll.specs.Seen.{RollSeen}
@@ -22,7 +22,7 @@ invariant_of-self g c =
     let new = then_noted g.C.Says.said c.load.new.seat.me c.self.inside.seat.me lists called i.1.0 c.load.ensures.2 in (
       (i.0.0, c.load.ensures.0 ∙ i.0.1, i.0.2),
       (
-        new ∙ (λ k. (Whole (lists_of (sym new k).0) (called_of (sym new k).0) [], [])),
+        new ∙ (λ k. (OfRoll (lists_of (sym new k).0) (called_of (sym new k).0) [], [])),
         ap (λ m. length (lists_of m.0)) new ∙ length-added lists (last_of called) g.C.Says.said ∙ i.1.1,
       ),
     )
