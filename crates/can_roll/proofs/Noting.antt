@@ -2,7 +2,7 @@
 use Rattle.std.proofs.Common.{◌≡◌, ℕ, ◌<◌, List, [], ◌∷◌, ◌++◌, length, ap, ◌∙◌}
 use Rattle.can_bus.specs.declared.events.Entry.{Entry}
 use Rattle.can_roll.specs.declared.rule.View.{View}
-use Rattle.can_roll.specs.declared.rule.View.TheVariants.{Part}
+use Rattle.can_roll.specs.declared.rule.View.TheVariants.{OfSlip}
 use Rattle.can_roll.specs.Lists.{row, added, last_of, without_last}
 use Rattle.can_roll.specs.Seen.{RollSeen, roll_seen}
 use Rattle.can_roll.proofs.Rows.{row_added}
@@ -32,10 +32,10 @@ once_sent old in_hand new p call noted went =
 pub slip_again : (old in_hand : RollSeen) (p : ℕ) (call : Entry) (views : List View)
     → in_hand ≡ roll_seen old.number (added old.lists p call) (old.called ++ p ∷ [])
     → p < length old.lists
-    → views ≡ Part (last_of in_hand.called) (row in_hand.lists (last_of in_hand.called)) ∷ []
-    → views ≡ Part p (call ∷ row old.lists p) ∷ []
+    → views ≡ OfSlip (last_of in_hand.called) (row in_hand.lists (last_of in_hand.called)) ∷ []
+    → views ≡ OfSlip p (call ∷ row old.lists p) ∷ []
 slip_again old in_hand p call views noted below are =
     are
-    ∙ (λ k. Part (last_of (noted k).called) (row (noted k).lists (last_of (noted k).called)) ∷ [])
-    ∙ ap (λ q. Part q (row (added old.lists p call) q) ∷ []) (last_at_end old.called p)
-    ∙ ap (λ l. Part p l ∷ []) (row_added old.lists p call below)
+    ∙ (λ k. OfSlip (last_of (noted k).called) (row (noted k).lists (last_of (noted k).called)) ∷ [])
+    ∙ ap (λ q. OfSlip q (row (added old.lists p call) q) ∷ []) (last_at_end old.called p)
+    ∙ ap (λ l. OfSlip p l ∷ []) (row_added old.lists p call below)

@@ -3,12 +3,13 @@ use Rattle.std.proofs.Common.{◌≡◌, ◌≢◌, ℕ, zero, suc, ◌+◌, ◌
 use mathlib.Core.Option.{some, none, some-injective, some-ne-none}
 use lib.ListN.{get_elem?}
 use Rattle.atomic_table.specs.Table.{State, Me, Allows, Splits, Joins, keeps, step}
+use Rattle.atomic_table.specs.Seated.{TableId}
 use Rattle.atomic_table.proofs.Lists.{at_set}
 use Rattle.can_bus.specs.declared.events.Entry.{Entry}
 use Rattle.can_roll.specs.declared.rule.View.{View}
-use Rattle.can_roll.specs.declared.rule.View.TheVariants.{Whole, Part, Spent}
+use Rattle.can_roll.specs.declared.rule.View.TheVariants.{OfRoll, OfSlip, Spent}
 use Rattle.can_roll.specs.Lists.{row, added, last_of, without_last, NotIn, Distinct, AllBelow}
-use Rattle.can_roll.specs.Rule.{IsBrought, Knows, Apart, IsRolled, entered, newcomer, called_in, sent_out, sent, told, Shows, Tells, noted, Notes}
+use Rattle.can_roll.specs.Rule.{IsBrought, Knows, Apart, IsRolled, entered, newcomer, called_in, sent_out, sent, told, Shows, Tells, noted, Notes, IsAtTable}
 use Rattle.can_roll.proofs.Rows.{row_front, row_past, row_added_else, length-added, at_end}
 use Rattle.can_roll.proofs.Passes.{not_in_below, below_more, last_at_end, without_at_end, not_in_end, distinct_end, below_end, not_the_last, not_in_rest, distinct_rest, last_not_in_rest, below_rest, last_below}
 
@@ -22,9 +23,9 @@ Standing words views id lists called brought =
     × Apart views
 
 standing : (words : List ℕ) (views : List View) (id : ℕ) (lists : List (List Entry)) (called : List ℕ) (brought : List (List Entry))
-    → IsRolled words views → get_elem? views id ≡ some (Whole lists called brought) → Standing words views id lists called brought
+    → IsRolled words views → get_elem? views id ≡ some (OfRoll lists called brought) → Standing words views id lists called brought
 standing words views id lists called brought h at =
-    let mine : Knows h.0 h.1 h.2 h.3 id (Whole lists called brought) = h.8 id (Whole lists called brought) at in
+    let mine : Knows h.0 h.1 h.2 h.3 id (OfRoll lists called brought) = h.8 id (OfRoll lists called brought) at in
     subst
     (λ (x : ℕ × List (List Entry) × List ℕ × List (List Entry)). Standing words views x.0 x.1 x.2 x.3)
     (λ k. (sym mine.0 k, sym mine.1 k, sym mine.2 k, sym mine.3 k))
@@ -33,77 +34,77 @@ standing words views id lists called brought h at =
 -- what the seats know once the roll's view has changed, if the others know it
 knows_set : (views : List View) (id : ℕ) (lists : List (List Entry)) (called : List ℕ) (brought : List (List Entry))
     → ((j : ℕ) (u : View) → j ≢ id → get_elem? views j ≡ some u → Knows id lists called brought j u)
-    → (j : ℕ) (u : View) → get_elem? (set views id (Whole lists called brought)) j ≡ some u → Knows id lists called brought j u
+    → (j : ℕ) (u : View) → get_elem? (set views id (OfRoll lists called brought)) j ≡ some u → Knows id lists called brought j u
 knows_set views id lists called brought others j u e =
     ⊎_elim
-    (λ (x : (j ≡ id) × (Whole lists called brought ≡ u)).
+    (λ (x : (j ≡ id) × (OfRoll lists called brought ≡ u)).
     subst (λ (y : ℕ × View). Knows id lists called brought y.0 y.1) (λ k. (sym x.0 k, x.1 k)) (refl, refl, refl, refl))
     (λ (x : (j ≢ id) × (get_elem? views j ≡ some u)). others j u x.0 x.1)
-    (at_set views id j (Whole lists called brought) u e)
+    (at_set views id j (OfRoll lists called brought) u e)
 
 -- ---- slips stay apart
 
-no_part : (lists : List (List Entry)) (called : List ℕ) (brought : List (List Entry)) (p : ℕ) (calls : List Entry) → Whole lists called brought ≢ Part p calls
-no_part lists called brought p calls e = absurd (cc (e))
+roll_is_no_slip : (lists : List (List Entry)) (called : List ℕ) (brought : List (List Entry)) (p : ℕ) (calls : List Entry) → OfRoll lists called brought ≢ OfSlip p calls
+roll_is_no_slip lists called brought p calls e = absurd (cc (e))
 
-spent_no_part : (p : ℕ) (calls : List Entry) → Spent ≢ Part p calls
-spent_no_part p calls e = absurd (cc (e))
+spent_is_no_slip : (p : ℕ) (calls : List Entry) → Spent ≢ OfSlip p calls
+spent_is_no_slip p calls e = absurd (cc (e))
 
 -- where a seat becomes no slip
-apart_set : (views : List View) (id : ℕ) (w : View) → ((p : ℕ) (xs : List Entry) → w ≢ Part p xs) → Apart views → Apart (set views id w)
+apart_set : (views : List View) (id : ℕ) (w : View) → ((p : ℕ) (xs : List Entry) → w ≢ OfSlip p xs) → Apart views → Apart (set views id w)
 apart_set views id w none_is apart i j p xs ys e f =
     ⊎_elim
-    (λ (x : (i ≡ id) × (w ≡ Part p xs)). absurd (none_is p xs x.1))
-    (λ (x : (i ≢ id) × (get_elem? views i ≡ some (Part p xs))).
+    (λ (x : (i ≡ id) × (w ≡ OfSlip p xs)). absurd (none_is p xs x.1))
+    (λ (x : (i ≢ id) × (get_elem? views i ≡ some (OfSlip p xs))).
     ⊎_elim
-    (λ (y : (j ≡ id) × (w ≡ Part p ys)). absurd (none_is p ys y.1))
-    (λ (y : (j ≢ id) × (get_elem? views j ≡ some (Part p ys))). apart i j p xs ys x.1 y.1)
-    (at_set views id j w (Part p ys) f))
-    (at_set views id i w (Part p xs) e)
+    (λ (y : (j ≡ id) × (w ≡ OfSlip p ys)). absurd (none_is p ys y.1))
+    (λ (y : (j ≢ id) × (get_elem? views j ≡ some (OfSlip p ys))). apart i j p xs ys x.1 y.1)
+    (at_set views id j w (OfSlip p ys) f))
+    (at_set views id i w (OfSlip p xs) e)
 
 -- where a new slip has a pass of its own
-apart_end : (views : List View) (q : ℕ) (l : List Entry) → ((j : ℕ) (ys : List Entry) → get_elem? views j ≢ some (Part q ys)) → Apart views → Apart (views ++ Part q l ∷ [])
+apart_end : (views : List View) (q : ℕ) (l : List Entry) → ((j : ℕ) (ys : List Entry) → get_elem? views j ≢ some (OfSlip q ys)) → Apart views → Apart (views ++ OfSlip q l ∷ [])
 apart_end views q l fresh apart i j p xs ys e f =
     ⊎_elim
-    (λ (x : get_elem? views i ≡ some (Part p xs)).
+    (λ (x : get_elem? views i ≡ some (OfSlip p xs)).
     ⊎_elim
-    (λ (y : get_elem? views j ≡ some (Part p ys)). apart i j p xs ys x y)
-    (λ (y : (j ≡ length views) × (Part q l ≡ Part p ys)).
-    let same : q ≡ p = cc (y.1) in absurd (fresh i xs (x ∙ ap (λ k. some (Part k xs)) (sym same))))
-    (at_end views (Part q l) (Part p ys) j f))
-    (λ (x : (i ≡ length views) × (Part q l ≡ Part p xs)).
+    (λ (y : get_elem? views j ≡ some (OfSlip p ys)). apart i j p xs ys x y)
+    (λ (y : (j ≡ length views) × (OfSlip q l ≡ OfSlip p ys)).
+    let same : q ≡ p = cc (y.1) in absurd (fresh i xs (x ∙ ap (λ k. some (OfSlip k xs)) (sym same))))
+    (at_end views (OfSlip q l) (OfSlip p ys) j f))
+    (λ (x : (i ≡ length views) × (OfSlip q l ≡ OfSlip p xs)).
     ⊎_elim
-    (λ (y : get_elem? views j ≡ some (Part p ys)).
-    let same : q ≡ p = cc (x.1) in absurd (fresh j ys (y ∙ ap (λ k. some (Part k ys)) (sym same))))
-    (λ (y : (j ≡ length views) × (Part q l ≡ Part p ys)). x.0 ∙ sym y.0)
-    (at_end views (Part q l) (Part p ys) j f))
-    (at_end views (Part q l) (Part p xs) i e)
+    (λ (y : get_elem? views j ≡ some (OfSlip p ys)).
+    let same : q ≡ p = cc (x.1) in absurd (fresh j ys (y ∙ ap (λ k. some (OfSlip k ys)) (sym same))))
+    (λ (y : (j ≡ length views) × (OfSlip q l ≡ OfSlip p ys)). x.0 ∙ sym y.0)
+    (at_end views (OfSlip q l) (OfSlip p ys) j f))
+    (at_end views (OfSlip q l) (OfSlip p xs) i e)
 
 -- ---- the steps
 
 -- a roll that was just made
-pub begins : IsRolled (0 ∷ []) (Whole [] [] [] ∷ [])
+pub begins : IsRolled (0 ∷ []) (OfRoll [] [] [] ∷ [])
 begins = (0, [], [], [], refl, tt, tt, tt, one, two)
   where
-    one : (by : ℕ) (v : View) → get_elem? (Whole [] [] [] ∷ []) by ≡ some v → Knows 0 [] [] [] by v
+    one : (by : ℕ) (v : View) → get_elem? (OfRoll [] [] [] ∷ []) by ≡ some v → Knows 0 [] [] [] by v
     one zero v e = subst (Knows 0 [] [] [] 0) (some-injective _ _ e) (refl, refl, refl, refl)
     one (suc by) v e = absurd (some-ne-none v (sym e))
 
-    two : Apart (Whole [] [] [] ∷ [])
-    two zero j p xs ys e f = absurd (no_part [] [] [] p xs (some-injective _ _ e))
-    two (suc i) j p xs ys e f = absurd (some-ne-none (Part p xs) (sym e))
+    two : Apart (OfRoll [] [] [] ∷ [])
+    two zero j p xs ys e f = absurd (roll_is_no_slip [] [] [] p xs (some-injective _ _ e))
+    two (suc i) j p xs ys e f = absurd (some-ne-none (OfSlip p xs) (sym e))
 
 module _ {S : Type 0} where
   abbrev Holds : State S View → Type 0
   Holds s = IsRolled s.words s.views
 
   pub enters : (id : ℕ) (lists : List (List Entry)) (called : List ℕ)
-      → Splits Holds id (Whole lists called []) (entered (Whole lists called [])) (newcomer (Whole lists called []))
+      → Splits Holds id (OfRoll lists called []) (entered (OfRoll lists called [])) (newcomer (OfRoll lists called []))
   enters id lists called s h at =
       let t = standing s.words s.views id lists called [] h at in
       let more = lists ++ [] ∷ [] in
       let longer : length more ≡ length lists + 1 = length-append lists ([] ∷ []) in
-      let w = Whole more called [] in
+      let w = OfRoll more called [] in
       let old : (j : ℕ) (u : View) → get_elem? (set s.views id w) j ≡ some u → Knows id more called [] j u =
       knows_set s.views id more called [] (λ j u n e. stay id lists called longer j u n (t.4 j u e)) in (
         id,
@@ -116,36 +117,36 @@ module _ {S : Type 0} where
         tt,
         (λ j u e. ⊎_elim
             (old j u)
-            (λ (x : (j ≡ length (set s.views id w)) × (Part (length lists) [] ≡ u)).
+            (λ (x : (j ≡ length (set s.views id w)) × (OfSlip (length lists) [] ≡ u)).
             subst (Knows id more called [] j) x.1 (row_front lists (length lists) ∙ row_past lists, omega arith, not_in_below (length lists) called t.2))
-            (at_end (set s.views id w) (Part (length lists) []) u j e)),
+            (at_end (set s.views id w) (OfSlip (length lists) []) u j e)),
         apart_end (set s.views id w) (length lists) []
             (λ j ys e. ⊎_elim
-            (λ (x : (j ≡ id) × (w ≡ Part (length lists) ys)). no_part more called [] (length lists) ys x.1)
-            (λ (x : (j ≢ id) × (get_elem? s.views j ≡ some (Part (length lists) ys))).
-            let k : length lists < length lists = (t.4 j (Part (length lists) ys) x.1).1 in omega (arith, k))
-            (at_set s.views id j w (Part (length lists) ys) e))
-            (apart_set s.views id w (no_part more called []) t.5),
+            (λ (x : (j ≡ id) × (w ≡ OfSlip (length lists) ys)). roll_is_no_slip more called [] (length lists) ys x.1)
+            (λ (x : (j ≢ id) × (get_elem? s.views j ≡ some (OfSlip (length lists) ys))).
+            let k : length lists < length lists = (t.4 j (OfSlip (length lists) ys) x.1).1 in omega (arith, k))
+            (at_set s.views id j w (OfSlip (length lists) ys) e))
+            (apart_set s.views id w (roll_is_no_slip more called []) t.5),
       )
     where
       stay : (id : ℕ) (lists : List (List Entry)) (called : List ℕ) → length (lists ++ [] ∷ []) ≡ length lists + 1
           → (j : ℕ) (u : View) → j ≢ id → Knows id lists called [] j u → Knows id (lists ++ [] ∷ []) called [] j u
-      stay id lists called len j (Whole a b c) n k = absurd (n k.0)
-      stay id lists called len j (Part q l) n k = (row_front lists q ∙ k.0, omega (arith, k.1), k.2)
+      stay id lists called len j (OfRoll a b c) n k = absurd (n k.0)
+      stay id lists called len j (OfSlip q l) n k = (row_front lists q ∙ k.0, omega (arith, k.1), k.2)
       stay id lists called len j Spent n k = tt
 
   pub calls_in : (id : ℕ) (lists : List (List Entry)) (called : List ℕ) (other p : ℕ) (calls : List Entry)
-      → Joins Holds id (Whole lists called []) other (Part p calls) (called_in (Whole lists called []) (Part p calls)) Spent
+      → Joins Holds id (OfRoll lists called []) other (OfSlip p calls) (called_in (OfRoll lists called []) (OfSlip p calls)) Spent
   calls_in id lists called other p calls s h at differ there =
       let t = standing s.words s.views id lists called [] h at in
       let more = called ++ p ∷ [] in
-      let both = Whole lists more (calls ∷ []) in
-      let was : get_elem? s.views other ≡ some (Part p calls) =
+      let both = OfRoll lists more (calls ∷ []) in
+      let was : get_elem? s.views other ≡ some (OfSlip p calls) =
       ⊎_elim
-      (λ (x : (other ≡ id) × (both ≡ Part p calls)). absurd (differ x.0))
-      (λ (x : (other ≢ id) × (get_elem? s.views other ≡ some (Part p calls))). x.1)
-      (at_set s.views id other both (Part p calls) there) in
-      let theirs : Knows id lists called [] other (Part p calls) = t.4 other (Part p calls) was in (
+      (λ (x : (other ≡ id) × (both ≡ OfSlip p calls)). absurd (differ x.0))
+      (λ (x : (other ≢ id) × (get_elem? s.views other ≡ some (OfSlip p calls))). x.1)
+      (at_set s.views id other both (OfSlip p calls) there) in
+      let theirs : Knows id lists called [] other (OfSlip p calls) = t.4 other (OfSlip p calls) was in (
         id,
         lists,
         more,
@@ -164,23 +165,23 @@ module _ {S : Type 0} where
             stay id lists called p calls j u y.0 (λ m same. x.0 (t.5 j other p m calls (y.1 ∙ ap some same) was)) (t.4 j u y.1))
             (at_set s.views id j both u x.1))
             (at_set (set s.views id both) other j Spent u e)),
-        apart_set (set s.views id both) other Spent spent_no_part (apart_set s.views id both (no_part lists more (calls ∷ [])) t.5),
+        apart_set (set s.views id both) other Spent spent_is_no_slip (apart_set s.views id both (roll_is_no_slip lists more (calls ∷ [])) t.5),
       )
     where
       stay : (id : ℕ) (lists : List (List Entry)) (called : List ℕ) (p : ℕ) (calls : List Entry) (j : ℕ) (u : View)
-          → j ≢ id → ((m : List Entry) → u ≢ Part p m) → Knows id lists called [] j u → Knows id lists (called ++ p ∷ []) (calls ∷ []) j u
-      stay id lists called p calls j (Whole a b c) n o k = absurd (n k.0)
-      stay id lists called p calls j (Part q m) n o k = (k.0, k.1, not_in_end q p called k.2 (λ e. o m (ap (λ x. Part x m) e)))
+          → j ≢ id → ((m : List Entry) → u ≢ OfSlip p m) → Knows id lists called [] j u → Knows id lists (called ++ p ∷ []) (calls ∷ []) j u
+      stay id lists called p calls j (OfRoll a b c) n o k = absurd (n k.0)
+      stay id lists called p calls j (OfSlip q m) n o k = (k.0, k.1, not_in_end q p called k.2 (λ e. o m (ap (λ x. OfSlip x m) e)))
       stay id lists called p calls j Spent n o k = tt
 
   words_stay : (s : State S View) → s.words ≡ 0 ∷ [] → set s.words 0 (slice_index s.words 0) ≡ 0 ∷ []
   words_stay s e = ap (λ ws. set ws 0 (slice_index ws 0)) e
 
   pub tells : (slots id : ℕ) (lists : List (List Entry)) (called : List ℕ) (calls : List Entry) → 0 < length called
-      → Allows Holds slots id (Whole lists called (calls ∷ []), []) 0 (λ n. n) (Tells (step slots 0 0 0 none) (Whole lists called (calls ∷ []), []))
+      → Allows Holds slots id (OfRoll lists called (calls ∷ []), []) 0 (λ n. n) (Tells (step slots 0 0 0 none) (OfRoll lists called (calls ∷ []), []))
   tells slots id lists called calls some_in s h homes at fits =
       let t = standing s.words s.views id lists called (calls ∷ []) h at in
-      let w = Whole lists called [] in (
+      let w = OfRoll lists called [] in (
         w,
         keeps,
         tt,
@@ -194,23 +195,23 @@ module _ {S : Type 0} where
           t.2,
           tt,
           knows_set s.views id lists called [] (λ j u n e. stay id lists called calls j u n (t.4 j u e)),
-          apart_set s.views id w (no_part lists called []) t.5,
+          apart_set s.views id w (roll_is_no_slip lists called []) t.5,
         ),
         (refl, refl, (t.3, last_below (length lists) called some_in t.2, last_not_in_rest called t.1)),
       )
     where
       stay : (id : ℕ) (lists : List (List Entry)) (called : List ℕ) (calls : List Entry) (j : ℕ) (u : View)
           → j ≢ id → Knows id lists called (calls ∷ []) j u → Knows id lists called [] j u
-      stay id lists called calls j (Whole a b c) n k = absurd (n k.0)
-      stay id lists called calls j (Part q m) n k = k
+      stay id lists called calls j (OfRoll a b c) n k = absurd (n k.0)
+      stay id lists called calls j (OfSlip q m) n k = k
       stay id lists called calls j Spent n k = tt
 
   pub notes : (call : Entry) (slots id : ℕ) (lists : List (List Entry)) (called : List ℕ) → 0 < length called
-      → Allows Holds slots id (Whole lists called [], []) 0 (λ n. n) (Notes call (step slots 0 0 0 none) (Whole lists called [], []))
+      → Allows Holds slots id (OfRoll lists called [], []) 0 (λ n. n) (Notes call (step slots 0 0 0 none) (OfRoll lists called [], []))
   notes call slots id lists called some_in s h homes at fits =
       let t = standing s.words s.views id lists called [] h at in
       let more = added lists (last_of called) call in
-      let w = Whole more called [] in
+      let w = OfRoll more called [] in
       let len : length more ≡ length lists = length-added lists (last_of called) call in (
         w,
         keeps,
@@ -225,15 +226,15 @@ module _ {S : Type 0} where
           subst (λ n. AllBelow n called) (sym len) t.2,
           tt,
           knows_set s.views id more called [] (λ j u n e. stay call id lists called some_in j u n (t.4 j u e)),
-          apart_set s.views id w (no_part more called []) t.5,
+          apart_set s.views id w (roll_is_no_slip more called []) t.5,
         ),
         (refl, refl),
       )
     where
       stay : (call : Entry) (id : ℕ) (lists : List (List Entry)) (called : List ℕ) → 0 < length called → (j : ℕ) (u : View)
           → j ≢ id → Knows id lists called [] j u → Knows id (added lists (last_of called) call) called [] j u
-      stay call id lists called some_in j (Whole a b d) n k = absurd (n k.0)
-      stay call id lists called some_in j (Part q m) n k = (
+      stay call id lists called some_in j (OfRoll a b d) n k = absurd (n k.0)
+      stay call id lists called some_in j (OfSlip q m) n k = (
         row_added_else lists (last_of called) q call (not_the_last q called some_in k.2) ∙ k.0,
         subst (λ n. q < n) (sym (length-added lists (last_of called) call)) k.1,
         k.2,
@@ -241,12 +242,12 @@ module _ {S : Type 0} where
       stay call id lists called some_in j Spent n k = tt
 
   pub sends : (id : ℕ) (lists : List (List Entry)) (called : List ℕ) → 0 < length called
-      → Splits Holds id (Whole lists called []) (sent_out (Whole lists called [])) (sent (Whole lists called []))
+      → Splits Holds id (OfRoll lists called []) (sent_out (OfRoll lists called [])) (sent (OfRoll lists called []))
   sends id lists called some_in s h at =
       let t = standing s.words s.views id lists called [] h at in
       let p = last_of called in
       let rest = without_last called in
-      let w = Whole lists rest [] in
+      let w = OfRoll lists rest [] in
       let old : (j : ℕ) (u : View) → get_elem? (set s.views id w) j ≡ some u → Knows id lists rest [] j u =
       knows_set s.views id lists rest [] (λ j u n e. stay id lists called j u n (t.4 j u e)) in (
         id,
@@ -259,32 +260,32 @@ module _ {S : Type 0} where
         tt,
         (λ j u e. ⊎_elim
             (old j u)
-            (λ (x : (j ≡ length (set s.views id w)) × (Part p (row lists p) ≡ u)).
+            (λ (x : (j ≡ length (set s.views id w)) × (OfSlip p (row lists p) ≡ u)).
             subst (Knows id lists rest [] j) x.1 (refl, last_below (length lists) called some_in t.2, last_not_in_rest called t.1))
-            (at_end (set s.views id w) (Part p (row lists p)) u j e)),
+            (at_end (set s.views id w) (OfSlip p (row lists p)) u j e)),
         apart_end (set s.views id w) p (row lists p)
             (λ j ys e. ⊎_elim
-            (λ (x : (j ≡ id) × (w ≡ Part p ys)). no_part lists rest [] p ys x.1)
-            (λ (x : (j ≢ id) × (get_elem? s.views j ≡ some (Part p ys))). not_the_last p called some_in (t.4 j (Part p ys) x.1).2 refl)
-            (at_set s.views id j w (Part p ys) e))
-            (apart_set s.views id w (no_part lists rest []) t.5),
+            (λ (x : (j ≡ id) × (w ≡ OfSlip p ys)). roll_is_no_slip lists rest [] p ys x.1)
+            (λ (x : (j ≢ id) × (get_elem? s.views j ≡ some (OfSlip p ys))). not_the_last p called some_in (t.4 j (OfSlip p ys) x.1).2 refl)
+            (at_set s.views id j w (OfSlip p ys) e))
+            (apart_set s.views id w (roll_is_no_slip lists rest []) t.5),
       )
     where
       stay : (id : ℕ) (lists : List (List Entry)) (called : List ℕ) (j : ℕ) (u : View)
           → j ≢ id → Knows id lists called [] j u → Knows id lists (without_last called) [] j u
-      stay id lists called j (Whole a b c) n k = absurd (n k.0)
-      stay id lists called j (Part q m) n k = (k.0, k.1, not_in_rest q called k.2)
+      stay id lists called j (OfRoll a b c) n k = absurd (n k.0)
+      stay id lists called j (OfSlip q m) n k = (k.0, k.1, not_in_rest q called k.2)
       stay id lists called j Spent n k = tt
 
 -- ---- the same at a view that is known by an equation
 
 pub enters_as : {S : Type 0} (id : ℕ) (me : Me S View) (lists : List (List Entry)) (called : List ℕ)
-    → me ≡ (Whole lists called [], []) → Splits (λ (s : State S View). IsRolled s.words s.views) id me.0 (entered me.0) (newcomer me.0)
+    → me ≡ (OfRoll lists called [], []) → Splits (λ (s : State S View). IsRolled s.words s.views) id me.0 (entered me.0) (newcomer me.0)
 enters_as {S} id me lists called is =
     subst (λ (m : Me S View). Splits (λ (s : State S View). IsRolled s.words s.views) id m.0 (entered m.0) (newcomer m.0)) (sym is) (enters id lists called)
 
 pub calls_in_as : {S : Type 0} (id other : ℕ) (me you : Me S View) (lists : List (List Entry)) (called : List ℕ) (p : ℕ) (calls : List Entry)
-    → me ≡ (Whole lists called [], []) → you ≡ (Part p calls, [])
+    → me ≡ (OfRoll lists called [], []) → you ≡ (OfSlip p calls, [])
     → Joins (λ (s : State S View). IsRolled s.words s.views) id me.0 other you.0 (called_in me.0 you.0) Spent
 calls_in_as {S} id other me you lists called p calls is that =
     subst
@@ -293,7 +294,7 @@ calls_in_as {S} id other me you lists called p calls is that =
     (calls_in id lists called other p calls)
 
 pub tells_as : {S : Type 0} (slots id : ℕ) (me : Me S View) (lists : List (List Entry)) (called : List ℕ) (calls : List Entry) → 0 < length called
-    → me ≡ (Whole lists called (calls ∷ []), [])
+    → me ≡ (OfRoll lists called (calls ∷ []), [])
     → Allows (λ (s : State S View). IsRolled s.words s.views) slots id me 0 (λ n. n) (Tells (step slots 0 0 0 none) me)
 tells_as {S} slots id me lists called calls some_in is =
     subst
@@ -302,7 +303,7 @@ tells_as {S} slots id me lists called calls some_in is =
     (tells slots id lists called calls some_in)
 
 pub notes_as : {S : Type 0} (call : Entry) (slots id : ℕ) (me : Me S View) (lists : List (List Entry)) (called : List ℕ) → 0 < length called
-    → me ≡ (Whole lists called [], [])
+    → me ≡ (OfRoll lists called [], [])
     → Allows (λ (s : State S View). IsRolled s.words s.views) slots id me 0 (λ n. n) (Notes call (step slots 0 0 0 none) me)
 notes_as {S} call slots id me lists called some_in is =
     subst
@@ -311,27 +312,31 @@ notes_as {S} call slots id me lists called some_in is =
     (notes call slots id lists called some_in)
 
 pub sends_as : {S : Type 0} (id : ℕ) (me : Me S View) (lists : List (List Entry)) (called : List ℕ) → 0 < length called
-    → me ≡ (Whole lists called [], []) → Splits (λ (s : State S View). IsRolled s.words s.views) id me.0 (sent_out me.0) (sent me.0)
+    → me ≡ (OfRoll lists called [], []) → Splits (λ (s : State S View). IsRolled s.words s.views) id me.0 (sent_out me.0) (sent me.0)
 sends_as {S} id me lists called some_in is =
     subst (λ (m : Me S View). Splits (λ (s : State S View). IsRolled s.words s.views) id m.0 (sent_out m.0) (sent m.0)) (sym is) (sends id lists called some_in)
 
 -- ---- seats after a step
 
+-- a roll's seat is at its table, which has a word
+pub at_table : (name table seat : TableId) → IsAtTable name table seat → (seat ≡ table) × (0 < table.words)
+at_table name table seat h = (h.1 ∙ sym h.0, omega (arith, ap (λ (t : TableId). t.words) h.0, h.2))
+
 -- the seat of a slip's badge
 pub seated : {S : Type 0} (views : List View) (me : Me S View) (p : ℕ) (calls : List Entry)
-    → views ≡ Part p calls ∷ [] → views ≡ me.0 ∷ [] → me.1 ≡ [] → me ≡ (Part p calls, [])
-seated {S} views me p calls a b e = let same : me.0 ≡ Part p calls = cc (a, b) in λ k. (same k, e k)
+    → views ≡ OfSlip p calls ∷ [] → views ≡ me.0 ∷ [] → me.1 ≡ [] → me ≡ (OfSlip p calls, [])
+seated {S} views me p calls a b e = let same : me.0 ≡ OfSlip p calls = cc (a, b) in λ k. (same k, e k)
 
 -- a roll's seat once a pass is called in
 pub joined : {S : Type 0} (new me you : Me S View) (lists : List (List Entry)) (called : List ℕ) (p : ℕ) (calls : List Entry)
-    → new ≡ (called_in me.0 you.0, me.1) → me ≡ (Whole lists called [], []) → you ≡ (Part p calls, [])
-    → new ≡ (Whole lists (called ++ p ∷ []) (calls ∷ []), [])
+    → new ≡ (called_in me.0 you.0, me.1) → me ≡ (OfRoll lists called [], []) → you ≡ (OfSlip p calls, [])
+    → new ≡ (OfRoll lists (called ++ p ∷ []) (calls ∷ []), [])
 joined new me you lists called p calls e is that = e ∙ (λ k. (called_in (is k).0 (that k).0, (is k).1))
 
 -- and once its calls are told, with what that shows
 pub then_told : {S : Type 0} (new me : Me S View) (lists : List (List Entry)) (called : List ℕ) (p : ℕ) (calls : List Entry)
-    → me ≡ (Whole lists (called ++ p ∷ []) (calls ∷ []), []) → (new.0 ≡ told me.0) × (new.1 ≡ me.1) × Shows me.0
-    → (new ≡ (Whole lists (called ++ p ∷ []) [], [])) × (row lists p ≡ calls) × (p < length lists) × NotIn p called
+    → me ≡ (OfRoll lists (called ++ p ∷ []) (calls ∷ []), []) → (new.0 ≡ told me.0) × (new.1 ≡ me.1) × Shows me.0
+    → (new ≡ (OfRoll lists (called ++ p ∷ []) [], [])) × (row lists p ≡ calls) × (p < length lists) × NotIn p called
 then_told {S} new me lists called p calls is t =
     let shown = subst (λ (m : Me S View). Shows m.0) is t.2 in
     let last = last_at_end called p in (
@@ -343,10 +348,10 @@ then_told {S} new me lists called p calls is t =
 
 -- once a call is noted
 pub then_noted : {S : Type 0} (call : Entry) (new me : Me S View) (lists : List (List Entry)) (called : List ℕ)
-    → me ≡ (Whole lists called [], []) → (new.0 ≡ noted call me.0) × (new.1 ≡ me.1) → new ≡ (Whole (added lists (last_of called) call) called [], [])
+    → me ≡ (OfRoll lists called [], []) → (new.0 ≡ noted call me.0) × (new.1 ≡ me.1) → new ≡ (OfRoll (added lists (last_of called) call) called [], [])
 then_noted {S} call new me lists called is t = (λ k. (t.0 k, t.1 k)) ∙ (λ k. (noted call (is k).0, (is k).1))
 
 -- and once the pass is sent out
 pub then_sent : {S : Type 0} (new me : Me S View) (lists : List (List Entry)) (called : List ℕ)
-    → me ≡ (Whole lists called [], []) → new ≡ (sent_out me.0, me.1) → new ≡ (Whole lists (without_last called) [], [])
+    → me ≡ (OfRoll lists called [], []) → new ≡ (sent_out me.0, me.1) → new ≡ (OfRoll lists (without_last called) [], [])
 then_sent {S} new me lists called is e = e ∙ (λ k. (sent_out (is k).0, (is k).1))

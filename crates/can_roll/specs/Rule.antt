@@ -6,7 +6,7 @@ use Rattle.atomic_table.specs.Table.{Me, Step}
 use Rattle.atomic_table.specs.Seated.{TableId}
 use Rattle.can_bus.specs.declared.events.Entry.{Entry}
 use Rattle.can_roll.specs.declared.rule.View.{View}
-use Rattle.can_roll.specs.declared.rule.View.TheVariants.{Whole, Part, Spent}
+use Rattle.can_roll.specs.declared.rule.View.TheVariants.{OfRoll, OfSlip, Spent}
 use Rattle.can_roll.specs.Lists.{row, added, last_of, without_last, NotIn, Distinct, AllBelow}
 
 -- ---- the rule
@@ -19,13 +19,13 @@ IsBrought lists called (calls ∷ more) = row lists (last_of called) ≡ calls
 -- what the seat `by` knows, where the roll's view is that of the seat `seat`: no other seat has a roll's view, and a
 -- slip has the roll's list of its pass, which has entered and is not called in; of a spent view nothing is said
 abbrev pub Knows : ℕ → List (List Entry) → List ℕ → List (List Entry) → ℕ → View → Type 0
-Knows seat lists called brought by (Whole lists' called' brought') = (by ≡ seat) × (lists' ≡ lists) × (called' ≡ called) × (brought' ≡ brought)
-Knows seat lists called brought by (Part p calls) = (row lists p ≡ calls) × (p < length lists) × NotIn p called
+Knows seat lists called brought by (OfRoll lists' called' brought') = (by ≡ seat) × (lists' ≡ lists) × (called' ≡ called) × (brought' ≡ brought)
+Knows seat lists called brought by (OfSlip p calls) = (row lists p ≡ calls) × (p < length lists) × NotIn p called
 Knows seat lists called brought by Spent = Unit {0}
 
 -- no two seats have a slip of the same pass
 abbrev pub Apart : List View → Type 0
-Apart views = (i j p : ℕ) (xs ys : List Entry) → get_elem? views i ≡ some (Part p xs) → get_elem? views j ≡ some (Part p ys) → i ≡ j
+Apart views = (i j p : ℕ) (xs ys : List Entry) → get_elem? views i ≡ some (OfSlip p xs) → get_elem? views j ≡ some (OfSlip p ys) → i ≡ j
 
 -- the rule: the word is 0, no pass is called in twice, each pass called in has entered, what was brought is the roll's,
 -- each seat knows what the roll has, and slips are of different passes
@@ -40,35 +40,35 @@ IsRolled words views =
 
 -- `enter` leaves the roll with one more list, an empty one
 abbrev pub entered : View → View
-entered (Whole lists called brought) = Whole (lists ++ [] ∷ []) called brought
-entered (Part p calls) = Part p calls
+entered (OfRoll lists called brought) = OfRoll (lists ++ [] ∷ []) called brought
+entered (OfSlip p calls) = OfSlip p calls
 entered Spent = Spent
 
 -- and gives the slip of the next pass, with no call
 abbrev pub newcomer : View → View
-newcomer (Whole lists called brought) = Part (length lists) []
-newcomer (Part p calls) = Spent
+newcomer (OfRoll lists called brought) = OfSlip (length lists) []
+newcomer (OfSlip p calls) = Spent
 newcomer Spent = Spent
 
 -- a pass is called in: it comes to the end of the passes called in, and brings its calls
 abbrev pub called_in : View → View → View
-called_in (Whole lists called brought) (Part p calls) = Whole lists (called ++ p ∷ []) (calls ∷ [])
-called_in (Whole lists called brought) (Whole lists' called' brought') = Whole lists called brought
-called_in (Whole lists called brought) Spent = Whole lists called brought
-called_in (Part p calls) other = Part p calls
+called_in (OfRoll lists called brought) (OfSlip p calls) = OfRoll lists (called ++ p ∷ []) (calls ∷ [])
+called_in (OfRoll lists called brought) (OfRoll lists' called' brought') = OfRoll lists called brought
+called_in (OfRoll lists called brought) Spent = OfRoll lists called brought
+called_in (OfSlip p calls) other = OfSlip p calls
 called_in Spent other = Spent
 
 -- the roll once the calls brought are told: it keeps them no longer
 abbrev pub told : View → View
-told (Whole lists called brought) = Whole lists called []
-told (Part p calls) = Part p calls
+told (OfRoll lists called brought) = OfRoll lists called []
+told (OfSlip p calls) = OfSlip p calls
 told Spent = Spent
 
 -- what is told: the calls brought are the roll's list of the pass, which has entered and had not been called in before
 abbrev pub Shows : View → Type 0
-Shows (Whole lists called (calls ∷ more)) = (row lists (last_of called) ≡ calls) × (last_of called < length lists) × NotIn (last_of called) (without_last called)
-Shows (Whole lists called []) = Unit {0}
-Shows (Part p calls) = Unit {0}
+Shows (OfRoll lists called (calls ∷ more)) = (row lists (last_of called) ≡ calls) × (last_of called < length lists) × NotIn (last_of called) (without_last called)
+Shows (OfRoll lists called []) = Unit {0}
+Shows (OfSlip p calls) = Unit {0}
 Shows Spent = Unit {0}
 
 -- the load that tells
@@ -77,8 +77,8 @@ Tells step old found new = (new.0 ≡ told old.0) × (new.1 ≡ old.1) × Shows 
 
 -- the roll with one more call of the pass called in last
 abbrev pub noted : Entry → View → View
-noted call (Whole lists called brought) = Whole (added lists (last_of called) call) called brought
-noted call (Part p calls) = Part p calls
+noted call (OfRoll lists called brought) = OfRoll (added lists (last_of called) call) called brought
+noted call (OfSlip p calls) = OfSlip p calls
 noted call Spent = Spent
 
 -- the load that notes a call
@@ -87,40 +87,52 @@ Notes call step old found new = (new.0 ≡ noted call old.0) × (new.1 ≡ old.1
 
 -- sending out leaves the roll without the pass called in last
 abbrev pub sent_out : View → View
-sent_out (Whole lists called brought) = Whole lists (without_last called) brought
-sent_out (Part p calls) = Part p calls
+sent_out (OfRoll lists called brought) = OfRoll lists (without_last called) brought
+sent_out (OfSlip p calls) = OfSlip p calls
 sent_out Spent = Spent
 
 -- and gives that pass a slip, with the roll's list of it
 abbrev pub sent : View → View
-sent (Whole lists called brought) = Part (last_of called) (row lists (last_of called))
-sent (Part p calls) = Spent
+sent (OfRoll lists called brought) = OfSlip (last_of called) (row lists (last_of called))
+sent (OfSlip p calls) = Spent
 sent Spent = Spent
 
 -- ---- readings of a view
 
 -- the calls of each pass, in a roll's view
 abbrev pub lists_of : View → List (List Entry)
-lists_of (Whole lists called brought) = lists
-lists_of (Part p calls) = []
+lists_of (OfRoll lists called brought) = lists
+lists_of (OfSlip p calls) = []
 lists_of Spent = []
 
 -- the passes called in, in a roll's view
 abbrev pub called_of : View → List ℕ
-called_of (Whole lists called brought) = called
-called_of (Part p calls) = []
+called_of (OfRoll lists called brought) = called
+called_of (OfSlip p calls) = []
 called_of Spent = []
 
 -- the calls in a slip's view
 abbrev pub calls_of : View → List Entry
-calls_of (Part p calls) = calls
-calls_of (Whole lists called brought) = []
+calls_of (OfSlip p calls) = calls
+calls_of (OfRoll lists called brought) = []
 calls_of Spent = []
 
 -- the view that a badge has, a spent one where it has none
 abbrev pub view_in : List View → View
 view_in [] = Spent
 view_in (v ∷ vs) = v
+
+-- a table of one word that `name` names, and a seat of it
+abbrev pub IsAtTable : TableId → TableId → TableId → Type 0
+IsAtTable name table seat = (table ≡ name) × (seat ≡ name) × (name.words ≡ 1)
+
+-- a roll's seat between two calls: its view is a roll's of so many passes, and nothing is left to be told
+abbrev pub IsRollSeat : {S : Type 0} → Me S View → ℕ → Type 0
+IsRollSeat me passes = (me ≡ (OfRoll (lists_of me.0) (called_of me.0) [], [])) × (length (lists_of me.0) ≡ passes)
+
+-- the badge of a slip of this pass, in the table that `name` names
+abbrev pub IsSlipBadge : TableId → ℕ → TableId → List View → Type 0
+IsSlipBadge name pass table views = (table ≡ name) × (views ≡ OfSlip pass (calls_of (view_in views)) ∷ [])
 
 -- the name of no table
 abbrev pub no_table : TableId

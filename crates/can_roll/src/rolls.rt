@@ -1,9 +1,11 @@
 ghost use Rattle.std.specs.Prelude.{◌≡◌, ◌<◌, [], ◌∷◌, ◌++◌, length};
-ghost use Rattle.can_roll.specs.declared.rule.View.TheVariants.{Part};
+ghost use Rattle.can_roll.specs.declared.rule.View.TheVariants.{OfSlip};
 ghost use Rattle.can_roll.specs.Lists.{entry, row, added, last_of, without_last, NotIn};
 ghost use Rattle.can_roll.specs.Seen.{roll_seen, slip_seen};
 
+use crate::names::RollName;
 use crate::rule::{CallsIn, Enters, Law, Note, Says, Sends, Tell, View};
+use crate::slips::Slip;
 use atomic_table::{Badge, Seat, Table};
 use can_bus::{Event, Reply};
 use std::alloc::{AllocError, Global};
@@ -12,20 +14,6 @@ use std::mem;
 
 /// The table of a roll: one word, and no slot.
 type Word = Table<(), View, (), Law, Global>;
-
-/// Names, for contracts alone, one roll for each number. It has no calls.
-pub trait RollName {
-    ghost use Rattle.std.specs.Prelude.{ℕ};
-    ghost use Rattle.atomic_table.specs.Seated.{TableId};
-
-    ghost roll: { ℕ → TableId };
-}
-
-impl RollName for Brand {
-    ghost use Rattle.can_roll.specs.Rule.{no_table};
-
-    ghost roll = { λ _. no_table };
-}
 
 /// A roll that has no number yet. To a contract it is the identity of its table, which a [`RollName`] can name.
 #[derive(Drop)]
@@ -37,7 +25,7 @@ pub struct RollBlank {
 impl Model for RollBlank {
     ghost use Rattle.std.specs.Prelude.{◌≡◌, []};
     ghost use Rattle.atomic_table.specs.Seated.{TableId, table_id_coded};
-    ghost use Rattle.can_roll.specs.declared.rule.View.TheVariants.{Whole};
+    ghost use Rattle.can_roll.specs.declared.rule.View.TheVariants.{OfRoll};
 
     ghost Value = { TableId };
 
@@ -45,7 +33,7 @@ impl Model for RollBlank {
 
     ghost view = { λ b. b.table.shared.table_id };
 
-    ghost invariant = { λ b. (b.seat.table_id ≡ b.table.shared.table_id) × (b.seat.me ≡ (Whole [] [] [], [])) × (b.table.shared.table_id.words ≡ 1) };
+    ghost invariant = { λ b. (b.seat.table_id ≡ b.table.shared.table_id) × (b.seat.me ≡ (OfRoll [] [] [], [])) × (b.table.shared.table_id.words ≡ 1) };
 }
 
 /// The calls of each pass. To a contract it is its number, the list of calls of each pass with the newest in
@@ -60,42 +48,18 @@ pub struct Roll<N: RollName> {
 }
 
 impl<N: RollName> Model for Roll<N> {
-    ghost use Rattle.std.specs.Prelude.{◌≡◌, length, []};
-    ghost use Rattle.can_roll.specs.declared.rule.View.TheVariants.{Whole};
-    ghost use Rattle.can_roll.specs.Rule.{lists_of, called_of};
+    ghost use Rattle.can_roll.specs.Rule.{lists_of, called_of, IsAtTable, IsRollSeat};
     ghost use Rattle.can_roll.specs.Seen.{RollSeen};
 
     ghost Value = { RollSeen };
 
     ghost view = { λ r. record { number = r.number; lists = lists_of r.seat.me.0; called = called_of r.seat.me.0 } };
 
-    ghost invariant = { λ r. (r.table.shared.table_id ≡ N.roll r.number) × (r.seat.table_id ≡ N.roll r.number) × ((N.roll r.number).words ≡ 1) × (r.seat.me ≡ (Whole (lists_of r.seat.me.0) (called_of r.seat.me.0) [], [])) × (length (lists_of r.seat.me.0) ≡ r.passes) };
-}
-
-/// A pass's part of its roll. To a contract it is the roll's number, its own pass, and the calls that were
-/// noted with it, the newest in front.
-#[derive(Drop)]
-pub struct Slip<N: RollName> {
-    badge: Badge<View>,
-    number: u8,
-    pass: u32,
-    name: PhantomData<N>,
-}
-
-impl<N: RollName> Model for Slip<N> {
-    ghost use Rattle.std.specs.Prelude.{◌≡◌, [], ◌∷◌};
-    ghost use Rattle.can_roll.specs.declared.rule.View.TheVariants.{Part};
-    ghost use Rattle.can_roll.specs.Rule.{calls_of, view_in};
-    ghost use Rattle.can_roll.specs.Seen.{SlipSeen};
-
-    ghost Value = { SlipSeen };
-
-    ghost view = { λ s. record { number = s.number; pass = s.pass; calls = calls_of (view_in s.badge.views) } };
-
-    ghost invariant = { λ s. (s.badge.table_id ≡ N.roll s.number) × (s.badge.views ≡ Part s.pass (calls_of (view_in s.badge.views)) ∷ []) };
+    ghost invariant = { λ r. IsAtTable (N.roll r.number) r.table.shared.table_id r.seat.table_id × IsRollSeat r.seat.me r.passes };
 }
 
 /// A roll without passes, for [`Roll::new`]. It fails only where memory is refused.
+#[tactic(auto, using(crate::proofs::Steps::begins))]
 pub fn roll_blank(alloc: Global) -> Result<RollBlank, AllocError> {
     let (table, seat) = Table::of_words(alloc, &[0], &())?;
     Ok(RollBlank { table, seat })
@@ -208,28 +172,12 @@ impl<N: RollName> Roll<N> {
         requires { 0 < length self.old.called }
         ensures roll { self.new ≡ roll_seen self.old.number self.old.lists (without_last self.old.called) }
         ensures table { result.table_id ≡ N.roll self.old.number }
-        ensures views { result.views ≡ Part (last_of self.old.called) (row self.old.lists (last_of self.old.called)) ∷ [] }
+        ensures views { result.views ≡ OfSlip (last_of self.old.called) (row self.old.lists (last_of self.old.called)) ∷ [] }
     {
         let table = &self.table;
         table
             .shared
             .split_seat::<Sends>(&mut self.seat)
             .into_badge()
-    }
-}
-
-impl<N: RollName> Slip<N> {
-    /// The number of its roll.
-    pub fn number(&self) -> u8
-        ensures { result ≡ self.now.number }
-    {
-        self.number
-    }
-
-    /// Its pass.
-    pub fn pass(&self) -> u32
-        ensures { result ≡ self.now.pass }
-    {
-        self.pass
     }
 }

@@ -3,13 +3,13 @@ use can_bus::Entry;
 use std::collections::LinkedList;
 use std::marker::{Brand, PhantomData};
 
-/// What a seat of the table knows. It is for contracts alone: no value of it is made.
+/// What a seat of the table knows. It is for contracts alone: the program makes no value of it.
 pub enum View {
     /// A roll's seat: the calls of each pass, the passes called in with the last at the end, and, until it is
     /// told, the one list of calls that the last one brought.
-    Whole(LinkedList<LinkedList<Entry>>, LinkedList<u64>, LinkedList<LinkedList<Entry>>),
+    OfRoll(LinkedList<LinkedList<Entry>>, LinkedList<u64>, LinkedList<LinkedList<Entry>>),
     /// A slip's seat: its pass and its calls.
-    Part(u64, LinkedList<Entry>),
+    OfSlip(u64, LinkedList<Entry>),
     /// The seat of a slip that was called in.
     Spent,
 }
@@ -19,12 +19,12 @@ pub struct Law;
 
 impl<S> TableRule<S, View, ()> for Law {
     ghost use Rattle.std.specs.Prelude.{[]};
-    ghost use Rattle.can_roll.specs.declared.rule.View.TheVariants.{Whole};
+    ghost use Rattle.can_roll.specs.declared.rule.View.TheVariants.{OfRoll};
     ghost use Rattle.can_roll.specs.Rule.{IsRolled};
 
     ghost holds = { λ _ s. IsRolled s.words s.views };
 
-    ghost first = { λ _. Whole [] [] [] };
+    ghost first = { λ _. OfRoll [] [] [] };
 }
 
 /// The roll hands out a slip of the next pass.

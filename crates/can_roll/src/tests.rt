@@ -1,6 +1,6 @@
 ghost use Rattle.std.specs.Prelude.{◌≡◌};
 
-use crate::rolls::{Roll, RollBlank, RollName, roll_blank};
+use crate::{Roll, RollBlank, RollName, roll_blank};
 use can_bus::{Event, Reply, SocketId};
 use std::marker::Brand;
 use std::process::Abort;

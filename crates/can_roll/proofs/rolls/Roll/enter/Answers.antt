@@ -1,8 +1,8 @@
-use Rattle.std.proofs.Common.{ap, sym, ◌∙◌, arith}
-use Rattle.can_roll.proofs.Steps.{enters_as}
+use Rattle.can_roll.proofs.Steps.{enters_as, at_table}
 use Rattle.can_roll.proofs.rolls.Roll.enter.Goals as goal
 
 pub split_seat-seat-requires : goal.split_seat-seat-requires
 split_seat-seat-requires g c =
     let i = c.self.invariant in
-    (i.1 ∙ sym i.0, omega (arith, ap (λ t. t.words) i.0, i.2), enters_as _ c.self.inside.seat.me _ _ i.3)
+    let at = at_table _ _ _ i.0 in
+    (at.0, at.1, enters_as _ c.self.inside.seat.me _ _ i.1.0)

@@ -1,5 +1,5 @@
 use Rattle.std.proofs.Common.{◌≡◌, ◌<◌, [], ◌∷◌, length, sym, ap, ◌∙◌, subst}
-use Rattle.can_roll.specs.declared.rule.View.TheVariants.{Part}
+use Rattle.can_roll.specs.declared.rule.View.TheVariants.{OfSlip}
 use Rattle.can_roll.specs.Lists.{entry, row, added}
 use Rattle.can_roll.specs.Rule.{calls_of, view_in}
 use Rattle.can_roll.specs.Seen.{RollSeen, SlipSeen, roll_seen, slip_seen}
@@ -16,7 +16,7 @@ invariant_of-slip g c =
     let views = slip_again old c.note_last.new.self p call c.send_last.result.views noted c.recall.ensures.below c.send_last.ensures.views in
     let same : old.number ≡ c.slip.inside.number = sym (ap (λ (v : SlipSeen). v.number) c.slip.view_is ∙ c.requires) in (
       c.send_last.ensures.table ∙ ap (λ (v : RollSeen). g.N.RollName.roll v.number) noted ∙ ap g.N.RollName.roll same,
-      views ∙ sym (ap (λ vs. Part p (calls_of (view_in vs)) ∷ []) views),
+      views ∙ sym (ap (λ vs. OfSlip p (calls_of (view_in vs)) ∷ []) views),
     )
 
 pub returns : goal.returns
