@@ -1,0 +1,4 @@
+pub mod Publications
+pub mod Readings
+pub mod Rule
+pub mod Words

@@ -1,0 +1,46 @@
+use Rattle.std.specs.Prelude.{ℕ, zero, suc, List, [], ◌∷◌, length, if◌then◌else◌, nat_le}
+use mathlib.Core.List.{IsSuffix}
+use Rattle.can_confine.specs.Confinement.{at_start}
+use Rattle.can_meter.specs.declared.status.Status.{Status}
+
+-- What is published of interfaces: a list of publications for each, the newest first. A publication is a status.
+
+-- what is known of an interface before its first publication: no entry, and both counts 0
+abbrev pub opening : Status
+opening = record { at = 0; counters = at_start }
+
+-- the newest of these publications, or the opening where there is none
+abbrev pub newest : List Status → Status
+newest [] = opening
+newest (p ∷ ps) = p
+
+-- the list of interface i, which is empty past the end of the lists
+abbrev pub published : List (List Status) → ℕ → List Status
+published [] i = []
+published (ps ∷ lists) zero = ps
+published (ps ∷ lists) (suc i) = published lists i
+
+-- the lists with ps as that of interface i
+abbrev pub with_list : List (List Status) → ℕ → List Status → List (List Status)
+with_list [] zero ps = ps ∷ []
+with_list [] (suc i) ps = [] ∷ with_list [] i ps
+with_list (qs ∷ lists) zero ps = ps ∷ lists
+with_list (qs ∷ lists) (suc i) ps = qs ∷ with_list lists i ps
+
+-- the lists after p was published of interface i
+abbrev pub with_newest : List (List Status) → ℕ → Status → List (List Status)
+with_newest lists i p = with_list lists i (p ∷ published lists i)
+
+-- the longer of two lists, and the second where neither is
+abbrev pub longer : List Status → List Status → List Status
+longer ps qs = if nat_le (length ps) (length qs) then qs else ps
+
+-- of each interface the longer list
+abbrev pub longer_lists : List (List Status) → List (List Status) → List (List Status)
+longer_lists [] others = others
+longer_lists (ps ∷ lists) [] = ps ∷ lists
+longer_lists (ps ∷ lists) (qs ∷ others) = longer ps qs ∷ longer_lists lists others
+
+-- of each interface, the older list is an end of the other: that one, with newer publications in front or none
+abbrev pub Ends : List (List Status) → List (List Status) → Type 0
+Ends older lists = (i : ℕ) → IsSuffix (published older i) (published lists i)

@@ -1,0 +1,26 @@
+use Rattle.std.specs.Prelude.{ℕ, List}
+use Rattle.can_meter.specs.declared.status.Status.{Status}
+use Rattle.can_meter.specs.Publications.{with_list, with_newest}
+
+-- What contracts see of a keeper or a gauge.
+
+-- its meter's number, how many interfaces that has, and what this side knows was published of each
+pub record Readings : Type 0 where
+  pub number : ℕ
+  pub ifaces : ℕ
+  pub lists : List (List Status)
+
+abbrev pub readings : ℕ → ℕ → List (List Status) → Readings
+readings number ifaces lists = record { number = number; ifaces = ifaces; lists = lists }
+
+-- the same side, knowing these lists
+abbrev pub knowing : Readings → List (List Status) → Readings
+knowing side lists = readings side.number side.ifaces lists
+
+-- the same side, with ps as its list of interface i
+abbrev pub reading : Readings → ℕ → List Status → Readings
+reading side i ps = knowing side (with_list side.lists i ps)
+
+-- the same side after p was published of interface i
+abbrev pub publishing : Readings → ℕ → Status → Readings
+publishing side i p = knowing side (with_newest side.lists i p)

@@ -1,0 +1,97 @@
+use Rattle.std.specs.Prelude.{◌≡◌, ℕ, ◌<◌, List, [], ◌∷◌, length, slice_index}
+use mathlib.Core.List.{IsSuffix}
+use mathlib.Core.Option.{some}
+use lib.ListN.{get_elem?}
+use Rattle.atomic_table.specs.Table.{State, Me, Step}
+use Rattle.atomic_table.specs.Seated.{TableId}
+use Rattle.can_meter.specs.declared.status.Status.{Status}
+use Rattle.can_meter.specs.declared.rule.View.{View}
+use Rattle.can_meter.specs.declared.rule.View.TheVariants.{Keeps, Watches, Spent}
+use Rattle.can_meter.specs.Publications.{newest, published, with_list, with_newest, longer_lists, Ends}
+use Rattle.can_meter.specs.Words.{meant, Fits}
+
+-- The rule that a meter's words and seats keep between any two steps, and what each step tells its caller.
+
+-- each publication fits in a word, and is of a longer record than the one before it
+abbrev pub AreRising : List Status → Type 0
+AreRising [] = Unit {0}
+AreRising (p ∷ ps) = ((newest ps).at < p.at) × Fits p × AreRising ps
+
+-- each of these lists is an end
+abbrev pub AllEnd : List (List (List Status)) → List (List Status) → Type 0
+AllEnd [] lists = Unit {0}
+AllEnd (older ∷ olds) lists = Ends older lists × AllEnd olds lists
+
+-- the one keeper has all publications, a gauge an end of each list, and what a seat took in are ends too
+abbrev pub Knows : ℕ → List (List Status) → ℕ → View → Type 0
+Knows keeper all seat (Keeps lists olds) = (seat ≡ keeper) × (lists ≡ all) × AllEnd olds all
+Knows keeper all seat (Watches lists olds) = Ends lists all × AllEnd olds all
+Knows keeper all seat Spent = Unit {0}
+
+-- each word keeps the newest publication of its interface, publications rise, and each seat knows its part
+abbrev pub Metered : ℕ → List ℕ → List View → Type 0
+Metered count words views =
+    (keeper : ℕ) × (all : List (List Status))
+    × (length words ≡ count)
+    × ((i : ℕ) → i < count → meant (slice_index words i) ≡ newest (published all i))
+    × ((i : ℕ) → AreRising (published all i))
+    × ((seat : ℕ) (v : View) → get_elem? views seat ≡ some v → Knows keeper all seat v)
+
+-- the lists that a seat has
+abbrev pub lists_of : View → List (List Status)
+lists_of (Keeps lists olds) = lists
+lists_of (Watches lists olds) = lists
+lists_of Spent = []
+
+-- the lists that it took in, and its own before that
+abbrev pub olds_of : View → List (List (List Status))
+olds_of (Keeps lists olds) = olds
+olds_of (Watches lists olds) = olds
+olds_of Spent = []
+
+-- a gauge that has seen as much as this seat
+abbrev pub watcher : View → View
+watcher v = Watches (lists_of v) []
+
+-- a gauge that has seen nothing
+abbrev pub newcomer : View → View
+newcomer v = Watches [] []
+
+-- a seat that took in another: a keeper keeps its lists, a gauge the longer of both
+abbrev pub taken_in : View → View → View
+taken_in (Keeps lists olds) w = Keeps lists (lists_of w ∷ olds)
+taken_in (Watches lists olds) w = Watches (longer_lists lists (lists_of w)) (lists ∷ lists_of w ∷ olds)
+taken_in Spent w = Spent
+
+-- a seat that was told of its old lists, and dropped them
+abbrev pub told : View → View
+told (Keeps lists olds) = Keeps lists []
+told (Watches lists olds) = Watches lists []
+told Spent = Spent
+
+-- a load: the gauge's list of this interface becomes one that it is an end of, and whose newest was found
+abbrev pub Reads : {S : Type 0} → Step S → Me S View → ℕ → Me S View → Type 0
+Reads s v found w =
+    (seen : List Status)
+    × (w.0 ≡ Watches (with_list (lists_of v.0) s.word seen) []) × (w.1 ≡ v.1)
+    × IsSuffix (published (lists_of v.0) s.word) seen × AreRising seen × (meant found ≡ newest seen)
+
+-- a load: the old lists are ends of the seat's own, and are dropped
+abbrev pub Tells : {S : Type 0} → Step S → Me S View → ℕ → Me S View → Type 0
+Tells s v found w = (w.0 ≡ told v.0) × (w.1 ≡ v.1) × AllEnd (olds_of v.0) (lists_of v.0)
+
+-- a store: the keeper's list of this interface has what the word keeps in front
+abbrev pub Stores : {S : Type 0} → Step S → Me S View → ℕ → Me S View → Type 0
+Stores s v found w = (w.0 ≡ Keeps (with_newest (lists_of v.0) s.word (meant found)) []) × (w.1 ≡ v.1)
+
+-- the name of no table
+abbrev pub no_table : TableId
+no_table = record { words = 0; slots = 0; views_name = 0; atom = 0; block = 0; offset = 0; slot_names = [] }
+
+-- a seat at the meter's table, whose key is the number of its words: it knows v, and has no slot
+pub record IsSeated {S : Type 0} (table : TableId) (key : ℕ) (seat : TableId) (me : Me S View) (meter : TableId) (v : View) : Type 0 where
+  pub table_is : table ≡ meter
+  pub key_is : key ≡ meter.words
+  pub seat_is : seat ≡ meter
+  pub not_empty : 0 < meter.words
+  pub me_is : me ≡ (v, [])

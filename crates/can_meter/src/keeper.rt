@@ -1,0 +1,82 @@
+ghost use Rattle.std.specs.Prelude.{◌≡◌, ◌<◌};
+ghost use Rattle.can_meter.specs.Publications.{newest, published, Ends};
+ghost use Rattle.can_meter.specs.Readings.{publishing};
+
+use crate::blank::{MeterName, Place, Words};
+use crate::gauge::Gauge;
+use crate::rule::{Publish, Tell, TakesIn};
+use crate::status::Status;
+use crate::word::word;
+use can_confine::Counters;
+use std::alloc::Global;
+use std::marker::{Model, PhantomData};
+use std::sync::Arc;
+
+/// The one side of a meter that publishes. To a contract it is its meter's number and all that it has
+/// published of each interface, newest first.
+#[derive(Drop)]
+pub struct Keeper<N: MeterName> {
+    pub(crate) table: Arc<Words, Global>,
+    pub(crate) seat: Place,
+    pub(crate) number: u8,
+    pub(crate) name: PhantomData<N>,
+}
+
+impl<N: MeterName> Model for Keeper<N> {
+    ghost use Rattle.std.specs.Prelude.{[]};
+    ghost use Rattle.std.specs.Arc.{arc_value};
+    ghost use Rattle.can_meter.specs.declared.rule.View.TheVariants.{Keeps};
+    ghost use Rattle.can_meter.specs.Readings.{Readings, readings};
+    ghost use Rattle.can_meter.specs.Rule.{lists_of, IsSeated};
+
+    ghost Value = { Readings };
+
+    ghost view = { λ k. readings k.number (N.meter k.number).words (lists_of k.seat.me.0) };
+
+    ghost invariant = { λ k. IsSeated (arc_value k.table).shared.table_id (arc_value k.table).shared.key k.seat.table_id k.seat.me (N.meter k.number) (Keeps (lists_of k.seat.me.0) []) };
+}
+
+impl<N: MeterName> Keeper<N> {
+    /// The number under which its meter was named.
+    pub fn number(&self) -> u8
+        ensures { result ≡ self.now.number }
+    {
+        self.number
+    }
+
+    /// How many interfaces its meter has.
+    pub fn ifaces(&self) -> usize
+        ensures { result ≡ self.now.ifaces }
+    {
+        self.table.word_count()
+    }
+
+    /// Publishes an interface's counters and the length of the record, which is above the length that was
+    /// published of this interface before. It waits for nobody.
+    pub fn publish(&mut self, iface: usize, at: u32, counters: Counters)
+        requires iface { iface < self.old.ifaces }
+        requires later { (newest (published self.old.lists iface)).at < at }
+        ensures { self.new ≡ publishing self.old iface (record { at = at; counters = counters }) }
+    {
+        let word = word(Status { at, counters });
+        self.table
+            .shared
+            .store::<Publish>(&mut self.seat, iface, word);
+    }
+
+    /// Takes in a gauge of the same number. All that the gauge has seen was published.
+    pub fn absorb(&mut self, gauge: Gauge<N>)
+        requires { gauge.number ≡ self.old.number }
+        ensures same { self.new ≡ self.old }
+        ensures seen { Ends gauge.lists self.old.lists }
+    {
+        let Gauge {
+            table: _,
+            seat,
+            number: _,
+            name: _,
+        } = gauge;
+        self.table.shared.join_seat::<TakesIn>(&mut self.seat, seat);
+        self.table.shared.load::<Tell>(&mut self.seat, 0);
+    }
+}

@@ -1,0 +1,35 @@
+ghost use Rattle.std.specs.Prelude.{◌≡◌};
+ghost use Rattle.can_meter.specs.Words.{word_of, meant, Fits};
+
+use crate::status::Status;
+use can_confine::Counters;
+
+/// How many values the receive count's bits have.
+const REC_VALUES: u64 = 256;
+
+/// How many values the transmit count's bits have.
+const TEC_VALUES: u64 = 512;
+
+/// The word that keeps a publication.
+pub(crate) fn word(publication: Status) -> u64
+    ensures word { result ≡ word_of publication }
+    ensures fits { Fits publication }
+{
+    let tec = publication.counters.tec();
+    let rec = publication.counters.rec();
+    (u64::from(publication.at) * TEC_VALUES + u64::from(tec)) * REC_VALUES + u64::from(rec)
+}
+
+/// The publication that a word keeps.
+pub(crate) fn read_word(word: u64) -> Status
+    requires { Fits (meant word) }
+    ensures { result ≡ meant word }
+{
+    let at = (word / REC_VALUES / TEC_VALUES) as u32;
+    let tec = (word / REC_VALUES % TEC_VALUES) as u16;
+    let rec = (word % REC_VALUES) as u16;
+    match Counters::new(tec, rec) {
+        Some(counters) => Status { at, counters },
+        None => unreachable!(),
+    }
+}
