@@ -95,6 +95,7 @@ longer_ends a b all p q = ((λ i. (each i).0), (λ i. (each i).1), (λ i. (each 
   where
     Longest : ℕ → List Status → Type 0
     Longest i ps = IsSuffix (published a i) ps × IsSuffix (published b i) ps × IsSuffix ps (published all i)
+
     each : (i : ℕ) → Longest i (published (longer_lists a b) i)
     each i = subst (Longest i) (sym (published-longer a b i)) (longer_is (published a i) (published b i) (published all i) (p i) (q i))
 

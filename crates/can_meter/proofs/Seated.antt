@@ -38,7 +38,7 @@ module _ {S : Type 0} (table : TableId) (key : ℕ) (seat : TableId) (me : Me S 
     s.seat_is ∙ sym s.table_is,
     subst (λ t. word < t.words) (sym s.table_is) lt,
     subst (λ (x : Me S View × ℕ). Allows Rule slots id x.0 word (λ _. x.1) (λ _. Stores (step slots word x.1 0 none) x.0 x.1)) (λ k. (sym s.me_is k, sym same k))
-    (stores key slots id word lists p (subst (λ n. word < n) (sym s.key_is) lt) fits later),
+        (stores key slots id word lists p (subst (λ n. word < n) (sym s.key_is) lt) fits later),
   )
 
   -- a gauge's seat, to be split
@@ -90,7 +90,7 @@ module _ {S : Type 0} (word found : ℕ) (me after : Me S View) where
 
   pub shows_one : Reads (step 0 word 0 0 none) me found after → lists_of after.0 ≡ with_list (lists_of me.0) word (published (lists_of after.0) word)
   shows_one r =
-    ap lists_of r.1 ∙ ap (with_list (lists_of me.0) word) (sym (ap (λ v. published (lists_of v) word) r.1 ∙ published-with_list (lists_of me.0) word r.0))
+      ap lists_of r.1 ∙ ap (with_list (lists_of me.0) word) (sym (ap (λ v. published (lists_of v) word) r.1 ∙ published-with_list (lists_of me.0) word r.0))
 
 -- what the telling load told a keeper of one gauge that it took in
 pub keeper_learns : {S : Type 0} (me : Me S View) (lists older : List (List Status)) → me ≡ (Keeps lists (older ∷ []), []) → AllEnd (olds_of me.0) (lists_of me.0) → Ends older lists

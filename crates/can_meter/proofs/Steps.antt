@@ -64,51 +64,51 @@ module _ {S : Type 0} (count : ℕ) where
   pub reads : (slots id word : ℕ) (lists : List (List Status)) → word < count
       → Allows Holds slots id (Watches lists [], []) word (λ n. n) (Reads (step slots word 0 0 none) (Watches lists [], []))
   reads slots id word lists lt s h homes at fits =
-    let mine : Knows h.0 h.1 id (Watches lists []) = h.5 id (Watches lists []) at in
-    let seen = published h.1 word in
-    let w = Watches (with_list lists word seen) [] in
-    let now : Knows h.0 h.1 id w = (lists_with (λ j ps. IsSuffix ps (published h.1 j)) lists word seen (suffix_refl seen) (λ j _. mine.0 j), tt) in
-    (w, keeps, tt, stays s h word id w now, (seen, refl, refl, mine.0 word, h.4 word, h.3 word lt))
+      let mine : Knows h.0 h.1 id (Watches lists []) = h.5 id (Watches lists []) at in
+      let seen = published h.1 word in
+      let w = Watches (with_list lists word seen) [] in
+      let now : Knows h.0 h.1 id w = (lists_with (λ j ps. IsSuffix ps (published h.1 j)) lists word seen (suffix_refl seen) (λ j _. mine.0 j), tt) in
+      (w, keeps, tt, stays s h word id w now, (seen, refl, refl, mine.0 word, h.4 word, h.3 word lt))
 
   pub stores : (slots id word : ℕ) (lists : List (List Status)) (p : Status) → word < count → Fits p → (newest (published lists word)).at < p.at
       → Allows Holds slots id (Keeps lists [], []) word (λ _. word_of p) (λ _. Stores (step slots word (word_of p) 0 none) (Keeps lists [], []) (word_of p))
   stores slots id word lists p lt fits later s h homes at small =
-    let mine : Knows h.0 h.1 id (Keeps lists []) = h.5 id (Keeps lists []) at in
-    let q = meant (word_of p) in
-    let same : q ≡ p = meant-word_of p fits in
-    let ps = q ∷ published lists word in
-    let more = with_list lists word ps in
-    let grows : Ends h.1 more = subst (λ ls. Ends ls more) mine.1 (ends_newest lists word q) in
-    let was : (i : ℕ) → i < count → meant (slice_index s.words i) ≡ newest (published lists i) =
+      let mine : Knows h.0 h.1 id (Keeps lists []) = h.5 id (Keeps lists []) at in
+      let q = meant (word_of p) in
+      let same : q ≡ p = meant-word_of p fits in
+      let ps = q ∷ published lists word in
+      let more = with_list lists word ps in
+      let grows : Ends h.1 more = subst (λ ls. Ends ls more) mine.1 (ends_newest lists word q) in
+      let was : (i : ℕ) → i < count → meant (slice_index s.words i) ≡ newest (published lists i) =
       subst (λ ls. (i : ℕ) → i < count → meant (slice_index s.words i) ≡ newest (published ls i)) (sym mine.1) h.3 in
-    let rose : (i : ℕ) → AreRising (published lists i) = subst (λ ls. (i : ℕ) → AreRising (published ls i)) (sym mine.1) h.4 in
-    let ws = set s.words word (word_of p) in
-    let len : length ws ≡ count = length-set s.words word (word_of p) ∙ h.2 in
-    let there : word < length s.words = omega arith in
-    let here : word < count → meant (slice_index ws word) ≡ q = λ _. ap meant (get_or-set_same s.words word (word_of p) 0 there) in
-    let else : (j : ℕ) → j ≢ word → j < count → meant (slice_index ws j) ≡ newest (published lists j) =
+      let rose : (i : ℕ) → AreRising (published lists i) = subst (λ ls. (i : ℕ) → AreRising (published ls i)) (sym mine.1) h.4 in
+      let ws = set s.words word (word_of p) in
+      let len : length ws ≡ count = length-set s.words word (word_of p) ∙ h.2 in
+      let there : word < length s.words = omega arith in
+      let here : word < count → meant (slice_index ws word) ≡ q = λ _. ap meant (get_or-set_same s.words word (word_of p) 0 there) in
+      let else : (j : ℕ) → j ≢ word → j < count → meant (slice_index ws j) ≡ newest (published lists j) =
       λ j n l. ap meant (get_or-set_other s.words word j (word_of p) 0 n) ∙ was j l in
-    let now : (j : ℕ) → j < count → meant (slice_index ws j) ≡ newest (published more j) =
+      let now : (j : ℕ) → j < count → meant (slice_index ws j) ≡ newest (published more j) =
       lists_with (λ j qs. j < count → meant (slice_index ws j) ≡ newest qs) lists word ps here else in
-    let rises : AreRising ps = (subst (λ r. (newest (published lists word)).at < r.at) (sym same) later, subst Fits (sym same) fits, rose word) in
-    let rise : (j : ℕ) → AreRising (published more j) = lists_with (λ _ qs. AreRising qs) lists word ps rises (λ j _. rose j) in
-    let others : (j : ℕ) (u : View) → j ≢ id → get_elem? s.views j ≡ some u → Knows h.0 more j u =
+      let rises : AreRising ps = (subst (λ r. (newest (published lists word)).at < r.at) (sym same) later, subst Fits (sym same) fits, rose word) in
+      let rise : (j : ℕ) → AreRising (published more j) = lists_with (λ _ qs. AreRising qs) lists word ps rises (λ j _. rose j) in
+      let others : (j : ℕ) (u : View) → j ≢ id → get_elem? s.views j ≡ some u → Knows h.0 more j u =
       λ j u apart e. knows_more h.0 h.1 more j u (λ k. apart (k ∙ sym mine.0)) grows (h.5 j u e) in
-    (Keeps more [], keeps, tt, (h.0, more, len, now, rise, knows_set h.0 more s.views id (Keeps more []) others (mine.0, refl, tt)), (refl, refl))
+      (Keeps more [], keeps, tt, (h.0, more, len, now, rise, knows_set h.0 more s.views id (Keeps more []) others (mine.0, refl, tt)), (refl, refl))
 
   pub tells_keeper : (slots id word : ℕ) (lists olds : List (List Status))
       → Allows Holds slots id (Keeps lists (olds ∷ []), []) word (λ n. n) (Tells (step slots word 0 0 none) (Keeps lists (olds ∷ []), []))
   tells_keeper slots id word lists olds s h homes at fits =
-    let mine : Knows h.0 h.1 id (Keeps lists (olds ∷ [])) = h.5 id (Keeps lists (olds ∷ [])) at in
-    (Keeps lists [], keeps, tt, stays s h word id (Keeps lists []) (mine.0, mine.1, tt), (refl, refl, (subst (Ends olds) (sym mine.1) mine.2.0, tt)))
+      let mine : Knows h.0 h.1 id (Keeps lists (olds ∷ [])) = h.5 id (Keeps lists (olds ∷ [])) at in
+      (Keeps lists [], keeps, tt, stays s h word id (Keeps lists []) (mine.0, mine.1, tt), (refl, refl, (subst (Ends olds) (sym mine.1) mine.2.0, tt)))
 
   pub tells_gauge : (slots id word : ℕ) (a b : List (List Status))
       → Allows Holds slots id (Watches (longer_lists a b) (a ∷ b ∷ []), []) word (λ n. n) (Tells (step slots word 0 0 none) (Watches (longer_lists a b) (a ∷ b ∷ []), []))
   tells_gauge slots id word a b s h homes at fits =
-    let ls = longer_lists a b in
-    let mine : Knows h.0 h.1 id (Watches ls (a ∷ b ∷ [])) = h.5 id (Watches ls (a ∷ b ∷ [])) at in
-    let both = longer_ends a b h.1 mine.1.0 mine.1.1.0 in
-    (Watches ls [], keeps, tt, stays s h word id (Watches ls []) (mine.0, tt), (refl, refl, (both.0, (both.1, tt))))
+      let ls = longer_lists a b in
+      let mine : Knows h.0 h.1 id (Watches ls (a ∷ b ∷ [])) = h.5 id (Watches ls (a ∷ b ∷ [])) at in
+      let both = longer_ends a b h.1 mine.1.0 mine.1.1.0 in
+      (Watches ls [], keeps, tt, stays s h word id (Watches ls []) (mine.0, tt), (refl, refl, (both.0, (both.1, tt))))
 
   -- a new seat beside the others
   splits : (s : State S View) (h : Holds s) (id : ℕ) (v new : View) → get_elem? s.views id ≡ some v → ((j : ℕ) → Knows h.0 h.1 j new) → Metered count s.words (set s.views id v ++ new ∷ [])
@@ -132,12 +132,12 @@ module _ {S : Type 0} (count : ℕ) where
 
   pub takes_in : (id : ℕ) (v : View) (other : ℕ) (w : View) → Joins Holds id v other w (taken_in v w) Spent
   takes_in id v other w s h at apart there =
-    let both = taken_in v w in
-    let theirs =
+      let both = taken_in v w in
+      let theirs =
       ⊎_elim
       (λ (t : (other ≡ id) × (both ≡ w)). absurd (apart t.0))
       (λ (t : (other ≢ id) × (get_elem? s.views other ≡ some w)). h.5 other w t.1)
       (at_set s.views id other both w there) in
-    let mine = knows_taken h.0 h.1 id v w (h.5 id v at) (ends_all h.0 h.1 other w theirs) in
-    let others = knows_set h.0 h.1 s.views id both (λ i x _ y. h.5 i x y) mine in
-    (h.0, h.1, h.2, h.3, h.4, knows_set h.0 h.1 (set s.views id both) other Spent (λ j u _ e. others j u e) tt)
+      let mine = knows_taken h.0 h.1 id v w (h.5 id v at) (ends_all h.0 h.1 other w theirs) in
+      let others = knows_set h.0 h.1 s.views id both (λ i x _ y. h.5 i x y) mine in
+      (h.0, h.1, h.2, h.3, h.4, knows_set h.0 h.1 (set s.views id both) other Spent (λ j u _ e. others j u e) tt)

@@ -4,7 +4,7 @@ ghost use Rattle.can_meter.specs.Readings.{publishing};
 
 use crate::blank::{MeterName, Place, Words};
 use crate::gauge::Gauge;
-use crate::rule::{Publish, Tell, TakesIn};
+use crate::rule::{Publish, TakesIn, Tell};
 use crate::status::Status;
 use crate::word::word;
 use can_confine::Counters;

@@ -8,15 +8,9 @@ use std::collections::LinkedList;
 /// What a seat knows: for each interface a list of publications, and such lists that it took in.
 pub enum View {
     /// The keeper: all that it published.
-    Keeps(
-        LinkedList<LinkedList<Status>>,
-        LinkedList<LinkedList<LinkedList<Status>>>,
-    ),
+    Keeps(LinkedList<LinkedList<Status>>, LinkedList<LinkedList<LinkedList<Status>>>),
     /// A gauge: what it has seen.
-    Watches(
-        LinkedList<LinkedList<Status>>,
-        LinkedList<LinkedList<LinkedList<Status>>>,
-    ),
+    Watches(LinkedList<LinkedList<Status>>, LinkedList<LinkedList<LinkedList<Status>>>),
     /// A gauge that was taken in.
     Spent,
 }
