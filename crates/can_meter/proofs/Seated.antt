@@ -1,5 +1,5 @@
 -- What each call owes the table, and what it learns, at a seat whose view is known by an equation.
-use Rattle.std.proofs.Common.{◌≡◌, ℕ, ◌<◌, List, [], ◌∷◌, refl, ap, sym, ◌∙◌, subst}
+use Rattle.std.proofs.Common.{◌≡◌, ℕ, ◌<◌, List, [], ◌∷◌, ap, sym, ◌∙◌, subst}
 use mathlib.Core.List.{IsSuffix}
 use mathlib.Core.Option.{none}
 use Rattle.atomic_table.specs.Table.{State, Me, Allows, Splits, Joins, step}
@@ -7,11 +7,11 @@ use Rattle.atomic_table.specs.Seated.{TableId}
 use Rattle.can_meter.specs.declared.status.Status.{Status}
 use Rattle.can_meter.specs.declared.rule.View.{View}
 use Rattle.can_meter.specs.declared.rule.View.TheVariants.{Keeps, Watches, Spent}
-use Rattle.can_meter.specs.Publications.{newest, published, with_list, with_newest, longer_lists, Ends}
-use Rattle.can_meter.specs.Rule.{AllEnd, Metered, Reads, Tells, Stores, newcomer, watcher, taken_in, told, lists_of, olds_of, IsSeated}
+use Rattle.can_meter.specs.Publications.{newest, published, with_list, longer_lists, Ends}
+use Rattle.can_meter.specs.Rule.{AllEnd, Metered, Reads, Tells, Stores, watcher, taken_in, lists_of, olds_of, IsSeated}
 use Rattle.can_meter.specs.Words.{word_of, meant, Fits}
 use Rattle.can_meter.proofs.Lists.{published-with_list}
-use Rattle.can_meter.proofs.Steps.{reads, stores, tells_keeper, tells_gauge, opens, copies, takes_in}
+use Rattle.can_meter.proofs.Steps.{reads, stores, tells_keeper, tells_gauge, copies, takes_in}
 
 -- a seat at a table that is lent is at the table
 pub seated_in : {S : Type 0} (table : TableId) (key : ℕ) (seat : TableId) (me : Me S View) (meter : TableId) (v : View) (lent : TableId) (lent_key : ℕ)
