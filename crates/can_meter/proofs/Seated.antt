@@ -1,5 +1,5 @@
 -- What each call owes the table, and what it learns, at a seat whose view is known by an equation.
-use Rattle.std.proofs.Common.{◌≡◌, ℕ, ◌<◌, List, [], ◌∷◌, refl, ap, sym, ◌∙◌, subst}
+use Rattle.std.proofs.Common.{◌≡◌, ℕ, ◌<◌, List, [], ◌∷◌, ap, sym, ◌∙◌, subst}
 use mathlib.Core.List.{IsSuffix}
 use mathlib.Core.Option.{none}
 use Rattle.atomic_table.specs.Table.{State, Me, Allows, Splits, Joins, step}
@@ -7,11 +7,11 @@ use Rattle.atomic_table.specs.Seated.{TableId}
 use Rattle.can_meter.specs.declared.status.Status.{Status}
 use Rattle.can_meter.specs.declared.rule.View.{View}
 use Rattle.can_meter.specs.declared.rule.View.TheVariants.{Keeps, Watches, Spent}
-use Rattle.can_meter.specs.Publications.{newest, published, with_list, with_newest, longer_lists, Ends}
-use Rattle.can_meter.specs.Rule.{AllEnd, Metered, Reads, Tells, Stores, newcomer, watcher, taken_in, told, lists_of, olds_of, IsSeated}
+use Rattle.can_meter.specs.Publications.{newest, published, with_list, longer_lists, Ends}
+use Rattle.can_meter.specs.Rule.{AllEnd, Metered, Reads, Tells, Stores, watcher, taken_in, told, lists_of, olds_of, IsSeated}
 use Rattle.can_meter.specs.Words.{word_of, meant, Fits}
 use Rattle.can_meter.proofs.Lists.{published-with_list}
-use Rattle.can_meter.proofs.Steps.{reads, stores, tells_keeper, tells_gauge, opens, copies, takes_in}
+use Rattle.can_meter.proofs.Steps.{reads, stores, tells_keeper, tells_gauge, copies, takes_in}
 
 -- a seat at a table that is lent is at the table
 pub seated_in : {S : Type 0} (table : TableId) (key : ℕ) (seat : TableId) (me : Me S View) (meter : TableId) (v : View) (lent : TableId) (lent_key : ℕ)
@@ -92,10 +92,19 @@ module _ {S : Type 0} (word found : ℕ) (me after : Me S View) where
   shows_one r =
       ap lists_of r.1 ∙ ap (with_list (lists_of me.0) word) (sym (ap (λ v. published (lists_of v) word) r.1 ∙ published-with_list (lists_of me.0) word r.0))
 
--- what the telling load told a keeper of one gauge that it took in
-pub keeper_learns : {S : Type 0} (me : Me S View) (lists older : List (List Status)) → me ≡ (Keeps lists (older ∷ []), []) → AllEnd (olds_of me.0) (lists_of me.0) → Ends older lists
-keeper_learns {S} me lists older is all = (subst (λ (m : Me S View). AllEnd (olds_of m.0) (lists_of m.0)) is all).0
+-- what a keeper is told that took in one gauge
+pub keeper_learns : {S : Type 0} (me other taken : Me S View) (mine theirs : List (List Status)) → me ≡ (Keeps mine [], []) → other ≡ (Watches theirs [], [])
+    → taken ≡ (taken_in me.0 other.0, me.1) → AllEnd (olds_of taken.0) (lists_of taken.0) → Ends theirs mine
+keeper_learns {S} me other taken mine theirs is other_is taken_is all =
+    let whole : taken ≡ (Keeps mine (theirs ∷ []), []) = taken_is ∙ (λ k. (taken_in (is k).0 (other_is k).0, (is k).1)) in
+    (subst (λ (m : Me S View). AllEnd (olds_of m.0) (lists_of m.0)) whole all).0
 
--- and a gauge
-pub gauge_learns : {S : Type 0} (me : Me S View) (lists a b : List (List Status)) → me ≡ (Watches lists (a ∷ b ∷ []), []) → AllEnd (olds_of me.0) (lists_of me.0) → Ends a lists × Ends b lists
-gauge_learns {S} me lists a b is all = let t = subst (λ (m : Me S View). AllEnd (olds_of m.0) (lists_of m.0)) is all in (t.0, t.1.0)
+-- and a gauge, and what it knows then
+pub gauge_learns : {S : Type 0} (me other taken after : Me S View) (mine theirs : List (List Status)) → me ≡ (Watches mine [], []) → other ≡ (Watches theirs [], [])
+    → taken ≡ (taken_in me.0 other.0, me.1) → after.0 ≡ told taken.0 → AllEnd (olds_of taken.0) (lists_of taken.0)
+    → Ends mine (lists_of after.0) × Ends theirs (lists_of after.0)
+gauge_learns {S} me other taken after mine theirs is other_is taken_is told_is all =
+    let whole : taken ≡ (Watches (longer_lists mine theirs) (mine ∷ theirs ∷ []), []) = taken_is ∙ (λ k. (taken_in (is k).0 (other_is k).0, (is k).1)) in
+    let knows : longer_lists mine theirs ≡ lists_of after.0 = sym (ap lists_of told_is ∙ ap (λ m. lists_of (told m.0)) whole) in
+    let ends = subst (λ (m : Me S View). AllEnd (olds_of m.0) (lists_of m.0)) whole all in
+    (subst (Ends mine) knows ends.0, subst (Ends theirs) knows ends.1.0)

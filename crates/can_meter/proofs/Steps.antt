@@ -1,17 +1,17 @@
 -- Each step keeps the rule.
-use Rattle.std.proofs.Common.{◌≡◌, ◌≢◌, ◌⊎◌, ℕ, zero, suc, ◌+◌, ◌<◌, ◌≤◌, List, [], ◌∷◌, ◌++◌, length, set, get_or, slice_index, get_or-set_same, get_or-set_other, refl, ap, sym, ◌∙◌, subst, ⊎_elim, arith, length-set}
+use Rattle.std.proofs.Common.{◌≡◌, ◌≢◌, ℕ, zero, suc, ◌<◌, List, [], ◌∷◌, ◌++◌, length, set, slice_index, get_or-set_same, get_or-set_other, refl, ap, sym, ◌∙◌, subst, ⊎_elim, arith, length-set}
 use mathlib.Core.List.{IsSuffix, suffix_refl, nil-suffix}
 use mathlib.Core.Option.{some, none, some-injective, some-ne-none}
 use lib.ListN.{get_elem?}
-use Rattle.atomic_table.specs.Table.{State, Me, Allows, Splits, Joins, Act, keeps, step}
+use Rattle.atomic_table.specs.Table.{State, Allows, Splits, Joins, keeps, step}
 use Rattle.atomic_table.proofs.Lists.{at_set, at_snoc, set_again}
 use Rattle.can_meter.specs.declared.status.Status.{Status}
 use Rattle.can_meter.specs.declared.rule.View.{View}
 use Rattle.can_meter.specs.declared.rule.View.TheVariants.{Keeps, Watches, Spent}
-use Rattle.can_meter.specs.Publications.{newest, published, with_list, with_newest, longer_lists, Ends}
-use Rattle.can_meter.specs.Rule.{AreRising, AllEnd, Knows, Metered, Reads, Tells, Stores, newcomer, watcher, taken_in, told, lists_of, olds_of}
+use Rattle.can_meter.specs.Publications.{newest, published, with_list, longer_lists, Ends}
+use Rattle.can_meter.specs.Rule.{AreRising, Knows, Metered, Reads, Tells, Stores, newcomer, watcher, taken_in, lists_of}
 use Rattle.can_meter.specs.Words.{word_of, meant, Fits}
-use Rattle.can_meter.proofs.Lists.{published-with_list, lists_with, ends_self, ends_trans, all_end_trans, ends_newest, longer_ends, meant-word_of}
+use Rattle.can_meter.proofs.Lists.{lists_with, ends_self, ends_trans, all_end_trans, ends_newest, longer_ends, meant-word_of}
 
 set_same : (words : List ℕ) (i : ℕ) → set words i (slice_index words i) ≡ words
 set_same [] i = refl

@@ -18,9 +18,9 @@ abbrev pub knowing : Readings → List (List Status) → Readings
 knowing side lists = readings side.number side.ifaces lists
 
 -- the same side, with ps as its list of interface i
-abbrev pub reading : Readings → ℕ → List Status → Readings
-reading side i ps = knowing side (with_list side.lists i ps)
+abbrev pub knowing_of : Readings → ℕ → List Status → Readings
+knowing_of side i ps = knowing side (with_list side.lists i ps)
 
 -- the same side after p was published of interface i
-abbrev pub publishing : Readings → ℕ → Status → Readings
-publishing side i p = knowing side (with_newest side.lists i p)
+abbrev pub after_publishing : Readings → ℕ → Status → Readings
+after_publishing side i p = knowing side (with_newest side.lists i p)

@@ -2,7 +2,7 @@ use Rattle.std.specs.Prelude.{◌≡◌, ℕ, ◌<◌, List, [], ◌∷◌, leng
 use mathlib.Core.List.{IsSuffix}
 use mathlib.Core.Option.{some}
 use lib.ListN.{get_elem?}
-use Rattle.atomic_table.specs.Table.{State, Me, Step}
+use Rattle.atomic_table.specs.Table.{Me, Step}
 use Rattle.atomic_table.specs.Seated.{TableId}
 use Rattle.can_meter.specs.declared.status.Status.{Status}
 use Rattle.can_meter.specs.declared.rule.View.{View}
@@ -10,7 +10,7 @@ use Rattle.can_meter.specs.declared.rule.View.TheVariants.{Keeps, Watches, Spent
 use Rattle.can_meter.specs.Publications.{newest, published, with_list, with_newest, longer_lists, Ends}
 use Rattle.can_meter.specs.Words.{meant, Fits}
 
--- The rule that a meter's words and seats keep between any two steps, and what each step tells its caller.
+-- The rule that a meter's words and seats keep between any two steps, and what each step tells its caller. No caller's contract speaks of it.
 
 -- each publication fits in a word, and is of a longer record than the one before it
 abbrev pub AreRising : List Status → Type 0

@@ -1,7 +1,7 @@
 use Rattle.std.specs.Prelude.{ℕ, ◌+◌, ◌*◌, ◌/◌, ◌%◌, ◌<◌, ◌≤◌}
 use Rattle.can_meter.specs.declared.status.Status.{Status}
 
--- How one word of 64 bits keeps a publication.
+-- How one word of 64 bits keeps a publication. No caller's contract speaks of it.
 
 -- from the lowest bit on: 8 bits of receive count, 9 of transmit count, and the length of the record
 abbrev pub word_of : Status → ℕ

@@ -1,7 +1,7 @@
 ghost use Rattle.std.specs.Prelude.{◌≡◌, ◌<◌, IfOk, MatchResult};
 ghost use mathlib.Core.List.{IsSuffix};
 ghost use Rattle.can_meter.specs.Publications.{newest, published, longer_lists, Ends};
-ghost use Rattle.can_meter.specs.Readings.{knowing, reading};
+ghost use Rattle.can_meter.specs.Readings.{knowing, knowing_of};
 
 use crate::blank::{MeterName, Place, Words};
 use crate::rule::{Copies, Look, TakesIn, Tell};
@@ -50,19 +50,19 @@ impl<N: MeterName> Gauge<N> {
         self.table.word_count()
     }
 
-    /// What was published last of an interface, at first 0 entries and 0/0. It is one load, and waits for
-    /// nobody: what it reads may be no longer the newest when it returns, but it never goes back.
+    /// What was published last of an interface, at first 0 entries and 0/0. One load, which waits for
+    /// nobody. A newer status may be published before it returns, but a gauge never goes back.
     pub fn status(&mut self, iface: usize) -> Status
         requires { iface < self.old.ifaces }
         ensures status { result ≡ newest (published self.new.lists iface) }
         ensures grows { IsSuffix (published self.old.lists iface) (published self.new.lists iface) }
-        ensures others { self.new ≡ reading self.old iface (published self.new.lists iface) }
+        ensures others { self.new ≡ knowing_of self.old iface (published self.new.lists iface) }
     {
         let word = self.table.shared.load::<Look>(&mut self.seat, iface);
         read_word(word)
     }
 
-    /// Two gauges that have seen as much as this one. It comes back alone where another is refused.
+    /// Two gauges that have seen as much as this one. It comes back alone where `another` is refused.
     pub fn split(mut self) -> Result<(Gauge<N>, Gauge<N>), Gauge<N>>
         ensures { MatchResult result (λ gauges. (gauges.0 ≡ self) × (gauges.1 ≡ self)) (λ gauge. gauge ≡ self) }
     {
@@ -72,7 +72,8 @@ impl<N: MeterName> Gauge<N> {
         }
     }
 
-    /// Another gauge that has seen as much as this one, which stays as it is.
+    /// Another gauge that has seen as much as this one, which stays as it is. `AllocError` where no more
+    /// gauges can be counted; no memory is taken.
     pub fn another(&mut self) -> Result<Gauge<N>, AllocError>
         ensures same { self.new ≡ self.old }
         ensures another { IfOk result (λ gauge. gauge ≡ self.old) }

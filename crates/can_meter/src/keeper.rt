@@ -1,6 +1,6 @@
 ghost use Rattle.std.specs.Prelude.{◌≡◌, ◌<◌};
 ghost use Rattle.can_meter.specs.Publications.{newest, published, Ends};
-ghost use Rattle.can_meter.specs.Readings.{publishing};
+ghost use Rattle.can_meter.specs.Readings.{after_publishing};
 
 use crate::blank::{MeterName, Place, Words};
 use crate::gauge::Gauge;
@@ -51,12 +51,12 @@ impl<N: MeterName> Keeper<N> {
         self.table.word_count()
     }
 
-    /// Publishes an interface's counters and the length of the record, which is above the length that was
-    /// published of this interface before. It waits for nobody.
+    /// Publishes an interface's counters and the length of the record, which is above the last length that
+    /// was published of this interface. One store, which waits for nobody.
     pub fn publish(&mut self, iface: usize, at: u32, counters: Counters)
         requires iface { iface < self.old.ifaces }
         requires later { (newest (published self.old.lists iface)).at < at }
-        ensures { self.new ≡ publishing self.old iface (record { at = at; counters = counters }) }
+        ensures { self.new ≡ after_publishing self.old iface (record { at = at; counters = counters }) }
     {
         let word = word(Status { at, counters });
         self.table

@@ -1,8 +1,8 @@
-use Rattle.std.proofs.Common.{◌≡◌, ◌∙◌, [], ap, sym, subst}
+use Rattle.std.proofs.Common.{◌∙◌, [], ap, sym, subst}
 use Rattle.can_meter.specs.declared.rule.View.TheVariants.{Watches}
-use Rattle.can_meter.specs.Publications.{longer_lists, Ends}
+use Rattle.can_meter.specs.Publications.{Ends}
 use Rattle.can_meter.specs.Readings.{Readings}
-use Rattle.can_meter.specs.Rule.{told, lists_of}
+use Rattle.can_meter.specs.Rule.{lists_of}
 use Rattle.can_meter.proofs.Seated.{seated_in, takes_in_at, seated_taken, gauge_told_at, gauge_learns}
 use Rattle.can_meter.proofs.gauge.Gauge.join.Goals as goal
 
@@ -29,22 +29,18 @@ pub returns-clause-this : goal.returns-clause-this
 returns-clause-this g c =
     let me = c.self.inside.seat.me in
     let other = c.other.inside.seat.me in
-    let after = c.join_seat.new.seat.me in
-    let v = Watches (lists_of me.0) [] in
-    let w = Watches (lists_of other.0) [] in
-    let taken = seated_taken _ _ _ me _ v w _ _ _ other _ _ after c.self.invariant c.other.invariant c.join_seat.ensures.0 c.join_seat.ensures.2 in
-    let kept = ap lists_of c.load.ensures.2.0 ∙ ap (λ m. lists_of (told m.0)) taken.me_is in
-    let learned = gauge_learns after (longer_lists (lists_of me.0) (lists_of other.0)) (lists_of me.0) (lists_of other.0) taken.me_is c.load.ensures.2.2 in
-    subst (λ (v : Readings). Ends v.lists (lists_of c.load.new.seat.me.0)) c.self.view_is (subst (Ends (lists_of me.0)) (sym kept) learned.0)
+    let after = c.load.new.seat.me in
+    let told = c.load.ensures.2 in
+    let learned =
+    gauge_learns me other c.join_seat.new.seat.me after (lists_of me.0) (lists_of other.0) c.self.invariant.me_is c.other.invariant.me_is c.join_seat.ensures.2 told.0 told.2 in
+    subst (λ (v : Readings). Ends v.lists (lists_of after.0)) c.self.view_is learned.0
 
 pub returns-clause-that : goal.returns-clause-that
 returns-clause-that g c =
     let me = c.self.inside.seat.me in
     let other = c.other.inside.seat.me in
-    let after = c.join_seat.new.seat.me in
-    let v = Watches (lists_of me.0) [] in
-    let w = Watches (lists_of other.0) [] in
-    let taken = seated_taken _ _ _ me _ v w _ _ _ other _ _ after c.self.invariant c.other.invariant c.join_seat.ensures.0 c.join_seat.ensures.2 in
-    let kept = ap lists_of c.load.ensures.2.0 ∙ ap (λ m. lists_of (told m.0)) taken.me_is in
-    let learned = gauge_learns after (longer_lists (lists_of me.0) (lists_of other.0)) (lists_of me.0) (lists_of other.0) taken.me_is c.load.ensures.2.2 in
-    subst (λ (v : Readings). Ends v.lists (lists_of c.load.new.seat.me.0)) c.other.view_is (subst (Ends (lists_of other.0)) (sym kept) learned.1)
+    let after = c.load.new.seat.me in
+    let told = c.load.ensures.2 in
+    let learned =
+    gauge_learns me other c.join_seat.new.seat.me after (lists_of me.0) (lists_of other.0) c.self.invariant.me_is c.other.invariant.me_is c.join_seat.ensures.2 told.0 told.2 in
+    subst (λ (v : Readings). Ends v.lists (lists_of after.0)) c.other.view_is learned.1

@@ -1,7 +1,7 @@
 use Rattle.std.proofs.Common.{◌≡◌, ◌<◌, ◌∙◌, ap, sym, subst}
 use mathlib.Core.List.{IsSuffix}
 use Rattle.can_meter.specs.Publications.{published}
-use Rattle.can_meter.specs.Readings.{Readings, readings, knowing, reading}
+use Rattle.can_meter.specs.Readings.{Readings, readings, knowing, knowing_of}
 use Rattle.can_meter.specs.Rule.{lists_of}
 use Rattle.can_meter.specs.Words.{Fits}
 use Rattle.can_meter.proofs.Lists.{fits-newest}
@@ -30,5 +30,5 @@ pub returns-clause-others : goal.returns-clause-others
 returns-clause-others g c =
     let lists = lists_of c.load-word.new.seat.me.0 in
     let before : Readings = readings c.self.inside.number (g.N.MeterName.meter c.self.inside.number).words (lists_of c.self.inside.seat.me.0) in
-    subst (λ (v : Readings). knowing before lists ≡ reading v c.args.iface (published lists c.args.iface)) c.self.view_is
+    subst (λ (v : Readings). knowing before lists ≡ knowing_of v c.args.iface (published lists c.args.iface)) c.self.view_is
     (ap (knowing before) (shows_one _ _ c.self.inside.seat.me c.load-word.new.seat.me c.load-word.ensures.2))

@@ -1,4 +1,4 @@
-use Rattle.std.proofs.Common.{◌≡◌, ◌∙◌, [], ap, sym, subst}
+use Rattle.std.proofs.Common.{◌∙◌, [], ap, sym, subst}
 use Rattle.can_meter.specs.declared.rule.View.TheVariants.{Keeps, Watches}
 use Rattle.can_meter.specs.Publications.{Ends}
 use Rattle.can_meter.specs.Readings.{Readings}
@@ -27,7 +27,6 @@ pub returns-clause-seen : goal.returns-clause-seen
 returns-clause-seen g c =
     let me = c.self.inside.seat.me in
     let other = c.gauge.inside.seat.me in
-    let after = c.join_seat.new.seat.me in
-    let taken = seated_taken _ _ _ me _ (Keeps (lists_of me.0) []) (Watches (lists_of other.0) []) _ _ _ other _ _ after c.self.invariant c.gauge.invariant c.join_seat.ensures.0 c.join_seat.ensures.2 in
-    let learned = keeper_learns after (lists_of me.0) (lists_of other.0) taken.me_is c.load.ensures.2.2 in
+    let learned =
+    keeper_learns me other c.join_seat.new.seat.me (lists_of me.0) (lists_of other.0) c.self.invariant.me_is c.gauge.invariant.me_is c.join_seat.ensures.2 c.load.ensures.2.2 in
     subst (λ (v : Readings). Ends c.args.gauge.lists v.lists) c.self.view_is (subst (λ (v : Readings). Ends v.lists (lists_of me.0)) c.gauge.view_is learned)
