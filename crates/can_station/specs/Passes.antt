@@ -4,7 +4,6 @@ use Rattle.can_bus.specs.declared.events.Event.{Event}
 use Rattle.can_bus.specs.declared.events.Event.TheVariants as event
 use Rattle.can_bus.specs.declared.events.Reply.{Reply}
 use Rattle.can_bus.specs.declared.events.Reply.TheVariants as reply
-use Rattle.can_bus.specs.declared.events.Refusal.{Refusal}
 use Rattle.can_bus.specs.declared.events.Refusal.TheVariants as refusal
 use Rattle.can_bus.specs.declared.events.Tried.{Tried}
 use Rattle.can_bus.specs.declared.events.BusConfig.{BusConfig}

@@ -17,9 +17,7 @@ use crate::passes::{Pass, Settled, are_all_of, enters, recall_all};
 use crate::publishing::publish_changes;
 use crate::refusals::{TooManyPasses, WrongStation};
 use crate::waits::Wake;
-use can_bus::{
-    Event, IfaceStats, Record, Reply, RingBus, SocketId, SocketStats, answer,
-};
+use can_bus::{Event, IfaceStats, Record, Reply, RingBus, SocketId, SocketStats, answer};
 use can_fault::{FaultSource, Verdict};
 use can_frame::{Iface, Moment};
 use can_meter::{Gauge, Keeper, MeterName};
@@ -193,7 +191,11 @@ impl<N: RollName + MeterName, F: FaultSource + Drop> StationState<N, F> {
 
     /// What a stop tells those who wait.
     fn stopped_wake(&self) -> Option<Wake> {
-        if self.stopped { Some(Wake::Stopped) } else { None }
+        if self.stopped {
+            Some(Wake::Stopped)
+        } else {
+            None
+        }
     }
 
     /// Ends all waits, now and from now on.

@@ -34,22 +34,18 @@ impl<N: RollName + MeterName, F: FaultSource + Drop, G: Gate + Drop> Station<N, 
     /// Waits until an item is queued to the socket. `Closed` where it is not open, else `Ready` where an item is
     /// queued, else `Stopped` after `stop`; else it sleeps until a call changes that.
     pub fn wait_frame<R: Wait>(&self, rt: &R, socket: SocketId) -> Wake {
-        let state = self
-            .items
-            .wait_while(rt, self.state.lock(rt), |state| {
-                state.frame_wake(socket).is_none()
-            });
+        let state = self.items.wait_while(rt, self.state.lock(rt), |state| {
+            state.frame_wake(socket).is_none()
+        });
         state.frame_wake(socket).unwrap_or(Wake::Stopped)
     }
 
     /// Waits until a live interface has a frame to send. `Ready` where one has, else `Stopped` after `stop`; else it
     /// sleeps until a call changes that.
     pub fn wait_work<R: Wait>(&self, rt: &R) -> Wake {
-        let state = self
-            .work
-            .wait_while(rt, self.state.lock(rt), |state| {
-                state.work_wake().is_none()
-            });
+        let state = self.work.wait_while(rt, self.state.lock(rt), |state| {
+            state.work_wake().is_none()
+        });
         state.work_wake().unwrap_or(Wake::Stopped)
     }
 

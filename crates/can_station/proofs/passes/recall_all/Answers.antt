@@ -1,4 +1,4 @@
-use Rattle.std.proofs.Common.{◌≡◌, ◌<◌, ◌∷◌, [], ◌++◌, ℕ, List, length, All, sym, ap, ◌∙◌, subst, append_assoc, arith}
+use Rattle.std.proofs.Common.{◌≡◌, ◌<◌, ◌∷◌, [], ◌++◌, ℕ, List, length, sym, ap, ◌∙◌, subst, append_assoc, arith}
 use Rattle.std.proofs.lemmas.List.{map-append}
 use Rattle.std.proofs.lemmas.List.Elements.{All-push}
 use Rattle.std.specs.Vec.Iter.{into_iter_items}
@@ -21,7 +21,7 @@ loop-pass-preserved g c =
     let number : c.pass.inside.slip.pass ≡ pass.pass = ap (λ (v : PassSeen). v.pass) seen in
     let longer : numbers_of at.yielded ++ pass.pass ∷ [] ≡ numbers_of (at.yielded ++ pass ∷ []) = sym (map-append (λ (v : PassSeen). v.pass) at.yielded (pass ∷ [])) in
     let mine : row lists pass.pass ≡ pass.calls =
-        subst (λ (ls : List _). row ls pass.pass ≡ pass.calls) same_lists (subst (λ (v : PassSeen). row at.roll.lists v.pass ≡ v.calls) seen c.recall.ensures.calls) in
+    subst (λ (ls : List _). row ls pass.pass ≡ pass.calls) same_lists (subst (λ (v : PassSeen). row at.roll.lists v.pass ≡ v.calls) seen c.recall.ensures.calls) in
     let new : NotIn pass.pass (numbers_of at.yielded) = subst (λ (ps : List ℕ). NotIn pass.pass ps) called (subst (λ (p : ℕ). NotIn p at.roll.called) number c.recall.ensures.once) in
     let below = subst (λ (p : ℕ). p < length lists) number (subst (λ (ls : List _). c.pass.inside.slip.pass < length ls) same_lists c.recall.ensures.below) in (
       append_assoc at.yielded (pass ∷ []) _ ∙ rw (← steps) was.0,

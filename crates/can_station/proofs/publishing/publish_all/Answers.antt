@@ -1,9 +1,8 @@
-use Rattle.std.proofs.Common.{◌≡◌, ◌≢◌, ◌<◌, ◌≤◌, ℕ, ◌+◌, List, sym, ap, ◌∙◌, subst, arith}
+use Rattle.std.proofs.Common.{◌≡◌, ◌≢◌, ◌<◌, ℕ, sym, ◌∙◌, subst, arith}
 use Rattle.std.proofs.lemmas.List.{get_or_default}
 use mathlib.Core.Logic.{dite}
 use native.Mathlib.Decide.{ℕ_discrete}
-use Rattle.can_confine.specs.Confinement.{ErrorCounts, at_start}
-use Rattle.can_meter.specs.declared.status.Status.{Status}
+use Rattle.can_confine.specs.Confinement.{at_start}
 use Rattle.can_meter.specs.Publications.{published}
 use Rattle.can_station.specs.Published.{published_after, counts_in}
 use Rattle.can_station.proofs.publishing.publish_all.Goals as goal

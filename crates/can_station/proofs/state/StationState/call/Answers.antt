@@ -1,7 +1,5 @@
 use Rattle.std.proofs.Common.{◌≡◌, reverse, length, vec_capacity, sym, ap, ◌∙◌, arith}
-use Rattle.can_bus.specs.declared.events.BusConfig.{BusConfig}
 use Rattle.can_bus.specs.Journal.{Journal}
-use Rattle.can_bus.specs.Run.{history_after}
 use Rattle.can_station.proofs.Marking.{booked_after}
 use Rattle.can_station.proofs.PublishedFacts.{later, published_after_call, short}
 use Rattle.can_station.proofs.Replies.{suits}
@@ -10,8 +8,11 @@ use Rattle.can_station.proofs.state.StationState.call.Goals as goal
 
 pub overflow_cast-at : goal.overflow_cast-at
 overflow_cast-at g c =
-    omega (arith, short c.self.inside.bus.config c.answer-reply.new.bus.config c.answer-reply.new.bus.history c.len-at.result c.self.invariant.0.proper
-    (ap (λ (j : Journal). j.config) c.answer-reply.ensures.after) c.record.ensures.legal (c.len-at.ensures ∙ ap length c.record.ensures.history))
+    omega (
+      arith,
+      short c.self.inside.bus.config c.answer-reply.new.bus.config c.answer-reply.new.bus.history c.len-at.result c.self.invariant.0.proper
+          (ap (λ (j : Journal). j.config) c.answer-reply.ensures.after) c.record.ensures.legal (c.len-at.ensures ∙ ap length c.record.ensures.history),
+    )
 
 pub publish_changes-requires-clause-later : goal.publish_changes-requires-clause-later
 publish_changes-requires-clause-later g c =
@@ -23,7 +24,7 @@ invariant_of-self g c =
     let number : c.book.new.roll.number ≡ c.self.inside.roll.number = ap (λ (r : RollSeen). r.number) c.book.ensures.roll in (
       booked_after c.self.inside.roll c.book.new.roll (reverse c.self.inside.marks.items) (reverse c.book.new.marks.items) (vec_capacity c.self.inside.marks) (vec_capacity c.book.new.marks) c.self.inside.bus c.answer-reply.new.bus c.args.slip.now.pass c.args.event.now c.answer-reply.result c.self.invariant.0 c.book.ensures.below c.book.ensures.roll c.book.ensures.marks c.book.ensures.places c.answer-reply.ensures.after,
       published_after_call c.self.inside.keeper c.publish_changes.new.keeper c.self.inside.roll.number c.book.new.roll.number c.self.inside.bus c.answer-reply.new.bus c.args.event.now c.answer-reply.result c.counters-before.result c.counters-after.result c.len-at.result
-      c.self.invariant.0.proper c.self.invariant.1 number c.answer-reply.ensures.after c.publish_changes.ensures.number c.publish_changes.ensures.ifaces (c.len-at.ensures ∙ ap length c.record.ensures.history) c.counters-before.ensures c.counters-after.ensures c.publish_changes.ensures.lists,
+          c.self.invariant.0.proper c.self.invariant.1 number c.answer-reply.ensures.after c.publish_changes.ensures.number c.publish_changes.ensures.ifaces (c.len-at.ensures ∙ ap length c.record.ensures.history) c.counters-before.ensures c.counters-after.ensures c.publish_changes.ensures.lists,
       c.self.invariant.2 ∙ sym number,
     )
 

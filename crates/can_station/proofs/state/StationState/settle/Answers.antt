@@ -1,10 +1,10 @@
-use Rattle.std.proofs.Common.{◌≡◌, List, length, map, reverse, sym, ap, ◌∙◌, subst}
+use Rattle.std.proofs.Common.{◌≡◌, List, length, reverse, sym, ap, ◌∙◌, subst}
 use Rattle.can_bus.specs.declared.events.BusConfig.{BusConfig}
 use Rattle.can_bus.specs.declared.events.Entry.{Entry}
 use Rattle.can_bus.specs.Legal.{IsLegal}
 use Rattle.can_roll.specs.Lists.{AllBelow}
 use Rattle.can_roll.specs.Seen.{RollSeen}
-use Rattle.can_station.specs.Passes.{AllMarked, Settles, numbers_of}
+use Rattle.can_station.specs.Passes.{AllMarked, numbers_of}
 use Rattle.can_station.proofs.Marking.{marked-all}
 use Rattle.can_station.proofs.PublishedFacts.{all_true}
 use Rattle.can_station.proofs.state.StationState.settle.Goals as goal

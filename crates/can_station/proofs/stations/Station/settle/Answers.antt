@@ -1,4 +1,4 @@
-use Rattle.std.proofs.Common.{◌≡◌, ◌⊎◌, ℕ, MatchResult, sym, ◌∙◌, subst}
+use Rattle.std.proofs.Common.{◌⊎◌, ℕ, MatchResult, sym, ◌∙◌, subst}
 use Rattle.can_station.specs.Passes.{AllOf, SomeOther}
 use Rattle.can_station.specs.Published.{GaugesOf, SomeOtherGauge}
 use Rattle.can_station.proofs.stations.Station.settle.Goals as goal
