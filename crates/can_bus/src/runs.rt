@@ -1,4 +1,5 @@
 ghost use Rattle.std.specs.Prelude.{◌≡◌, ◌≤◌, ◌<◌, ◌++◌, ◌∷◌, [], vec_len, vec_capacity, IfOk, OnErr, OnOk, length};
+ghost use Rattle.can_bus.specs.Headline.{Headline};
 ghost use Rattle.can_bus.specs.Run.{IsAnswer, AreAnswers, history_after, history_after_all};
 ghost use Rattle.can_bus.specs.Legal.{IsLegal};
 
@@ -75,6 +76,7 @@ pub fn run<T: BoundedQueue<Pending>, R: BoundedQueue<Received>, A: Arbiter>(
     ensures after { IfOk result (λ replies. bus.new ≡ record bus.old { history = history_after_all events.now replies.items bus.old.history }) }
     ensures was_legal { IsLegal bus.old.config bus.old.history }
     ensures legal { IsLegal bus.new.config bus.new.history }
+    ensures headline { Headline bus.new.config bus.new.history }
     ensures err { OnErr result (bus.new ≡ bus.old) }
 {
     // Looking at the record tells the proof that it is a legal history, before and after.
