@@ -3,7 +3,7 @@ use Rattle.std.proofs.lemmas.Bool.{cases_lt}
 use Rattle.can_bus.specs.declared.events.Entry.{Entry}
 use Rattle.can_bus.specs.declared.events.BusConfig.{BusConfig}
 use Rattle.can_bus.specs.declared.events.Received.{Received}
-use Rattle.can_bus.specs.Sockets.{places, is_open, iface_of, capacity_in, capacity_of, filters_of, options_of}
+use Rattle.can_bus.specs.Sockets.{places, iface_of, capacity_in, capacity_of, filters_of, options_of}
 use Rattle.can_bus.specs.Posts.{posts_of}
 use Rattle.can_bus.specs.Queues.{queued_to, dropped_at, taken_from, candidates_of, candidates_for, passing}
 use Rattle.can_bus.specs.Offers.{Offer, offer_after, offers_to, with_room, without_room}
