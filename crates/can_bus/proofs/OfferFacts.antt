@@ -39,14 +39,18 @@ full-room capacity taken n full = grind (arith, full)
 some-room : (capacity taken n : ℕ) → nat_lt n (capacity + taken) ≡ true → capacity + taken - n ≡ suc (capacity + taken - (n + 1))
 some-room capacity taken n room = grind (arith, room)
 
-at-once : (capacity taken n : ℕ) (rs : List Received) → with_room capacity n (map (offer_after taken) rs) ≡ take (capacity + taken - n) rs
+-- offers made at once find room as far as there is room
+abbrev FitsAt : ℕ → ℕ → List Received → ℕ → Type 0
+FitsAt capacity taken rs n = with_room capacity n (map (offer_after taken) rs) ≡ take (capacity + taken - n) rs
+
+at-once : (capacity taken n : ℕ) (rs : List Received) → FitsAt capacity taken rs n
 at-once capacity taken n [] = sym (take_nil (capacity + taken - n))
 at-once capacity taken n (r ∷ rs) = when (nat_lt n (capacity + taken)) refl (at-once capacity taken (n + 1) rs) (at-once capacity taken n rs)
   where
-    os : List Offer
-    os = map (offer_after taken) rs
+    found : Bool → List Received
+    found b = if b then r ∷ with_room capacity (n + 1) (map (offer_after taken) rs) else with_room capacity n (map (offer_after taken) rs)
 
-    when : (b : Bool) → nat_lt n (capacity + taken) ≡ b → with_room capacity (n + 1) os ≡ take (capacity + taken - (n + 1)) rs → with_room capacity n os ≡ take (capacity + taken - n) rs → (if b then r ∷ with_room capacity (n + 1) os else with_room capacity n os) ≡ take (capacity + taken - n) (r ∷ rs)
+    when : (b : Bool) → nat_lt n (capacity + taken) ≡ b → FitsAt capacity taken rs (n + 1) → FitsAt capacity taken rs n → found b ≡ take (capacity + taken - n) (r ∷ rs)
     when true is more same = ap (λ qs. r ∷ qs) more ∙ sym (ap (λ k. take k (r ∷ rs)) (some-room capacity taken n is))
     when false is more same = same ∙ ap (λ k. take k rs) (full-room capacity taken n is) ∙ sym (ap (λ k. take k (r ∷ rs)) (full-room capacity taken n is))
 
@@ -54,14 +58,18 @@ drop_nil : (n : ℕ) → ◌≡◌ {A = List Received} (drop n []) []
 drop_nil zero = refl
 drop_nil (suc n) = refl
 
-others-at-once : (capacity taken n : ℕ) (rs : List Received) → without_room capacity n (map (offer_after taken) rs) ≡ drop (capacity + taken - n) rs
+-- and the others find none
+abbrev FailsAt : ℕ → ℕ → List Received → ℕ → Type 0
+FailsAt capacity taken rs n = without_room capacity n (map (offer_after taken) rs) ≡ drop (capacity + taken - n) rs
+
+others-at-once : (capacity taken n : ℕ) (rs : List Received) → FailsAt capacity taken rs n
 others-at-once capacity taken n [] = sym (drop_nil (capacity + taken - n))
 others-at-once capacity taken n (r ∷ rs) = when (nat_lt n (capacity + taken)) refl (others-at-once capacity taken (n + 1) rs) (others-at-once capacity taken n rs)
   where
-    os : List Offer
-    os = map (offer_after taken) rs
+    others : Bool → List Received
+    others b = if b then without_room capacity (n + 1) (map (offer_after taken) rs) else r ∷ without_room capacity n (map (offer_after taken) rs)
 
-    when : (b : Bool) → nat_lt n (capacity + taken) ≡ b → without_room capacity (n + 1) os ≡ drop (capacity + taken - (n + 1)) rs → without_room capacity n os ≡ drop (capacity + taken - n) rs → (if b then without_room capacity (n + 1) os else r ∷ without_room capacity n os) ≡ drop (capacity + taken - n) (r ∷ rs)
+    when : (b : Bool) → nat_lt n (capacity + taken) ≡ b → FailsAt capacity taken rs (n + 1) → FailsAt capacity taken rs n → others b ≡ drop (capacity + taken - n) (r ∷ rs)
     when true is more same = more ∙ sym (ap (λ k. drop k (r ∷ rs)) (some-room capacity taken n is))
     when false is more same = ap (λ qs. r ∷ qs) (same ∙ ap (λ k. drop k rs) (full-room capacity taken n is)) ∙ sym (ap (λ k. drop k (r ∷ rs)) (full-room capacity taken n is))
 
@@ -71,19 +79,36 @@ others-at-once capacity taken n (r ∷ rs) = when (nat_lt n (capacity + taken)) 
 abbrev then_found : ℕ → ℕ → List Offer → ℕ
 then_found capacity n os = n + length (with_room capacity n os)
 
-with-append : (capacity n : ℕ) (os ps : List Offer) → with_room capacity n (os ++ ps) ≡ with_room capacity n os ++ with_room capacity (then_found capacity n os) ps
+-- the items that find room, first those of the offers before
+abbrev WithJoins : ℕ → List Offer → List Offer → ℕ → Type 0
+WithJoins capacity os ps n = with_room capacity n (os ++ ps) ≡ with_room capacity n os ++ with_room capacity (then_found capacity n os) ps
+
+with-append : (capacity n : ℕ) (os ps : List Offer) → WithJoins capacity os ps n
 with-append capacity n [] ps = ap (λ k. with_room capacity k ps) (omega arith)
 with-append capacity n (o ∷ os) ps = when (nat_lt n (capacity + o.taken)) (with-append capacity (n + 1) os ps) (with-append capacity n os ps)
   where
-    when : (b : Bool) → with_room capacity (n + 1) (os ++ ps) ≡ with_room capacity (n + 1) os ++ with_room capacity (then_found capacity (n + 1) os) ps → with_room capacity n (os ++ ps) ≡ with_room capacity n os ++ with_room capacity (then_found capacity n os) ps → (if b then o.item ∷ with_room capacity (n + 1) (os ++ ps) else with_room capacity n (os ++ ps)) ≡ (if b then o.item ∷ with_room capacity (n + 1) os else with_room capacity n os) ++ with_room capacity (n + length (if b then o.item ∷ with_room capacity (n + 1) os else with_room capacity n os)) ps
+    found : Bool → List Offer → List Received
+    found b qs = if b then o.item ∷ with_room capacity (n + 1) qs else with_room capacity n qs
+
+    when : (b : Bool) → WithJoins capacity os ps (n + 1) → WithJoins capacity os ps n → found b (os ++ ps) ≡ found b os ++ with_room capacity (n + length (found b os)) ps
     when true more same = ap (λ qs. o.item ∷ qs) (more ∙ ap (λ k. with_room capacity (n + 1) os ++ with_room capacity k ps) (omega arith))
     when false more same = same
 
-without-append : (capacity n : ℕ) (os ps : List Offer) → without_room capacity n (os ++ ps) ≡ without_room capacity n os ++ without_room capacity (then_found capacity n os) ps
+-- the same of those that find none
+abbrev WithoutJoins : ℕ → List Offer → List Offer → ℕ → Type 0
+WithoutJoins capacity os ps n = without_room capacity n (os ++ ps) ≡ without_room capacity n os ++ without_room capacity (then_found capacity n os) ps
+
+without-append : (capacity n : ℕ) (os ps : List Offer) → WithoutJoins capacity os ps n
 without-append capacity n [] ps = ap (λ k. without_room capacity k ps) (omega arith)
 without-append capacity n (o ∷ os) ps = when (nat_lt n (capacity + o.taken)) (without-append capacity (n + 1) os ps) (without-append capacity n os ps)
   where
-    when : (b : Bool) → without_room capacity (n + 1) (os ++ ps) ≡ without_room capacity (n + 1) os ++ without_room capacity (then_found capacity (n + 1) os) ps → without_room capacity n (os ++ ps) ≡ without_room capacity n os ++ without_room capacity (then_found capacity n os) ps → (if b then without_room capacity (n + 1) (os ++ ps) else o.item ∷ without_room capacity n (os ++ ps)) ≡ (if b then without_room capacity (n + 1) os else o.item ∷ without_room capacity n os) ++ without_room capacity (n + length (if b then o.item ∷ with_room capacity (n + 1) os else with_room capacity n os)) ps
+    found : Bool → List Received
+    found b = if b then o.item ∷ with_room capacity (n + 1) os else with_room capacity n os
+
+    others : Bool → List Offer → List Received
+    others b qs = if b then without_room capacity (n + 1) qs else o.item ∷ without_room capacity n qs
+
+    when : (b : Bool) → WithoutJoins capacity os ps (n + 1) → WithoutJoins capacity os ps n → others b (os ++ ps) ≡ others b os ++ without_room capacity (n + length (found b)) ps
     when true more same = more ∙ ap (λ k. without_room capacity (n + 1) os ++ without_room capacity k ps) (omega arith)
     when false more same = ap (λ qs. o.item ∷ qs) same
 
