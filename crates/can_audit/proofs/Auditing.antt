@@ -8,9 +8,11 @@ use Rattle.can_bus.specs.declared.events.Event.{Event}
 use Rattle.can_bus.specs.declared.events.Reply.{Reply}
 use Rattle.can_bus.specs.declared.events.Reply.TheVariants as reply
 use Rattle.can_bus.specs.declared.events.Refusal.TheVariants as refusal
+use Rattle.can_bus.specs.Headline.{Headline}
 use Rattle.can_bus.specs.Journal.{Journal, IsConfig}
 use Rattle.can_bus.specs.Legal.{legal_reply, IsLegal}
 use Rattle.can_bus.specs.Run.{IsAnswer, history_after}
+use Rattle.can_bus.proofs.Headlines.{headline}
 use Rattle.can_audit.specs.declared.audits.AuditFault.{AuditFault}
 use Rattle.can_audit.specs.declared.audits.AuditFault.TheVariants as fault
 use Rattle.can_audit.specs.Audits.{IsFirstWrong, Blames}
@@ -112,16 +114,19 @@ one-first c es j k proper f g =
 -- what an audit answers of these entries, which are this history
 pub record Audits (c : BusConfig) (es past : List Entry) (r : Result (Unit {0}) AuditFault) : Type 0 where
   pub legal : OnOk r (IsLegal c past)
+  pub headline : OnOk r (Headline c past)
   pub wrong : IfErr r (Blames c es)
   pub spared : IsLegal c past → IfErr r (λ why. why ≡ fault.NoMemory)
 
 -- a bus made for no more entries than there are tells the same
 pub audited : (c : BusConfig) (n : ℕ) (es : List Entry) (r : Result (Unit {0}) AuditFault) → IsConfig c → n ≡ min c.limit (length es) → OnOk r (IsLegal (narrow c n) (reverse es)) → IfErr r (Blames (narrow c n) es) → Audits c es (reverse es) r
-audited c n es (Ok u) proper is legal wrong = record { legal = legal-narrow c n (reverse es) (omega (arith, is)) legal; wrong = tt; spared = λ h. tt }
+audited c n es (Ok u) proper is legal wrong =
+    let whole = legal-narrow c n (reverse es) (omega (arith, is)) legal in
+    record { legal = whole; headline = headline c (reverse es) proper whole; wrong = tt; spared = λ h. tt }
 audited c n es (Err (fault.Wrong k)) proper is legal wrong =
     let first = first-narrow c n es k is wrong in
-    record { legal = tt; wrong = first; spared = λ h. absurd (none-wrong c es k proper h first) }
-audited c n es (Err fault.NoMemory) proper is legal wrong = record { legal = tt; wrong = tt; spared = λ h. refl }
+    record { legal = tt; headline = tt; wrong = first; spared = λ h. absurd (none-wrong c es k proper h first) }
+audited c n es (Err fault.NoMemory) proper is legal wrong = record { legal = tt; headline = tt; wrong = tt; spared = λ h. refl }
 
 -- the same of the record that has these parts
 pub audited-record : (c d : BusConfig) (es past : List Entry) (r : Result (Unit {0}) AuditFault) → c ≡ d → es ≡ reverse past → Audits c es (reverse es) r → Audits d (reverse past) past r

@@ -1,4 +1,5 @@
 ghost use Rattle.std.specs.Prelude.{◌≡◌, ◌↔◌, IsTrue, length, min, reverse, OnOk, IfErr};
+ghost use Rattle.can_bus.specs.Headline.{Headline};
 ghost use Rattle.can_bus.specs.Journal.{IsConfig};
 ghost use Rattle.can_bus.specs.Legal.{IsLegal};
 ghost use Rattle.can_audit.specs.Audits.{Blames};
@@ -70,12 +71,15 @@ fn room_for(config: BusConfig, entries: &[Entry]) -> u32
 /// Whether a record is a legal history: each reply is the one that the entries before it give, and there
 /// are no more entries than the limit. If not, `Wrong` names the first entry that is not so.
 ///
+/// So what the headline says of a bus (`can_bus::run`) holds of each record that is found legal, whoever wrote it.
+///
 /// The events are carried out again on a new bus. It costs what its calls cost, so the time is linear in
 /// the number of entries and of their filters. Memory is taken for a bus with as many entries as there
 /// are, but no more than the limit, and for what `open` and `set_filters` take: `NoMemory` comes where it
 /// was refused, and then nothing is known of the record.
 pub fn audit(alloc: Global, record: &Record) -> Result<(), AuditFault>
     ensures legal { OnOk result (IsLegal «record».now.config «record».now.history) }
+    ensures headline { OnOk result (Headline «record».now.config «record».now.history) }
     ensures wrong { IfErr result (Blames «record».now.config (reverse «record».now.history)) }
 
     // A legal record is never called wrong.

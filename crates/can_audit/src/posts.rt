@@ -4,7 +4,7 @@ ghost use Rattle.can_bus.specs.Posts.{sender_in, data_posts, error_posts, attemp
 ghost use Rattle.can_bus.specs.Queues.{passing};
 ghost use Rattle.can_bus.specs.declared.events.Event.TheVariants as event;
 ghost use Rattle.can_bus.specs.declared.events.Reply.TheVariants as reply;
-ghost use Rattle.can_bus.specs.Attempted.{transmission_of, IsJudged};
+ghost use Rattle.can_bus.specs.Attempted.{transmission_of};
 ghost use Rattle.can_audit.specs.Histories.{IsHistory};
 
 use crate::counters::{judgement_of, nodes_of};
@@ -57,7 +57,7 @@ fn put_frame(
 {
     let sender = sender_in(pending);
     if attempted.is_posted(iface, *pending) {
-        let tried = &attempted.tried;
+        let tried = attempted.tried();
         let received = Received {
             item: Item::Data(tried.frame),
             from: tried.winner,
@@ -101,10 +101,9 @@ fn attempt_posts(
     pending: Option<Pending>,
     iface: Iface,
 ) -> Result<Vec<Post>, AllocError>
-    requires { IsJudged attempted.now }
     ensures { IfOk result (λ ps. ps.items ≡ attempt_posts reporting (transmission_of attempted.now) attempted.now.tried pending iface) }
 {
-    let moment = attempted.tried.moment;
+    let moment = attempted.tried().moment;
     let mut posts = Vec::new(alloc);
     put_frame(&mut posts, attempted, &pending, iface)?;
     if reporting.contains(iface) {
@@ -132,13 +131,7 @@ fn tried_posts(
     };
     let sent = sent_by(alloc, past, tried.winner)?;
     let pending = frame_at(&sent, tried.number as usize);
-    let attempted = Attempted {
-        tried: *tried,
-        verdict,
-        ack: config.ack,
-        nodes,
-        judgement,
-    };
+    let attempted = Attempted::new(*tried, verdict, config.ack, nodes, judgement);
     attempt_posts(alloc, config.reporting, &attempted, pending, iface)
 }
 

@@ -74,7 +74,7 @@ below-off x live = grind (arith, live)
 count-tried : (c : BusConfig) (past : List Entry) (i m : ℕ) (v : Verdict) (t : Tried) → count_after c past i (Attempt m v) (reply.Tried t) ≡ (counts_after (transmission c past t.winner v) i).tec
 count-tried c past i m v t = ap (λ (x : ErrorCounts). x.tec) (all_stepped-append at_start (steps_of c past i) (steps_at i (transmission c past t.winner v)))
 
-class-is : (c : BusConfig) (past : List Entry) (m : ℕ) (v : Verdict) (t : Tried) → WasTried c past m v t → t.class ≡ class_of (transmission c past t.winner v)
+pub class-is : (c : BusConfig) (past : List Entry) (m : ℕ) (v : Verdict) (t : Tried) → WasTried c past m v t → t.class ≡ class_of (transmission c past t.winner v)
 class-is c past m v t w = subst (λ (u : Tried). u.class ≡ class_of (transmission c past u.winner v)) (sym w.is) refl
 
 -- ---- each fault in the last bit adds 8

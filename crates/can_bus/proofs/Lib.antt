@@ -35,3 +35,5 @@ pub mod SilentFacts
 pub mod QueueFacts
 pub mod LostFacts
 pub mod CopyBound
+pub mod OfferFacts
+pub mod Headlines

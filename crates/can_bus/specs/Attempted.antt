@@ -1,14 +1,25 @@
 use Rattle.std.specs.Prelude.{◌≡◌, ◌≤◌}
+use Rattle.can_fault.specs.declared.verdicts.Verdict.{Verdict}
+use Rattle.can_attempt.specs.declared.acks.AckMode.{AckMode}
+use Rattle.can_attempt.specs.declared.judgements.Judgement.{Judgement}
+use Rattle.can_attempt.specs.declared.nodes.Nodes.{Nodes}
 use Rattle.can_attempt.specs.Attempts.{Transmission, attempt_between, judged}
-use Rattle.can_bus.specs.declared.outcomes.Attempted.{Attempted}
+use Rattle.can_bus.specs.declared.events.Tried.{Tried}
 
 -- An attempt that tried a frame, and what followed.
 
+-- what was tried, under which faults, who acknowledges, and the interfaces as they were before
+pub record Outcome : Type 0 where
+  pub tried : Tried
+  pub verdict : Verdict
+  pub ack : AckMode
+  pub nodes : Nodes
+
 -- the attempt
-abbrev pub transmission_of : Attempted → Transmission
-transmission_of a = attempt_between a.nodes a.tried.winner a.verdict a.ack
+abbrev pub transmission_of : Outcome → Transmission
+transmission_of o = attempt_between o.nodes o.tried.winner o.verdict o.ack
 
 -- what followed is what the attempt's faults and the error counts have it
-pub record IsJudged (a : Attempted) : Type 0 where
-  pub judged : a.judgement ≡ judged (transmission_of a)
-  pub few : a.nodes.count ≤ 16
+pub record IsJudged (o : Outcome) (j : Judgement) : Type 0 where
+  pub judged : j ≡ judged (transmission_of o)
+  pub few : o.nodes.count ≤ 16

@@ -5,11 +5,13 @@ pub mod Counters
 pub mod Attempts
 pub mod Posts
 pub mod Queues
+pub mod Offers
 pub mod Legal
 pub mod Spelled
 pub mod Copies
 pub mod Repeats
 pub mod Fates
+pub mod Headline
 pub mod State
 pub mod Attempted
 pub mod News

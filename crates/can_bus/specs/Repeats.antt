@@ -1,7 +1,9 @@
 use Rattle.std.specs.Prelude.{◌≡◌, ℕ, ◌+◌, ◌≤◌, ◌==◌, List, ◌∷◌, count_by, Some}
 use Rattle.can_attempt.specs.declared.classes.Class.TheVariants as class
+use Rattle.can_fault.specs.declared.verdicts.Verdict.TheVariants as verdict
 use Rattle.can_bus.specs.declared.events.BusConfig.{BusConfig}
 use Rattle.can_bus.specs.declared.events.Entry.{Entry}
+use Rattle.can_bus.specs.declared.events.Event.TheVariants.{Attempt}
 use Rattle.can_bus.specs.declared.events.Pending.{Pending}
 use Rattle.can_bus.specs.declared.events.Reply.TheVariants as reply
 use Rattle.can_bus.specs.declared.events.Tried.{Tried}
@@ -32,3 +34,7 @@ RisesAtTheHead c e past = (i : ℕ) (p : Pending) → head_of past i ≡ Some p 
 -- an attempt that failed at the last bit alone adds 8 to the transmit error count of its winner
 abbrev pub LastBitAdds8 : BusConfig → Entry → List Entry → Type 0
 LastBitAdds8 c e past = (t : Tried) → e.reply ≡ reply.Tried t → t.class ≡ class.LastBit → transmit_count c (e ∷ past) t.winner ≡ transmit_count c past t.winner + 8
+
+-- an attempt that failed at the last bit of end of frame alone had that fault, and no other
+abbrev pub HadThatFaultAlone : Entry → Type 0
+HadThatFaultAlone e = (t : Tried) → e.reply ≡ reply.Tried t → t.class ≡ class.LastBit → e.event ≡ Attempt t.moment verdict.LastBit

@@ -1,4 +1,5 @@
 ghost use Rattle.std.specs.Prelude.{◌≡◌, ◌+◌, ◌<◌, ◌≤◌, ◌^◌, Some, length, vec_capacity, All};
+ghost use Rattle.can_bus.specs.Attempted.{IsJudged};
 ghost use Rattle.can_bus.specs.Changes.{AreReady, Restarts, Tries};
 
 use crate::events::{BusConfig, Pending, Received, Refusal, Tried};
@@ -51,17 +52,11 @@ fn news_of(
     nodes: Nodes,
     judgement: Judgement,
 ) -> News
-    ensures { result ≡ record { attempted = record { tried = tried; verdict = verdict; ack = config.ack; nodes = nodes; judgement = judgement }; pending = pending; reporting = config.reporting } }
+    requires { IsJudged (record { tried = tried; verdict = verdict; ack = config.ack; nodes = nodes }) judgement }
+    ensures { result ≡ record { attempted = record { tried = tried; verdict = verdict; ack = config.ack; nodes = nodes }; pending = pending; reporting = config.reporting } }
 {
-    let attempted = Attempted {
-        tried,
-        verdict,
-        ack: config.ack,
-        nodes,
-        judgement,
-    };
     News {
-        attempted,
+        attempted: Attempted::new(tried, verdict, config.ack, nodes, judgement),
         pending,
         reporting: config.reporting,
     }
@@ -71,7 +66,7 @@ fn news_of(
 fn answer_of(news: &News) -> Option<Tried>
     ensures { result ≡ Some news.now.attempted.tried }
 {
-    Some(news.attempted.tried)
+    Some(news.attempted.tried())
 }
 
 /// Tries the frame that wins the bus, and tells the sockets.
@@ -100,7 +95,7 @@ pub fn try_on<T: BoundedQueue<Pending>, R: BoundedQueue<Received>, A: Arbiter>(
     line.settle(tried.class, tried.off.contains(winner));
     lines::compete(arbiter, winner, line);
     let told = news_of(tried, pending, verdict, config, *nodes, judgement);
-    count(nodes, &told.attempted.judgement);
+    count(nodes, &judgement);
     news::tell_all(sockets, &told);
     answer_of(&told)
 }

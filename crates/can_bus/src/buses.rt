@@ -1,6 +1,7 @@
 ghost use Rattle.std.specs.Prelude.{◌≡◌, ◌+◌, ◌<◌, ◌≤◌, ◌^◌, [], length, IfOk, OnOk, IsTrue, ◌↔◌};
 ghost use Rattle.can_bus.specs.Answer.{Answers, done_reply, told_attempt};
 ghost use Rattle.can_bus.specs.Attempts.{winner};
+ghost use Rattle.can_bus.specs.Headline.{Headline};
 ghost use Rattle.can_bus.specs.Journal.{IsConfig};
 ghost use Rattle.can_bus.specs.Legal.{IsLegal};
 ghost use Rattle.can_bus.specs.Stats.{socket_stats_of, iface_stats_of, all_counts};
@@ -116,6 +117,7 @@ impl<T: BoundedQueue<Pending>, R: BoundedQueue<Received>, A: Arbiter> Bus<T, R, 
         ensures config { result.now.config ≡ self.now.config }
         ensures history { result.now.history ≡ self.now.history }
         ensures legal { IsLegal self.now.config self.now.history }
+        ensures headline { Headline self.now.config self.now.history }
     {
         &self.record
     }
@@ -125,6 +127,7 @@ impl<T: BoundedQueue<Pending>, R: BoundedQueue<Received>, A: Arbiter> Bus<T, R, 
         ensures config { result.config ≡ self.config }
         ensures history { result.history ≡ self.history }
         ensures legal { IsLegal self.config self.history }
+        ensures headline { Headline self.config self.history }
     {
         let Bus { record, .. } = self;
         record

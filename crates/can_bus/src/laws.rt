@@ -9,8 +9,10 @@ ghost use Rattle.can_bus.specs.Journal.{IsConfig};
 ghost use Rattle.can_bus.specs.Transmit.{sent_by, gone_count, done_count, lost_count, head_of};
 ghost use Rattle.can_bus.specs.Counters.{state_at, counts_of};
 ghost use Rattle.can_bus.specs.Copies.{received_from, copying, copy_of, numbers_from, NeverFall, went_over, InTurn, IsOfSent};
-ghost use Rattle.can_bus.specs.Repeats.{AtMost32Copies, RisesAtTheHead, LastBitAdds8};
+ghost use Rattle.can_bus.specs.Repeats.{AtMost32Copies, RisesAtTheHead, LastBitAdds8, HadThatFaultAlone};
 ghost use Rattle.can_bus.specs.Queues.{queued_to, dropped_at, taken_from, candidates_for};
+ghost use Rattle.can_bus.specs.Headline.{Headline};
+ghost use Rattle.can_bus.specs.Offers.{Offer, offers_to, with_room, without_room};
 ghost use Rattle.can_bus.specs.Sockets.{places, open_sockets, is_open, iface_of, capacity_of};
 ghost use Rattle.can_bus.specs.Fates.{numbers_given, opening, closing, is_restart_of, frames_with, goes_off};
 ghost use Rattle.can_bus.specs.Fates.Fate.{Waiting, Done, Lost};
@@ -27,6 +29,14 @@ ghost use Rattle.can_bus.specs.declared.events.Tried.{Tried};
 use crate::events::BusConfig;
 
 // What holds of every legal history, in the words of the field. Each body is empty: the clause is the law.
+
+// ---- the headline
+
+/// Every accepted frame, exactly: the headline holds of every legal history of a proper configuration. The
+/// laws below say its parts, and more.
+pub fn every_accepted_frame_exactly(config: BusConfig)
+    ensures { IsConfig config → (past : List Entry) → IsLegal config past → Headline config past }
+{}
 
 // ---- copies
 
@@ -49,6 +59,11 @@ pub fn copies_come_in_turn(config: BusConfig)
     ensures numbers { (past : List Entry) → IsLegal config past → (i s : ℕ) → NeverFall 0 (numbers_from i (queued_to config past s)) }
     ensures classes { (past : List Entry) → IsLegal config past → (i s : ℕ) → All (λ t. went_over t.class ≡ true) (copying config past i s) }
     ensures turns { (past : List Entry) → IsLegal config past → (i s : ℕ) → AllPairs InTurn (copying config past i s) }
+{}
+
+/// An attempt failed at the last bit of end of frame alone only where that was its fault, and the only one.
+pub fn last_bit_attempts_had_that_fault_alone(config: BusConfig)
+    ensures { (past : List Entry) → IsLegal config past → All HadThatFaultAlone past }
 {}
 
 /// A number stands on a socket as often as there are attempts that copied the frame of that number.
@@ -95,8 +110,16 @@ pub fn frames_are_lost_at_bus_off_alone(config: BusConfig)
 
 // ---- items
 
-/// What is offered to a socket is queued or dropped, and what is queued is taken or left unread at its
-/// close, which tells both counts.
+/// An item that is offered to a socket is queued exactly where fewer were queued before it than the socket's
+/// capacity and the items taken by then; each other one is dropped.
+pub fn items_find_room_in_turn(config: BusConfig)
+    ensures offered { (past : List Entry) → (s : ℕ) → map (λ (o : Offer). o.item) (offers_to config past s) ≡ candidates_for config past s }
+    ensures queued { (past : List Entry) → (s : ℕ) → queued_to config past s ≡ with_room (capacity_of past s) 0 (offers_to config past s) }
+    ensures dropped { (past : List Entry) → (s : ℕ) → dropped_at config past s ≡ without_room (capacity_of past s) 0 (offers_to config past s) }
+{}
+
+/// As counts, what is offered to a socket is queued or dropped, and what is queued is taken or left unread
+/// at its close, which tells both counts.
 pub fn each_item_is_counted(config: BusConfig)
     ensures offered { (past : List Entry) → (s : ℕ) → length (candidates_for config past s) ≡ length (queued_to config past s) + length (dropped_at config past s) }
     ensures queued { (past : List Entry) → (s : SocketId) → (k : Closed) → IsLegal config (closing s k ∷ past) → length (queued_to config past s.0) ≡ length (taken_from past s.0) + k.unread }
@@ -151,7 +174,7 @@ pub fn off_interfaces_take_no_part(config: BusConfig)
 
 /// Nothing is sent on an interface that is not there, and its error counts stay 0/0.
 pub fn no_interface_beyond_the_last(config: BusConfig)
-    ensures sent { (past : List Entry) → IsLegal config past → (i : ℕ) → config.ifaces ≤ i → head_of past i ≡ None }
+    ensures sent { (past : List Entry) → IsLegal config past → (i : ℕ) → config.ifaces ≤ i → sent_by past i ≡ [] }
     ensures counts { (past : List Entry) → IsLegal config past → (i : ℕ) → config.ifaces ≤ i → counts_of config past i ≡ at_start }
 {}
 

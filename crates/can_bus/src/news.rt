@@ -1,5 +1,4 @@
 ghost use Rattle.std.specs.Prelude.{◌≡◌, ◌<◌, ◌+◌, ◌^◌, All, Some, map};
-ghost use Rattle.can_bus.specs.Attempted.{IsJudged};
 ghost use Rattle.can_bus.specs.News.{told_news};
 ghost use Rattle.can_bus.specs.Posts.{restart_posts, data_posts, error_posts, tried_item};
 ghost use Rattle.can_bus.specs.Queues.{passing};
@@ -13,7 +12,7 @@ use can_frame::{ErrorFrame, Iface, IfaceSet, Item, Moment};
 use can_queue::BoundedQueue;
 
 /// What an attempt has to tell the sockets.
-#[derive(Debug, Clone, Copy)]
+#[derive(Debug, Drop)]
 pub struct News {
     /// The attempt, and all that followed.
     pub attempted: Attempted,
@@ -57,12 +56,11 @@ fn post_frame<R: BoundedQueue<Received>>(socket: &mut Socket<R>, news: &News, fr
 /// Tells one socket of an attempt.
 fn tell<R: BoundedQueue<Received>>(socket: &mut Socket<R>, news: &News, frame: &Received)
     requires small { socket.old.dropped + 3 < 2 ^ 64 }
-    requires judged { IsJudged news.now.attempted }
     requires frame { frame.now ≡ tried_item news.now.attempted.tried }
     ensures { socket.new ≡ reached (told_news news.now) socket.old }
 {
     let iface = socket.iface();
-    let moment = news.attempted.tried.moment;
+    let moment = news.attempted.tried().moment;
     post_frame(socket, news, frame);
     if news.reporting.contains(iface) {
         post_error(socket, moment, news.attempted.fault_at(iface));
@@ -72,11 +70,10 @@ fn tell<R: BoundedQueue<Received>>(socket: &mut Socket<R>, news: &News, frame: &
 
 /// Tells every socket of an attempt.
 pub fn tell_all<R: BoundedQueue<Received>>(sockets: &mut [Socket<R>], news: &News)
-    requires small { All (λ v. v.dropped + 3 < 2 ^ 64) sockets.old }
-    requires judged { IsJudged news.now.attempted }
+    requires { All (λ v. v.dropped + 3 < 2 ^ 64) sockets.old }
     ensures { sockets.new ≡ map (reached (told_news news.now)) sockets.old }
 {
-    let frame = news.attempted.tried.received();
+    let frame = news.attempted.tried().received();
     for socket in sockets.iter_mut() {
         tell(socket, news, &frame);
     }

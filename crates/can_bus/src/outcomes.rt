@@ -1,24 +1,33 @@
 ghost use Rattle.std.specs.Prelude.{◌≡◌};
+ghost use Rattle.can_bus.specs.Attempted.{IsJudged};
 
 use crate::events::{Pending, Tried};
 use can_attempt::{AckMode, Class, Judgement, Nodes};
 use can_errframe::{Role, fault_frame, state_frame};
 use can_fault::Verdict;
 use can_frame::{ErrorFrame, Iface};
+use std::marker::Model;
 
-/// An attempt that tried a frame, and all that followed.
-#[derive(Debug, Clone, Copy, PartialEq, Eq)]
+/// An attempt that tried a frame, and all that followed: what `judge` answers of it.
+///
+/// Contracts see the attempt alone, since what followed is fixed by it.
+#[derive(Debug, Drop)]
 pub struct Attempted {
-    /// The frame that was tried, and what became of it.
-    pub tried: Tried,
-    /// The faults of the attempt.
-    pub verdict: Verdict,
-    /// Who acknowledges.
-    pub ack: AckMode,
-    /// The interfaces as they were before it, at most 16.
-    pub nodes: Nodes,
-    /// All that followed: what `judge` answers of the other parts.
-    pub judgement: Judgement,
+    tried: Tried,
+    verdict: Verdict,
+    ack: AckMode,
+    nodes: Nodes,
+    judgement: Judgement,
+}
+
+impl Model for Attempted {
+    ghost use Rattle.can_bus.specs.Attempted.{Outcome, IsJudged};
+
+    ghost Value = { Outcome };
+
+    ghost view = { λ a. record { tried = a.tried; verdict = a.verdict; ack = a.ack; nodes = a.nodes } };
+
+    ghost invariant = { λ a. IsJudged (record { tried = a.tried; verdict = a.verdict; ack = a.ack; nodes = a.nodes }) a.judgement };
 }
 
 impl Attempted {
@@ -26,8 +35,36 @@ impl Attempted {
     ghost use Rattle.can_frame.specs.Sets.{is_in};
     ghost use Rattle.can_attempt.specs.Attempts.{counts_after};
     ghost use Rattle.can_errframe.specs.ErrorMessages.{state_message};
-    ghost use Rattle.can_bus.specs.Attempted.{transmission_of, IsJudged};
+    ghost use Rattle.can_bus.specs.Attempted.{transmission_of};
     ghost use Rattle.can_bus.specs.Posts.{is_looped_back, role_at, fault_message_for};
+
+    /// An attempt under these faults, where the interfaces were so before it, at most 16, and what `judge`
+    /// answers of it.
+    pub fn new(
+        tried: Tried,
+        verdict: Verdict,
+        ack: AckMode,
+        nodes: Nodes,
+        judgement: Judgement,
+    ) -> Attempted
+        requires { IsJudged (record { tried = tried; verdict = verdict; ack = ack; nodes = nodes }) judgement }
+        ensures { result ≡ record { tried = tried; verdict = verdict; ack = ack; nodes = nodes } }
+    {
+        Attempted {
+            tried,
+            verdict,
+            ack,
+            nodes,
+            judgement,
+        }
+    }
+
+    /// The frame that was tried, and what became of it.
+    pub fn tried(&self) -> Tried
+        ensures { result ≡ self.now.tried }
+    {
+        self.tried
+    }
 
     /// Whether the frame, which waited so, is put to the sockets of an interface: one that accepted it, and
     /// its own where it is looped back.
@@ -49,7 +86,6 @@ impl Attempted {
 
     /// The part that an interface has in the attempt: none where it is bus off, or not there.
     pub fn role_of(&self, iface: Iface) -> Option<Role>
-        requires { IsJudged self.now }
         ensures { result ≡ role_at (transmission_of self.now) iface }
     {
         let place = iface.number();
@@ -70,7 +106,6 @@ impl Attempted {
 
     /// The error message frame of the attempt's fault, as an interface sees it, if it sees one.
     pub fn fault_at(&self, iface: Iface) -> Option<ErrorFrame>
-        requires { IsJudged self.now }
         ensures { result ≡ fault_message_for self.now.tried.class self.now.verdict (role_at (transmission_of self.now) iface) }
     {
         match self.role_of(iface) {
@@ -81,7 +116,6 @@ impl Attempted {
 
     /// The error message frame of a change of an interface's state, if the attempt changed it.
     pub fn state_change_at(&self, iface: Iface) -> Option<ErrorFrame>
-        requires { IsJudged self.now }
         ensures { result ≡ state_message ((transmission_of self.now).counts iface) (counts_after (transmission_of self.now) iface) }
     {
         let after = self.judgement.counters[iface.number() as usize];

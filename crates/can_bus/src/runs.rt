@@ -1,4 +1,5 @@
 ghost use Rattle.std.specs.Prelude.{◌≡◌, ◌≤◌, ◌<◌, ◌++◌, ◌∷◌, [], vec_len, vec_capacity, IfOk, OnErr, OnOk, length};
+ghost use Rattle.can_bus.specs.Headline.{Headline};
 ghost use Rattle.can_bus.specs.Run.{IsAnswer, AreAnswers, history_after, history_after_all};
 ghost use Rattle.can_bus.specs.Legal.{IsLegal};
 
@@ -61,10 +62,16 @@ fn note(replies: &mut Vec<Reply>, reply: Reply)
 
 /// Carries out events in order, and answers each one's reply.
 ///
-/// Every accepted frame, exactly: the record is a legal history before and after, the entries added are
-/// the events with these replies, but for those that were refused for a full record or for want of
-/// memory, and each reply is the one that the entries before it allow. `RunFault` comes before the first
-/// event, and then nothing was done.
+/// The record is a legal history before and after, the entries added are the events with these replies,
+/// but for those that were refused for a full record or for want of memory, and each reply is the one that
+/// the entries before it allow. `RunFault` comes before the first event, and then nothing was done.
+///
+/// Every accepted frame, exactly: so for every list of events, the data frames queued to a socket from each
+/// sending interface are, in order sent, exactly those that its interface accepted while the socket was
+/// open (or, on the sender's own interface, looped back once done), that passed its filters and options and
+/// found room, each once, and again only for each attempt whose sole fault was the last bit of end of
+/// frame; every lost frame is counted; nothing is queued after close. `specs/Headline.antt` says it part by
+/// part.
 pub fn run<T: BoundedQueue<Pending>, R: BoundedQueue<Received>, A: Arbiter>(
     bus: &mut Bus<T, R, A>,
     alloc: Global,
@@ -75,6 +82,7 @@ pub fn run<T: BoundedQueue<Pending>, R: BoundedQueue<Received>, A: Arbiter>(
     ensures after { IfOk result (λ replies. bus.new ≡ record bus.old { history = history_after_all events.now replies.items bus.old.history }) }
     ensures was_legal { IsLegal bus.old.config bus.old.history }
     ensures legal { IsLegal bus.new.config bus.new.history }
+    ensures headline { Headline bus.new.config bus.new.history }
     ensures err { OnErr result (bus.new ≡ bus.old) }
 {
     // Looking at the record tells the proof that it is a legal history, before and after.

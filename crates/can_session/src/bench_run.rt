@@ -1,5 +1,6 @@
 ghost use Rattle.std.specs.Prelude.{◌≡◌, ◌≢◌, ◌+◌, ◌<◌, ◌≤◌, ◌↔◌, ◌⊎◌, List, ℕ, Err, length, IfOk, IfErr, OnOk, OnErr, MatchBool};
 ghost use Rattle.std.specs.Io.KnownBytes.{Appends};
+ghost use Rattle.can_bus.specs.Headline.{Headline};
 ghost use Rattle.can_bus.specs.Legal.{IsLegal};
 ghost use Rattle.can_session.specs.Lines.{FindsEnd, TakesLine, IsWithin, left_of};
 ghost use Rattle.can_session.specs.Benches.{IsCarriedOut};
@@ -68,6 +69,7 @@ pub fn bench<F: FaultSource + Drop, R: Read + Drop, W: Write>(
     ensures untouched { result ≡ Err BenchFault.BadConfig → out.new ≡ out.old }
     ensures runs { result ≢ Err BenchFault.BadConfig → Ends IsRecordOf W.contents (F.verdicts config.script) (R.remaining input) (at_start config.names config.config config.rx_capacity) out.old result out.new }
     ensures legal { IfOk result (λ r. IsLegal r.config r.history) }
+    ensures headline { IfOk result (λ r. Headline r.config r.history) }
 {
     let BenchConfig {
         names,

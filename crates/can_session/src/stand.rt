@@ -1,4 +1,5 @@
 ghost use Rattle.std.specs.Prelude.{◌≡◌, ◌≢◌, ◌-◌, ◌<◌, [], ◌⊎◌, ◌↔◌, Some, None, Err, true, OnOk, IfOk, IfErr, MatchBool};
+ghost use Rattle.can_bus.specs.Headline.{Headline};
 ghost use Rattle.can_bus.specs.Legal.{IsLegal};
 ghost use Rattle.can_session.specs.Runs.{IsBench, IsRecordOf, at_start};
 ghost use Rattle.can_fault.specs.Sources.{no_verdicts};
@@ -73,6 +74,7 @@ impl Stand {
     pub fn into_record(self) -> Record
         ensures record { IsRecordOf result self }
         ensures legal { IsLegal result.config result.history }
+        ensures headline { Headline result.config result.history }
     {
         let Stand { port, .. } = self;
         port.into_bus().into_record()

@@ -7,7 +7,6 @@ use Rattle.can_attempt.specs.declared.nodes.Nodes.{Nodes}
 use Rattle.can_bus.specs.declared.events.Tried.{Tried}
 use Rattle.can_bus.specs.declared.news.News.{News}
 use Rattle.can_bus.specs.Changes.{Tries, IsReady, settled}
-use Rattle.can_bus.specs.Attempted.{IsJudged}
 use Rattle.can_bus.specs.News.{told_news}
 use Rattle.can_bus.specs.Posts.{attempt_posts}
 use Rattle.can_bus.specs.State.{LineState, SocketState, reached, key_in}
@@ -30,16 +29,14 @@ settle-requires-clause-gone g c = subst (λ (l : LineState). l.gone + 1 < 2 ^ 64
 pub settle-requires-clause-done : goal.settle-requires-clause-done
 settle-requires-clause-done g c = subst (λ (l : LineState). l.done + 1 < 2 ^ 64) (sym c.index_mut-line.ensures.value) (c.requires.done c.number.result c.index_mut-line.result.now (within g c))
 
-pub tell_all-requires-clause-small : goal.tell_all-requires-clause-small
-tell_all-requires-clause-small g c = subst (All (λ (v : SocketState). v.dropped + 3 < 2 ^ 64)) (sym c.deref_mut.ensures.value) c.requires.dropped
+pub tell_all-requires : goal.tell_all-requires
+tell_all-requires g c = subst (All (λ (v : SocketState). v.dropped + 3 < 2 ^ 64)) (sym c.deref_mut.ensures.value) c.requires.dropped
 
-pub tell_all-requires-clause-judged : goal.tell_all-requires-clause-judged
-tell_all-requires-clause-judged g c =
-    subst (λ (n : News). IsJudged n.attempted) (sym c.news_of-told.ensures)
-    (record {
-      judged = c.judge-judgement.ensures ∙ ap (λ (u : Tried). judged (attempt_between c.args.nodes.now u.winner c.args.verdict c.args.config.ack)) (sym c.tried_as-tried.ensures);
-      few = c.requires.few;
-    })
+pub news_of-told-requires : goal.news_of-told-requires
+news_of-told-requires g c = record {
+  judged = c.judge-judgement.ensures ∙ ap (λ (u : Tried). judged (attempt_between c.args.nodes.now u.winner c.args.verdict c.args.config.ack)) (sym c.tried_as-tried.ensures);
+  few = c.requires.few;
+}
 
 pub returns-clause-tried : goal.returns-clause-tried
 returns-clause-tried g c =
@@ -70,7 +67,6 @@ returns-clause-tried g c =
       lines_after = ap (slice_set lines c.number.result) settles ∙ ap (λ (k : ℕ). slice_set lines k (settled t.class (is_in w t.off) line)) c.number.ensures.number;
       keys_after = c.compete.ensures ∙ ap (λ (l : LineState). slice_set (g.A.Arbiter.keys_of c.args.arbiter.now) w (key_in (slice_get l.waiting 0))) settles;
       nodes_after = c.count.ensures
-          ∙ ap (λ (n : News). with_counters nodes n.attempted.judgement) c.news_of-told.ensures
           ∙ ap (λ (j : Judgement). with_counters nodes j) c.judge-judgement.ensures;
       sockets_after = written_back _ _ _ _ _ _ c.tell_all.ensures c.deref_mut.ensures.value c.deref_mut.ensures.len
           ∙ ap (λ (n : News). map (reached (told_news n)) c.args.sockets.now.items) c.news_of-told.ensures
