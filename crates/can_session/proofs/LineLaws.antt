@@ -8,7 +8,7 @@ use Rattle.std.proofs.lemmas.List.Sums.{sum_by-cons}
 use Rattle.std.proofs.lemmas.List.{take-append-drop, take_at, length-append, length-take-le}
 use Rattle.can_session.specs.declared.lines.LineFault.{LineFault}
 use Rattle.can_session.specs.declared.lines.LineFault.TheVariants.{LineTooLong, InputTooLong, Read}
-use Rattle.can_session.specs.Lines.{is_lf, with_byte, lines_of, whole_lines, spelled, Input, left_of, IsLong, IsWithin, TakesLine, FindsEnd, Waits, Overruns, Stops, GoesOn, Given, ReadsOn, ReadsOut, ReadsOver, ComesToLong, StopsBehind}
+use Rattle.can_session.specs.Lines.{is_lf, with_byte, lines_of, whole_lines, spelled, Input, left_of, IsLine, IsLong, IsWithin, TakesLine, FindsEnd, Waits, Overruns, Stops, GoesOn, Given, ReadsOn, ReadsOut, ReadsOver, ComesToLong, StopsBehind}
 
 abbrev Unbroken : List ℕ → Type 0
 Unbroken line = list_any is_lf line ≡ false
@@ -165,29 +165,30 @@ gave : (text front rest held : List ℕ) (coming : Option (List ℕ)) → text �
 gave text front rest held None split e = cc
 gave text front rest held (Some more) split e = let is : rest ≡ held ++ more = cc in split ∙ ap (λ l. front ++ l) is ∙ sym (append_assoc front held more)
 
-reads_on : (text : List ℕ) (lines : List (List ℕ)) (old new : Input) → GoesOn text lines old → Waits old new → Unbroken new.held → IsWithin new → ReadsOn text lines new
-reads_on text lines old new so waits unbroken within =
+reads_on : (text : List ℕ) (lines : List (List ℕ)) (old new : Input) → GoesOn text lines old → Waits old new → IsLine new.held → IsWithin new → ReadsOn text lines new
+reads_on text lines old new so waits line within =
     let len : length (spelled lines ++ new.held) ≡ length (spelled lines) + length new.held = length-append (spelled lines) new.held in
     record {
       read = spelled lines ++ new.held;
       taken = gave text (spelled lines) so.rest new.held new.coming so.split (stays so.rest (left_of old) (left_of new) so.left waits.same);
       within = omega (arith, len, within.bytes, waits.given, so.counted);
-      whole = all_whole lines new.held so.unbroken unbroken;
+      whole = all_whole lines new.held so.unbroken line.unbroken;
+      short = omega (arith, len, line.short);
     }
 
-reads_out : (text : List ℕ) (lines : List (List ℕ)) (old new : Input) → GoesOn text lines old → Waits old new → new.reads ≡ 16777216 → Unbroken new.held → IsWithin new → ReadsOut text lines new
+reads_out : (text : List ℕ) (lines : List (List ℕ)) (old new : Input) → GoesOn text lines old → Waits old new → new.reads ≡ 16777216 → IsLine new.held → IsWithin new → ReadsOut text lines new
 unfolding reads_on
-reads_out text lines old new so waits spent unbroken within =
+reads_out text lines old new so waits spent line within =
     let len : length (spelled lines ++ new.held) ≡ length (spelled lines) + length new.held = length-append (spelled lines) new.held in
     let full : length (spelled lines ++ new.held) ≡ 16777216 = omega (arith, len, within.bytes, within.reads, spent, waits.given, so.counted) in
     record {
-      on = reads_on text lines old new so waits unbroken within;
+      on = reads_on text lines old new so waits line within;
       full = full;
       reads = spent;
     }
 
-reads_over : (text : List ℕ) (lines : List (List ℕ)) (old new : Input) → GoesOn text lines old → Overruns old new → Unbroken new.held → ReadsOver text lines new
-reads_over text lines old new so over unbroken =
+reads_over : (text : List ℕ) (lines : List (List ℕ)) (old new : Input) → GoesOn text lines old → Overruns old new → IsLine new.held → ReadsOver text lines new
+reads_over text lines old new so over line =
     let left = after so.rest (new.held ++ over.byte ∷ []) (left_of old) new.coming so.left over.taken in
     let len : length (spelled lines ++ new.held) ≡ length (spelled lines) + length new.held = length-append (spelled lines) new.held in
     let split : text ≡ ((spelled lines ++ new.held) ++ over.byte ∷ []) ++ left.0 =
@@ -198,7 +199,8 @@ reads_over text lines old new so over unbroken =
       byte = over.byte;
       taken = subst (λ (o : Option (List ℕ)). Consumes (Some text) o ((spelled lines ++ new.held) ++ over.byte ∷ [])) (sym left.1) split;
       full = omega (arith, len, over.full, over.given, so.counted);
-      whole = all_whole lines new.held so.unbroken unbroken;
+      whole = all_whole lines new.held so.unbroken line.unbroken;
+      short = omega (arith, len, line.short);
     }
 
 comes_to_long : (text : List ℕ) (lines : List (List ℕ)) (old new : Input) → GoesOn text lines old → Waits old new → IsLong new.held → IsWithin new → ComesToLong text lines
@@ -218,9 +220,9 @@ comes_to_long text lines old new so waits long within =
 
 pub stop : (text : List ℕ) (lines : List (List ℕ)) (old new : Input) (fault : LineFault) → Given text lines old → Stops fault old new → IsWithin new → StopsBehind fault text lines new
 stop text lines old new LineTooLong (inl so) (going, told, (waits, long)) within = comes_to_long text lines old new so waits long within
-stop text lines old new InputTooLong (inl so) (going, told, (line, inl spent)) within = inl (reads_out text lines old new so spent.0 spent.1 line.unbroken within)
-stop text lines old new InputTooLong (inl so) (going, told, (line, inr over)) within = inr (reads_over text lines old new so over line.unbroken)
-stop text lines old new Read (inl so) (going, told, (line, failed)) within = (reads_on text lines old new so failed.0 line.unbroken within, failed.1)
+stop text lines old new InputTooLong (inl so) (going, told, (line, inl spent)) within = inl (reads_out text lines old new so spent.0 spent.1 line within)
+stop text lines old new InputTooLong (inl so) (going, told, (line, inr over)) within = inr (reads_over text lines old new so over line)
+stop text lines old new Read (inl so) (going, told, (line, failed)) within = (reads_on text lines old new so failed.0 line within, failed.1)
 stop text lines old new fault (inr done) (going, told, stops) within = let no = done.ended in cc
 
 -- no more is read of a text than a reader gave of it

@@ -13,7 +13,7 @@ use Rattle.can_session.specs.declared.bench_run.BenchFault.TheVariants.{BadConfi
 use Rattle.can_session.specs.Lines.{Input, unread, IsLine, IsWithin, FindsEnd, TakesLine, Given, Stops, Repeats, left_of, lines_of, spelled}
 use Rattle.can_session.specs.Orders.{order_of}
 use Rattle.can_session.specs.Benches.{BenchState, IsCarriedOut, AreCarriedOut, IsRefused}
-use Rattle.can_session.specs.Runs.{AreAll, AreFirst, ComesToRefused, ComeBeforeBad, ComeBeforeStop, Ran, Ends, EndsAt}
+use Rattle.can_session.specs.Runs.{AreAll, AreFirst, IsNext, ComeBeforeBad, ComeBeforeStop, Ran, Ends, EndsAt}
 use Rattle.can_session.proofs.LineLaws.{first_lines, next, end, stop}
 use Rattle.can_session.proofs.Turning.{appends_more}
 
@@ -99,27 +99,21 @@ within_behind text lines old new (inl so) (going, line, inl gives) within = omeg
 within_behind text lines old new (inl so) (going, line, inr last) within = omega (arith, so.counted, last.0.counted, within.bytes)
 within_behind text lines old new (inr done) (going, line, gives) within = let no = done.ended in cc
 
--- a refused line comes behind the lines given
-before_refused : (text : List ℕ) (lines : List (List ℕ)) (old new : Input) (b : BenchState) → Given text lines old → IsWithin new → TakesLine old new → IsRefused (order_of new.line) b → ComesToRefused text lines new b
-before_refused text lines old new b h within k bad =
+-- the next line comes behind the lines given
+is_next : (input : Option (List ℕ)) (lines : List (List ℕ)) (old new : Input) → AreOf input lines old → IsWithin new → TakesLine old new → IsNext input lines new.line
+is_next None lines old new h within k = tt
+is_next (Some text) lines old new h within k =
     let first = given_first text (lines ++ new.line ∷ []) new (next text lines old new h k) in
-    record {
-      more = first.0;
-      next = first.1 ∙ append_assoc lines (new.line ∷ []) first.0;
-      refused = bad;
-      line = short_line old new k;
-      within = within_behind text lines old new h k within;
-    }
-
-before_bad : (input : Option (List ℕ)) (lines : List (List ℕ)) (old new : Input) (b : BenchState) → AreOf input lines old → IsWithin new
-    → (TakesLine old new × IsRefused (order_of new.line) b) ⊎ (Stops line.LineTooLong old new) → ComeBeforeBad input lines new b
-before_bad None lines old new b h within why = tt
-before_bad (Some text) lines old new b h within (inl why) = inl (before_refused text lines old new b h within why.0 why.1)
-before_bad (Some text) lines old new b h within (inr why) = inr (stop text lines old new line.LineTooLong h why within)
+    (first.0, first.1 ∙ append_assoc lines (new.line ∷ []) first.0, within_behind text lines old new h k within)
 
 before_stop : (fault : LineFault) (input : Option (List ℕ)) (lines : List (List ℕ)) (old new : Input) → AreOf input lines old → IsWithin new → Stops fault old new → ComeBeforeStop fault input lines new
 before_stop fault None lines old new h within why = why.1
 before_stop fault (Some text) lines old new h within why = (why.1, stop text lines old new fault h why within)
+
+before_bad : (input : Option (List ℕ)) (lines : List (List ℕ)) (old new : Input) (b : BenchState) → AreOf input lines old → IsWithin new
+    → (TakesLine old new × IsRefused (order_of new.line) b) ⊎ (Stops line.LineTooLong old new) → ComeBeforeBad input lines new b
+before_bad input lines old new b h within (inl why) = inl (record { next = is_next input lines old new h within why.0; line = short_line old new why.0; refused = why.1 })
+before_bad input lines old new b h within (inr why) = inr (before_stop line.LineTooLong input lines old new h within why)
 
 -- a run ends at the next line as that line's fault says
 pub ends_at : {A W : Type 0} (leaves : A → BenchState → Type 0) (contents : W → Option (List ℕ)) (v : VerdictMap) (input : Option (List ℕ)) (lines : List (List ℕ)) (number : ℕ) (old now : Input) (b mid : BenchState) (out new : W) (fault : BenchFault)

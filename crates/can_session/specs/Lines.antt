@@ -144,12 +144,14 @@ pub record HasEnded (text : List ℕ) (lines : List (List ℕ)) (now : Input) : 
 abbrev pub Given : List ℕ → List (List ℕ) → Input → Type 0
 Given text lines now = GoesOn text lines now ⊎ HasEnded text lines now
 
--- the reader gave so much of a text, at most 16,777,216 bytes, and has the rest; the lines that have their LF in it were given
+-- the reader gave so much of a text, at most 16,777,216 bytes, and has the rest; the lines that have their LF in it were
+-- given, and no long line is begun behind them
 pub record ReadsOn (text : List ℕ) (lines : List (List ℕ)) (now : Input) : Type 0 where
   pub read : List ℕ
   pub taken : Consumes (Some text) now.coming read
   pub within : length read ≤ 16777216
   pub whole : lines ≡ whole_lines read
+  pub short : length read ≤ length (spelled lines) + 4096
 
 -- the reader gave the first 16,777,216 bytes of a text in as many reads
 pub record ReadsOut (text : List ℕ) (lines : List (List ℕ)) (now : Input) : Type 0 where
@@ -157,13 +159,15 @@ pub record ReadsOut (text : List ℕ) (lines : List (List ℕ)) (now : Input) : 
   pub full : length on.read ≡ 16777216
   pub reads : now.reads ≡ 16777216
 
--- the reader gave the first 16,777,216 bytes of a text and one more; the lines that have their LF before that one were given
+-- the reader gave the first 16,777,216 bytes of a text and one more; the lines that have their LF before that one were
+-- given, and no long line is begun behind them
 pub record ReadsOver (text : List ℕ) (lines : List (List ℕ)) (now : Input) : Type 0 where
   pub read : List ℕ
   pub byte : ℕ
   pub taken : Consumes (Some text) now.coming (read ++ byte ∷ [])
   pub full : length read ≡ 16777216
   pub whole : lines ≡ whole_lines read
+  pub short : length read ≤ length (spelled lines) + 4096
 
 -- the line behind these is too long, and its 4,097th byte is within the limit of an input
 pub record ComesToLong (text : List ℕ) (lines : List (List ℕ)) : Type 0 where

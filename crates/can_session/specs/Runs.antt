@@ -8,7 +8,7 @@ use Rattle.can_session.specs.declared.lines.LineFault.{LineFault}
 use Rattle.can_session.specs.declared.lines.LineFault.TheVariants as line
 use Rattle.can_session.specs.declared.bench_run.BenchFault.{BenchFault}
 use Rattle.can_session.specs.declared.bench_run.BenchFault.TheVariants.{BadConfig, BadLine, InputTooLong, Read, Write, NoMemory}
-use Rattle.can_session.specs.Lines.{Input, IsLine, IsOver, TakesLine, Stops, StopsBehind, ComesToLong, lines_of, spelled}
+use Rattle.can_session.specs.Lines.{Input, IsLine, IsOver, TakesLine, Stops, StopsBehind, lines_of, spelled}
 use Rattle.can_session.specs.Orders.{order_of}
 use Rattle.can_session.specs.Benches.{BenchState, AreCarriedOut, IsRefused}
 
@@ -37,23 +37,25 @@ abbrev pub AreFirst : Option (List ℕ) → List (List ℕ) → Type 0
 AreFirst None lines = Unit {0}
 AreFirst (Some text) lines = (more : List (List ℕ)) × (lines_of text ≡ lines ++ more)
 
--- behind these lines of a text comes the line that stands, within the limits, and the bench refuses it
-pub record ComesToRefused (text : List ℕ) (lines : List (List ℕ)) (now : Input) (b : BenchState) : Type 0 where
-  pub more : List (List ℕ)
-  pub next : lines_of text ≡ lines ++ now.line ∷ more
-  pub refused : IsRefused (order_of now.line) b
+-- these lines, and then this one, are the first lines of the input, within its limit
+abbrev pub IsNext : Option (List ℕ) → List (List ℕ) → List ℕ → Type 0
+IsNext None lines line = Unit {0}
+IsNext (Some text) lines line = (more : List (List ℕ)) × (lines_of text ≡ lines ++ line ∷ more) × (length (spelled lines) + length line ≤ 16777216)
+
+-- behind these lines of the input stands one of at most 4,096 bytes that the bench refuses
+pub record ComesToRefused (input : Option (List ℕ)) (lines : List (List ℕ)) (now : Input) (b : BenchState) : Type 0 where
+  pub next : IsNext input lines now.line
   pub line : IsLine now.line
-  pub within : length (spelled lines) + length now.line ≤ 16777216
+  pub refused : IsRefused (order_of now.line) b
 
--- behind these lines of the input comes one that the bench refuses, or one that is too long
-abbrev pub ComeBeforeBad : Option (List ℕ) → List (List ℕ) → Input → BenchState → Type 0
-ComeBeforeBad None lines now b = Unit {0}
-ComeBeforeBad (Some text) lines now b = ComesToRefused text lines now b ⊎ ComesToLong text lines
-
--- these are the lines with an LF of all that was read before no more could be
+-- these lines were given of the input before this fault
 abbrev pub ComeBeforeStop : LineFault → Option (List ℕ) → List (List ℕ) → Input → Type 0
 ComeBeforeStop fault None lines now = now.fault ≡ Some fault
 ComeBeforeStop fault (Some text) lines now = (now.fault ≡ Some fault) × StopsBehind fault text lines now
+
+-- behind these lines of the input comes one that the bench refuses, or one that is too long
+abbrev pub ComeBeforeBad : Option (List ℕ) → List (List ℕ) → Input → BenchState → Type 0
+ComeBeforeBad input lines now b = ComesToRefused input lines now b ⊎ ComeBeforeStop line.LineTooLong input lines now
 
 -- lines of at most 4,096 bytes are carried out, and the writer takes what they put out
 pub record Ran {W : Type 0} (contents : W → Option (List ℕ)) (verdicts : VerdictMap) (lines : List (List ℕ)) (b : BenchState) (out : W) (after : BenchState) (new : W) : Type 0 where
