@@ -36,8 +36,8 @@ passed (Some x) None held front rest h e = absurd h
 passed (Some x) (Some y) held front rest h e = sym h ∙ ap (λ l. l ++ y) e ∙ append_assoc front rest y
 
 -- the line that stands was at the front of what was held
-pub takes : (old mid new : Input) (len : ℕ) → old.ended ≡ false → Waits old mid → LineAt mid.held len → new ≡ record mid { line = take len mid.held; given = mid.given + (len + 1); held = drop (len + 1) mid.held } → TakesLine old new
-takes old mid new len going waits at is =
+pub takes : (old mid new : Input) (len : ℕ) → old.ended ≡ false → mid.fault ≡ old.fault → Waits old mid → LineAt mid.held len → new ≡ record mid { line = take len mid.held; given = mid.given + (len + 1); held = drop (len + 1) mid.held } → TakesLine old new
+takes old mid new len going fine waits at is =
     let front = take len mid.held ++ 10 ∷ [] in
     let split : mid.held ≡ front ++ drop (len + 1) mid.held = sym (take-append-drop (len + 1) mid.held) ∙ ap (λ l. l ++ drop (len + 1) mid.held) at.ended in
     let count : length front ≡ len + 1 = omega (arith, length-append (take len mid.held) (10 ∷ []), length-take-le len mid.held (omega (arith, at.within))) in
@@ -47,5 +47,6 @@ takes old mid new len going waits at is =
       inl (record {
         taken = passed (left_of old) mid.coming mid.held front (drop (len + 1) mid.held) waits.same split;
         counted = omega (arith, count, waits.given);
+        fault = fine;
       }),
     )

@@ -1,5 +1,5 @@
 -- The lines that an input gives are those of the text that its reader had.
-use Rattle.std.proofs.Common.{◌≡◌, ℕ, suc, ◌+◌, ◌<◌, false, inl, inr, List, [], ◌∷◌, ◌++◌, length, take, drop, Option, Some, None, refl, sym, ap, ◌∙◌, append_assoc, append-nil, zero-add, arith, if◌then◌else◌}
+use Rattle.std.proofs.Common.{◌≡◌, ℕ, suc, ◌+◌, ◌<◌, false, inl, inr, List, [], ◌∷◌, ◌++◌, length, take, drop, Option, Some, None, refl, sym, ap, subst, ◌∙◌, append_assoc, append-nil, zero-add, arith, if◌then◌else◌}
 use Rattle.std.specs.Prelude.{count_by}
 use Rattle.std.specs.List.{list_any, AllByRecursion}
 use Rattle.std.specs.Io.KnownBytes.{Consumes, Keeps, IsAtEnd, prepend_known}
@@ -8,7 +8,7 @@ use Rattle.std.proofs.lemmas.List.Sums.{sum_by-cons}
 use Rattle.std.proofs.lemmas.List.{take-append-drop, take_at, length-append, length-take-le}
 use Rattle.can_session.specs.declared.lines.LineFault.{LineFault}
 use Rattle.can_session.specs.declared.lines.LineFault.TheVariants.{LineTooLong, InputTooLong, Read}
-use Rattle.can_session.specs.Lines.{is_lf, with_byte, lines_of, whole_lines, spelled, Input, left_of, IsLong, IsWithin, TakesLine, FindsEnd, Waits, Overruns, Stops, GoesOn, Given, ReadsOn, ComesToLong, StopsBehind}
+use Rattle.can_session.specs.Lines.{is_lf, with_byte, lines_of, whole_lines, spelled, Input, left_of, IsLine, IsLong, IsWithin, TakesLine, FindsEnd, Waits, Overruns, Stops, GoesOn, Given, ReadsOn, ReadsOut, ReadsOver, ComesToLong, StopsBehind}
 
 abbrev Unbroken : List ℕ → Type 0
 Unbroken line = list_any is_lf line ≡ false
@@ -140,6 +140,9 @@ next text lines old new (inl so) (going, line, inr last) =
     inr (record {
       ended = last.2.ended;
       all = sym (ap lines_of so.split ∙ first_lines lines so.rest so.unbroken ∙ ap (λ l. lines ++ lines_of l) is ∙ ap (λ l. lines ++ l) (last_line new.line line.unbroken last.1));
+      counted =
+          let len : length text ≡ length (spelled lines) + length new.line = ap length (so.split ∙ ap (λ l. spelled lines ++ l) is) ∙ length-append (spelled lines) new.line in
+          omega (arith, len, last.0.counted, so.counted);
     })
 next text lines old new (inr done) (going, line, gives) = let no = done.ended in cc
 
@@ -147,35 +150,58 @@ pub forward : (old new : Input) → TakesLine old new → old.given < new.given
 forward old new (going, line, inl gives) = omega (arith, gives.counted, length-append new.line (10 ∷ []))
 forward old new (going, line, inr last) = omega (arith, last.0.counted, last.1)
 
-pub end : (text : List ℕ) (lines : List (List ℕ)) (old new : Input) → Given text lines old → FindsEnd old new → lines ≡ lines_of text
+pub end : (text : List ℕ) (lines : List (List ℕ)) (old new : Input) → Given text lines old → FindsEnd old new → (lines ≡ lines_of text) × (new.given ≡ length text)
 end text lines old new (inl so) (gives, over) =
     let left = after so.rest [] (left_of old) (left_of new) so.left gives.taken in
-    let none = nothing_left left.0 new.held new.coming over.held over.coming left.1 in
-    sym (ap lines_of so.split ∙ first_lines lines so.rest so.unbroken ∙ ap (λ l. lines ++ lines_of l) (left.2 ∙ none) ∙ append-nil lines)
-end text lines old new (inr done) finds = done.all
+    let none : so.rest ≡ [] = left.2 ∙ nothing_left left.0 new.held new.coming over.held over.coming left.1 in
+    let len : length text ≡ length (spelled lines) = ap length (so.split ∙ ap (λ l. spelled lines ++ l) none ∙ append-nil (spelled lines)) in (
+      sym (ap lines_of so.split ∙ first_lines lines so.rest so.unbroken ∙ ap (λ l. lines ++ lines_of l) none ∙ append-nil lines),
+      omega (arith, len, gives.counted, so.counted),
+    )
+end text lines old new (inr done) (gives, over) = (done.all, omega (arith, done.counted, gives.counted))
 
-reads_on : (text : List ℕ) (lines : List (List ℕ)) (old new : Input) → GoesOn text lines old → Waits old new → Unbroken new.held → ReadsOn text lines
-reads_on text lines old new so waits unbroken =
-    let more = held_first so.rest new.held new.coming (stays so.rest (left_of old) (left_of new) so.left waits.same) in
+-- what a reader gave of a text, where what is held is the end of that
+gave : (text front rest held : List ℕ) (coming : Option (List ℕ)) → text ≡ front ++ rest → prepend_known held coming ≡ Some rest → Consumes (Some text) coming (front ++ held)
+gave text front rest held None split e = cc
+gave text front rest held (Some more) split e = let is : rest ≡ held ++ more = cc in split ∙ ap (λ l. front ++ l) is ∙ sym (append_assoc front held more)
+
+reads_on : (text : List ℕ) (lines : List (List ℕ)) (old new : Input) → GoesOn text lines old → Waits old new → IsLine new.held → IsWithin new → ReadsOn text lines new
+reads_on text lines old new so waits line within =
+    let len : length (spelled lines ++ new.held) ≡ length (spelled lines) + length new.held = length-append (spelled lines) new.held in
     record {
       read = spelled lines ++ new.held;
-      rest = more.0;
-      split = so.split ∙ ap (λ l. spelled lines ++ l) more.1 ∙ sym (append_assoc (spelled lines) new.held more.0);
-      whole = all_whole lines new.held so.unbroken unbroken;
+      taken = gave text (spelled lines) so.rest new.held new.coming so.split (stays so.rest (left_of old) (left_of new) so.left waits.same);
+      within = omega (arith, len, within.bytes, waits.given, so.counted);
+      whole = all_whole lines new.held so.unbroken line.unbroken;
+      short = omega (arith, len, line.short);
     }
 
-overran : (text : List ℕ) (lines : List (List ℕ)) (old new : Input) → GoesOn text lines old → Overruns old new → Unbroken new.held → StopsBehind InputTooLong text lines new
-overran text lines old new so over unbroken =
+reads_out : (text : List ℕ) (lines : List (List ℕ)) (old new : Input) → GoesOn text lines old → Waits old new → new.reads ≡ 16777216 → IsLine new.held → IsWithin new → ReadsOut text lines new
+unfolding reads_on
+reads_out text lines old new so waits spent line within =
+    let len : length (spelled lines ++ new.held) ≡ length (spelled lines) + length new.held = length-append (spelled lines) new.held in
+    let full : length (spelled lines ++ new.held) ≡ 16777216 = omega (arith, len, within.bytes, within.reads, spent, waits.given, so.counted) in
+    record {
+      on = reads_on text lines old new so waits line within;
+      full = full;
+      reads = spent;
+    }
+
+reads_over : (text : List ℕ) (lines : List (List ℕ)) (old new : Input) → GoesOn text lines old → Overruns old new → IsLine new.held → ReadsOver text lines new
+reads_over text lines old new so over line =
     let left = after so.rest (new.held ++ over.byte ∷ []) (left_of old) new.coming so.left over.taken in
-    let len : length (spelled lines ++ new.held) ≡ length (spelled lines) + length new.held = length-append (spelled lines) new.held in (
-      record {
-        read = spelled lines ++ new.held;
-        rest = over.byte ∷ left.0;
-        split = so.split ∙ ap (λ l. spelled lines ++ l) (left.2 ∙ append_assoc new.held (over.byte ∷ []) left.0) ∙ sym (append_assoc (spelled lines) new.held (over.byte ∷ left.0));
-        whole = all_whole lines new.held so.unbroken unbroken;
-      },
-      inr (omega (arith, len, over.full, over.given, so.counted), omega arith),
-    )
+    let len : length (spelled lines ++ new.held) ≡ length (spelled lines) + length new.held = length-append (spelled lines) new.held in
+    let split : text ≡ ((spelled lines ++ new.held) ++ over.byte ∷ []) ++ left.0 =
+    so.split ∙ ap (λ l. spelled lines ++ l) left.2 ∙ sym (append_assoc (spelled lines) (new.held ++ over.byte ∷ []) left.0)
+    ∙ ap (λ l. l ++ left.0) (sym (append_assoc (spelled lines) new.held (over.byte ∷ []))) in
+    record {
+      read = spelled lines ++ new.held;
+      byte = over.byte;
+      taken = subst (λ (o : Option (List ℕ)). Consumes (Some text) o ((spelled lines ++ new.held) ++ over.byte ∷ [])) (sym left.1) split;
+      full = omega (arith, len, over.full, over.given, so.counted);
+      whole = all_whole lines new.held so.unbroken line.unbroken;
+      short = omega (arith, len, line.short);
+    }
 
 comes_to_long : (text : List ℕ) (lines : List (List ℕ)) (old new : Input) → GoesOn text lines old → Waits old new → IsLong new.held → IsWithin new → ComesToLong text lines
 comes_to_long text lines old new so waits long within =
@@ -193,8 +219,22 @@ comes_to_long text lines old new so waits long within =
     }
 
 pub stop : (text : List ℕ) (lines : List (List ℕ)) (old new : Input) (fault : LineFault) → Given text lines old → Stops fault old new → IsWithin new → StopsBehind fault text lines new
-stop text lines old new LineTooLong (inl so) (going, (waits, long)) within = comes_to_long text lines old new so waits long within
-stop text lines old new InputTooLong (inl so) (going, (line, inl spent)) within = (reads_on text lines old new so spent.0 line.unbroken, inl spent.1)
-stop text lines old new InputTooLong (inl so) (going, (line, inr over)) within = overran text lines old new so over line.unbroken
-stop text lines old new Read (inl so) (going, (line, waits)) within = reads_on text lines old new so waits line.unbroken
-stop text lines old new fault (inr done) (going, stops) within = let no = done.ended in cc
+stop text lines old new LineTooLong (inl so) (going, told, (waits, long)) within = comes_to_long text lines old new so waits long within
+stop text lines old new InputTooLong (inl so) (going, told, (line, inl spent)) within = inl (reads_out text lines old new so spent.0 spent.1 line within)
+stop text lines old new InputTooLong (inl so) (going, told, (line, inr over)) within = inr (reads_over text lines old new so over line)
+stop text lines old new Read (inl so) (going, told, (line, failed)) within = (reads_on text lines old new so failed.0 line within, failed.1)
+stop text lines old new fault (inr done) (going, told, stops) within = let no = done.ended in cc
+
+-- no more is read of a text than a reader gave of it
+same_length : (text a b : List ℕ) (coming : Option (List ℕ)) → Consumes (Some text) coming a → Consumes (Some text) coming b → length a ≡ length b
+same_length text a b None h k = absurd h
+same_length text a b (Some rest) h k =
+    let one : length text ≡ length a + length rest = ap length h ∙ length-append a rest in
+    let two : length text ≡ length b + length rest = ap length k ∙ length-append b rest in
+    omega (arith, one, two)
+
+pub apart : (text : List ℕ) (lines others : List (List ℕ)) (now : Input) → StopsBehind Read text lines now → ¬ StopsBehind InputTooLong text others now
+apart text lines others now (on, few) (inl out) = omega (arith, few, out.reads)
+apart text lines others now (on, few) (inr over) =
+    let same = same_length text on.read (over.read ++ over.byte ∷ []) now.coming on.taken over.taken in
+    omega (arith, same, length-append over.read (over.byte ∷ []), over.full, on.within)

@@ -1,16 +1,19 @@
 use Rattle.std.proofs.Common.{◌≡◌, ◌⊎◌, inl, inr, ℕ, ◌+◌, ◌≤◌, Bool, true, false, arith, List, [], ◌∷◌, ◌++◌, length, Option, Some, None, Result, Ok, Err, refl, sym, ap, subst, ◌∙◌, append_assoc}
 use Rattle.std.specs.Io.KnownBytes.{Appends, prepend_known}
+use Rattle.std.specs.List.{All}
 use Rattle.std.proofs.lemmas.List.{append-nil, length-append}
+use Rattle.std.proofs.lemmas.List.Elements.{All-nil, All-cons, All-append}
 use Rattle.std.specs.Prelude.{MatchBool}
 use Rattle.std.specs.Result.{IsErr, IsErrAnd}
 use Rattle.can_fault.specs.Sources.{VerdictMap}
+use Rattle.can_session.specs.declared.lines.LineFault.{LineFault}
 use Rattle.can_session.specs.declared.lines.LineFault.TheVariants as line
 use Rattle.can_session.specs.declared.bench_run.BenchFault.{BenchFault}
 use Rattle.can_session.specs.declared.bench_run.BenchFault.TheVariants.{BadConfig, BadLine, InputTooLong, Read, Write, NoMemory}
-use Rattle.can_session.specs.Lines.{Input, IsWithin, FindsEnd, TakesLine, Given, Stops, left_of, lines_of}
+use Rattle.can_session.specs.Lines.{Input, unread, IsLine, IsWithin, FindsEnd, TakesLine, Given, Stops, Repeats, left_of, lines_of, spelled}
 use Rattle.can_session.specs.Orders.{order_of}
 use Rattle.can_session.specs.Benches.{BenchState, IsCarriedOut, AreCarriedOut, IsRefused}
-use Rattle.can_session.specs.Runs.{AreAll, AreFirst, ComeBeforeBad, ComeBeforeStop, Ran, Ends, EndsAt}
+use Rattle.can_session.specs.Runs.{AreAll, AreFirst, IsNext, ComeBeforeBad, ComeBeforeStop, Ran, Ends, EndsAt}
 use Rattle.can_session.proofs.LineLaws.{first_lines, next, end, stop}
 use Rattle.can_session.proofs.Turning.{appends_more}
 
@@ -30,9 +33,23 @@ pub of_more : (input : Option (List ℕ)) (lines : List (List ℕ)) (old new : I
 of_more None lines old new h k = tt
 of_more (Some text) lines old new h k = next text lines old new h k
 
-pub of_all : (input : Option (List ℕ)) (lines : List (List ℕ)) (old new : Input) → AreOf input lines old → FindsEnd old new → AreAll input lines
-of_all None lines old new h k = tt
-of_all (Some text) lines old new h k = end text lines old new h k
+-- all of the text, within the limit
+all_within : (text : List ℕ) (lines : List (List ℕ)) (old new : Input) → Given text lines old → FindsEnd old new → IsWithin new → (lines ≡ lines_of text) × (length text ≤ 16777216)
+all_within text lines old new h k within = let all = end text lines old new h k in (all.0, omega (arith, all.1, within.bytes))
+
+pub of_all : (input : Option (List ℕ)) (lines : List (List ℕ)) (old new : Input) → AreOf input lines old → FindsEnd old new → IsWithin new → AreAll input lines
+of_all None lines old new h k within = tt
+of_all (Some text) lines old new h k within = all_within text lines old new h k within
+
+-- an input without a fault is so behind a line
+pub fine_behind : (old new : Input) → old.fault ≡ None → TakesLine old new → new.fault ≡ None
+fine_behind old new fine (going, line, inl gives) = gives.fault ∙ fine
+fine_behind old new fine (going, line, inr last) = last.0.fault ∙ fine
+
+-- the fault of an input that had none is a new one
+pub first_fault : (old new : Input) (fault : LineFault) → old.fault ≡ None → Stops fault old new ⊎ Repeats fault old new → Stops fault old new
+first_fault old new fault fine (inl stops) = stops
+first_fault old new fault fine (inr again) = let no = again.0 in cc
 
 given_first : (text : List ℕ) (lines : List (List ℕ)) (now : Input) → Given text lines now → (more : List (List ℕ)) × (lines_of text ≡ lines ++ more)
 given_first text lines now (inl g) = (lines_of g.rest, ap lines_of g.split ∙ first_lines lines g.rest g.unbroken)
@@ -52,10 +69,14 @@ carried_more v (l ∷ lines) line b mid after text more h k =
     let again = carried_more v lines line h.1 mid after h.2 more h.4 k in
     (h.0, h.1, h.2 ++ more, h.3, again, ap (λ (t : List ℕ). t ++ more) h.5 ∙ append_assoc h.0 h.2 more)
 
+one_short : (line : List ℕ) → IsLine line → All IsLine (line ∷ [])
+one_short line h = All-cons IsLine line [] h (All-nil IsLine)
+
 pub ran_more : {W : Type 0} (contents : W → Option (List ℕ)) (v : VerdictMap) (lines : List (List ℕ)) (line : List ℕ) (b mid after : BenchState) (out between new : W) (more : List ℕ)
-    → Ran contents v lines b out mid between → IsCarriedOut v line mid more after → Appends (contents between) (contents new) more → Ran contents v (lines ++ line ∷ []) b out after new
-ran_more {W} contents v lines line b mid after out between new more h k wrote =
+    → Ran contents v lines b out mid between → IsLine line → IsCarriedOut v line mid more after → Appends (contents between) (contents new) more → Ran contents v (lines ++ line ∷ []) b out after new
+ran_more {W} contents v lines line b mid after out between new more h short k wrote =
     record {
+      short = All-append IsLine lines (line ∷ []) h.short (one_short line short);
       text = h.text ++ more;
       carried = carried_more v lines line b mid after h.text more h.carried k;
       wrote = appends_more (contents out) (contents between) (contents new) h.text more h.wrote wrote;
@@ -66,38 +87,41 @@ appends_none None = tt
 appends_none (Some bytes) = sym (append-nil bytes)
 
 pub ran_start : {W : Type 0} (contents : W → Option (List ℕ)) (v : VerdictMap) (b : BenchState) (out : W) → Ran contents v [] b out b out
-ran_start {W} contents v b out = record { text = []; carried = (refl, refl); wrote = appends_none (contents out) }
+ran_start {W} contents v b out = record { text = []; short = All-nil IsLine; carried = (refl, refl); wrote = appends_none (contents out) }
 
--- a refused line comes behind the lines given
-before_refused : (text : List ℕ) (lines : List (List ℕ)) (old new : Input) (b : BenchState) → Given text lines old → TakesLine old new → IsRefused (order_of new.line) b
-    → (bad : List ℕ) × (more : List (List ℕ)) × (lines_of text ≡ lines ++ bad ∷ more) × IsRefused (order_of bad) b
-before_refused text lines old new b h k bad =
+-- the line that stands is short
+pub short_line : (old new : Input) → TakesLine old new → IsLine new.line
+short_line old new (going, line, gives) = line
+
+-- a line is read within the limit
+within_behind : (text : List ℕ) (lines : List (List ℕ)) (old new : Input) → Given text lines old → TakesLine old new → IsWithin new → length (spelled lines) + length new.line ≤ 16777216
+within_behind text lines old new (inl so) (going, line, inl gives) within = omega (arith, so.counted, gives.counted, within.bytes, length-append new.line (10 ∷ []))
+within_behind text lines old new (inl so) (going, line, inr last) within = omega (arith, so.counted, last.0.counted, within.bytes)
+within_behind text lines old new (inr done) (going, line, gives) within = let no = done.ended in cc
+
+-- the next line comes behind the lines given
+is_next : (input : Option (List ℕ)) (lines : List (List ℕ)) (old new : Input) → AreOf input lines old → IsWithin new → TakesLine old new → IsNext input lines new.line
+is_next None lines old new h within k = tt
+is_next (Some text) lines old new h within k =
     let first = given_first text (lines ++ new.line ∷ []) new (next text lines old new h k) in
-    (new.line, first.0, first.1 ∙ append_assoc lines (new.line ∷ []) first.0, bad)
+    (first.0, first.1 ∙ append_assoc lines (new.line ∷ []) first.0, within_behind text lines old new h k within)
+
+before_stop : (fault : LineFault) (input : Option (List ℕ)) (lines : List (List ℕ)) (old new : Input) → AreOf input lines old → IsWithin new → Stops fault old new → ComeBeforeStop fault input lines new
+before_stop fault None lines old new h within why = why.1
+before_stop fault (Some text) lines old new h within why = (why.1, stop text lines old new fault h why within)
 
 before_bad : (input : Option (List ℕ)) (lines : List (List ℕ)) (old new : Input) (b : BenchState) → AreOf input lines old → IsWithin new
-    → (TakesLine old new × IsRefused (order_of new.line) b) ⊎ (Stops line.LineTooLong old new) → ComeBeforeBad input lines b
-before_bad None lines old new b h within why = tt
-before_bad (Some text) lines old new b h within (inl why) = inl (before_refused text lines old new b h why.0 why.1)
-before_bad (Some text) lines old new b h within (inr why) = inr (stop text lines old new line.LineTooLong h why within)
-
-before_long_input : (input : Option (List ℕ)) (lines : List (List ℕ)) (old new : Input) → AreOf input lines old → IsWithin new
-    → Stops line.InputTooLong old new → ComeBeforeStop line.InputTooLong input lines
-before_long_input None lines old new h within why = tt
-before_long_input (Some text) lines old new h within why = (new, stop text lines old new line.InputTooLong h why within)
-
-before_read : (input : Option (List ℕ)) (lines : List (List ℕ)) (old new : Input) → AreOf input lines old → IsWithin new
-    → Stops line.Read old new → ComeBeforeStop line.Read input lines
-before_read None lines old new h within why = tt
-before_read (Some text) lines old new h within why = (new, stop text lines old new line.Read h why within)
+    → (TakesLine old new × IsRefused (order_of new.line) b) ⊎ (Stops line.LineTooLong old new) → ComeBeforeBad input lines new b
+before_bad input lines old new b h within (inl why) = inl (record { next = is_next input lines old new h within why.0; line = short_line old new why.0; refused = why.1 })
+before_bad input lines old new b h within (inr why) = inr (before_stop line.LineTooLong input lines old new h within why)
 
 -- a run ends at the next line as that line's fault says
 pub ends_at : {A W : Type 0} (leaves : A → BenchState → Type 0) (contents : W → Option (List ℕ)) (v : VerdictMap) (input : Option (List ℕ)) (lines : List (List ℕ)) (number : ℕ) (old now : Input) (b mid : BenchState) (out new : W) (fault : BenchFault)
-    → AreOf input lines old → IsWithin now → number ≡ length lines + 1 → Ran contents v lines b out mid new → EndsAt number fault old now mid → Ends leaves contents v input b out (Err fault) new
+    → AreOf input lines old → IsWithin now → number ≡ length lines + 1 → Ran contents v lines b out mid new → EndsAt number fault old now mid → Ends leaves contents v input b out (Err fault) now new
 ends_at {A} {W} leaves contents v input lines number old now b mid out new BadConfig h within is ran why = absurd why
 ends_at {A} {W} leaves contents v input lines number old now b mid out new (BadLine n) h within is ran why = (lines, mid, before_bad input lines old now mid h within why.1, ran, why.0 ∙ is)
-ends_at {A} {W} leaves contents v input lines number old now b mid out new InputTooLong h within is ran why = (lines, mid, before_long_input input lines old now h within why, ran)
-ends_at {A} {W} leaves contents v input lines number old now b mid out new Read h within is ran why = (lines, mid, before_read input lines old now h within why, ran)
+ends_at {A} {W} leaves contents v input lines number old now b mid out new InputTooLong h within is ran why = (lines, mid, before_stop line.InputTooLong input lines old now h within why, ran)
+ends_at {A} {W} leaves contents v input lines number old now b mid out new Read h within is ran why = (lines, mid, before_stop line.Read input lines old now h within why, ran)
 ends_at {A} {W} leaves contents v input lines number old now b mid out new Write h within is ran why = tt
 ends_at {A} {W} leaves contents v input lines number old now b mid out new NoMemory h within is ran why = (lines, mid, of_first input lines old h, ran)
 
@@ -122,17 +146,17 @@ match_false A true is h = cc
 
 -- a line was carried out with the verdicts that there were at the start
 pub ran_on : {W : Type 0} (contents : W → Option (List ℕ)) (v w : VerdictMap) (lines : List (List ℕ)) (line : List ℕ) (b mid after : BenchState) (out between new : W)
-    → w ≡ v → Ran contents v lines b out mid between → (more : List ℕ) × IsCarriedOut w line mid more after × Appends (contents between) (contents new) more
+    → w ≡ v → Ran contents v lines b out mid between → IsLine line → (more : List ℕ) × IsCarriedOut w line mid more after × Appends (contents between) (contents new) more
     → Ran contents v (lines ++ line ∷ []) b out after new
-ran_on {W} contents v w lines line b mid after out between new same h (more, carried, wrote) =
-    ran_more contents v lines line b mid after out between new more h (subst (λ (u : VerdictMap). IsCarriedOut u line mid more after) same carried) wrote
+ran_on {W} contents v w lines line b mid after out between new same h short (more, carried, wrote) =
+    ran_more contents v lines line b mid after out between new more h short (subst (λ (u : VerdictMap). IsCarriedOut u line mid more after) same carried) wrote
 
 -- a run ends at the next line; but for a fault of the writer nothing more was written
 pub ends_stop : {A W : Type 0} (leaves : A → BenchState → Type 0) (contents : W → Option (List ℕ)) (v : VerdictMap) (input : Option (List ℕ)) (lines : List (List ℕ)) (number : ℕ) (old now : Input) (b mid : BenchState) (out between new : W) (fault : BenchFault)
     → AreOf input lines old → IsWithin now → number ≡ length lines + 1 → Ran contents v lines b out mid between
-    → EndsAt number fault old now mid × ((fault ≡ Write) ⊎ (new ≡ between)) → Ends leaves contents v input b out (Err fault) new
+    → EndsAt number fault old now mid × ((fault ≡ Write) ⊎ (new ≡ between)) → Ends leaves contents v input b out (Err fault) now new
 ends_stop {A} {W} leaves contents v input lines number old now b mid out between new fault h within is ran (why, inl write) =
-    subst (λ (f : BenchFault). Ends {A = A} {W = W} leaves contents v input b out (Err f) new) (sym write) tt
+    subst (λ (f : BenchFault). Ends {A = A} {W = W} leaves contents v input b out (Err f) now new) (sym write) tt
 ends_stop {A} {W} leaves contents v input lines number old now b mid out between new fault h within is ran (why, inr same) =
     ends_at leaves contents v input lines number old now b mid out new fault h within is (subst (λ (w : W). Ran contents v lines b out mid w) (sym same) ran) why
 
@@ -145,31 +169,31 @@ first_none None = tt
 first_none (Some text) = (lines_of text, refl)
 
 -- memory was refused before the first line
-pub ends_before : {A W : Type 0} (leaves : A → BenchState → Type 0) (contents : W → Option (List ℕ)) (v : VerdictMap) (input : Option (List ℕ)) (b : BenchState) (out : W)
-    → Ends leaves contents v input b out (Err NoMemory) out
-ends_before {A} {W} leaves contents v input b out = ([], b, first_none input, ran_start contents v b out)
+pub ends_before : {A W : Type 0} (leaves : A → BenchState → Type 0) (contents : W → Option (List ℕ)) (v : VerdictMap) (input : Option (List ℕ)) (b : BenchState) (out : W) (now : Input)
+    → Ends leaves contents v input b out (Err NoMemory) now out
+ends_before {A} {W} leaves contents v input b out now = ([], b, first_none input, ran_start contents v b out)
 
 -- no bench was made
-pub ends_unmade : {A W : Type 0} (leaves : A → BenchState → Type 0) (contents : W → Option (List ℕ)) (v : VerdictMap) (input : Option (List ℕ)) (b : BenchState) (out : W) (fault : BenchFault)
-    → (fault ≡ BadConfig) ⊎ (fault ≡ NoMemory) → (fault ≡ BadConfig → ⊥) → Ends leaves contents v input b out (Err fault) out
-ends_unmade {A} {W} leaves contents v input b out fault (inl bad) not_bad = absurd (not_bad bad)
-ends_unmade {A} {W} leaves contents v input b out fault (inr none) not_bad =
-    subst (λ (f : BenchFault). Ends {A = A} {W = W} leaves contents v input b out (Err f) out) (sym none) (ends_before leaves contents v input b out)
+pub ends_unmade : {A W : Type 0} (leaves : A → BenchState → Type 0) (contents : W → Option (List ℕ)) (v : VerdictMap) (input : Option (List ℕ)) (b : BenchState) (out : W) (now : Input) (fault : BenchFault)
+    → (fault ≡ BadConfig) ⊎ (fault ≡ NoMemory) → (fault ≡ BadConfig → ⊥) → Ends leaves contents v input b out (Err fault) now out
+ends_unmade {A} {W} leaves contents v input b out now fault (inl bad) not_bad = absurd (not_bad bad)
+ends_unmade {A} {W} leaves contents v input b out now fault (inr none) not_bad =
+    subst (λ (f : BenchFault). Ends {A = A} {W = W} leaves contents v input b out (Err f) now out) (sym none) (ends_before leaves contents v input b out now)
 
 -- how a run ends by a fault has nothing to do with what it leaves
-pub ends_err : {A B W : Type 0} (leaves : A → BenchState → Type 0) (others : B → BenchState → Type 0) (contents : W → Option (List ℕ)) (v : VerdictMap) (input : Option (List ℕ)) (b : BenchState) (out new : W) (fault : BenchFault)
-    → Ends leaves contents v input b out (Err fault) new → Ends others contents v input b out (Err fault) new
-ends_err {A} {B} {W} leaves others contents v input b out new BadConfig h = absurd h
-ends_err {A} {B} {W} leaves others contents v input b out new (BadLine n) h = h
-ends_err {A} {B} {W} leaves others contents v input b out new InputTooLong h = h
-ends_err {A} {B} {W} leaves others contents v input b out new Read h = h
-ends_err {A} {B} {W} leaves others contents v input b out new Write h = h
-ends_err {A} {B} {W} leaves others contents v input b out new NoMemory h = h
+pub ends_err : {A B W : Type 0} (leaves : A → BenchState → Type 0) (others : B → BenchState → Type 0) (contents : W → Option (List ℕ)) (v : VerdictMap) (input : Option (List ℕ)) (b : BenchState) (out : W) (now : Input) (new : W) (fault : BenchFault)
+    → Ends leaves contents v input b out (Err fault) now new → Ends others contents v input b out (Err fault) now new
+ends_err {A} {B} {W} leaves others contents v input b out now new BadConfig h = absurd h
+ends_err {A} {B} {W} leaves others contents v input b out now new (BadLine n) h = h
+ends_err {A} {B} {W} leaves others contents v input b out now new InputTooLong h = h
+ends_err {A} {B} {W} leaves others contents v input b out now new Read h = h
+ends_err {A} {B} {W} leaves others contents v input b out now new Write h = h
+ends_err {A} {B} {W} leaves others contents v input b out now new NoMemory h = h
 
 prepend_none : (o : Option (List ℕ)) → prepend_known [] o ≡ o
 prepend_none None = refl
 prepend_none (Some bytes) = refl
 
 -- at first all that the reader has is left
-pub left_at_first : (now : Input) (coming : Option (List ℕ)) → now.held ≡ [] → now.coming ≡ coming → left_of now ≡ coming
-left_at_first now coming none same = ap (λ (bs : List ℕ). prepend_known bs now.coming) none ∙ prepend_none now.coming ∙ same
+pub left_unread : (coming : Option (List ℕ)) → left_of (unread coming) ≡ coming
+left_unread coming = prepend_none coming

@@ -1,4 +1,4 @@
-use Rattle.std.specs.Prelude.{◌≡◌, ℕ, ◌+◌, ◌<◌, ◌≤◌, Bool, true, false, ◌==◌, ◌⊎◌, if◌then◌else◌, List, [], ◌∷◌, ◌++◌, length, take, count_by, Option, Some}
+use Rattle.std.specs.Prelude.{◌≡◌, ℕ, ◌+◌, ◌<◌, ◌≤◌, Bool, true, false, ◌==◌, ◌⊎◌, if◌then◌else◌, List, [], ◌∷◌, ◌++◌, length, take, count_by, Option, Some, None}
 use Rattle.std.specs.List.{list_any, flat_map, AllByRecursion}
 use Rattle.std.specs.Io.KnownBytes.{Consumes, Keeps, IsAtEnd, prepend_known}
 use Rattle.can_session.specs.declared.lines.LineFault.{LineFault}
@@ -35,7 +35,8 @@ pub record IsLong (text : List ℕ) : Type 0 where
   pub unbroken : list_any is_lf (take 4097 text) ≡ false
 
 -- an input that is read line by line: the line that stands, how many bytes were given as lines with their LFs, what was
--- read and not given, what the reader still has where that is known, how often it was read, and whether all was given
+-- read and not given, what the reader still has where that is known, how many reads gave bytes, whether all was given,
+-- and the fault that ended it, if one did
 pub record Input : Type 0 where
   pub line : List ℕ
   pub given : ℕ
@@ -43,15 +44,20 @@ pub record Input : Type 0 where
   pub coming : Option (List ℕ)
   pub reads : ℕ
   pub ended : Bool
+  pub fault : Option LineFault
+
+-- an input of which nothing was read
+abbrev pub unread : Option (List ℕ) → Input
+unread coming = record { line = []; given = 0; held = []; coming = coming; reads = 0; ended = false; fault = None }
 
 -- what is left to be given, where that is known
 abbrev pub left_of : Input → Option (List ℕ)
 left_of i = prepend_known i.held i.coming
 
--- an input within its limits; once it has ended nothing is left
+-- an input within its limits, of which each read that counts gave a byte; once it has ended nothing is left
 pub record IsWithin (i : Input) : Type 0 where
   pub bytes : i.given + length i.held ≤ 16777216
-  pub reads : i.reads ≤ 16777216
+  pub reads : i.reads ≤ i.given + length i.held
   pub over : i.ended ≡ true → (i.held ≡ []) × IsAtEnd i.coming
 
 -- an input that has ended
@@ -60,10 +66,11 @@ pub record IsOver (i : Input) : Type 0 where
   pub held : i.held ≡ []
   pub coming : IsAtEnd i.coming
 
--- these bytes were left, and are given now
+-- these bytes were left, and are given now, without a fault
 pub record Gives (old new : Input) (bytes : List ℕ) : Type 0 where
   pub taken : Consumes (left_of old) (left_of new) bytes
   pub counted : new.given ≡ old.given + length bytes
+  pub fault : new.fault ≡ old.fault
 
 -- the input had not ended, and the next line stands: it had its LF, or it is the last and not empty
 abbrev pub TakesLine : Input → Input → Type 0
@@ -85,20 +92,24 @@ pub record Overruns (old new : Input) : Type 0 where
   pub given : new.given ≡ old.given
   pub full : new.given + length new.held ≡ 16777216
 
--- a read that was not made or gave nothing of use: no read is left, a byte came too many, or the reader failed
+-- a read that was not made or gave nothing of use: no read is left, a byte came too many, or a read that was left failed
 abbrev pub Fails : LineFault → Input → Input → Type 0
 Fails LineTooLong old new = ⊥
 Fails InputTooLong old new = (Waits old new × (new.reads ≡ 16777216)) ⊎ Overruns old new
-Fails Read old new = Waits old new
+Fails Read old new = Waits old new × (new.reads < 16777216)
 
 -- why there is no next line: what is held begins with too long a line, or it is no whole line and no more can be read
 abbrev pub Halts : LineFault → Input → Input → Type 0
 Halts LineTooLong old new = Waits old new × IsLong new.held
 Halts fault old new = IsLine new.held × Fails fault old new
 
--- the input had not ended, and there is no next line
+-- the input had not ended, and there is no next line: the fault is told
 abbrev pub Stops : LineFault → Input → Input → Type 0
-Stops fault old new = (old.ended ≡ false) × Halts fault old new
+Stops fault old new = (old.ended ≡ false) × (new.fault ≡ Some fault) × Halts fault old new
+
+-- the fault was told before, and is told again
+abbrev pub Repeats : LineFault → Input → Input → Type 0
+Repeats fault old new = (old.fault ≡ Some fault) × (new ≡ old)
 
 -- one read put so many bytes behind what is held
 pub record Fills (old new : Input) (count : ℕ) : Type 0 where
@@ -106,9 +117,9 @@ pub record Fills (old new : Input) (count : ℕ) : Type 0 where
   pub bytes : List ℕ
   pub counted : length bytes ≡ count
   pub behind : new.held ≡ old.held ++ bytes
-  pub reads : new.reads ≡ old.reads + 1
-  pub few : new.reads ≤ 16777216
+  pub reads : 0 < count → new.reads ≡ old.reads + 1
   pub ended : new.ended ≡ old.ended
+  pub fault : new.fault ≡ old.fault
   pub end : count ≡ 0 → IsAtEnd new.coming
 
 -- each of these lines and its LF, one after another
@@ -127,17 +138,36 @@ pub record GoesOn (text : List ℕ) (lines : List (List ℕ)) (now : Input) : Ty
 pub record HasEnded (text : List ℕ) (lines : List (List ℕ)) (now : Input) : Type 0 where
   pub ended : now.ended ≡ true
   pub all : lines ≡ lines_of text
+  pub counted : now.given ≡ length text
 
 -- the lines that an input gave of a text, up to where it stands
 abbrev pub Given : List ℕ → List (List ℕ) → Input → Type 0
 Given text lines now = GoesOn text lines now ⊎ HasEnded text lines now
 
--- so much of a text was read, and the lines of it that have their LF were given
-pub record ReadsOn (text : List ℕ) (lines : List (List ℕ)) : Type 0 where
+-- the reader gave so much of a text, at most 16,777,216 bytes, and has the rest; the lines that have their LF in it were
+-- given, and no long line is begun behind them
+pub record ReadsOn (text : List ℕ) (lines : List (List ℕ)) (now : Input) : Type 0 where
   pub read : List ℕ
-  pub rest : List ℕ
-  pub split : text ≡ read ++ rest
+  pub taken : Consumes (Some text) now.coming read
+  pub within : length read ≤ 16777216
   pub whole : lines ≡ whole_lines read
+  pub short : length read ≤ length (spelled lines) + 4096
+
+-- the reader gave the first 16,777,216 bytes of a text in as many reads
+pub record ReadsOut (text : List ℕ) (lines : List (List ℕ)) (now : Input) : Type 0 where
+  pub on : ReadsOn text lines now
+  pub full : length on.read ≡ 16777216
+  pub reads : now.reads ≡ 16777216
+
+-- the reader gave the first 16,777,216 bytes of a text and one more; the lines that have their LF before that one were
+-- given, and no long line is begun behind them
+pub record ReadsOver (text : List ℕ) (lines : List (List ℕ)) (now : Input) : Type 0 where
+  pub read : List ℕ
+  pub byte : ℕ
+  pub taken : Consumes (Some text) now.coming (read ++ byte ∷ [])
+  pub full : length read ≡ 16777216
+  pub whole : lines ≡ whole_lines read
+  pub short : length read ≤ length (spelled lines) + 4096
 
 -- the line behind these is too long, and its 4,097th byte is within the limit of an input
 pub record ComesToLong (text : List ℕ) (lines : List (List ℕ)) : Type 0 where
@@ -147,8 +177,9 @@ pub record ComesToLong (text : List ℕ) (lines : List (List ℕ)) : Type 0 wher
   pub long : 4096 < length line
   pub within : length (spelled lines) + 4097 ≤ 16777216
 
--- the lines that were given of a text before a fault; where the text is too long its first 16,777,216 bytes were read
+-- the lines that were given of a text before a fault: the one behind them is too long, no more may be read, or the reader
+-- failed before that
 abbrev pub StopsBehind : LineFault → List ℕ → List (List ℕ) → Input → Type 0
 StopsBehind LineTooLong text lines now = ComesToLong text lines
-StopsBehind InputTooLong text lines now = (r : ReadsOn text lines) × ((now.reads ≡ 16777216) ⊎ ((length r.read ≡ 16777216) × (0 < length r.rest)))
-StopsBehind Read text lines now = ReadsOn text lines
+StopsBehind InputTooLong text lines now = ReadsOut text lines now ⊎ ReadsOver text lines now
+StopsBehind Read text lines now = ReadsOn text lines now × (now.reads < 16777216)

@@ -1,4 +1,5 @@
 use Rattle.std.specs.Prelude.{◌≡◌, ◌⊎◌, ℕ, ◌+◌, ◌≤◌, List, [], ◌∷◌, ◌++◌, length, replicate, Option, Some, None, Result, Ok, Err}
+use Rattle.std.specs.List.{All}
 use Rattle.std.specs.Io.KnownBytes.{Appends}
 use Rattle.can_fault.specs.Sources.{VerdictMap}
 use Rattle.can_bus.specs.declared.events.BusConfig.{BusConfig}
@@ -7,7 +8,7 @@ use Rattle.can_session.specs.declared.lines.LineFault.{LineFault}
 use Rattle.can_session.specs.declared.lines.LineFault.TheVariants as line
 use Rattle.can_session.specs.declared.bench_run.BenchFault.{BenchFault}
 use Rattle.can_session.specs.declared.bench_run.BenchFault.TheVariants.{BadConfig, BadLine, InputTooLong, Read, Write, NoMemory}
-use Rattle.can_session.specs.Lines.{Input, TakesLine, Stops, StopsBehind, ComesToLong, lines_of}
+use Rattle.can_session.specs.Lines.{Input, IsLine, IsOver, TakesLine, Stops, StopsBehind, lines_of, spelled}
 use Rattle.can_session.specs.Orders.{order_of}
 use Rattle.can_session.specs.Benches.{BenchState, AreCarriedOut, IsRefused}
 
@@ -26,42 +27,58 @@ at_start names config capacity = record { capacity = capacity; bus = record { na
 
 -- Of a reader that does not tell its bytes nothing is said of the lines.
 
--- these are all the lines of the input
+-- these are all the lines of the input, which has at most 16,777,216 bytes
 abbrev pub AreAll : Option (List ℕ) → List (List ℕ) → Type 0
 AreAll None lines = Unit {0}
-AreAll (Some text) lines = lines ≡ lines_of text
+AreAll (Some text) lines = (lines ≡ lines_of text) × (length text ≤ 16777216)
 
 -- these are the first lines of the input
 abbrev pub AreFirst : Option (List ℕ) → List (List ℕ) → Type 0
 AreFirst None lines = Unit {0}
 AreFirst (Some text) lines = (more : List (List ℕ)) × (lines_of text ≡ lines ++ more)
 
+-- these lines, and then this one, are the first lines of the input, within its limit
+abbrev pub IsNext : Option (List ℕ) → List (List ℕ) → List ℕ → Type 0
+IsNext None lines line = Unit {0}
+IsNext (Some text) lines line = (more : List (List ℕ)) × (lines_of text ≡ lines ++ line ∷ more) × (length (spelled lines) + length line ≤ 16777216)
+
+-- behind these lines of the input stands one of at most 4,096 bytes that the bench refuses
+pub record ComesToRefused (input : Option (List ℕ)) (lines : List (List ℕ)) (now : Input) (b : BenchState) : Type 0 where
+  pub next : IsNext input lines now.line
+  pub line : IsLine now.line
+  pub refused : IsRefused (order_of now.line) b
+
+-- these lines were given of the input before this fault
+abbrev pub ComeBeforeStop : LineFault → Option (List ℕ) → List (List ℕ) → Input → Type 0
+ComeBeforeStop fault None lines now = now.fault ≡ Some fault
+ComeBeforeStop fault (Some text) lines now = (now.fault ≡ Some fault) × StopsBehind fault text lines now
+
 -- behind these lines of the input comes one that the bench refuses, or one that is too long
-abbrev pub ComeBeforeBad : Option (List ℕ) → List (List ℕ) → BenchState → Type 0
-ComeBeforeBad None lines b = Unit {0}
-ComeBeforeBad (Some text) lines b = ((bad : List ℕ) × (more : List (List ℕ)) × (lines_of text ≡ lines ++ bad ∷ more) × IsRefused (order_of bad) b) ⊎ ComesToLong text lines
+abbrev pub ComeBeforeBad : Option (List ℕ) → List (List ℕ) → Input → BenchState → Type 0
+ComeBeforeBad input lines now b = ComesToRefused input lines now b ⊎ ComeBeforeStop line.LineTooLong input lines now
 
--- these are the lines with an LF of all that was read before no more could be
-abbrev pub ComeBeforeStop : LineFault → Option (List ℕ) → List (List ℕ) → Type 0
-ComeBeforeStop fault None lines = Unit {0}
-ComeBeforeStop fault (Some text) lines = (now : Input) × StopsBehind fault text lines now
-
--- lines are carried out, and the writer takes what they put out
+-- lines of at most 4,096 bytes are carried out, and the writer takes what they put out
 pub record Ran {W : Type 0} (contents : W → Option (List ℕ)) (verdicts : VerdictMap) (lines : List (List ℕ)) (b : BenchState) (out : W) (after : BenchState) (new : W) : Type 0 where
   pub text : List ℕ
+  pub short : All IsLine lines
   pub carried : AreCarriedOut verdicts lines b text after
   pub wrote : Appends (contents out) (contents new) text
 
--- how a run ends: at the end of the input, or behind the lines that a fault leaves; of what went out before a fault of
--- the writer nothing is said
-abbrev pub Ends : {A W : Type 0} → (A → BenchState → Type 0) → (W → Option (List ℕ)) → VerdictMap → Option (List ℕ) → BenchState → W → Result A BenchFault → W → Type 0
-Ends {A} {W} leaves contents verdicts input b out (Ok a) new = (lines : List (List ℕ)) × (after : BenchState) × AreAll input lines × Ran contents verdicts lines b out after new × leaves a after
-Ends {A} {W} leaves contents verdicts input b out (Err (BadLine n)) new = (lines : List (List ℕ)) × (after : BenchState) × ComeBeforeBad input lines after × Ran contents verdicts lines b out after new × (n ≡ length lines + 1)
-Ends {A} {W} leaves contents verdicts input b out (Err InputTooLong) new = (lines : List (List ℕ)) × (after : BenchState) × ComeBeforeStop line.InputTooLong input lines × Ran contents verdicts lines b out after new
-Ends {A} {W} leaves contents verdicts input b out (Err Read) new = (lines : List (List ℕ)) × (after : BenchState) × ComeBeforeStop line.Read input lines × Ran contents verdicts lines b out after new
-Ends {A} {W} leaves contents verdicts input b out (Err NoMemory) new = (lines : List (List ℕ)) × (after : BenchState) × AreFirst input lines × Ran contents verdicts lines b out after new
-Ends {A} {W} leaves contents verdicts input b out (Err Write) new = Unit {0}
-Ends {A} {W} leaves contents verdicts input b out (Err BadConfig) new = ⊥
+-- how a run over an input ends, and where the input stands then: at its end, or behind the lines that a fault leaves; of
+-- what went out before a fault of the writer nothing is said
+abbrev pub Ends : {A W : Type 0} → (A → BenchState → Type 0) → (W → Option (List ℕ)) → VerdictMap → Option (List ℕ) → BenchState → W → Result A BenchFault → Input → W → Type 0
+Ends {A} {W} leaves contents verdicts input b out (Ok a) now new =
+    (lines : List (List ℕ)) × (after : BenchState) × AreAll input lines × IsOver now × (now.fault ≡ None) × Ran contents verdicts lines b out after new × leaves a after
+Ends {A} {W} leaves contents verdicts input b out (Err (BadLine n)) now new =
+    (lines : List (List ℕ)) × (after : BenchState) × ComeBeforeBad input lines now after × Ran contents verdicts lines b out after new × (n ≡ length lines + 1)
+Ends {A} {W} leaves contents verdicts input b out (Err InputTooLong) now new =
+    (lines : List (List ℕ)) × (after : BenchState) × ComeBeforeStop line.InputTooLong input lines now × Ran contents verdicts lines b out after new
+Ends {A} {W} leaves contents verdicts input b out (Err Read) now new =
+    (lines : List (List ℕ)) × (after : BenchState) × ComeBeforeStop line.Read input lines now × Ran contents verdicts lines b out after new
+Ends {A} {W} leaves contents verdicts input b out (Err NoMemory) now new =
+    (lines : List (List ℕ)) × (after : BenchState) × AreFirst input lines × Ran contents verdicts lines b out after new
+Ends {A} {W} leaves contents verdicts input b out (Err Write) now new = Unit {0}
+Ends {A} {W} leaves contents verdicts input b out (Err BadConfig) now new = ⊥
 
 -- the record that a bench leaves is that of its bus
 pub record IsRecordOf (r : Kept) (b : BenchState) : Type 0 where

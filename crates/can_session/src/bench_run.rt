@@ -1,8 +1,8 @@
-ghost use Rattle.std.specs.Prelude.{◌≡◌, ◌≢◌, ◌+◌, ◌<◌, ◌≤◌, ◌↔◌, ◌⊎◌, List, ℕ, Err, length, IfOk, IfErr, OnOk, OnErr, MatchBool};
+ghost use Rattle.std.specs.Prelude.{◌≡◌, ◌≢◌, ◌+◌, ◌<◌, ◌≤◌, ◌↔◌, ◌⊎◌, List, ℕ, Err, None, length, IfOk, IfErr, OnOk, OnErr, MatchBool};
 ghost use Rattle.std.specs.Io.KnownBytes.{Appends};
 ghost use Rattle.can_bus.specs.Headline.{Headline};
 ghost use Rattle.can_bus.specs.Legal.{IsLegal};
-ghost use Rattle.can_session.specs.Lines.{FindsEnd, TakesLine, IsWithin, left_of};
+ghost use Rattle.can_session.specs.Lines.{Input, FindsEnd, TakesLine, IsWithin, unread};
 ghost use Rattle.can_session.specs.Benches.{IsCarriedOut};
 ghost use Rattle.can_session.specs.Runs.{IsBench, IsRecordOf, at_start, Ends, EndsAt, fault_of};
 
@@ -58,7 +58,7 @@ pub struct BenchConfig<F> {
 /// Each line's output is written in one call, so a writer that is slow for small writes wants a buffer around it.
 /// Of the input no more than 8,192 bytes are kept, at any length. The time grows with the lines and with what they
 /// do on the bus. `NoMemory` comes before the first line or in place of a line; what the lines before it put out was
-/// written.
+/// written. `bench_lines` tells more of how far the input was read.
 pub fn bench<F: FaultSource + Drop, R: Read + Drop, W: Write>(
     alloc: Global,
     config: BenchConfig<F>,
@@ -67,7 +67,7 @@ pub fn bench<F: FaultSource + Drop, R: Read + Drop, W: Write>(
 ) -> Result<Record, BenchFault>
     ensures bad { (result ≡ Err BenchFault.BadConfig) ↔ (¬ IsBench config.names config.config config.rx_capacity) }
     ensures untouched { result ≡ Err BenchFault.BadConfig → out.new ≡ out.old }
-    ensures runs { result ≢ Err BenchFault.BadConfig → Ends IsRecordOf W.contents (F.verdicts config.script) (R.remaining input) (at_start config.names config.config config.rx_capacity) out.old result out.new }
+    ensures runs { result ≢ Err BenchFault.BadConfig → (now : Input) × Ends IsRecordOf W.contents (F.verdicts config.script) (R.remaining input) (at_start config.names config.config config.rx_capacity) out.old result now out.new }
     ensures legal { IfOk result (λ r. IsLegal r.config r.history) }
     ensures headline { IfOk result (λ r. Headline r.config r.history) }
 {
@@ -85,6 +85,31 @@ pub fn bench<F: FaultSource + Drop, R: Read + Drop, W: Write>(
     Ok(stand.into_record())
 }
 
+/// As `bench`, over lines of which nothing was read: behind it they stand where the run ended. That tells how far the
+/// reader was read, so a reader that failed and too long an input are not taken for one another.
+pub fn bench_lines<F: FaultSource + Drop, R: Read + Drop, W: Write>(
+    alloc: Global,
+    config: BenchConfig<F>,
+    lines: &mut Lines<R>,
+    out: &mut W,
+) -> Result<Record, BenchFault>
+    requires unread { lines.old ≡ unread lines.old.coming }
+    ensures bad { (result ≡ Err BenchFault.BadConfig) ↔ (¬ IsBench config.names config.config config.rx_capacity) }
+    ensures untouched { result ≡ Err BenchFault.BadConfig → (out.new ≡ out.old) × (lines.new ≡ lines.old) }
+    ensures runs { result ≢ Err BenchFault.BadConfig → Ends IsRecordOf W.contents (F.verdicts config.script) lines.old.coming (at_start config.names config.config config.rx_capacity) out.old result lines.new out.new }
+    ensures legal { IfOk result (λ r. IsLegal r.config r.history) }
+{
+    let BenchConfig {
+        names,
+        config,
+        mut script,
+        rx_capacity,
+    } = config;
+    let mut stand = Stand::new(alloc, names, config, rx_capacity)?;
+    run(alloc, &mut stand, &mut script, lines, out)?;
+    Ok(stand.into_record())
+}
+
 /// Carries out the lines that are left.
 fn run<F: FaultSource, R: Read + Drop, W: Write>(
     alloc: Global,
@@ -93,8 +118,8 @@ fn run<F: FaultSource, R: Read + Drop, W: Write>(
     lines: &mut Lines<R>,
     out: &mut W,
 ) -> Result<(), BenchFault>
-    requires { lines.old.given ≡ 0 }
-    ensures { Ends (λ (_ : Unit {0}) after. after ≡ stand.new) W.contents (F.verdicts script.old) (left_of lines.old) stand.old out.old result out.new }
+    requires { lines.old ≡ unread lines.old.coming }
+    ensures { Ends (λ (_ : Unit {0}) after. after ≡ stand.new) W.contents (F.verdicts script.old) lines.old.coming stand.old out.old result lines.new out.new }
 {
     let mut said = Vec::new(alloc);
     let mut number = 1;
@@ -116,6 +141,7 @@ fn go_on<F: FaultSource, R: Read + Drop, W: Write>(
     said: &mut Vec<u8>,
     out: &mut W,
 ) -> Result<bool, BenchFault>
+    requires { lines.old.fault ≡ None }
     ensures on { IfOk result (λ more. MatchBool more (TakesLine lines.old lines.new × (text : List ℕ) × IsCarriedOut (F.verdicts script.old) lines.new.line stand.old text stand.new × Appends (W.contents out.old) (W.contents out.new) text) (FindsEnd lines.old lines.new × (stand.new ≡ stand.old) × (out.new ≡ out.old))) }
     ensures stops { IfErr result (λ fault. EndsAt number fault lines.old lines.new stand.old × ((fault ≡ BenchFault.Write) ⊎ (out.new ≡ out.old))) }
     ensures keeps { F.verdicts script.new ≡ F.verdicts script.old }

@@ -29,7 +29,7 @@ mod starts;
 mod turns;
 mod window;
 
-pub use bench_run::{BenchConfig, BenchFault, bench};
+pub use bench_run::{BenchConfig, BenchFault, bench, bench_lines};
 pub use bus_port::BusPort;
 pub use lines::{LineFault, Lines};
 pub use orders::{Order, SessionNumber, read_order};

@@ -1,7 +1,7 @@
-ghost use Rattle.std.specs.Prelude.{◌≡◌, ◌≤◌, ◌<◌, ◌+◌, [], ◌∷◌, ◌++◌, true, false, length, take, drop, position, IfOk, IfErr, IfSome, OnErr, MatchBool};
+ghost use Rattle.std.specs.Prelude.{◌≡◌, ◌≤◌, ◌<◌, ◌+◌, ◌⊎◌, [], ◌∷◌, ◌++◌, true, false, length, take, drop, position, Some, None, IfOk, IfErr, IfSome, OnOk, OnErr, MatchBool};
 ghost use Rattle.std.specs.List.{list_any};
 ghost use Rattle.std.specs.Io.KnownBytes.{IsAtEnd};
-ghost use Rattle.can_session.specs.Lines.{is_lf, Fails, Fills, FindsEnd, IsOver, IsWithin, Stops, TakesLine};
+ghost use Rattle.can_session.specs.Lines.{is_lf, unread, Fails, Fills, FindsEnd, Halts, IsOver, IsWithin, Repeats, Stops, TakesLine};
 ghost use Rattle.can_session.specs.Looks.{Shows};
 
 use crate::places::place_of;
@@ -21,7 +21,7 @@ pub const LONGEST_INPUT: usize = 16_777_216;
 pub enum LineFault {
     /// The line has more than 4,096 bytes.
     LineTooLong,
-    /// The input has more bytes than it may have, or takes more reads.
+    /// The input has more bytes than it may have, or needs more reads.
     InputTooLong,
     /// The reader failed.
     Read,
@@ -38,8 +38,10 @@ pub struct Lines<R: Read + Drop> {
     line: usize,
     width: usize,
     given: usize,
+    // How many reads gave bytes.
     reads: usize,
     is_over: bool,
+    fault: Option<LineFault>,
 }
 
 impl<R: Read + Drop> Model for Lines<R> {
@@ -48,15 +50,15 @@ impl<R: Read + Drop> Model for Lines<R> {
 
     ghost Value = { Input };
 
-    ghost view = { λ l. record { line = take l.line l.window; given = l.given; held = drop l.width l.window; coming = R.remaining l.input; reads = l.reads; ended = l.is_over } };
+    ghost view = { λ l. record { line = take l.line l.window; given = l.given; held = drop l.width l.window; coming = R.remaining l.input; reads = l.reads; ended = l.is_over; fault = l.fault } };
 
-    ghost invariant = { λ l. (l.line ≤ l.width) × (l.width ≤ length l.window) × IsWithin (record { line = take l.line l.window; given = l.given; held = drop l.width l.window; coming = R.remaining l.input; reads = l.reads; ended = l.is_over }) };
+    ghost invariant = { λ l. (l.line ≤ l.width) × (l.width ≤ length l.window) × IsWithin (record { line = take l.line l.window; given = l.given; held = drop l.width l.window; coming = R.remaining l.input; reads = l.reads; ended = l.is_over; fault = l.fault }) };
 }
 
 impl<R: Read + Drop> Lines<R> {
     /// The lines of an input that is yet to be read. Takes 8,192 bytes of memory.
     pub fn new(alloc: Global, input: R) -> Result<Lines<R>, AllocError>
-        ensures { IfOk result (λ l. l ≡ record { line = []; given = 0; held = []; coming = R.remaining input; reads = 0; ended = false }) }
+        ensures { IfOk result (λ l. l ≡ unread (R.remaining input)) }
     {
         let window = Window::new(alloc)?;
         Ok(Lines {
@@ -67,6 +69,7 @@ impl<R: Read + Drop> Lines<R> {
             given: 0,
             reads: 0,
             is_over: false,
+            fault: None,
         })
     }
 
@@ -80,15 +83,34 @@ impl<R: Read + Drop> Lines<R> {
     /// Goes on to the next line, of at most 4,096 bytes, and answers whether there is one. It reads only while no
     /// whole line was read, so at a fault all whole lines before it were given: `LineTooLong` at the 4,097th byte
     /// of a line, `InputTooLong` at the byte or the read past the limit, `Read` where the reader failed. After a
-    /// fault the input is of no more use.
+    /// fault nothing more is read, and each call answers that fault.
     pub fn next_line(&mut self) -> Result<bool, LineFault>
         ensures ok { IfOk result (λ found. MatchBool found (TakesLine self.old self.new) (FindsEnd self.old self.new)) }
-        ensures err { IfErr result (λ fault. Stops fault self.old self.new) }
+        ensures fine { OnOk result (self.old.fault ≡ None) }
+        ensures err { IfErr result (λ fault. Stops fault self.old self.new ⊎ Repeats fault self.old self.new) }
         ensures within { IsWithin self.new }
     {
+        if let Some(fault) = self.fault() {
+            return Err(fault);
+        }
         if self.is_over() {
             return Ok(false);
         }
+        let found = self.read_line();
+        if let Err(fault) = found {
+            self.stop(fault);
+        }
+        found
+    }
+
+    // Reads on to the next line.
+    fn read_line(&mut self) -> Result<bool, LineFault>
+        requires going { self.old.ended ≡ false }
+        requires within { IsWithin self.old }
+        ensures ok { IfOk result (λ found. MatchBool found (TakesLine self.old self.new) (FindsEnd self.old self.new)) }
+        ensures err { IfErr result (λ fault. Halts fault self.old self.new) }
+        ensures within { IsWithin self.new }
+    {
         let mut searched = 0;
         loop {
             match find_line(self.held(), searched) {
@@ -105,6 +127,21 @@ impl<R: Read + Drop> Lines<R> {
                 return Ok(searched > 0);
             }
         }
+    }
+
+    // Tells the fault from now on.
+    fn stop(&mut self, fault: LineFault)
+        ensures within { IsWithin self.new }
+        ensures told { self.new ≡ record self.old { fault = Some fault } }
+    {
+        self.fault = Some(fault);
+    }
+
+    fn fault(&self) -> Option<LineFault>
+        ensures told { result ≡ self.now.fault }
+        ensures within { IsWithin self.now }
+    {
+        self.fault
     }
 
     fn is_over(&self) -> bool
@@ -163,7 +200,6 @@ impl<R: Read + Drop> Lines<R> {
         if self.reads == LONGEST_INPUT {
             return Err(LineFault::InputTooLong);
         }
-        self.reads += 1;
         self.window.consume(self.width);
         self.line = 0;
         self.width = 0;
@@ -175,6 +211,9 @@ impl<R: Read + Drop> Lines<R> {
         if read > left {
             self.window.truncate(held);
             return Err(LineFault::InputTooLong);
+        }
+        if read > 0 {
+            self.reads += 1;
         }
         Ok(read)
     }

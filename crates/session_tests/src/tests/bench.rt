@@ -2,7 +2,7 @@ use can_attempt::AckMode;
 use can_bus::BusConfig;
 use can_fault::Script;
 use can_frame::{IfaceSet, Names};
-use can_session::{BenchConfig, BenchFault, bench};
+use can_session::{BenchConfig, BenchFault, LineFault, Lines, bench, bench_lines};
 use std::alloc::Global;
 use std::process::Abort;
 use std::test::Fail;
@@ -359,5 +359,53 @@ fn bad_benches_are_refused(rt: HostRuntime) -> Result<(), Fail> {
         9,
     )?;
     assert_eq!(rt; ran.entries, 2);
+    Ok(())
+}
+
+#[test]
+fn a_bench_over_lines_leaves_them_where_it_ended(rt: HostRuntime) -> Result<(), Fail> {
+    let alloc = rt.alloc();
+    let table: [(&[u8], bool, Option<BenchFault>, Result<bool, LineFault>); 3] = [
+        (b"session 1\nattempt", false, None, Ok(false)),
+        (
+            b"session 1\nsession",
+            true,
+            Some(BenchFault::Read),
+            Err(LineFault::Read),
+        ),
+        (
+            b"session 1\nend 2\nattempt\n",
+            false,
+            Some(BenchFault::BadLine(2)),
+            Ok(true),
+        ),
+    ];
+    for (rest, is_broken, fault, next) in table {
+        let input = Pieces {
+            rest,
+            size: 8,
+            is_broken,
+        };
+        let mut lines = Lines::new(alloc, input)?;
+        let mut output = Vec::new(alloc);
+        let config = config_of(alloc, TWO, "")?;
+        let ended = bench_lines(alloc, config, &mut lines, &mut output);
+        assert!(rt; output.as_slice().starts_with(b"1 < hi >\n"));
+        assert_eq!(rt; ended.err(), fault);
+        assert_eq!(rt; lines.next_line(), next);
+    }
+    Ok(())
+}
+
+#[test]
+fn a_bad_bench_reads_no_line(rt: HostRuntime) -> Result<(), Fail> {
+    let alloc = rt.alloc();
+    let mut lines = Lines::new(alloc, b"session 1\n".as_slice())?;
+    let mut config = config_of(alloc, TWO, "")?;
+    config.rx_capacity = 0;
+    let ended = bench_lines(alloc, config, &mut lines, &mut Closed);
+    assert_eq!(rt; ended.err(), Some(BenchFault::BadConfig));
+    assert_eq!(rt; lines.next_line(), Ok(true));
+    assert_eq!(rt; lines.line(), b"session 1".as_slice());
     Ok(())
 }

@@ -179,3 +179,13 @@ fn other_lines_are_refused(rt: HostRuntime) {
         assert!(rt; read_order(line).is_none());
     }
 }
+
+#[test]
+fn a_fault_is_told_again(rt: HostRuntime) -> Result<(), AllocError> {
+    let long = times(rt.alloc(), b'#', 4097, b"\nattempt\n")?;
+    let mut lines = Lines::new(rt.alloc(), long.as_slice())?;
+    for _ in 0..2 {
+        assert_eq!(rt; lines.next_line(), Err(LineFault::LineTooLong));
+    }
+    Ok(())
+}

@@ -1,4 +1,4 @@
-use Rattle.can_session.proofs.LineLaws.{next, forward, end, stop}
+use Rattle.can_session.proofs.LineLaws.{next, forward, end, stop, apart}
 use Rattle.can_session.proofs.line_law.lines_given_are_those_of_the_text.Goals as goal
 
 pub returns-clause-next : goal.returns-clause-next
@@ -12,3 +12,6 @@ returns-clause-stop c = stop
 
 pub returns-clause-forward : goal.returns-clause-forward
 returns-clause-forward c = forward
+
+pub returns-clause-apart : goal.returns-clause-apart
+returns-clause-apart c = apart
