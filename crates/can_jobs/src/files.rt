@@ -1,3 +1,6 @@
+ghost use Rattle.std.specs.Prelude.{◌≡◌};
+ghost use Rattle.can_jobs.specs.declared.faults.Fault.TheVariants as fault;
+
 use crate::faults::{Failure, Fault};
 use crate::notes::{reason_note, script_note};
 use crate::shown::{Line, Shown};
@@ -97,6 +100,8 @@ fn utf8_note(alloc: Global, path: &str, bytes: &[u8], valid: usize) -> Result<St
 }
 
 /// What a fault of writing to a file or a stream is told as.
-pub fn write_failure<'a>(alloc: Global, place: &str, error: &Error) -> Failure<'a> {
+pub fn write_failure<'a>(alloc: Global, place: &str, error: &Error) -> Failure<'a>
+    ensures { result.fault ≡ fault.Write }
+{
     Failure::with(alloc, Fault::Write, reason_note(alloc, place, error))
 }
