@@ -1,3 +1,8 @@
+ghost use Rattle.std.specs.Prelude.{◌≡◌, IfSome};
+ghost use Rattle.std.specs.Option.{option_map};
+ghost use Rattle.std.specs.Str.Parse.{IsNumeral, digits_value};
+ghost use Rattle.can_jobs.specs.Parted.{names_part, script_part};
+
 use can_attempt::AckMode;
 use clap::error::ErrorKind;
 use clap::{Arg, ArgAction, ArgMatches, Command, Error};
@@ -148,7 +153,10 @@ fn bench_options<'a>(alloc: Global, bench: &ArgMatches<'a>) -> Result<BenchOptio
 }
 
 // The names of a bus, and what follows the first `@`, if there is one.
-fn parts(bus: &str) -> (&str, Option<&str>) {
+fn parts(bus: &str) -> (&str, Option<&str>)
+    ensures names { result.0.now ≡ names_part bus.now }
+    ensures script { option_map (λ path. path.now) result.1 ≡ script_part bus.now }
+{
     match bus.split_once('@') {
         Some((names, script)) => (names, Some(script)),
         None => (bus, None),
@@ -166,15 +174,25 @@ fn ack_mode(bench: &ArgMatches<'_>) -> AckMode {
 // The number that an option was given, in decimal digits alone.
 fn number_given(alloc: Global, bench: &ArgMatches<'_>, option: &str) -> Result<u32, Error> {
     let text = bench.get_str(option).unwrap_or("");
-    match text.parse::<u32>() {
-        Ok(number) if text.bytes().all(|byte| byte.is_ascii_digit()) => Ok(number),
-        _ => {
+    match number_in(text) {
+        Some(number) => Ok(number),
+        None => {
             let message = format!(in alloc;
                 "invalid value '{text}' for '--{option} <N>': not a number from 0 to 4294967295 in decimal digits"
             )?;
             Err(bench_error(alloc, &message)?)
         }
     }
+}
+
+// The number that a text of decimal digits alone writes.
+fn number_in(text: &str) -> Option<u32>
+    ensures digits { IfSome result (λ n. IsNumeral 10 text.now × (n ≡ digits_value 10 text.now)) }
+{
+    if !text.bytes().all(|byte| byte.is_ascii_digit()) {
+        return None;
+    }
+    text.parse().ok()
 }
 
 // A fault of the words of `bench`, with its usage.
