@@ -1,7 +1,6 @@
-ghost use Rattle.std.specs.Prelude.{◌≡◌, IfSome};
+ghost use Rattle.std.specs.Prelude.{◌≡◌, ◌↔◌, IfOk, IfSome};
 ghost use Rattle.std.specs.Option.{option_map};
-ghost use Rattle.std.specs.Str.Parse.{IsNumeral, digits_value};
-ghost use Rattle.can_jobs.specs.Parted.{names_part, script_part};
+ghost use Rattle.can_jobs.specs.Parted.{AreGiven, IsNumberOf, IsPeers, given, names_part, script_part};
 
 use can_attempt::AckMode;
 use clap::error::ErrorKind;
@@ -138,7 +137,9 @@ pub fn read_options<'a>(alloc: Global, words: &'a [String]) -> Result<Job<'a>, E
     }
 }
 
-fn bench_options<'a>(alloc: Global, bench: &ArgMatches<'a>) -> Result<BenchOptions<'a>, Error> {
+fn bench_options<'a>(alloc: Global, bench: &ArgMatches<'a>) -> Result<BenchOptions<'a>, Error>
+    ensures { IfOk result (λ options. AreGiven bench.now options) }
+{
     let (names, script) = parts(bench.get_str(BUS).unwrap_or(""));
     Ok(BenchOptions {
         ack: ack_mode(bench),
@@ -164,7 +165,9 @@ fn parts(bus: &str) -> (&str, Option<&str>)
 }
 
 // The parser takes no other words than these two.
-fn ack_mode(bench: &ArgMatches<'_>) -> AckMode {
+fn ack_mode(bench: &ArgMatches<'_>) -> AckMode
+    ensures { (result ≡ AckMode.Peers) ↔ IsPeers bench.now }
+{
     match bench.get_str(ACK) {
         Some(word) if word == PEERS => AckMode::Peers,
         _ => AckMode::Always,
@@ -172,7 +175,9 @@ fn ack_mode(bench: &ArgMatches<'_>) -> AckMode {
 }
 
 // The number that an option was given, in decimal digits alone.
-fn number_given(alloc: Global, bench: &ArgMatches<'_>, option: &str) -> Result<u32, Error> {
+fn number_given(alloc: Global, bench: &ArgMatches<'_>, option: &str) -> Result<u32, Error>
+    ensures { IfOk result (λ n. IsNumberOf n (given bench.now option.now)) }
+{
     let text = bench.get_str(option).unwrap_or("");
     match number_in(text) {
         Some(number) => Ok(number),
@@ -187,7 +192,7 @@ fn number_given(alloc: Global, bench: &ArgMatches<'_>, option: &str) -> Result<u
 
 // The number that a text of decimal digits alone writes.
 fn number_in(text: &str) -> Option<u32>
-    ensures digits { IfSome result (λ n. IsNumeral 10 text.now × (n ≡ digits_value 10 text.now)) }
+    ensures { IfSome result (λ n. IsNumberOf n text.now) }
 {
     if !text.bytes().all(|byte| byte.is_ascii_digit()) {
         return None;

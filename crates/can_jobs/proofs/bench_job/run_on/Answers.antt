@@ -1,7 +1,7 @@
 use Rattle.std.proofs.Common.{Ok, subst}
 use Rattle.can_session.specs.Runs.{Ends, IsRecordOf}
 use Rattle.can_jobs.specs.Benched.{StopsBy, begun}
-use Rattle.can_jobs.proofs.Benching.{Answered, ended, stopped}
+use Rattle.can_jobs.proofs.Benching.{ended, stopped}
 use Rattle.can_jobs.proofs.bench_job.run_on.Goals as goal
 
 pub returns-in-Ok-clause-ends : goal.returns-in-Ok-clause-ends
