@@ -1,5 +1,5 @@
-use Rattle.std.proofs.Common.{◌≡◌, ◌≢◌, ℕ, ◌+◌, ◌<◌, ◌≤◌, zero, suc, nat_le, List, [], ◌∷◌, length, min, get_or, take, reverse, Result, Ok, Err, OnOk, IfErr, inl, inr, arith, refl, sym, ap, ◌∙◌, subst}
-use Rattle.std.proofs.lemmas.Bool.{cond-false, lt-leb, cases_lt}
+use Rattle.std.proofs.Common.{◌≡◌, ◌≢◌, ℕ, ◌+◌, ◌<◌, ◌≤◌, zero, suc, nat_le, List, [], ◌∷◌, length, min, get_or, take, reverse, Some, None, Result, Ok, Err, OnOk, IfErr, inl, inr, arith, refl, sym, ap, ◌∙◌, subst}
+use Rattle.std.proofs.lemmas.Bool.{cond-true, cond-false, le-leb, lt-leb, cases_lt}
 use Rattle.std.proofs.lemmas.List.{length-reverse, length-take-le, reverse-reverse}
 use Rattle.std.proofs.lemmas.Option.{slice_get_read, slice_get_within, get_or_from_slice_get}
 use Rattle.can_bus.specs.declared.events.BusConfig.{BusConfig}
@@ -15,11 +15,11 @@ use Rattle.can_bus.specs.Run.{IsAnswer, history_after}
 use Rattle.can_bus.proofs.Headlines.{headline}
 use Rattle.can_audit.specs.declared.audits.AuditFault.{AuditFault}
 use Rattle.can_audit.specs.declared.audits.AuditFault.TheVariants as fault
-use Rattle.can_audit.specs.Audits.{IsFirstWrong, Blames}
+use Rattle.can_audit.specs.Audits.{IsFirstWrong, IsToldWrong, Blames}
 use Rattle.can_audit.specs.Histories.{before}
 use Rattle.can_audit.proofs.Answering.{answers}
 use Rattle.can_audit.proofs.Before.{before_more, history-before}
-use Rattle.can_audit.proofs.Narrowing.{narrow, legal-narrow, first-narrow}
+use Rattle.can_audit.proofs.Narrowing.{narrow, legal-narrow, told-narrow}
 
 -- A bus carries out the entries one after another, as far as they are legal.
 
@@ -55,14 +55,31 @@ carried-turn : (c : BusConfig) (es : List Entry) (k : ℕ) (e : Entry) (bus : Jo
 carried-turn c es k e bus r t =
     carried c (before es k) e.event r (omega (arith, length-reverse (take k es), length-take-le k es (omega (arith, t.below)), t.room)) (subst (λ (b : Journal). IsAnswer b.config b.history e.event r) t.so_far t.answer) t.memory
 
--- another reply than the entry's
-pub first_wrong : (c : BusConfig) (es : List Entry) (k : ℕ) (e : Entry) (bus : Journal) (r : Reply) → Turn c es k e bus r → IsLegal bus.config bus.history → r ≢ e.reply → IsFirstWrong c es k
-first_wrong c es k e bus r t legal other = record {
-  entry = e;
-  there = slice_get_read es (length es) k e refl t.below t.read;
-  legal_before = subst (λ (b : Journal). IsLegal b.config b.history) t.so_far legal;
-  wrong = inr (λ same. other ((carried-turn c es k e bus r t).reply ∙ sym same));
+-- no entry may stand past the limit
+pub past_limit : (c : BusConfig) (es : List Entry) (k : ℕ) (e : Entry) (bus : Journal) → k < length es → e ≡ get_or es k e → bus ≡ replayed c es k → IsLegal bus.config bus.history → c.limit ≤ k → IsToldWrong c es k None
+past_limit c es k e bus below read so_far legal past = record {
+  first = record {
+    entry = e;
+    there = slice_get_read es (length es) k e refl below read;
+    legal_before = subst (λ (b : Journal). IsLegal b.config b.history) so_far legal;
+    wrong = inl past;
+  };
+  is_allowed = sym (cond-true (nat_le c.limit k) _ _ (le-leb c.limit k past));
 }
+
+-- another reply than the entry's
+pub first_wrong : (c : BusConfig) (es : List Entry) (k : ℕ) (e : Entry) (bus : Journal) (r : Reply) → Turn c es k e bus r → IsLegal bus.config bus.history → r ≢ e.reply → IsToldWrong c es k (Some r)
+first_wrong c es k e bus r t legal other =
+    let lawful = (carried-turn c es k e bus r t).reply in
+    record {
+      first = record {
+        entry = e;
+        there = slice_get_read es (length es) k e refl t.below t.read;
+        legal_before = subst (λ (b : Journal). IsLegal b.config b.history) t.so_far legal;
+        wrong = inr (λ same. other (lawful ∙ sym same));
+      };
+      is_allowed = ap Some lawful ∙ sym (cond-false (nat_le c.limit k) _ _ (lt-leb c.limit k t.room));
+    }
 
 -- the entry's reply
 pub replayed_more : (c : BusConfig) (es : List Entry) (k : ℕ) (e : Entry) (bus after : Journal) (r : Reply) → Turn c es k e bus r → after ≡ record bus { history = history_after e.event r bus.history } → r ≡ e.reply → after ≡ replayed c es (k + 1)
@@ -123,9 +140,9 @@ pub audited : (c : BusConfig) (n : ℕ) (es : List Entry) (r : Result (Unit {0})
 audited c n es (Ok u) proper is legal wrong =
     let whole = legal-narrow c n (reverse es) (omega (arith, is)) legal in
     record { legal = whole; headline = headline c (reverse es) proper whole; wrong = tt; spared = λ h. tt }
-audited c n es (Err (fault.Wrong k)) proper is legal wrong =
-    let first = first-narrow c n es k is wrong in
-    record { legal = tt; headline = tt; wrong = first; spared = λ h. absurd (none-wrong c es k proper h first) }
+audited c n es (Err (fault.Wrong k reply)) proper is legal wrong =
+    let told = told-narrow c n es k reply is wrong in
+    record { legal = tt; headline = tt; wrong = told; spared = λ h. absurd (none-wrong c es k proper h told.first) }
 audited c n es (Err fault.NoMemory) proper is legal wrong = record { legal = tt; headline = tt; wrong = tt; spared = λ h. refl }
 
 -- the same of the record that has these parts

@@ -1,6 +1,7 @@
-use Rattle.std.proofs.Common.{◌≡◌, ℕ, ◌+◌, ◌-◌, ◌==◌, ◌≤◌, not, ◌&&◌, nat_le, List, [], ◌∷◌, ◌++◌, length, min, take, drop, filter, find, slice_get, Option, Some, None, is_some, if◌then◌else◌, inl, inr, arith, refl, sym, ap, ◌∙◌}
+use Rattle.std.proofs.Common.{◌≡◌, ℕ, ◌+◌, ◌-◌, ◌==◌, ◌<◌, ◌≤◌, not, ◌&&◌, nat_le, List, [], ◌∷◌, ◌++◌, length, min, take, drop, filter, find, slice_get, Option, Some, None, is_some, if◌then◌else◌, inl, inr, arith, refl, sym, ap, ◌∙◌}
 use mathlib.Core.Path.{fun_ext}
 use Rattle.std.specs.List.{list_any, range_with_len}
+use Rattle.std.proofs.lemmas.Bool.{cond-true, cond-false, le-leb, lt-leb, cases_lt}
 use Rattle.std.proofs.lemmas.Option.{slice_get_within}
 use Rattle.can_confine.specs.Confinement.{ErrorCounts, Step, all_stepped, at_start, state_of, is_off}
 use Rattle.can_fault.specs.declared.verdicts.Verdict.{Verdict}
@@ -21,7 +22,7 @@ use Rattle.can_bus.specs.Attempts.{beats, winner, attempt_reply, tried_head}
 use Rattle.can_bus.specs.Posts.{Post, posts_of, attempt_posts}
 use Rattle.can_bus.specs.Queues.{passing, candidates_of, queued_to, dropped_at, taken_from}
 use Rattle.can_bus.specs.Legal.{legal_reply, if_open, IsLegal}
-use Rattle.can_audit.specs.Audits.{IsFirstWrong}
+use Rattle.can_audit.specs.Audits.{IsFirstWrong, IsToldWrong, allowed}
 use Rattle.can_audit.specs.Histories.{before}
 
 -- No reply depends on the limit: entries may be carried out on a bus with a lower one.
@@ -107,6 +108,14 @@ pub legal-narrow : (c : BusConfig) (n : ℕ) (past : List Entry) → n ≤ c.lim
 legal-narrow c n [] le h = tt
 legal-narrow c n (e ∷ past) le h = (omega (arith, le, h.0), h.1 ∙ reply-narrow c n past e.event, legal-narrow c n past le h.2)
 
+-- within the list, a bus made for no more entries than there are allows the same reply
+allowed-narrow : (c : BusConfig) (n : ℕ) (es : List Entry) (k : ℕ) (e : Event) → n ≡ min c.limit (length es) → k < length es → allowed (narrow c n) es k e ≡ allowed c es k e
+allowed-narrow c n es k e is below =
+    elim (cases_lt k c.limit) [
+      | inl lt ↦ cond-false (nat_le n k) _ _ (lt-leb n k (omega (arith, is, lt, below))) ∙ ap Some (reply-narrow c n (before es k) e) ∙ sym (cond-false (nat_le c.limit k) _ _ (lt-leb c.limit k lt))
+      | inr le ↦ cond-true (nat_le n k) _ _ (le-leb n k (omega (arith, is, le))) ∙ sym (cond-true (nat_le c.limit k) _ _ (le-leb c.limit k le))
+    ]
+
 -- the first wrong entry of a bus made for no more entries than there are is the first wrong entry
 pub first-narrow : (c : BusConfig) (n : ℕ) (es : List Entry) (k : ℕ) → n ≡ min c.limit (length es) → IsFirstWrong (narrow c n) es k → IsFirstWrong c es k
 first-narrow c n es k is f = record {
@@ -117,4 +126,12 @@ first-narrow c n es k is f = record {
     | inl past ↦ inl (omega (arith, is, past, slice_get_within es k f.entry f.there))
     | inr other ↦ inr (λ same. other (same ∙ sym (reply-narrow c n (before es k) f.entry.event)))
   ];
+}
+
+-- and so is the reply that would be legal there
+pub told-narrow : (c : BusConfig) (n : ℕ) (es : List Entry) (k : ℕ) (legal : Option Reply) → n ≡ min c.limit (length es) → IsToldWrong (narrow c n) es k legal → IsToldWrong c es k legal
+unfolding first-narrow
+told-narrow c n es k legal is t = record {
+  first = first-narrow c n es k is t.first;
+  is_allowed = t.is_allowed ∙ allowed-narrow c n es k t.first.entry.event is (slice_get_within es k t.first.entry t.first.there);
 }

@@ -12,10 +12,9 @@ use Rattle.can_bus.specs.declared.events.Refusal.TheVariants as refusal
 use Rattle.can_bus.specs.declared.events.Received.{Received}
 use Rattle.can_bus.specs.declared.events.Reply.{Reply}
 use Rattle.can_bus.specs.declared.events.Reply.TheVariants as reply
-use Rattle.can_bus.specs.declared.events.Entry.{Entry}
-use Rattle.can_bus.specs.Spelled.{LeavesEntry, FitsReply, IsSpelled}
+use Rattle.can_bus.specs.Spelled.{LeavesEntry, FitsReply}
 use Rattle.can_audit.specs.Words.{spell, spaced}
-use Rattle.can_audit.specs.Spelling.{mask_word, filter_words, refusal_words, received_words, event_words, reply_words, entry_line}
+use Rattle.can_audit.specs.Spelling.{mask_word, filter_words, refusal_words, received_words, event_words, reply_words, answered_line}
 use Rattle.can_audit.proofs.Again.{leaves}
 
 -- what is written of one filter
@@ -69,6 +68,6 @@ spell-append (w ∷ u ∷ ws) vs v rest =
     ∙ append_assoc w (32 ∷ []) (spaced (u ∷ ws) ++ spell (v ∷ vs) rest)
     ∙ ap (λ (x : List ℕ). w ++ 32 ∷ x) (spell-append (u ∷ ws) vs v rest)
 
-pub line_of : (e : Entry) (out a b new : List ℕ) → a ≡ out ++ spaced (event_words e.event) → b ≡ a ++ (codes "=" ++ 32 ∷ []) → new ≡ b ++ spell (reply_words e.reply) [] → IsSpelled e → new ≡ out ++ entry_line e []
-line_of e out a b new ha hb hn h = hn ∙ rw (hb, ha) (append_assoc (out ++ spaced (event_words e.event)) (codes "=" ++ 32 ∷ []) (spell (reply_words e.reply) []) ∙ append_assoc out (spaced (event_words e.event)) ((codes "=" ++ 32 ∷ []) ++ spell (reply_words e.reply) [])
-    ∙ ap (λ (x : List ℕ). out ++ x) (ap (λ (x : List ℕ). spaced (event_words e.event) ++ x) (ended e.event e.reply h) ∙ spell-append (event_words e.event) (reply_words e.reply) (codes "=") []))
+pub line_of : (e : Event) (r : Reply) (out a b new : List ℕ) → a ≡ out ++ spaced (event_words e) → b ≡ a ++ (codes "=" ++ 32 ∷ []) → new ≡ b ++ spell (reply_words r) [] → FitsReply e r → new ≡ out ++ answered_line e r []
+line_of e r out a b new ha hb hn h = hn ∙ rw (hb, ha) (append_assoc (out ++ spaced (event_words e)) (codes "=" ++ 32 ∷ []) (spell (reply_words r) []) ∙ append_assoc out (spaced (event_words e)) ((codes "=" ++ 32 ∷ []) ++ spell (reply_words r) [])
+    ∙ ap (λ (x : List ℕ). out ++ x) (ap (λ (x : List ℕ). spaced (event_words e) ++ x) (ended e r h) ∙ spell-append (event_words e) (reply_words r) (codes "=") []))

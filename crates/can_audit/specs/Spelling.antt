@@ -124,6 +124,10 @@ entry_words e = event_words e.event ++ codes "=" ∷ reply_words e.reply
 abbrev pub entry_line : Entry → List ℕ → List ℕ
 entry_line e rest = spell (entry_words e) rest
 
+-- the line of an event with this reply, and what follows it
+abbrev pub answered_line : Event → Reply → List ℕ → List ℕ
+answered_line e r rest = entry_line (record { event = e; reply = r }) rest
+
 -- the first line
 abbrev pub first_line : List ℕ
 first_line = codes "canbus record 1" ++ 10 ∷ []

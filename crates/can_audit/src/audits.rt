@@ -13,9 +13,9 @@ use thiserror::Error;
 #[derive(Debug, Clone, Copy, PartialEq, Eq, Error)]
 pub enum AuditFault {
     /// The first entry whose reply is not the one that the entries before it give, or that is past the
-    /// limit, counted from 0.
+    /// limit, counted from 0; and the reply that would be legal there, `None` past the limit.
     #[error("entry {entry}: wrong")]
-    Wrong { entry: usize },
+    Wrong { entry: usize, legal: Option<Reply> },
     /// Memory was refused.
     #[error("no memory")]
     NoMemory,
@@ -43,14 +43,20 @@ fn replay(alloc: Global, config: BusConfig, entries: &[Entry]) -> Result<(), Aud
         // Looking at the record tells the proof that what was carried out is a legal history.
         let _so_far = bus.record();
         if i >= limit {
-            return Err(AuditFault::Wrong { entry: i });
+            return Err(AuditFault::Wrong {
+                entry: i,
+                legal: None,
+            });
         }
         let reply = answer(&mut bus, alloc, &entry.event);
         if is_no_memory(&reply) {
             return Err(AuditFault::NoMemory);
         }
         if !same_reply(&reply, &entry.reply) {
-            return Err(AuditFault::Wrong { entry: i });
+            return Err(AuditFault::Wrong {
+                entry: i,
+                legal: Some(reply),
+            });
         }
     }
     let _all = bus.record();
@@ -69,7 +75,8 @@ fn room_for(config: BusConfig, entries: &[Entry]) -> u32
 }
 
 /// Whether a record is a legal history: each reply is the one that the entries before it give, and there
-/// are no more entries than the limit. If not, `Wrong` names the first entry that is not so.
+/// are no more entries than the limit. If not, `Wrong` names the first entry that is not so, and the reply
+/// that the entries before it give.
 ///
 /// So what the headline says of a bus (`can_bus::run`) holds of each record that is found legal, whoever wrote it.
 ///

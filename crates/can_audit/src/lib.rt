@@ -38,5 +38,5 @@ pub use audits::{AuditFault, audit};
 pub use faults::ReadFault;
 pub use queues::{candidates, projected, queued};
 pub use record_reading::{read_record, read_record_bytes};
-pub use record_writing::{record_text, write_record};
+pub use record_writing::{line_text, record_text, write_record};
 pub use replies::{ReplayFault, replies_of};

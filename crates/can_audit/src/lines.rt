@@ -2,11 +2,11 @@ ghost use Rattle.std.specs.Prelude.{◌≡◌, ◌≤◌, ◌++◌, ◌∷◌, [
 ghost use Rattle.std.specs.Option.{option_map};
 ghost use Rattle.can_bus.specs.declared.events.Entry.{Entry as AnEntry};
 ghost use Rattle.can_bus.specs.declared.events.BusConfig.{BusConfig as AConfig};
-ghost use Rattle.can_bus.specs.Spelled.{IsSpelled};
+ghost use Rattle.can_bus.specs.Spelled.{FitsReply, IsSpelled};
 ghost use Rattle.can_audit.specs.declared.faults.Unread.TheVariants as unread;
 ghost use Rattle.can_audit.specs.Words.{spell};
 ghost use Rattle.can_audit.specs.Values.{HasLine, HasBusLine};
-ghost use Rattle.can_audit.specs.Spelling.{ack_word, bus_words, end_words, entry_line};
+ghost use Rattle.can_audit.specs.Spelling.{ack_word, answered_line, bus_words, end_words, entry_line};
 ghost use Rattle.can_audit.specs.Reading.{ack_at, config_at};
 
 use crate::event_reading::guess_entry;
@@ -18,21 +18,29 @@ use crate::values::{hold_event, hold_reply};
 use crate::words::{next_word, same_word};
 use crate::writing::{put_count, put_set, put_word};
 use can_attempt::AckMode;
-use can_bus::{BusConfig, Entry, Record, is_spelled};
+use can_bus::{BusConfig, Entry, Event, Record, Reply, is_spelled};
 use std::alloc::{AllocError, Global};
 
 /// The first line of each record text.
 pub const FIRST_LINE: &[u8] = b"canbus record 1\n";
 
 /// The line of an entry.
-#[tactic(auto, using(crate::proofs::Written::line_of))]
 pub fn put_line(out: &mut Vec<u8>, entry: &Entry) -> Result<(), AllocError>
     requires { IsSpelled entry.now }
     ensures { OnOk result (out.new.items ≡ out.old.items ++ entry_line entry.now []) }
 {
-    put_event(out, &entry.event)?;
+    put_answered(out, &entry.event, &entry.reply)
+}
+
+/// The line of an event with this reply.
+#[tactic(auto, using(crate::proofs::Written::line_of))]
+pub fn put_answered(out: &mut Vec<u8>, event: &Event, reply: &Reply) -> Result<(), AllocError>
+    requires { FitsReply event.now reply.now }
+    ensures { OnOk result (out.new.items ≡ out.old.items ++ answered_line event.now reply.now []) }
+{
+    put_event(out, event)?;
     put_word(out, b"=", b' ')?;
-    put_reply(out, &entry.reply)
+    put_reply(out, reply)
 }
 
 /// The line of a bus.

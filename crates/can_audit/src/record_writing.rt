@@ -1,10 +1,10 @@
 ghost use Rattle.std.specs.Prelude.{◌≡◌, ◌++◌, [], All, IfOk, OnOk, reverse};
 ghost use Rattle.std.specs.Io.KnownBytes.{Appends};
-ghost use Rattle.can_bus.specs.Spelled.{IsSpelled};
-ghost use Rattle.can_audit.specs.Spelling.{entry_line, entry_lines, record_spelling};
+ghost use Rattle.can_bus.specs.Spelled.{FitsReply, IsSpelled};
+ghost use Rattle.can_audit.specs.Spelling.{answered_line, entry_line, entry_lines, record_spelling};
 
-use crate::lines::{FIRST_LINE, put_bus, put_end, put_line};
-use can_bus::{Entry, Record};
+use crate::lines::{FIRST_LINE, put_answered, put_bus, put_end, put_line};
+use can_bus::{Entry, Event, Record, Reply};
 use std::alloc::{AllocError, Global};
 use std::io;
 use std::io::Write;
@@ -22,6 +22,16 @@ pub fn record_text(alloc: Global, record: &Record) -> Result<Vec<u8>, AllocError
         Ok(()) => Ok(text),
         Err(_) => Err(AllocError),
     }
+}
+
+/// The line of an event with this reply in the text of a record, with its LF.
+pub fn line_text(alloc: Global, event: &Event, reply: &Reply) -> Result<Vec<u8>, AllocError>
+    requires { FitsReply event.now reply.now }
+    ensures { IfOk result (λ text. text.items ≡ answered_line event.now reply.now []) }
+{
+    let mut text = Vec::new(alloc);
+    put_answered(&mut text, event, reply)?;
+    Ok(text)
 }
 
 /// Writes the text of a record, in one write for each line, so a writer to a file is best a `BufWriter`.

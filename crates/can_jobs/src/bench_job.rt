@@ -1,3 +1,13 @@
+ghost use Rattle.std.specs.Prelude.{◌≡◌, ◌≤◌, length, reverse, IfErr, IfOk, Ok, OnOk};
+ghost use Rattle.std.specs.Io.KnownBytes.{Appends};
+ghost use Rattle.can_frame.specs.Names.{AreNames, names_in};
+ghost use Rattle.can_bus.specs.Legal.{IsLegal};
+ghost use Rattle.can_audit.specs.Spelling.{record_spelling};
+ghost use Rattle.can_session.specs.Runs.{Ends, IsRecordOf};
+ghost use Rattle.can_jobs.specs.Benched.{IsBenched, IsRun, StopsBy, begun, config_of};
+ghost use Rattle.can_jobs.specs.declared.faults.Fault.TheVariants as fault;
+ghost use Rattle.can_jobs.specs.Benched.{first_ifaces as first_ifaces_of};
+
 use crate::faults::{Failure, Fault};
 use crate::files::{OUTPUT, read_script, write_failure};
 use crate::notes::{fixed_note, input_note, limits_note, names_note, reason_note};
@@ -6,7 +16,7 @@ use crate::recent::Recent;
 use can_audit::write_record;
 use can_bus::{BusConfig, Record};
 use can_fault::{FaultSource, Perfect};
-use can_frame::{Iface, IfaceSet, Names, NamesError};
+use can_frame::{IfaceSet, Names, NamesError};
 use can_session::{BenchConfig, BenchFault, bench};
 use std::alloc::{AllocError, Global};
 use std::fs;
@@ -24,15 +34,11 @@ pub fn run_bench<'a, H: Files, R: Read + Drop, W: Write>(
     options: BenchOptions<'a>,
     input: R,
     output: &mut W,
-) -> Result<(), Failure<'a>> {
+) -> Result<(), Failure<'a>>
+    ensures { OnOk result (IsBenched W.contents options.entry (R.remaining input) output.old output.new) }
+{
     let names = read_names(alloc, options.names)?;
-    let record = match options.script {
-        Some(path) => {
-            let script = read_script(rt, alloc, path, options.names, &names)?;
-            run_on(alloc, options, names, script, input, output)?
-        }
-        None => run_on(alloc, options, names, Perfect, input, output)?,
-    };
+    let record = run_scripted(rt, alloc, options, names, input, output)?;
     output
         .flush()
         .map_err(|error| write_failure(alloc, OUTPUT, &error))?;
@@ -42,11 +48,35 @@ pub fn run_bench<'a, H: Files, R: Read + Drop, W: Write>(
     }
 }
 
-fn read_names<'a>(alloc: Global, bus: &str) -> Result<Names, Failure<'a>> {
+fn read_names<'a>(alloc: Global, bus: &str) -> Result<Names, Failure<'a>>
+    ensures names { IfOk result (λ names. names ≡ names_in bus.now) }
+    ensures good { OnOk result (AreNames (names_in bus.now)) }
+    ensures bad { IfErr result (λ failure. failure.fault ≡ fault.BadNames → AreNames (names_in bus.now) → ⊥) }
+{
     Names::read(alloc, bus).map_err(|error| match error {
         NamesError::BadNames => Failure::with(alloc, Fault::BadNames, names_note(alloc, bus)),
         NamesError::NoMemory => Failure::new(alloc, Fault::NoMemory),
     })
+}
+
+// Runs the bench of these names, with the faults of the script that the options name.
+fn run_scripted<'a, H: Files, R: Read + Drop, W: Write>(
+    rt: &H,
+    alloc: Global,
+    options: BenchOptions<'a>,
+    names: Names,
+    input: R,
+    output: &mut W,
+) -> Result<Record, Failure<'a>>
+    ensures { IfOk result (λ r. IsRun W.contents options.entry names (R.remaining input) output.old r output.new) }
+{
+    match options.script {
+        Some(path) => {
+            let script = read_script(rt, alloc, path, options.names, &names)?;
+            run_on(alloc, options, names, script, input, output)
+        }
+        None => run_on(alloc, options, names, Perfect, input, output),
+    }
 }
 
 // Runs the bench of these names and faults.
@@ -57,7 +87,11 @@ fn run_on<'a, F: FaultSource + Drop, R: Read + Drop, W: Write>(
     script: F,
     input: R,
     output: &mut W,
-) -> Result<Record, Failure<'a>> {
+) -> Result<Record, Failure<'a>>
+    ensures ends { IfOk result (λ r. Ends IsRecordOf W.contents (F.verdicts script) (R.remaining input) (begun options.entry names) output.old (Ok r) output.new) }
+    ensures legal { IfOk result (λ r. IsLegal r.config r.history) }
+    ensures fault { IfErr result (λ failure. StopsBy W.contents options.entry names (F.verdicts script) (R.remaining input) output.old failure.fault output.new) }
+{
     let config = BenchConfig {
         config: bus_config(options, &names),
         names,
@@ -115,7 +149,19 @@ fn save_record<'a, H: Files>(
         Failure::with(alloc, Fault::CannotOpen(path), reason)
     })?;
     let mut file = BufWriter::new(alloc, file).map_err(|_| Failure::new(alloc, Fault::NoMemory))?;
-    write_record(alloc, record, &mut file).map_err(|error| record_failure(alloc, path, &error))?;
+    put_record(alloc, path, record, &mut file)
+}
+
+// Writes the text of a record, to its last byte.
+fn put_record<'a, W: Write>(
+    alloc: Global,
+    path: &str,
+    record: &Record,
+    file: &mut W,
+) -> Result<(), Failure<'a>>
+    ensures { OnOk result (Appends (W.contents file.old) (W.contents file.new) (record_spelling «record».now.config (reverse «record».now.history))) }
+{
+    write_record(alloc, record, file).map_err(|error| record_failure(alloc, path, &error))?;
     file.flush()
         .map_err(|error| write_failure(alloc, path, &error))
 }
@@ -129,12 +175,15 @@ fn record_failure<'a>(alloc: Global, path: &str, error: &Error) -> Failure<'a> {
     }
 }
 
-fn bus_config(options: BenchOptions<'_>, names: &Names) -> BusConfig {
+// The bus that the options describe, for these names.
+fn bus_config(options: BenchOptions<'_>, names: &Names) -> BusConfig
+    ensures { result ≡ config_of options.entry (length names.now) }
+{
     BusConfig {
         ifaces: names.count(),
         ack: options.ack,
         reporting: if options.is_reporting {
-            all_of(names)
+            first_ifaces(names.count())
         } else {
             IfaceSet::empty()
         },
@@ -143,11 +192,10 @@ fn bus_config(options: BenchOptions<'_>, names: &Names) -> BusConfig {
     }
 }
 
-// The interfaces that have a name.
-fn all_of(names: &Names) -> IfaceSet {
-    let mut all = IfaceSet::empty();
-    for iface in (0..names.count()).filter_map(|number| Iface::new(number)) {
-        all = all.with(iface);
-    }
-    all
+// The interfaces of a bus that has so many.
+fn first_ifaces(count: u8) -> IfaceSet
+    requires { count ≤ 16 }
+    ensures { result ≡ first_ifaces_of count }
+{
+    IfaceSet(((1_u32 << count) - 1) as u16)
 }

@@ -1,4 +1,6 @@
-use can_audit::{AuditFault, ReadFault};
+ghost use Rattle.std.specs.Prelude.{◌≡◌};
+
+use can_audit::ReadFault;
 use can_fault::ScriptError;
 use can_session::BenchFault;
 use std::alloc::{AllocError, Global};
@@ -22,8 +24,9 @@ pub enum Fault<'a> {
     Bench(BenchFault),
     #[error("{0}")]
     Record(ReadFault),
-    #[error("{0}")]
-    Audit(AuditFault),
+    /// The first entry of a record that is no legal history, counted from 0.
+    #[error("entry {0}: wrong")]
+    WrongEntry(usize),
     #[error("write fault")]
     Write,
     #[error("no memory")]
@@ -39,7 +42,9 @@ pub struct Failure<'a> {
 
 impl<'a> Failure<'a> {
     /// A fault alone.
-    pub fn new(alloc: Global, fault: Fault<'a>) -> Failure<'a> {
+    pub fn new(alloc: Global, fault: Fault<'a>) -> Failure<'a>
+        ensures { result.fault ≡ fault.entry }
+    {
         Failure {
             fault,
             notes: String::new(alloc),
@@ -47,7 +52,9 @@ impl<'a> Failure<'a> {
     }
 
     /// A fault with notes, or alone where there was no memory for them.
-    pub fn with(alloc: Global, fault: Fault<'a>, notes: Result<String, AllocError>) -> Failure<'a> {
+    pub fn with(alloc: Global, fault: Fault<'a>, notes: Result<String, AllocError>) -> Failure<'a>
+        ensures { result.fault ≡ fault.entry }
+    {
         match notes {
             Ok(notes) => Failure { fault, notes },
             Err(_) => Failure::new(alloc, fault),

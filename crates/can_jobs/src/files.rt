@@ -1,3 +1,7 @@
+ghost use Rattle.std.specs.Prelude.{◌≡◌, List, ℕ, IfOk, Ok};
+ghost use Rattle.can_fault.specs.Scripts.{Reads as Spells};
+ghost use Rattle.can_jobs.specs.declared.faults.Fault.TheVariants as fault;
+
 use crate::faults::{Failure, Fault};
 use crate::notes::{reason_note, script_note};
 use crate::shown::{Line, Shown};
@@ -36,15 +40,31 @@ pub fn read_script<'a, H: Files>(
     path: &'a str,
     bus: &str,
     names: &Names,
-) -> Result<Script, Failure<'a>> {
+) -> Result<Script, Failure<'a>>
+    ensures { IfOk result (λ script. (text : List ℕ) × Spells names.now text (Ok script)) }
+{
     let text = read_file(rt, alloc, path)?;
-    Script::read(alloc, &text, names).map_err(|error| match error {
-        ScriptError::NoMemory => Failure::new(alloc, Fault::NoMemory),
-        fault => {
-            let notes = script_note(alloc, path, &text, bus, fault);
-            Failure::with(alloc, Fault::Script(fault), notes)
+    script_in(alloc, path, &text, bus, names)
+}
+
+// The script that the text of a file spells.
+fn script_in<'a>(
+    alloc: Global,
+    path: &str,
+    text: &str,
+    bus: &str,
+    names: &Names,
+) -> Result<Script, Failure<'a>>
+    ensures { IfOk result (λ script. Spells names.now text.now (Ok script)) }
+{
+    match Script::read(alloc, text, names) {
+        Ok(script) => Ok(script),
+        Err(ScriptError::NoMemory) => Err(Failure::new(alloc, Fault::NoMemory)),
+        Err(fault) => {
+            let notes = script_note(alloc, path, text, bus, fault);
+            Err(Failure::with(alloc, Fault::Script(fault), notes))
         }
-    })
+    }
 }
 
 /// All that a reader of the file with this path has, as UTF-8 text, which it gives in at most so many reads; the last
@@ -97,6 +117,8 @@ fn utf8_note(alloc: Global, path: &str, bytes: &[u8], valid: usize) -> Result<St
 }
 
 /// What a fault of writing to a file or a stream is told as.
-pub fn write_failure<'a>(alloc: Global, place: &str, error: &Error) -> Failure<'a> {
+pub fn write_failure<'a>(alloc: Global, place: &str, error: &Error) -> Failure<'a>
+    ensures { result.fault ≡ fault.Write }
+{
     Failure::with(alloc, Fault::Write, reason_note(alloc, place, error))
 }

@@ -1,3 +1,7 @@
+ghost use Rattle.std.specs.Prelude.{◌≡◌, ◌↔◌, IfOk, IfSome};
+ghost use Rattle.std.specs.Option.{option_map};
+ghost use Rattle.can_jobs.specs.Parted.{AreGiven, IsNumberOf, IsPeers, given, names_part, script_part};
+
 use can_attempt::AckMode;
 use clap::error::ErrorKind;
 use clap::{Arg, ArgAction, ArgMatches, Command, Error};
@@ -133,7 +137,9 @@ pub fn read_options<'a>(alloc: Global, words: &'a [String]) -> Result<Job<'a>, E
     }
 }
 
-fn bench_options<'a>(alloc: Global, bench: &ArgMatches<'a>) -> Result<BenchOptions<'a>, Error> {
+fn bench_options<'a>(alloc: Global, bench: &ArgMatches<'a>) -> Result<BenchOptions<'a>, Error>
+    ensures { IfOk result (λ options. AreGiven bench.now options) }
+{
     let (names, script) = parts(bench.get_str(BUS).unwrap_or(""));
     Ok(BenchOptions {
         ack: ack_mode(bench),
@@ -148,7 +154,10 @@ fn bench_options<'a>(alloc: Global, bench: &ArgMatches<'a>) -> Result<BenchOptio
 }
 
 // The names of a bus, and what follows the first `@`, if there is one.
-fn parts(bus: &str) -> (&str, Option<&str>) {
+fn parts(bus: &str) -> (&str, Option<&str>)
+    ensures names { result.0.now ≡ names_part bus.now }
+    ensures script { option_map (λ path. path.now) result.1 ≡ script_part bus.now }
+{
     match bus.split_once('@') {
         Some((names, script)) => (names, Some(script)),
         None => (bus, None),
@@ -156,7 +165,9 @@ fn parts(bus: &str) -> (&str, Option<&str>) {
 }
 
 // The parser takes no other words than these two.
-fn ack_mode(bench: &ArgMatches<'_>) -> AckMode {
+fn ack_mode(bench: &ArgMatches<'_>) -> AckMode
+    ensures { (result ≡ AckMode.Peers) ↔ IsPeers bench.now }
+{
     match bench.get_str(ACK) {
         Some(word) if word == PEERS => AckMode::Peers,
         _ => AckMode::Always,
@@ -164,17 +175,29 @@ fn ack_mode(bench: &ArgMatches<'_>) -> AckMode {
 }
 
 // The number that an option was given, in decimal digits alone.
-fn number_given(alloc: Global, bench: &ArgMatches<'_>, option: &str) -> Result<u32, Error> {
+fn number_given(alloc: Global, bench: &ArgMatches<'_>, option: &str) -> Result<u32, Error>
+    ensures { IfOk result (λ n. IsNumberOf n (given bench.now option.now)) }
+{
     let text = bench.get_str(option).unwrap_or("");
-    match text.parse::<u32>() {
-        Ok(number) if text.bytes().all(|byte| byte.is_ascii_digit()) => Ok(number),
-        _ => {
+    match number_in(text) {
+        Some(number) => Ok(number),
+        None => {
             let message = format!(in alloc;
                 "invalid value '{text}' for '--{option} <N>': not a number from 0 to 4294967295 in decimal digits"
             )?;
             Err(bench_error(alloc, &message)?)
         }
     }
+}
+
+// The number that a text of decimal digits alone writes.
+fn number_in(text: &str) -> Option<u32>
+    ensures { IfSome result (λ n. IsNumberOf n text.now) }
+{
+    if !text.bytes().all(|byte| byte.is_ascii_digit()) {
+        return None;
+    }
+    text.parse().ok()
 }
 
 // A fault of the words of `bench`, with its usage.

@@ -1,3 +1,5 @@
+ghost use Rattle.std.specs.Prelude.{◌≡◌};
+
 use can_session::count_of;
 use std::alloc::Global;
 use std::io;
@@ -20,7 +22,9 @@ pub struct Recent<R: Read + Drop> {
 
 impl<R: Read + Drop> Recent<R> {
     /// It keeps at most 24,576 bytes, and none before the first read.
-    pub fn new(alloc: Global, input: R) -> Recent<R> {
+    pub fn new(alloc: Global, input: R) -> Recent<R>
+        ensures { result.input ≡ input }
+    {
         Recent {
             input,
             bytes: Vec::new(alloc),
@@ -46,7 +50,9 @@ impl<R: Read + Drop> Recent<R> {
     }
 
     // Keeps what was read, at most 8,192 bytes.
-    fn keep(&mut self, read: &[u8]) {
+    fn keep(&mut self, read: &[u8])
+        ensures { self.new.input ≡ self.old.input }
+    {
         if self.bytes.len() > 2 * KEPT {
             self.forget();
         }
@@ -56,7 +62,9 @@ impl<R: Read + Drop> Recent<R> {
     }
 
     // Lets all but the last 8,192 bytes go.
-    fn forget(&mut self) {
+    fn forget(&mut self)
+        ensures { self.new.input ≡ self.old.input }
+    {
         let gone = self.bytes.len().saturating_sub(KEPT);
         let ends = count_of(&self.bytes[..gone], b'\n');
         self.lines_gone = self.lines_gone.saturating_add(ends as u64);
@@ -66,6 +74,8 @@ impl<R: Read + Drop> Recent<R> {
 }
 
 impl<R: Read + Drop> Read for Recent<R> {
+    ghost remaining = { λ recent. R.remaining recent.input };
+
     fn read(&mut self, buf: &mut [u8]) -> io::Result<usize> {
         let most = buf.len().min(KEPT);
         match self.input.read(&mut buf[..most]) {

@@ -103,11 +103,17 @@ fn the_first_wrong_entry_is_found(rt: HostRuntime) -> Result<(), Fail> {
     assert_eq!(rt; one_frame(&rt, 7, 0b10)?, Ok(()));
     assert_eq!(rt;
         one_frame(&rt, 100, 0)?,
-        Err(AuditFault::Wrong { entry: 3 })
+        Err(AuditFault::Wrong {
+            entry: 3,
+            legal: Some(tried(0b10)?),
+        })
     );
     assert_eq!(rt;
         one_frame(&rt, 6, 0b10)?,
-        Err(AuditFault::Wrong { entry: 6 })
+        Err(AuditFault::Wrong {
+            entry: 6,
+            legal: None,
+        })
     );
     Ok(())
 }

@@ -1,5 +1,5 @@
 use Rattle.std.proofs.lemmas.Bool.{iff_false}
-use Rattle.can_audit.proofs.Auditing.{Turn, first_wrong, replayed_more}
+use Rattle.can_audit.proofs.Auditing.{Turn, first_wrong, past_limit, replayed_more}
 use Rattle.can_audit.proofs.audits.replay.Goals as goal
 
 pub returns-then-not-same_reply-clause-wrong : goal.returns-then-not-same_reply-clause-wrong
@@ -25,3 +25,6 @@ loop-i-preserved c =
       memory = iff_false c.is_no_memory.ensures c.if-is_no_memory.false;
     } in
     replayed_more _ _ _ _ _ _ _ turn c.answer-reply.ensures.after (c.same_reply.ensures.0 c.if-not-same_reply.false)
+
+pub returns-then-i-limit-clause-wrong : goal.returns-then-i-limit-clause-wrong
+returns-then-i-limit-clause-wrong c = past_limit _ _ _ _ _ c.loop-i-test.true c.index-entries-i.is c.loop-i.invariant c.record-so_far.ensures.legal c.if-i-limit.true
