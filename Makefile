@@ -1,5 +1,6 @@
 # make              proves and builds the program
 # make test         the test command: every proof, edit, test, stored run and example, from nothing
+# make quick        every test, stored run and example without proofs, in some minutes, for work in between
 # make dist         puts the proved program into dist/, with what it was built from
 # make verify-dist  proves and builds it once more from nothing, and compares it with dist/ byte for byte
 # make install      puts the program, its manual page and completions under PREFIX (DESTDIR in front of it)
@@ -17,6 +18,9 @@ all:
 
 test:
 	./scripts/test
+
+quick:
+	./scripts/quick
 
 dist:
 	./scripts/make-dist
@@ -37,4 +41,4 @@ uninstall:
 clean:
 	rm -rf crates/*/out
 
-.PHONY: all test dist verify-dist install uninstall clean
+.PHONY: all test quick dist verify-dist install uninstall clean

@@ -12,17 +12,19 @@ fn last_bit(rt: &(impl Abort + AllocGlobal)) -> Result<(), Fail> {
     let mut bus = bus(rt, config(2), &[0, 1, 0])?;
     let _ = send(&mut bus, 0, 0x123)?;
     let first = attempt(&mut bus, 1, Verdict::LastBit)?;
-    assert_eq!(rt;
+    same(
+        rt,
         (first.number, first.class, first.accepted),
-        (0, Class::LastBit, IfaceSet(2))
+        (0, Class::LastBit, IfaceSet(2)),
     );
-    assert_eq!(rt; counts(&bus, 0)?, (8, 0));
+    same(rt, counts(&bus, 0)?, (8, 0));
     let second = attempt(&mut bus, 2, Verdict::Good)?;
-    assert_eq!(rt;
+    same(
+        rt,
         (second.number, second.class, second.accepted),
-        (0, Class::Done, IfaceSet(2))
+        (0, Class::Done, IfaceSet(2)),
     );
-    assert_eq!(rt; counts(&bus, 0)?, (7, 0));
+    same(rt, counts(&bus, 0)?, (7, 0));
     gets_frame(rt, &mut bus, 1, 0, 1)?;
     gets_frame(rt, &mut bus, 1, 0, 2)?;
     gets_nothing(rt, &mut bus, 1)?;
@@ -36,8 +38,8 @@ fn last_bit_alone(rt: &(impl Abort + AllocGlobal), ack: AckMode, class: Class) -
     let mut bus = bus(rt, BusConfig { ack, ..config(1) }, &[0])?;
     let _ = send(&mut bus, 0, 0x123)?;
     let tried = attempt(&mut bus, 1, Verdict::LastBit)?;
-    assert_eq!(rt; (tried.class, tried.accepted), (class, IfaceSet(0)));
-    assert_eq!(rt; counts(&bus, 0)?, (8, 0));
+    same(rt, (tried.class, tried.accepted), (class, IfaceSet(0)));
+    same(rt, counts(&bus, 0)?, (8, 0));
     Ok(())
 }
 
@@ -49,10 +51,10 @@ fn nobody_acknowledges(rt: &(impl Abort + AllocGlobal)) -> Result<(), Fail> {
     let _ = send(&mut bus, 0, 0x123)?;
     for micros in 1..=17 {
         let tried = attempt(&mut bus, micros, Verdict::Good)?;
-        assert_eq!(rt; (tried.number, tried.class), (0, Class::NoAck));
-        assert_eq!(rt; (tried.accepted, tried.off), (IfaceSet(0), IfaceSet(0)));
+        same(rt, (tried.number, tried.class), (0, Class::NoAck));
+        same(rt, (tried.accepted, tried.off), (IfaceSet(0), IfaceSet(0)));
         if micros >= 16 {
-            assert_eq!(rt; counts(&bus, 0)?, (128, 0));
+            same(rt, counts(&bus, 0)?, (128, 0));
         }
     }
     gets_error(rt, &mut bus, 0, 12, 0x204, [0, 0x08, 0, 0, 0, 0, 0x60, 0])?;
@@ -65,28 +67,34 @@ fn bus_off_and_restart(rt: &(impl Abort + AllocGlobal)) -> Result<(), Fail> {
     let mut bus = bus(rt, config(2), &[0, 1])?;
     set(&mut bus, 0, Opt::ErrMask(0x140))?;
     for number in 0..3 {
-        assert_eq!(rt; send(&mut bus, 0, 0x123)?, number);
+        same(rt, send(&mut bus, 0, 0x123)?, number);
     }
     for micros in 1..=32 {
         let tried = attempt(&mut bus, micros, BIT)?;
-        assert_eq!(rt; (tried.number, tried.class), (0, Class::Destroyed));
-        assert_eq!(rt; tried.off, IfaceSet(if micros == 32 { 1 } else { 0 }));
+        same(rt, (tried.number, tried.class), (0, Class::Destroyed));
+        same(rt, tried.off, IfaceSet(if micros == 32 { 1 } else { 0 }));
     }
     gets_error(rt, &mut bus, 0, 32, 0x040, [0; 8])?;
-    assert_eq!(rt; try_send(&mut bus, 0, frame(0x123)?), Err(Refusal::BusOff));
-    assert_eq!(rt;
+    same(
+        rt,
+        try_send(&mut bus, 0, frame(0x123)?),
+        Err(Refusal::BusOff),
+    );
+    same(
+        rt,
         try_attempt(&mut bus, Moment::new(33)?, Verdict::Good)?,
-        None
+        None,
     );
     restart(&mut bus, 0, 40)?;
     gets_error(rt, &mut bus, 0, 40, 0x100, [0; 8])?;
-    assert_eq!(rt; items(&bus, 0)?, [2, 0, 2]);
-    assert_eq!(rt; frames(&bus, 0)?, [3, 0, 0, 3, 0]);
-    assert_eq!(rt; send(&mut bus, 0, 0x123)?, 3);
+    same(rt, items(&bus, 0)?, [2, 0, 2]);
+    same(rt, frames(&bus, 0)?, [3, 0, 0, 3, 0]);
+    same(rt, send(&mut bus, 0, 0x123)?, 3);
     let tried = attempt(&mut bus, 41, Verdict::Good)?;
-    assert_eq!(rt;
+    same(
+        rt,
         (tried.number, tried.class, tried.accepted),
-        (3, Class::Done, IfaceSet(2))
+        (3, Class::Done, IfaceSet(2)),
     );
     Ok(())
 }
@@ -97,18 +105,19 @@ fn last_bit_to_bus_off(rt: &(impl Abort + AllocGlobal)) -> Result<(), Fail> {
     let _ = send(&mut bus, 0, 0x123)?;
     for micros in 1..=32 {
         let tried = attempt(&mut bus, micros, Verdict::LastBit)?;
-        assert_eq!(rt;
+        same(
+            rt,
             (tried.class, tried.accepted),
-            (Class::LastBit, IfaceSet(2))
+            (Class::LastBit, IfaceSet(2)),
         );
-        assert_eq!(rt; tried.off, IfaceSet(if micros == 32 { 1 } else { 0 }));
+        same(rt, tried.off, IfaceSet(if micros == 32 { 1 } else { 0 }));
     }
     for micros in 1..=32 {
         gets_frame(rt, &mut bus, 1, 0, micros)?;
     }
     gets_nothing(rt, &mut bus, 1)?;
-    assert_eq!(rt; items(&bus, 0)?, [0, 0, 0]);
-    assert_eq!(rt; frames(&bus, 0)?, [1, 0, 0, 1, 0]);
+    same(rt, items(&bus, 0)?, [0, 0, 0]);
+    same(rt, frames(&bus, 0)?, [1, 0, 0, 1, 0]);
     Ok(())
 }
 
@@ -134,9 +143,9 @@ fn goes_off(bus: &mut ListBus, socket: u8) -> Result<(), Fail> {
 /// The transmit and receive counts of three interfaces.
 fn counts_are(rt: &impl Abort, bus: &ListBus, expected: [(u16, u16); 3]) -> Result<(), Fail> {
     let [can0, can1, can2] = expected;
-    assert_eq!(rt; counts(bus, 0)?, can0);
-    assert_eq!(rt; counts(bus, 1)?, can1);
-    assert_eq!(rt; counts(bus, 2)?, can2);
+    same(rt, counts(bus, 0)?, can0);
+    same(rt, counts(bus, 1)?, can1);
+    same(rt, counts(bus, 2)?, can2);
     Ok(())
 }
 
@@ -166,8 +175,8 @@ fn fault_at_can2(
 ) -> Result<(), Fail> {
     let _ = send(bus, 0, 0x123)?;
     let tried = attempt(bus, 1, AT_CAN2)?;
-    assert_eq!(rt; tried.class, class);
-    assert_eq!(rt; tried.accepted, accepted);
+    same(rt, tried.class, class);
+    same(rt, tried.accepted, accepted);
     Ok(())
 }
 

@@ -35,23 +35,31 @@ fn filters_are_joined_by_or_and_by_and(rt: HostRuntime) -> Result<(), Fail> {
     Ok(())
 }
 
-/// Loopback is as it was at the send, and filters are as they are at the attempt.
-fn loopback_at_the_send_filters_at_the_attempt(
-    rt: &(impl Abort + AllocGlobal),
-) -> Result<(), Fail> {
-    let mut bus = bus(rt, config(2), &[0, 0, 1])?;
-    let alloc = rt.alloc();
-    set_filters(rt, &mut bus, 2, &FilterSet::none(alloc))?;
+/// Loopback is as it was at the send.
+fn loopback_as_at_the_send(rt: &(impl Abort + AllocGlobal)) -> Result<(), Fail> {
+    let mut bus = bus(rt, config(2), &[0, 0])?;
     set(&mut bus, 0, Opt::Loopback(false))?;
-    assert_eq!(rt; send(&mut bus, 0, 0x123)?, 0);
+    same(rt, send(&mut bus, 0, 0x123)?, 0);
     set(&mut bus, 0, Opt::Loopback(true))?;
-    assert_eq!(rt; send(&mut bus, 0, 0x123)?, 1);
-    set_filters(rt, &mut bus, 2, &FilterSet::all(alloc)?)?;
+    same(rt, send(&mut bus, 0, 0x123)?, 1);
     let _ = attempt(&mut bus, 1, Verdict::Good)?;
     let _ = attempt(&mut bus, 2, Verdict::Good)?;
     gets_frame(rt, &mut bus, 1, 1, 2)?;
-    gets_nothing(rt, &mut bus, 1)?;
-    gets_frame(rt, &mut bus, 2, 0, 1)
+    gets_nothing(rt, &mut bus, 1)
+}
+
+// Filters are as they are at the attempt, whatever they were at the send.
+#[test]
+fn filters_as_at_the_send_are_noticed(rt: HostRuntime) -> Result<(), Fail> {
+    let mut bus = bus(&rt, config(2), &[0, 1, 1])?;
+    let (all, none) = (FilterSet::all(rt.alloc())?, FilterSet::none(rt.alloc()));
+    set_filters(&rt, &mut bus, 1, &none)?;
+    same(&rt, send(&mut bus, 0, 0x123)?, 0);
+    set_filters(&rt, &mut bus, 1, &all)?;
+    set_filters(&rt, &mut bus, 2, &none)?;
+    let _ = attempt(&mut bus, 1, Verdict::Good)?;
+    gets_frame(&rt, &mut bus, 1, 0, 1)?;
+    gets_nothing(&rt, &mut bus, 2)
 }
 
 /// Whether own messages are wanted is asked when the frame is posted.
@@ -61,7 +69,7 @@ fn own_messages_at_the_attempt(rt: &(impl Abort + AllocGlobal), own: bool) -> Re
     set(&mut bus, 0, Opt::RecvOwn(true))?;
     set(&mut bus, 0, Opt::RecvOwn(own))?;
     let _ = attempt(&mut bus, 1, Verdict::Good)?;
-    assert_eq!(rt; receive(&mut bus, 0)?.is_some(), own);
+    same(rt, receive(&mut bus, 0)?.is_some(), own);
     Ok(())
 }
 
@@ -96,7 +104,7 @@ fn faults_are_reported(rt: &(impl Abort + AllocGlobal)) -> Result<(), Fail> {
 
 #[test]
 fn sockets_get_what_they_ask_for(rt: HostRuntime) -> Result<(), Fail> {
-    loopback_at_the_send_filters_at_the_attempt(&rt)?;
+    loopback_as_at_the_send(&rt)?;
     own_messages_at_the_attempt(&rt, true)?;
     own_messages_at_the_attempt(&rt, false)?;
     error_masks(&rt, 0xE0000000, false)?;

@@ -34,8 +34,8 @@ fn lowest_bits_win_the_bus(rt: HostRuntime) -> Result<(), Fail> {
         let _ = try_send(&mut bus, 0, built(on_can0)?)?;
         let _ = try_send(&mut bus, 1, built(on_can1)?)?;
         let tried = attempt(&mut bus, 1, Verdict::Good)?;
-        assert_eq!(rt; tried.winner.number(), winner);
-        assert_eq!(rt; attempts(&bus), 1);
+        same(&rt, tried.winner.number(), winner);
+        same(&rt, attempts(&bus), 1);
     }
     Ok(())
 }
@@ -45,7 +45,7 @@ fn drops_the_newest(rt: &(impl Abort + AllocGlobal)) -> Result<(), Fail> {
     let mut bus = bus(rt, config(2), &[0])?;
     let _ = open(rt, &mut bus, 1, 1)?;
     for number in 0..3 {
-        assert_eq!(rt; send(&mut bus, 0, 0x123)?, number);
+        same(rt, send(&mut bus, 0, 0x123)?, number);
     }
     let _ = attempt(&mut bus, 1, Verdict::Good)?;
     let _ = attempt(&mut bus, 2, Verdict::Good)?;
@@ -53,10 +53,10 @@ fn drops_the_newest(rt: &(impl Abort + AllocGlobal)) -> Result<(), Fail> {
     let _ = attempt(&mut bus, 3, Verdict::Good)?;
     gets_frame(rt, &mut bus, 1, 2, 3)?;
     gets_nothing(rt, &mut bus, 1)?;
-    assert_eq!(rt; items(&bus, 1)?, [2, 1, 2]);
+    same(rt, items(&bus, 1)?, [2, 1, 2]);
     let closed = close(&mut bus, 1)?;
-    assert_eq!(rt; closed.dropped, 1);
-    assert_eq!(rt; closed.unread, 0);
+    same(rt, closed.dropped, 1);
+    same(rt, closed.unread, 0);
     Ok(())
 }
 
@@ -88,15 +88,15 @@ fn drops_the_newest_in_a_run(rt: &(impl Abort + AllocGlobal)) -> Result<(), Fail
         Event::Close(SocketId(1)),
     ];
     let replies = carried_out(rt, &mut bus, &events)?;
-    assert_eq!(rt; received_in(&replies, 7), Some(0));
-    assert_eq!(rt; received_in(&replies, 9), Some(2));
-    assert_eq!(rt; received_in(&replies, 10), None);
+    same(rt, received_in(&replies, 7), Some(0));
+    same(rt, received_in(&replies, 9), Some(2));
+    same(rt, received_in(&replies, 10), None);
     let last = Closed {
         unread: 0,
         dropped: 1,
     };
-    assert_eq!(rt; replies.get(11), Some(&Reply::Closed(last)));
-    assert_eq!(rt; entries(&bus), 12);
+    same(rt, replies.get(11), Some(&Reply::Closed(last)));
+    same(rt, entries(&bus), 12);
     Ok(())
 }
 
@@ -107,32 +107,33 @@ fn refuses_where_the_transmit_queue_is_full(rt: &(impl Abort + AllocGlobal)) -> 
         ..config(1)
     };
     let mut bus = bus(rt, narrow, &[0])?;
-    assert_eq!(rt; send(&mut bus, 0, 0x123)?, 0);
+    same(rt, send(&mut bus, 0, 0x123)?, 0);
     let refused = try_send(&mut bus, 0, frame(0x123)?);
-    assert_eq!(rt; refused, Err(Refusal::NoBuffers));
+    same(rt, refused, Err(Refusal::NoBuffers));
     let _ = attempt(&mut bus, 1, Verdict::Good)?;
-    assert_eq!(rt; send(&mut bus, 0, 0x123)?, 1);
-    assert_eq!(rt; frames(&bus, 0)?, [2, 1, 1, 0, 1]);
+    same(rt, send(&mut bus, 0, 0x123)?, 1);
+    same(rt, frames(&bus, 0)?, [2, 1, 1, 0, 1]);
     Ok(())
 }
 
 /// A frame outlives its socket, and reaches a socket that was opened after it was sent.
 fn frames_outlive_their_socket(rt: &(impl Abort + AllocGlobal), own: bool) -> Result<(), Fail> {
     let mut bus = bus(rt, config(2), &[0])?;
-    assert_eq!(rt; send(&mut bus, 0, 0x123)?, 0);
+    same(rt, send(&mut bus, 0, 0x123)?, 0);
     let closed = close(&mut bus, 0)?;
-    assert_eq!(rt; closed.unread, 0);
-    assert_eq!(rt; closed.dropped, 0);
-    assert_eq!(rt;
+    same(rt, closed.unread, 0);
+    same(rt, closed.dropped, 0);
+    same(
+        rt,
         try_send(&mut bus, 0, frame(0x123)?),
-        Err(Refusal::NoSocket)
+        Err(Refusal::NoSocket),
     );
-    assert_eq!(rt; try_receive(&mut bus, 0), Err(Refusal::NoSocket));
-    assert_eq!(rt; open(rt, &mut bus, 0, 4)?, SocketId(1));
+    same(rt, try_receive(&mut bus, 0), Err(Refusal::NoSocket));
+    same(rt, open(rt, &mut bus, 0, 4)?, SocketId(1));
     set(&mut bus, 1, Opt::RecvOwn(own))?;
     let tried = attempt(&mut bus, 7, Verdict::Good)?;
-    assert_eq!(rt; tried.class, Class::Done);
-    assert_eq!(rt; tried.number, 0);
+    same(rt, tried.class, Class::Done);
+    same(rt, tried.number, 0);
     gets_frame(rt, &mut bus, 1, 0, 7)
 }
 
@@ -145,10 +146,10 @@ fn ends_at_its_limit(rt: &(impl Abort + AllocGlobal)) -> Result<(), Fail> {
     let mut bus = bus(rt, short, &[0])?;
     let _ = send(&mut bus, 0, 0x123)?;
     let _ = attempt(&mut bus, 1, Verdict::Good)?;
-    assert_eq!(rt; try_receive(&mut bus, 0), Err(Refusal::RecordFull));
-    assert_eq!(rt; entries(&bus), 3);
-    assert_eq!(rt; items(&bus, 0)?, [0, 0, 0]);
-    assert_eq!(rt; frames(&bus, 0)?, [1, 1, 0, 0, 0]);
+    same(rt, try_receive(&mut bus, 0), Err(Refusal::RecordFull));
+    same(rt, entries(&bus), 3);
+    same(rt, items(&bus, 0)?, [0, 0, 0]);
+    same(rt, frames(&bus, 0)?, [1, 1, 0, 0, 0]);
     Ok(())
 }
 

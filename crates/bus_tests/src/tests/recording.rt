@@ -128,12 +128,12 @@ fn is_the_record_of_its_entries(rt: &(impl Abort + AllocGlobal)) -> Result<(), F
     let entries = one_frame(rt)?;
     for entry in &entries {
         assert!(rt; has_line(entry));
-        assert_eq!(rt; answered(rt, &mut bus, &entry.event), entry.reply);
+        same(rt, answered(rt, &mut bus, &entry.event), entry.reply);
     }
     let record = made_again(config(2), entries)?;
     let of_bus = bus.into_record();
-    assert_eq!(rt; made_with(&record), made_with(&of_bus));
-    assert_eq!(rt; (count(&record), count(&of_bus)), (7, 7));
+    same(rt, made_with(&record), made_with(&of_bus));
+    same(rt, (count(&record), count(&of_bus)), (7, 7));
     assert!(rt; same_replies(&record, &of_bus));
     Ok(())
 }
@@ -155,12 +155,16 @@ fn refuses_replies_that_do_not_fit(rt: &(impl Abort + AllocGlobal)) -> Result<()
     assert!(rt; stands(rt, Event::Receive(SocketId(0)), shut)?);
     for number in 0..2 {
         let item = Reply::Received(Some(error_item(number)?));
-        assert_eq!(rt; stands(rt, Event::Receive(SocketId(0)), item)?, number == 0);
+        same(
+            rt,
+            stands(rt, Event::Receive(SocketId(0)), item)?,
+            number == 0,
+        );
     }
     for micros in 1..3 {
         let attempt = Event::Attempt(Moment::new(1)?, Verdict::Good);
         let tried = Reply::Tried(tried_at(micros)?);
-        assert_eq!(rt; stands(rt, attempt, tried)?, micros == 1);
+        same(rt, stands(rt, attempt, tried)?, micros == 1);
     }
     Ok(())
 }
