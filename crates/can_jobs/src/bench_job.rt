@@ -7,7 +7,7 @@ use can_audit::write_record;
 use can_bus::{BusConfig, Record};
 use can_fault::{FaultSource, Perfect};
 use can_frame::{Iface, IfaceSet, Names, NamesError};
-use can_session::{BenchConfig, BenchFault, bench};
+use can_session::{BenchConfig, BenchFault, Lines, bench_lines};
 use std::alloc::{AllocError, Global};
 use std::fs;
 use std::io::{BufWriter, Error, ErrorKind, Read, Write};
@@ -65,13 +65,24 @@ fn run_on<'a, F: FaultSource + Drop, R: Read + Drop, W: Write>(
         rx_capacity: options.rx_capacity,
     };
     let mut input = Recent::new(alloc, input);
-    match bench(alloc, config, &mut input, output) {
+    match run_over(alloc, config, &mut input, output) {
         Ok(record) => Ok(record),
         Err(fault) => {
             let notes = bench_note(alloc, fault, &options, &input);
             Err(Failure::with(alloc, Fault::Bench(fault), notes))
         }
     }
+}
+
+// Runs the bench over the lines of an input.
+fn run_over<F: FaultSource + Drop, R: Read + Drop, W: Write>(
+    alloc: Global,
+    config: BenchConfig<F>,
+    input: R,
+    output: &mut W,
+) -> Result<Record, BenchFault> {
+    let mut lines = Lines::new(alloc, input).map_err(|_| BenchFault::NoMemory)?;
+    bench_lines(alloc, config, &mut lines, output)
 }
 
 // What is told of a fault of the bench.
