@@ -5,11 +5,11 @@ use Rattle.can_bus.specs.Journal.{Kept}
 use Rattle.can_bus.specs.Legal.{IsLegal}
 use Rattle.can_session.specs.declared.bench_run.BenchFault.{BenchFault}
 use Rattle.can_session.specs.declared.bench_run.BenchFault.TheVariants.{BadConfig, BadLine, InputTooLong, Read, Write, NoMemory}
-use Rattle.can_session.specs.Runs.{IsBench, IsRecordOf, Ends, at_start}
+use Rattle.can_session.specs.Runs.{IsBench, at_start}
 use Rattle.can_jobs.specs.declared.options.BenchOptions.{BenchOptions}
 use Rattle.can_jobs.specs.declared.faults.Fault.{Fault}
 use Rattle.can_jobs.specs.declared.faults.Fault.TheVariants as fault
-use Rattle.can_jobs.specs.Benched.{AreVerdicts, IsRun, StopsBy, begun, config_of}
+use Rattle.can_jobs.specs.Benched.{AreVerdicts, EndsOver, IsRun, StopsBy, begun, config_of}
 
 -- A run of the bench over the configuration that options describe.
 
@@ -17,11 +17,11 @@ use Rattle.can_jobs.specs.Benched.{AreVerdicts, IsRun, StopsBy, begun, config_of
 pub record Answered {W : Type 0} (contents : W → Option (List ℕ)) (c : BusConfig) (capacity : ℕ) (names : List (List ℕ)) (verdicts : VerdictMap) (input : Option (List ℕ)) (out : W) (r : Result Kept BenchFault) (new : W) : Type 0 where
   pub bad : (r ≡ Err BadConfig) ↔ (IsBench names c capacity → ⊥)
   pub untouched : r ≡ Err BadConfig → new ≡ out
-  pub runs : r ≢ Err BadConfig → Ends IsRecordOf contents verdicts input (at_start names c capacity) out r new
+  pub runs : r ≢ Err BadConfig → EndsOver contents verdicts input (at_start names c capacity) out r new
 
 -- a run that came to its end
-pub ended : {W : Type 0} (contents : W → Option (List ℕ)) (c : BusConfig) (o : BenchOptions) (names : List (List ℕ)) (verdicts : VerdictMap) (input : Option (List ℕ)) (out new : W) (r : Kept) → c ≡ config_of o (length names) → Answered contents c o.rx_capacity names verdicts input out (Ok r) new → Ends IsRecordOf contents verdicts input (begun o names) out (Ok r) new
-ended contents c o names verdicts input out new r is a = subst (λ (k : BusConfig). Ends IsRecordOf contents verdicts input (at_start names k o.rx_capacity) out (Ok r) new) is (a.runs (search rules))
+pub ended : {W : Type 0} (contents : W → Option (List ℕ)) (c : BusConfig) (o : BenchOptions) (names : List (List ℕ)) (verdicts : VerdictMap) (input : Option (List ℕ)) (out new : W) (r : Kept) → c ≡ config_of o (length names) → Answered contents c o.rx_capacity names verdicts input out (Ok r) new → EndsOver contents verdicts input (begun o names) out (Ok r) new
+ended contents c o names verdicts input out new r is a = subst (λ (k : BusConfig). EndsOver contents verdicts input (at_start names k o.rx_capacity) out (Ok r) new) is (a.runs (search rules))
 
 stops : {W : Type 0} (contents : W → Option (List ℕ)) (o : BenchOptions) (names : List (List ℕ)) (verdicts : VerdictMap) (input : Option (List ℕ)) (out new : W) (why : BenchFault) → Answered contents (config_of o (length names)) o.rx_capacity names verdicts input out (Err why) new → StopsBy contents o names verdicts input out (fault.Bench why) new
 stops contents o names verdicts input out new BadConfig a = (a.bad.0 refl, a.untouched refl)
@@ -38,6 +38,6 @@ stopped contents c o names verdicts input out new why f is told a =
     (stops contents o names verdicts input out new why (subst (λ (k : BusConfig). Answered contents k o.rx_capacity names verdicts input out (Err why) new) is a))
 
 -- the same with the verdicts of the script that the options name
-pub ran : {W : Type 0} (E : Type 0) (contents : W → Option (List ℕ)) (o : BenchOptions) (names : List (List ℕ)) (verdicts : VerdictMap) (input : Option (List ℕ)) (out new : W) (r : Result Kept E) → AreVerdicts o.script names verdicts → IfOk r (λ k. Ends IsRecordOf contents verdicts input (begun o names) out (Ok k) new) → IfOk r (λ k. IsLegal k.config k.history) → IfOk r (λ k. IsRun contents o names input out k new)
+pub ran : {W : Type 0} (E : Type 0) (contents : W → Option (List ℕ)) (o : BenchOptions) (names : List (List ℕ)) (verdicts : VerdictMap) (input : Option (List ℕ)) (out new : W) (r : Result Kept E) → AreVerdicts o.script names verdicts → IfOk r (λ k. EndsOver contents verdicts input (begun o names) out (Ok k) new) → IfOk r (λ k. IsLegal k.config k.history) → IfOk r (λ k. IsRun contents o names input out k new)
 ran E contents o names verdicts input out new (Ok k) scripted ends legal = record { verdicts = verdicts; scripted = scripted; ends = ends; legal = legal }
 ran E contents o names verdicts input out new (Err why) scripted ends legal = tt

@@ -1,4 +1,4 @@
-use Rattle.std.specs.Prelude.{◌≡◌, ℕ, ◌-◌, ◌^◌, List, length, Option, Some, None, Ok, Err, if◌then◌else◌}
+use Rattle.std.specs.Prelude.{◌≡◌, ℕ, ◌-◌, ◌^◌, List, length, Option, Some, None, Result, Ok, Err, if◌then◌else◌}
 use Rattle.std.specs.Io.KnownBytes.{Keeps}
 use Rattle.can_frame.specs.declared.ifaces.IfaceSet.{IfaceSet}
 use Rattle.can_frame.specs.Sets.{no_ifaces}
@@ -8,7 +8,9 @@ use Rattle.can_fault.specs.Scripts.{Reads as Spells}
 use Rattle.can_bus.specs.declared.events.BusConfig.{BusConfig}
 use Rattle.can_bus.specs.Journal.{Kept}
 use Rattle.can_bus.specs.Legal.{IsLegal}
+use Rattle.can_session.specs.declared.bench_run.BenchFault.{BenchFault}
 use Rattle.can_session.specs.declared.bench_run.BenchFault.TheVariants.{BadConfig}
+use Rattle.can_session.specs.Lines.{Input}
 use Rattle.can_session.specs.Benches.{BenchState}
 use Rattle.can_session.specs.Runs.{IsBench, IsRecordOf, Ends, at_start}
 use Rattle.can_jobs.specs.declared.options.BenchOptions.{BenchOptions}
@@ -29,10 +31,14 @@ config_of o n = record { ifaces = n; ack = o.ack; reporting = if o.is_reporting 
 abbrev pub begun : BenchOptions → List (List ℕ) → BenchState
 begun o names = at_start names (config_of o (length names)) o.rx_capacity
 
+-- a run over the bytes of a reader ends so, wherever it leaves the reader
+abbrev pub EndsOver : {W : Type 0} → (W → Option (List ℕ)) → VerdictMap → Option (List ℕ) → BenchState → W → Result Kept BenchFault → W → Type 0
+EndsOver contents verdicts input at old r new = (now : Input) × Ends IsRecordOf contents verdicts input at old r now new
+
 -- how a run that options describe ends in a fault: nothing was read or written where a number is outside its limits
 abbrev pub StopsBy : {W : Type 0} → (W → Option (List ℕ)) → BenchOptions → List (List ℕ) → VerdictMap → Option (List ℕ) → W → Fault → W → Type 0
 StopsBy contents o names verdicts input out (fault.Bench BadConfig) new = (IsBench names (config_of o (length names)) o.rx_capacity → ⊥) × (new ≡ out)
-StopsBy contents o names verdicts input out (fault.Bench why) new = Ends IsRecordOf contents verdicts input (begun o names) out (Err why) new
+StopsBy contents o names verdicts input out (fault.Bench why) new = EndsOver contents verdicts input (begun o names) out (Err why) new
 StopsBy contents o names verdicts input out _ new = ⊥
 
 -- the verdicts of a run: those that some text spells where a script is named, else none
@@ -44,7 +50,7 @@ AreVerdicts (Some path) names verdicts = (text : List ℕ) × Spells names text 
 pub record IsRun {W : Type 0} (contents : W → Option (List ℕ)) (o : BenchOptions) (names : List (List ℕ)) (input : Option (List ℕ)) (old : W) (r : Kept) (new : W) : Type 0 where
   pub verdicts : VerdictMap
   pub scripted : AreVerdicts o.script names verdicts
-  pub ends : Ends IsRecordOf contents verdicts input (begun o names) old (Ok r) new
+  pub ends : EndsOver contents verdicts input (begun o names) old (Ok r) new
   pub legal : IsLegal r.config r.history
 
 -- a run that options describe came to its end, and all that it put out was written

@@ -3,8 +3,7 @@ ghost use Rattle.std.specs.Io.KnownBytes.{Appends};
 ghost use Rattle.can_frame.specs.Names.{AreNames, names_in};
 ghost use Rattle.can_bus.specs.Legal.{IsLegal};
 ghost use Rattle.can_audit.specs.Spelling.{record_spelling};
-ghost use Rattle.can_session.specs.Runs.{Ends, IsRecordOf};
-ghost use Rattle.can_jobs.specs.Benched.{IsBenched, IsRun, StopsBy, begun, config_of};
+ghost use Rattle.can_jobs.specs.Benched.{EndsOver, IsBenched, IsRun, StopsBy, begun, config_of};
 ghost use Rattle.can_jobs.specs.declared.faults.Fault.TheVariants as fault;
 ghost use Rattle.can_jobs.specs.Benched.{first_ifaces as first_ifaces_of};
 
@@ -88,7 +87,7 @@ fn run_on<'a, F: FaultSource + Drop, R: Read + Drop, W: Write>(
     input: R,
     output: &mut W,
 ) -> Result<Record, Failure<'a>>
-    ensures ends { IfOk result (λ r. Ends IsRecordOf W.contents (F.verdicts script) (R.remaining input) (begun options.entry names) output.old (Ok r) output.new) }
+    ensures ends { IfOk result (λ r. EndsOver W.contents (F.verdicts script) (R.remaining input) (begun options.entry names) output.old (Ok r) output.new) }
     ensures legal { IfOk result (λ r. IsLegal r.config r.history) }
     ensures fault { IfErr result (λ failure. StopsBy W.contents options.entry names (F.verdicts script) (R.remaining input) output.old failure.fault output.new) }
 {

@@ -98,6 +98,7 @@ pub fn bench_lines<F: FaultSource + Drop, R: Read + Drop, W: Write>(
     ensures untouched { result ≡ Err BenchFault.BadConfig → (out.new ≡ out.old) × (lines.new ≡ lines.old) }
     ensures runs { result ≢ Err BenchFault.BadConfig → Ends IsRecordOf W.contents (F.verdicts config.script) lines.old.coming (at_start config.names config.config config.rx_capacity) out.old result lines.new out.new }
     ensures legal { IfOk result (λ r. IsLegal r.config r.history) }
+    ensures headline { IfOk result (λ r. Headline r.config r.history) }
 {
     let BenchConfig {
         names,

@@ -1,13 +1,12 @@
 use Rattle.std.proofs.Common.{Ok, subst}
-use Rattle.can_session.specs.Runs.{Ends, IsRecordOf}
-use Rattle.can_jobs.specs.Benched.{StopsBy, begun}
+use Rattle.can_jobs.specs.Benched.{EndsOver, StopsBy, begun}
 use Rattle.can_jobs.proofs.Benching.{ended, stopped}
 use Rattle.can_jobs.proofs.bench_job.run_on.Goals as goal
 
 pub returns-in-Ok-clause-ends : goal.returns-in-Ok-clause-ends
 returns-in-Ok-clause-ends g c =
     let e = c.in-Ok.ensures in
-    subst (λ x. Ends IsRecordOf g.W.Write.contents (g.F.FaultSource.verdicts c.args.script) (g.R.Read.remaining x) (begun c.args.options c.args.names) c.args.output.now (Ok c.in-Ok.record) c.bench.new.out) c.new-input.ensures
+    subst (λ x. EndsOver g.W.Write.contents (g.F.FaultSource.verdicts c.args.script) (g.R.Read.remaining x) (begun c.args.options c.args.names) c.args.output.now (Ok c.in-Ok.record) c.bench.new.out) c.new-input.ensures
     (ended g.W.Write.contents c.bus_config.result c.args.options c.args.names _ _ c.args.output.now c.bench.new.out c.in-Ok.record c.bus_config.ensures (record { bad = e.bad; untouched = e.untouched; runs = e.runs }))
 
 pub returns-clause-fault : goal.returns-clause-fault
