@@ -8,7 +8,7 @@ use Rattle.can_audit.specs.Audits.{IsFirstWrong}
 use Rattle.can_jobs.specs.declared.faults.Fault.{Fault}
 use Rattle.can_jobs.specs.declared.faults.Fault.TheVariants as fault
 
--- What an audit of a text answers.
+-- What an audit of a text answers (own choice).
 
 -- the line that tells how many entries a legal record has
 abbrev pub entries_line : ℕ → List ℕ

@@ -17,7 +17,7 @@ use Rattle.can_jobs.specs.declared.options.BenchOptions.{BenchOptions}
 use Rattle.can_jobs.specs.declared.faults.Fault.{Fault}
 use Rattle.can_jobs.specs.declared.faults.Fault.TheVariants as fault
 
--- What the options of a bench ask for.
+-- What the options of a bench ask for (own choice).
 
 -- the set of the interfaces below n
 abbrev pub first_ifaces : ℕ → IfaceSet

@@ -7,9 +7,9 @@ use Rattle.clap.specs.declared.parser.matches.ArgMatches.{ArgMatches}
 use Rattle.clap.specs.Words.{first_value, found_of, one_text}
 use Rattle.can_jobs.specs.declared.options.BenchOptions.{BenchOptions}
 
--- The two parts of a bus on the command line.
+-- The words of a bench: the two parts of a bus, and the options that clap parsed (own choice).
 
--- the byte that stands between them: @
+-- the byte that parts the names of a bus from its script: @
 abbrev pub is_at : ℕ → Bool
 is_at b = b == 64
 

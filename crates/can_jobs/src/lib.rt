@@ -2,8 +2,9 @@
 //!
 //! `read_options` reads the words; `run_bench` and `audit_file` are the two jobs, `files` reads what they need, and
 //! `notes` has what is told behind a fault's text. The bench itself is `can_session::bench`, the record's text and its
-//! audit are can_audit's: what they write and answer is proved there. What is proved here: no words, file or input
-//! make a function fail or run on for ever.
+//! audit are can_audit's: what they write and answer is proved there. What is proved here: the bench runs on the
+//! configuration that its options describe, an audit writes `ok N entries` only of a legal record's text, and no words,
+//! file or input make a function fail or run on for ever. What a file holds is not known to any contract.
 #![tactic(auto)]
 
 mod audit_job;
@@ -16,7 +17,7 @@ mod recent;
 mod shown;
 mod wrong_entries;
 
-pub use audit_job::audit_file;
+pub use audit_job::{audit_file, audit_text};
 pub use bench_job::run_bench;
 pub use faults::{Failure, Fault};
 pub use files::{OUTPUT, read_text, write_failure};
