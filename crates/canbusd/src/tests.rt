@@ -1,5 +1,6 @@
 mod buses;
 mod command_lines;
+mod limits;
 mod lines;
 mod records;
 mod scripts;

@@ -96,6 +96,11 @@ fn tells_what_is_wrong_with_records(rt: HostRuntime) -> Result<(), Fail> {
         ),
         (
             "end 7\n",
+            "end 7",
+            "canbusd: line 10: bad line\n  damaged.rec:10: end 7\n  a line is EVENT = REPLY, and the last is end COUNT; each ends with LF\n",
+        ),
+        (
+            "end 7\n",
             "end 7\n\n",
             "canbusd: line 11: bad line\n  damaged.rec:11: \n  a line is EVENT = REPLY, and the last is end COUNT; each ends with LF\n",
         ),

@@ -29,6 +29,21 @@ fn tells_faults(rt: HostRuntime) -> Result<(), Fail> {
     Ok(())
 }
 
+// What is written is kept until the end, so it is only there that the output is found closed.
+#[test]
+fn makes_no_record_where_the_last_flush_fails(rt: HostRuntime) -> Result<(), Fail> {
+    let alloc = rt.alloc();
+    let words = words_of(alloc, "canbusd bench --record late.rec can0")?;
+    let mut errors = Vec::new(alloc);
+    let input = b"session 1\n".as_slice();
+    let status = run_words(&rt, alloc, &words, input, Closed, &mut errors);
+    assert!(rt; status == 1);
+    let told =
+        "canbusd: cannot open late.rec\n  late.rec: No such file or directory (os error 2)\n";
+    let told = ("", told, 1);
+    runs(&rt, alloc, "canbusd audit late.rec", b"".as_slice(), told)
+}
+
 #[test]
 fn reads_files_in_so_many_reads(rt: HostRuntime) -> Result<(), Fail> {
     let alloc = rt.alloc();
