@@ -1,6 +1,6 @@
 // A record with as many entries as its limit.
 
-ghost use Rattle.std.specs.Prelude.{◌≡◌};
+ghost use Rattle.std.specs.Prelude.{◌≡◌, ◌≤◌};
 
 use super::*;
 use can_bus::{IfaceStats, Refusal, SocketStats};
@@ -12,6 +12,8 @@ use std::thread::{Threads, join};
 
 const FULL: StationRefusal = StationRefusal::Bus(Refusal::RecordFull);
 
+type Party<'s, N, R> = Caller<'s, N, Perfect, Open, R>;
+
 fn small() -> BusConfig {
     BusConfig {
         limit: 3,
@@ -21,7 +23,7 @@ fn small() -> BusConfig {
 
 /// The counts of socket 0 and of can0.
 fn counts<N: RollName + MeterName, R: Wait + Abort>(
-    caller: &Caller<'_, N, Perfect, Open, R>,
+    caller: &Party<'_, N, R>,
 ) -> (Option<SocketStats>, Option<IfaceStats>) {
     let can0 = iface(caller.rt, 0);
     caller.station.stats(caller.rt, SocketId(0), can0)
@@ -45,26 +47,31 @@ fn one_caller<N: RollName + MeterName, R: Wait + Abort>(rt: &R, alloc: Global, b
     assert!(rt; settled.history.len() == 3);
 }
 
-/// Two sends, and how many of them found the record full.
+/// Two sends, and how many of them found the record full. The list of calls does not grow by those.
 fn two_sends<N: RollName + MeterName, R: Wait + Abort>(
-    mut caller: Caller<'_, N, Perfect, Open, R>,
+    mut caller: Party<'_, N, R>,
     socket: SocketId,
 ) -> (Pass<N>, usize) {
-    let before = caller.calls();
-    let mut refused = 0;
-    for _ in 0..2 {
-        if caller.send(socket, 0x123) == Err(FULL) {
-            refused += 1;
-        }
-    }
-    assert!(caller.rt; before <= 1 && caller.calls() == before + 2 - refused);
+    let refused = count_if_refused(&mut caller, socket) + count_if_refused(&mut caller, socket);
     (caller.leave(), refused)
 }
 
+/// 1 if a send found the record full and left the list of calls as it was, 0 if it became one more of them.
+fn count_if_refused<N: RollName + MeterName, R: Wait + Abort>(
+    caller: &mut Party<'_, N, R>,
+    socket: SocketId,
+) -> usize
+    ensures { result ≤ 1 }
+{
+    let before = caller.calls();
+    let is_refused = caller.send(socket, 0x123) == Err(FULL);
+    let refused = if is_refused { 1 } else { 0 };
+    assert!(caller.rt; caller.calls().checked_sub(before) == Some(1 - refused));
+    refused
+}
+
 /// A step finds the record full.
-fn finds_it_full<N: RollName + MeterName, R: Wait + Abort>(
-    mut caller: Caller<'_, N, Perfect, Open, R>,
-) {
+fn finds_it_full<N: RollName + MeterName, R: Wait + Abort>(mut caller: Party<'_, N, R>) {
     assert!(caller.rt; caller.step(1) == Err(FULL));
     assert!(caller.rt; caller.calls() == 0);
 }

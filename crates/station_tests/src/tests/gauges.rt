@@ -7,6 +7,7 @@ use can_fault::Perfect;
 use can_station::{Open, WrongStation};
 use std::marker::Brand;
 use std::test::Fail;
+use std::thread::{Threads, join};
 
 /// A fault in the last bit, and the good attempt after it.
 fn last_bit<N: RollName + MeterName, R: Wait + Abort>(rt: &R, alloc: Global, blanks: Blanks)
@@ -30,28 +31,54 @@ fn last_bit<N: RollName + MeterName, R: Wait + Abort>(rt: &R, alloc: Global, bla
     assert!(rt; settled.history.len() == 4);
 }
 
-/// Nobody acknowledges a frame of can0, 17 times: it becomes error passive, and its count then stays.
-fn nobody_acknowledges<N: RollName + MeterName, R: Wait + Abort>(
+/// A bus of can0 alone, where nobody acknowledges.
+fn alone() -> BusConfig {
+    BusConfig {
+        ifaces: 1,
+        ack: AckMode::Peers,
+        ..config()
+    }
+}
+
+/// 17 attempts of one frame of can0: it becomes error passive at the 16th, and its count then stays.
+fn fails_17_times<N: RollName + MeterName, R: Wait + Abort>(
+    mut caller: Caller<'_, N, Perfect, Open, R>,
+) -> Pass<N> {
+    let socket = caller.open(0, 4);
+    assert!(caller.rt; caller.send(socket, 0x123) == Ok(0));
+    for micros in 1..=17 {
+        assert!(caller.rt; matches!(caller.step(micros), Ok(Some(_))));
+    }
+    caller.leave()
+}
+
+/// Reads often: each reading is 8 for each attempt behind the open and the send, and none goes back.
+fn reads_often<N: MeterName, R: Abort>(rt: &R, mut gauge: Gauge<N>) -> Gauge<N> {
+    let mut last = 0;
+    for _ in 0..1000 {
+        let (at, transmit, receive) = reading(rt, &mut gauge, 0);
+        assert!(rt; u32::from(transmit) == at.saturating_sub(2).wrapping_mul(8) && receive == 0);
+        assert!(rt; at >= last);
+        last = at;
+    }
+    gauge
+}
+
+/// One thread reads while another drives can0 to error passive.
+fn two_sides<N: RollName + MeterName + Send + Sync, R: Threads + Wait + Abort + Sync>(
     rt: &R,
     alloc: Global,
     blanks: Blanks,
 )
     requires { (blanks.roll ≡ N.roll 0) × (blanks.meter ≡ N.meter 0) }
 {
-    let alone = BusConfig {
-        ifaces: 1,
-        ack: AckMode::Peers,
-        ..config()
-    };
-    let station = made::<N, _, _, _>(rt, alloc, blanks, 0, alone, Perfect, Open);
-    let mut gauge = gauge(rt, &station);
-    let mut caller = entered(rt, alloc, &station);
-    let socket = caller.open(0, 4);
-    assert!(rt; caller.send(socket, 0x123) == Ok(0));
-    for micros in 1..=17 {
-        assert!(rt; matches!(caller.step(micros), Ok(Some(_))));
-    }
+    let station = made::<N, _, _, _>(rt, alloc, blanks, 0, alone(), Perfect, Open);
+    let gauge = gauge(rt, &station);
+    let caller = entered(rt, alloc, &station);
+    let (pass, mut gauge) = join(rt, || fails_17_times(caller), || reads_often(rt, gauge));
     assert!(rt; reading(rt, &mut gauge, 0) == (18, 128, 0));
+    let settled = settled(rt, station, one(rt, alloc, pass), one(rt, alloc, gauge));
+    assert!(rt; settled.history.len() == 19);
 }
 
 /// A station does not settle with a gauge of another.
@@ -79,9 +106,9 @@ fn a_gauge_reads_the_counters(rt: HostRuntime) -> Result<(), Fail> {
 }
 
 #[test]
-fn a_gauge_reads_an_error_passive_interface(rt: HostRuntime) -> Result<(), Fail> {
+fn a_gauge_reads_beside_the_driver(rt: HostRuntime) -> Result<(), Fail> {
     let blanks = Blanks::new(rt.alloc(), 1)?;
-    nobody_acknowledges::<Brand, _>(&rt, rt.alloc(), blanks);
+    two_sides::<Brand, _>(&rt, rt.alloc(), blanks);
     Ok(())
 }
 

@@ -53,25 +53,26 @@ fn receives<N: RollName + MeterName, R: Wait + Abort>(mut caller: Party<'_, N, R
     caller.leave()
 }
 
-/// The four callers, each on a thread of its own.
-fn run_all<N: RollName + MeterName + Send + Sync, R: Threads + Wait + Abort + Sync>(
+/// The two senders side by side.
+fn send_all<N: RollName + MeterName + Send + Sync, R: Threads + Wait + Abort + Sync>(
     rt: &R,
-    alloc: Global,
-    [first, second, driver, receiver]: [Party<'_, N, R>; 4],
-) -> Vec<Pass<N>> {
-    let (senders, others) = join(
+    first: Party<'_, N, R>,
+    second: Party<'_, N, R>,
+) -> (Pass<N>, Pass<N>) {
+    join(
         rt,
-        || join(
-            rt,
-            || sends(first, SocketId(0)),
-            || sends(second, SocketId(1)),
-        ),
-        || join(rt, || drives(driver), || receives(receiver)),
-    );
-    let mut passes = two(rt, alloc, senders.0, senders.1);
-    assert!(rt; passes.push(others.0).is_ok());
-    assert!(rt; passes.push(others.1).is_ok());
-    passes
+        || sends(first, SocketId(0)),
+        || sends(second, SocketId(1)),
+    )
+}
+
+/// The driver and the receiver side by side.
+fn deliver_all<N: RollName + MeterName + Send + Sync, R: Threads + Wait + Abort + Sync>(
+    rt: &R,
+    driver: Party<'_, N, R>,
+    receiver: Party<'_, N, R>,
+) -> (Pass<N>, Pass<N>) {
+    join(rt, || drives(driver), || receives(receiver))
 }
 
 /// The frames sent on these sockets are numbered in order, from 0. How many there are.
@@ -105,7 +106,14 @@ fn two_senders<N: RollName + MeterName + Send + Sync, R: Threads + Wait + Abort 
     assert!(rt; first.open(0, 1) == SocketId(0));
     assert!(rt; second.open(second_iface, 1) == SocketId(1));
     assert!(rt; receiver.open(2, 200) == RECEIVER);
-    let passes = run_all(rt, alloc, [first, second, driver, receiver]);
+    let (sent, delivered) = join(
+        rt,
+        || send_all(rt, first, second),
+        || deliver_all(rt, driver, receiver),
+    );
+    let mut passes = two(rt, alloc, sent.0, sent.1);
+    assert!(rt; passes.push(delivered.0).is_ok());
+    assert!(rt; passes.push(delivered.1).is_ok());
     let settled = settled(rt, station, passes, Vec::new(alloc));
     assert!(rt; settled.passes == 4);
     assert!(rt; settled.history.config() == long());

@@ -81,19 +81,21 @@ fn wait<N: RollName + MeterName, R: Wait>(
     wake
 }
 
-/// Acts once another thread begins to wait. If this does not end its wait, a stop does.
+/// Acts once another thread begins to wait. Whether this ends its wait; if not, a stop does.
 fn wake_up<N: RollName + MeterName, R: Wait + Abort + Clock>(
     caller: &mut Party<'_, N, R>,
     ending: Act,
     begun: &AtomicU64,
     ended: &AtomicU64,
-) {
+) -> bool {
     let rt = caller.rt;
-    let _ = is_raised(rt, begun);
+    assert!(rt; is_raised(rt, begun));
     make_call(caller, ending);
-    if !is_raised(rt, ended) {
+    let is_woken = is_raised(rt, ended);
+    if !is_woken {
         caller.station.stop(rt);
     }
+    is_woken
 }
 
 /// How a thread's wait ends, where another thread acts.
@@ -105,11 +107,12 @@ fn woken<N: RollName + MeterName + Send + Sync, R: Threads + Wait + Abort + Cloc
 ) -> Wake {
     let station = caller.station;
     let (begun, ended) = (AtomicU64::new(0), AtomicU64::new(0));
-    let (_, wake) = join(
+    let (is_woken, wake) = join(
         rt,
         || wake_up(caller, ending, &begun, &ended),
         || wait(rt, station, awaited, &begun, &ended),
     );
+    assert!(rt; is_woken);
     wake
 }
 
