@@ -1,0 +1,219 @@
+ghost use Rattle.std.specs.Prelude.{◌≡◌};
+
+mod full_records;
+mod gates;
+mod gauges;
+mod passes;
+mod threads;
+mod twins;
+mod waits;
+
+use can_attempt::AckMode;
+use can_bus::{BusConfig, Closed, Opt, Received, SocketId, Tried};
+use can_fault::{FaultSource, Script};
+use can_frame::{CanId, Frame, Iface, IfaceSet, Moment, Names};
+use can_meter::{Gauge, MeterName, Status};
+use can_roll::RollName;
+use can_station::{Blanks, Gate, Pass, Settled, Station, StationRefusal};
+use std::alloc::Global;
+use std::process::Abort;
+use std::sync::Wait;
+
+/// A bus as it is by default, of two interfaces.
+fn config() -> BusConfig {
+    BusConfig {
+        ifaces: 2,
+        ack: AckMode::Always,
+        reporting: IfaceSet::empty(),
+        tx_capacity: 10,
+        limit: 1000,
+    }
+}
+
+fn iface<R: Abort>(rt: &R, number: u8) -> Iface {
+    let Some(iface) = Iface::new(number) else {
+        panic!(rt; "no interface");
+    };
+    iface
+}
+
+fn moment<R: Abort>(rt: &R, micros: u64) -> Moment {
+    let Ok(moment) = Moment::new(micros) else {
+        panic!(rt; "no moment");
+    };
+    moment
+}
+
+/// A frame with this 11-bit identifier and no data.
+fn frame<R: Abort>(rt: &R, number: u16) -> Frame {
+    let Ok(id) = CanId::standard(number) else {
+        panic!(rt; "no identifier");
+    };
+    let Ok(frame) = Frame::data(id, &[]) else {
+        panic!(rt; "no frame");
+    };
+    frame
+}
+
+/// The script that a text spells, for a bus of can0, can1 and can2.
+fn script<R: Abort>(rt: &R, alloc: Global, text: &str) -> Script {
+    let Ok(names) = Names::read(alloc, "can0,can1,can2") else {
+        panic!(rt; "no names");
+    };
+    let Ok(script) = Script::read(alloc, text, &names) else {
+        panic!(rt; "no script");
+    };
+    script
+}
+
+// The calls, without their clauses: a test runs them, and its proof has nothing to say of them.
+
+fn made<N: RollName + MeterName, F: FaultSource + Drop, G: Gate + Drop, R: Abort>(
+    rt: &R,
+    alloc: Global,
+    blanks: Blanks,
+    number: u8,
+    config: BusConfig,
+    source: F,
+    gate: G,
+) -> Station<N, F, G>
+    requires roll { blanks.roll ≡ N.roll number }
+    requires meter { blanks.meter ≡ N.meter number }
+{
+    let Ok(station) = Station::new(alloc, blanks, number, config, source, gate) else {
+        panic!(rt; "no station");
+    };
+    station
+}
+
+fn entered<'s, N: RollName + MeterName, F: FaultSource + Drop, G: Gate + Drop, R: Wait + Abort>(
+    rt: &'s R,
+    alloc: Global,
+    station: &'s Station<N, F, G>,
+) -> Caller<'s, N, F, G, R> {
+    let Ok(pass) = station.enter(rt, alloc) else {
+        panic!(rt; "no pass");
+    };
+    Caller {
+        rt,
+        alloc,
+        station,
+        pass,
+    }
+}
+
+/// A caller of a station, with its pass.
+#[derive(Drop)]
+struct Caller<'s, N: RollName + MeterName, F: FaultSource + Drop, G: Gate + Drop, R: Wait + Abort> {
+    rt: &'s R,
+    alloc: Global,
+    station: &'s Station<N, F, G>,
+    pass: Pass<N>,
+}
+
+impl<N: RollName + MeterName, F: FaultSource + Drop, G: Gate + Drop, R: Wait + Abort> Caller<
+    '_,
+    N,
+    F,
+    G,
+    R,
+> {
+    fn open(&mut self, number: u8, capacity: u32) -> SocketId {
+        let iface = iface(self.rt, number);
+        let opened = self
+            .station
+            .open(self.rt, self.alloc, &mut self.pass, iface, capacity);
+        let Ok(socket) = opened else {
+            panic!(self.rt; "no socket");
+        };
+        socket
+    }
+
+    fn send(&mut self, socket: SocketId, id: u16) -> Result<u64, StationRefusal> {
+        let frame = frame(self.rt, id);
+        self.station
+            .send(self.rt, self.alloc, &mut self.pass, socket, frame)
+    }
+
+    fn receive(&mut self, socket: SocketId) -> Result<Option<Received>, StationRefusal> {
+        self.station
+            .receive(self.rt, self.alloc, &mut self.pass, socket)
+    }
+
+    fn step(&mut self, micros: u64) -> Result<Option<Tried>, StationRefusal> {
+        let moment = moment(self.rt, micros);
+        self.station
+            .step(self.rt, self.alloc, &mut self.pass, moment)
+    }
+
+    fn close(&mut self, socket: SocketId) -> Result<Closed, StationRefusal> {
+        self.station
+            .close(self.rt, self.alloc, &mut self.pass, socket)
+    }
+
+    fn set_option(&mut self, socket: SocketId, option: Opt) -> Result<(), StationRefusal> {
+        self.station
+            .set_option(self.rt, self.alloc, &mut self.pass, socket, option)
+    }
+
+    fn restart(&mut self, number: u8, micros: u64) -> Result<(), StationRefusal> {
+        let (iface, moment) = (iface(self.rt, number), moment(self.rt, micros));
+        self.station
+            .restart(self.rt, self.alloc, &mut self.pass, iface, moment)
+    }
+
+    /// How many calls its pass keeps.
+    fn calls(&self) -> usize {
+        self.pass.calls().len()
+    }
+
+    fn leave(self) -> Pass<N> {
+        let Caller { pass, .. } = self;
+        pass
+    }
+}
+
+/// Settles with these two passes and these gauges.
+fn settled<N: RollName + MeterName, F: FaultSource + Drop, G: Gate + Drop, R: Wait + Abort>(
+    rt: &R,
+    station: Station<N, F, G>,
+    passes: Vec<Pass<N>>,
+    gauges: Vec<Gauge<N>>,
+) -> Settled {
+    let Ok(settled) = station.settle(rt, passes, gauges) else {
+        panic!(rt; "not settled");
+    };
+    settled
+}
+
+/// Another gauge of a station.
+fn gauge<N: RollName + MeterName, F: FaultSource + Drop, G: Gate + Drop, R: Wait + Abort>(
+    rt: &R,
+    station: &Station<N, F, G>,
+) -> Gauge<N> {
+    let Ok(gauge) = station.gauge(rt) else {
+        panic!(rt; "no gauge");
+    };
+    gauge
+}
+
+/// What a gauge reads of an interface: the record's length, the transmit and the receive count.
+fn reading<N: MeterName, R: Abort>(rt: &R, gauge: &mut Gauge<N>, place: usize) -> (u32, u16, u16) {
+    assert!(rt; place < gauge.ifaces());
+    let Status { at, counters } = gauge.status(place);
+    (at, counters.tec(), counters.rec())
+}
+
+/// A list of one.
+fn one<T: Drop, R: Abort>(rt: &R, alloc: Global, item: T) -> Vec<T> {
+    let mut list = Vec::new(alloc);
+    assert!(rt; list.push(item).is_ok());
+    list
+}
+
+/// A list of two.
+fn two<T: Drop, R: Abort>(rt: &R, alloc: Global, first: T, second: T) -> Vec<T> {
+    let mut list = one(rt, alloc, first);
+    assert!(rt; list.push(second).is_ok());
+    list
+}

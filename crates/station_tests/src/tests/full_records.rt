@@ -1,0 +1,115 @@
+// A record with as many entries as its limit.
+
+ghost use Rattle.std.specs.Prelude.{◌≡◌, ◌≤◌};
+
+use super::*;
+use can_bus::{IfaceStats, Refusal, SocketStats};
+use can_fault::Perfect;
+use can_station::Open;
+use std::marker::Brand;
+use std::test::Fail;
+use std::thread::{Threads, join};
+
+const FULL: StationRefusal = StationRefusal::Bus(Refusal::RecordFull);
+
+type Party<'s, N, R> = Caller<'s, N, Perfect, Open, R>;
+
+fn small() -> BusConfig {
+    BusConfig {
+        limit: 3,
+        ..config()
+    }
+}
+
+/// The counts of socket 0 and of can0.
+fn counts<N: RollName + MeterName, R: Wait + Abort>(
+    caller: &Party<'_, N, R>,
+) -> (Option<SocketStats>, Option<IfaceStats>) {
+    let can0 = iface(caller.rt, 0);
+    caller.station.stats(caller.rt, SocketId(0), can0)
+}
+
+/// Open, send, attempt; the fourth call finds the record full, and changes nothing.
+fn one_caller<N: RollName + MeterName, R: Wait + Abort>(rt: &R, alloc: Global, blanks: Blanks)
+    requires { (blanks.roll ≡ N.roll 0) × (blanks.meter ≡ N.meter 0) }
+{
+    let station = made::<N, _, _, _>(rt, alloc, blanks, 0, small(), Perfect, Open);
+    let mut caller = entered(rt, alloc, &station);
+    let socket = caller.open(0, 4);
+    assert!(rt; caller.send(socket, 0x123) == Ok(0));
+    assert!(rt; matches!(caller.step(1), Ok(Some(_))));
+    let before = counts(&caller);
+    assert!(rt; caller.receive(socket) == Err(FULL));
+    assert!(rt; counts(&caller) == before);
+    assert!(rt; caller.calls() == 3);
+    let passes = one(rt, alloc, caller.leave());
+    let settled = settled(rt, station, passes, Vec::new(alloc));
+    assert!(rt; settled.history.len() == 3);
+}
+
+/// Two sends, and how many of them found the record full. The list of calls does not grow by those.
+fn two_sends<N: RollName + MeterName, R: Wait + Abort>(
+    mut caller: Party<'_, N, R>,
+    socket: SocketId,
+) -> (Pass<N>, usize) {
+    let refused = count_if_refused(&mut caller, socket) + count_if_refused(&mut caller, socket);
+    (caller.leave(), refused)
+}
+
+/// 1 if a send found the record full and left the list of calls as it was, 0 if it became one more of them.
+fn count_if_refused<N: RollName + MeterName, R: Wait + Abort>(
+    caller: &mut Party<'_, N, R>,
+    socket: SocketId,
+) -> usize
+    ensures { result ≤ 1 }
+{
+    let before = caller.calls();
+    let is_refused = caller.send(socket, 0x123) == Err(FULL);
+    let refused = if is_refused { 1 } else { 0 };
+    assert!(caller.rt; caller.calls().checked_sub(before) == Some(1 - refused));
+    refused
+}
+
+/// A step finds the record full.
+fn finds_it_full<N: RollName + MeterName, R: Wait + Abort>(mut caller: Party<'_, N, R>) {
+    assert!(caller.rt; caller.step(1) == Err(FULL));
+    assert!(caller.rt; caller.calls() == 0);
+}
+
+/// After an open four sends of two threads: whichever come fourth and fifth find the record full.
+fn two_callers<N: RollName + MeterName + Send + Sync, R: Threads + Wait + Abort + Sync>(
+    rt: &R,
+    alloc: Global,
+    blanks: Blanks,
+)
+    requires { (blanks.roll ≡ N.roll 0) × (blanks.meter ≡ N.meter 0) }
+{
+    let station = made::<N, _, _, _>(rt, alloc, blanks, 0, small(), Perfect, Open);
+    let mut first = entered(rt, alloc, &station);
+    let second = entered(rt, alloc, &station);
+    let socket = first.open(0, 4);
+    let ((first, some), (second, others)) = join(
+        rt,
+        || two_sends(first, socket),
+        || two_sends(second, socket),
+    );
+    assert!(rt; some <= 2 && others == 2 - some);
+    finds_it_full(entered(rt, alloc, &station));
+    let passes = two(rt, alloc, first, second);
+    let settled = settled(rt, station, passes, Vec::new(alloc));
+    assert!(rt; settled.history.len() == 3);
+}
+
+#[test]
+fn a_full_record_refuses_and_changes_nothing(rt: HostRuntime) -> Result<(), Fail> {
+    let blanks = Blanks::new(rt.alloc(), 2)?;
+    one_caller::<Brand, _>(&rt, rt.alloc(), blanks);
+    Ok(())
+}
+
+#[test]
+fn a_full_record_refuses_whoever_comes_late(rt: HostRuntime) -> Result<(), Fail> {
+    let blanks = Blanks::new(rt.alloc(), 2)?;
+    two_callers::<Brand, _>(&rt, rt.alloc(), blanks);
+    Ok(())
+}

@@ -1,0 +1,121 @@
+// What a station's gauge reads: the counters of each interface, with the record's length.
+
+ghost use Rattle.std.specs.Prelude.{◌≡◌};
+
+use super::*;
+use can_fault::Perfect;
+use can_station::{Open, WrongStation};
+use std::marker::Brand;
+use std::test::Fail;
+use std::thread::{Threads, join};
+
+/// A fault in the last bit, and the good attempt after it.
+fn last_bit<N: RollName + MeterName, R: Wait + Abort>(rt: &R, alloc: Global, blanks: Blanks)
+    requires { (blanks.roll ≡ N.roll 0) × (blanks.meter ≡ N.meter 0) }
+{
+    let faults = script(rt, alloc, "0 lastbit");
+    let station = made::<N, _, _, _>(rt, alloc, blanks, 0, config(), faults, Open);
+    let mut gauge = gauge(rt, &station);
+    let mut caller = entered(rt, alloc, &station);
+    assert!(rt; reading(rt, &mut gauge, 0) == (0, 0, 0));
+    let socket = caller.open(0, 4);
+    assert!(rt; caller.send(socket, 0x123) == Ok(0));
+    assert!(rt; reading(rt, &mut gauge, 0) == (0, 0, 0));
+    assert!(rt; matches!(caller.step(1), Ok(Some(_))));
+    assert!(rt; reading(rt, &mut gauge, 0) == (3, 8, 0));
+    assert!(rt; matches!(caller.step(2), Ok(Some(_))));
+    assert!(rt; reading(rt, &mut gauge, 0) == (4, 7, 0));
+    assert!(rt; reading(rt, &mut gauge, 1) == (0, 0, 0));
+    let passes = one(rt, alloc, caller.leave());
+    let settled = settled(rt, station, passes, one(rt, alloc, gauge));
+    assert!(rt; settled.history.len() == 4);
+}
+
+/// A bus of can0 alone, where nobody acknowledges.
+fn alone() -> BusConfig {
+    BusConfig {
+        ifaces: 1,
+        ack: AckMode::Peers,
+        ..config()
+    }
+}
+
+/// 17 attempts of one frame of can0: it becomes error passive at the 16th, and its count then stays.
+fn fails_17_times<N: RollName + MeterName, R: Wait + Abort>(
+    mut caller: Caller<'_, N, Perfect, Open, R>,
+) -> Pass<N> {
+    let socket = caller.open(0, 4);
+    assert!(caller.rt; caller.send(socket, 0x123) == Ok(0));
+    for micros in 1..=17 {
+        assert!(caller.rt; matches!(caller.step(micros), Ok(Some(_))));
+    }
+    caller.leave()
+}
+
+/// Reads often: each reading is 8 for each attempt behind the open and the send, and none goes back.
+fn reads_often<N: MeterName, R: Abort>(rt: &R, mut gauge: Gauge<N>) -> Gauge<N> {
+    let mut last = 0;
+    for _ in 0..1000 {
+        let (at, transmit, receive) = reading(rt, &mut gauge, 0);
+        assert!(rt; u32::from(transmit) == at.saturating_sub(2).wrapping_mul(8) && receive == 0);
+        assert!(rt; at >= last);
+        last = at;
+    }
+    gauge
+}
+
+/// One thread reads while another drives can0 to error passive.
+fn two_sides<N: RollName + MeterName + Send + Sync, R: Threads + Wait + Abort + Sync>(
+    rt: &R,
+    alloc: Global,
+    blanks: Blanks,
+)
+    requires { (blanks.roll ≡ N.roll 0) × (blanks.meter ≡ N.meter 0) }
+{
+    let station = made::<N, _, _, _>(rt, alloc, blanks, 0, alone(), Perfect, Open);
+    let gauge = gauge(rt, &station);
+    let caller = entered(rt, alloc, &station);
+    let (pass, mut gauge) = join(rt, || fails_17_times(caller), || reads_often(rt, gauge));
+    assert!(rt; reading(rt, &mut gauge, 0) == (18, 128, 0));
+    let settled = settled(rt, station, one(rt, alloc, pass), one(rt, alloc, gauge));
+    assert!(rt; settled.history.len() == 19);
+}
+
+/// A station does not settle with a gauge of another.
+fn strange_gauge<N: RollName + MeterName, R: Wait + Abort>(
+    rt: &R,
+    alloc: Global,
+    here: Blanks,
+    there: Blanks,
+)
+    requires here { (here.roll ≡ N.roll 0) × (here.meter ≡ N.meter 0) }
+    requires there { (there.roll ≡ N.roll 1) × (there.meter ≡ N.meter 1) }
+{
+    let station = made::<N, _, _, _>(rt, alloc, here, 0, config(), Perfect, Open);
+    let far = made::<N, _, _, _>(rt, alloc, there, 1, config(), Perfect, Open);
+    let gauges = one(rt, alloc, gauge(rt, &far));
+    let outcome = station.settle(rt, Vec::new(alloc), gauges);
+    assert!(rt; matches!(outcome, Err(WrongStation)));
+}
+
+#[test]
+fn a_gauge_reads_the_counters(rt: HostRuntime) -> Result<(), Fail> {
+    let blanks = Blanks::new(rt.alloc(), 2)?;
+    last_bit::<Brand, _>(&rt, rt.alloc(), blanks);
+    Ok(())
+}
+
+#[test]
+fn a_gauge_reads_beside_the_driver(rt: HostRuntime) -> Result<(), Fail> {
+    let blanks = Blanks::new(rt.alloc(), 1)?;
+    two_sides::<Brand, _>(&rt, rt.alloc(), blanks);
+    Ok(())
+}
+
+#[test]
+fn a_gauge_of_another_station_is_refused(rt: HostRuntime) -> Result<(), Fail> {
+    let here = Blanks::new(rt.alloc(), 2)?;
+    let there = Blanks::new(rt.alloc(), 2)?;
+    strange_gauge::<Brand, _>(&rt, rt.alloc(), here, there);
+    Ok(())
+}

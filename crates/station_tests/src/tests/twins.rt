@@ -1,0 +1,208 @@
+// One list of calls on a station and on a plain bus: what the station tells without an event is what the bus tells.
+
+ghost use Rattle.std.specs.Prelude.{◌≡◌};
+
+use super::*;
+use can_bus::{Event, RingBus, answer};
+use can_fault::Verdict;
+use can_filter::{Filter, FilterSet};
+use can_station::{Open, Wake};
+use std::marker::Brand;
+use std::test::Fail;
+
+/// The first 32 attempts are destroyed; three later ones go wrong in other ways.
+const SCRIPT: &str = "\
+0 global bit\n1 global bit\n2 global bit\n3 global bit\n4 global bit\n5 global bit\n6 global bit\n7 global bit\n\
+8 global bit\n9 global bit\n10 global bit\n11 global bit\n12 global bit\n13 global bit\n14 global bit\n\
+15 global bit\n16 global bit\n17 global bit\n18 global bit\n19 global bit\n20 global bit\n21 global bit\n\
+22 global bit\n23 global bit\n24 global bit\n25 global bit\n26 global bit\n27 global bit\n28 global bit\n\
+29 global bit\n30 global bit\n31 global bit\n36 lastbit\n40 local crc can1\n44 global form\n";
+
+/// A bus of three interfaces with short transmit queues, which reports each fault at can1.
+fn busy() -> BusConfig {
+    BusConfig {
+        ifaces: 3,
+        reporting: IfaceSet(2),
+        tx_capacity: 4,
+        ..config()
+    }
+}
+
+/// The call of this turn, of 200. The verdict of an attempt is the script's, and not this one.
+fn event_at<R: Abort>(rt: &R, alloc: Global, turn: u64) -> Event {
+    match turn {
+        0 | 2 => Event::Open(iface(rt, 0), 2),
+        1 => Event::Open(iface(rt, 1), 2),
+        3 => Event::SetOption(SocketId(0), Opt::ErrMask(0x140)),
+        4 => Event::SetFilters(SocketId(2), filters(rt, alloc)),
+        5..=7 | 40 => Event::Send(SocketId(0), frame(rt, 0x123)),
+        8..=39 | 41 => attempt(rt, turn),
+        42 | 43 => Event::Restart(iface(rt, 0), moment(rt, turn)),
+        150 | 151 => Event::Close(SocketId(1)),
+        152 => Event::Open(iface(rt, 1), 70_000),
+        153 => Event::Open(iface(rt, 5), 2),
+        _ => usual_event(rt, turn),
+    }
+}
+
+/// Three sends in a round of nine calls; until the 100th call three attempts to it, then two.
+fn usual_event<R: Abort>(rt: &R, turn: u64) -> Event {
+    match turn % 9 {
+        0 => Event::Send(SocketId(0), frame(rt, 0x123)),
+        1 => Event::Send(SocketId(1), frame(rt, 0x124)),
+        2 => Event::Send(SocketId(2), frame(rt, 0x125)),
+        3 => Event::Receive(SocketId(0)),
+        4 => Event::Receive(SocketId(1)),
+        5 => Event::Receive(SocketId(2)),
+        6 if turn >= 100 => Event::Receive(SocketId(0)),
+        _ => attempt(rt, turn),
+    }
+}
+
+fn attempt<R: Abort>(rt: &R, turn: u64) -> Event {
+    Event::Attempt(moment(rt, turn), Verdict::Good)
+}
+
+/// The filter for identifier 124.
+fn filters<R: Abort>(rt: &R, alloc: Global) -> FilterSet {
+    let Ok(filter) = Filter::new(0x124, 0x7FF) else {
+        panic!(rt; "no filter");
+    };
+    let Ok(filters) = FilterSet::from_slice(alloc, &[filter]) else {
+        panic!(rt; "no filters");
+    };
+    filters
+}
+
+/// Makes the call on the station.
+fn call<N: RollName + MeterName, R: Wait + Abort>(
+    caller: &mut Caller<'_, N, Script, Open, R>,
+    event: &Event,
+) {
+    let (rt, alloc, station) = (caller.rt, caller.alloc, caller.station);
+    let pass = &mut caller.pass;
+    match event {
+        Event::Open(iface, capacity) => {
+            let _ = station.open(rt, alloc, pass, *iface, *capacity);
+        }
+        Event::SetFilters(socket, filters) => {
+            let _ = station.set_filters(rt, alloc, pass, *socket, filters);
+        }
+        Event::Send(socket, frame) => {
+            let _ = station.send(rt, alloc, pass, *socket, *frame);
+        }
+        Event::Attempt(moment, _) => {
+            let _ = station.step(rt, alloc, pass, *moment);
+        }
+        Event::Restart(iface, moment) => {
+            let _ = station.restart(rt, alloc, pass, *iface, *moment);
+        }
+        Event::Close(socket) => {
+            let _ = caller.close(*socket);
+        }
+        Event::SetOption(socket, option) => {
+            let _ = caller.set_option(*socket, *option);
+        }
+        Event::Receive(socket) => {
+            let _ = caller.receive(*socket);
+        }
+    }
+}
+
+/// Makes the call on the bus; an attempt with the script's verdict.
+fn call_bus(bus: &mut RingBus, source: &mut Script, alloc: Global, event: Event) {
+    let event = match event {
+        Event::Attempt(moment, _) => Event::Attempt(moment, source.verdict(bus.next_attempt())),
+        other => other,
+    };
+    let _ = answer(bus, alloc, &event);
+}
+
+/// How a wait for this socket has to end, by the bus's counts: `None` where it may not.
+fn frame_wake(bus: &RingBus, socket: SocketId, is_stopped: bool) -> Option<Wake> {
+    match bus.socket_stats(socket) {
+        None => Some(Wake::Closed),
+        Some(counts) if counts.queued > counts.taken => Some(Wake::Ready),
+        Some(_) if is_stopped => Some(Wake::Stopped),
+        Some(_) => None,
+    }
+}
+
+/// The same of a wait for frames to send. An interface that is bus off has none waiting.
+fn work_wake<R: Abort>(rt: &R, bus: &RingBus, is_stopped: bool) -> Option<Wake> {
+    for number in 0..3 {
+        if let Some(counts) = bus.iface_stats(iface(rt, number)) {
+            if counts.waiting > 0 {
+                return Some(Wake::Ready);
+            }
+        }
+    }
+    if is_stopped {
+        Some(Wake::Stopped)
+    } else {
+        None
+    }
+}
+
+/// The station tells what the bus tells, of sockets and interfaces that are there and of others.
+fn agree<N: RollName + MeterName, R: Wait + Abort>(
+    rt: &R,
+    station: &Station<N, Script, Open>,
+    bus: &RingBus,
+    is_stopped: bool,
+) {
+    for number in 0..4 {
+        let (socket, iface) = (SocketId(u32::from(number)), iface(rt, number));
+        let (items, frames) = station.stats(rt, socket, iface);
+        assert!(rt; items == bus.socket_stats(socket));
+        assert!(rt; frames == bus.iface_stats(iface));
+        if let Some(wake) = frame_wake(bus, socket, is_stopped) {
+            assert!(rt; station.wait_frame(rt, socket) == wake);
+        }
+    }
+    if let Some(wake) = work_wake(rt, bus, is_stopped) {
+        assert!(rt; station.wait_work(rt) == wake);
+    }
+}
+
+/// All 200 calls on both, and a look at both after each.
+fn run_both<N: RollName + MeterName, R: Wait + Abort>(
+    rt: &R,
+    alloc: Global,
+    blanks: Blanks,
+    is_stopped: bool,
+)
+    requires { (blanks.roll ≡ N.roll 0) × (blanks.meter ≡ N.meter 0) }
+{
+    let faults = script(rt, alloc, SCRIPT);
+    let station = made::<N, _, _, _>(rt, alloc, blanks, 0, busy(), faults, Open);
+    let Ok(mut bus) = RingBus::new(alloc, busy()) else {
+        panic!(rt; "no bus");
+    };
+    let mut source = script(rt, alloc, SCRIPT);
+    if is_stopped {
+        station.stop(rt);
+    }
+    let mut caller = entered(rt, alloc, &station);
+    for turn in 0..200 {
+        let event = event_at(rt, alloc, turn);
+        call(&mut caller, &event);
+        call_bus(&mut bus, &mut source, alloc, event);
+        agree(rt, &station, &bus, is_stopped);
+    }
+    assert!(rt; bus.record().len() == 200 && caller.calls() == 200);
+}
+
+#[test]
+fn a_station_tells_what_its_bus_tells(rt: HostRuntime) -> Result<(), Fail> {
+    let blanks = Blanks::new(rt.alloc(), 3)?;
+    run_both::<Brand, _>(&rt, rt.alloc(), blanks, false);
+    Ok(())
+}
+
+#[test]
+fn a_stopped_station_tells_what_its_bus_tells(rt: HostRuntime) -> Result<(), Fail> {
+    let blanks = Blanks::new(rt.alloc(), 3)?;
+    run_both::<Brand, _>(&rt, rt.alloc(), blanks, true);
+    Ok(())
+}

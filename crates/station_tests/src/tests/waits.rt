@@ -1,0 +1,180 @@
+// A thread that waits is woken by the call that it waits for.
+
+ghost use Rattle.std.specs.Prelude.{◌≡◌};
+
+use super::*;
+use can_station::{Open, Wake};
+use std::marker::Brand;
+use std::sync::atomic::{AtomicU64, Ordering};
+use std::test::Fail;
+use std::thread;
+use std::thread::{Threads, join};
+use std::time::{Clock, Duration};
+
+/// Attempt 0 is good, and the 32 after it are destroyed.
+const SCRIPT: &str = "\
+1 global bit\n2 global bit\n3 global bit\n4 global bit\n5 global bit\n6 global bit\n7 global bit\n8 global bit\n\
+9 global bit\n10 global bit\n11 global bit\n12 global bit\n13 global bit\n14 global bit\n15 global bit\n\
+16 global bit\n17 global bit\n18 global bit\n19 global bit\n20 global bit\n21 global bit\n22 global bit\n\
+23 global bit\n24 global bit\n25 global bit\n26 global bit\n27 global bit\n28 global bit\n29 global bit\n\
+30 global bit\n31 global bit\n32 global bit\n";
+
+/// What a thread waits for.
+#[derive(Clone, Copy)]
+enum Awaited {
+    Work,
+    Frame(SocketId),
+}
+
+/// What ends its wait.
+#[derive(Clone, Copy)]
+enum Act {
+    Send(SocketId),
+    Step,
+    Restart,
+    Close(SocketId),
+    Stop,
+}
+
+type Party<'s, N, R> = Caller<'s, N, Script, Open, R>;
+
+/// Looks until the flag is up, at most 10,000 times, a millisecond apart. Whether it was.
+fn is_raised<C: Clock>(clock: &C, flag: &AtomicU64) -> bool {
+    for _ in 0..10_000 {
+        if flag.load(Ordering::SeqCst) == 1 {
+            return true;
+        }
+        thread::sleep(clock, Duration::from_millis(1));
+    }
+    false
+}
+
+fn make_call<N: RollName + MeterName, R: Wait + Abort>(caller: &mut Party<'_, N, R>, act: Act) {
+    let rt = caller.rt;
+    let is_done = match act {
+        Act::Send(socket) => caller.send(socket, 0x123).is_ok(),
+        Act::Step => caller.step(1).is_ok(),
+        Act::Restart => caller.restart(0, 40).is_ok(),
+        Act::Close(socket) => caller.close(socket).is_ok(),
+        Act::Stop => {
+            caller.station.stop(rt);
+            true
+        }
+    };
+    assert!(rt; is_done);
+}
+
+/// Waits, and tells of it by flags before and after.
+fn wait<N: RollName + MeterName, R: Wait>(
+    rt: &R,
+    station: &Station<N, Script, Open>,
+    awaited: Awaited,
+    begun: &AtomicU64,
+    ended: &AtomicU64,
+) -> Wake {
+    begun.store(1, Ordering::SeqCst);
+    let wake = match awaited {
+        Awaited::Work => station.wait_work(rt),
+        Awaited::Frame(socket) => station.wait_frame(rt, socket),
+    };
+    ended.store(1, Ordering::SeqCst);
+    wake
+}
+
+/// Acts once another thread begins to wait. Whether this ends its wait; if not, a stop does.
+fn wake_up<N: RollName + MeterName, R: Wait + Abort + Clock>(
+    caller: &mut Party<'_, N, R>,
+    ending: Act,
+    begun: &AtomicU64,
+    ended: &AtomicU64,
+) -> bool {
+    let rt = caller.rt;
+    assert!(rt; is_raised(rt, begun));
+    make_call(caller, ending);
+    let is_woken = is_raised(rt, ended);
+    if !is_woken {
+        caller.station.stop(rt);
+    }
+    is_woken
+}
+
+/// How a thread's wait ends, where another thread acts.
+fn woken<N: RollName + MeterName + Send + Sync, R: Threads + Wait + Abort + Clock + Sync>(
+    rt: &R,
+    caller: &mut Party<'_, N, R>,
+    awaited: Awaited,
+    ending: Act,
+) -> Wake {
+    let station = caller.station;
+    let (begun, ended) = (AtomicU64::new(0), AtomicU64::new(0));
+    let (is_woken, wake) = join(
+        rt,
+        || wake_up(caller, ending, &begun, &ended),
+        || wait(rt, station, awaited, &begun, &ended),
+    );
+    assert!(rt; is_woken);
+    wake
+}
+
+/// A send, a step, a restart, a close and a stop each end a wait.
+fn each_call_wakes<N: RollName + MeterName + Send + Sync, R: Threads + Wait + Abort + Clock + Sync>(
+    rt: &R,
+    alloc: Global,
+    blanks: Blanks,
+)
+    requires { (blanks.roll ≡ N.roll 0) × (blanks.meter ≡ N.meter 0) }
+{
+    let faults = script(rt, alloc, SCRIPT);
+    let station = made::<N, _, _, _>(rt, alloc, blanks, 0, config(), faults, Open);
+    let mut caller = entered(rt, alloc, &station);
+    let (sender, receiver) = (caller.open(0, 4), caller.open(1, 4));
+    assert!(rt; woken(rt, &mut caller, Awaited::Work, Act::Send(sender)) == Wake::Ready);
+    assert!(rt; woken(rt, &mut caller, Awaited::Frame(receiver), Act::Step) == Wake::Ready);
+    assert!(rt; matches!(caller.receive(receiver), Ok(Some(_))));
+    goes_off(&mut caller, sender);
+    assert!(rt; woken(rt, &mut caller, Awaited::Frame(sender), Act::Restart) == Wake::Ready);
+    let close = Act::Close(receiver);
+    assert!(rt; woken(rt, &mut caller, Awaited::Frame(receiver), close) == Wake::Closed);
+    assert!(rt; matches!(caller.receive(sender), Ok(Some(_))));
+    assert!(rt; woken(rt, &mut caller, Awaited::Frame(sender), Act::Stop) == Wake::Stopped);
+}
+
+/// The sender is told of restarts alone, and its frame is destroyed until can0 is bus off.
+fn goes_off<N: RollName + MeterName, R: Wait + Abort>(
+    caller: &mut Party<'_, N, R>,
+    sender: SocketId,
+) {
+    assert!(caller.rt; caller.set_option(sender, Opt::ErrMask(0x100)).is_ok());
+    assert!(caller.rt; caller.send(sender, 0x123).is_ok());
+    for micros in 1..=32 {
+        assert!(caller.rt; matches!(caller.step(micros), Ok(Some(_))));
+    }
+}
+
+/// A stop ends a wait for frames to send.
+fn stop_wakes<N: RollName + MeterName + Send + Sync, R: Threads + Wait + Abort + Clock + Sync>(
+    rt: &R,
+    alloc: Global,
+    blanks: Blanks,
+)
+    requires { (blanks.roll ≡ N.roll 0) × (blanks.meter ≡ N.meter 0) }
+{
+    let faults = script(rt, alloc, "");
+    let station = made::<N, _, _, _>(rt, alloc, blanks, 0, config(), faults, Open);
+    let mut caller = entered(rt, alloc, &station);
+    assert!(rt; woken(rt, &mut caller, Awaited::Work, Act::Stop) == Wake::Stopped);
+}
+
+#[test]
+fn each_call_wakes_who_waits_for_it(rt: HostRuntime) -> Result<(), Fail> {
+    let blanks = Blanks::new(rt.alloc(), 2)?;
+    each_call_wakes::<Brand, _>(&rt, rt.alloc(), blanks);
+    Ok(())
+}
+
+#[test]
+fn a_stop_wakes_a_driver(rt: HostRuntime) -> Result<(), Fail> {
+    let blanks = Blanks::new(rt.alloc(), 2)?;
+    stop_wakes::<Brand, _>(&rt, rt.alloc(), blanks);
+    Ok(())
+}
