@@ -13,19 +13,19 @@ MANDIR = $(DESTDIR)$(PREFIX)/share/man/man1
 COMPLETIONS = $(DESTDIR)$(PREFIX)/share/bash-completion/completions
 
 all:
-	./scripts/build
+	./scripts/program build
 
 test:
 	./scripts/test
 
 dist:
-	./scripts/make-dist
+	./scripts/program dist
 
 verify-dist:
-	./scripts/make-dist --verify
+	./scripts/program verify
 
 install:
-	program=$$(./scripts/fresh-program --build) && \
+	program=$$(./scripts/program choose) && \
 	install -d $(BINDIR) $(MANDIR) $(COMPLETIONS) && \
 	install -m 755 $$program $(BINDIR)/canbusd
 	install -m 644 canbusd.1 $(MANDIR)/canbusd.1
