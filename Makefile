@@ -1,9 +1,9 @@
 # make              proves and builds the program
-# make test         the test command: every proof, edit, test, stored run and example, from nothing
+# make test         the test command: every proof, edit, test, stored run and example, from scratch
 # make dist         puts the proved program into dist/, with what it was built from
-# make verify-dist  proves and builds it once more from nothing, and compares it with dist/ byte for byte
-# make install      puts the program, its manual page and completions under PREFIX (DESTDIR in front of it)
-# make uninstall    takes it away again
+# make verify-dist  proves and builds it again from scratch, and compares it with dist/ byte for byte
+# make install      puts the program, its manual page and completions under PREFIX (after DESTDIR)
+# make uninstall    removes them
 # make clean        removes what was built here
 
 PREFIX ?= /usr/local
