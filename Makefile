@@ -1,10 +1,10 @@
 # make              proves and builds the program
-# make test         the test command: every proof, edit, test, stored run and example, from nothing
-# make quick        every test, stored run and example without proofs, in some minutes, for work in between
+# make test         the test command: every proof, edit, test, stored run and example, from scratch
+# make quick        every test, stored run and example without proofs, in a few minutes, for work in between
 # make dist         puts the proved program into dist/, with what it was built from
-# make verify-dist  proves and builds it once more from nothing, and compares it with dist/ byte for byte
-# make install      puts the program, its manual page and completions under PREFIX (DESTDIR in front of it)
-# make uninstall    takes it away again
+# make verify-dist  proves and builds it again from scratch, and compares it with dist/ byte for byte
+# make install      puts the program, its manual page and completions under PREFIX (after DESTDIR)
+# make uninstall    removes them
 # make clean        removes what was built here
 
 PREFIX ?= /usr/local
@@ -14,7 +14,7 @@ MANDIR = $(DESTDIR)$(PREFIX)/share/man/man1
 COMPLETIONS = $(DESTDIR)$(PREFIX)/share/bash-completion/completions
 
 all:
-	./scripts/build
+	./scripts/program build
 
 test:
 	./scripts/test
@@ -23,13 +23,13 @@ quick:
 	./scripts/quick
 
 dist:
-	./scripts/make-dist
+	./scripts/program dist
 
 verify-dist:
-	./scripts/make-dist --verify
+	./scripts/program verify
 
 install:
-	program=$$(./scripts/fresh-program --build) && \
+	program=$$(./scripts/program choose) && \
 	install -d $(BINDIR) $(MANDIR) $(COMPLETIONS) && \
 	install -m 755 $$program $(BINDIR)/canbusd
 	install -m 644 canbusd.1 $(MANDIR)/canbusd.1
