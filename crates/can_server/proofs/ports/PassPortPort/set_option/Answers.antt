@@ -1,0 +1,12 @@
+use Rattle.std.proofs.Common.{Some, sym, ap, ◌∙◌}
+use Rattle.can_bus.specs.declared.events.Event.TheVariants as event
+use Rattle.can_bus.specs.Answer.{done_reply}
+use Rattle.can_server.specs.PassSteps.{EnteredSeen}
+use Rattle.can_server.proofs.Passing.{on_pass}
+use Rattle.can_server.proofs.ports.PassPortPort.set_option.Goals as goal
+
+pub returns : goal.returns
+returns g c =
+    let now : EnteredSeen = record { number = c.entered.inside.station.now; pass = c.entered.inside.pass } in
+    on_pass done_reply c.args.self.now c.self.inside.hub.now c.self.inside.entered now c.set_option.new.pass (event.SetOption c.args.socket c.args.option) c.set_option.result
+    c.pass_on.result c.self.view_is (c.in-Some.is ∙ ap Some (sym c.entered.view_is)) c.pass_on.ensures c.set_option.ensures

@@ -1,0 +1,45 @@
+use Rattle.std.specs.Prelude.{◌≡◌, ◌<◌, ℕ, suc, List, [], ◌∷◌, length, map, Contains, slice_index_or, Option, Some, None}
+use Rattle.can_frame.specs.Names.{place_of}
+
+-- The buses of a hub, and their names.
+
+-- a bus: its number, the names of its interfaces, how many milliseconds its driver sleeps after each step, and how
+-- many items a socket of its holds
+pub record BusSeen : Type 0 where
+  pub number : ℕ
+  pub names : List (List ℕ)
+  pub pace_ms : ℕ
+  pub rx_capacity : ℕ
+
+-- the buses are numbered by their places, the first of them n
+abbrev pub NumberedFrom : ℕ → List BusSeen → Type 0
+NumberedFrom n [] = Unit {0}
+NumberedFrom n (bus ∷ more) = (bus.number ≡ n) × NumberedFrom (suc n) more
+
+-- no name of the first list is in the second
+abbrev pub Apart : List (List ℕ) → List (List ℕ) → Type 0
+Apart names others = (k : ℕ) → k < length names → ¬ Contains others (slice_index_or names k [])
+
+-- no name of this list is in one of the others
+abbrev pub ApartFrom : List (List ℕ) → List (List (List ℕ)) → Type 0
+ApartFrom names [] = Unit {0}
+ApartFrom names (others ∷ more) = Apart names others × ApartFrom names more
+
+-- no name is in two of the lists
+abbrev pub AllApart : List (List (List ℕ)) → Type 0
+AllApart [] = Unit {0}
+AllApart (names ∷ more) = ApartFrom names more × AllApart more
+
+-- the names of each bus
+abbrev pub names_of : List BusSeen → List (List (List ℕ))
+names_of buses = map (λ b. b.names) buses
+
+-- none of the buses before the n-th has an interface of this name
+abbrev pub NoneNamed : ℕ → List BusSeen → List ℕ → Type 0
+NoneNamed n buses name = (k : ℕ) (d : BusSeen) → k < n → place_of (slice_index_or buses k d).names name ≡ None
+
+-- the first bus that has an interface of this name, and that interface; or no bus has one
+abbrev pub IsFirstNamed : List BusSeen → List ℕ → Option (ℕ × ℕ) → Type 0
+IsFirstNamed buses name None = NoneNamed (length buses) buses name
+IsFirstNamed buses name (Some at) =
+    (at.0 < length buses) × ((d : BusSeen) → place_of (slice_index_or buses at.0 d).names name ≡ Some at.1) × NoneNamed at.0 buses name

@@ -1,0 +1,72 @@
+use Rattle.std.specs.Prelude.{◌≡◌, ℕ, List, [], Option, Some, None, Result, Ok, Err}
+use Rattle.can_bus.specs.declared.events.Event.{Event}
+use Rattle.can_bus.specs.declared.events.Event.TheVariants as event
+use Rattle.can_bus.specs.declared.events.Reply.{Reply}
+use Rattle.can_bus.specs.declared.events.Reply.TheVariants as reply
+use Rattle.can_bus.specs.declared.events.Refusal.TheVariants as refusal
+use Rattle.can_bus.specs.Answer.{done_reply}
+use Rattle.can_session.specs.declared.port.PortRefusal.{PortRefusal}
+use Rattle.can_session.specs.declared.port.PortRefusal.TheVariants as port
+use Rattle.can_session.specs.Calls.{Call}
+use Rattle.can_session.specs.Calls.{Reply as CallReply}
+use Rattle.can_session.specs.Calls.Call.{Attach, Open, Close, SetFilters, SetOption, Send, Receive, Restart, CountsOfSocket, CountsOfIface}
+use Rattle.can_station.specs.Passes.{PassSeen, Called}
+use Rattle.can_station.specs.declared.refusals.StationRefusal.{StationRefusal}
+use Rattle.can_station.specs.declared.refusals.StationRefusal.TheVariants as station
+use Rattle.can_server.specs.Buses.{BusSeen, IsFirstNamed}
+
+-- A pass as a port: each call but the look-ups is the station's.
+
+-- a station that was entered: its number, and the pass
+pub record EnteredSeen : Type 0 where
+  pub number : ℕ
+  pub pass : PassSeen
+
+-- a port: the buses of its hub, and the station that was entered
+pub record PortSeen : Type 0 where
+  pub buses : List BusSeen
+  pub entered : Option EnteredSeen
+
+-- a station that was entered with a pass that has made no call
+abbrev pub newly_entered : ℕ → ℕ → EnteredSeen
+newly_entered bus pass = record { number = bus; pass = record { number = bus; pass = pass; calls = [] } }
+
+-- a station's answer, as a port gives it
+abbrev pub passed_on : {A : Type 0} → Result A StationRefusal → Result A PortRefusal
+passed_on (Ok a) = Ok a
+passed_on (Err (station.Bus why)) = Err (port.Bus why)
+passed_on (Err station.WrongStation) = Err port.WrongStation
+
+-- a call of the station that was entered; where none was, there is no socket
+abbrev pub OnPass : {A : Type 0} → (A → Reply) → Option EnteredSeen → Event → Result A PortRefusal → Option EnteredSeen → Type 0
+OnPass {A} told None e answer new = (answer ≡ Err (port.Bus refusal.NoSocket)) × (new ≡ None)
+OnPass {A} told (Some old) e answer new =
+    (outcome : Result A StationRefusal) × (pass : PassSeen) × (answer ≡ passed_on outcome) × Called told old.number old.pass e outcome pass
+    × (new ≡ Some (record { number = old.number; pass = pass }))
+
+-- a call of the station on the port of a hub, which stays as it was
+abbrev pub OnPort : {A : Type 0} → (A → Reply) → PortSeen → Event → Result A PortRefusal → PortSeen → Type 0
+OnPort told old e answer new = OnPass told old.entered e answer new.entered × (new.buses ≡ old.buses)
+
+-- the station of the bus that has the name is entered; else nothing changes: no bus has the name, or it has one and
+-- no pass is left
+abbrev pub Attaches : PortSeen → List ℕ → Result ℕ PortRefusal → PortSeen → Type 0
+Attaches old name (Ok iface) new =
+    (bus : ℕ) × (pass : ℕ) × IsFirstNamed old.buses name (Some (bus, iface))
+    × (new ≡ record { buses = old.buses; entered = Some (newly_entered bus pass) })
+Attaches old name (Err (port.Bus refusal.NoInterface)) new = IsFirstNamed old.buses name None × (new ≡ old)
+Attaches old name (Err port.TooManyPasses) new = ((bus : ℕ) × (iface : ℕ) × IsFirstNamed old.buses name (Some (bus, iface))) × (new ≡ old)
+Attaches old name (Err _) new = ⊥
+
+-- a call on a port over a pass
+abbrev pub PassStep : PortSeen → (call : Call) → CallReply call → PortSeen → Type 0
+PassStep old (Attach name) answer new = Attaches old name answer new
+PassStep old (Open iface capacity) answer new = OnPort reply.Opened old (event.Open iface capacity) answer new
+PassStep old (Close socket) answer new = OnPort reply.Closed old (event.Close socket) answer new
+PassStep old (SetFilters socket filters) answer new = OnPort done_reply old (event.SetFilters socket filters) answer new
+PassStep old (SetOption socket option) answer new = OnPort done_reply old (event.SetOption socket option) answer new
+PassStep old (Send socket frame) answer new = OnPort reply.Sent old (event.Send socket frame) answer new
+PassStep old (Receive socket) answer new = OnPort reply.Received old (event.Receive socket) answer new
+PassStep old (Restart iface moment) answer new = OnPort done_reply old (event.Restart iface moment) answer new
+PassStep old (CountsOfSocket socket) answer new = new ≡ old
+PassStep old (CountsOfIface iface) answer new = new ≡ old

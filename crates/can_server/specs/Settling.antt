@@ -1,0 +1,27 @@
+use Rattle.std.specs.Prelude.{◌≡◌, ℕ, suc, List, [], ◌∷◌, ◌++◌, length, Vec}
+use Rattle.can_station.specs.declared.passes.Settled.{Settled}
+use Rattle.can_station.specs.Passes.{PassSeen, AllOf, SomeOther, Settles}
+
+-- The end of a hub: each bus is settled with its list of passes.
+
+-- each list has passes of its own bus alone, the first of them of bus n
+abbrev pub AllOwn : {A : Type 0} → ℕ → List (Vec PassSeen A) → Type 0
+AllOwn n [] = Unit {0}
+AllOwn n (own ∷ more) = AllOf n own.items × AllOwn (suc n) more
+
+-- each bus leaves a record that settles its list of passes
+abbrev pub AllSettle : {A : Type 0} → List (Vec PassSeen A) → List Settled → Type 0
+AllSettle [] [] = Unit {0}
+AllSettle (own ∷ more) (s ∷ rest) = Settles s.history.config s.history.history s.passes own.items × AllSettle more rest
+AllSettle [] (s ∷ rest) = ⊥
+AllSettle (own ∷ more) [] = ⊥
+
+-- the list of this bus is the first with a pass of another station
+pub record FirstForeign {A : Type 0} (passes : List (Vec PassSeen A)) (bus : ℕ) : Type 0 where
+  pub before : List (Vec PassSeen A)
+  pub own : Vec PassSeen A
+  pub after : List (Vec PassSeen A)
+  pub lists : passes ≡ before ++ own ∷ after
+  pub place : bus ≡ length before
+  pub earlier : AllOwn 0 before
+  pub foreign : SomeOther bus own.items

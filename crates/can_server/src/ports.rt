@@ -1,0 +1,230 @@
+ghost use Rattle.std.specs.Prelude.{◌≡◌};
+ghost use Rattle.can_server.specs.Buses.{IsFirstNamed};
+ghost use Rattle.can_server.specs.PassSteps.{passed_on};
+
+use crate::hubs::Hub;
+use can_bus::{Closed, IfaceStats, Opt, Received, Refusal, SocketId, SocketStats};
+use can_fault::FaultSource;
+use can_filter::FilterSet;
+use can_frame::{Frame, Iface, Moment};
+use can_meter::MeterName;
+use can_roll::RollName;
+use can_session::{Port, PortRefusal};
+use can_station::{Gate, Pass, Station, StationRefusal};
+use std::alloc::Global;
+use std::marker::Model;
+use std::sync::Wait;
+
+/// A station that was entered, with the pass.
+#[derive(Drop)]
+pub struct Entered<'a, N: RollName + MeterName, F: FaultSource + Drop, G: Gate + Drop> {
+    station: &'a Station<N, F, G>,
+    pass: Pass<N>,
+}
+
+impl<'a, N: RollName + MeterName, F: FaultSource + Drop, G: Gate + Drop> Model
+    for Entered<'a, N, F, G> {
+    ghost use Rattle.can_server.specs.PassSteps.{EnteredSeen};
+
+    ghost Value = { EnteredSeen };
+
+    ghost view = { λ e. record { number = e.station.now; pass = e.pass } };
+}
+
+/// A session's way to the buses of a hub: the pass of the station that it opens.
+///
+/// `attach` enters the station whose bus has the name; a pass that was entered before is lost to `settle`. Each
+/// other call but the two counts is that call of the station, made with the pass, and may wait for its lock. Where
+/// no station was entered there is no socket.
+#[derive(Drop)]
+pub struct PassPort<'a, N: RollName + MeterName, F: FaultSource + Drop, G: Gate + Drop, R: Wait> {
+    rt: &'a R,
+    alloc: Global,
+    hub: &'a Hub<N, F, G>,
+    entered: Option<Entered<'a, N, F, G>>,
+}
+
+impl<'a, N: RollName + MeterName, F: FaultSource + Drop, G: Gate + Drop, R: Wait> Model
+    for PassPort<'a, N, F, G, R> {
+    ghost use Rattle.can_server.specs.PassSteps.{PortSeen};
+
+    ghost Value = { PortSeen };
+
+    ghost view = { λ p. record { buses = p.hub.now; entered = p.entered } };
+}
+
+impl<'a, N: RollName + MeterName, F: FaultSource + Drop, G: Gate + Drop, R: Wait> PassPort<
+    'a,
+    N,
+    F,
+    G,
+    R,
+> {
+    ghost use Rattle.std.specs.Prelude.{None, option_map};
+
+    /// A port over the buses of a hub; no station was entered.
+    pub fn new(rt: &'a R, alloc: Global, hub: &'a Hub<N, F, G>) -> PassPort<'a, N, F, G, R>
+        ensures { result ≡ record { buses = hub.now; entered = None } }
+    {
+        PassPort {
+            rt,
+            alloc,
+            hub,
+            entered: None,
+        }
+    }
+
+    /// The station that was entered.
+    pub fn station(&self) -> Option<&'a Station<N, F, G>>
+        ensures { option_map (λ s. s.now) result ≡ option_map (λ e. e.number) self.now.entered }
+    {
+        match &self.entered {
+            Some(entered) => Some(entered.station),
+            None => None,
+        }
+    }
+
+    /// The pass, where a station was entered.
+    pub fn into_pass(self) -> Option<Pass<N>>
+        ensures { result ≡ option_map (λ e. e.pass) self.entry.entered }
+    {
+        let PassPort { entered, .. } = self;
+        match entered {
+            Some(Entered { station: _, pass }) => Some(pass),
+            None => None,
+        }
+    }
+}
+
+/// A station's answer, as a port gives it.
+fn pass_on<V>(outcome: Result<V, StationRefusal>) -> Result<V, PortRefusal>
+    ensures { result ≡ passed_on outcome }
+{
+    match outcome {
+        Ok(value) => Ok(value),
+        Err(StationRefusal::Bus(why)) => Err(PortRefusal::Bus(why)),
+        Err(StationRefusal::WrongStation) => Err(PortRefusal::WrongStation),
+    }
+}
+
+/// The bus that has an interface of this name, and that interface. Names are ASCII, so bytes that are no UTF-8 are
+/// none of them.
+fn interface_named<N: RollName + MeterName, F: FaultSource + Drop, G: Gate + Drop>(
+    hub: &Hub<N, F, G>,
+    name: &[u8],
+) -> Option<(usize, Iface)>
+    ensures { IsFirstNamed hub.now name.now result }
+{
+    // The proof learns here that the names are good.
+    let _ = hub.count();
+    match str::from_utf8(name) {
+        Ok(name) => hub.find(name),
+        Err(_) => None,
+    }
+}
+
+impl<'a, N: RollName + MeterName, F: FaultSource + Drop, G: Gate + Drop, R: Wait> Port
+    for PassPort<'a, N, F, G, R> {
+    ghost use Rattle.can_server.specs.PassSteps.{PassStep};
+
+    ghost step = { PassStep };
+
+    fn attach(&mut self, name: &[u8]) -> Result<Iface, PortRefusal> {
+        let Some(found) = interface_named(self.hub, name) else {
+            return Err(PortRefusal::Bus(Refusal::NoInterface));
+        };
+        let station = self.hub.station(found.0);
+        let Ok(pass) = station.enter(self.rt, self.alloc) else {
+            return Err(PortRefusal::TooManyPasses);
+        };
+        self.entered = Some(Entered { station, pass });
+        Ok(found.1)
+    }
+
+    fn open(&mut self, iface: Iface, capacity: u32) -> Result<SocketId, PortRefusal> {
+        let Some(entered) = &mut self.entered else {
+            return Err(PortRefusal::Bus(Refusal::NoSocket));
+        };
+        pass_on(
+            entered
+                .station
+                .open(self.rt, self.alloc, &mut entered.pass, iface, capacity),
+        )
+    }
+
+    fn close(&mut self, socket: SocketId) -> Result<Closed, PortRefusal> {
+        let Some(entered) = &mut self.entered else {
+            return Err(PortRefusal::Bus(Refusal::NoSocket));
+        };
+        pass_on(
+            entered
+                .station
+                .close(self.rt, self.alloc, &mut entered.pass, socket),
+        )
+    }
+
+    fn set_filters(&mut self, socket: SocketId, filters: &FilterSet) -> Result<(), PortRefusal> {
+        let Some(entered) = &mut self.entered else {
+            return Err(PortRefusal::Bus(Refusal::NoSocket));
+        };
+        pass_on(
+            entered
+                .station
+                .set_filters(self.rt, self.alloc, &mut entered.pass, socket, filters),
+        )
+    }
+
+    fn set_option(&mut self, socket: SocketId, option: Opt) -> Result<(), PortRefusal> {
+        let Some(entered) = &mut self.entered else {
+            return Err(PortRefusal::Bus(Refusal::NoSocket));
+        };
+        pass_on(
+            entered
+                .station
+                .set_option(self.rt, self.alloc, &mut entered.pass, socket, option),
+        )
+    }
+
+    fn send(&mut self, socket: SocketId, frame: Frame) -> Result<u64, PortRefusal> {
+        let Some(entered) = &mut self.entered else {
+            return Err(PortRefusal::Bus(Refusal::NoSocket));
+        };
+        pass_on(
+            entered
+                .station
+                .send(self.rt, self.alloc, &mut entered.pass, socket, frame),
+        )
+    }
+
+    fn receive(&mut self, socket: SocketId) -> Result<Option<Received>, PortRefusal> {
+        let Some(entered) = &mut self.entered else {
+            return Err(PortRefusal::Bus(Refusal::NoSocket));
+        };
+        pass_on(
+            entered
+                .station
+                .receive(self.rt, self.alloc, &mut entered.pass, socket),
+        )
+    }
+
+    fn restart(&mut self, iface: Iface, moment: Moment) -> Result<(), PortRefusal> {
+        let Some(entered) = &mut self.entered else {
+            return Err(PortRefusal::Bus(Refusal::NoSocket));
+        };
+        pass_on(
+            entered
+                .station
+                .restart(self.rt, self.alloc, &mut entered.pass, iface, moment),
+        )
+    }
+
+    fn socket_stats(&mut self, socket: SocketId) -> Option<SocketStats> {
+        let station = self.station()?;
+        station.stats(self.rt, socket, Iface::new(0)?).0
+    }
+
+    fn iface_stats(&mut self, iface: Iface) -> Option<IfaceStats> {
+        let station = self.station()?;
+        station.stats(self.rt, SocketId(0), iface).1
+    }
+}
