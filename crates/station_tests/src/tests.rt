@@ -18,6 +18,12 @@ use can_station::{Blanks, Gate, Pass, Settled, Station, StationRefusal};
 use std::alloc::Global;
 use std::process::Abort;
 use std::sync::Wait;
+use std::sync::atomic::{AtomicU64, Ordering};
+use std::thread;
+use std::time::{Clock, Duration};
+
+/// How many looks are made before a test gives up.
+const TURNS: u32 = 10_000;
 
 /// A bus as it is by default, of two interfaces.
 fn config() -> BusConfig {
@@ -64,6 +70,17 @@ fn script<R: Abort>(rt: &R, alloc: Global, text: &str) -> Script {
         panic!(rt; "no script");
     };
     script
+}
+
+/// Looks until the count is reached, a millisecond apart. Whether it was.
+fn reaches<C: Clock>(clock: &C, count: &AtomicU64, goal: u64) -> bool {
+    for _ in 0..TURNS {
+        if count.load(Ordering::SeqCst) >= goal {
+            return true;
+        }
+        thread::sleep(clock, Duration::from_millis(1));
+    }
+    false
 }
 
 // The calls, without their clauses: a test runs them, and its proof has nothing to say of them.

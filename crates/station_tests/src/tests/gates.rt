@@ -5,14 +5,9 @@ ghost use Rattle.std.specs.Prelude.{◌≡◌};
 use super::*;
 use can_station::{Open, Point};
 use std::marker::Brand;
-use std::sync::atomic::{AtomicBool, AtomicU64, Ordering};
+use std::sync::atomic::AtomicBool;
 use std::test::Fail;
-use std::thread;
 use std::thread::{Threads, join};
-use std::time::{Clock, Duration};
-
-/// How many looks are made before a test gives up.
-const TURNS: u32 = 10_000;
 
 /// What the gate and the test tell each other: how many steps were held, how many let go, and whether the gate
 /// gave up waiting.
@@ -21,17 +16,6 @@ struct Signals {
     held: AtomicU64,
     let_go: AtomicU64,
     late: AtomicBool,
-}
-
-/// Looks until the count is reached, a millisecond apart. Whether it was.
-fn reaches<C: Clock>(clock: &C, count: &AtomicU64, goal: u64) -> bool {
-    for _ in 0..TURNS {
-        if count.load(Ordering::SeqCst) >= goal {
-            return true;
-        }
-        thread::sleep(clock, Duration::from_millis(1));
-    }
-    false
 }
 
 /// Holds each step until the test lets it go.

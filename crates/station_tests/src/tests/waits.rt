@@ -5,11 +5,8 @@ ghost use Rattle.std.specs.Prelude.{◌≡◌};
 use super::*;
 use can_station::{Open, Wake};
 use std::marker::Brand;
-use std::sync::atomic::{AtomicU64, Ordering};
 use std::test::Fail;
-use std::thread;
 use std::thread::{Threads, join};
-use std::time::{Clock, Duration};
 
 /// Attempt 0 is good, and the 32 after it are destroyed.
 const SCRIPT: &str = "\
@@ -37,17 +34,6 @@ enum Act {
 }
 
 type Party<'s, N, R> = Caller<'s, N, Script, Open, R>;
-
-/// Looks until the flag is up, at most 10,000 times, a millisecond apart. Whether it was.
-fn is_raised<C: Clock>(clock: &C, flag: &AtomicU64) -> bool {
-    for _ in 0..10_000 {
-        if flag.load(Ordering::SeqCst) == 1 {
-            return true;
-        }
-        thread::sleep(clock, Duration::from_millis(1));
-    }
-    false
-}
 
 fn make_call<N: RollName + MeterName, R: Wait + Abort>(caller: &mut Party<'_, N, R>, act: Act) {
     let rt = caller.rt;
@@ -89,9 +75,9 @@ fn wake_up<N: RollName + MeterName, R: Wait + Abort + Clock>(
     ended: &AtomicU64,
 ) -> bool {
     let rt = caller.rt;
-    assert!(rt; is_raised(rt, begun));
+    assert!(rt; reaches(rt, begun, 1));
     make_call(caller, ending);
-    let is_woken = is_raised(rt, ended);
+    let is_woken = reaches(rt, ended, 1);
     if !is_woken {
         caller.station.stop(rt);
     }
