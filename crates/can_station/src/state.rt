@@ -172,6 +172,14 @@ impl<N: RollName + MeterName, F: FaultSource + Drop> StationState<N, F> {
         (self.bus.socket_stats(socket), self.bus.iface_stats(iface))
     }
 
+    /// How many items are queued to this socket: 0 where it is not open.
+    pub(crate) fn waiting(&self, socket: SocketId) -> u64 {
+        match self.bus.socket_stats(socket) {
+            None => 0,
+            Some(counts) => counts.queued.saturating_sub(counts.taken),
+        }
+    }
+
     /// Why a wait for an item of this socket ends, if it does.
     pub(crate) fn frame_wake(&self, socket: SocketId) -> Option<Wake> {
         match self.bus.socket_stats(socket) {
@@ -196,6 +204,11 @@ impl<N: RollName + MeterName, F: FaultSource + Drop> StationState<N, F> {
         } else {
             None
         }
+    }
+
+    /// Whether waits end.
+    pub(crate) fn is_stopped(&self) -> bool {
+        self.stopped
     }
 
     /// Ends all waits, now and from now on.

@@ -50,6 +50,8 @@ pub struct Station<N: RollName + MeterName, F: FaultSource + Drop, G: Gate + Dro
     pub(crate) work: Condvar,
     /// Where receivers wait for items.
     pub(crate) items: Condvar,
+    /// Where rests wait for the end.
+    pub(crate) ends: Condvar,
     pub(crate) gate: G,
     pub(crate) number: u8,
 }
@@ -97,6 +99,7 @@ impl<N: RollName + MeterName, F: FaultSource + Drop, G: Gate + Drop> Station<N, 
             state: Mutex::new(state),
             work: Condvar::new(),
             items: Condvar::new(),
+            ends: Condvar::new(),
             gate,
             number,
         })
@@ -249,6 +252,7 @@ impl<N: RollName + MeterName, F: FaultSource + Drop, G: Gate + Drop> Station<N, 
             state,
             work: _,
             items: _,
+            ends: _,
             gate: _,
             number,
         } = self;

@@ -6,6 +6,7 @@ use can_frame::Iface;
 use can_meter::MeterName;
 use can_roll::RollName;
 use std::sync::Wait;
+use std::time::{Clock, Duration};
 
 /// Why a wait ended.
 #[derive(Debug, Clone, Copy, PartialEq, Eq)]
@@ -34,10 +35,17 @@ impl<N: RollName + MeterName, F: FaultSource + Drop, G: Gate + Drop> Station<N, 
     /// Waits until an item is queued to the socket. `Closed` where it is not open, else `Ready` where an item is
     /// queued, else `Stopped` after `stop`; else it sleeps until a call changes that.
     pub fn wait_frame<R: Wait>(&self, rt: &R, socket: SocketId) -> Wake {
+        self.wait_items(rt, socket).0
+    }
+
+    /// Waits as `wait_frame` does, and counts the items that are queued to the socket when it wakes, both of one
+    /// moment: at least one where it is `Ready`, none where it is `Closed` or `Stopped`.
+    pub fn wait_items<R: Wait>(&self, rt: &R, socket: SocketId) -> (Wake, u64) {
         let state = self.items.wait_while(rt, self.state.lock(rt), |state| {
             state.frame_wake(socket).is_none()
         });
-        state.frame_wake(socket).unwrap_or(Wake::Stopped)
+        let wake = state.frame_wake(socket).unwrap_or(Wake::Stopped);
+        (wake, state.waiting(socket))
     }
 
     /// Waits until a live interface has a frame to send. `Ready` where one has, else `Stopped` after `stop`; else it
@@ -49,11 +57,23 @@ impl<N: RollName + MeterName, F: FaultSource + Drop, G: Gate + Drop> Station<N, 
         state.work_wake().unwrap_or(Wake::Stopped)
     }
 
+    /// Waits so long, or until `stop`. Where the duration is 0 it returns at once, without the lock; no call of a
+    /// pass ends it.
+    pub fn rest<R: Wait + Clock>(&self, rt: &R, duration: Duration) {
+        if !duration.is_zero() {
+            self.ends
+                .wait_timeout_while(rt, self.state.lock(rt), duration, |state| {
+                    !state.is_stopped()
+                });
+        }
+    }
+
     /// Ends all waits, now and from now on. Calls are answered as before.
     pub fn stop<R: Wait>(&self, rt: &R) {
         self.state.lock(rt).stop();
         self.work.notify_all();
         self.items.notify_all();
+        self.ends.notify_all();
     }
 
     /// Wakes those for whom a call can have changed what they wait for. A frame to send comes of `send` alone; items
