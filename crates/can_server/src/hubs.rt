@@ -148,6 +148,13 @@ impl<N: RollName + MeterName, F: FaultSource + Drop, G: Gate + Drop> Hub<N, F, G
         &self.wires[bus].station
     }
 
+    /// How many milliseconds the driver of a bus sleeps after each step.
+    pub(crate) fn pace_ms(&self, bus: usize) -> u32
+        requires { bus < length self.now }
+    {
+        self.wires[bus].pace_ms
+    }
+
     /// Another gauge of a bus's meter, which reads the error counters without the lock. `AllocError` where there
     /// is no memory. It may wait for the lock.
     pub fn gauge<R: Wait>(&self, rt: &R, bus: usize) -> Result<Gauge<N>, AllocError>

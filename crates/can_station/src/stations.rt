@@ -10,6 +10,7 @@ use crate::gates::{Gate, Point};
 use crate::passes::{Pass, Settled, keep};
 use crate::refusals::{StationRefusal, TooManyPasses, WrongStation};
 use crate::state::StationState;
+use crate::waits::ROOM;
 use can_bus::{BusConfig, BusFault, Entry, Event, Refusal, Reply, RingBus, Tried};
 use can_fault::FaultSource;
 use can_frame::Moment;
@@ -17,6 +18,7 @@ use can_meter::{Gauge, MeterBlank, MeterName, meter, meter_blank};
 use can_roll::{RollBlank, RollName, Slip, roll_blank};
 use std::alloc::{AllocError, Global};
 use std::marker::Model;
+use std::sync::atomic::AtomicU8;
 use std::sync::{Condvar, Mutex, MutexGuard, Wait};
 
 /// What a station is made of before it has a name: the blanks of its roll and of its meter.
@@ -54,6 +56,8 @@ pub struct Station<N: RollName + MeterName, F: FaultSource + Drop, G: Gate + Dro
     pub(crate) ends: Condvar,
     pub(crate) gate: G,
     pub(crate) number: u8,
+    /// Whether a call met a full record, and whether that was told.
+    pub(crate) fullness: AtomicU8,
 }
 
 impl<N: RollName + MeterName, F: FaultSource + Drop, G: Gate + Drop> Model for Station<N, F, G> {
@@ -102,7 +106,15 @@ impl<N: RollName + MeterName, F: FaultSource + Drop, G: Gate + Drop> Station<N, 
             ends: Condvar::new(),
             gate,
             number,
+            fullness: AtomicU8::new(ROOM),
         })
+    }
+
+    /// The number of the station.
+    pub fn number(&self) -> u8
+        ensures { result ≡ self.now }
+    {
+        self.number
     }
 
     /// The state under the lock. It has the station's number since `new`. No type says so: for another number this
@@ -255,6 +267,7 @@ impl<N: RollName + MeterName, F: FaultSource + Drop, G: Gate + Drop> Station<N, 
             ends: _,
             gate: _,
             number,
+            fullness: _,
         } = self;
         let state = state.into_inner();
         if state.number() != number {

@@ -1,12 +1,22 @@
 use crate::gates::Gate;
 use crate::stations::Station;
-use can_bus::{Event, IfaceStats, Reply, SocketId, SocketStats};
+use can_bus::{Event, IfaceStats, Refusal, Reply, SocketId, SocketStats};
 use can_fault::FaultSource;
 use can_frame::Iface;
 use can_meter::MeterName;
 use can_roll::RollName;
 use std::sync::Wait;
+use std::sync::atomic::Ordering::SeqCst;
 use std::time::{Clock, Duration};
+
+/// No call met a full record.
+pub(crate) const ROOM: u8 = 0;
+
+/// A call met a full record.
+const FULL: u8 = 1;
+
+/// A call met a full record, and somebody asked for it.
+const TOLD: u8 = 2;
 
 /// Why a wait ended.
 #[derive(Debug, Clone, Copy, PartialEq, Eq)]
@@ -68,6 +78,14 @@ impl<N: RollName + MeterName, F: FaultSource + Drop, G: Gate + Drop> Station<N, 
         }
     }
 
+    /// Whether a call was refused since the record is full. It is true once, for the first who asks, and waits for
+    /// nobody.
+    pub fn became_full(&self) -> bool {
+        self.fullness
+            .compare_exchange(FULL, TOLD, SeqCst, SeqCst)
+            .is_ok()
+    }
+
     /// Ends all waits, now and from now on. Calls are answered as before.
     pub fn stop<R: Wait>(&self, rt: &R) {
         self.state.lock(rt).stop();
@@ -80,6 +98,9 @@ impl<N: RollName + MeterName, F: FaultSource + Drop, G: Gate + Drop> Station<N, 
     /// come of attempts and restarts, and a socket closes by `close`.
     pub(crate) fn wake(&self, event: &Event, reply: &Reply) {
         match (event, reply) {
+            (_, Reply::Refused(Refusal::RecordFull)) => {
+                let _ = self.fullness.compare_exchange(ROOM, FULL, SeqCst, SeqCst);
+            }
             (_, Reply::Refused(_) | Reply::Idle) => {}
             (Event::Send(_, _), _) => self.work.notify_all(),
             (Event::Close(_) | Event::Attempt(_, _) | Event::Restart(_, _), _) => {
