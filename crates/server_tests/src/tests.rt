@@ -1,8 +1,10 @@
 ghost use Rattle.std.specs.Prelude.{◌≡◌};
 
+mod statuses;
+
 use can_attempt::AckMode;
 use can_bus::{BusConfig, BusFault};
-use can_fault::Perfect;
+use can_fault::{FaultSource, Perfect};
 use can_frame::{IfaceSet, Moment, Names};
 use can_meter::MeterName;
 use can_roll::RollName;
@@ -17,7 +19,13 @@ use std::test::*;
 use test_streams::Output;
 
 /// What a bus of these names is made of.
-fn bench<R: Abort>(rt: &R, alloc: Global, blanks: Blanks, names: &str) -> Bench<Perfect, Open>
+fn bench<F: FaultSource + Drop, R: Abort>(
+    rt: &R,
+    alloc: Global,
+    blanks: Blanks,
+    names: &str,
+    source: F,
+) -> Bench<F, Open>
     ensures { result.blanks ≡ blanks }
 {
     let Ok(names) = Names::read(alloc, names) else {
@@ -34,27 +42,28 @@ fn bench<R: Abort>(rt: &R, alloc: Global, blanks: Blanks, names: &str) -> Bench<
         names,
         blanks,
         config,
-        source: Perfect,
+        source,
         gate: Open,
         pace_ms: 0,
         rx_capacity: 16,
     }
 }
 
-/// A hub of one bus, can0 and can1.
-fn one_bus<N: RollName + MeterName, R: Abort>(
+/// A hub of one bus, can0 and can1, with these faults.
+fn one_bus<N: RollName + MeterName, F: FaultSource + Drop, R: Abort>(
     rt: &R,
     alloc: Global,
     blanks: Blanks,
-) -> Hub<N, Perfect, Open>
+    source: F,
+) -> Hub<N, F, Open>
     requires roll { blanks.roll ≡ N.roll 0 }
     requires meter { blanks.meter ≡ N.meter 0 }
 {
     let mut benches = Vec::new(alloc);
-    let Ok(()) = benches.push(bench(rt, alloc, blanks, "can0,can1")) else {
+    let Ok(()) = benches.push(bench(rt, alloc, blanks, "can0,can1", source)) else {
         panic!(rt; "benches");
     };
-    let Ok(hub) = Hub::<N, Perfect, Open>::new(alloc, benches) else {
+    let Ok(hub) = Hub::<N, F, Open>::new(alloc, benches) else {
         panic!(rt; "hub");
     };
     hub
@@ -65,7 +74,7 @@ fn dialogue<N: RollName + MeterName, R: Wait + Abort>(rt: &R, alloc: Global, bla
     requires roll { blanks.roll ≡ N.roll 0 }
     requires meter { blanks.meter ≡ N.meter 0 }
 {
-    let hub = one_bus::<N, R>(rt, alloc, blanks);
+    let hub = one_bus::<N, _, R>(rt, alloc, blanks, Perfect);
     let Ok(moment) = Moment::new(23_424_242) else {
         panic!(rt; "moment");
     };

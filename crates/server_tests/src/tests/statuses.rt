@@ -1,0 +1,127 @@
+// What a session is told of the error counters of its interface, by a gauge.
+
+ghost use Rattle.std.specs.Prelude.{◌≡◌};
+
+use super::*;
+use can_fault::Script;
+use can_frame::Iface;
+use can_session::Port;
+use can_station::Station;
+
+/// A session over a pass.
+#[derive(Drop)]
+struct Client<'a, N: RollName + MeterName, R: Wait> {
+    session: Session,
+    port: PassPort<'a, N, Script, Open, R>,
+}
+
+impl<'a, N: RollName + MeterName, R: Wait + Abort> Client<'a, N, R> {
+    /// A session over a hub that has just begun.
+    fn new(rt: &'a R, alloc: Global, hub: &'a Hub<N, Script, Open>) -> Client<'a, N, R> {
+        let Ok(session) = Session::new(alloc, 16) else {
+            panic!(rt; "session");
+        };
+        let port = PassPort::new(rt, alloc, hub);
+        Client { session, port }
+    }
+
+    /// Whether it is told this for a piece.
+    fn is_told(&mut self, alloc: Global, piece: &str, wanted: &str) -> bool {
+        let mut out = Output::new(alloc, 1_000);
+        let Ok(moment) = Moment::new(0) else {
+            return false;
+        };
+        let fed = self
+            .session
+            .feed(alloc, piece.as_bytes(), moment, &mut self.port, &mut out);
+        fed.is_ok() && out.text.as_slice() == wanted.as_bytes()
+    }
+
+    /// The counts that its port tells of an interface, the transmit count first.
+    fn counts(&mut self, number: u8) -> Option<(u16, u16)> {
+        let counters = self.port.status(Iface::new(number)?);
+        Some((counters.tec(), counters.rec()))
+    }
+}
+
+/// Whether a new gauge of a bus reads 0/0 of an interface, before any entry.
+fn is_new<N: RollName + MeterName, R: Wait + Abort>(
+    rt: &R,
+    hub: &Hub<N, Script, Open>,
+    place: usize,
+) -> bool {
+    if hub.count() == 0 {
+        return false;
+    }
+    let Ok(mut gauge) = hub.gauge(rt, 0) else {
+        return false;
+    };
+    if place >= gauge.ifaces() {
+        return false;
+    }
+    let status = gauge.status(place);
+    status.at == 0 && status.counters.tec() == 0 && status.counters.rec() == 0
+}
+
+/// An attempt that a driver makes.
+fn attempt<N: RollName + MeterName, R: Wait + Abort>(
+    rt: &R,
+    alloc: Global,
+    station: &Station<N, Script, Open>,
+    driver: &mut Pass<N>,
+) {
+    let Ok(moment) = Moment::new(0) else {
+        panic!(rt; "moment");
+    };
+    assert!(rt; matches!(station.step(rt, alloc, driver, moment), Ok(Some(_))));
+}
+
+/// A fault in the last bit and the good attempt after it, as two sessions are told of them.
+fn last_bit<N: RollName + MeterName, R: Wait + Abort>(rt: &R, alloc: Global, blanks: Blanks)
+    requires { (blanks.roll ≡ N.roll 0) × (blanks.meter ≡ N.meter 0) }
+{
+    let Ok(names) = Names::read(alloc, "can0,can1") else {
+        panic!(rt; "names");
+    };
+    let Ok(script) = Script::read(alloc, "0 lastbit", &names) else {
+        panic!(rt; "script");
+    };
+    let hub = one_bus::<N, _, R>(rt, alloc, blanks, script);
+    assert!(rt; is_new(rt, &hub, 0) && is_new(rt, &hub, 1));
+    let mut first = Client::new(rt, alloc, &hub);
+    let mut second = Client::new(rt, alloc, &hub);
+    assert!(rt; first.counts(0) == Some((0, 0)));
+    let refused = "< error wrong state >< ok >< error wrong state >< ok >";
+    assert!(rt;
+        first.is_told(
+            alloc,
+            "< status >< open can0 >< status >< rawmode >",
+            refused
+        )
+    );
+    assert!(rt; second.is_told(alloc, "< open can1 >< rawmode >", "< ok >< ok >"));
+    let before = "< status active 0 0 >";
+    assert!(rt; first.is_told(alloc, "< send 123 0 >< status >", before));
+    let Some(station) = first.port.station() else {
+        panic!(rt; "station");
+    };
+    let Ok(mut driver) = station.enter(rt, alloc) else {
+        panic!(rt; "driver");
+    };
+    attempt(rt, alloc, station, &mut driver);
+    assert!(rt; first.is_told(alloc, "< status >", "< status active 8 0 >"));
+    attempt(rt, alloc, station, &mut driver);
+    assert!(rt; first.is_told(alloc, "< status >", "< status active 7 0 >"));
+    assert!(rt; second.is_told(alloc, "< status >", "< status active 0 0 >"));
+    assert!(rt; second.counts(0) == Some((7, 0)) && second.counts(2) == Some((0, 0)));
+}
+
+/// A session's gauge reads what the station published, attempt by attempt.
+#[test]
+fn a_session_is_told_its_error_counters(rt: HostRuntime) {
+    let alloc = rt.alloc();
+    let Ok(blanks) = Blanks::new(alloc, 2) else {
+        panic!(&rt; "blanks");
+    };
+    last_bit::<Brand, _>(&rt, alloc, blanks);
+}
