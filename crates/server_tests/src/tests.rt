@@ -7,7 +7,7 @@ mod ports;
 
 use can_attempt::AckMode;
 use can_bus::BusConfig;
-use can_fault::Perfect;
+use can_fault::{FaultSource, Perfect};
 use can_frame::{Iface, IfaceSet, Moment, Names};
 use can_meter::MeterName;
 use can_roll::RollName;
@@ -60,18 +60,24 @@ fn moment<R: Abort>(rt: &R, micros: u64) -> Moment {
     moment
 }
 
-/// What a bus of these two names is made of.
-fn bench<G: Gate + Drop, R: Abort>(
+/// What a bus of these names, two as it is, is made of. It has no faults and holds nobody.
+fn bench<R: Abort>(rt: &R, alloc: Global, names: Names) -> Bench<Perfect, Open> {
+    held_bench(rt, alloc, names, Perfect, Open)
+}
+
+/// The same, with these faults and this gate.
+fn held_bench<F: FaultSource + Drop, G: Gate + Drop, R: Abort>(
     rt: &R,
     alloc: Global,
     names: Names,
+    source: F,
     gate: G,
-) -> Bench<Perfect, G> {
+) -> Bench<F, G> {
     Bench {
         names,
         blanks: blanks(rt, alloc),
         config: config(),
-        source: Perfect,
+        source,
         gate,
         pace_ms: 0,
         rx_capacity: 16,
@@ -80,28 +86,24 @@ fn bench<G: Gate + Drop, R: Abort>(
 
 /// What a hub of one bus is made of, can0 and can1.
 fn one_bus<R: Abort>(rt: &R, alloc: Global) -> Vec<Bench<Perfect, Open>> {
-    one(
-        rt,
-        alloc,
-        bench(rt, alloc, names(rt, alloc, "can0,can1"), Open),
-    )
+    one(rt, alloc, bench(rt, alloc, names(rt, alloc, "can0,can1")))
 }
 
 /// What a hub of two buses is made of, can0 and can1, and far0 and far1.
 fn two_buses<R: Abort>(rt: &R, alloc: Global) -> Vec<Bench<Perfect, Open>> {
-    let near = bench(rt, alloc, names(rt, alloc, "can0,can1"), Open);
-    let far = bench(rt, alloc, names(rt, alloc, "far0,far1"), Open);
+    let near = bench(rt, alloc, names(rt, alloc, "can0,can1"));
+    let far = bench(rt, alloc, names(rt, alloc, "far0,far1"));
     two(rt, alloc, near, far)
 }
 
-fn made<N: RollName + MeterName, G: Gate + Drop, R: Abort>(
+fn made<N: RollName + MeterName, F: FaultSource + Drop, G: Gate + Drop, R: Abort>(
     rt: &R,
     alloc: Global,
-    benches: Vec<Bench<Perfect, G>>,
-) -> Hub<N, Perfect, G>
+    benches: Vec<Bench<F, G>>,
+) -> Hub<N, F, G>
     requires { NamedFrom N.roll N.meter 0 benches.items }
 {
-    let Ok(hub) = Hub::<N, Perfect, G>::new(alloc, benches) else {
+    let Ok(hub) = Hub::<N, F, G>::new(alloc, benches) else {
         panic!(rt; "no hub");
     };
     hub

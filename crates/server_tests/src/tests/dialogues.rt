@@ -16,7 +16,7 @@ fn dialogue<N: RollName + MeterName, R: Wait + Abort>(
 )
     requires { NamedFrom N.roll N.meter 0 benches.items }
 {
-    let hub = made::<N, _, _>(rt, alloc, benches);
+    let hub = made::<N, _, _, _>(rt, alloc, benches);
     let moment = moment(rt, 23_424_242);
     let mut first_port = PassPort::new(rt, alloc, &hub);
     let mut second_port = PassPort::new(rt, alloc, &hub);

@@ -34,7 +34,7 @@ fn many<R: Abort>(rt: &R, alloc: Global, count: u32) -> Vec<Bench<Perfect, Open>
         let Ok(both) = format!(in alloc; "a{number},b{number}") else {
             panic!(rt; "no names");
         };
-        let bench = bench(rt, alloc, names(rt, alloc, &both), Open);
+        let bench = bench(rt, alloc, names(rt, alloc, &both));
         assert!(rt; benches.push(bench).is_ok());
     }
     benches
@@ -52,15 +52,15 @@ fn a_hub_has_one_to_sixteen_buses(rt: HostRuntime) {
 #[test]
 fn no_name_stands_on_two_buses(rt: HostRuntime) {
     let alloc = rt.alloc();
-    let first = bench(&rt, alloc, names(&rt, alloc, "can0,can1"), Open);
-    let second = bench(&rt, alloc, names(&rt, alloc, "can2,can0"), Open);
+    let first = bench(&rt, alloc, names(&rt, alloc, "can0,can1"));
+    let second = bench(&rt, alloc, names(&rt, alloc, "can2,can0"));
     let benches = two(&rt, alloc, first, second);
     assert!(&rt; fault_of(alloc, benches) == Some(BusFault::BadConfig));
 }
 
 /// The fault of a bus with sockets of this capacity.
 fn capacity_fault<R: Abort>(rt: &R, alloc: Global, capacity: u32) -> Option<BusFault> {
-    let mut bench = bench(rt, alloc, names(rt, alloc, "can0,can1"), Open);
+    let mut bench = bench(rt, alloc, names(rt, alloc, "can0,can1"));
     bench.rx_capacity = capacity;
     fault_of(alloc, one(rt, alloc, bench))
 }
@@ -77,9 +77,9 @@ fn a_socket_holds_one_to_65536_items(rt: HostRuntime) {
 #[test]
 fn blanks_and_names_are_of_each_interface(rt: HostRuntime) -> Result<(), Fail> {
     let alloc = rt.alloc();
-    let mut more_blanks = bench(&rt, alloc, names(&rt, alloc, "can0,can1"), Open);
+    let mut more_blanks = bench(&rt, alloc, names(&rt, alloc, "can0,can1"));
     more_blanks.blanks = Blanks::new(alloc, 3)?;
-    let more_names = bench(&rt, alloc, names(&rt, alloc, "can0,can1,can2"), Open);
+    let more_names = bench(&rt, alloc, names(&rt, alloc, "can0,can1,can2"));
     for bench in two(&rt, alloc, more_blanks, more_names) {
         assert!(&rt; fault_of(alloc, one(&rt, alloc, bench)) == Some(BusFault::BadConfig));
     }
@@ -93,7 +93,7 @@ fn finds<N: RollName + MeterName, R: Abort>(
 )
     requires { NamedFrom N.roll N.meter 0 benches.items }
 {
-    let hub = made::<N, _, _>(rt, alloc, benches);
+    let hub = made::<N, _, _, _>(rt, alloc, benches);
     assert!(rt; hub.count() == 2);
     assert!(rt; hub.find("can0") == Some((0, iface(rt, 0))));
     assert!(rt; hub.find("can1") == Some((0, iface(rt, 1))));
@@ -116,7 +116,7 @@ fn reads_nothing<N: RollName + MeterName, R: Wait + Abort>(
 )
     requires { NamedFrom N.roll N.meter 0 benches.items }
 {
-    let hub = made::<N, _, _>(rt, alloc, benches);
+    let hub = made::<N, _, _, _>(rt, alloc, benches);
     assert!(rt; hub.count() == 2);
     let Ok(mut gauge) = hub.gauge(rt, 0) else {
         panic!(rt; "no gauge");
@@ -161,7 +161,7 @@ fn settled<N: RollName + MeterName, R: Wait + Abort>(
 ) -> Result<Vec<Settled>, SettleFault>
     requires { NamedFrom N.roll N.meter 0 benches.items }
 {
-    let hub = made::<N, _, _>(rt, alloc, benches);
+    let hub = made::<N, _, _, _>(rt, alloc, benches);
     let near = one(rt, alloc, caller(rt, alloc, &hub, b"can0"));
     let far = one(rt, alloc, caller(rt, alloc, &hub, b"far1"));
     let passes = if is_exchanged {

@@ -16,7 +16,7 @@ fn attaches<N: RollName + MeterName, R: Wait + Abort>(
 )
     requires { NamedFrom N.roll N.meter 0 benches.items }
 {
-    let hub = made::<N, _, _>(rt, alloc, benches);
+    let hub = made::<N, _, _, _>(rt, alloc, benches);
     let mut port = PassPort::new(rt, alloc, &hub);
     let unknown = Err(PortRefusal::Bus(Refusal::NoInterface));
     assert!(rt; port.attach(b"can2") == unknown);
@@ -43,7 +43,7 @@ fn attaches_often<N: RollName + MeterName, R: Wait + Abort>(
 )
     requires { NamedFrom N.roll N.meter 0 benches.items }
 {
-    let hub = made::<N, _, _>(rt, alloc, benches);
+    let hub = made::<N, _, _, _>(rt, alloc, benches);
     for _ in 0..4_096 {
         let mut port = PassPort::new(rt, alloc, &hub);
         assert!(rt; port.attach(b"can0").is_ok());
