@@ -2,12 +2,15 @@ use Rattle.std.proofs.Common.{◌≡◌, ℕ, List, [], Option, Some, Result, Ok
 use Rattle.can_confine.specs.Confinement.{ErrorCounts}
 use Rattle.can_meter.specs.Readings.{Readings}
 use Rattle.can_bus.specs.declared.events.Event.{Event}
+use Rattle.can_bus.specs.declared.events.Event.TheVariants as event
 use Rattle.can_bus.specs.declared.events.Reply.{Reply}
+use Rattle.can_bus.specs.declared.events.Reply.TheVariants as reply
+use Rattle.std.specs.Prelude.{slice_get}
 use Rattle.can_session.specs.declared.port.PortRefusal.{PortRefusal}
 use Rattle.can_station.specs.Passes.{PassSeen, Called}
 use Rattle.can_station.specs.declared.refusals.StationRefusal.{StationRefusal}
-use Rattle.can_server.specs.Buses.{BusSeen, IsFirstNamed}
-use Rattle.can_server.specs.PassSteps.{EnteredSeen, PortSeen, newly_entered, passed_on, OnPass, OnPort, SomeNamed, Attaches, GaugeTells, TellsCounters}
+use Rattle.can_server.specs.Buses.{BusSeen, IsFirstNamed, items_on}
+use Rattle.can_server.specs.PassSteps.{EnteredSeen, PortSeen, newly_entered, passed_on, room_in, OnPass, OnPort, SomeNamed, Attaches, GaugeTells, TellsCounters}
 
 -- a call of the station that was entered is one of the port
 pub on_pass : {A : Type 0} (told : A → Reply) (old : PortSeen) (buses : List BusSeen) (inside : Option EnteredSeen) (now : EnteredSeen) (pass : PassSeen) (e : Event) (outcome : Result A StationRefusal) (answer : Result A PortRefusal)
@@ -16,6 +19,18 @@ pub on_pass : {A : Type 0} (told : A → Reply) (old : PortSeen) (buses : List B
 on_pass {A} told old buses inside now pass e outcome answer seen is same called =
     subst (λ (o : PortSeen). OnPort told o e answer (record { buses = buses; entered = Some (record now { pass = pass }) })) seen
     (subst (λ (o : Option EnteredSeen). OnPass told o e answer (Some (record now { pass = pass }))) (sym is) (outcome, pass, same, called, refl), refl)
+
+-- a socket that is opened holds as many items as the bus has it
+pub opens : (old : PortSeen) (buses : List BusSeen) (inside : Option EnteredSeen) (now : EnteredSeen) (pass : PassSeen) (iface room : ℕ) (outcome : Result ℕ StationRefusal) (answer : Result ℕ PortRefusal)
+    → ◌≡◌ {A = PortSeen} (record { buses = buses; entered = inside }) old → inside ≡ Some now → room ≡ items_on (slice_get buses now.number) → answer ≡ passed_on outcome
+    → Called (λ x. reply.Opened x) now.number now.pass (event.Open iface room) outcome pass
+    → OnPort (λ x. reply.Opened x) old (event.Open iface (room_in old.buses old.entered)) answer (record { buses = buses; entered = Some (record now { pass = pass }) })
+opens old buses inside now pass iface room outcome answer seen is has same called =
+    let after : PortSeen = record { buses = buses; entered = Some (record now { pass = pass }) } in
+    let asked : Called (λ x. reply.Opened x) now.number now.pass (event.Open iface (items_on (slice_get buses now.number))) outcome pass =
+    subst (λ (n : ℕ). Called (λ x. reply.Opened x) now.number now.pass (event.Open iface n) outcome pass) has called in
+    subst (λ (o : PortSeen). OnPort (λ x. reply.Opened x) o (event.Open iface (room_in o.buses o.entered)) answer after) seen
+    (subst (λ (o : Option EnteredSeen). OnPass (λ x. reply.Opened x) o (event.Open iface (room_in buses o)) answer (Some (record now { pass = pass }))) (sym is) (outcome, pass, same, asked, refl), refl)
 
 -- what its gauge tells is told by the port
 pub on_gauge : (old : PortSeen) (buses : List BusSeen) (inside : Option EnteredSeen) (now : EnteredSeen) (gauge : Readings) (iface : ℕ) (answer : ErrorCounts)

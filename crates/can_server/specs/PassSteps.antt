@@ -1,4 +1,4 @@
-use Rattle.std.specs.Prelude.{◌≡◌, ◌<◌, ◌≤◌, ◌⊎◌, ℕ, List, [], Option, Some, None, Result, Ok, Err}
+use Rattle.std.specs.Prelude.{◌≡◌, ◌<◌, ◌≤◌, ◌⊎◌, ℕ, List, [], Option, Some, None, Result, Ok, Err, slice_get}
 use mathlib.Core.List.{IsSuffix}
 use Rattle.can_confine.specs.Confinement.{ErrorCounts, at_start}
 use Rattle.can_meter.specs.Publications.{newest, published}
@@ -17,7 +17,7 @@ use Rattle.can_session.specs.Calls.Call.{Attach, Open, Close, SetFilters, SetOpt
 use Rattle.can_station.specs.Passes.{PassSeen, Called}
 use Rattle.can_station.specs.declared.refusals.StationRefusal.{StationRefusal}
 use Rattle.can_station.specs.declared.refusals.StationRefusal.TheVariants as station
-use Rattle.can_server.specs.Buses.{BusSeen, IsFirstNamed}
+use Rattle.can_server.specs.Buses.{BusSeen, IsFirstNamed, items_on}
 
 -- A pass as a port: each call but the look-ups is the station's.
 
@@ -35,6 +35,11 @@ pub record PortSeen : Type 0 where
 -- a station that was entered with this gauge and a pass that has made no call
 abbrev pub newly_entered : ℕ → Readings → ℕ → EnteredSeen
 newly_entered bus gauge pass = record { number = bus; gauge = gauge; pass = record { number = bus; pass = pass; calls = [] } }
+
+-- how many items a socket holds on the bus that was entered
+abbrev pub room_in : List BusSeen → Option EnteredSeen → ℕ
+room_in buses None = 0
+room_in buses (Some e) = items_on (slice_get buses e.number)
 
 -- a station's answer, as a port gives it
 abbrev pub passed_on : {A : Type 0} → Result A StationRefusal → Result A PortRefusal
@@ -85,7 +90,7 @@ TellsCounters (Some old) iface answer new = (gauge : Readings) × GaugeTells old
 -- a call on a port over a pass
 abbrev pub PassStep : PortSeen → (call : Call) → CallReply call → PortSeen → Type 0
 PassStep old (Attach name) answer new = Attaches old name answer new
-PassStep old (Open iface capacity) answer new = OnPort reply.Opened old (event.Open iface capacity) answer new
+PassStep old (Open iface asked) answer new = OnPort reply.Opened old (event.Open iface (room_in old.buses old.entered)) answer new
 PassStep old (Close socket) answer new = OnPort reply.Closed old (event.Close socket) answer new
 PassStep old (SetFilters socket filters) answer new = OnPort done_reply old (event.SetFilters socket filters) answer new
 PassStep old (SetOption socket option) answer new = OnPort done_reply old (event.SetOption socket option) answer new

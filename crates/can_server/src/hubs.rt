@@ -1,6 +1,6 @@
-ghost use Rattle.std.specs.Prelude.{◌≡◌, ◌<◌, ◌≤◌, length, IfOk, IfErr, MatchResult, All, ◌↔◌, slice_index_or};
+ghost use Rattle.std.specs.Prelude.{◌≡◌, ◌<◌, ◌≤◌, length, IfOk, IfErr, MatchResult, All, ◌↔◌, slice_index_or, slice_get};
 ghost use Rattle.can_frame.specs.Names.{AreNames, place_of};
-ghost use Rattle.can_server.specs.Buses.{BusSeen, IsFirstNamed};
+ghost use Rattle.can_server.specs.Buses.{BusSeen, IsFirstNamed, items_on};
 ghost use Rattle.can_server.specs.Benches.{IsProper, MakeHub, NamedFrom, bus_of, buses_from};
 ghost use Rattle.can_server.specs.Settling.{AllOwn, AllSettle, FirstForeign};
 
@@ -153,6 +153,16 @@ impl<N: RollName + MeterName, F: FaultSource + Drop, G: Gate + Drop> Hub<N, F, G
         requires { bus < length self.now }
     {
         self.wires[bus].pace_ms
+    }
+
+    /// How many items a socket of a bus holds.
+    pub(crate) fn rx_capacity(&self, bus: usize) -> u32
+        ensures { result ≡ items_on (slice_get self.now bus) }
+    {
+        match self.wires.get(bus) {
+            Some(wire) => wire.rx_capacity,
+            None => 0,
+        }
     }
 
     /// Another gauge of a bus's meter, which reads the error counters without the lock. `AllocError` where there

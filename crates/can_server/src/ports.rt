@@ -38,7 +38,8 @@ impl<'a, N: RollName + MeterName, F: FaultSource + Drop, G: Gate + Drop> Model
 /// `attach` takes a gauge of the station whose bus has the name and enters it; a pass that was entered before is
 /// lost to `settle`. Refusals, in this order: `NoInterface`; `NoMemory` where it is refused to the gauge;
 /// `TooManyPasses`. Each other call but the two counts and the status is that call of the station, made with the
-/// pass, and may wait for its lock. Where no station was entered there is no socket.
+/// pass, and may wait for its lock; a socket holds as many items as its bus says, whatever is asked. Where no station
+/// was entered there is no socket.
 ///
 /// `status` tells the error counters that were published last, as the gauge reads them: it takes no lock and waits
 /// for nobody. They are 0/0 where no station was entered, or where its bus has no such interface.
@@ -165,10 +166,11 @@ impl<'a, N: RollName + MeterName, F: FaultSource + Drop, G: Gate + Drop, R: Wait
         Ok(found.1)
     }
 
-    fn open(&mut self, iface: Iface, capacity: u32) -> Result<SocketId, PortRefusal> {
+    fn open(&mut self, iface: Iface, _asked: u32) -> Result<SocketId, PortRefusal> {
         let Some(entered) = &mut self.entered else {
             return Err(PortRefusal::Bus(Refusal::NoSocket));
         };
+        let capacity = self.hub.rx_capacity(usize::from(entered.station.number()));
         pass_on(
             entered
                 .station

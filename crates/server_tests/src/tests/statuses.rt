@@ -1,16 +1,19 @@
 // What a session is told of the error counters of its interface, by a gauge.
 
-ghost use Rattle.std.specs.Prelude.{◌≡◌};
+ghost use Rattle.std.specs.Prelude.{◌≡◌, length};
+ghost use Rattle.can_server.specs.Benches.{NamedFrom};
 
 use super::*;
 use can_fault::Script;
-use can_frame::Iface;
-use can_session::Port;
+use can_session::Session;
 use can_station::Station;
+use std::marker::Brand;
+use test_streams::Output;
 
 /// A session over a pass.
 #[derive(Drop)]
 struct Client<'a, N: RollName + MeterName, R: Wait> {
+    rt: &'a R,
     session: Session,
     port: PassPort<'a, N, Script, Open, R>,
 }
@@ -22,15 +25,13 @@ impl<'a, N: RollName + MeterName, R: Wait + Abort> Client<'a, N, R> {
             panic!(rt; "session");
         };
         let port = PassPort::new(rt, alloc, hub);
-        Client { session, port }
+        Client { rt, session, port }
     }
 
     /// Whether it is told this for a piece.
     fn is_told(&mut self, alloc: Global, piece: &str, wanted: &str) -> bool {
         let mut out = Output::new(alloc, 1_000);
-        let Ok(moment) = Moment::new(0) else {
-            return false;
-        };
+        let moment = moment(self.rt, 0);
         let fed = self
             .session
             .feed(alloc, piece.as_bytes(), moment, &mut self.port, &mut out);
@@ -70,23 +71,19 @@ fn attempt<N: RollName + MeterName, R: Wait + Abort>(
     station: &Station<N, Script, Open>,
     driver: &mut Pass<N>,
 ) {
-    let Ok(moment) = Moment::new(0) else {
-        panic!(rt; "moment");
-    };
+    let moment = moment(rt, 0);
     assert!(rt; matches!(station.step(rt, alloc, driver, moment), Ok(Some(_))));
 }
 
 /// A fault in the last bit and the good attempt after it, as two sessions are told of them.
-fn last_bit<N: RollName + MeterName, R: Wait + Abort>(rt: &R, alloc: Global, blanks: Blanks)
-    requires { (blanks.roll ≡ N.roll 0) × (blanks.meter ≡ N.meter 0) }
+fn last_bit<N: RollName + MeterName, R: Wait + Abort>(
+    rt: &R,
+    alloc: Global,
+    benches: Vec<Bench<Script, Open>>,
+)
+    requires { NamedFrom N.roll N.meter 0 benches.items }
 {
-    let Ok(names) = Names::read(alloc, "can0,can1") else {
-        panic!(rt; "names");
-    };
-    let Ok(script) = Script::read(alloc, "0 lastbit", &names) else {
-        panic!(rt; "script");
-    };
-    let hub = one_bus::<N, _, R>(rt, alloc, blanks, script);
+    let hub = made::<N, _, _, _>(rt, alloc, benches);
     assert!(rt; is_new(rt, &hub, 0) && is_new(rt, &hub, 1));
     let mut first = Client::new(rt, alloc, &hub);
     let mut second = Client::new(rt, alloc, &hub);
@@ -116,12 +113,20 @@ fn last_bit<N: RollName + MeterName, R: Wait + Abort>(rt: &R, alloc: Global, bla
     assert!(rt; second.counts(0) == Some((7, 0)) && second.counts(2) == Some((0, 0)));
 }
 
+/// What a bus is made of whose first attempt has a fault in the last bit.
+fn faulty<R: Abort>(rt: &R, alloc: Global) -> Vec<Bench<Script, Open>>
+    ensures { length result.items ≡ 1 }
+{
+    let names = names(rt, alloc, "can0,can1");
+    let Ok(script) = Script::read(alloc, "0 lastbit", &names) else {
+        panic!(rt; "no script");
+    };
+    one(rt, alloc, held_bench(rt, alloc, names, script, Open))
+}
+
 /// A session's gauge reads what the station published, attempt by attempt.
 #[test]
 fn a_session_is_told_its_error_counters(rt: HostRuntime) {
-    let alloc = rt.alloc();
-    let Ok(blanks) = Blanks::new(alloc, 2) else {
-        panic!(&rt; "blanks");
-    };
-    last_bit::<Brand, _>(&rt, alloc, blanks);
+    let benches = faulty(&rt, rt.alloc());
+    last_bit::<Brand, _>(&rt, rt.alloc(), benches);
 }
