@@ -1,13 +1,13 @@
 //! Command lines that are refused, and those that ask for help.
 use super::support::run;
+use can_jobs::ServerRuntime;
 use std::alloc::Global;
 use std::process::Abort;
-use std::rt::Files;
 use std::test::Fail;
 
 /// How what a command line writes to its output and its errors begins, and its status.
 fn tells(
-    rt: &(impl Abort + Files),
+    rt: &(impl Abort + ServerRuntime),
     alloc: Global,
     line: &str,
     wanted: (&str, &str, u8),
