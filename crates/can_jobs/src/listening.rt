@@ -2,44 +2,61 @@
 
 use crate::faults::{Failure, Fault};
 use crate::notes::reason_note;
-use can_server::Listener;
+use can_server::{Door, Listener};
 use std::alloc::{AllocError, Global};
-use std::io::ErrorKind;
+use std::io::{Error, ErrorKind};
 use std::net::{Net, TcpListener, TcpStream};
 use std::os::unix::fs::FileTypeExt;
 use std::os::unix::net::{UnixListener, UnixStream};
 use std::rt::Files;
 use std::{fs, io};
 
-/// A listener, and the text of its address.
+/// A door where a server listens, and the text of its address.
 #[derive(Drop)]
 pub struct Listening {
-    pub listener: Listener,
+    pub door: Door,
     /// The address as it was given; where its port is 0, the address that the listener got.
     pub heard: String,
 }
 
-/// Listens at an address: a Unix path where it begins with `/` or `.`, else host and port. Of a Unix path a socket
-/// that an earlier run left is removed, but nothing else is.
+/// Listens at an address, for so many sessions: a Unix path where it begins with `/` or `.`, else host and port. Of a
+/// Unix path a socket that an earlier run left is removed, but nothing else is.
 pub fn listen<'a, H: Files + Net<Listener = TcpListener, Stream = TcpStream>>(
     rt: &H,
     alloc: Global,
     address: &str,
+    sessions: u32,
 ) -> Result<Listening, Failure<'a>> {
-    let listener = match bind(rt, address) {
-        Ok(listener) => listener,
-        Err(error) => {
-            let reason = reason_note(alloc, address, &error);
-            return Err(Failure::with(alloc, Fault::CannotListen, reason));
+    match bind(rt, address) {
+        Ok(listener) => {
+            let opened = open(alloc, address, listener, sessions);
+            if opened.is_err() {
+                leave(rt, address);
+            }
+            opened
         }
-    };
-    match heard_at(alloc, address, &listener) {
-        Ok(heard) => Ok(Listening { listener, heard }),
-        Err(_) => {
-            leave(rt, address);
-            Err(Failure::new(alloc, Fault::NoMemory))
-        }
+        Err(error) => Err(listen_failure(alloc, address, &error)),
     }
+}
+
+fn open<'a>(
+    alloc: Global,
+    address: &str,
+    listener: Listener,
+    sessions: u32,
+) -> Result<Listening, Failure<'a>> {
+    let Ok(heard) = heard_at(alloc, address, &listener) else {
+        return Err(Failure::new(alloc, Fault::NoMemory));
+    };
+    match Door::new(listener, sessions) {
+        Ok(door) => Ok(Listening { door, heard }),
+        Err(error) => Err(listen_failure(alloc, address, &error)),
+    }
+}
+
+/// Why nobody can connect.
+pub fn listen_failure<'a>(alloc: Global, place: &str, error: &Error) -> Failure<'a> {
+    Failure::with(alloc, Fault::CannotListen, reason_note(alloc, place, error))
 }
 
 /// Removes the file that listening at this address made.

@@ -6,8 +6,8 @@ use crate::buses::{Source, bus_config, read_names, read_source};
 use crate::faults::{Failure, Fault, Telling};
 use crate::files::{INPUT, OUTPUT, write_failure};
 use crate::hosts::Host;
-use crate::listening::{Listening, leave, listen};
-use crate::notes::{buses_note, fixed_note, reason_note};
+use crate::listening::{Listening, leave, listen, listen_failure};
+use crate::notes::{buses_note, fixed_note};
 use crate::serve_files::save_all;
 use crate::serve_options::ServeOptions;
 use can_bus::BusFault;
@@ -166,11 +166,8 @@ impl<'r, 'a, H: ServerRuntime> ServerRun<'r, 'a, H> {
         ensures { IfOk result (λ passes. length passes.items ≡ length hub.now) }
     {
         let address = self.options.address;
-        let Listening { listener, heard } = listen(self.rt, self.alloc, address)?;
-        let door = Door {
-            listener,
-            sessions: self.options.sessions,
-        };
+        let sessions = self.options.sessions;
+        let Listening { door, heard } = listen(self.rt, self.alloc, address, sessions)?;
         let served = match put_listening(self.alloc, &heard, output) {
             Ok(()) => self.serve_door(hub, door, input, errors),
             Err(failure) => Err(failure),
@@ -213,10 +210,7 @@ impl<'r, 'a, H: ServerRuntime> ServerRun<'r, 'a, H> {
     fn end_of<R: Read + Drop + Send + 'static>(&self, input: R) -> Result<UnixStream, Failure<'a>> {
         let (ours, theirs) = match UnixStream::pair(self.rt) {
             Ok(pair) => pair,
-            Err(error) => {
-                let reason = reason_note(self.alloc, INPUT, &error);
-                return Err(Failure::with(self.alloc, Fault::CannotListen, reason));
-            }
+            Err(error) => return Err(listen_failure(self.alloc, INPUT, &error)),
         };
         match thread::spawn(self.rt, move || end_with(input, &theirs)) {
             Ok(_) => Ok(ours),
