@@ -1,11 +1,7 @@
-use Rattle.std.specs.Prelude.{◌≡◌, ℕ, ◌-◌, ◌^◌, List, length, Option, Some, None, Result, Ok, Err, if◌then◌else◌}
+use Rattle.std.specs.Prelude.{◌≡◌, ℕ, List, length, Option, Result, Ok, Err}
 use Rattle.std.specs.Io.KnownBytes.{Keeps}
-use Rattle.can_frame.specs.declared.ifaces.IfaceSet.{IfaceSet}
-use Rattle.can_frame.specs.Sets.{no_ifaces}
 use Rattle.can_frame.specs.Names.{AreNames, names_in}
-use Rattle.can_fault.specs.Sources.{VerdictMap, no_verdicts}
-use Rattle.can_fault.specs.Scripts.{Reads as Spells}
-use Rattle.can_bus.specs.declared.events.BusConfig.{BusConfig}
+use Rattle.can_fault.specs.Sources.{VerdictMap}
 use Rattle.can_bus.specs.Journal.{Kept}
 use Rattle.can_bus.specs.Legal.{IsLegal}
 use Rattle.can_session.specs.declared.bench_run.BenchFault.{BenchFault}
@@ -14,22 +10,15 @@ use Rattle.can_session.specs.Lines.{Input}
 use Rattle.can_session.specs.Benches.{BenchState}
 use Rattle.can_session.specs.Runs.{IsBench, IsRecordOf, Ends, at_start}
 use Rattle.can_jobs.specs.declared.options.BenchOptions.{BenchOptions}
+use Rattle.can_jobs.specs.Buses.{AreVerdicts, config_of}
 use Rattle.can_jobs.specs.declared.faults.Fault.{Fault}
 use Rattle.can_jobs.specs.declared.faults.Fault.TheVariants as fault
 
 -- What the options of a bench ask for (own choice).
 
--- the set of the interfaces below n
-abbrev pub first_ifaces : ℕ → IfaceSet
-first_ifaces n = record { 0 = 2 ^ n - 1 }
-
--- the bus that options describe, of n interfaces; all of them report faults, or none does
-abbrev pub config_of : BenchOptions → ℕ → BusConfig
-config_of o n = record { ifaces = n; ack = o.ack; reporting = if o.is_reporting then first_ifaces n else no_ifaces; tx_capacity = o.tx_capacity; limit = o.limit }
-
 -- the bench that options describe, with these names, before its first line
 abbrev pub begun : BenchOptions → List (List ℕ) → BenchState
-begun o names = at_start names (config_of o (length names)) o.rx_capacity
+begun o names = at_start names (config_of o.settings (length names)) o.settings.rx_capacity
 
 -- a run over the bytes of a reader ends so, wherever it leaves the reader
 abbrev pub EndsOver : {W : Type 0} → (W → Option (List ℕ)) → VerdictMap → Option (List ℕ) → BenchState → W → Result Kept BenchFault → W → Type 0
@@ -37,26 +26,21 @@ EndsOver contents verdicts input at old r new = (now : Input) × Ends IsRecordOf
 
 -- how a run that options describe ends in a fault: nothing was read or written where a number is outside its limits
 abbrev pub StopsBy : {W : Type 0} → (W → Option (List ℕ)) → BenchOptions → List (List ℕ) → VerdictMap → Option (List ℕ) → W → Fault → W → Type 0
-StopsBy contents o names verdicts input out (fault.Bench BadConfig) new = (IsBench names (config_of o (length names)) o.rx_capacity → ⊥) × (new ≡ out)
+StopsBy contents o names verdicts input out (fault.Bench BadConfig) new = (IsBench names (config_of o.settings (length names)) o.settings.rx_capacity → ⊥) × (new ≡ out)
 StopsBy contents o names verdicts input out (fault.Bench why) new = EndsOver contents verdicts input (begun o names) out (Err why) new
 StopsBy contents o names verdicts input out _ new = ⊥
-
--- the verdicts of a run: those that some text spells where a script is named, else none
-abbrev pub AreVerdicts : {A : Type 0} → Option A → List (List ℕ) → VerdictMap → Type 0
-AreVerdicts None names verdicts = verdicts ≡ no_verdicts
-AreVerdicts (Some path) names verdicts = (text : List ℕ) × Spells names text (Ok verdicts)
 
 -- a run that options describe came to its end, with these names and this record
 pub record IsRun {W : Type 0} (contents : W → Option (List ℕ)) (o : BenchOptions) (names : List (List ℕ)) (input : Option (List ℕ)) (old : W) (r : Kept) (new : W) : Type 0 where
   pub verdicts : VerdictMap
-  pub scripted : AreVerdicts o.script names verdicts
+  pub scripted : AreVerdicts o.bus.script names verdicts
   pub ends : EndsOver contents verdicts input (begun o names) old (Ok r) new
   pub legal : IsLegal r.config r.history
 
 -- a run that options describe came to its end, and all that it put out was written
 pub record IsBenched {W : Type 0} (contents : W → Option (List ℕ)) (o : BenchOptions) (input : Option (List ℕ)) (old new : W) : Type 0 where
-  pub named : AreNames (names_in o.names.now)
+  pub named : AreNames (names_in o.bus.names.now)
   pub kept : Kept
   pub written : W
-  pub run : IsRun contents o (names_in o.names.now) input old kept written
+  pub run : IsRun contents o (names_in o.bus.names.now) input old kept written
   pub flushed : Keeps (contents written) (contents new)

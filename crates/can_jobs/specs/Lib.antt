@@ -1,3 +1,4 @@
 pub mod Audited
 pub mod Benched
+pub mod Buses
 pub mod Parted

@@ -1,28 +1,21 @@
-ghost use Rattle.std.specs.Prelude.{◌≡◌, ◌≤◌, length, reverse, IfErr, IfOk, Ok, OnOk};
-ghost use Rattle.std.specs.Io.KnownBytes.{Appends};
-ghost use Rattle.can_frame.specs.Names.{AreNames, names_in};
+ghost use Rattle.std.specs.Prelude.{IfErr, IfOk, Ok, OnOk};
 ghost use Rattle.can_bus.specs.Legal.{IsLegal};
-ghost use Rattle.can_audit.specs.Spelling.{record_spelling};
-ghost use Rattle.can_jobs.specs.Benched.{EndsOver, IsBenched, IsRun, StopsBy, begun, config_of};
-ghost use Rattle.can_jobs.specs.declared.faults.Fault.TheVariants as fault;
-ghost use Rattle.can_jobs.specs.Benched.{first_ifaces as first_ifaces_of};
+ghost use Rattle.can_jobs.specs.Benched.{EndsOver, IsBenched, IsRun, StopsBy, begun};
 
+use crate::buses::{bus_config, read_names, read_source};
 use crate::faults::{Failure, Fault};
-use crate::files::{OUTPUT, read_script, write_failure};
-use crate::notes::{fixed_note, input_note, limits_note, names_note, reason_note};
+use crate::files::{INPUT, OUTPUT, write_failure};
+use crate::notes::{fixed_note, input_note, limits_note, reason_note};
 use crate::options::BenchOptions;
 use crate::recent::Recent;
-use can_audit::write_record;
-use can_bus::{BusConfig, Record};
-use can_fault::{FaultSource, Perfect};
-use can_frame::{IfaceSet, Names, NamesError};
+use crate::saved::save_record;
+use can_bus::Record;
+use can_fault::FaultSource;
+use can_frame::Names;
 use can_session::{BenchConfig, BenchFault, bench};
 use std::alloc::{AllocError, Global};
-use std::fs;
-use std::io::{BufWriter, Error, ErrorKind, Read, Write};
+use std::io::{Read, Write};
 use std::rt::Files;
-
-const INPUT: &str = "standard input";
 
 /// Runs the bench that the options describe, over the lines of an input. The names are looked at first, then the
 /// script, and then the limits of the bus. The record is written behind a run that came to its end, once all its
@@ -36,7 +29,7 @@ pub fn run_bench<'a, H: Files, R: Read + Drop, W: Write>(
 ) -> Result<(), Failure<'a>>
     ensures { OnOk result (IsBenched W.contents options.entry (R.remaining input) output.old output.new) }
 {
-    let names = read_names(alloc, options.names)?;
+    let names = read_names(alloc, options.bus.names)?;
     let record = run_scripted(rt, alloc, options, names, input, output)?;
     output
         .flush()
@@ -45,17 +38,6 @@ pub fn run_bench<'a, H: Files, R: Read + Drop, W: Write>(
         Some(path) => save_record(rt, alloc, path, &record),
         None => Ok(()),
     }
-}
-
-fn read_names<'a>(alloc: Global, bus: &str) -> Result<Names, Failure<'a>>
-    ensures names { IfOk result (λ names. names ≡ names_in bus.now) }
-    ensures good { OnOk result (AreNames (names_in bus.now)) }
-    ensures bad { IfErr result (λ failure. failure.fault ≡ fault.BadNames → AreNames (names_in bus.now) → ⊥) }
-{
-    Names::read(alloc, bus).map_err(|error| match error {
-        NamesError::BadNames => Failure::with(alloc, Fault::BadNames, names_note(alloc, bus)),
-        NamesError::NoMemory => Failure::new(alloc, Fault::NoMemory),
-    })
 }
 
 // Runs the bench of these names, with the faults of the script that the options name.
@@ -69,13 +51,8 @@ fn run_scripted<'a, H: Files, R: Read + Drop, W: Write>(
 ) -> Result<Record, Failure<'a>>
     ensures { IfOk result (λ r. IsRun W.contents options.entry names (R.remaining input) output.old r output.new) }
 {
-    match options.script {
-        Some(path) => {
-            let script = read_script(rt, alloc, path, options.names, &names)?;
-            run_on(alloc, options, names, script, input, output)
-        }
-        None => run_on(alloc, options, names, Perfect, input, output),
-    }
+    let source = read_source(rt, alloc, options.bus, &names)?;
+    run_on(alloc, options, names, source, input, output)
 }
 
 // Runs the bench of these names and faults.
@@ -92,10 +69,10 @@ fn run_on<'a, F: FaultSource + Drop, R: Read + Drop, W: Write>(
     ensures fault { IfErr result (λ failure. StopsBy W.contents options.entry names (F.verdicts script) (R.remaining input) output.old failure.fault output.new) }
 {
     let config = BenchConfig {
-        config: bus_config(options, &names),
+        config: bus_config(options.settings, &names),
         names,
         script,
-        rx_capacity: options.rx_capacity,
+        rx_capacity: options.settings.rx_capacity,
     };
     let mut input = Recent::new(alloc, input);
     match bench(alloc, config, &mut input, output) {
@@ -115,7 +92,7 @@ fn bench_note<R: Read + Drop>(
     input: &Recent<R>,
 ) -> Result<String, AllocError> {
     match fault {
-        BenchFault::BadConfig => limits_note(alloc, options),
+        BenchFault::BadConfig => limits_note(alloc, &options.settings),
         BenchFault::BadLine(number) => match input.line(number) {
             Some(line) => input_note(alloc, INPUT, number, line),
             None => Ok(String::new(alloc)),
@@ -131,70 +108,7 @@ fn bench_note<R: Read + Drop>(
         BenchFault::Write => Ok(String::new(alloc)),
         BenchFault::NoMemory => fixed_note(
             alloc,
-            "a run takes 96 bytes of memory for each event of --limit",
+            "a run takes 104 bytes of memory for each event of --limit",
         ),
     }
-}
-
-// Writes the text of a record to the file with this path.
-fn save_record<'a, H: Files>(
-    rt: &H,
-    alloc: Global,
-    path: &'a str,
-    record: &Record,
-) -> Result<(), Failure<'a>> {
-    let file = fs::create(rt, path).map_err(|error| {
-        let reason = reason_note(alloc, path, &error);
-        Failure::with(alloc, Fault::CannotOpen(path), reason)
-    })?;
-    let mut file = BufWriter::new(alloc, file).map_err(|_| Failure::new(alloc, Fault::NoMemory))?;
-    put_record(alloc, path, record, &mut file)
-}
-
-// Writes the text of a record, to its last byte.
-fn put_record<'a, W: Write>(
-    alloc: Global,
-    path: &str,
-    record: &Record,
-    file: &mut W,
-) -> Result<(), Failure<'a>>
-    ensures { OnOk result (Appends (W.contents file.old) (W.contents file.new) (record_spelling «record».now.config (reverse «record».now.history))) }
-{
-    write_record(alloc, record, file).map_err(|error| record_failure(alloc, path, &error))?;
-    file.flush()
-        .map_err(|error| write_failure(alloc, path, &error))
-}
-
-// What a fault of writing a record is told as.
-fn record_failure<'a>(alloc: Global, path: &str, error: &Error) -> Failure<'a> {
-    if error.kind() == ErrorKind::OutOfMemory {
-        Failure::new(alloc, Fault::NoMemory)
-    } else {
-        write_failure(alloc, path, error)
-    }
-}
-
-// The bus that the options describe, for these names.
-fn bus_config(options: BenchOptions<'_>, names: &Names) -> BusConfig
-    ensures { result ≡ config_of options.entry (length names.now) }
-{
-    BusConfig {
-        ifaces: names.count(),
-        ack: options.ack,
-        reporting: if options.is_reporting {
-            first_ifaces(names.count())
-        } else {
-            IfaceSet::empty()
-        },
-        tx_capacity: options.tx_capacity,
-        limit: options.limit,
-    }
-}
-
-// The interfaces of a bus that has so many.
-fn first_ifaces(count: u8) -> IfaceSet
-    requires { count ≤ 16 }
-    ensures { result ≡ first_ifaces_of count }
-{
-    IfaceSet(((1_u32 << count) - 1) as u16)
 }

@@ -1,9 +1,11 @@
 ghost use Rattle.std.specs.Prelude.{◌≡◌};
 
 use can_audit::ReadFault;
+use can_bus::BusFault;
 use can_fault::ScriptError;
 use can_session::BenchFault;
 use std::alloc::{AllocError, Global};
+use std::io::Write;
 use thiserror::Error;
 
 /// Why a command line was not carried out, in the words that the program prints.
@@ -22,6 +24,17 @@ pub enum Fault<'a> {
     Script(ScriptError),
     #[error("{0}")]
     Bench(BenchFault),
+    /// No server can have these buses.
+    #[error("{0}")]
+    Buses(BusFault),
+    #[error("cannot listen")]
+    CannotListen,
+    /// The first name of a bus to which a pass of another came back.
+    #[error("bus {0}: wrong station")]
+    WrongStation(&'a str),
+    /// The log of the bus with this first name has so many whole lines, and no more could be written.
+    #[error("log of {name}: {whole_lines} whole lines")]
+    Log { name: &'a str, whole_lines: u64 },
     #[error("{0}")]
     Record(ReadFault),
     /// The first entry of a record that is no legal history, counted from 0.
@@ -59,5 +72,42 @@ impl<'a> Failure<'a> {
             Ok(notes) => Failure { fault, notes },
             Err(_) => Failure::new(alloc, fault),
         }
+    }
+
+    /// Writes `canbusd: TEXT` and the notes.
+    pub fn tell<E: Write>(&self, errors: &mut E) {
+        let fault = self.fault;
+        let _ = writeln!(errors, "canbusd: {fault}");
+        let _ = errors.write_all(self.notes.as_bytes());
+    }
+}
+
+/// Where faults are told that end a part of a job alone.
+#[derive(Drop)]
+pub struct Telling<'e, E: Write> {
+    errors: &'e mut E,
+    has_told: bool,
+}
+
+impl<'e, E: Write> Telling<'e, E> {
+    /// Nothing was told yet.
+    pub fn new(errors: &'e mut E) -> Telling<'e, E> {
+        Telling {
+            errors,
+            has_told: false,
+        }
+    }
+
+    /// Tells why a part of a job was not done, where it was not.
+    pub fn pass_on(&mut self, outcome: Result<(), Failure<'_>>) {
+        if let Err(failure) = outcome {
+            failure.tell(self.errors);
+            self.has_told = true;
+        }
+    }
+
+    /// Whether a fault was told.
+    pub fn has_told(&self) -> bool {
+        self.has_told
     }
 }

@@ -13,6 +13,9 @@ use std::fs;
 use std::io::{Error, Read};
 use std::rt::Files;
 
+/// What standard input is called where it fails.
+pub const INPUT: &str = "standard input";
+
 /// What standard output is called where it fails.
 pub const OUTPUT: &str = "standard output";
 

@@ -9,16 +9,27 @@
 
 mod audit_job;
 mod bench_job;
+pub mod bus_options;
+pub mod buses;
 pub mod faults;
 pub mod files;
+mod hosts;
+mod listening;
 mod notes;
 pub mod options;
 mod recent;
+mod saved;
+mod serve_files;
+mod serve_job;
+pub mod serve_options;
 mod shown;
 mod wrong_entries;
 
 pub use audit_job::{audit_file, audit_text};
 pub use bench_job::run_bench;
+pub use bus_options::{BusSettings, BusWord};
 pub use faults::{Failure, Fault};
 pub use files::{OUTPUT, read_text, write_failure};
 pub use options::{BenchOptions, Job, read_options};
+pub use serve_job::{ServerRuntime, run_serve};
+pub use serve_options::ServeOptions;

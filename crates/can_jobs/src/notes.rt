@@ -1,6 +1,6 @@
 //! The lines that stand behind a fault's text: what was wrong, where, and the way out. Each begins with two spaces.
 //! They are found anew from the texts that the program has, and one that there is no memory for is left out.
-use crate::options::BenchOptions;
+use crate::bus_options::{BusSettings, BusWord};
 use crate::shown::{Line, Shown};
 use can_audit::ReadFault;
 use can_fault::ScriptError;
@@ -58,11 +58,11 @@ fn is_repeated(names: &str, name: &str) -> bool {
 }
 
 /// Which option is past its limits.
-pub fn limits_note(alloc: Global, options: &BenchOptions<'_>) -> Result<String, AllocError> {
+pub fn limits_note(alloc: Global, settings: &BusSettings) -> Result<String, AllocError> {
     let limits = [
-        ("txqueue", options.tx_capacity, 1024),
-        ("rxqueue", options.rx_capacity, 65_536),
-        ("limit", options.limit, 16_777_216),
+        ("txqueue", settings.tx_capacity, 1024),
+        ("rxqueue", settings.rx_capacity, 65_536),
+        ("limit", settings.limit, 16_777_216),
     ];
     for (option, number, most) in limits {
         if number < 1 || number > most {
@@ -70,6 +70,29 @@ pub fn limits_note(alloc: Global, options: &BenchOptions<'_>) -> Result<String, 
         }
     }
     Ok(String::new(alloc))
+}
+
+/// Why no server can have these buses.
+pub fn buses_note(
+    alloc: Global,
+    settings: &BusSettings,
+    buses: &[BusWord<'_>],
+) -> Result<String, AllocError> {
+    let count = buses.len();
+    if count > 16 {
+        return format!(in alloc; "  {count} buses: a server has 1 to 16\n");
+    }
+    match shared_name(buses) {
+        Some(name) => format!(in alloc; "  {name}: this name stands on two buses\n"),
+        None => limits_note(alloc, settings),
+    }
+}
+
+// A name that stands on two buses, none of which has it twice.
+fn shared_name<'a>(buses: &[BusWord<'a>]) -> Option<&'a str> {
+    buses.iter().flat_map(|bus| bus.names.split(',')).find(|name| {
+        buses.iter().filter(|bus| has_name(bus.names, name)).count() > 1
+    })
 }
 
 /// The line of a script that is wrong, and why.

@@ -1,35 +1,21 @@
-ghost use Rattle.std.specs.Prelude.{◌≡◌, ◌↔◌, IfOk, IfSome};
-ghost use Rattle.std.specs.Option.{option_map};
-ghost use Rattle.can_jobs.specs.Parted.{AreGiven, IsNumberOf, IsPeers, given, names_part, script_part};
+ghost use Rattle.std.specs.Prelude.{IfOk};
+ghost use Rattle.can_jobs.specs.Parted.{AreGiven};
 
-use can_attempt::AckMode;
+use crate::bus_options::{
+    BUS, BusSettings, BusWord, Verb, bus_argument, settings_given, with_bus_options,
+};
+use crate::serve_options::{ServeOptions, serve_command, serve_options};
 use clap::error::ErrorKind;
-use clap::{Arg, ArgAction, ArgMatches, Command, Error};
+use clap::{Arg, ArgMatches, Command, Error};
 use std::alloc::{AllocError, Global};
 
-const ACK: &str = "ack";
-
-const ALWAYS: &str = "always";
-
-const PEERS: &str = "peers";
-
-const REPORT: &str = "report";
-
-const TXQUEUE: &str = "txqueue";
-
-const RXQUEUE: &str = "rxqueue";
-
-const LIMIT: &str = "limit";
-
 const RECORD: &str = "record";
-
-const BUS: &str = "BUS";
 
 const FILE: &str = "FILE";
 
 const PROGRAM_HELP: &str =
-    "`canbusd help bench` has the options of bench, the lines that it reads, and an example to copy.
-`man canbusd` has all of it, the statuses and the texts of faults.
+    "`canbusd help bench` has the options of bench, the lines that it reads, and an example to copy; `canbusd help serve`
+the options of serve, and how clients connect. `man canbusd` has all of it, the statuses and the texts of faults.
 
 Statuses: 0 done; 1 a fault, told as `canbusd: TEXT`; 2 a fault of the command line.
 
@@ -96,10 +82,12 @@ Example, with what it writes:
   2 < frame 123 0.000000 ABCD >";
 
 /// What a command line asks for.
-#[derive(Debug, Clone, Copy)]
+#[derive(Debug, Drop)]
 pub enum Job<'a> {
     /// To carry out the lines of the input.
     Bench(BenchOptions<'a>),
+    /// To serve clients.
+    Serve(ServeOptions<'a>),
     /// To audit the record in the file with this path.
     Audit(&'a str),
 }
@@ -107,20 +95,8 @@ pub enum Job<'a> {
 /// The words of `canbusd bench`.
 #[derive(Debug, Clone, Copy)]
 pub struct BenchOptions<'a> {
-    /// Who acknowledges frames.
-    pub ack: AckMode,
-    /// Whether sockets are told of each fault.
-    pub is_reporting: bool,
-    /// How many frames an interface keeps to be sent.
-    pub tx_capacity: u32,
-    /// How many items a socket keeps.
-    pub rx_capacity: u32,
-    /// How many events the run has at most.
-    pub limit: u32,
-    /// The names of the interfaces, joined by commas.
-    pub names: &'a str,
-    /// The path of the script of faults, if there is one.
-    pub script: Option<&'a str>,
+    pub settings: BusSettings,
+    pub bus: BusWord<'a>,
     /// The path of the file that gets the record, if it is wanted.
     pub record: Option<&'a str>,
 }
@@ -132,80 +108,23 @@ pub fn read_options<'a>(alloc: Global, words: &'a [String]) -> Result<Job<'a>, E
     if let Some(bench) = matches.subcommand_matches("bench") {
         return Ok(Job::Bench(bench_options(alloc, bench)?));
     }
+    if let Some(serve) = matches.subcommand_matches("serve") {
+        return Ok(Job::Serve(serve_options(alloc, serve)?));
+    }
     match matches.subcommand_matches("audit") {
         Some(audit) => Ok(Job::Audit(audit.get_str(FILE).unwrap_or(""))),
-        None => Err(bench_error(alloc, "no command was given")?),
+        None => Err(Verb::Bench.error(alloc, "no command was given")?),
     }
 }
 
 fn bench_options<'a>(alloc: Global, bench: &ArgMatches<'a>) -> Result<BenchOptions<'a>, Error>
     ensures { IfOk result (λ options. AreGiven bench.now options) }
 {
-    let (names, script) = parts(bench.get_str(BUS).unwrap_or(""));
     Ok(BenchOptions {
-        ack: ack_mode(bench),
-        is_reporting: bench.get_flag(REPORT),
-        tx_capacity: number_given(alloc, bench, TXQUEUE)?,
-        rx_capacity: number_given(alloc, bench, RXQUEUE)?,
-        limit: number_given(alloc, bench, LIMIT)?,
-        names,
-        script,
+        settings: settings_given(alloc, Verb::Bench, bench)?,
+        bus: BusWord::read(bench.get_str(BUS).unwrap_or("")),
         record: bench.get_str(RECORD),
     })
-}
-
-// The names of a bus, and what follows the first `@`, if there is one.
-fn parts(bus: &str) -> (&str, Option<&str>)
-    ensures names { result.0.now ≡ names_part bus.now }
-    ensures script { option_map (λ path. path.now) result.1 ≡ script_part bus.now }
-{
-    match bus.split_once('@') {
-        Some((names, script)) => (names, Some(script)),
-        None => (bus, None),
-    }
-}
-
-// The parser takes no other words than these two.
-fn ack_mode(bench: &ArgMatches<'_>) -> AckMode
-    ensures { (result ≡ AckMode.Peers) ↔ IsPeers bench.now }
-{
-    match bench.get_str(ACK) {
-        Some(word) if word == PEERS => AckMode::Peers,
-        _ => AckMode::Always,
-    }
-}
-
-// The number that an option was given, in decimal digits alone.
-fn number_given(alloc: Global, bench: &ArgMatches<'_>, option: &str) -> Result<u32, Error>
-    ensures { IfOk result (λ n. IsNumberOf n (given bench.now option.now)) }
-{
-    let text = bench.get_str(option).unwrap_or("");
-    match number_in(text) {
-        Some(number) => Ok(number),
-        None => {
-            let message = format!(in alloc;
-                "invalid value '{text}' for '--{option} <N>': not a number from 0 to 4294967295 in decimal digits"
-            )?;
-            Err(bench_error(alloc, &message)?)
-        }
-    }
-}
-
-// The number that a text of decimal digits alone writes.
-fn number_in(text: &str) -> Option<u32>
-    ensures { IfSome result (λ n. IsNumberOf n text.now) }
-{
-    if !text.bytes().all(|byte| byte.is_ascii_digit()) {
-        return None;
-    }
-    text.parse().ok()
-}
-
-// A fault of the words of `bench`, with its usage.
-fn bench_error(alloc: Global, message: &str) -> Result<Error, AllocError> {
-    bench_command(alloc)?
-        .bin_name("canbusd bench")?
-        .error(ErrorKind::ValueValidation, message)
 }
 
 fn program_command<'a>(alloc: Global) -> Result<Command<'a>, AllocError> {
@@ -215,21 +134,15 @@ fn program_command<'a>(alloc: Global) -> Result<Command<'a>, AllocError> {
         .after_help(PROGRAM_HELP)
         .subcommand_required(true)
         .subcommand(bench_command(alloc)?)?
+        .subcommand(serve_command(alloc)?)?
         .subcommand(audit_command(alloc)?)
 }
 
-fn bench_command<'a>(alloc: Global) -> Result<Command<'a>, AllocError> {
-    let tx_help = "Frames that an interface keeps to be sent, 1 to 1024";
-    let rx_help = "Frames that a socket keeps to be received, 1 to 65536";
-    let limit_help = "Calls and attempts of the run, 1 to 16777216, of 96 bytes of memory each";
-    Command::new(alloc, "bench")
+pub(crate) fn bench_command<'a>(alloc: Global) -> Result<Command<'a>, AllocError> {
+    let command = Command::new(alloc, "bench")
         .about("Carry out the lines of standard input on one bus")
-        .after_help(BENCH_HELP)
-        .arg(ack_option(alloc))?
-        .arg(report_option(alloc))?
-        .arg(number_option(alloc, TXQUEUE, "10", tx_help))?
-        .arg(number_option(alloc, RXQUEUE, "256", rx_help))?
-        .arg(number_option(alloc, LIMIT, "1000000", limit_help))?
+        .after_help(BENCH_HELP);
+    with_bus_options(alloc, command)?
         .arg(record_option(alloc))?
         .arg(bus_argument(alloc))
 }
@@ -241,30 +154,6 @@ fn audit_command<'a>(alloc: Global) -> Result<Command<'a>, AllocError> {
         .arg(file_argument(alloc))
 }
 
-fn ack_option<'a>(alloc: Global) -> Arg<'a> {
-    Arg::new(alloc, ACK)
-        .long(ACK)
-        .value_name("MODE")
-        .value_parser([ALWAYS, PEERS].as_slice())
-        .default_value(ALWAYS)
-        .help("Who acknowledges: a silent node, or the other interfaces alone")
-}
-
-fn report_option<'a>(alloc: Global) -> Arg<'a> {
-    Arg::new(alloc, REPORT)
-        .long(REPORT)
-        .action(ArgAction::SetTrue)
-        .help("Make error message frames of each fault too, not of changes of state alone")
-}
-
-fn number_option<'a>(alloc: Global, name: &'a str, default: &'a str, help: &'a str) -> Arg<'a> {
-    Arg::new(alloc, name)
-        .long(name)
-        .value_name("N")
-        .default_value(default)
-        .help(help)
-}
-
 fn record_option<'a>(alloc: Global) -> Arg<'a> {
     Arg::new(alloc, RECORD).long(RECORD).value_name("FILE").help(
         "Write the record of the run to FILE once the input has ended; audit checks it",
@@ -274,11 +163,5 @@ fn record_option<'a>(alloc: Global) -> Arg<'a> {
 fn file_argument<'a>(alloc: Global) -> Arg<'a> {
     Arg::new(alloc, FILE)
         .required(true)
-        .help("A record that bench wrote with --record")
-}
-
-fn bus_argument<'a>(alloc: Global) -> Arg<'a> {
-    Arg::new(alloc, BUS).required(true).help(
-        "Names of 1 to 16 interfaces, joined by commas; @FILE behind them is a script of faults",
-    )
+        .help("A record that bench or serve wrote")
 }

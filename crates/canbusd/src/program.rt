@@ -1,10 +1,12 @@
 ghost use Rattle.std.specs.Prelude.{◌≡◌, ◌≤◌};
 
-use can_jobs::{Failure, Fault, Job, OUTPUT, audit_file, read_options, run_bench, write_failure};
+use can_jobs::{
+    Failure, Fault, Job, OUTPUT, ServerRuntime, audit_file, read_options, run_bench, run_serve,
+    write_failure,
+};
 use clap::error::ErrorKind;
 use std::alloc::Global;
 use std::io::{BufWriter, Read, Write};
-use std::rt::Files;
 
 const DONE: u8 = 0;
 
@@ -15,14 +17,14 @@ const BAD_WORDS: u8 = 2;
 /// Carries out a command line, the program's name among its words, and answers its status: 0, 1 with a line
 /// `canbusd: TEXT` among the errors and notes behind it, or 2 for a fault of the words with the parser's own text.
 /// All output was written, or the status is 1 and the text `write fault`.
-pub fn run_words<H: Files, R: Read + Drop, W: Write + Drop, E: Write>(
-    rt: &H,
-    alloc: Global,
-    words: &[String],
-    input: R,
-    output: W,
-    errors: &mut E,
-) -> u8
+///
+/// A server may wait for its clients for ever; no other command line waits, but for its input.
+pub fn run_words<
+    H: ServerRuntime,
+    R: Read + Drop + Send + 'static,
+    W: Write + Drop,
+    E: Write + Send,
+>(rt: &H, alloc: Global, words: &[String], input: R, output: W, errors: &mut E) -> u8
     ensures { result ≤ 2 }
 {
     let Ok(mut output) = BufWriter::new(alloc, output) else {
@@ -33,6 +35,13 @@ pub fn run_words<H: Files, R: Read + Drop, W: Write + Drop, E: Write>(
             let outcome = match job {
                 Job::Bench(options) => run_bench(rt, alloc, options, input, &mut output),
                 Job::Audit(path) => audit_file(rt, alloc, path, &mut output),
+                Job::Serve(options) => {
+                    match run_serve(rt, alloc, &options, input, &mut output, errors) {
+                        Ok(true) => Ok(()),
+                        Ok(false) => return FAILED,
+                        Err(failure) => Err(failure),
+                    }
+                }
             };
             finish(alloc, outcome, &mut output, errors)
         }
@@ -74,8 +83,6 @@ fn finish<W: Write, E: Write>(
 pub fn fail<E: Write>(failure: &Failure<'_>, errors: &mut E) -> u8
     ensures { result ≡ 1 }
 {
-    let fault = failure.fault;
-    let _ = writeln!(errors, "canbusd: {fault}");
-    let _ = errors.write_all(failure.notes.as_bytes());
+    failure.tell(errors);
     FAILED
 }

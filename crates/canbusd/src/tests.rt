@@ -4,5 +4,6 @@ mod limits;
 mod lines;
 mod records;
 mod scripts;
+mod serving;
 mod streams;
 mod support;

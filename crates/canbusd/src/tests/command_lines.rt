@@ -1,13 +1,13 @@
 //! Command lines that are refused, and those that ask for help.
 use super::support::run;
+use can_jobs::ServerRuntime;
 use std::alloc::Global;
 use std::process::Abort;
-use std::rt::Files;
 use std::test::Fail;
 
 /// How what a command line writes to its output and its errors begins, and its status.
 fn tells(
-    rt: &(impl Abort + Files),
+    rt: &(impl Abort + ServerRuntime),
     alloc: Global,
     line: &str,
     wanted: (&str, &str, u8),
@@ -37,6 +37,22 @@ fn reads_command_lines(rt: HostRuntime) -> Result<(), Fail> {
         "canbusd bench --ack",
         "canbusd bench --report=1 can0",
         "canbusd bench --record",
+        "canbusd serve --sessions 0 can0",
+        "canbusd serve --sessions 4001 can0",
+        "canbusd serve --sessions +5 can0",
+        "canbusd serve --sessions 1 --sessions 1 can0",
+        "canbusd serve --pace 60001 can0",
+        "canbusd serve --pace x can0",
+        "canbusd serve --pace= can0",
+        "canbusd serve --limit 4294967296 can0",
+        "canbusd serve --txqueue x can0",
+        "canbusd serve --rxqueue +1 can0",
+        "canbusd serve --ack never can0",
+        "canbusd serve --report=1 can0",
+        "canbusd serve --until-eof=1 can0",
+        "canbusd serve --listen",
+        "canbusd serve --out",
+        "canbusd serve --record run.rec can0",
         "canbusd audit",
         "canbusd audit a b",
     ];
@@ -49,6 +65,8 @@ fn reads_command_lines(rt: HostRuntime) -> Result<(), Fail> {
         ("canbusd bench -h", "Carry out the lines"),
         ("canbusd help bench", "Carry out the lines"),
         ("canbusd help audit", "Check that a record"),
+        ("canbusd serve -h", "Serve clients on buses\n"),
+        ("canbusd help serve", "Serve clients on buses\n"),
     ];
     for (line, start) in shown {
         tells(&rt, alloc, line, (start, "", 0))?;

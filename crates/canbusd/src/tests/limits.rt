@@ -1,5 +1,5 @@
 //! Runs at the limits: the longest lists and queues, the most sessions and interfaces, long runs and their records.
-use super::support::{TWO_SESSIONS, TWO_STARTED, carries_out, joined, run, runs, times};
+use super::support::{Owned, TWO_SESSIONS, TWO_STARTED, carries_out, joined, run, runs, times};
 use std::alloc::Global;
 use std::fs;
 use std::test::Fail;
@@ -73,7 +73,13 @@ fn sixty_four_sessions_hear_a_frame(rt: HostRuntime) -> Result<(), Fail> {
     let input = joined(alloc, &[&opened, OWN_SENT, &drained])?;
     let output = joined(alloc, &[&greeted, OWN_DONE, &heard])?;
     let wanted = (output.as_str(), "", 0);
-    runs(&rt, alloc, "canbusd bench can0", input.as_bytes(), wanted)
+    runs(
+        &rt,
+        alloc,
+        "canbusd bench can0",
+        Owned::new(input, 4096),
+        wanted,
+    )
 }
 
 #[test]
@@ -92,7 +98,7 @@ fn a_receive_queue_holds_65536_items(rt: HostRuntime) -> Result<(), Fail> {
     let rounds = times(alloc, "feed 1 < send 123 0 >\nattempt\n", 65_537)?;
     let input = joined(alloc, &[TWO_SESSIONS, &rounds, "feed 2 < stats >\n"])?;
     let line = "canbusd bench --rxqueue 65536 can0,can1";
-    let ended = run(&rt, alloc, line, input.as_bytes())?;
+    let ended = run(&rt, alloc, line, Owned::new(input, 4096))?;
     let last = b"tried can0 65536 done can1 -\n2 < stats 65536 1 0 0 0 0 0 0 >\n";
     assert!(rt; ended.output.ends_with(last));
     assert!(rt; ended.errors.is_empty());
@@ -155,7 +161,7 @@ fn a_long_run_has_a_long_record(rt: HostRuntime) -> Result<(), Fail> {
     let output = joined(alloc, &[TWO_STARTED, &told])?;
     let wanted = (output.as_str(), "", 0);
     let line = "canbusd bench --record long.rec can0,can1";
-    runs(&rt, alloc, line, input.as_bytes(), wanted)?;
+    runs(&rt, alloc, line, Owned::new(input, 4096), wanted)?;
     // Two sockets are opened; a round is a send, an attempt and two receives, of which the second finds nothing.
     let legal = ("ok 16002 entries\n", "", 0);
     runs(&rt, alloc, "canbusd audit long.rec", b"".as_slice(), legal)?;

@@ -1,12 +1,11 @@
 //! Lines that are carried out, and the limits of lines and of the input.
 use super::support::{
-    TWO_SESSIONS, TWO_STARTED, carries_out, joined, runs, runs_however_cut, times,
+    Owned, TWO_SESSIONS, TWO_STARTED, carries_out, joined, runs, runs_however_cut, times,
 };
+use can_jobs::ServerRuntime;
 use std::alloc::Global;
 use std::process::Abort;
-use std::rt::Files;
 use std::test::Fail;
-use test_streams::Pieces;
 
 #[test]
 fn carries_out_lines(rt: HostRuntime) -> Result<(), Fail> {
@@ -85,7 +84,7 @@ fn nobody_acknowledges_without_a_receiver(rt: HostRuntime) -> Result<(), Fail> {
     let told = times(alloc, "tried can0 0 noack - -\n", 17)?;
     let output = joined(alloc, &["1 < hi >\n1 < ok >< ok >\n", &told])?;
     let line = "canbusd bench --ack peers can0";
-    runs(&rt, alloc, line, input.as_bytes(), (&output, "", 0))
+    runs(&rt, alloc, line, Owned::new(input, 4096), (&output, "", 0))
 }
 
 const AT: &str = "  at SECONDS.MICROS: 1 to 10 digits, a point, 6 digits, as at 1.500000\n";
@@ -215,7 +214,7 @@ fn too_long(alloc: Global, place: &str, shown: &str) -> Result<String, Fail> {
 
 /// A line of session 1, and what is told then, the errors and the status.
 fn answers(
-    rt: &(impl Abort + Files),
+    rt: &(impl Abort + ServerRuntime),
     alloc: Global,
     line: (&str, &str, usize, &str),
     wanted: (&str, &str, u8),
@@ -230,7 +229,7 @@ fn answers(
         rt,
         alloc,
         bench,
-        input.as_bytes(),
+        Owned::new(input, 4096),
         (&output, errors, status),
     )
 }
@@ -265,13 +264,10 @@ fn keeps_limits_of_the_input(rt: HostRuntime) -> Result<(), Fail> {
         (16_777_216, 1, too_long, 1),
     ];
     for (len, size, errors, status) in table {
-        let pieces = Pieces {
-            rest: &remarks.as_bytes()[..remarks.len().min(len)],
-            size,
-            is_broken: false,
-        };
+        let text = String::from_str(alloc, &remarks[..remarks.len().min(len)])?;
         let wanted = ("", errors, status);
-        runs(&rt, alloc, "canbusd bench can0", pieces, wanted)?;
+        let input = Owned::new(text, size);
+        runs(&rt, alloc, "canbusd bench can0", input, wanted)?;
     }
     Ok(())
 }

@@ -1,9 +1,9 @@
 //! Scripts that are followed, and those that are refused.
 use super::support::{carries_out, joined, runs, times};
+use can_jobs::ServerRuntime;
 use std::alloc::Global;
 use std::fs;
 use std::process::Abort;
-use std::rt::Files;
 use std::test::Fail;
 
 const SCRIPT: &str = "followed.script";
@@ -24,7 +24,7 @@ fn ever(alloc: Global, verdict: &str) -> Result<String, Fail> {
 /// A frame of session 1 that goes out under this verdict until can0 is bus off: what each attempt but the
 /// last of them tells, what that one tells, and what session 2 has received then.
 fn goes_off(
-    rt: &(impl Abort + Files),
+    rt: &(impl Abort + ServerRuntime),
     alloc: Global,
     verdict: &str,
     wanted: (&str, &str, &str),

@@ -1,11 +1,39 @@
 //! A command line carried out over an input, and what it wrote.
 use crate::program::run_words;
+use can_jobs::ServerRuntime;
 use std::alloc::Global;
+use std::io;
 use std::io::Read;
 use std::process::Abort;
-use std::rt::Files;
 use std::test::Fail;
-use test_streams::Pieces;
+
+/// A reader of a text that it owns, in pieces of so many bytes.
+#[derive(Drop)]
+pub struct Owned {
+    text: String,
+    read: usize,
+    size: usize,
+}
+
+impl Owned {
+    pub fn new(text: String, size: usize) -> Owned {
+        Owned {
+            text,
+            read: 0,
+            size,
+        }
+    }
+}
+
+impl Read for Owned {
+    fn read(&mut self, buf: &mut [u8]) -> io::Result<usize> {
+        let rest = self.text.as_bytes().get(self.read..).unwrap_or(b"");
+        let size = self.size.min(rest.len()).min(buf.len());
+        buf[..size].copy_from_slice(&rest[..size]);
+        self.read = self.read.saturating_add(size);
+        Ok(size)
+    }
+}
 
 /// What a command line ended with.
 #[derive(Drop)]
@@ -26,8 +54,8 @@ impl Ended {
 }
 
 /// Runs the words of a line, parted by spaces.
-pub fn run<R: Read + Drop>(
-    rt: &impl Files,
+pub fn run<R: Read + Drop + Send + 'static>(
+    rt: &impl ServerRuntime,
     alloc: Global,
     line: &str,
     input: R,
@@ -52,8 +80,8 @@ pub fn words_of(alloc: Global, line: &str) -> Result<Vec<String>, Fail> {
 }
 
 /// Runs the words of a line and compares what it ends with: the output, the errors and the status.
-pub fn runs<R: Read + Drop>(
-    rt: &(impl Abort + Files),
+pub fn runs<R: Read + Drop + Send + 'static>(
+    rt: &(impl Abort + ServerRuntime),
     alloc: Global,
     line: &str,
     input: R,
@@ -92,7 +120,7 @@ pub const TWO_STARTED: &str = "1 < hi >\n2 < hi >\n1 < ok >< ok >\n2 < ok >< ok 
 
 /// Runs the words of a line over an input behind two sessions.
 pub fn carries_out(
-    rt: &(impl Abort + Files),
+    rt: &(impl Abort + ServerRuntime),
     alloc: Global,
     line: &str,
     rest: &str,
@@ -105,19 +133,15 @@ pub fn carries_out(
 
 /// As `runs`, over an input that comes a byte at a time, and over one that comes as a whole.
 pub fn runs_however_cut(
-    rt: &(impl Abort + Files),
+    rt: &(impl Abort + ServerRuntime),
     alloc: Global,
     line: &str,
     input: &str,
     wanted: (&str, &str, u8),
 ) -> Result<(), Fail> {
     for size in [1, 4096] {
-        let pieces = Pieces {
-            rest: input.as_bytes(),
-            size,
-            is_broken: false,
-        };
-        runs(rt, alloc, line, pieces, wanted)?;
+        let input = Owned::new(String::from_str(alloc, input)?, size);
+        runs(rt, alloc, line, input, wanted)?;
     }
     Ok(())
 }
