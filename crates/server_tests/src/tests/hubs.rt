@@ -5,8 +5,6 @@ ghost use Rattle.can_server.specs.Benches.{NamedFrom};
 
 use super::*;
 use can_bus::{BusFault, Event};
-use can_confine::Counters;
-use can_meter::Status;
 use can_server::SettleFault;
 use can_station::Settled;
 use std::marker::Brand;
@@ -122,9 +120,8 @@ fn reads_nothing<N: RollName + MeterName, R: Wait + Abort>(
         panic!(rt; "no gauge");
     };
     assert!(rt; gauge.ifaces() == 2);
-    for place in 0..gauge.ifaces() {
-        let Status { at, counters } = gauge.status(place);
-        assert!(rt; at == 0 && counters == Counters::zero());
+    for place in 0..2 {
+        assert!(rt; reading(rt, &mut gauge, place) == (0, 0, 0));
     }
 }
 
@@ -134,7 +131,7 @@ fn a_gauge_of_a_new_hub_reads_nothing(rt: HostRuntime) {
     reads_nothing::<Brand, _>(&rt, rt.alloc(), benches);
 }
 
-/// A pass of the bus that has this name, with one call: it opened a socket there.
+/// A pass of the bus that has this name, with one call: it opened a socket there, of as many items as the bus says.
 fn caller<N: RollName + MeterName, R: Wait + Abort>(
     rt: &R,
     alloc: Global,
@@ -184,7 +181,7 @@ fn exchanged_passes_are_refused(rt: HostRuntime) {
 fn has_opened(bus: &Settled, wanted: Iface) -> bool {
     match bus.history.entries() {
         [entry] => {
-            bus.passes == 1 && matches!(&entry.event, Event::Open(iface, 4) if *iface == wanted)
+            bus.passes == 1 && matches!(&entry.event, Event::Open(iface, 16) if *iface == wanted)
         }
         _ => false,
     }
