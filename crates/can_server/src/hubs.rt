@@ -165,6 +165,13 @@ impl<N: RollName + MeterName, F: FaultSource + Drop, G: Gate + Drop> Hub<N, F, G
         }
     }
 
+    /// Stops the stations of all buses.
+    pub(crate) fn stop_all<R: Wait>(&self, rt: &R) {
+        for wire in &self.wires {
+            wire.station.stop(rt);
+        }
+    }
+
     /// Another gauge of a bus's meter, which reads the error counters without the lock. `AllocError` where there
     /// is no memory. It may wait for the lock.
     pub fn gauge<R: Wait>(&self, rt: &R, bus: usize) -> Result<Gauge<N>, AllocError>
