@@ -76,9 +76,7 @@ impl<
         if let Some(until) = until {
             let _ = until.shutdown(Shutdown::Both);
         }
-        for bus in 0..self.hub.count() {
-            self.hub.station(bus).stop(self.rt);
-        }
+        self.hub.stop_all(self.rt);
     }
 
     /// Waits for the end of a stream, and closes the server.

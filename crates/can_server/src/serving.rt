@@ -57,8 +57,13 @@ pub fn serve<
 ) -> Result<Vec<Vec<Pass<N>>>, AllocError>
     ensures { IfOk result (λ passes. length passes.items ≡ length hub.now) }
 {
-    let guests = Mutex::new(Guests::new(alloc)?);
-    let returned = Mutex::new(Returned::new(alloc, hub.count(), most_passes(doors))?);
+    let guests = Guests::new(alloc);
+    let returned = Returned::new(alloc, hub.count(), most_passes(doors));
+    let (Ok(guests), Ok(returned)) = (guests, returned) else {
+        hub.stop_all(rt);
+        return Err(AllocError);
+    };
+    let (guests, returned) = (Mutex::new(guests), Mutex::new(returned));
     let server = Server {
         rt,
         alloc,

@@ -73,6 +73,7 @@ impl<
                 self.hear_on(talk, conn);
             }
             talk.lock(self.rt).end();
+            self.tell_full(place.station);
         });
     }
 
@@ -111,9 +112,11 @@ impl<
         }
     }
 
-    /// Tells the host of a record that is full, once.
+    /// Tells the host of a record that is full, once, and ends the waits of its station: no call changes it any more,
+    /// not even one that closes a socket.
     pub fn tell_full(&self, station: &Station<N, F, G>) {
         if station.became_full() {
+            station.stop(self.rt);
             self.host.bus_is_full(usize::from(station.number()));
         }
     }

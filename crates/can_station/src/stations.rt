@@ -160,7 +160,7 @@ impl<N: RollName + MeterName, F: FaultSource + Drop, G: Gate + Drop> Station<N, 
         ensures called { Called same self.now pass.old event result pass.new }
         ensures suits { IfOk result (λ r. Suits event r) }
     {
-        if pass.calls.reserve(1).is_err() {
+        if pass.calls.reserve(places_for(&event)).is_err() {
             return Err(StationRefusal::Bus(Refusal::NoMemory));
         }
         if pass.slip.number() != self.number {
@@ -275,5 +275,16 @@ impl<N: RollName + MeterName, F: FaultSource + Drop, G: Gate + Drop> Station<N, 
             unreachable!()
         }
         state.settle(passes, gauges)
+    }
+}
+
+/// How many places a pass's list has to have before a call: one for the call, and but for a close one that is left
+/// for a close. So the close of a socket that the pass opened is never refused for memory.
+fn places_for(event: &Event) -> usize
+    ensures { 1 ≤ result }
+{
+    match event {
+        Event::Close(_) => 1,
+        _ => 2,
     }
 }

@@ -1,16 +1,22 @@
 ghost use Rattle.std.specs.Prelude.{◌≡◌, length};
 ghost use Rattle.can_server.specs.Benches.{NamedFrom};
 
+mod clients;
 mod dialogues;
+mod ends;
+mod held;
 mod hubs;
+mod limits;
+mod peers;
 mod ports;
+mod rows;
 mod statuses;
 
 use can_attempt::AckMode;
 use can_bus::BusConfig;
-use can_fault::{FaultSource, Perfect};
+use can_fault::{FaultSource, Perfect, Script};
 use can_frame::{Iface, IfaceSet, Moment, Names};
-use can_meter::MeterName;
+use can_meter::{Gauge, MeterName, Status};
 use can_roll::RollName;
 use can_server::{Bench, Hub, PassPort};
 use can_session::Port;
@@ -45,6 +51,14 @@ fn names<R: Abort>(rt: &R, alloc: Global, names: &str) -> Names {
         panic!(rt; "no names");
     };
     names
+}
+
+/// The script that a text spells, for a bus of can0 and can1.
+fn script<R: Abort>(rt: &R, alloc: Global, text: &str) -> Script {
+    let Ok(script) = Script::read(alloc, text, &names(rt, alloc, "can0,can1")) else {
+        panic!(rt; "no script");
+    };
+    script
 }
 
 fn iface<R: Abort>(rt: &R, number: u8) -> Iface {
@@ -108,6 +122,13 @@ fn made<N: RollName + MeterName, F: FaultSource + Drop, G: Gate + Drop, R: Abort
         panic!(rt; "no hub");
     };
     hub
+}
+
+/// What a gauge reads of an interface: the record's length, the transmit and the receive count.
+fn reading<N: MeterName, R: Abort>(rt: &R, gauge: &mut Gauge<N>, place: usize) -> (u32, u16, u16) {
+    assert!(rt; place < gauge.ifaces());
+    let Status { at, counters } = gauge.status(place);
+    (at, counters.tec(), counters.rec())
 }
 
 /// A list of one.

@@ -5,8 +5,6 @@ ghost use Rattle.can_server.specs.Benches.{NamedFrom};
 
 use super::*;
 use can_bus::{BusFault, Event};
-use can_confine::Counters;
-use can_meter::Status;
 use can_server::SettleFault;
 use can_station::Settled;
 use std::marker::Brand;
@@ -23,6 +21,7 @@ fn fault_of_hub<N: RollName + MeterName>(
 }
 
 /// The same, for a hub that nobody uses.
+#[tactic(auto, using(can_server::proofs::Naming::named))]
 fn fault_of(alloc: Global, benches: Vec<Bench<Perfect, Open>>) -> Option<BusFault> {
     fault_of_hub::<Brand>(alloc, benches)
 }
@@ -104,6 +103,7 @@ fn finds<N: RollName + MeterName, R: Abort>(
 }
 
 #[test]
+#[tactic(auto, using(can_server::proofs::Naming::named))]
 fn a_name_is_found_by_its_bus_and_place(rt: HostRuntime) {
     let benches = two_buses(&rt, rt.alloc());
     finds::<Brand, _>(&rt, rt.alloc(), benches);
@@ -122,19 +122,19 @@ fn reads_nothing<N: RollName + MeterName, R: Wait + Abort>(
         panic!(rt; "no gauge");
     };
     assert!(rt; gauge.ifaces() == 2);
-    for place in 0..gauge.ifaces() {
-        let Status { at, counters } = gauge.status(place);
-        assert!(rt; at == 0 && counters == Counters::zero());
+    for place in 0..2 {
+        assert!(rt; reading(rt, &mut gauge, place) == (0, 0, 0));
     }
 }
 
 #[test]
+#[tactic(auto, using(can_server::proofs::Naming::named))]
 fn a_gauge_of_a_new_hub_reads_nothing(rt: HostRuntime) {
     let benches = two_buses(&rt, rt.alloc());
     reads_nothing::<Brand, _>(&rt, rt.alloc(), benches);
 }
 
-/// A pass of the bus that has this name, with one call: it opened a socket there.
+/// A pass of the bus that has this name, with one call: it opened a socket there, of as many items as the bus says.
 fn caller<N: RollName + MeterName, R: Wait + Abort>(
     rt: &R,
     alloc: Global,
@@ -174,6 +174,7 @@ fn settled<N: RollName + MeterName, R: Wait + Abort>(
 }
 
 #[test]
+#[tactic(auto, using(can_server::proofs::Naming::named))]
 fn exchanged_passes_are_refused(rt: HostRuntime) {
     let benches = two_buses(&rt, rt.alloc());
     let outcome = settled::<Brand, _>(&rt, rt.alloc(), benches, true);
@@ -184,13 +185,14 @@ fn exchanged_passes_are_refused(rt: HostRuntime) {
 fn has_opened(bus: &Settled, wanted: Iface) -> bool {
     match bus.history.entries() {
         [entry] => {
-            bus.passes == 1 && matches!(&entry.event, Event::Open(iface, 4) if *iface == wanted)
+            bus.passes == 1 && matches!(&entry.event, Event::Open(iface, 16) if *iface == wanted)
         }
         _ => false,
     }
 }
 
 #[test]
+#[tactic(auto, using(can_server::proofs::Naming::named))]
 fn each_bus_is_settled_with_its_own_passes(rt: HostRuntime) {
     let benches = two_buses(&rt, rt.alloc());
     let Ok(buses) = settled::<Brand, _>(&rt, rt.alloc(), benches, false) else {

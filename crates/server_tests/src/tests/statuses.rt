@@ -1,10 +1,9 @@
 // What a session is told of the error counters of its interface, by a gauge.
 
-ghost use Rattle.std.specs.Prelude.{◌≡◌, length};
+ghost use Rattle.std.specs.Prelude.{◌≡◌};
 ghost use Rattle.can_server.specs.Benches.{NamedFrom};
 
 use super::*;
-use can_fault::Script;
 use can_session::Session;
 use can_station::Station;
 use std::marker::Brand;
@@ -45,25 +44,6 @@ impl<'a, N: RollName + MeterName, R: Wait + Abort> Client<'a, N, R> {
     }
 }
 
-/// Whether a new gauge of a bus reads 0/0 of an interface, before any entry.
-fn is_new<N: RollName + MeterName, R: Wait + Abort>(
-    rt: &R,
-    hub: &Hub<N, Script, Open>,
-    place: usize,
-) -> bool {
-    if hub.count() == 0 {
-        return false;
-    }
-    let Ok(mut gauge) = hub.gauge(rt, 0) else {
-        return false;
-    };
-    if place >= gauge.ifaces() {
-        return false;
-    }
-    let status = gauge.status(place);
-    status.at == 0 && status.counters.tec() == 0 && status.counters.rec() == 0
-}
-
 /// An attempt that a driver makes.
 fn attempt<N: RollName + MeterName, R: Wait + Abort>(
     rt: &R,
@@ -84,7 +64,6 @@ fn last_bit<N: RollName + MeterName, R: Wait + Abort>(
     requires { NamedFrom N.roll N.meter 0 benches.items }
 {
     let hub = made::<N, _, _, _>(rt, alloc, benches);
-    assert!(rt; is_new(rt, &hub, 0) && is_new(rt, &hub, 1));
     let mut first = Client::new(rt, alloc, &hub);
     let mut second = Client::new(rt, alloc, &hub);
     assert!(rt; first.counts(0) == Some((0, 0)));
@@ -113,20 +92,15 @@ fn last_bit<N: RollName + MeterName, R: Wait + Abort>(
     assert!(rt; second.counts(0) == Some((7, 0)) && second.counts(2) == Some((0, 0)));
 }
 
-/// What a bus is made of whose first attempt has a fault in the last bit.
-fn faulty<R: Abort>(rt: &R, alloc: Global) -> Vec<Bench<Script, Open>>
-    ensures { length result.items ≡ 1 }
-{
-    let names = names(rt, alloc, "can0,can1");
-    let Ok(script) = Script::read(alloc, "0 lastbit", &names) else {
-        panic!(rt; "no script");
-    };
-    one(rt, alloc, held_bench(rt, alloc, names, script, Open))
-}
-
 /// A session's gauge reads what the station published, attempt by attempt.
 #[test]
+#[tactic(auto, using(can_server::proofs::Naming::named))]
 fn a_session_is_told_its_error_counters(rt: HostRuntime) {
-    let benches = faulty(&rt, rt.alloc());
-    last_bit::<Brand, _>(&rt, rt.alloc(), benches);
+    let alloc = rt.alloc();
+    let (names, faults) = (
+        names(&rt, alloc, "can0,can1"),
+        script(&rt, alloc, "0 lastbit"),
+    );
+    let benches = one(&rt, alloc, held_bench(&rt, alloc, names, faults, Open));
+    last_bit::<Brand, _>(&rt, alloc, benches);
 }
