@@ -1,15 +1,13 @@
 //! Servers: what they are refused, how they end, and what a run leaves.
-use super::support::{Ended, run, runs};
+use super::support::{run, runs};
 use can_jobs::ServerRuntime;
-use std::alloc::Global;
-use std::fs;
 use std::io::{Read, Write};
 use std::net::{Shutdown, TcpListener};
 use std::os::unix::net::{UnixListener, UnixStream};
 use std::process::Abort;
 use std::test::Fail;
-use std::thread;
-use std::time::{Clock, Duration};
+use std::time::Duration;
+use std::{fs, thread};
 
 const NOTHING: &[u8] = b"";
 
@@ -63,7 +61,9 @@ fn leaves_what_stands_at_an_address(rt: HostRuntime) -> Result<(), Fail> {
     let taken = TcpListener::bind(&rt, "127.0.0.1:0")?;
     let address = taken.local_addr()?;
     let line = format!(in alloc; "canbusd serve --listen {address} can0")?;
-    let told = format!(in alloc; "canbusd: cannot listen\n  {address}: Address already in use (os error 98)\n")?;
+    let told = format!(in alloc;
+        "canbusd: cannot listen\n  {address}: Address already in use (os error 98)\n"
+    )?;
     runs(&rt, alloc, &line, NOTHING, ("", &told, 1))?;
     // A file that is no socket, and a socket at which somebody listens.
     fs::write(&rt, "./plain", b"mine")?;
@@ -131,11 +131,146 @@ canbusd: cannot open none/can1.rec
     fs::create_dir(&rt, "logs")?;
     fs::create_dir(&rt, "logs/can0.log")?;
     let line = "canbusd serve --until-eof --out logs --listen ./lost can0";
-    let told = "canbusd: cannot open logs/can0.log\n  logs/can0.log: Is a directory (os error 21)\n";
+    let told =
+        "canbusd: cannot open logs/can0.log\n  logs/can0.log: Is a directory (os error 21)\n";
     let output = "listening ./lost\nbus can0 entries 0\n";
     runs(&rt, alloc, line, NOTHING, (output, told, 1))?;
     let legal = ("ok 0 entries\n", "", 0);
     runs(&rt, alloc, "canbusd audit logs/can0.rec", NOTHING, legal)?;
     fs::remove_dir_all(&rt, "logs")?;
+    Ok(())
+}
+
+/// Connects to a server that is to listen here, within 10,000 looks. A read waits for at most ten seconds.
+fn connect<R: Abort + ServerRuntime>(rt: &R, path: &str) -> UnixStream {
+    for _ in 0..10_000 {
+        if let Ok(stream) = UnixStream::connect(rt, path) {
+            assert!(rt;
+                stream
+                    .set_read_timeout(Some(Duration::from_secs(10)))
+                    .is_ok()
+            );
+            return stream;
+        }
+        rt.sleep(Duration::from_millis(1));
+    }
+    panic!(rt; "nobody listens")
+}
+
+fn say<R: Abort>(rt: &R, client: &UnixStream, text: &str) {
+    let mut stream = client;
+    assert!(rt; stream.write_all(text.as_bytes()).is_ok());
+}
+
+/// Reads as many bytes as this text has, and compares.
+fn hears<R: Abort>(rt: &R, client: &UnixStream, text: &str) {
+    let mut stream = client;
+    let mut heard = [0; 64];
+    let heard = &mut heard[..text.len().min(64)];
+    assert!(rt; stream.read_exact(heard).is_ok());
+    assert_eq!(rt; &*heard, text.as_bytes());
+}
+
+/// Whether a text has the shape of another, where `0` stands for any digit.
+fn has_shape(text: &[u8], shape: &str) -> bool {
+    text.len() == shape.len()
+        && text.iter().zip(shape.as_bytes()).all(|(byte, wanted)| {
+            byte == wanted || (*wanted == b'0' && byte.is_ascii_digit())
+        })
+}
+
+/// A frame from a client on can0 to one on can1.
+fn talk<R: Abort + ServerRuntime>(rt: &R) {
+    let first = connect(rt, "./talk");
+    say(rt, &first, "< open can0 >< rawmode >");
+    hears(rt, &first, "< hi >< ok >< ok >");
+    let second = connect(rt, "./talk");
+    say(rt, &second, "< open can1 >< rawmode >");
+    hears(rt, &second, "< hi >< ok >< ok >");
+    say(rt, &first, "< send 123 4 11 22 33 44 >");
+    let mut frame = [0; 40];
+    let mut stream = &second;
+    assert!(rt; stream.read_exact(&mut frame).is_ok());
+    assert!(rt; has_shape(&frame, "< frame 123 0000000000.000000 11223344 >"));
+    say(rt, &first, "< close >");
+    hears(rt, &first, "< closed 0 0 >");
+    say(rt, &second, "< close >");
+    hears(rt, &second, "< closed 0 0 >");
+}
+
+#[test]
+fn serves_two_clients(rt: HostRuntime) -> Result<(), Fail> {
+    let alloc = rt.alloc();
+    let line = "canbusd serve --sessions 2 --out . --listen ./talk can0,can1";
+    let (ended, ()) = thread::join(&rt, || run(&rt, alloc, line, NOTHING), || talk(&rt));
+    let ended = ended?;
+    // Two sockets, a frame, its attempt and what the second socket receives of it, and both are closed.
+    let told = "listening ./talk\nbus can0 entries 7\n";
+    assert_eq!(&rt; ended.output.as_slice(), told.as_bytes());
+    assert!(&rt; ended.errors.is_empty());
+    assert_eq!(&rt; ended.status, 0);
+    assert!(&rt; !fs::exists(&rt, "./talk")?);
+    let log = fs::read_to_string(&rt, "./can0.log")?;
+    assert!(&rt; has_shape(log.as_bytes(), "(0000000000.000000) can0 123#11223344\n"));
+    let legal = ("ok 7 entries\n", "", 0);
+    runs(&rt, alloc, "canbusd audit ./can0.rec", NOTHING, legal)?;
+    fs::remove_file(&rt, "./can0.log")?;
+    fs::remove_file(&rt, "./can0.rec")?;
+    Ok(())
+}
+
+/// Sends more than the record of the bus holds.
+fn fill<R: Abort + ServerRuntime>(rt: &R) {
+    let client = connect(rt, "./full");
+    say(rt, &client, "< open can0 >< rawmode >");
+    hears(rt, &client, "< hi >< ok >< ok >");
+    say(rt, &client, "< send 123 0 >< send 123 0 >");
+    hears(rt, &client, "< error record full >");
+    say(rt, &client, "< send 123 0 >< echo >");
+    hears(rt, &client, "< error record full >< echo >");
+}
+
+#[test]
+fn tells_once_that_a_record_is_full(rt: HostRuntime) -> Result<(), Fail> {
+    let alloc = rt.alloc();
+    let line = "canbusd serve --limit 2 --sessions 1 --listen ./full can0,can1";
+    let (ended, ()) = thread::join(&rt, || run(&rt, alloc, line, NOTHING), || fill(&rt));
+    let ended = ended?;
+    let told = "listening ./full\nbus can0 entries 2\n";
+    assert_eq!(&rt; ended.output.as_slice(), told.as_bytes());
+    assert_eq!(&rt;
+        ended.errors.as_slice(),
+        b"canbusd: bus can0: record full\n".as_slice()
+    );
+    assert_eq!(&rt; ended.status, 0);
+    Ok(())
+}
+
+/// A client that is at work when the input of its server ends.
+fn sees_the_end<R: Abort + ServerRuntime>(rt: &R, input: &UnixStream) {
+    let client = connect(rt, "./ended");
+    say(rt, &client, "< open can1 >< rawmode >");
+    hears(rt, &client, "< hi >< ok >< ok >");
+    assert!(rt; input.shutdown(Shutdown::Both).is_ok());
+    let mut stream = &client;
+    assert_eq!(rt; stream.read(&mut [0; 1]).ok(), Some(0));
+}
+
+#[test]
+fn the_end_of_the_input_ends_sessions(rt: HostRuntime) -> Result<(), Fail> {
+    let alloc = rt.alloc();
+    let (ours, theirs) = UnixStream::pair(&rt)?;
+    let line = "canbusd serve --until-eof --listen ./ended can0,can1";
+    let (ended, ()) = thread::join(
+        &rt,
+        || run(&rt, alloc, line, theirs),
+        || sees_the_end(&rt, &ours),
+    );
+    let ended = ended?;
+    // A socket was opened and closed.
+    let told = "listening ./ended\nbus can0 entries 2\n";
+    assert_eq!(&rt; ended.output.as_slice(), told.as_bytes());
+    assert!(&rt; ended.errors.is_empty());
+    assert_eq!(&rt; ended.status, 0);
     Ok(())
 }
