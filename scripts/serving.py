@@ -34,18 +34,18 @@ class Server:
     program = None
     keeps_folders = False
 
-    def __init__(self, *words, unix=False):
+    def __init__(self, *words, address="127.0.0.1:0"):
         self.folder = tempfile.mkdtemp(prefix="canbusd-")
         self.errors = open(self.path("stderr"), "w+", encoding="utf-8")
         self.child = subprocess.Popen(
-            [self.program, "serve", "--listen", self.path("socket") if unix else "127.0.0.1:0", "--out", self.folder, *words],
-            stdin=subprocess.DEVNULL, stdout=subprocess.PIPE, stderr=self.errors, text=True, start_new_session=True)
+            [self.program, "serve", "--listen", address, "--out", ".", *words], cwd=self.folder, stdin=subprocess.DEVNULL,
+            stdout=subprocess.PIPE, stderr=self.errors, text=True, start_new_session=True)
         line = self.child.stdout.readline()
         if not line.startswith("listening "):
             self.close()
             raise Wrong(f"it does not listen: {line!r} {self.said()}")
         self.address = line.removeprefix("listening ").rstrip("\n")
-        if not unix:
+        if ":" in self.address:
             self.host, self.port = self.address.split(":")[0], int(self.address.split(":")[1])
 
     def said(self):
@@ -94,9 +94,9 @@ class Server:
 
 
 @contextlib.contextmanager
-def serving(*words, unix=False):
+def serving(*words, **more):
     """A server that is gone in the end, whatever happens."""
-    server = Server(*words, unix=unix)
+    server = Server(*words, **more)
     try:
         yield server
     finally:
@@ -113,7 +113,7 @@ class Plain:
         else:
             self.socket = socket.socket(socket.AF_UNIX)
             self.socket.settimeout(WAIT)
-            self.socket.connect(server.address)
+            self.socket.connect(os.path.join(server.folder, server.address))
 
     def tell(self, text):
         self.socket.sendall(text.encode())
