@@ -1,0 +1,151 @@
+"""What scripts/check-clients stands on: checks, a server of its own for each, and a client that is a plain socket."""
+
+import contextlib
+import os
+import re
+import shutil
+import signal
+import socket
+import subprocess
+import tempfile
+
+WAIT = 10
+CHECKS = []
+
+
+class Wrong(Exception):
+    """What a check saw instead of what it had to see."""
+
+
+def check(function):
+    """Marks a check: it answers what it saw, or raises Wrong."""
+    CHECKS.append(function)
+    return function
+
+
+def demand(is_right, saw):
+    if not is_right:
+        raise Wrong(saw)
+
+
+class Server:
+    """A server that runs in a folder of its own, in a group of processes of its own."""
+
+    program = None
+    keeps_folders = False
+
+    def __init__(self, *words, address="127.0.0.1:0"):
+        self.folder = tempfile.mkdtemp(prefix="canbusd-")
+        self.errors = open(self.path("stderr"), "w+", encoding="utf-8")
+        self.child = subprocess.Popen(
+            [self.program, "serve", "--listen", address, "--out", ".", *words], cwd=self.folder, stdin=subprocess.DEVNULL,
+            stdout=subprocess.PIPE, stderr=self.errors, text=True, start_new_session=True)
+        line = self.child.stdout.readline()
+        if not line.startswith("listening "):
+            self.close()
+            raise Wrong(f"it does not listen: {line!r} {self.said()}")
+        self.address = line.removeprefix("listening ").rstrip("\n")
+        if ":" in self.address:
+            self.host, self.port = self.address.split(":")[0], int(self.address.split(":")[1])
+
+    def said(self):
+        with open(self.path("stderr"), encoding="utf-8") as errors:
+            return errors.read().strip()
+
+    def path(self, name):
+        return os.path.join(self.folder, name)
+
+    def ticks(self):
+        """The processor time of all its processes, in hundredths of a second."""
+        total = 0
+        for process in filter(str.isdigit, os.listdir("/proc")):
+            with contextlib.suppress(OSError), open(f"/proc/{process}/stat", encoding="utf-8") as stat:
+                fields = stat.read().rsplit(") ", 1)[1].split()
+                if int(fields[3]) == self.child.pid:
+                    total += int(fields[11]) + int(fields[12])
+        return total
+
+    def end(self, says=""):
+        """Ends it as Ctrl-C does; what it wrote after `listening`."""
+        os.killpg(self.child.pid, signal.SIGINT)
+        try:
+            written, _ = self.child.communicate(timeout=WAIT)
+        except subprocess.TimeoutExpired:
+            raise Wrong("it did not end") from None
+        demand(self.child.returncode == 0, f"status {self.child.returncode}: {self.said()}")
+        demand(self.said() == says, f"standard error: {self.said()}")
+        return written
+
+    def audited(self, name):
+        """How many entries the record of this name has, by the audit."""
+        audit = subprocess.run([self.program, "audit", self.path(name)], capture_output=True, text=True, check=False)
+        demand(re.fullmatch(r"ok \d+ entries\n", audit.stdout), f"the audit: {audit.stdout}{audit.stderr}")
+        return int(audit.stdout.split()[1])
+
+    def close(self):
+        with contextlib.suppress(ProcessLookupError):
+            os.killpg(self.child.pid, signal.SIGKILL)
+        self.child.wait()
+        self.errors.close()
+        if self.keeps_folders:
+            print(f"    {self.folder}")
+        else:
+            shutil.rmtree(self.folder)
+
+
+@contextlib.contextmanager
+def serving(*words, **more):
+    """A server that is gone in the end, whatever happens."""
+    server = Server(*words, **more)
+    try:
+        yield server
+    finally:
+        server.close()
+
+
+class Plain:
+    """A connection that is a socket and nothing else, which shows the texts as they are."""
+
+    def __init__(self, server):
+        self.rest = ""
+        if ":" in server.address:
+            self.socket = socket.create_connection((server.host, server.port), WAIT)
+        else:
+            self.socket = socket.socket(socket.AF_UNIX)
+            self.socket.settimeout(WAIT)
+            self.socket.connect(os.path.join(server.folder, server.address))
+
+    def tell(self, text):
+        self.socket.sendall(text.encode())
+
+    def text(self):
+        """The next message, or the empty text where the connection has ended."""
+        while ">" not in self.rest:
+            piece = self.socket.recv(65536)
+            if not piece:
+                return ""
+            self.rest += piece.decode()
+        text, self.rest = self.rest.split(">", 1)
+        return text + ">"
+
+    def answer(self, command):
+        self.tell(command)
+        return self.text()
+
+    def frame(self):
+        """The next frame: its identifier as it is written, and its data."""
+        text = self.text()
+        frame = re.fullmatch(r"< frame ([0-9A-F]{3}|[0-9A-F]{8}) \d+\.\d{6} ([0-9A-F]*) >", text)
+        demand(frame, text)
+        return frame[1], bytes.fromhex(frame[2])
+
+    def close(self):
+        self.socket.close()
+
+
+def plain(server, name):
+    """A session in raw mode on the interface of this name."""
+    client = Plain(server)
+    greeted = client.text(), client.answer(f"< open {name} >"), client.answer("< rawmode >")
+    demand(greeted == ("< hi >", "< ok >", "< ok >"), f"{greeted}")
+    return client
