@@ -156,12 +156,14 @@ impl<N: RollName + MeterName, F: FaultSource + Drop, G: Gate + Drop> Hub<N, F, G
     }
 
     /// How many items a socket of a bus holds.
+    #[tactic(auto, using(crate::proofs::Places::items_at, crate::proofs::Places::items_past))]
     pub(crate) fn rx_capacity(&self, bus: usize) -> u32
         ensures { result ≡ items_on (slice_get self.now bus) }
     {
-        match self.wires.get(bus) {
-            Some(wire) => wire.rx_capacity,
-            None => 0,
+        if bus < self.wires.len() {
+            self.wires[bus].rx_capacity
+        } else {
+            0
         }
     }
 
