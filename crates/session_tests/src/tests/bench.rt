@@ -226,9 +226,9 @@ fn commands_are_refused_with_their_faults(rt: HostRuntime) -> Result<(), Fail> {
         "1 < error bad id >< error bad id >< error bad length >< error bad word count >< error invalid filter >< error empty message >< error mode not supported >< error wrong state >< error bad id >< error unknown command >\n";
     two_write(&rt, "", faults, told)?;
     let before =
-        "session 7\nfeed 7 < send 123 0 >< open can2 >< open can1 >< status >< rawmode >< rawmode >< status 1 >\n";
+        "session 7\nfeed 7 < send 123 0 >< open can2 >< open can1 >< status >< send 123 0 >< rawmode >< rawmode >< status 1 >\n";
     let answers =
-        "7 < hi >\n7 < error wrong state >< error no such interface >< ok >< error wrong state >< ok >< ok >< error bad word count >\n";
+        "7 < hi >\n7 < error wrong state >< error no such interface >< ok >< error wrong state >< error wrong state >< ok >< ok >< error bad word count >\n";
     two_write(&rt, "", before, answers)
 }
 
