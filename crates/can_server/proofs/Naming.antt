@@ -11,13 +11,13 @@ no_table = record { words = 0; slots = 0; views_name = 0; atom = 0; block = 0; o
 
 module _ {F G : Type 0} where
   -- the table of the roll that bench k brings
-  pub roll_at : List (Bench F G) → ℕ → TableId
+  abbrev pub roll_at : List (Bench F G) → ℕ → TableId
   roll_at [] k = no_table
   roll_at (b ∷ more) zero = b.blanks.roll
   roll_at (b ∷ more) (suc k) = roll_at more k
 
   -- the table of the meter that bench k brings
-  pub meter_at : List (Bench F G) → ℕ → TableId
+  abbrev pub meter_at : List (Bench F G) → ℕ → TableId
   meter_at [] k = no_table
   meter_at (b ∷ more) zero = b.blanks.meter
   meter_at (b ∷ more) (suc k) = meter_at more k

@@ -4,6 +4,7 @@ use Rattle.can_meter.specs.Readings.{Readings}
 use Rattle.can_bus.specs.declared.events.Event.{Event}
 use Rattle.can_bus.specs.declared.events.Event.TheVariants as event
 use Rattle.can_bus.specs.declared.events.Reply.{Reply}
+use Rattle.can_bus.specs.declared.events.SocketId.{SocketId}
 use Rattle.can_bus.specs.declared.events.Reply.TheVariants as reply
 use Rattle.std.specs.Prelude.{slice_get}
 use Rattle.can_session.specs.declared.port.PortRefusal.{PortRefusal}
@@ -21,7 +22,7 @@ on_pass {A} told old buses inside now pass e outcome answer seen is same called 
     (subst (λ (o : Option EnteredSeen). OnPass told o e answer (Some (record now { pass = pass }))) (sym is) (outcome, pass, same, called, refl), refl)
 
 -- a socket that is opened holds as many items as the bus has it
-pub opens : (old : PortSeen) (buses : List BusSeen) (inside : Option EnteredSeen) (now : EnteredSeen) (pass : PassSeen) (iface room : ℕ) (outcome : Result ℕ StationRefusal) (answer : Result ℕ PortRefusal)
+pub opens : (old : PortSeen) (buses : List BusSeen) (inside : Option EnteredSeen) (now : EnteredSeen) (pass : PassSeen) (iface room : ℕ) (outcome : Result SocketId StationRefusal) (answer : Result SocketId PortRefusal)
     → ◌≡◌ {A = PortSeen} (record { buses = buses; entered = inside }) old → inside ≡ Some now → room ≡ items_on (slice_get buses now.number) → answer ≡ passed_on outcome
     → Called (λ x. reply.Opened x) now.number now.pass (event.Open iface room) outcome pass
     → OnPort (λ x. reply.Opened x) old (event.Open iface (room_in old.buses old.entered)) answer (record { buses = buses; entered = Some (record now { pass = pass }) })

@@ -6,5 +6,5 @@ use Rattle.can_server.proofs.ports.PassPortPort.open.Goals as goal
 pub returns : goal.returns
 returns g c =
     let now : EnteredSeen = record { number = c.entered.inside.station.now; gauge = c.entered.inside.gauge; pass = c.entered.inside.pass } in
-    opens c.args.self.now c.self.inside.hub.now c.self.inside.entered now c.open.new.pass c.args.iface c.rx_capacity.result c.open.result
-    c.pass_on.result c.self.view_is (c.in-Some.is ∙ ap Some (sym c.entered.view_is)) c.rx_capacity.ensures c.pass_on.ensures c.open.ensures
+    opens c.args.self.now c.self.inside.hub.now c.self.inside.entered now c.open.new.pass c.args.iface c.rx_capacity-capacity.result c.open.result
+    c.pass_on.result c.self.view_is (c.in-Some.is ∙ ap Some (sym c.entered.view_is)) (cc (c.rx_capacity-capacity.ensures, c.from.ensures, c.number.ensures)) c.pass_on.ensures c.open.ensures
