@@ -1,4 +1,4 @@
-"""What scripts/check-clients stands on: checks, a server of its own for each, and a client that is a plain socket."""
+"""What scripts/check-clients stands on: checks, a server for each of them, and a client that is a plain socket."""
 
 import contextlib
 import os
@@ -55,15 +55,21 @@ class Server:
     def path(self, name):
         return os.path.join(self.folder, name)
 
-    def ticks(self):
-        """The processor time of all its processes, in hundredths of a second."""
-        total = 0
+    def processes(self):
+        """Its processes, each with the fields of its state."""
         for process in filter(str.isdigit, os.listdir("/proc")):
             with contextlib.suppress(OSError), open(f"/proc/{process}/stat", encoding="utf-8") as stat:
                 fields = stat.read().rsplit(") ", 1)[1].split()
                 if int(fields[3]) == self.child.pid:
-                    total += int(fields[11]) + int(fields[12])
-        return total
+                    yield process, fields
+
+    def ticks(self):
+        """The processor time of all its processes, in hundredths of a second."""
+        return sum(int(fields[11]) + int(fields[12]) for _, fields in self.processes())
+
+    def held(self):
+        """How many file descriptors and threads its processes have."""
+        return sum(len(os.listdir(f"/proc/{process}/{what}")) for process, _ in self.processes() for what in ("fd", "task"))
 
     def end(self, says=""):
         """Ends it as Ctrl-C does; what it wrote after `listening`."""
