@@ -17,7 +17,7 @@ const PIECE: usize = 4096;
 
 /// How long the delivering thread waits at first. Some clients read the answer to `rawmode` and whatever came with
 /// it as one text.
-const BEFORE_ITEMS_MS: u64 = 5;
+const BEFORE_ITEMS_MS: u64 = 20;
 
 /// What became of a read.
 enum Heard {
