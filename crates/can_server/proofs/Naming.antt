@@ -6,7 +6,7 @@ use Rattle.can_server.specs.declared.benches.Bench.{Bench}
 -- A hub named after its own benches.
 
 -- a table that no bench has
-no_table : TableId
+abbrev pub no_table : TableId
 no_table = record { words = 0; slots = 0; views_name = 0; atom = 0; block = 0; offset = 0; slot_names = [] }
 
 module _ {F G : Type 0} where
