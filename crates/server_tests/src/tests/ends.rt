@@ -24,6 +24,7 @@ fn ends<N: RollName + MeterName + Send + Sync, R: Machine>(
     rt: &R,
     alloc: Global,
     benches: Vec<Bench<Perfect, Open>>,
+    entrance: Entrance,
     told: UnixStream,
     until: UnixStream,
 )
@@ -31,7 +32,6 @@ fn ends<N: RollName + MeterName + Send + Sync, R: Machine>(
 {
     let hub = made::<N, _, _, _>(rt, alloc, benches);
     let host = Host::new(rt);
-    let entrance = Entrance::new(rt, 3);
     let (first, second) = (entrance.admit(rt, alloc), entrance.admit(rt, alloc));
     let doors = entrance.into_doors(rt, alloc);
     let (passes, ()) = join(
@@ -50,6 +50,6 @@ fn ends<N: RollName + MeterName + Send + Sync, R: Machine>(
 fn a_server_that_is_told_ends_all_sessions(rt: HostRuntime) -> io::Result<()> {
     let (told, until) = UnixStream::pair(&rt)?;
     let benches = one_bus(&rt, rt.alloc());
-    ends::<Brand, _>(&rt, rt.alloc(), benches, told, until);
+    ends::<Brand, _>(&rt, rt.alloc(), benches, Entrance::new(&rt, 3), told, until);
     Ok(())
 }

@@ -100,13 +100,13 @@ fn hub_goes_on<N: RollName + MeterName + Send + Sync, R: Machine>(
     rt: &R,
     alloc: Global,
     benches: Vec<Bench<Script, Holding<'_, R>>>,
+    entrance: Entrance,
     signals: &Signals,
 )
     requires { NamedFrom N.roll N.meter 0 benches.items }
 {
     let hub = made::<N, _, _, _>(rt, alloc, benches);
     let host = Host::new(rt);
-    let entrance = Entrance::new(rt, 4);
     let clients = Clients {
         sender: entrance.admit(rt, alloc),
         listener: entrance.admit(rt, alloc),
@@ -153,7 +153,7 @@ fn a_bus_goes_on_while_another_is_held(rt: HostRuntime) {
     };
     let far = held_bench(&rt, alloc, far_names, script(&rt, alloc, ""), free);
     let benches = two(&rt, alloc, near, far);
-    hub_goes_on::<Brand, _>(&rt, alloc, benches, &signals);
+    hub_goes_on::<Brand, _>(&rt, alloc, benches, Entrance::new(&rt, 4), &signals);
 }
 
 /// Holds the first call after its answer until another call is there too.
@@ -187,13 +187,13 @@ fn sessions_meet<N: RollName + MeterName + Send + Sync, R: Machine>(
     rt: &R,
     alloc: Global,
     benches: Vec<Bench<Perfect, Meeting<'_, R>>>,
+    entrance: Entrance,
     signals: &Signals,
 )
     requires { NamedFrom N.roll N.meter 0 benches.items }
 {
     let hub = made::<N, _, _, _>(rt, alloc, benches);
     let host = Host::new(rt);
-    let entrance = Entrance::new(rt, 2);
     let (first, second) = (entrance.admit(rt, alloc), entrance.admit(rt, alloc));
     let doors = entrance.into_doors(rt, alloc);
     let (passes, ()) = join(
@@ -216,5 +216,5 @@ fn two_sessions_are_served_at_once(rt: HostRuntime) {
     };
     let names = names(&rt, alloc, "can0,can1");
     let benches = one(&rt, alloc, held_bench(&rt, alloc, names, Perfect, gate));
-    sessions_meet::<Brand, _>(&rt, alloc, benches, &signals);
+    sessions_meet::<Brand, _>(&rt, alloc, benches, Entrance::new(&rt, 2), &signals);
 }

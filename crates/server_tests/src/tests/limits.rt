@@ -30,12 +30,12 @@ fn fills<N: RollName + MeterName + Send + Sync, R: Machine>(
     rt: &R,
     alloc: Global,
     benches: Vec<Bench<Perfect, Open>>,
+    entrance: Entrance,
 )
     requires { NamedFrom N.roll N.meter 0 benches.items }
 {
     let hub = made::<N, _, _, _>(rt, alloc, benches);
     let host = Host::new(rt);
-    let entrance = Entrance::new(rt, MOST + 1);
     let mut clients = Vec::new(alloc);
     for _ in 0..MOST {
         assert!(rt; clients.push(entrance.admit(rt, alloc)).is_ok());
@@ -57,7 +57,7 @@ fn fills<N: RollName + MeterName + Send + Sync, R: Machine>(
 #[tactic(auto, using(can_server::proofs::Naming::named))]
 fn the_65th_session_at_once_is_refused(rt: HostRuntime) {
     let benches = one_bus(&rt, rt.alloc());
-    fills::<Brand, _>(&rt, rt.alloc(), benches);
+    fills::<Brand, _>(&rt, rt.alloc(), benches, Entrance::new(&rt, MOST + 1));
 }
 
 /// A call that the record has no room for is refused; what makes none is answered.
@@ -81,12 +81,12 @@ fn is_full<N: RollName + MeterName + Send + Sync, R: Machine>(
     rt: &R,
     alloc: Global,
     benches: Vec<Bench<Perfect, Open>>,
+    entrance: Entrance,
 )
     requires { NamedFrom N.roll N.meter 0 benches.items }
 {
     let hub = made::<N, _, _, _>(rt, alloc, benches);
     let host = Host::new(rt);
-    let entrance = Entrance::new(rt, 2);
     let (first, second) = (entrance.admit(rt, alloc), entrance.admit(rt, alloc));
     let doors = entrance.into_doors(rt, alloc);
     let (passes, ()) = join(
@@ -108,5 +108,5 @@ fn a_full_record_refuses_calls_alone(rt: HostRuntime) {
     let mut bench = bench(&rt, alloc, names(&rt, alloc, "can0,can1"));
     bench.config.limit = 1;
     let benches = one(&rt, alloc, bench);
-    is_full::<Brand, _>(&rt, alloc, benches);
+    is_full::<Brand, _>(&rt, alloc, benches, Entrance::new(&rt, 2));
 }

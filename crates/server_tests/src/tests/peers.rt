@@ -34,12 +34,12 @@ fn serves_on<N: RollName + MeterName + Send + Sync, R: Machine>(
     rt: &R,
     alloc: Global,
     benches: Vec<Bench<Perfect, Open>>,
+    entrance: Entrance,
 )
     requires { NamedFrom N.roll N.meter 0 benches.items }
 {
     let hub = made::<N, _, _, _>(rt, alloc, benches);
     let host = Host::new(rt);
-    let entrance = Entrance::new(rt, 4);
     let (first, second) = (entrance.admit(rt, alloc), entrance.admit(rt, alloc));
     let (third, fourth) = (entrance.admit(rt, alloc), entrance.admit(rt, alloc));
     let doors = entrance.into_doors(rt, alloc);
@@ -58,7 +58,7 @@ fn serves_on<N: RollName + MeterName + Send + Sync, R: Machine>(
 #[tactic(auto, using(can_server::proofs::Naming::named))]
 fn sessions_outlive_one_whose_client_goes_away(rt: HostRuntime) {
     let benches = one_bus(&rt, rt.alloc());
-    serves_on::<Brand, _>(&rt, rt.alloc(), benches);
+    serves_on::<Brand, _>(&rt, rt.alloc(), benches, Entrance::new(&rt, 4));
 }
 
 /// Many frames go from the first to the second, and to one that reads none.
