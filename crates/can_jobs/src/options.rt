@@ -58,6 +58,7 @@ Messages of a session (socketcand's raw mode), in the order of a first run:
   < errmask HEX >            Receive error message frames of these classes (0)
   < errdata 0|1 >            Write error message frames with their data (0)
   < stats >                  Write < stats QUEUED DROPPED TAKEN SENT DONE WAITING LOST REFUSED >
+  < status >                 Write < status STATE TEC REC >, from the error counters of the interface
   < restart >                Bring the interface back that is bus off
   < close >                  Close the socket, and write < closed UNREAD DROPPED >
 What is done is answered < ok >, a send nothing, what is refused < error TEXT >. < echo > is answered at any time.

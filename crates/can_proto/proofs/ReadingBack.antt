@@ -11,7 +11,7 @@ use Rattle.can_bus.specs.declared.events.Opt.{Opt}
 use Rattle.can_bus.specs.declared.events.Opt.TheVariants as opt
 use Rattle.can_proto.specs.declared.commands.Mode.{Mode}
 use Rattle.can_proto.specs.declared.commands.Command.{Command}
-use Rattle.can_proto.specs.declared.commands.Command.TheVariants.{Echo, Open, Rawmode, Send, SetFilters, SetOption, ErrData, Stats, Restart, Close}
+use Rattle.can_proto.specs.declared.commands.Command.TheVariants.{Echo, Open, Rawmode, Send, SetFilters, SetOption, ErrData, Stats, Status, Restart, Close}
 use Rattle.can_proto.specs.declared.faults.ProtoFault.{ProtoFault}
 use Rattle.can_proto.specs.declared.faults.ProtoFault.TheVariants.{BadByte}
 use Rattle.can_proto.specs.declared.verbs.Verb.{Verb}
@@ -127,6 +127,7 @@ words-command (SetFilters filters) h =
 words-command (SetOption o) h = words-option o
 words-command (ErrData on) h = (refl, omega arith, words-flag on)
 words-command Stats h = (refl, omega arith, tt)
+words-command Status h = (refl, omega arith, tt)
 words-command Restart h = (refl, omega arith, tt)
 words-command Close h = (refl, omega arith, tt)
 
@@ -247,6 +248,7 @@ command-again mode (SetFilters filters) h may = said mode verb.Filter _ _ may (s
 command-again mode (SetOption o) h may = option-again mode o h may
 command-again mode (ErrData on) h may = said mode verb.ErrData _ _ may (ap (λ (r : Result Bool ProtoFault). r >>= λ x. Ok (ErrData x)) (flag-again on))
 command-again mode Stats h may = said mode verb.Stats [] Stats may refl
+command-again mode Status h may = said mode verb.Status [] Status may refl
 command-again mode Restart h may = said mode verb.Restart [] Restart may refl
 command-again mode Close h may = said mode verb.Close [] Close may refl
 

@@ -1,4 +1,4 @@
-use Rattle.std.proofs.Common.{◌≡◌, ℕ, suc, ◌/◌, ◌%◌, ◌^◌, ◌<◌, Bool, true, false, List, [], ◌∷◌, ◌++◌, length, get_or, drop, refl, sym, ap, ◌∙◌, arith, append_assoc, codes}
+use Rattle.std.proofs.Common.{◌≡◌, ℕ, suc, ◌+◌, ◌/◌, ◌%◌, ◌^◌, ◌<◌, Bool, true, false, List, [], ◌∷◌, ◌++◌, length, get_or, drop, refl, sym, ap, ◌∙◌, arith, append_assoc, codes}
 use Rattle.std.specs.Fmt.{decimal}
 use Rattle.std.specs.List.{All}
 use Rattle.std.proofs.lemmas.Fmt.{decimal_injective}
@@ -8,15 +8,18 @@ use Rattle.can_frame.specs.Frames.Payload.{Data, Remote}
 use Rattle.can_frame.specs.FrameText.{digits, pairs, id_text}
 use Rattle.can_frame.specs.declared.items.Item.{Item}
 use Rattle.can_frame.specs.declared.items.Item.TheVariants as item
+use Rattle.can_confine.specs.Confinement.{ErrorCounts, state_of}
+use Rattle.can_confine.specs.declared.states.State.{State}
+use Rattle.can_confine.specs.declared.states.State.TheVariants.{Active, Warning, Passive, Off}
 use Rattle.can_bus.specs.declared.stats.SocketStats.{SocketStats}
 use Rattle.can_bus.specs.declared.stats.IfaceStats.{IfaceStats}
 use Rattle.can_proto.specs.declared.answers.Answer.{Answer}
-use Rattle.can_proto.specs.declared.answers.Answer.TheVariants.{Greeting, Done, Echo, Stats, Closing, Refused}
+use Rattle.can_proto.specs.declared.answers.Answer.TheVariants.{Greeting, Done, Echo, Stats, Status, Closing, Refused}
 use Rattle.can_proto.specs.declared.answers.Cause.{Cause}
 use Rattle.can_proto.specs.declared.answers.Cause.TheVariants as cause
 use Rattle.can_proto.specs.Causes.{cause_text}
 use Rattle.can_frame.specs.Moments.{moment_text}
-use Rattle.can_proto.specs.Spelling.{class_text, item_text, stats_text, reply_text, told_counts, IsAnswer, AreAlike}
+use Rattle.can_proto.specs.Spelling.{class_text, item_text, stats_text, state_word, status_text, reply_text, told_counts, IsAnswer, AreAlike}
 use Rattle.can_proto.proofs.Cuts.{clear, clear-append, marked-left, marked-right, cut}
 use Rattle.can_proto.proofs.Numerals.{clear-decimal}
 use Rattle.can_proto.proofs.Telling.{one-cause}
@@ -59,37 +62,56 @@ same-row (x ∷ xs) (y ∷ ys) hx hy l e =
 same-behind : (x y : ℕ) (xs ys : List ℕ) → AreSmall (x ∷ xs) → AreSmall (y ∷ ys) → length xs ≡ length ys → behind (decimal x) xs ++ codes " >" ≡ behind (decimal y) ys ++ codes " >" → x ∷ xs ≡ y ∷ ys
 same-behind x y xs ys hx hy l e = same-row (x ∷ xs) (y ∷ ys) hx hy (omega (arith, l)) (sym (row-behind (decimal x) xs) ∙ e ∙ row-behind (decimal y) ys)
 
--- the fourth byte tells what kind of answer it is
-abbrev fourth : List ℕ → ℕ
-fourth text = get_or text 3 0
+-- a state's word
+clear-state : (s : State) → (clear is_space (state_word s) ≡ true) × (clear is_point (state_word s) ≡ true)
+clear-state Active = (refl, refl)
+clear-state Warning = (refl, refl)
+clear-state Passive = (refl, refl)
+clear-state Off = (refl, refl)
+
+-- the fourth and the seventh byte tell what kind of answer it is
+abbrev kind : List ℕ → ℕ
+kind text = get_or text 3 0 + get_or text 6 0
 
 abbrev mark_of : Answer → ℕ
 mark_of Greeting = 105
 mark_of Done = 107
-mark_of Echo = 99
-mark_of (Stats s i) = 116
-mark_of (Closing c) = 108
-mark_of (Refused why) = 114
+mark_of Echo = 131
+mark_of (Stats s i) = 231
+mark_of (Status c) = 233
+mark_of (Closing c) = 209
+mark_of (Refused why) = 228
 
-marked : (a : Answer) → fourth (reply_text a) ≡ mark_of a
+marked : (a : Answer) → kind (reply_text a) ≡ mark_of a
 marked Greeting = refl
 marked Done = refl
 marked Echo = refl
 marked (Stats s i) = refl
+marked (Status c) = refl
 marked (Closing c) = refl
 marked (Refused why) = refl
 
 same-mark : (a b : Answer) → reply_text a ≡ reply_text b → mark_of a ≡ mark_of b
-same-mark a b e = sym (marked a) ∙ ap fourth e ∙ marked b
+same-mark a b e = sym (marked a) ∙ ap kind e ∙ marked b
 
 same-stats : (s t : SocketStats) (i j : IfaceStats) → AreSmall (told_counts s i) → AreSmall (told_counts t j) → stats_text s i ≡ stats_text t j → told_counts s i ≡ told_counts t j
 same-stats s t i j hs ht e = same-behind s.queued t.queued (s.dropped ∷ s.taken ∷ i.sent ∷ i.done ∷ i.waiting ∷ i.lost ∷ i.refused ∷ []) (t.dropped ∷ t.taken ∷ j.sent ∷ j.done ∷ j.waiting ∷ j.lost ∷ j.refused ∷ []) hs ht refl (ap (drop 8) e)
+
+same-status : (c d : ErrorCounts) → AreSmall (c.tec ∷ c.rec ∷ []) → AreSmall (d.tec ∷ d.rec ∷ []) → status_text c ≡ status_text d → c ≡ d
+same-status c d hc hd e =
+    let one = state_word (state_of c) in
+    let other = state_word (state_of d) in
+    let rows : one ++ 32 ∷ row (c.tec ∷ c.rec ∷ []) ≡ other ++ 32 ∷ row (d.tec ∷ d.rec ∷ []) =
+    sym (row-behind one (c.tec ∷ c.rec ∷ [])) ∙ ap (drop 9) e ∙ row-behind other (d.tec ∷ d.rec ∷ []) in
+    let parts = cut is_space 32 one other (row (c.tec ∷ c.rec ∷ [])) (row (d.tec ∷ d.rec ∷ [])) refl (clear-state (state_of c)).0 (clear-state (state_of d)).0 rows in
+    ap (λ (l : List ℕ). record { tec = get_or l 0 0; rec = get_or l 1 0 }) (same-row (c.tec ∷ c.rec ∷ []) (d.tec ∷ d.rec ∷ []) hc hd refl parts.1)
 
 pub one-answer : (one other : Answer) → IsAnswer one → IsAnswer other → reply_text one ≡ reply_text other → AreAlike one other
 one-answer Greeting Greeting ha hb e = refl
 one-answer Done Done ha hb e = refl
 one-answer Echo Echo ha hb e = refl
 one-answer (Stats s i) (Stats t j) ha hb e = same-stats s t i j ha hb e
+one-answer (Status c) (Status d) ha hb e = ap Status (same-status c d ha hb e)
 one-answer (Closing c) (Closing d) ha hb e =
     let h = same-behind c.unread d.unread (c.dropped ∷ []) (d.dropped ∷ []) ha hb refl (ap (drop 9) e) in
     ap (λ (l : List ℕ). Closing (record { unread = get_or l 0 0; dropped = get_or l 1 0 })) h
@@ -114,6 +136,9 @@ clear-answer Greeting h = refl
 clear-answer Done h = refl
 clear-answer Echo h = refl
 clear-answer (Stats s i) h = clear-behind s.queued (s.dropped ∷ s.taken ∷ i.sent ∷ i.done ∷ i.waiting ∷ i.lost ∷ i.refused ∷ []) h
+clear-answer (Status c) h =
+    let word = state_word (state_of c) in
+    ap (clear is_point) (row-behind word (c.tec ∷ c.rec ∷ [])) ∙ clear-append is_point word (32 ∷ row (c.tec ∷ c.rec ∷ [])) (clear-state (state_of c)).1 (clear-row (c.tec ∷ c.rec ∷ []) h)
 clear-answer (Closing c) h = clear-behind c.unread (c.dropped ∷ []) h
 clear-answer (Refused why) h = clear-cause why
 

@@ -8,7 +8,7 @@ use Rattle.can_filter.specs.Filters.{CanFilter}
 use Rattle.can_bus.specs.declared.events.Opt.{Opt}
 use Rattle.can_bus.specs.declared.events.Opt.TheVariants as opt
 use Rattle.can_proto.specs.declared.commands.Command.{Command}
-use Rattle.can_proto.specs.declared.commands.Command.TheVariants.{Echo, Open, Rawmode, Send, SetFilters, SetOption, ErrData, Stats, Restart, Close}
+use Rattle.can_proto.specs.declared.commands.Command.TheVariants.{Echo, Open, Rawmode, Send, SetFilters, SetOption, ErrData, Stats, Status, Restart, Close}
 use Rattle.can_proto.specs.declared.verbs.Verb.{Verb}
 use Rattle.can_proto.specs.declared.verbs.Verb.TheVariants as verb
 use Rattle.can_proto.specs.Words.{front}
@@ -47,6 +47,7 @@ command_words (SetFilters filters) = codes "filter" ∷ decimal (length filters)
 command_words (SetOption option) = option_words option
 command_words (ErrData on) = codes "errdata" ∷ flag_text on ∷ []
 command_words Stats = codes "stats" ∷ []
+command_words Status = codes "status" ∷ []
 command_words Restart = codes "restart" ∷ []
 command_words Close = codes "close" ∷ []
 
@@ -76,6 +77,7 @@ verb_of (SetFilters filters) = verb.Filter
 verb_of (SetOption option) = verb_of_option option
 verb_of (ErrData on) = verb.ErrData
 verb_of Stats = verb.Stats
+verb_of Status = verb.Status
 verb_of Restart = verb.Restart
 verb_of Close = verb.Close
 

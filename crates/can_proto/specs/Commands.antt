@@ -5,7 +5,7 @@ use Rattle.can_filter.specs.Filters.{CanFilter}
 use Rattle.can_bus.specs.declared.events.Opt.TheVariants as opt
 use Rattle.can_proto.specs.declared.commands.Mode.{Mode}
 use Rattle.can_proto.specs.declared.commands.Command.{Command}
-use Rattle.can_proto.specs.declared.commands.Command.TheVariants.{Echo, Open, Rawmode, Send, SetFilters, SetOption, ErrData, Stats, Restart, Close}
+use Rattle.can_proto.specs.declared.commands.Command.TheVariants.{Echo, Open, Rawmode, Send, SetFilters, SetOption, ErrData, Stats, Status, Restart, Close}
 use Rattle.can_proto.specs.declared.faults.ProtoFault.{ProtoFault}
 use Rattle.can_proto.specs.declared.faults.ProtoFault.TheVariants.{NoMemory, InvalidFilter, TooManyFilters, EmptyMessage, UnknownCommand, WrongState, ModeNotSupported, BadCount, BadId, BadLength, BadByte, BadNumber}
 use Rattle.can_proto.specs.declared.verbs.Verb.{Verb}
@@ -164,6 +164,7 @@ arguments_of verb.RecvOwn words = switch_of words >>= λ on. Ok (SetOption (opt.
 arguments_of verb.ErrMask words = mask_of words
 arguments_of verb.ErrData words = switch_of words >>= λ on. Ok (ErrData on)
 arguments_of verb.Stats words = alone Stats words
+arguments_of verb.Status words = alone Status words
 arguments_of verb.Restart words = alone Restart words
 arguments_of verb.Close words = alone Close words
 

@@ -6,10 +6,13 @@ use Rattle.can_frame.specs.FrameText.{digits, pairs, id_text}
 use Rattle.can_frame.specs.Moments.{moment_text}
 use Rattle.can_frame.specs.declared.items.Item.{Item}
 use Rattle.can_frame.specs.declared.items.Item.TheVariants as item
+use Rattle.can_confine.specs.Confinement.{ErrorCounts, state_of}
+use Rattle.can_confine.specs.declared.states.State.{State}
+use Rattle.can_confine.specs.declared.states.State.TheVariants.{Active, Warning, Passive, Off}
 use Rattle.can_bus.specs.declared.stats.SocketStats.{SocketStats}
 use Rattle.can_bus.specs.declared.stats.IfaceStats.{IfaceStats}
 use Rattle.can_proto.specs.declared.answers.Answer.{Answer}
-use Rattle.can_proto.specs.declared.answers.Answer.TheVariants.{Greeting, Done, Echo, Stats, Closing, Refused}
+use Rattle.can_proto.specs.declared.answers.Answer.TheVariants.{Greeting, Done, Echo, Stats, Status, Closing, Refused}
 use Rattle.can_proto.specs.Causes.{cause_text}
 
 -- How answers and received items are written to a client (socketcand's raw mode; the exact texts are own choice).
@@ -54,22 +57,35 @@ without_data (item.Error e) = item.Error (record { class = e.class; bytes = [] }
 abbrev pub stats_text : SocketStats → IfaceStats → List ℕ
 stats_text s i = codes "< stats " ++ decimal s.queued ++ codes " " ++ decimal s.dropped ++ codes " " ++ decimal s.taken ++ codes " " ++ decimal i.sent ++ codes " " ++ decimal i.done ++ codes " " ++ decimal i.waiting ++ codes " " ++ decimal i.lost ++ codes " " ++ decimal i.refused ++ codes " >"
 
+-- the word of a fault confinement state
+abbrev pub state_word : State → List ℕ
+state_word Active = codes "active"
+state_word Warning = codes "warning"
+state_word Passive = codes "passive"
+state_word Off = codes "off"
+
+-- the state that an interface's error counts give, its transmit count and its receive count
+abbrev pub status_text : ErrorCounts → List ℕ
+status_text c = codes "< status " ++ state_word (state_of c) ++ codes " " ++ decimal c.tec ++ codes " " ++ decimal c.rec ++ codes " >"
+
 -- what a client is answered
 abbrev pub reply_text : Answer → List ℕ
 reply_text Greeting = codes "< hi >"
 reply_text Done = codes "< ok >"
 reply_text Echo = codes "< echo >"
 reply_text (Stats s i) = stats_text s i
+reply_text (Status c) = status_text c
 reply_text (Closing c) = codes "< closed " ++ decimal c.unread ++ codes " " ++ decimal c.dropped ++ codes " >"
 reply_text (Refused why) = codes "< error " ++ cause_text why ++ codes " >"
 
--- the eight counts that are told; an interface's error counters are not
+-- the eight counts of `stats` that are told; an interface's error counters are not
 abbrev pub told_counts : SocketStats → IfaceStats → List ℕ
 told_counts s i = s.queued ∷ s.dropped ∷ s.taken ∷ i.sent ∷ i.done ∷ i.waiting ∷ i.lost ∷ i.refused ∷ []
 
 -- counts of 64 bits
 abbrev pub IsAnswer : Answer → Type 0
 IsAnswer (Stats s i) = All (λ n. n < 2 ^ 64) (told_counts s i)
+IsAnswer (Status c) = All (λ n. n < 2 ^ 64) (c.tec ∷ c.rec ∷ [])
 IsAnswer (Closing c) = All (λ n. n < 2 ^ 64) (c.unread ∷ c.dropped ∷ [])
 IsAnswer _ = Unit {0}
 

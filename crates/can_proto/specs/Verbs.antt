@@ -2,7 +2,7 @@ use Rattle.std.specs.Prelude.{ℕ, Bool, true, false, ◌&&◌, ◌||◌, ◌==�
 use Rattle.can_proto.specs.declared.commands.Mode.{Mode}
 use Rattle.can_proto.specs.declared.commands.Mode.TheVariants.{NoBus, Opened, Raw}
 use Rattle.can_proto.specs.declared.verbs.Verb.{Verb}
-use Rattle.can_proto.specs.declared.verbs.Verb.TheVariants.{Echo, Open, Rawmode, OtherMode, Send, SendRtr, Filter, Join, Loopback, RecvOwn, ErrMask, ErrData, Stats, Restart, Close}
+use Rattle.can_proto.specs.declared.verbs.Verb.TheVariants.{Echo, Open, Rawmode, OtherMode, Send, SendRtr, Filter, Join, Loopback, RecvOwn, ErrMask, ErrData, Stats, Status, Restart, Close}
 
 -- The commands' first words and the modes that have them (socketcand's raw mode; filter and what follows it is own choice).
 
@@ -31,6 +31,7 @@ named word =
     if is_word word (codes "errmask") then Some ErrMask else
     if is_word word (codes "errdata") then Some ErrData else
     if is_word word (codes "stats") then Some Stats else
+    if is_word word (codes "status") then Some Status else
     if is_word word (codes "restart") then Some Restart else
     if is_word word (codes "close") then Some Close else
     if is_other_mode word then Some OtherMode else None

@@ -3,6 +3,7 @@ ghost use Rattle.can_proto.specs.Causes.{cause_text};
 
 use crate::faults::ProtoFault;
 use can_bus::{Closed, IfaceStats, Refusal, SocketStats};
+use can_confine::Counters;
 
 /// What a client is answered.
 #[derive(Debug, Clone, Copy, PartialEq, Eq)]
@@ -15,6 +16,8 @@ pub enum Answer {
     Echo,
     /// What became of the items offered to the socket and of the frames of its interface.
     Stats(SocketStats, IfaceStats),
+    /// The error counters of the interface.
+    Status(Counters),
     /// The socket was closed.
     Closing(Closed),
     /// Nothing was done.

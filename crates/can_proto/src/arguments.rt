@@ -103,6 +103,7 @@ pub fn read_arguments(alloc: Global, verb: Verb, rest: &[u8]) -> Result<Command,
         Verb::ErrMask => read_mask(rest),
         Verb::ErrData => Ok(Command::ErrData(read_switch(rest)?)),
         Verb::Stats => read_alone(Command::Stats, rest),
+        Verb::Status => read_alone(Command::Status, rest),
         Verb::Restart => read_alone(Command::Restart, rest),
         Verb::Close => read_alone(Command::Close, rest),
     }

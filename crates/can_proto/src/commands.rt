@@ -76,6 +76,8 @@ pub enum Command {
     ErrData(bool),
     /// To be told what became of the frames.
     Stats,
+    /// To be told the error counters of the interface, and the state that they give.
+    Status,
     /// To take the interface out of bus off.
     Restart,
     /// To close the socket and end.

@@ -1,11 +1,12 @@
 ghost use Rattle.std.specs.Prelude.{◌≡◌, ◌≤◌, ◌<◌, ◌+◌, ◌^◌, ◌++◌, length};
 ghost use Rattle.std.specs.Fmt.{decimal};
-ghost use Rattle.can_proto.specs.Spelling.{class_width, class_text, data_text, remote_text, error_text, item_text, stats_text, reply_text};
+ghost use Rattle.can_proto.specs.Spelling.{class_width, class_text, data_text, remote_text, error_text, item_text, stats_text, state_word, status_text, reply_text};
 ghost use Rattle.can_proto.specs.declared.answers.Answer.TheVariants.{Refused};
 
 use crate::answers::{Answer, Cause};
 use crate::texts::{ItemText, Text, push_next};
 use can_bus::{IfaceStats, SocketStats};
+use can_confine::{Counters, State};
 use can_frame::{ErrorFrame, Frame, Item, Moment};
 
 /// What a client is told of an item that its socket received, with the data of error message frames
@@ -35,6 +36,7 @@ pub fn reply_text(answer: Answer) -> Text
         Answer::Done => fixed_text(b"< ok >"),
         Answer::Echo => fixed_text(b"< echo >"),
         Answer::Stats(socket, iface) => stats_text(socket, iface),
+        Answer::Status(counters) => status_text(counters),
         Answer::Closing(closed) => {
             let mut text = fixed_text(b"< closed");
             push_next(&mut text, closed.unread);
@@ -171,6 +173,32 @@ fn stats_text(socket: SocketStats, iface: IfaceStats) -> Text
     push_next(&mut text, iface.waiting);
     push_next(&mut text, iface.lost);
     push_next(&mut text, iface.refused);
+    text.push_all(b" >");
+    text
+}
+
+/// The word of a fault confinement state.
+fn state_word(state: State) -> &'static [u8]
+    ensures word { result.now ≡ state_word state }
+    ensures short { length result.now ≤ 7 }
+{
+    match state {
+        State::Active => b"active",
+        State::Warning => b"warning",
+        State::Passive => b"passive",
+        State::Off => b"off",
+    }
+}
+
+/// The state and the two counts of `status`.
+fn status_text(counters: Counters) -> Text
+    ensures { result ≡ status_text counters }
+{
+    let mut text = Text::new();
+    text.push_all(b"< status ");
+    text.push_all(state_word(counters.state()));
+    push_next(&mut text, u64::from(counters.tec()));
+    push_next(&mut text, u64::from(counters.rec()));
     text.push_all(b" >");
     text
 }

@@ -1,5 +1,6 @@
 use crate::{Answer, Cause, Command, Incoming, Mode, ProtoFault, Reader, item_text, reply_text};
 use can_bus::{Closed, Opt};
+use can_confine::Counters;
 use can_frame::{CanId, ErrorFrame, Frame, Item, Moment, TooLong};
 
 #[test]
@@ -57,10 +58,11 @@ fn a_message_has_at_most_1024_bytes(rt: HostRuntime) {
 #[test]
 fn faults_are_told_in_their_order(rt: HostRuntime) {
     let raw = Mode::Raw;
-    let cases: [(Mode, &[u8], ProtoFault); 24] = [
+    let cases: [(Mode, &[u8], ProtoFault); 26] = [
         (raw, b"< >", ProtoFault::EmptyMessage),
         (Mode::Ended, b"<>", ProtoFault::EmptyMessage),
-        (Mode::NoBus, b"< status >", ProtoFault::UnknownCommand),
+        (raw, b"< statuses >", ProtoFault::UnknownCommand),
+        (Mode::Opened, b"< status >", ProtoFault::WrongState),
         (raw, b"< SEND 123 0 >", ProtoFault::UnknownCommand),
         (Mode::Ended, b"< echo >", ProtoFault::WrongState),
         (Mode::Opened, b"< close 1 2 >", ProtoFault::WrongState),
@@ -80,6 +82,7 @@ fn faults_are_told_in_their_order(rt: HostRuntime) {
         (raw, b"< send 123 1 >", ProtoFault::BadCount),
         (raw, b"< send 123 1 123 >", ProtoFault::BadByte),
         (raw, b"< sendrtr 123 3 1 >", ProtoFault::BadCount),
+        (raw, b"< status 1 >", ProtoFault::BadCount),
         (raw, b"< filter 513 >", ProtoFault::TooManyFilters),
         (raw, b"< filter 1 123 >", ProtoFault::BadCount),
         (raw, b"< filter 1 123 20000000 >", ProtoFault::InvalidFilter),
@@ -129,7 +132,7 @@ fn frames_are_read(rt: HostRuntime) {
 #[test]
 fn commands_are_read(rt: HostRuntime) {
     let stream =
-        b"< open can0 >< filter 2 123 C00007FF 0 0 >< join 1 >< loopback 0 >< recvown 1 >< errmask 204 >< errdata 1 >< stats >< restart >< echo >< rawmode >< close >";
+        b"< open can0 >< filter 2 123 C00007FF 0 0 >< join 1 >< loopback 0 >< recvown 1 >< errmask 204 >< errdata 1 >< stats >< status >< restart >< echo >< rawmode >< close >";
     let mut reader = Reader::new(rt.alloc()).expect(&rt, "memory");
     let given = reader.feed(rt.alloc(), stream).expect(&rt, "memory");
     let mut read = 0;
@@ -152,16 +155,17 @@ fn commands_are_read(rt: HostRuntime) {
             (5, Command::SetOption(option)) => option == Opt::ErrMask(0x204),
             (6, Command::ErrData(on)) => on,
             (7, Command::Stats)
-            | (8, Command::Restart)
-            | (9, Command::Echo)
-            | (10, Command::Rawmode)
-            | (11, Command::Close) => true,
+            | (8, Command::Status)
+            | (9, Command::Restart)
+            | (10, Command::Echo)
+            | (11, Command::Rawmode)
+            | (12, Command::Close) => true,
             _ => false,
         };
         assert!(rt; right, "at {read}");
         read += 1;
     }
-    assert_eq!(rt; read, 12);
+    assert_eq!(rt; read, 13);
 }
 
 #[test]
@@ -214,10 +218,21 @@ fn answers_are_written(rt: HostRuntime) {
         unread: 0,
         dropped: 18_446_744_073_709_551_615,
     };
-    let cases: [(Answer, &[u8]); 6] = [
+    let counters = |tec, rec| Counters::new(tec, rec).expect(&rt, "counters");
+    let cases: [(Answer, &[u8]); 10] = [
         (Answer::Greeting, b"< hi >"),
         (Answer::Done, b"< ok >"),
         (Answer::Echo, b"< echo >"),
+        (Answer::Status(counters(95, 0)), b"< status active 95 0 >"),
+        (Answer::Status(counters(0, 96)), b"< status warning 0 96 >"),
+        (
+            Answer::Status(counters(127, 255)),
+            b"< status passive 127 255 >",
+        ),
+        (
+            Answer::Status(counters(256, 128)),
+            b"< status off 256 128 >",
+        ),
         (
             Answer::Closing(closed),
             b"< closed 0 18446744073709551615 >",

@@ -21,6 +21,7 @@ pub enum Verb {
     ErrMask,
     ErrData,
     Stats,
+    Status,
     Restart,
     Close,
 }
@@ -59,6 +60,8 @@ pub fn verb_of(word: &[u8]) -> Option<Verb>
         Some(Verb::ErrData)
     } else if matches(word, b"stats") {
         Some(Verb::Stats)
+    } else if matches(word, b"status") {
+        Some(Verb::Status)
     } else if matches(word, b"restart") {
         Some(Verb::Restart)
     } else if matches(word, b"close") {

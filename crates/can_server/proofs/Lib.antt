@@ -2,3 +2,4 @@ pub mod Passing
 pub mod Places
 pub mod Making
 pub mod Ending
+pub mod Naming

@@ -1,10 +1,10 @@
-use Rattle.std.proofs.Common.{◌≡◌, ◌+◌, ◌<◌, ℕ, zero, suc, List, [], ◌∷◌, length, Option, Some, None, refl, ap, sym, subst, inl, inr, ◌∙◌, arith}
+use Rattle.std.proofs.Common.{◌≡◌, ◌+◌, ◌<◌, ◌≤◌, ℕ, zero, suc, List, [], ◌∷◌, length, Option, Some, None, refl, ap, sym, subst, inl, inr, ◌∙◌, arith}
 use Rattle.std.specs.Prelude.{slice_get, slice_index_or, All}
 use Rattle.std.specs.Str.{IsUtf8}
 use Rattle.can_frame.specs.Names.{AreNames, place_of}
 use Rattle.can_session.proofs.Naming.{unnamed}
 use Rattle.std.proofs.lemmas.Bool.{cases_lt}
-use Rattle.can_server.specs.Buses.{BusSeen, NumberedFrom, NoneNamed, IsFirstNamed}
+use Rattle.can_server.specs.Buses.{BusSeen, items_on, NumberedFrom, NoneNamed, IsFirstNamed}
 
 -- the element at a place
 pub index_of_get : {X : Type 0} (xs : List X) (k : ℕ) (x d : X) → slice_get xs k ≡ Some x → slice_index_or xs k d ≡ x
@@ -31,6 +31,19 @@ index_default (x ∷ xs) (suc k) d e lt = index_default xs k d e (omega (arith, 
 -- what a bus's names say of a name, whatever stands for a missing bus
 pub named_at : (buses : List BusSeen) (k : ℕ) (d e : BusSeen) (name : List ℕ) → k < length buses → place_of (slice_index_or buses k d).names name ≡ place_of (slice_index_or buses k e).names name
 named_at buses k d e name lt = ap (λ (b : BusSeen). place_of b.names name) (index_default buses k d e lt)
+
+-- how many items a socket holds on the bus at a place
+pub items_at : (buses : List BusSeen) (k : ℕ) (b d : BusSeen) → k < length buses → b ≡ slice_index_or buses k d → b.rx_capacity ≡ items_on (slice_get buses k)
+items_at [] k b d lt same = absurd (omega (arith, lt))
+items_at (x ∷ xs) zero b d lt same = ap (λ (s : BusSeen). s.rx_capacity) same
+items_at (x ∷ xs) (suc k) b d lt same = items_at xs k b d (omega (arith, lt)) same
+
+-- no bus stands past the last
+pub items_past : (buses : List BusSeen) (k : ℕ) → length buses ≤ k → 0 ≡ items_on (slice_get buses k)
+items_past [] zero le = refl
+items_past [] (suc k) le = refl
+items_past (x ∷ xs) zero le = absurd (omega (arith, le))
+items_past (x ∷ xs) (suc k) le = items_past xs k (omega (arith, le))
 
 -- bytes that are no UTF-8 are no bus's name
 pub nowhere : (buses : List BusSeen) (name : List ℕ) → All (λ b. AreNames b.names) buses → (¬ IsUtf8 name) → IsFirstNamed buses name None

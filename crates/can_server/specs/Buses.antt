@@ -1,4 +1,4 @@
-use Rattle.std.specs.Prelude.{◌≡◌, ◌<◌, ℕ, suc, List, [], ◌∷◌, length, map, Contains, slice_index_or, Option, Some, None}
+use Rattle.std.specs.Prelude.{◌≡◌, ◌<◌, ℕ, suc, List, [], ◌∷◌, length, map, Contains, slice_index_or, slice_get, Option, Some, None}
 use Rattle.can_frame.specs.Names.{place_of}
 
 -- The buses of a hub, and their names.
@@ -10,6 +10,11 @@ pub record BusSeen : Type 0 where
   pub names : List (List ℕ)
   pub pace_ms : ℕ
   pub rx_capacity : ℕ
+
+-- how many items a socket holds on a bus, none where there is no bus
+abbrev pub items_on : Option BusSeen → ℕ
+items_on None = 0
+items_on (Some bus) = bus.rx_capacity
 
 -- the buses are numbered by their places, the first of them n
 abbrev pub NumberedFrom : ℕ → List BusSeen → Type 0

@@ -1,4 +1,8 @@
-use Rattle.std.specs.Prelude.{◌≡◌, ℕ, List, [], Option, Some, None, Result, Ok, Err}
+use Rattle.std.specs.Prelude.{◌≡◌, ◌<◌, ◌≤◌, ◌⊎◌, ℕ, List, [], Option, Some, None, Result, Ok, Err, slice_get}
+use mathlib.Core.List.{IsSuffix}
+use Rattle.can_confine.specs.Confinement.{ErrorCounts, at_start}
+use Rattle.can_meter.specs.Publications.{newest, published}
+use Rattle.can_meter.specs.Readings.{Readings, knowing_of}
 use Rattle.can_bus.specs.declared.events.Event.{Event}
 use Rattle.can_bus.specs.declared.events.Event.TheVariants as event
 use Rattle.can_bus.specs.declared.events.Reply.{Reply}
@@ -9,17 +13,18 @@ use Rattle.can_session.specs.declared.port.PortRefusal.{PortRefusal}
 use Rattle.can_session.specs.declared.port.PortRefusal.TheVariants as port
 use Rattle.can_session.specs.Calls.{Call}
 use Rattle.can_session.specs.Calls.{Reply as CallReply}
-use Rattle.can_session.specs.Calls.Call.{Attach, Open, Close, SetFilters, SetOption, Send, Receive, Restart, CountsOfSocket, CountsOfIface}
+use Rattle.can_session.specs.Calls.Call.{Attach, Open, Close, SetFilters, SetOption, Send, Receive, Restart, CountsOfSocket, CountsOfIface, CountersOfIface}
 use Rattle.can_station.specs.Passes.{PassSeen, Called}
 use Rattle.can_station.specs.declared.refusals.StationRefusal.{StationRefusal}
 use Rattle.can_station.specs.declared.refusals.StationRefusal.TheVariants as station
-use Rattle.can_server.specs.Buses.{BusSeen, IsFirstNamed}
+use Rattle.can_server.specs.Buses.{BusSeen, IsFirstNamed, items_on}
 
 -- A pass as a port: each call but the look-ups is the station's.
 
--- a station that was entered: its number, and the pass
+-- a station that was entered: its number, what the gauge of its meter has seen, and the pass
 pub record EnteredSeen : Type 0 where
   pub number : ℕ
+  pub gauge : Readings
   pub pass : PassSeen
 
 -- a port: the buses of its hub, and the station that was entered
@@ -27,9 +32,14 @@ pub record PortSeen : Type 0 where
   pub buses : List BusSeen
   pub entered : Option EnteredSeen
 
--- a station that was entered with a pass that has made no call
-abbrev pub newly_entered : ℕ → ℕ → EnteredSeen
-newly_entered bus pass = record { number = bus; pass = record { number = bus; pass = pass; calls = [] } }
+-- a station that was entered with this gauge and a pass that has made no call
+abbrev pub newly_entered : ℕ → Readings → ℕ → EnteredSeen
+newly_entered bus gauge pass = record { number = bus; gauge = gauge; pass = record { number = bus; pass = pass; calls = [] } }
+
+-- how many items a socket holds on the bus that was entered
+abbrev pub room_in : List BusSeen → Option EnteredSeen → ℕ
+room_in buses None = 0
+room_in buses (Some e) = items_on (slice_get buses e.number)
 
 -- a station's answer, as a port gives it
 abbrev pub passed_on : {A : Type 0} → Result A StationRefusal → Result A PortRefusal
@@ -42,26 +52,45 @@ abbrev pub OnPass : {A : Type 0} → (A → Reply) → Option EnteredSeen → Ev
 OnPass {A} told None e answer new = (answer ≡ Err (port.Bus refusal.NoSocket)) × (new ≡ None)
 OnPass {A} told (Some old) e answer new =
     (outcome : Result A StationRefusal) × (pass : PassSeen) × (answer ≡ passed_on outcome) × Called told old.number old.pass e outcome pass
-    × (new ≡ Some (record { number = old.number; pass = pass }))
+    × (new ≡ Some (record old { pass = pass }))
 
 -- a call of the station on the port of a hub, which stays as it was
 abbrev pub OnPort : {A : Type 0} → (A → Reply) → PortSeen → Event → Result A PortRefusal → PortSeen → Type 0
 OnPort told old e answer new = OnPass told old.entered e answer new.entered × (new.buses ≡ old.buses)
 
--- the station of the bus that has the name is entered; else nothing changes: no bus has the name, or it has one and
--- no pass is left
+-- some bus has an interface of this name
+abbrev pub SomeNamed : List BusSeen → List ℕ → Type 0
+SomeNamed buses name = (bus : ℕ) × (iface : ℕ) × IsFirstNamed buses name (Some (bus, iface))
+
+-- the station of the bus that has the name is entered, with a gauge of its meter; else nothing changes: no bus has the
+-- name, or it has one and memory was refused to the gauge or no pass is left
 abbrev pub Attaches : PortSeen → List ℕ → Result ℕ PortRefusal → PortSeen → Type 0
 Attaches old name (Ok iface) new =
-    (bus : ℕ) × (pass : ℕ) × IsFirstNamed old.buses name (Some (bus, iface))
-    × (new ≡ record { buses = old.buses; entered = Some (newly_entered bus pass) })
+    (bus : ℕ) × (gauge : Readings) × (pass : ℕ) × IsFirstNamed old.buses name (Some (bus, iface)) × (gauge.number ≡ bus)
+    × (new ≡ record { buses = old.buses; entered = Some (newly_entered bus gauge pass) })
 Attaches old name (Err (port.Bus refusal.NoInterface)) new = IsFirstNamed old.buses name None × (new ≡ old)
-Attaches old name (Err port.TooManyPasses) new = ((bus : ℕ) × (iface : ℕ) × IsFirstNamed old.buses name (Some (bus, iface))) × (new ≡ old)
+Attaches old name (Err (port.Bus refusal.NoMemory)) new = SomeNamed old.buses name × (new ≡ old)
+Attaches old name (Err port.TooManyPasses) new = SomeNamed old.buses name × (new ≡ old)
 Attaches old name (Err _) new = ⊥
+
+-- a gauge tells the error counters that it now knows as the last published of an interface, and knows no less than
+-- before; of an interface that its meter has not it tells 0/0
+abbrev pub GaugeTells : Readings → ℕ → ErrorCounts → Readings → Type 0
+GaugeTells old iface answer new =
+    ((iface < old.ifaces)
+    × (answer ≡ (newest (published new.lists iface)).counters) × IsSuffix (published old.lists iface) (published new.lists iface)
+    × (new ≡ knowing_of old iface (published new.lists iface)))
+    ⊎ ((old.ifaces ≤ iface) × (answer ≡ at_start) × (new ≡ old))
+
+-- the gauge of the station that was entered tells the error counters of an interface; where none was, they are 0/0
+abbrev pub TellsCounters : Option EnteredSeen → ℕ → ErrorCounts → Option EnteredSeen → Type 0
+TellsCounters None iface answer new = (answer ≡ at_start) × (new ≡ None)
+TellsCounters (Some old) iface answer new = (gauge : Readings) × GaugeTells old.gauge iface answer gauge × (new ≡ Some (record old { gauge = gauge }))
 
 -- a call on a port over a pass
 abbrev pub PassStep : PortSeen → (call : Call) → CallReply call → PortSeen → Type 0
 PassStep old (Attach name) answer new = Attaches old name answer new
-PassStep old (Open iface capacity) answer new = OnPort reply.Opened old (event.Open iface capacity) answer new
+PassStep old (Open iface asked) answer new = OnPort reply.Opened old (event.Open iface (room_in old.buses old.entered)) answer new
 PassStep old (Close socket) answer new = OnPort reply.Closed old (event.Close socket) answer new
 PassStep old (SetFilters socket filters) answer new = OnPort done_reply old (event.SetFilters socket filters) answer new
 PassStep old (SetOption socket option) answer new = OnPort done_reply old (event.SetOption socket option) answer new
@@ -70,3 +99,4 @@ PassStep old (Receive socket) answer new = OnPort reply.Received old (event.Rece
 PassStep old (Restart iface moment) answer new = OnPort done_reply old (event.Restart iface moment) answer new
 PassStep old (CountsOfSocket socket) answer new = new ≡ old
 PassStep old (CountsOfIface iface) answer new = new ≡ old
+PassStep old (CountersOfIface iface) answer new = TellsCounters old.entered iface answer new.entered × (new.buses ≡ old.buses)

@@ -1,6 +1,6 @@
-ghost use Rattle.std.specs.Prelude.{◌≡◌, ◌<◌, ◌≤◌, length, IfOk, IfErr, MatchResult, All, ◌↔◌, slice_index_or};
+ghost use Rattle.std.specs.Prelude.{◌≡◌, ◌<◌, ◌≤◌, length, IfOk, IfErr, MatchResult, All, ◌↔◌, slice_index_or, slice_get};
 ghost use Rattle.can_frame.specs.Names.{AreNames, place_of};
-ghost use Rattle.can_server.specs.Buses.{BusSeen, IsFirstNamed};
+ghost use Rattle.can_server.specs.Buses.{BusSeen, IsFirstNamed, items_on};
 ghost use Rattle.can_server.specs.Benches.{IsProper, MakeHub, NamedFrom, bus_of, buses_from};
 ghost use Rattle.can_server.specs.Settling.{AllOwn, AllSettle, FirstForeign};
 
@@ -146,6 +146,32 @@ impl<N: RollName + MeterName, F: FaultSource + Drop, G: Gate + Drop> Hub<N, F, G
         ensures { result.now ≡ bus }
     {
         &self.wires[bus].station
+    }
+
+    /// How many milliseconds the driver of a bus sleeps after each step.
+    pub(crate) fn pace_ms(&self, bus: usize) -> u32
+        requires { bus < length self.now }
+    {
+        self.wires[bus].pace_ms
+    }
+
+    /// How many items a socket of a bus holds.
+    #[tactic(auto, using(crate::proofs::Places::items_at, crate::proofs::Places::items_past))]
+    pub(crate) fn rx_capacity(&self, bus: usize) -> u32
+        ensures { result ≡ items_on (slice_get self.now bus) }
+    {
+        if bus < self.wires.len() {
+            self.wires[bus].rx_capacity
+        } else {
+            0
+        }
+    }
+
+    /// Stops the stations of all buses.
+    pub(crate) fn stop_all<R: Wait>(&self, rt: &R) {
+        for wire in &self.wires {
+            wire.station.stop(rt);
+        }
     }
 
     /// Another gauge of a bus's meter, which reads the error counters without the lock. `AllocError` where there

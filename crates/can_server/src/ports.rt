@@ -1,13 +1,14 @@
 ghost use Rattle.std.specs.Prelude.{◌≡◌};
 ghost use Rattle.can_server.specs.Buses.{IsFirstNamed};
-ghost use Rattle.can_server.specs.PassSteps.{passed_on};
+ghost use Rattle.can_server.specs.PassSteps.{GaugeTells, passed_on};
 
 use crate::hubs::Hub;
 use can_bus::{Closed, IfaceStats, Opt, Received, Refusal, SocketId, SocketStats};
+use can_confine::Counters;
 use can_fault::FaultSource;
 use can_filter::FilterSet;
 use can_frame::{Frame, Iface, Moment};
-use can_meter::MeterName;
+use can_meter::{Gauge, MeterName};
 use can_roll::RollName;
 use can_session::{Port, PortRefusal};
 use can_station::{Gate, Pass, Station, StationRefusal};
@@ -15,10 +16,11 @@ use std::alloc::Global;
 use std::marker::Model;
 use std::sync::Wait;
 
-/// A station that was entered, with the pass.
+/// A station that was entered, with a gauge of its meter and the pass.
 #[derive(Drop)]
 pub struct Entered<'a, N: RollName + MeterName, F: FaultSource + Drop, G: Gate + Drop> {
     station: &'a Station<N, F, G>,
+    gauge: Gauge<N>,
     pass: Pass<N>,
 }
 
@@ -28,14 +30,19 @@ impl<'a, N: RollName + MeterName, F: FaultSource + Drop, G: Gate + Drop> Model
 
     ghost Value = { EnteredSeen };
 
-    ghost view = { λ e. record { number = e.station.now; pass = e.pass } };
+    ghost view = { λ e. record { number = e.station.now; gauge = e.gauge; pass = e.pass } };
 }
 
 /// A session's way to the buses of a hub: the pass of the station that it opens.
 ///
-/// `attach` enters the station whose bus has the name; a pass that was entered before is lost to `settle`. Each
-/// other call but the two counts is that call of the station, made with the pass, and may wait for its lock. Where
-/// no station was entered there is no socket.
+/// `attach` takes a gauge of the station whose bus has the name and enters it; a pass that was entered before is
+/// lost to `settle`. Refusals, in this order: `NoInterface`; `NoMemory` where it is refused to the gauge;
+/// `TooManyPasses`. Each other call but the two counts and the status is that call of the station, made with the
+/// pass, and may wait for its lock; a socket holds as many items as its bus says, whatever is asked. Where no station
+/// was entered there is no socket.
+///
+/// `status` tells the error counters that were published last, as the gauge reads them: it takes no lock and waits
+/// for nobody. They are 0/0 where no station was entered, or where its bus has no such interface.
 #[derive(Drop)]
 pub struct PassPort<'a, N: RollName + MeterName, F: FaultSource + Drop, G: Gate + Drop, R: Wait> {
     rt: &'a R,
@@ -90,7 +97,7 @@ impl<'a, N: RollName + MeterName, F: FaultSource + Drop, G: Gate + Drop, R: Wait
     {
         let PassPort { entered, .. } = self;
         match entered {
-            Some(Entered { station: _, pass }) => Some(pass),
+            Some(Entered { pass, .. }) => Some(pass),
             None => None,
         }
     }
@@ -105,6 +112,17 @@ fn pass_on<V>(outcome: Result<V, StationRefusal>) -> Result<V, PortRefusal>
         Err(StationRefusal::Bus(why)) => Err(PortRefusal::Bus(why)),
         Err(StationRefusal::WrongStation) => Err(PortRefusal::WrongStation),
     }
+}
+
+/// The error counters that a gauge reads of an interface: 0/0 where its meter has none.
+fn read_gauge<N: MeterName>(gauge: &mut Gauge<N>, iface: Iface) -> Counters
+    ensures { GaugeTells gauge.old iface result gauge.new }
+{
+    let place = usize::from(iface.number());
+    if place >= gauge.ifaces() {
+        return Counters::zero();
+    }
+    gauge.status(place).counters
 }
 
 /// The bus that has an interface of this name, and that interface. Names are ASCII, so bytes that are no UTF-8 are
@@ -134,17 +152,25 @@ impl<'a, N: RollName + MeterName, F: FaultSource + Drop, G: Gate + Drop, R: Wait
             return Err(PortRefusal::Bus(Refusal::NoInterface));
         };
         let station = self.hub.station(found.0);
+        let Ok(gauge) = station.gauge(self.rt) else {
+            return Err(PortRefusal::Bus(Refusal::NoMemory));
+        };
         let Ok(pass) = station.enter(self.rt, self.alloc) else {
             return Err(PortRefusal::TooManyPasses);
         };
-        self.entered = Some(Entered { station, pass });
+        self.entered = Some(Entered {
+            station,
+            gauge,
+            pass,
+        });
         Ok(found.1)
     }
 
-    fn open(&mut self, iface: Iface, capacity: u32) -> Result<SocketId, PortRefusal> {
+    fn open(&mut self, iface: Iface, _asked: u32) -> Result<SocketId, PortRefusal> {
         let Some(entered) = &mut self.entered else {
             return Err(PortRefusal::Bus(Refusal::NoSocket));
         };
+        let capacity = self.hub.rx_capacity(usize::from(entered.station.number()));
         pass_on(
             entered
                 .station
@@ -226,5 +252,12 @@ impl<'a, N: RollName + MeterName, F: FaultSource + Drop, G: Gate + Drop, R: Wait
     fn iface_stats(&mut self, iface: Iface) -> Option<IfaceStats> {
         let station = self.station()?;
         station.stats(self.rt, SocketId(0), iface).1
+    }
+
+    fn status(&mut self, iface: Iface) -> Counters {
+        let Some(entered) = &mut self.entered else {
+            return Counters::zero();
+        };
+        read_gauge(&mut entered.gauge, iface)
     }
 }

@@ -1,6 +1,7 @@
 use Rattle.std.specs.Prelude.{ℕ, List, Option, Result}
 use Rattle.can_frame.specs.Frames.{CanFrame}
 use Rattle.can_filter.specs.Filters.{CanFilter}
+use Rattle.can_confine.specs.Confinement.{ErrorCounts}
 use Rattle.can_bus.specs.declared.events.SocketId.{SocketId}
 use Rattle.can_bus.specs.declared.events.Opt.{Opt}
 use Rattle.can_bus.specs.declared.events.Closed.{Closed}
@@ -27,6 +28,7 @@ pub data Call : Type 0 where
   Restart : ℕ → ℕ → Call
   CountsOfSocket : SocketId → Call
   CountsOfIface : ℕ → Call
+  CountersOfIface : ℕ → Call
 
 -- the answers that a call can have
 abbrev pub Reply : Call → Type 0
@@ -40,6 +42,7 @@ Reply (Receive socket) = Result (Option Received) PortRefusal
 Reply (Restart iface moment) = Result (Unit {0}) PortRefusal
 Reply (CountsOfSocket socket) = Option SocketStats
 Reply (CountsOfIface iface) = Option IfaceStats
+Reply (CountersOfIface iface) = ErrorCounts
 
 -- what a port's refusal is told to a client as
 abbrev pub cause_of_port : PortRefusal → Cause

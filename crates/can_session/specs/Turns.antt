@@ -1,4 +1,5 @@
 use Rattle.std.specs.Prelude.{ℕ, Bool, true, false, if◌then◌else◌, List, [], Option, Some, None, Result, Ok, Err}
+use Rattle.can_confine.specs.Confinement.{ErrorCounts}
 use Rattle.can_bus.specs.declared.events.SocketId.{SocketId}
 use Rattle.can_bus.specs.declared.events.Closed.{Closed}
 use Rattle.can_bus.specs.declared.events.Received.{Received}
@@ -27,7 +28,7 @@ use Rattle.can_session.specs.declared.stages.Stage.TheVariants.{NoBus, Opened, R
 use Rattle.can_session.specs.declared.stages.RawSocket.{RawSocket}
 use Rattle.can_session.specs.declared.stages.Dialog.{Dialog}
 use Rattle.can_session.specs.Calls.{cause_of_port}
-use Rattle.can_session.specs.Calls.Call.{Attach, Open, Close, SetFilters, SetOption, Send, Receive, Restart, CountsOfSocket, CountsOfIface}
+use Rattle.can_session.specs.Calls.Call.{Attach, Open, Close, SetFilters, SetOption, Send, Receive, Restart, CountsOfSocket, CountsOfIface, CountersOfIface}
 use Rattle.can_session.specs.Plans.{Plan}
 use Rattle.can_session.specs.Plans.Plan.{Tell, Ask}
 
@@ -104,6 +105,10 @@ looked_up d iface (Some s) = Ask (CountsOfIface iface) (counted d s)
 abbrev pub looking_up : Dialog → RawSocket → Plan Dialog
 looking_up d raw = Ask (CountsOfSocket raw.socket) (looked_up d raw.iface)
 
+-- after the port was asked for the interface's error counters
+abbrev pub metered : Dialog → ErrorCounts → Plan Dialog
+metered d counters = tells (answer.Status counters) d
+
 -- after the client had the socket closed: then the session is over
 abbrev pub closed : Dialog → Result Closed PortRefusal → Plan Dialog
 closed d (Ok c) = tells (answer.Closing c) (at_stage Ended d)
@@ -135,6 +140,7 @@ doing_raw moment d raw (command.SetFilters filters) = Ask (SetFilters raw.socket
 doing_raw moment d raw (command.SetOption option) = Ask (SetOption raw.socket option) (done d)
 doing_raw moment d raw (command.ErrData on) = tells answer.Done (at_stage (Raw (record raw { errdata = on })) d)
 doing_raw moment d raw command.Stats = looking_up d raw
+doing_raw moment d raw command.Status = Ask (CountersOfIface raw.iface) (metered d)
 doing_raw moment d raw command.Restart = Ask (Restart raw.iface moment) (done d)
 doing_raw moment d raw command.Close = closing d raw
 

@@ -10,6 +10,7 @@ use can_arbiter::Arbiter;
 use can_bus::{
     Bus, Closed, IfaceStats, Opt, Pending, Received, Refusal, SocketId, SocketStats, Tried,
 };
+use can_confine::Counters;
 use can_fault::Verdict;
 use can_filter::FilterSet;
 use can_frame::{Frame, Iface, Moment, Names};
@@ -18,7 +19,7 @@ use std::alloc::Global;
 use std::marker::Model;
 
 /// A bus as a port: the bus with the names of its interfaces. Each call is one event of the bus, but for the
-/// look-ups of a name and of counts, which are none.
+/// look-ups of a name, of counts and of error counters, which are none.
 #[derive(Drop)]
 pub struct BusPort<T: BoundedQueue<Pending>, R: BoundedQueue<Received>, A: Arbiter> {
     alloc: Global,
@@ -149,5 +150,12 @@ impl<T: BoundedQueue<Pending>, R: BoundedQueue<Received>, A: Arbiter> Port for B
 
     fn iface_stats(&mut self, iface: Iface) -> Option<IfaceStats> {
         self.bus.iface_stats(iface)
+    }
+
+    fn status(&mut self, iface: Iface) -> Counters {
+        match self.bus.iface_stats(iface) {
+            Some(stats) => stats.counters,
+            None => Counters::zero(),
+        }
     }
 }

@@ -123,6 +123,7 @@ fn do_raw<P: Port>(
             Some(Answer::Done)
         }
         Command::Stats => look_up(*dialog, raw, port),
+        Command::Status => Some(Answer::Status(port.status(raw.iface))),
         Command::Restart => told(port.restart(raw.iface, moment)),
         Command::Close => close(dialog, raw, port),
     }

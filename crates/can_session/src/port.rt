@@ -2,6 +2,7 @@ ghost use Rattle.std.specs.Prelude.{◌≡◌};
 ghost use Rattle.can_session.specs.Calls.{cause_of_port};
 
 use can_bus::{Closed, IfaceStats, Opt, Received, Refusal, SocketId, SocketStats};
+use can_confine::Counters;
 use can_filter::FilterSet;
 use can_frame::{Frame, Iface, Moment};
 use can_proto::Cause;
@@ -40,7 +41,7 @@ impl PortRefusal {
 /// together; each call is one such step. A port may take memory.
 pub trait Port {
     ghost use Rattle.can_session.specs.Calls.{Call, Reply};
-    ghost use Rattle.can_session.specs.Calls.Call.{Attach, Open, Close, SetFilters, SetOption, Send, Receive, Restart, CountsOfSocket, CountsOfIface};
+    ghost use Rattle.can_session.specs.Calls.Call.{Attach, Open, Close, SetFilters, SetOption, Send, Receive, Restart, CountsOfSocket, CountsOfIface, CountersOfIface};
 
     /// The state before, a call, its answer and the state after.
     ghost step: { Self → (call : Call) → Reply call → Self → Type 0 };
@@ -84,4 +85,8 @@ pub trait Port {
     /// What became of the frames of an interface.
     fn iface_stats(&mut self, iface: Iface) -> Option<IfaceStats>
         ensures { step self.old (CountsOfIface iface) result self.new };
+
+    /// The error counters of an interface, as far as the port knows them: 0/0 where it knows of none.
+    fn status(&mut self, iface: Iface) -> Counters
+        ensures { step self.old (CountersOfIface iface) result self.new };
 }

@@ -1,11 +1,13 @@
 use Rattle.std.proofs.Common.{◌≡◌, ℕ, suc, ◌<◌, ◌≤◌, ◌==◌, Bool, true, false, ◌&&◌, List, [], ◌∷◌, length, refl, ap, sym, ◌∙◌, subst, arith}
-use Rattle.std.specs.Prelude.{if◌then◌else◌}
+use Rattle.std.specs.Prelude.{Option, Some, None, if◌then◌else◌}
+use Rattle.std.proofs.lemmas.Bool.Decides.{nat_tests}
 use Rattle.std.proofs.lemmas.List.Elements.{All-weaker}
 use mathlib.Core.List.{IsSuffix}
 use Rattle.can_confine.specs.Confinement.{ErrorCounts}
 use Rattle.can_bus.specs.declared.events.BusConfig.{BusConfig}
 use Rattle.can_bus.specs.declared.events.Entry.{Entry}
 use Rattle.can_bus.specs.declared.events.Event.{Event}
+use Rattle.can_bus.specs.declared.events.Event.TheVariants as event
 use Rattle.can_bus.specs.declared.events.Reply.{Reply}
 use Rattle.can_bus.specs.Counters.{counts_of}
 use Rattle.can_bus.specs.Journal.{Journal, IsConfig}
@@ -19,7 +21,7 @@ use Rattle.can_meter.specs.Publications.{published, newest, Ends}
 use Rattle.can_meter.specs.Readings.{Readings, readings}
 use Rattle.can_roll.specs.Lists.{entry}
 use Rattle.can_station.specs.Held.{enters}
-use Rattle.can_station.specs.Published.{published_after, publications_of, counts_in, IsPublished, AllSeen, AllTrue}
+use Rattle.can_station.specs.Published.{published_after, publications_of, counts_before, counts_in, IsPublished, AllSeen, AllTrue}
 use Rattle.can_station.proofs.Replies.{after-entered, after-kept}
 
 -- Publications of a history that is one entry longer.
@@ -83,6 +85,50 @@ pub published_after_call : (keeper keeper' : Readings) (number number' : ℕ) (j
 published_after_call keeper keeper' number number' j j' e r before after at proper is number_is journal_is number_same ifaces_same at_is before_is after_is lists =
     subst (λ (x : ℕ × Journal). IsPublished keeper' x.0 x.1) (λ k. (sym number_is k, sym journal_is k))
     (published_as (enters r) keeper keeper' number j e r before after at refl proper is number_same ifaces_same (at_is ∙ ap (λ (x : Journal). length x.history) journal_is) before_is (after_is ∙ ap (λ (x : Journal). all_counts x.config x.history) journal_is) lists)
+
+-- the counters kept before an event are those of the history
+pub kept_before : (j : Journal) (e : Event) (told : Option (List ErrorCounts)) (before : List ErrorCounts) → told ≡ counts_before j e → told ≡ Some before → before ≡ all_counts j.config j.history
+kept_before j (event.Open i n) told before is kept = absurd (cc (is, kept))
+kept_before j (event.Close s) told before is kept = absurd (cc (is, kept))
+kept_before j (event.SetFilters s f) told before is kept = absurd (cc (is, kept))
+kept_before j (event.SetOption s o) told before is kept = absurd (cc (is, kept))
+kept_before j (event.Send s f) told before is kept = absurd (cc (is, kept))
+kept_before j (event.Receive s) told before is kept = absurd (cc (is, kept))
+kept_before j (event.Attempt m v) told before is kept = cc (is, kept)
+kept_before j (event.Restart i m) told before is kept = cc (is, kept)
+
+-- an event before which none were kept changes none
+unchanged : (j : Journal) (e : Event) (r : Reply) (i : ℕ) → counts_before j e ≡ None → counts_of j.config (entry e r ∷ j.history) i ≡ counts_of j.config j.history i
+unchanged j (event.Open k n) r i none = refl
+unchanged j (event.Close s) r i none = refl
+unchanged j (event.SetFilters s f) r i none = refl
+unchanged j (event.SetOption s o) r i none = refl
+unchanged j (event.Send s f) r i none = refl
+unchanged j (event.Receive s) r i none = refl
+unchanged j (event.Attempt m v) r i none = absurd (cc (none))
+unchanged j (event.Restart k m) r i none = absurd (cc (none))
+
+-- and publishes nothing
+published_same : (k : ErrorCounts) (at : ℕ) (before : List Status) → published_after k k at before ≡ before
+published_same k at before = rw (both k.tec k.rec) refl
+  where
+    both : (m n : ℕ) → (m == m && n == n) ≡ true
+    both m n = grind (arith, nat_tests)
+
+publishes_nothing : (b : Bool) (j : Journal) (e : Event) (r : Reply) (i : ℕ) → enters r ≡ b → counts_before j e ≡ None → publications_of j.config (history_after e r j.history) i ≡ publications_of j.config j.history i
+publishes_nothing true j e r i is none =
+    let past = j.history in
+    let before = publications_of j.config past i in
+    ap (λ (p : List Entry). publications_of j.config p i) (after-entered e r past is)
+    ∙ ap (λ (k : ErrorCounts). published_after (counts_of j.config past i) k (suc (length past)) before) (unchanged j e r i none)
+    ∙ published_same (counts_of j.config past i) (suc (length past)) before
+publishes_nothing false j e r i is none = ap (λ (p : List Entry). publications_of j.config p i) (after-kept e r j.history is)
+
+pub published_still : (keeper : Readings) (number number' : ℕ) (j j' : Journal) (e : Event) (r : Reply) (told : Option (List ErrorCounts)) → told ≡ counts_before j e → told ≡ None → IsPublished keeper number j
+    → number' ≡ number → j' ≡ record j { history = history_after e r j.history } → IsPublished keeper number' j'
+published_still keeper number number' j j' e r told told_is none is number_is journal_is =
+    subst (λ (x : ℕ × Journal). IsPublished keeper x.0 x.1) (λ k. (sym number_is k, sym journal_is k))
+    (record { number_is = is.number_is; ifaces_are = is.ifaces_are; each = λ i below. is.each i below ∙ sym (publishes_nothing (enters r) j e r i refl (sym told_is ∙ none)) })
 
 -- nothing is published of an empty history
 pub nothing_published : (number : ℕ) (c : BusConfig) → IsPublished (readings number c.ifaces []) number (record { config = c; history = [] })

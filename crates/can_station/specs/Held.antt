@@ -11,12 +11,13 @@ use Rattle.can_roll.specs.Seen.{SlipSeen}
 
 -- What a station keeps under its lock (own).
 
--- the station's number, its bus, the calls of each pass, and the source of verdicts
+-- the station's number, its bus, the calls of each pass, the source of verdicts, and whether waits end
 pub record Held (F : Type 0) : Type 0 where
   pub number : ℕ
   pub journal : Journal
   pub lists : List (List Entry)
   pub source : F
+  pub stopped : Bool
 
 -- whether a call with this answer is an entry of the record
 abbrev pub enters : Reply → Bool
@@ -39,6 +40,7 @@ held_after p e r h = record {
   journal = record { config = h.journal.config; history = history_after e r h.journal.history };
   lists = lists_after p e r h.lists;
   source = h.source;
+  stopped = h.stopped;
 }
 
 -- a pass's part of the roll after a call of its own
@@ -47,4 +49,4 @@ slip_after e r s = record { number = s.number; pass = s.pass; calls = history_af
 
 -- with one pass more, which has made no call
 abbrev pub with_pass : {F : Type 0} → Held F → Held F
-with_pass h = record { number = h.number; journal = h.journal; lists = h.lists ++ [] ∷ []; source = h.source }
+with_pass h = record h { lists = h.lists ++ [] ∷ [] }

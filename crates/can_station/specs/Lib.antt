@@ -1,4 +1,5 @@
 pub mod Held
+pub mod Waits
 pub mod Marks
 pub mod Published
 pub mod Passes

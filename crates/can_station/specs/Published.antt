@@ -1,10 +1,13 @@
-use Rattle.std.specs.Prelude.{◌≡◌, ℕ, suc, ◌==◌, ◌&&◌, ◌<◌, List, [], ◌∷◌, length, All, slice_index_or, if◌then◌else◌}
+use Rattle.std.specs.Prelude.{◌≡◌, ℕ, suc, ◌==◌, ◌&&◌, ◌<◌, List, [], ◌∷◌, length, All, slice_index_or, Option, Some, None, if◌then◌else◌}
 use mathlib.Core.List.{IsSuffix}
 use Rattle.can_confine.specs.Confinement.{ErrorCounts, at_start}
 use Rattle.can_bus.specs.declared.events.BusConfig.{BusConfig}
 use Rattle.can_bus.specs.declared.events.Entry.{Entry}
+use Rattle.can_bus.specs.declared.events.Event.{Event}
+use Rattle.can_bus.specs.declared.events.Event.TheVariants as event
 use Rattle.can_bus.specs.Counters.{counts_of}
 use Rattle.can_bus.specs.Journal.{Journal}
+use Rattle.can_bus.specs.Stats.{all_counts}
 use Rattle.can_meter.specs.declared.status.Status.{Status}
 use Rattle.can_meter.specs.Publications.{published, Ends}
 use Rattle.can_meter.specs.Readings.{Readings}
@@ -20,6 +23,12 @@ published_after old new at before = if old.tec == new.tec && old.rec == new.rec 
 abbrev pub publications_of : BusConfig → List Entry → ℕ → List Status
 publications_of c [] i = []
 publications_of c (e ∷ past) i = published_after (counts_of c past i) (counts_of c (e ∷ past) i) (suc (length past)) (publications_of c past i)
+
+-- the counters of all interfaces, where this event can change some: it tries a frame or restarts an interface
+abbrev pub counts_before : Journal → Event → Option (List ErrorCounts)
+counts_before j (event.Attempt m v) = Some (all_counts j.config j.history)
+counts_before j (event.Restart i m) = Some (all_counts j.config j.history)
+counts_before j _ = None
 
 -- the counters at a place of a list of them
 abbrev pub counts_in : List ErrorCounts → ℕ → ErrorCounts

@@ -1,12 +1,22 @@
 ghost use Rattle.std.specs.Prelude.{◌≡◌, ◌≢◌, ◌<◌, ◌≤◌, ℕ, true, if◌then◌else◌};
 ghost use Rattle.can_meter.specs.Publications.{published, newest};
 ghost use Rattle.can_station.specs.Held.{enters};
-ghost use Rattle.can_station.specs.Published.{published_after, counts_in};
+ghost use Rattle.can_station.specs.Published.{published_after, counts_in, counts_before};
 
 use crate::passes::enters;
-use can_bus::Reply;
+use can_bus::{Event, Reply, RingBus};
 use can_confine::Counters;
 use can_meter::{Keeper, MeterName};
+
+/// The error counters of a bus before an event that can change them: an attempt or a restart.
+pub(crate) fn counters_before(bus: &RingBus, event: &Event) -> Option<[Counters; 16]>
+    ensures { result ≡ counts_before bus.now event.now }
+{
+    match event {
+        Event::Attempt(_, _) | Event::Restart(_, _) => Some(bus.counters()),
+        _ => None,
+    }
+}
 
 /// Publishes the counters that a call changed, where it left an entry: all with the record's length, that entry
 /// included.

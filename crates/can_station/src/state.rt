@@ -1,4 +1,4 @@
-ghost use Rattle.std.specs.Prelude.{◌≡◌, ◌<◌, ◌≤◌, ◌⊎◌, ℕ, [], true, List, length, reverse, IfOk, OnErr, MatchResult, vec_len, vec_capacity};
+ghost use Rattle.std.specs.Prelude.{◌≡◌, ◌<◌, ◌≤◌, ◌⊎◌, ℕ, [], true, false, List, length, reverse, IfOk, OnErr, MatchResult, vec_len, vec_capacity};
 ghost use Rattle.can_fault.specs.Sources.{verdict_in};
 ghost use Rattle.can_bus.specs.Journal.{IsConfig};
 ghost use Rattle.can_bus.specs.Legal.{IsLegal};
@@ -11,10 +11,11 @@ ghost use Rattle.can_station.specs.Held.{enters, held_after, lists_after, marks_
 ghost use Rattle.can_station.specs.Marks.{IsMarked};
 ghost use Rattle.can_station.specs.Passes.{AllOf, SomeOther, Settles, Suits};
 ghost use Rattle.can_station.specs.Published.{AllTrue, GaugesOf, SomeOtherGauge, IsPublished};
+ghost use Rattle.can_station.specs.Waits.{frame_wake, work_wake, stopped_wake, waiting_at};
 
 use crate::gauges::{absorb_all, are_gauges_of};
 use crate::passes::{Pass, Settled, are_all_of, enters, recall_all};
-use crate::publishing::publish_changes;
+use crate::publishing::{counters_before, publish_changes};
 use crate::refusals::{TooManyPasses, WrongStation};
 use crate::waits::Wake;
 use can_bus::{Event, IfaceStats, Record, Reply, RingBus, SocketId, SocketStats, answer};
@@ -52,7 +53,7 @@ impl<N: RollName + MeterName, F: FaultSource + Drop> Model for StationState<N, F
 
     ghost Value = { Held F };
 
-    ghost view = { λ s. record { number = s.roll.number; journal = s.bus; lists = s.roll.lists; source = s.source } };
+    ghost view = { λ s. record { number = s.roll.number; journal = s.bus; lists = s.roll.lists; source = s.source; stopped = s.stopped } };
 
     ghost invariant = { λ s. IsBooked s.roll (reverse s.marks.items) (vec_capacity s.marks) s.bus × IsPublished s.keeper s.roll.number s.bus × (s.spare.number ≡ s.roll.number) };
 }
@@ -74,7 +75,7 @@ impl<N: RollName + MeterName, F: FaultSource + Drop> StationState<N, F> {
         requires room { bus.config.limit ≤ vec_capacity marks }
         requires keeper { keeper ≡ readings number bus.config.ifaces [] }
         requires spare { spare.number ≡ number }
-        ensures { result ≡ record { number = number; journal = bus; lists = []; source = source } }
+        ensures { result ≡ record { number = number; journal = bus; lists = []; source = source; stopped = false } }
     {
         StationState {
             bus,
@@ -139,9 +140,12 @@ impl<N: RollName + MeterName, F: FaultSource + Drop> StationState<N, F> {
         ensures after { self.new ≡ held_after slip.old.pass event.now result self.old }
         ensures slip { slip.new ≡ slip_after event.now result slip.old }
     {
-        let before = self.bus.counters();
+        let before = counters_before(&self.bus, event);
         let reply = answer(&mut self.bus, alloc, event);
         book(&mut self.roll, &mut self.marks, slip, event, &reply);
+        let Some(before) = before else {
+            return reply;
+        };
         let after = self.bus.counters();
         let at = self.bus.record().len() as u32;
         publish_changes(&mut self.keeper, &reply, at, &before, &after);
@@ -172,8 +176,20 @@ impl<N: RollName + MeterName, F: FaultSource + Drop> StationState<N, F> {
         (self.bus.socket_stats(socket), self.bus.iface_stats(iface))
     }
 
+    /// How many items are queued to this socket: 0 where it is not open.
+    pub(crate) fn waiting(&self, socket: SocketId) -> u64
+        ensures { result ≡ waiting_at self.now.journal socket.0 }
+    {
+        match self.bus.socket_stats(socket) {
+            None => 0,
+            Some(counts) => counts.queued.saturating_sub(counts.taken),
+        }
+    }
+
     /// Why a wait for an item of this socket ends, if it does.
-    pub(crate) fn frame_wake(&self, socket: SocketId) -> Option<Wake> {
+    pub(crate) fn frame_wake(&self, socket: SocketId) -> Option<Wake>
+        ensures { result ≡ frame_wake self.now socket.0 }
+    {
         match self.bus.socket_stats(socket) {
             None => Some(Wake::Closed),
             Some(counts) if counts.queued > counts.taken => Some(Wake::Ready),
@@ -182,7 +198,9 @@ impl<N: RollName + MeterName, F: FaultSource + Drop> StationState<N, F> {
     }
 
     /// Why a wait for a frame to send ends, if it does.
-    pub(crate) fn work_wake(&self) -> Option<Wake> {
+    pub(crate) fn work_wake(&self) -> Option<Wake>
+        ensures { result ≡ work_wake self.now }
+    {
         match self.bus.next_winner() {
             Some(_) => Some(Wake::Ready),
             None => self.stopped_wake(),
@@ -190,7 +208,9 @@ impl<N: RollName + MeterName, F: FaultSource + Drop> StationState<N, F> {
     }
 
     /// What a stop tells those who wait.
-    fn stopped_wake(&self) -> Option<Wake> {
+    fn stopped_wake(&self) -> Option<Wake>
+        ensures { result ≡ stopped_wake self.now.stopped }
+    {
         if self.stopped {
             Some(Wake::Stopped)
         } else {
@@ -198,9 +218,16 @@ impl<N: RollName + MeterName, F: FaultSource + Drop> StationState<N, F> {
         }
     }
 
+    /// Whether waits end.
+    pub(crate) fn is_stopped(&self) -> bool
+        ensures { result ≡ self.now.stopped }
+    {
+        self.stopped
+    }
+
     /// Ends all waits, now and from now on.
     pub(crate) fn stop(&mut self)
-        ensures { self.new ≡ self.old }
+        ensures { self.new ≡ record self.old { stopped = true } }
     {
         self.stopped = true;
     }

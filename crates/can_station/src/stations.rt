@@ -10,6 +10,7 @@ use crate::gates::{Gate, Point};
 use crate::passes::{Pass, Settled, keep};
 use crate::refusals::{StationRefusal, TooManyPasses, WrongStation};
 use crate::state::StationState;
+use crate::waits::ROOM;
 use can_bus::{BusConfig, BusFault, Entry, Event, Refusal, Reply, RingBus, Tried};
 use can_fault::FaultSource;
 use can_frame::Moment;
@@ -17,6 +18,7 @@ use can_meter::{Gauge, MeterBlank, MeterName, meter, meter_blank};
 use can_roll::{RollBlank, RollName, Slip, roll_blank};
 use std::alloc::{AllocError, Global};
 use std::marker::Model;
+use std::sync::atomic::AtomicU8;
 use std::sync::{Condvar, Mutex, MutexGuard, Wait};
 
 /// What a station is made of before it has a name: the blanks of its roll and of its meter.
@@ -50,8 +52,12 @@ pub struct Station<N: RollName + MeterName, F: FaultSource + Drop, G: Gate + Dro
     pub(crate) work: Condvar,
     /// Where receivers wait for items.
     pub(crate) items: Condvar,
+    /// Where rests wait for the end.
+    pub(crate) ends: Condvar,
     pub(crate) gate: G,
     pub(crate) number: u8,
+    /// Whether a call met a full record, and whether that was told.
+    pub(crate) fullness: AtomicU8,
 }
 
 impl<N: RollName + MeterName, F: FaultSource + Drop, G: Gate + Drop> Model for Station<N, F, G> {
@@ -97,9 +103,18 @@ impl<N: RollName + MeterName, F: FaultSource + Drop, G: Gate + Drop> Station<N, 
             state: Mutex::new(state),
             work: Condvar::new(),
             items: Condvar::new(),
+            ends: Condvar::new(),
             gate,
             number,
+            fullness: AtomicU8::new(ROOM),
         })
+    }
+
+    /// The number of the station.
+    pub fn number(&self) -> u8
+        ensures { result ≡ self.now }
+    {
+        self.number
     }
 
     /// The state under the lock. It has the station's number since `new`. No type says so: for another number this
@@ -145,7 +160,7 @@ impl<N: RollName + MeterName, F: FaultSource + Drop, G: Gate + Drop> Station<N, 
         ensures called { Called same self.now pass.old event result pass.new }
         ensures suits { IfOk result (λ r. Suits event r) }
     {
-        if pass.calls.reserve(1).is_err() {
+        if pass.calls.reserve(places_for(&event)).is_err() {
             return Err(StationRefusal::Bus(Refusal::NoMemory));
         }
         if pass.slip.number() != self.number {
@@ -249,8 +264,10 @@ impl<N: RollName + MeterName, F: FaultSource + Drop, G: Gate + Drop> Station<N, 
             state,
             work: _,
             items: _,
+            ends: _,
             gate: _,
             number,
+            fullness: _,
         } = self;
         let state = state.into_inner();
         if state.number() != number {
@@ -258,5 +275,16 @@ impl<N: RollName + MeterName, F: FaultSource + Drop, G: Gate + Drop> Station<N, 
             unreachable!()
         }
         state.settle(passes, gauges)
+    }
+}
+
+/// How many places a pass's list has to have before a call: one for the call, and but for a close one that is left
+/// for a close. So the close of a socket that the pass opened is never refused for memory.
+fn places_for(event: &Event) -> usize
+    ensures { 1 ≤ result }
+{
+    match event {
+        Event::Close(_) => 1,
+        _ => 2,
     }
 }

@@ -1,122 +1,154 @@
-ghost use Rattle.std.specs.Prelude.{◌≡◌};
+ghost use Rattle.std.specs.Prelude.{◌≡◌, length};
+ghost use Rattle.can_server.specs.Benches.{NamedFrom};
+
+mod clients;
+mod dialogues;
+mod ends;
+mod held;
+mod hubs;
+mod limits;
+mod peers;
+mod ports;
+mod rows;
+mod statuses;
 
 use can_attempt::AckMode;
-use can_bus::{BusConfig, BusFault};
-use can_fault::Perfect;
-use can_frame::{IfaceSet, Moment, Names};
-use can_meter::MeterName;
+use can_bus::BusConfig;
+use can_fault::{FaultSource, Perfect, Script};
+use can_frame::{Iface, IfaceSet, Moment, Names};
+use can_meter::{Gauge, MeterName, Status};
 use can_roll::RollName;
 use can_server::{Bench, Hub, PassPort};
-use can_session::Session;
-use can_station::{Blanks, Open, Pass};
+use can_session::Port;
+use can_station::{Blanks, Gate, Open, Pass};
 use std::alloc::Global;
-use std::marker::Brand;
 use std::process::Abort;
 use std::sync::Wait;
-use std::test::*;
-use test_streams::Output;
 
-/// What a bus of these names is made of.
-fn bench<R: Abort>(rt: &R, alloc: Global, blanks: Blanks, names: &str) -> Bench<Perfect, Open>
-    ensures { result.blanks ≡ blanks }
-{
-    let Ok(names) = Names::read(alloc, names) else {
-        panic!(rt; "names");
-    };
-    let config = BusConfig {
+// A test makes its benches and hands them to a function over `N`, which names the hub's passes and gauges: so the
+// test is the one call that picks the name, by `Brand`.
+
+/// A bus as it is by default, of two interfaces and with room for 100 entries.
+fn config() -> BusConfig {
+    BusConfig {
         ifaces: 2,
         ack: AckMode::Always,
         reporting: IfaceSet(0),
         tx_capacity: 10,
         limit: 100,
+    }
+}
+
+fn blanks<R: Abort>(rt: &R, alloc: Global) -> Blanks {
+    let Ok(blanks) = Blanks::new(alloc, 2) else {
+        panic!(rt; "no blanks");
     };
+    blanks
+}
+
+fn names<R: Abort>(rt: &R, alloc: Global, names: &str) -> Names {
+    let Ok(names) = Names::read(alloc, names) else {
+        panic!(rt; "no names");
+    };
+    names
+}
+
+/// The script that a text spells, for a bus of can0 and can1.
+fn script<R: Abort>(rt: &R, alloc: Global, text: &str) -> Script {
+    let Ok(script) = Script::read(alloc, text, &names(rt, alloc, "can0,can1")) else {
+        panic!(rt; "no script");
+    };
+    script
+}
+
+fn iface<R: Abort>(rt: &R, number: u8) -> Iface {
+    let Some(iface) = Iface::new(number) else {
+        panic!(rt; "no interface");
+    };
+    iface
+}
+
+fn moment<R: Abort>(rt: &R, micros: u64) -> Moment {
+    let Ok(moment) = Moment::new(micros) else {
+        panic!(rt; "no moment");
+    };
+    moment
+}
+
+/// What a bus of these names, two as it is, is made of. It has no faults and holds nobody.
+fn bench<R: Abort>(rt: &R, alloc: Global, names: Names) -> Bench<Perfect, Open> {
+    held_bench(rt, alloc, names, Perfect, Open)
+}
+
+/// The same, with these faults and this gate.
+fn held_bench<F: FaultSource + Drop, G: Gate + Drop, R: Abort>(
+    rt: &R,
+    alloc: Global,
+    names: Names,
+    source: F,
+    gate: G,
+) -> Bench<F, G> {
     Bench {
         names,
-        blanks,
-        config,
-        source: Perfect,
-        gate: Open,
+        blanks: blanks(rt, alloc),
+        config: config(),
+        source,
+        gate,
         pace_ms: 0,
         rx_capacity: 16,
     }
 }
 
-/// A hub of one bus, can0 and can1.
-fn one_bus<N: RollName + MeterName, R: Abort>(
+/// What a hub of one bus is made of, can0 and can1.
+fn one_bus<R: Abort>(rt: &R, alloc: Global) -> Vec<Bench<Perfect, Open>> {
+    one(rt, alloc, bench(rt, alloc, names(rt, alloc, "can0,can1")))
+}
+
+/// What a hub of two buses is made of, can0 and can1, and far0 and far1.
+fn two_buses<R: Abort>(rt: &R, alloc: Global) -> Vec<Bench<Perfect, Open>> {
+    let near = bench(rt, alloc, names(rt, alloc, "can0,can1"));
+    let far = bench(rt, alloc, names(rt, alloc, "far0,far1"));
+    two(rt, alloc, near, far)
+}
+
+fn made<N: RollName + MeterName, F: FaultSource + Drop, G: Gate + Drop, R: Abort>(
     rt: &R,
     alloc: Global,
-    blanks: Blanks,
-) -> Hub<N, Perfect, Open>
-    requires roll { blanks.roll ≡ N.roll 0 }
-    requires meter { blanks.meter ≡ N.meter 0 }
+    benches: Vec<Bench<F, G>>,
+) -> Hub<N, F, G>
+    requires { NamedFrom N.roll N.meter 0 benches.items }
 {
-    let mut benches = Vec::new(alloc);
-    let Ok(()) = benches.push(bench(rt, alloc, blanks, "can0,can1")) else {
-        panic!(rt; "benches");
-    };
-    let Ok(hub) = Hub::<N, Perfect, Open>::new(alloc, benches) else {
-        panic!(rt; "hub");
+    let Ok(hub) = Hub::<N, F, G>::new(alloc, benches) else {
+        panic!(rt; "no hub");
     };
     hub
 }
 
-/// Two sessions on one bus, and a step between them.
-fn dialogue<N: RollName + MeterName, R: Wait + Abort>(rt: &R, alloc: Global, blanks: Blanks)
-    requires roll { blanks.roll ≡ N.roll 0 }
-    requires meter { blanks.meter ≡ N.meter 0 }
+/// What a gauge reads of an interface: the record's length, the transmit and the receive count.
+fn reading<N: MeterName, R: Abort>(rt: &R, gauge: &mut Gauge<N>, place: usize) -> (u32, u16, u16) {
+    assert!(rt; place < gauge.ifaces());
+    let Status { at, counters } = gauge.status(place);
+    (at, counters.tec(), counters.rec())
+}
+
+/// A list of one.
+fn one<T: Drop, R: Abort>(rt: &R, alloc: Global, item: T) -> Vec<T>
+    ensures { length result.items ≡ 1 }
 {
-    let hub = one_bus::<N, R>(rt, alloc, blanks);
-    let Ok(moment) = Moment::new(23_424_242) else {
-        panic!(rt; "moment");
+    let mut list = Vec::new(alloc);
+    let Ok(()) = list.push(item) else {
+        panic!(rt; "no memory");
     };
-    let mut first_port = PassPort::new(rt, alloc, &hub);
-    let mut second_port = PassPort::new(rt, alloc, &hub);
-    let mut first_out = Output::new(alloc, 1_000);
-    let mut second_out = Output::new(alloc, 1_000);
-    let (Ok(mut first), Ok(mut second)) = (Session::new(alloc, 16), Session::new(alloc, 16)) else {
-        panic!(rt; "sessions");
-    };
-    assert!(rt; first.greet(&mut first_out).is_ok());
-    assert!(rt; second.greet(&mut second_out).is_ok());
-    let sent = b"< open can0 >< rawmode >< send 123 4 11 22 33 44 >";
-    let told = second.feed(
-        alloc,
-        b"< open can1 >< rawmode >",
-        moment,
-        &mut second_port,
-        &mut second_out,
-    );
-    assert!(rt; told.is_ok());
-    let told = first.feed(alloc, sent, moment, &mut first_port, &mut first_out);
-    assert!(rt; told.is_ok());
-    let Some(station) = first_port.station() else {
-        panic!(rt; "station");
-    };
-    let Ok(mut driver) = station.enter(rt, alloc) else {
-        panic!(rt; "driver");
-    };
-    assert!(rt; station.step(rt, alloc, &mut driver, moment).is_ok());
-    assert!(rt; second.deliver(&mut second_port, &mut second_out) == Ok(true));
-    let wanted = "< hi >< ok >< ok >< frame 123 23.424242 11223344 >";
-    assert!(rt; second_out.text.as_slice() == wanted.as_bytes());
+    list
 }
 
-/// A frame goes from a session on can0 to one on can1.
-#[test]
-fn a_frame_goes_from_one_session_to_the_other(rt: HostRuntime) {
-    let alloc = rt.alloc();
-    let Ok(blanks) = Blanks::new(alloc, 2) else {
-        panic!(&rt; "blanks");
+/// A list of two.
+fn two<T: Drop, R: Abort>(rt: &R, alloc: Global, first: T, second: T) -> Vec<T>
+    ensures { length result.items ≡ 2 }
+{
+    let mut list = one(rt, alloc, first);
+    let Ok(()) = list.push(second) else {
+        panic!(rt; "no memory");
     };
-    dialogue::<Brand, _>(&rt, alloc, blanks);
-}
-
-/// A hub of no bus is refused.
-#[test]
-fn no_bus_is_refused(rt: HostRuntime) {
-    let hub = Hub::<Brand, Perfect, Open>::new(rt.alloc(), Vec::new(rt.alloc()));
-    let Err(fault) = hub else {
-        panic!(&rt; "a hub");
-    };
-    assert!(&rt; fault == BusFault::BadConfig);
+    list
 }

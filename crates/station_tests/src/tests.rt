@@ -4,6 +4,7 @@ mod full_records;
 mod gates;
 mod gauges;
 mod passes;
+mod rests;
 mod threads;
 mod twins;
 mod waits;

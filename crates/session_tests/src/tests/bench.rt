@@ -188,8 +188,8 @@ fn frames_go_from_one_session_to_another(rt: HostRuntime) -> Result<(), Fail> {
         ),
         (
             "0 lastbit",
-            "session 3\nfeed 3 < open can0 >< rawmode >\nfeed 1 < send 123 0 >\nat 0.000001\nattempt\nat 0.000002\nattempt\ndrain 2\ndrain 3\ndrain 1\n",
-            "3 < hi >\n3 < ok >< ok >\ntried can0 0 lastbit can1 -\ntried can0 0 done can1 -\n2 < frame 123 0.000001  >< frame 123 0.000002  >\n3 < frame 123 0.000002  >\n",
+            "session 3\nfeed 3 < open can0 >< rawmode >\nfeed 1 < send 123 0 >\nat 0.000001\nattempt\nat 0.000002\nattempt\ndrain 2\ndrain 3\ndrain 1\nfeed 1 < status >\nfeed 2 < status >\nfeed 3 < status >\n",
+            "3 < hi >\n3 < ok >< ok >\ntried can0 0 lastbit can1 -\ntried can0 0 done can1 -\n2 < frame 123 0.000001  >< frame 123 0.000002  >\n3 < frame 123 0.000002  >\n1 < status active 7 0 >\n2 < status active 0 0 >\n3 < status active 7 0 >\n",
         ),
         (
             "",
@@ -226,9 +226,9 @@ fn commands_are_refused_with_their_faults(rt: HostRuntime) -> Result<(), Fail> {
         "1 < error bad id >< error bad id >< error bad length >< error bad word count >< error invalid filter >< error empty message >< error mode not supported >< error wrong state >< error bad id >< error unknown command >\n";
     two_write(&rt, "", faults, told)?;
     let before =
-        "session 7\nfeed 7 < send 123 0 >< open can2 >< open can1 >< send 123 0 >< rawmode >< rawmode >\n";
+        "session 7\nfeed 7 < send 123 0 >< open can2 >< open can1 >< status >< rawmode >< rawmode >< status 1 >\n";
     let answers =
-        "7 < hi >\n7 < error wrong state >< error no such interface >< ok >< error wrong state >< ok >< ok >\n";
+        "7 < hi >\n7 < error wrong state >< error no such interface >< ok >< error wrong state >< ok >< ok >< error bad word count >\n";
     two_write(&rt, "", before, answers)
 }
 
@@ -236,9 +236,9 @@ fn commands_are_refused_with_their_faults(rt: HostRuntime) -> Result<(), Fail> {
 fn a_full_record_is_told(rt: HostRuntime) -> Result<(), Fail> {
     let made = Made { limit: 2, ..ALONE };
     let input =
-        "session 1\nfeed 1 < open can0 >< rawmode >< send 123 0 >\nattempt\ndrain 1\nfeed 1 < stats >\n";
+        "session 1\nfeed 1 < open can0 >< rawmode >< send 123 0 >\nattempt\ndrain 1\nfeed 1 < stats >< status >\n";
     let output =
-        "1 < hi >\n1 < ok >< ok >\nrecord full\n1 < error record full >\n1 < stats 0 0 0 1 0 1 0 0 >\n";
+        "1 < hi >\n1 < ok >< ok >\nrecord full\n1 < error record full >\n1 < stats 0 0 0 1 0 1 0 0 >< status active 0 0 >\n";
     writes(&rt, made, "", input, output)
 }
 
@@ -253,10 +253,15 @@ fn nobody_acknowledges(rt: HostRuntime) -> Result<(), Fail> {
     let alloc = rt.alloc();
     let lines = attempts(alloc, 17)?;
     let tried = times(alloc, "tried can0 0 noack - -\n", 17)?;
-    let input = joined(alloc, &[ASKED, &lines, "drain 1\n"])?;
+    let input = joined(alloc, &[ASKED, &lines, "drain 1\nfeed 1 < status >\n"])?;
     let output = joined(
         alloc,
-        &["1 < hi >\n1 < ok >< ok >< ok >< ok >\n", &tried, TOLD],
+        &[
+            "1 < hi >\n1 < ok >< ok >< ok >< ok >\n",
+            &tried,
+            TOLD,
+            "1 < status passive 128 0 >\n",
+        ],
     )?;
     writes(&rt, ALONE, "", &input, &output)
 }
@@ -264,13 +269,13 @@ fn nobody_acknowledges(rt: HostRuntime) -> Result<(), Fail> {
 const THREE_SENT: &str = "feed 1 < errmask 140 >< send 123 0 >< send 123 0 >< send 123 0 >\n";
 
 const RESTARTED: &str =
-    "drain 1\nfeed 1 < send 123 0 >\nat 0.000040\nfeed 1 < restart >\ndrain 1\nfeed 1 < stats >\nfeed 1 < send 123 0 >\nattempt\n";
+    "drain 1\nfeed 1 < send 123 0 >< status >\nat 0.000040\nfeed 1 < restart >< status >\ndrain 1\nfeed 1 < stats >\nfeed 1 < send 123 0 >\nattempt\n";
 
 const WENT_OFF: &str =
-    "tried can0 0 destroyed - can0\n1 < error 040 0.000032 >\n1 < error bus off >\n";
+    "tried can0 0 destroyed - can0\n1 < error 040 0.000032 >\n1 < error bus off >< status off 256 0 >\n";
 
 const CAME_BACK: &str =
-    "1 < ok >\n1 < error 100 0.000040 >\n1 < stats 2 0 2 3 0 0 3 0 >\ntried can0 3 done can1 -\n";
+    "1 < ok >< status active 0 0 >\n1 < error 100 0.000040 >\n1 < stats 2 0 2 3 0 0 3 0 >\ntried can0 3 done can1 -\n";
 
 #[test]
 fn an_interface_goes_off_and_comes_back(rt: HostRuntime) -> Result<(), Fail> {

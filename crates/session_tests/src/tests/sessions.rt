@@ -3,6 +3,7 @@ use can_attempt::AckMode;
 use can_bus::{
     Bus, BusConfig, Closed, IfaceStats, Opt, Pending, Received, Refusal, SocketId, SocketStats,
 };
+use can_confine::Counters;
 use can_fault::{GlobalKind, Verdict};
 use can_filter::FilterSet;
 use can_frame::{CanId, Frame, Iface, IfaceSet, Item, Moment, Names};
@@ -88,6 +89,11 @@ impl Port for Counting {
     fn iface_stats(&mut self, _iface: Iface) -> Option<IfaceStats> {
         self.count(false);
         None
+    }
+
+    fn status(&mut self, _iface: Iface) -> Counters {
+        self.count(false);
+        Counters::zero()
     }
 }
 
@@ -371,6 +377,26 @@ fn error_message_frames_are_told_with_their_data(rt: HostRuntime) {
     }
     let want = b"< error 204 0.000012 0008000000006000 >< error 204 0.000016 0020000000008000 >";
     assert!(rt; drains(&mut one, rt.alloc(), &mut port, want));
+    let status = b"< status passive 128 0 >";
+    assert!(rt; says(&mut one, rt.alloc(), b"< status >", 17, &mut port, status));
+}
+
+/// The error counters that a port tells of the interface of a number, its transmit count first.
+fn counts<P: Port>(port: &mut P, number: u8) -> Option<(u16, u16)> {
+    let counters = port.status(Iface::new(number)?);
+    Some((counters.tec(), counters.rec()))
+}
+
+#[test]
+fn a_bus_tells_the_error_counters_of_each_interface(rt: HostRuntime) {
+    let mut port = bus_of(rt.alloc(), "can0,can1", AckMode::Always).expect(&rt, "a bus");
+    let mut one = raw_on(rt.alloc(), b"< open can1 >< rawmode >", &mut port).expect(&rt, "raw");
+    assert!(rt; says(&mut one, rt.alloc(), b"< send 123 0 >", 0, &mut port, b""));
+    assert!(rt; attempt(&mut port, 1, Verdict::Global(GlobalKind::Bit)));
+    assert_eq!(rt; counts(&mut port, 1), Some((8, 0)));
+    assert_eq!(rt; counts(&mut port, 0), Some((0, 1)));
+    assert_eq!(rt; counts(&mut port, 2), Some((0, 0)));
+    assert_eq!(rt; counts(&mut port, 15), Some((0, 0)));
 }
 
 #[test]

@@ -144,6 +144,14 @@ fn work_wake<R: Abort>(rt: &R, bus: &RingBus, is_stopped: bool) -> Option<Wake> 
     }
 }
 
+/// How many items wait for this socket.
+fn waiting(bus: &RingBus, socket: SocketId) -> u64 {
+    match bus.socket_stats(socket) {
+        None => 0,
+        Some(counts) => counts.queued.wrapping_sub(counts.taken),
+    }
+}
+
 /// The station tells what the bus tells, of sockets and interfaces that are there and of others.
 fn agree<N: RollName + MeterName, R: Wait + Abort>(
     rt: &R,
@@ -158,6 +166,7 @@ fn agree<N: RollName + MeterName, R: Wait + Abort>(
         assert!(rt; frames == bus.iface_stats(iface));
         if let Some(wake) = frame_wake(bus, socket, is_stopped) {
             assert!(rt; station.wait_frame(rt, socket) == wake);
+            assert!(rt; station.wait_items(rt, socket) == (wake, waiting(bus, socket)));
         }
     }
     if let Some(wake) = work_wake(rt, bus, is_stopped) {

@@ -1,0 +1,65 @@
+use crate::conns::{Conn, Out};
+use crate::doors::Door;
+use crate::guests::Guest;
+use crate::server::Server;
+use crate::serving::{Clock, Watch};
+use can_fault::FaultSource;
+use can_meter::MeterName;
+use can_proto::{Cause, refusal_text};
+use can_roll::RollName;
+use can_station::Gate;
+use std::io::Write;
+use std::sync::{Arc, Wait};
+use std::thread::Threads;
+use std::time::Duration;
+use std::{thread, time};
+
+/// How long a door rests after a connection that could not be accepted, so that a lack of file descriptors does not use
+/// all of its sessions up.
+const AFTER_A_FAULT_MS: u64 = 100;
+
+// The doors of a server.
+impl<
+    'a,
+    N: RollName + MeterName + Send + Sync,
+    F: FaultSource + Drop + Send,
+    G: Gate + Drop + Send + Sync,
+    C: Clock + Watch + Sync,
+    R: Threads + Wait + time::Clock + Sync,
+> Server<'a, N, F, G, C, R> {
+    /// Accepts as many connections as the door has sessions, each served by a thread of its own, and waits for their
+    /// ends. It accepts no more once the server is closed.
+    pub fn accept_all(&self, door: &Door) {
+        thread::scope(thread::scope_env(), self.rt, |scope| {
+            for _ in 0..door.sessions() {
+                let accepted = door.accept();
+                if self.guests.lock(self.rt).is_closed() {
+                    break;
+                }
+                let Ok(conn) = accepted else {
+                    thread::sleep(self.rt, Duration::from_millis(AFTER_A_FAULT_MS));
+                    continue;
+                };
+                let Some(guest) = self.admit(conn) else {
+                    continue;
+                };
+                let place = guest.place;
+                if scope.spawn(move || self.run_session(guest)).is_err() {
+                    self.guests.lock(self.rt).leave(place);
+                }
+            }
+        });
+    }
+
+    /// Takes a connection in. Where as many sessions are at work as a server has, the client is told so.
+    fn admit(&self, conn: Conn) -> Option<Guest> {
+        let conn = Arc::new(self.alloc, conn).ok()?;
+        let guest = self.guests.lock(self.rt).admit(&conn);
+        if guest.is_none() {
+            let text = refusal_text(Cause::TooManySessions);
+            let _ = Out(&conn).write_all(text.as_bytes());
+            conn.shutdown();
+        }
+        guest
+    }
+}

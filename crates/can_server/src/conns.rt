@@ -1,0 +1,62 @@
+ghost use Rattle.std.specs.Prelude.{◌≤◌, length, IfOk};
+
+use std::io;
+use std::io::{Read, Write};
+use std::net::{Shutdown, TcpStream};
+use std::os::unix::net::UnixStream;
+
+/// A client's connection, which threads share.
+#[derive(Drop)]
+pub enum Conn {
+    Tcp(TcpStream),
+    Unix(UnixStream),
+}
+
+impl Conn {
+    /// Waits for bytes of the client: how many there are, 0 at the end.
+    pub fn read(&self, piece: &mut [u8]) -> io::Result<usize>
+        ensures { IfOk result (λ n. n ≤ length piece.new) }
+    {
+        match self {
+            Conn::Tcp(stream) => {
+                let mut stream = stream;
+                stream.read(piece)
+            }
+            Conn::Unix(stream) => {
+                let mut stream = stream;
+                stream.read(piece)
+            }
+        }
+    }
+
+    /// Ends both directions: a thread that reads or writes here returns.
+    pub fn shutdown(&self) {
+        let _ = match self {
+            Conn::Tcp(stream) => stream.shutdown(Shutdown::Both),
+            Conn::Unix(stream) => stream.shutdown(Shutdown::Both),
+        };
+    }
+}
+
+/// A connection, to write to.
+#[derive(Drop)]
+pub struct Out<'a>(pub &'a Conn);
+
+impl Write for Out<'_> {
+    fn write(&mut self, text: &[u8]) -> io::Result<usize> {
+        match self.0 {
+            Conn::Tcp(stream) => {
+                let mut stream = stream;
+                stream.write(text)
+            }
+            Conn::Unix(stream) => {
+                let mut stream = stream;
+                stream.write(text)
+            }
+        }
+    }
+
+    fn flush(&mut self) -> io::Result<()> {
+        Ok(())
+    }
+}

@@ -1,0 +1,88 @@
+ghost use Rattle.std.specs.Prelude.{◌≡◌, length, IfOk};
+
+use crate::doors::Door;
+use crate::guests::Guests;
+use crate::hubs::Hub;
+use crate::returned::Returned;
+use crate::server::Server;
+use can_fault::FaultSource;
+use can_frame::Moment;
+use can_meter::MeterName;
+use can_roll::RollName;
+use can_station::{Gate, Pass};
+use std::alloc::{AllocError, Global};
+use std::os::unix::net::UnixStream;
+use std::sync::{Mutex, Wait};
+use std::thread::Threads;
+use std::time;
+
+/// The most passes of a bus.
+const MOST_PASSES: u32 = 4096;
+
+/// The moment of a call.
+pub trait Clock {
+    fn now(&self) -> Moment;
+}
+
+/// Who is told what a server meets.
+pub trait Watch {
+    /// A call was refused since the record of this bus is full. It is told once.
+    fn bus_is_full(&self, bus: usize);
+}
+
+/// Serves the sessions of all doors over the buses of a hub, and hands their passes back, those of each bus in a list
+/// of its own.
+///
+/// Each bus has a driver, which steps while an interface has a frame to send; each door a thread that accepts; each
+/// session one that reads and, in raw mode, one that delivers. It returns once as many sessions as the doors have
+/// were accepted and all are over, or after the end of `until`: then nobody comes in any more, and the sessions at
+/// work are shut down. The 65th session at once is told so and counts as one that was accepted, as does a connection that
+/// could not be accepted.
+///
+/// A fault of a session's connection, or memory refused to it, ends that session alone. `AllocError` where memory was
+/// refused to the server's own start; then the threads that were started are over too, and the stations are stopped.
+pub fn serve<
+    N: RollName + MeterName + Send + Sync,
+    F: FaultSource + Drop + Send,
+    G: Gate + Drop + Send + Sync,
+    C: Clock + Watch + Sync,
+    R: Threads + Wait + time::Clock + Sync,
+>(
+    rt: &R,
+    alloc: Global,
+    hub: &Hub<N, F, G>,
+    doors: &[Door],
+    host: &C,
+    until: Option<&UnixStream>,
+) -> Result<Vec<Vec<Pass<N>>>, AllocError>
+    ensures { IfOk result (λ passes. length passes.items ≡ length hub.now) }
+{
+    let guests = Guests::new(alloc);
+    let returned = Returned::new(alloc, hub.count(), most_passes(doors));
+    let (Ok(guests), Ok(returned)) = (guests, returned) else {
+        hub.stop_all(rt);
+        return Err(AllocError);
+    };
+    let (guests, returned) = (Mutex::new(guests), Mutex::new(returned));
+    let server = Server {
+        rt,
+        alloc,
+        hub,
+        host,
+        guests: &guests,
+        returned: &returned,
+    };
+    let served = server.run(doors, until);
+    drop(server);
+    served?;
+    Ok(returned.into_inner().into_lists(hub.count()))
+}
+
+/// The most passes that the sessions of these doors and a driver take of one bus.
+fn most_passes(doors: &[Door]) -> usize {
+    let mut most = 1_u32;
+    for door in doors {
+        most = most.saturating_add(door.sessions());
+    }
+    most.min(MOST_PASSES) as usize
+}

@@ -1,0 +1,160 @@
+use crate::conns::Conn;
+use crate::guests::Guest;
+use crate::server::Server;
+use crate::serving::{Clock, Watch};
+use crate::talks::{Place, Talk};
+use can_fault::FaultSource;
+use can_meter::MeterName;
+use can_roll::RollName;
+use can_station::{Gate, Pass, Station, Wake};
+use std::sync::{Mutex, Wait};
+use std::thread::Threads;
+use std::time::Duration;
+use std::{thread, time};
+
+/// The most bytes of a piece that is read.
+const PIECE: usize = 4096;
+
+/// How long the delivering thread waits at first. Some clients read the answer to `rawmode` and whatever came with
+/// it as one text.
+const BEFORE_ITEMS_MS: u64 = 5;
+
+/// What became of a read.
+enum Heard {
+    /// A piece was taken, and the session goes on.
+    More,
+    /// The session is over.
+    Over,
+    /// The client is gone.
+    Gone,
+}
+
+// A session of a server: a thread that reads and, in raw mode, one that delivers.
+impl<
+    'a,
+    N: RollName + MeterName + Send + Sync,
+    F: FaultSource + Drop + Send,
+    G: Gate + Drop + Send + Sync,
+    C: Clock + Watch + Sync,
+    R: Threads + Wait + time::Clock + Sync,
+> Server<'a, N, F, G, C, R> {
+    /// Runs a session to its end, and hands its pass back. Its place is free before the client sees the end.
+    pub fn run_session(&self, guest: Guest) {
+        let Guest { conn, place } = guest;
+        if let Some(pass) = self.converse(&conn) {
+            self.returned.lock(self.rt).take(pass);
+        }
+        self.guests.lock(self.rt).leave(place);
+        conn.shutdown();
+    }
+
+    /// Talks with a client to the end: the pass, where it opened a bus.
+    fn converse(&self, conn: &Conn) -> Option<Pass<N>> {
+        let mut talk = Talk::new(self.rt, self.alloc, self.hub).ok()?;
+        if !talk.greet(conn) {
+            return None;
+        }
+        let talk = Mutex::new(talk);
+        self.hear_all(&talk, conn);
+        talk.into_inner().into_pass()
+    }
+
+    /// Reads what the client says. Once the session is raw, a thread delivers its items beside.
+    fn hear_all(&self, talk: &Mutex<Talk<'_, N, F, G, R>>, conn: &Conn) {
+        let Some(place) = self.hear_until_raw(talk, conn) else {
+            return;
+        };
+        let place = &place;
+        thread::scope(thread::scope_env(), self.rt, |scope| {
+            if scope
+                .spawn(move || self.deliver_all(talk, conn, place))
+                .is_ok()
+            {
+                self.hear_on(talk, conn);
+            }
+            talk.lock(self.rt).end();
+            self.tell_full(place.station);
+        });
+    }
+
+    /// Reads until the session is raw: where its socket is, or none if it ended before.
+    fn hear_until_raw<'t>(
+        &self,
+        talk: &Mutex<Talk<'t, N, F, G, R>>,
+        conn: &Conn,
+    ) -> Option<Place<'t, N, F, G>> {
+        for _ in self.rt.forever() {
+            match self.hear(talk, conn) {
+                Heard::More => {}
+                Heard::Over | Heard::Gone => {
+                    talk.lock(self.rt).end();
+                    return None;
+                }
+            }
+            if let Some(place) = talk.lock(self.rt).place() {
+                return Some(place);
+            }
+        }
+        unreachable!()
+    }
+
+    /// Reads until the session is over, or the client is gone. A write to a client that is gone ends here.
+    fn hear_on(&self, talk: &Mutex<Talk<'_, N, F, G, R>>, conn: &Conn) {
+        for _ in self.rt.forever() {
+            match self.hear(talk, conn) {
+                Heard::More => {}
+                Heard::Over => break,
+                Heard::Gone => {
+                    conn.shutdown();
+                    break;
+                }
+            }
+        }
+    }
+
+    /// Tells the host of a record that is full, once, and ends the waits of its station: no call changes it any more,
+    /// not even one that closes a socket.
+    pub fn tell_full(&self, station: &Station<N, F, G>) {
+        if station.became_full() {
+            station.stop(self.rt);
+            self.host.bus_is_full(usize::from(station.number()));
+        }
+    }
+
+    /// Reads one piece, and carries it out.
+    fn hear(&self, talk: &Mutex<Talk<'_, N, F, G, R>>, conn: &Conn) -> Heard {
+        let mut piece = [0_u8; PIECE];
+        let count = match conn.read(&mut piece) {
+            Ok(0) | Err(_) => return Heard::Gone,
+            Ok(count) => count,
+        };
+        let moment = self.host.now();
+        let mut talk = talk.lock(self.rt);
+        let goes_on = talk.feed(self.alloc, &piece[..count], moment, conn);
+        if let Some(station) = talk.station() {
+            self.tell_full(station);
+        }
+        drop(talk);
+        if goes_on { Heard::More } else { Heard::Over }
+    }
+
+    /// Gives the client its items, until the session is over, its socket is closed or the record is full.
+    fn deliver_all(
+        &self,
+        talk: &Mutex<Talk<'_, N, F, G, R>>,
+        conn: &Conn,
+        place: &Place<'_, N, F, G>,
+    ) {
+        thread::sleep(self.rt, Duration::from_millis(BEFORE_ITEMS_MS));
+        for _ in self.rt.forever() {
+            let (wake, waiting) = place.station.wait_items(self.rt, place.socket);
+            if wake != Wake::Ready {
+                break;
+            }
+            if !talk.lock(self.rt).deliver(waiting, conn) {
+                self.tell_full(place.station);
+                break;
+            }
+        }
+    }
+}

@@ -1,0 +1,124 @@
+use crate::conns::{Conn, Out};
+use crate::hubs::Hub;
+use crate::ports::PassPort;
+use can_bus::SocketId;
+use can_fault::FaultSource;
+use can_frame::Moment;
+use can_meter::MeterName;
+use can_roll::RollName;
+use can_session::{Session, Stage};
+use can_station::{Gate, Pass, Station};
+use std::alloc::{AllocError, Global};
+use std::io::Write;
+use std::sync::Wait;
+
+/// The most bytes of items that go out in one write.
+const MOST_BYTES: usize = 1024;
+
+/// The most bytes of an item's text.
+const LONGEST: usize = 256;
+
+/// Where the socket of a session in raw mode is.
+#[derive(Drop)]
+pub struct Place<'a, N: RollName + MeterName, F: FaultSource + Drop, G: Gate + Drop> {
+    pub station: &'a Station<N, F, G>,
+    pub socket: SocketId,
+}
+
+/// A session with its port: what its two threads share under a lock.
+#[derive(Drop)]
+pub struct Talk<'a, N: RollName + MeterName, F: FaultSource + Drop, G: Gate + Drop, R: Wait> {
+    session: Session,
+    port: PassPort<'a, N, F, G, R>,
+    /// The texts of items that go out in one write, with room for `MOST_BYTES`.
+    batch: Vec<u8>,
+}
+
+impl<'a, N: RollName + MeterName, F: FaultSource + Drop, G: Gate + Drop, R: Wait> Talk<
+    'a,
+    N,
+    F,
+    G,
+    R,
+> {
+    /// A session that has just begun.
+    pub fn new(
+        rt: &'a R,
+        alloc: Global,
+        hub: &'a Hub<N, F, G>,
+    ) -> Result<Talk<'a, N, F, G, R>, AllocError> {
+        Ok(Talk {
+            session: Session::new(alloc, 0)?,
+            port: PassPort::new(rt, alloc, hub),
+            batch: Vec::with_capacity(alloc, MOST_BYTES)?,
+        })
+    }
+
+    /// Writes the first text: whether the session goes on.
+    pub fn greet(&mut self, conn: &Conn) -> bool {
+        match self.session.stage() {
+            Stage::NoBus => self.session.greet(&mut Out(conn)).is_ok(),
+            _ => false,
+        }
+    }
+
+    /// Takes a piece of what the client says: whether the session goes on.
+    pub fn feed(&mut self, alloc: Global, piece: &[u8], moment: Moment, conn: &Conn) -> bool {
+        let fed = self
+            .session
+            .feed(alloc, piece, moment, &mut self.port, &mut Out(conn));
+        fed.is_ok() && !self.is_over()
+    }
+
+    /// Gives the client up to so many items, whose texts go out in one write: whether there can be more. A client that
+    /// takes nothing ends the session.
+    pub fn deliver(&mut self, waiting: u64, conn: &Conn) -> bool {
+        self.batch.clear();
+        let mut can_be_more = true;
+        for _ in 0..waiting {
+            if !can_be_more || self.batch.len() > MOST_BYTES - LONGEST {
+                break;
+            }
+            let delivered = self.session.deliver(&mut self.port, &mut self.batch);
+            can_be_more = delivered == Ok(true);
+        }
+        if Out(conn).write_all(&self.batch).is_err() {
+            self.end();
+            conn.shutdown();
+            return false;
+        }
+        can_be_more
+    }
+
+    /// Ends the session.
+    pub fn end(&mut self) {
+        let _ = self.session.end(&mut self.port);
+    }
+
+    /// Whether the session is over.
+    pub fn is_over(&self) -> bool {
+        self.session.stage() == Stage::Ended
+    }
+
+    /// The station that was entered.
+    pub fn station(&self) -> Option<&'a Station<N, F, G>> {
+        self.port.station()
+    }
+
+    /// Where the socket is, in raw mode.
+    pub fn place(&self) -> Option<Place<'a, N, F, G>> {
+        match (self.session.stage(), self.port.station()) {
+            (Stage::Raw(raw), Some(station)) => Some(Place {
+                station,
+                socket: raw.socket,
+            }),
+            _ => None,
+        }
+    }
+
+    /// The pass, where a station was entered.
+    pub fn into_pass(self) -> Option<Pass<N>> {
+        let Talk { port, .. } = self;
+        port.into_pass()
+    }
+}

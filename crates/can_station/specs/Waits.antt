@@ -1,0 +1,41 @@
+use Rattle.std.specs.Prelude.{ℕ, ◌-◌, nat_lt, Bool, Option, Some, None, if◌then◌else◌}
+use Rattle.can_bus.specs.declared.stats.SocketStats.{SocketStats}
+use Rattle.can_bus.specs.Journal.{Journal}
+use Rattle.can_bus.specs.Stats.{socket_stats_of}
+use Rattle.can_bus.specs.Attempts.{winner}
+use Rattle.can_station.specs.Held.{Held}
+use Rattle.can_station.specs.declared.waits.Wake.{Wake}
+use Rattle.can_station.specs.declared.waits.Wake.TheVariants as wake
+
+-- How a wait ends, and whether it does (own).
+
+-- what a stop tells those who wait
+abbrev pub stopped_wake : Bool → Option Wake
+stopped_wake stopped = if stopped then Some wake.Stopped else None
+
+-- a wait for an item: the socket is not open, or items are left that were not taken, or the station was stopped
+abbrev pub item_wake : Option SocketStats → Bool → Option Wake
+item_wake None stopped = Some wake.Closed
+item_wake (Some counts) stopped = if nat_lt counts.taken counts.queued then Some wake.Ready else stopped_wake stopped
+
+-- the same, of socket s of a station
+abbrev pub frame_wake : {F : Type 0} → Held F → ℕ → Option Wake
+frame_wake h s = item_wake (socket_stats_of h.journal.config h.journal.history s) h.stopped
+
+-- a wait for a frame to send: some interface wins the bus, or the station was stopped
+abbrev pub winner_wake : Option ℕ → Bool → Option Wake
+winner_wake (Some i) stopped = Some wake.Ready
+winner_wake None stopped = stopped_wake stopped
+
+-- the same, of a station
+abbrev pub work_wake : {F : Type 0} → Held F → Option Wake
+work_wake h = winner_wake (winner h.journal.config h.journal.history) h.stopped
+
+-- the items that were queued and not taken
+abbrev pub left_of : Option SocketStats → ℕ
+left_of None = 0
+left_of (Some counts) = counts.queued - counts.taken
+
+-- how many items wait at socket s
+abbrev pub waiting_at : Journal → ℕ → ℕ
+waiting_at j s = left_of (socket_stats_of j.config j.history s)

@@ -1,7 +1,0 @@
-use Rattle.server_tests.proofs.tests.a_frame_goes_from_one_session_to_the_other.Given as goal
-
-abbrev pub ghosts-dialogue-N-RollName : goal.ghosts-dialogue-N-RollName
-ghosts-dialogue-N-RollName g a = record { roll = λ k. a.blanks.roll }
-
-abbrev pub ghosts-dialogue-N-MeterName : goal.ghosts-dialogue-N-MeterName
-ghosts-dialogue-N-MeterName g a = record { meter = λ k. a.blanks.meter }

@@ -1,0 +1,265 @@
+// What the tests of a server share: what it runs on, its host, its doors and its clients.
+
+ghost use Rattle.std.specs.Prelude.{◌≡◌, length};
+
+use super::*;
+use can_server::{Conn, Door, Listener, Watch, serve};
+use can_station::Settled;
+use std::io::Write;
+use std::net::{Net, TcpListener, TcpStream};
+use std::os::unix::net as unix;
+use std::os::unix::net::{UnixListener, UnixStream};
+use std::rt::{Env, Files};
+use std::sync::atomic::{AtomicU64, Ordering};
+use std::thread::Threads;
+use std::time::{Clock, Duration};
+use std::{env, io, net, thread};
+
+/// What a server of a test runs on.
+pub trait Machine: Threads
+    + Wait
+    + Abort
+    + Clock
+    + Net<Listener = TcpListener, Stream = TcpStream>
+    + Sync {}
+
+impl<
+    R: Threads + Wait + Abort + Clock + Net<Listener = TcpListener, Stream = TcpStream> + Sync,
+> Machine for R {}
+
+/// How many seconds a client waits for a text.
+const PATIENCE: u64 = 20;
+
+/// How many looks are made before a test gives up.
+const TURNS: u32 = 10_000;
+
+/// The host of a test: its clock stands, and it counts how often it was told of a full record.
+#[derive(Drop)]
+pub struct Host {
+    pub moment: Moment,
+    pub told: AtomicU64,
+}
+
+impl Host {
+    /// A host whose clock stands at 23.424242 seconds.
+    pub fn new<R: Abort>(rt: &R) -> Host {
+        Host {
+            moment: moment(rt, 23_424_242),
+            told: AtomicU64::new(0),
+        }
+    }
+}
+
+impl can_server::Clock for Host {
+    fn now(&self) -> Moment {
+        self.moment
+    }
+}
+
+impl Watch for Host {
+    fn bus_is_full(&self, _bus: usize) {
+        self.told.fetch_add(1, Ordering::SeqCst);
+    }
+}
+
+/// Where a server listens.
+#[derive(Drop)]
+enum Address {
+    Tcp(net::SocketAddr),
+    Unix(unix::SocketAddr),
+}
+
+impl Address {
+    fn connect<R: Machine>(&self, rt: &R) -> io::Result<Conn> {
+        match self {
+            Address::Tcp(address) => {
+                let stream = TcpStream::connect(rt, *address)?;
+                stream.set_nodelay(true)?;
+                Ok(Conn::Tcp(stream))
+            }
+            Address::Unix(address) => Ok(Conn::Unix(UnixStream::connect_addr(rt, address)?)),
+        }
+    }
+}
+
+/// A door of a server, and its address.
+#[derive(Drop)]
+pub struct Entrance {
+    door: Door,
+    address: Address,
+}
+
+impl Entrance {
+    /// A door for so many sessions on a free port of this machine.
+    pub fn new<R: Machine>(rt: &R, sessions: u32) -> Entrance {
+        let Ok(entrance) = Entrance::on_port(rt, sessions) else {
+            panic!(rt; "no door");
+        };
+        entrance
+    }
+
+    fn on_port<R: Machine>(rt: &R, sessions: u32) -> io::Result<Entrance> {
+        let listener = TcpListener::bind(rt, "127.0.0.1:0")?;
+        Ok(Entrance {
+            address: Address::Tcp(listener.local_addr()?),
+            door: Door::new(Listener::Tcp(listener), sessions)?,
+        })
+    }
+
+    /// A door for so many sessions at a path.
+    pub fn at_path<R: Machine + Files>(rt: &R, path: &str, sessions: u32) -> io::Result<Entrance> {
+        let listener = UnixListener::bind(rt, path)?;
+        Ok(Entrance {
+            address: Address::Unix(listener.local_addr()?),
+            door: Door::new(Listener::Unix(listener), sessions)?,
+        })
+    }
+
+    /// A client that comes to it.
+    pub fn admit<'a, R: Machine>(&self, rt: &'a R, alloc: Global) -> Client<'a, R> {
+        let Ok(conn) = self.address.connect(rt) else {
+            panic!(rt; "no connection");
+        };
+        Client::new(rt, alloc, conn)
+    }
+
+    /// The doors of a server that has no other.
+    pub fn into_doors<R: Machine>(self, rt: &R, alloc: Global) -> Vec<Door> {
+        one(rt, alloc, self.door)
+    }
+}
+
+/// A path for a socket of this test alone.
+pub fn socket_path<R: Env + Alloc<A = Global>>(
+    rt: &R,
+    name: &str,
+    process: u32,
+) -> io::Result<String> {
+    let folder = env::temp_dir(rt)?;
+    Ok(format!(in rt.alloc(); "{}/canbusd-{name}-{process}", folder.as_str())?)
+}
+
+/// A client of a server.
+#[derive(Drop)]
+pub struct Client<'a, R: Abort> {
+    rt: &'a R,
+    conn: Conn,
+    heard: Vec<u8>,
+}
+
+impl<'a, R: Abort> Client<'a, R> {
+    /// A client on this connection, which waits for no text too long.
+    fn new(rt: &'a R, alloc: Global, conn: Conn) -> Client<'a, R> {
+        let patience = Some(Duration::from_secs(PATIENCE));
+        let set = match &conn {
+            Conn::Tcp(stream) => stream.set_read_timeout(patience),
+            Conn::Unix(stream) => stream.set_read_timeout(patience),
+        };
+        assert!(rt; set.is_ok());
+        Client {
+            rt,
+            conn,
+            heard: Vec::new(alloc),
+        }
+    }
+
+    pub fn say(&self, text: &str) {
+        let said = match &self.conn {
+            Conn::Tcp(stream) => {
+                let mut stream = stream;
+                stream.write_all(text.as_bytes())
+            }
+            Conn::Unix(stream) => {
+                let mut stream = stream;
+                stream.write_all(text.as_bytes())
+            }
+        };
+        assert!(self.rt; said.is_ok());
+    }
+
+    /// Reads until it has heard as much as this text, which it then is.
+    pub fn hear(&mut self, wanted: &str) {
+        self.heard.clear();
+        for _ in 0..wanted.len() {
+            if self.heard.len() < wanted.len() {
+                assert!(self.rt; self.read() > 0);
+            }
+        }
+        let heard = str::from_utf8(&self.heard).unwrap_or("no text");
+        assert!(self.rt; heard == wanted, "{heard}");
+    }
+
+    /// Its connection is closed, with no more text.
+    pub fn hear_end(&mut self) {
+        self.heard.clear();
+        assert!(self.rt; self.read() == 0);
+    }
+
+    /// Reads once: how many bytes there were.
+    fn read(&mut self) -> usize {
+        let mut piece = [0_u8; 256];
+        let Ok(count) = self.conn.read(&mut piece) else {
+            panic!(self.rt; "nothing came");
+        };
+        assert!(self.rt; self.heard.extend_from_slice(&piece[..count]).is_ok());
+        count
+    }
+
+    /// Says a text and hears its answer.
+    pub fn ask(&mut self, text: &str, wanted: &str) {
+        self.say(text);
+        self.hear(wanted);
+    }
+}
+
+/// Serves to the end, and hands the passes back.
+pub fn serves<N, F, G, R>(
+    rt: &R,
+    alloc: Global,
+    hub: &Hub<N, F, G>,
+    doors: &[Door],
+    host: &Host,
+    until: Option<&UnixStream>,
+) -> Vec<Vec<Pass<N>>>
+where
+    N: RollName + MeterName + Send + Sync,
+    F: FaultSource + Drop + Send,
+    G: Gate + Drop + Send + Sync,
+    R: Machine,
+{
+    let Ok(passes) = serve(rt, alloc, hub, doors, host, until) else {
+        panic!(rt; "not served");
+    };
+    passes
+}
+
+/// What each bus leaves.
+pub fn settled<N, F, G, R>(
+    rt: &R,
+    alloc: Global,
+    hub: Hub<N, F, G>,
+    passes: Vec<Vec<Pass<N>>>,
+) -> Vec<Settled>
+where
+    N: RollName + MeterName,
+    F: FaultSource + Drop,
+    G: Gate + Drop,
+    R: Machine,
+{
+    assert!(rt; passes.len() == hub.count());
+    let Ok(buses) = hub.settle(rt, alloc, passes) else {
+        panic!(rt; "not settled");
+    };
+    buses
+}
+
+/// Looks until the count is reached, a millisecond apart. Whether it was.
+pub fn reaches<C: Clock>(clock: &C, count: &AtomicU64, goal: u64) -> bool {
+    for _ in 0..TURNS {
+        if count.load(Ordering::SeqCst) >= goal {
+            return true;
+        }
+        thread::sleep(clock, Duration::from_millis(1));
+    }
+    false
+}

@@ -1,0 +1,55 @@
+// A server that is told to end.
+
+ghost use Rattle.std.specs.Prelude.{◌≡◌};
+ghost use Rattle.can_server.specs.Benches.{NamedFrom};
+
+use super::clients::*;
+use super::*;
+use std::io;
+use std::marker::Brand;
+use std::os::unix::net::UnixStream;
+use std::thread::join;
+
+/// One client is raw and one has only been greeted when the server is told to end.
+fn tell_end<R: Abort>(mut first: Client<'_, R>, mut second: Client<'_, R>, until: UnixStream) {
+    first.ask("< open can0 >< rawmode >", "< hi >< ok >< ok >");
+    second.hear("< hi >");
+    drop(until);
+    first.hear_end();
+    second.hear_end();
+}
+
+/// A server with two sessions at work, which waits for a third.
+fn ends<N: RollName + MeterName + Send + Sync, R: Machine>(
+    rt: &R,
+    alloc: Global,
+    benches: Vec<Bench<Perfect, Open>>,
+    told: UnixStream,
+    until: UnixStream,
+)
+    requires { NamedFrom N.roll N.meter 0 benches.items }
+{
+    let hub = made::<N, _, _, _>(rt, alloc, benches);
+    let host = Host::new(rt);
+    let entrance = Entrance::new(rt, 3);
+    let (first, second) = (entrance.admit(rt, alloc), entrance.admit(rt, alloc));
+    let doors = entrance.into_doors(rt, alloc);
+    let (passes, ()) = join(
+        rt,
+        || serves(rt, alloc, &hub, &doors, &host, Some(&told)),
+        || tell_end(first, second, until),
+    );
+    let Some(bus) = settled(rt, alloc, hub, passes).pop() else {
+        panic!(rt; "no bus");
+    };
+    assert!(rt; bus.passes == 2);
+}
+
+#[test]
+#[tactic(auto, using(can_server::proofs::Naming::named))]
+fn a_server_that_is_told_ends_all_sessions(rt: HostRuntime) -> io::Result<()> {
+    let (told, until) = UnixStream::pair(&rt)?;
+    let benches = one_bus(&rt, rt.alloc());
+    ends::<Brand, _>(&rt, rt.alloc(), benches, told, until);
+    Ok(())
+}

@@ -1,0 +1,204 @@
+// Which benches make a hub, what it finds, and how it is settled.
+
+ghost use Rattle.std.specs.Prelude.{◌≡◌, ◌<◌};
+ghost use Rattle.can_server.specs.Benches.{NamedFrom};
+
+use super::*;
+use can_bus::{BusFault, Event};
+use can_server::SettleFault;
+use can_station::Settled;
+use std::marker::Brand;
+use std::test::Fail;
+
+/// The fault of making a hub.
+fn fault_of_hub<N: RollName + MeterName>(
+    alloc: Global,
+    benches: Vec<Bench<Perfect, Open>>,
+) -> Option<BusFault>
+    requires { NamedFrom N.roll N.meter 0 benches.items }
+{
+    Hub::<N, Perfect, Open>::new(alloc, benches).err()
+}
+
+/// The same, for a hub that nobody uses.
+#[tactic(auto, using(can_server::proofs::Naming::named))]
+fn fault_of(alloc: Global, benches: Vec<Bench<Perfect, Open>>) -> Option<BusFault> {
+    fault_of_hub::<Brand>(alloc, benches)
+}
+
+/// So many buses, no two with a name in common.
+fn many<R: Abort>(rt: &R, alloc: Global, count: u32) -> Vec<Bench<Perfect, Open>> {
+    let mut benches = Vec::new(alloc);
+    for number in 0..count {
+        let Ok(both) = format!(in alloc; "a{number},b{number}") else {
+            panic!(rt; "no names");
+        };
+        let bench = bench(rt, alloc, names(rt, alloc, &both));
+        assert!(rt; benches.push(bench).is_ok());
+    }
+    benches
+}
+
+#[test]
+fn a_hub_has_one_to_sixteen_buses(rt: HostRuntime) {
+    let alloc = rt.alloc();
+    assert!(&rt; fault_of(alloc, Vec::new(alloc)) == Some(BusFault::BadConfig));
+    assert!(&rt; fault_of(alloc, many(&rt, alloc, 1)).is_none());
+    assert!(&rt; fault_of(alloc, many(&rt, alloc, 16)).is_none());
+    assert!(&rt; fault_of(alloc, many(&rt, alloc, 17)) == Some(BusFault::BadConfig));
+}
+
+#[test]
+fn no_name_stands_on_two_buses(rt: HostRuntime) {
+    let alloc = rt.alloc();
+    let first = bench(&rt, alloc, names(&rt, alloc, "can0,can1"));
+    let second = bench(&rt, alloc, names(&rt, alloc, "can2,can0"));
+    let benches = two(&rt, alloc, first, second);
+    assert!(&rt; fault_of(alloc, benches) == Some(BusFault::BadConfig));
+}
+
+/// The fault of a bus with sockets of this capacity.
+fn capacity_fault<R: Abort>(rt: &R, alloc: Global, capacity: u32) -> Option<BusFault> {
+    let mut bench = bench(rt, alloc, names(rt, alloc, "can0,can1"));
+    bench.rx_capacity = capacity;
+    fault_of(alloc, one(rt, alloc, bench))
+}
+
+#[test]
+fn a_socket_holds_one_to_65536_items(rt: HostRuntime) {
+    let alloc = rt.alloc();
+    assert!(&rt; capacity_fault(&rt, alloc, 0) == Some(BusFault::BadConfig));
+    assert!(&rt; capacity_fault(&rt, alloc, 1).is_none());
+    assert!(&rt; capacity_fault(&rt, alloc, 65_536).is_none());
+    assert!(&rt; capacity_fault(&rt, alloc, 65_537) == Some(BusFault::BadConfig));
+}
+
+#[test]
+fn blanks_and_names_are_of_each_interface(rt: HostRuntime) -> Result<(), Fail> {
+    let alloc = rt.alloc();
+    let mut more_blanks = bench(&rt, alloc, names(&rt, alloc, "can0,can1"));
+    more_blanks.blanks = Blanks::new(alloc, 3)?;
+    let more_names = bench(&rt, alloc, names(&rt, alloc, "can0,can1,can2"));
+    for bench in two(&rt, alloc, more_blanks, more_names) {
+        assert!(&rt; fault_of(alloc, one(&rt, alloc, bench)) == Some(BusFault::BadConfig));
+    }
+    Ok(())
+}
+
+fn finds<N: RollName + MeterName, R: Abort>(
+    rt: &R,
+    alloc: Global,
+    benches: Vec<Bench<Perfect, Open>>,
+)
+    requires { NamedFrom N.roll N.meter 0 benches.items }
+{
+    let hub = made::<N, _, _, _>(rt, alloc, benches);
+    assert!(rt; hub.count() == 2);
+    assert!(rt; hub.find("can0") == Some((0, iface(rt, 0))));
+    assert!(rt; hub.find("can1") == Some((0, iface(rt, 1))));
+    assert!(rt; hub.find("far0") == Some((1, iface(rt, 0))));
+    assert!(rt; hub.find("far1") == Some((1, iface(rt, 1))));
+    assert!(rt; hub.find("far").is_none());
+    assert!(rt; hub.find("").is_none());
+}
+
+#[test]
+#[tactic(auto, using(can_server::proofs::Naming::named))]
+fn a_name_is_found_by_its_bus_and_place(rt: HostRuntime) {
+    let benches = two_buses(&rt, rt.alloc());
+    finds::<Brand, _>(&rt, rt.alloc(), benches);
+}
+
+fn reads_nothing<N: RollName + MeterName, R: Wait + Abort>(
+    rt: &R,
+    alloc: Global,
+    benches: Vec<Bench<Perfect, Open>>,
+)
+    requires { NamedFrom N.roll N.meter 0 benches.items }
+{
+    let hub = made::<N, _, _, _>(rt, alloc, benches);
+    assert!(rt; hub.count() == 2);
+    let Ok(mut gauge) = hub.gauge(rt, 0) else {
+        panic!(rt; "no gauge");
+    };
+    assert!(rt; gauge.ifaces() == 2);
+    for place in 0..2 {
+        assert!(rt; reading(rt, &mut gauge, place) == (0, 0, 0));
+    }
+}
+
+#[test]
+#[tactic(auto, using(can_server::proofs::Naming::named))]
+fn a_gauge_of_a_new_hub_reads_nothing(rt: HostRuntime) {
+    let benches = two_buses(&rt, rt.alloc());
+    reads_nothing::<Brand, _>(&rt, rt.alloc(), benches);
+}
+
+/// A pass of the bus that has this name, with one call: it opened a socket there, of as many items as the bus says.
+fn caller<N: RollName + MeterName, R: Wait + Abort>(
+    rt: &R,
+    alloc: Global,
+    hub: &Hub<N, Perfect, Open>,
+    name: &[u8],
+) -> Pass<N> {
+    let mut port = PassPort::new(rt, alloc, hub);
+    let Ok(iface) = port.attach(name) else {
+        panic!(rt; "not attached");
+    };
+    assert!(rt; port.open(iface, 4).is_ok());
+    let Some(pass) = port.into_pass() else {
+        panic!(rt; "no pass");
+    };
+    pass
+}
+
+/// Settles a hub of two buses, each with one pass that opened a socket; or with the two lists exchanged.
+fn settled<N: RollName + MeterName, R: Wait + Abort>(
+    rt: &R,
+    alloc: Global,
+    benches: Vec<Bench<Perfect, Open>>,
+    is_exchanged: bool,
+) -> Result<Vec<Settled>, SettleFault>
+    requires { NamedFrom N.roll N.meter 0 benches.items }
+{
+    let hub = made::<N, _, _, _>(rt, alloc, benches);
+    let near = one(rt, alloc, caller(rt, alloc, &hub, b"can0"));
+    let far = one(rt, alloc, caller(rt, alloc, &hub, b"far1"));
+    let passes = if is_exchanged {
+        two(rt, alloc, far, near)
+    } else {
+        two(rt, alloc, near, far)
+    };
+    assert!(rt; hub.count() == 2);
+    hub.settle(rt, alloc, passes)
+}
+
+#[test]
+#[tactic(auto, using(can_server::proofs::Naming::named))]
+fn exchanged_passes_are_refused(rt: HostRuntime) {
+    let benches = two_buses(&rt, rt.alloc());
+    let outcome = settled::<Brand, _>(&rt, rt.alloc(), benches, true);
+    assert!(&rt; matches!(outcome, Err(SettleFault { bus: 0 })));
+}
+
+/// Whether a bus had one pass, which opened a socket at this interface.
+fn has_opened(bus: &Settled, wanted: Iface) -> bool {
+    match bus.history.entries() {
+        [entry] => {
+            bus.passes == 1 && matches!(&entry.event, Event::Open(iface, 16) if *iface == wanted)
+        }
+        _ => false,
+    }
+}
+
+#[test]
+#[tactic(auto, using(can_server::proofs::Naming::named))]
+fn each_bus_is_settled_with_its_own_passes(rt: HostRuntime) {
+    let benches = two_buses(&rt, rt.alloc());
+    let Ok(buses) = settled::<Brand, _>(&rt, rt.alloc(), benches, false) else {
+        panic!(&rt; "not settled");
+    };
+    assert!(&rt; buses.len() == 2);
+    assert!(&rt; has_opened(&buses[0], iface(&rt, 0)));
+    assert!(&rt; has_opened(&buses[1], iface(&rt, 1)));
+}

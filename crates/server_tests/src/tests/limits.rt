@@ -1,0 +1,112 @@
+// Too many sessions, and a full record.
+
+ghost use Rattle.std.specs.Prelude.{◌≡◌};
+ghost use Rattle.can_server.specs.Benches.{NamedFrom};
+
+use super::clients::*;
+use super::*;
+use std::marker::Brand;
+use std::sync::atomic::Ordering;
+use std::thread::join;
+
+/// How many sessions a server has at once.
+const MOST: u32 = 64;
+
+/// Each hears the greeting, and the one that comes last that it is one too many.
+fn crowd<R: Abort>(clients: Vec<Client<'_, R>>, mut last: Client<'_, R>) {
+    let mut clients = clients;
+    for client in clients.iter_mut() {
+        client.hear("< hi >");
+    }
+    last.hear("< error too many sessions >");
+    last.hear_end();
+    for client in clients.iter_mut() {
+        client.ask("< open can0 >", "< ok >");
+    }
+}
+
+/// A server of as many sessions as it has at once, and one more.
+fn fills<N: RollName + MeterName + Send + Sync, R: Machine>(
+    rt: &R,
+    alloc: Global,
+    benches: Vec<Bench<Perfect, Open>>,
+)
+    requires { NamedFrom N.roll N.meter 0 benches.items }
+{
+    let hub = made::<N, _, _, _>(rt, alloc, benches);
+    let host = Host::new(rt);
+    let entrance = Entrance::new(rt, MOST + 1);
+    let mut clients = Vec::new(alloc);
+    for _ in 0..MOST {
+        assert!(rt; clients.push(entrance.admit(rt, alloc)).is_ok());
+    }
+    let last = entrance.admit(rt, alloc);
+    let doors = entrance.into_doors(rt, alloc);
+    let (passes, ()) = join(
+        rt,
+        || serves(rt, alloc, &hub, &doors, &host, None),
+        || crowd(clients, last),
+    );
+    let Some(bus) = settled(rt, alloc, hub, passes).pop() else {
+        panic!(rt; "no bus");
+    };
+    assert!(rt; bus.passes == MOST + 1);
+}
+
+#[test]
+#[tactic(auto, using(can_server::proofs::Naming::named))]
+fn the_65th_session_at_once_is_refused(rt: HostRuntime) {
+    let benches = one_bus(&rt, rt.alloc());
+    fills::<Brand, _>(&rt, rt.alloc(), benches);
+}
+
+/// A call that the record has no room for is refused; what makes none is answered.
+fn meet_full_record<R: Abort>(mut first: Client<'_, R>, mut second: Client<'_, R>) {
+    first.ask("< open can0 >< rawmode >", "< hi >< ok >< ok >");
+    for _ in 0..2 {
+        first.ask("< send 123 0 >", "< error record full >");
+        first.ask("< filter 0 >", "< error record full >");
+    }
+    first.ask("< echo >", "< echo >");
+    first.ask("< stats >", "< stats 0 0 0 0 0 0 0 0 >");
+    second.ask(
+        "< open can1 >< rawmode >",
+        "< hi >< ok >< error record full >",
+    );
+    second.ask("< echo >", "< echo >");
+}
+
+/// A server over a bus whose record holds one entry, and a host that is told of it once.
+fn is_full<N: RollName + MeterName + Send + Sync, R: Machine>(
+    rt: &R,
+    alloc: Global,
+    benches: Vec<Bench<Perfect, Open>>,
+)
+    requires { NamedFrom N.roll N.meter 0 benches.items }
+{
+    let hub = made::<N, _, _, _>(rt, alloc, benches);
+    let host = Host::new(rt);
+    let entrance = Entrance::new(rt, 2);
+    let (first, second) = (entrance.admit(rt, alloc), entrance.admit(rt, alloc));
+    let doors = entrance.into_doors(rt, alloc);
+    let (passes, ()) = join(
+        rt,
+        || serves(rt, alloc, &hub, &doors, &host, None),
+        || meet_full_record(first, second),
+    );
+    assert!(rt; host.told.load(Ordering::SeqCst) == 1);
+    let Some(bus) = settled(rt, alloc, hub, passes).pop() else {
+        panic!(rt; "no bus");
+    };
+    assert!(rt; bus.history.len() == 1);
+}
+
+#[test]
+#[tactic(auto, using(can_server::proofs::Naming::named))]
+fn a_full_record_refuses_calls_alone(rt: HostRuntime) {
+    let alloc = rt.alloc();
+    let mut bench = bench(&rt, alloc, names(&rt, alloc, "can0,can1"));
+    bench.config.limit = 1;
+    let benches = one(&rt, alloc, bench);
+    is_full::<Brand, _>(&rt, alloc, benches);
+}
