@@ -21,7 +21,7 @@ config_of s n = record { ifaces = n; ack = s.ack; reporting = if s.is_reporting 
 -- the verdicts of a source
 abbrev pub verdicts_of : Source → VerdictMap
 verdicts_of (Script script) = script
-verdicts_of Perfect = no_verdicts
+verdicts_of (Perfect perfect) = no_verdicts
 
 -- the verdicts of a run: those that some text spells where a script is named, else none
 abbrev pub AreVerdicts : {A : Type 0} → Option A → List (List ℕ) → VerdictMap → Type 0

@@ -10,7 +10,7 @@ use crate::faults::{Failure, Fault};
 use crate::files::read_script;
 use crate::notes::names_note;
 use can_bus::BusConfig;
-use can_fault::{FaultSource, Script, Verdict};
+use can_fault::{FaultSource, Perfect, Script, Verdict};
 use can_frame::{IfaceSet, Names, NamesError};
 use std::alloc::Global;
 use std::rt::Files;
@@ -21,7 +21,7 @@ pub enum Source {
     /// A script of faults.
     Script(Script),
     /// No fault: each attempt is good.
-    Perfect,
+    Perfect(Perfect),
 }
 
 impl FaultSource for Source {
@@ -32,7 +32,7 @@ impl FaultSource for Source {
     fn verdict(&mut self, attempt: u64) -> Verdict {
         match self {
             Source::Script(script) => script.verdict(attempt),
-            Source::Perfect => Verdict::Good,
+            Source::Perfect(perfect) => perfect.verdict(attempt),
         }
     }
 }
@@ -60,7 +60,7 @@ pub fn read_source<'a, H: Files>(
 {
     match bus.script {
         Some(path) => Ok(Source::Script(read_script(rt, alloc, path, bus.names, names)?)),
-        None => Ok(Source::Perfect),
+        None => Ok(Source::Perfect(Perfect)),
     }
 }
 

@@ -1,4 +1,4 @@
-ghost use Rattle.std.specs.Prelude.{◌≡◌};
+ghost use Rattle.std.specs.Prelude.{◌≡◌, IfErr, IsTrue, false};
 
 use can_audit::ReadFault;
 use can_bus::BusFault;
@@ -91,7 +91,9 @@ pub struct Telling<'e, E: Write> {
 
 impl<'e, E: Write> Telling<'e, E> {
     /// Nothing was told yet.
-    pub fn new(errors: &'e mut E) -> Telling<'e, E> {
+    pub fn new(errors: &'e mut E) -> Telling<'e, E>
+        ensures { result.has_told ≡ false }
+    {
         Telling {
             errors,
             has_told: false,
@@ -99,7 +101,10 @@ impl<'e, E: Write> Telling<'e, E> {
     }
 
     /// Tells why a part of a job was not done, where it was not.
-    pub fn pass_on(&mut self, outcome: Result<(), Failure<'_>>) {
+    pub fn pass_on(&mut self, outcome: Result<(), Failure<'_>>)
+        ensures kept { IsTrue self.old.has_told → IsTrue self.new.has_told }
+        ensures told { IfErr outcome.entry (λ _. IsTrue self.new.has_told) }
+    {
         if let Err(failure) = outcome {
             failure.tell(self.errors);
             self.has_told = true;
@@ -107,7 +112,9 @@ impl<'e, E: Write> Telling<'e, E> {
     }
 
     /// Whether a fault was told.
-    pub fn has_told(&self) -> bool {
+    pub fn has_told(&self) -> bool
+        ensures { result ≡ self.now.has_told }
+    {
         self.has_told
     }
 }

@@ -1,4 +1,6 @@
 //! The logs and records that a server leaves.
+ghost use Rattle.std.specs.Prelude.{IsTrue};
+
 use crate::bus_options::BusWord;
 use crate::buses::read_names;
 use crate::faults::{Failure, Fault, Telling};
@@ -17,7 +19,9 @@ pub fn save_all<H: Files, E: Write>(
     buses: &[BusWord<'_>],
     settled: &[Settled],
     telling: &mut Telling<'_, E>,
-) {
+)
+    ensures { IsTrue telling.old.has_told → IsTrue telling.new.has_told }
+{
     for (bus, settled) in buses.iter().zip(settled) {
         save_bus(rt, alloc, folder, bus, &settled.history, telling);
     }
@@ -30,7 +34,9 @@ fn save_bus<H: Files, E: Write>(
     bus: &BusWord<'_>,
     record: &Record,
     telling: &mut Telling<'_, E>,
-) {
+)
+    ensures { IsTrue telling.old.has_told → IsTrue telling.new.has_told }
+{
     let name = bus.first_name();
     match (
         path_in(alloc, folder, name, "log"),

@@ -1,5 +1,7 @@
-ghost use Rattle.std.specs.Prelude.{◌≡◌, length, IfOk};
+ghost use Rattle.std.specs.Prelude.{◌≡◌, length, All, IfOk, IsTrue, OnOk};
+ghost use Rattle.std.specs.Io.KnownBytes.{Appends};
 ghost use Rattle.can_server.specs.Benches.{NamedFrom};
+ghost use Rattle.can_jobs.specs.Served.{AreBenches, IsBenchOf, IsLegalEnd, IsListening, IsServed, end_line, end_lines, listening_line};
 
 use crate::bus_options::BusWord;
 use crate::buses::{Source, bus_config, read_names, read_source};
@@ -52,7 +54,9 @@ pub fn run_serve<'a, H: ServerRuntime, R: Read + Drop + Send + 'static, W: Write
     input: R,
     output: &mut W,
     errors: &mut E,
-) -> Result<bool, Failure<'a>> {
+) -> Result<bool, Failure<'a>>
+    ensures { IfOk result (λ whole. IsTrue whole → IsServed W.contents options.now output.old output.new) }
+{
     let run = ServerRun { rt, alloc, options };
     let benches = run.read_benches()?;
     let settled = run.serve_named::<Brand, _, _, _>(benches, input, output, errors)?;
@@ -74,18 +78,22 @@ struct ServerRun<'r, 'a, H: ServerRuntime> {
 
 impl<'r, 'a, H: ServerRuntime> ServerRun<'r, 'a, H> {
     // What the buses of the options are made of.
-    fn read_benches(&self) -> Result<Vec<Bench<Source, Open>>, Failure<'a>> {
+    fn read_benches(&self) -> Result<Vec<Bench<Source, Open>>, Failure<'a>>
+        ensures { IfOk result (λ benches. AreBenches self.now.options.now self.now.options.now.buses.items benches.items) }
+    {
         let mut benches = Vec::new(self.alloc);
         for bus in &self.options.buses {
             let bench = self.read_bench(*bus)?;
-            if benches.push(bench).is_err() {
+            let Ok(()) = benches.push(bench) else {
                 return Err(Failure::new(self.alloc, Fault::NoMemory));
-            }
+            };
         }
         Ok(benches)
     }
 
-    fn read_bench(&self, bus: BusWord<'a>) -> Result<Bench<Source, Open>, Failure<'a>> {
+    fn read_bench(&self, bus: BusWord<'a>) -> Result<Bench<Source, Open>, Failure<'a>>
+        ensures { IfOk result (λ bench. IsBenchOf self.now.options.now bus.entry bench) }
+    {
         let names = read_names(self.alloc, bus.names)?;
         let source = read_source(self.rt, self.alloc, bus, &names)?;
         let Ok(blanks) = Blanks::new(self.alloc, usize::from(names.count())) else {
@@ -116,6 +124,9 @@ impl<'r, 'a, H: ServerRuntime> ServerRun<'r, 'a, H> {
         errors: &mut E,
     ) -> Result<Vec<Settled>, Failure<'a>>
         requires { NamedFrom N.roll N.meter 0 benches.items }
+        ensures each { IfOk result (λ settled. length settled.items ≡ length benches.items) }
+        ensures legal { IfOk result (λ settled. All (λ s. IsLegalEnd s) settled.items) }
+        ensures listening { OnOk result (IsListening W.contents output.old output.new) }
     {
         let hub = match Hub::<N, Source, Open>::new(self.alloc, benches) {
             Ok(hub) => hub,
@@ -163,7 +174,8 @@ impl<'r, 'a, H: ServerRuntime> ServerRun<'r, 'a, H> {
         output: &mut W,
         errors: &mut E,
     ) -> Result<Vec<Vec<Pass<N>>>, Failure<'a>>
-        ensures { IfOk result (λ passes. length passes.items ≡ length hub.now) }
+        ensures passes { IfOk result (λ passes. length passes.items ≡ length hub.now) }
+        ensures listening { OnOk result (IsListening W.contents output.old output.new) }
     {
         let address = self.options.address;
         let sessions = self.options.sessions;
@@ -238,9 +250,15 @@ fn put_listening<'a, W: Write>(
     alloc: Global,
     heard: &str,
     output: &mut W,
-) -> Result<(), Failure<'a>> {
-    let written = writeln!(output, "listening {heard}").and_then(|()| output.flush());
-    written.map_err(|error| write_failure(alloc, OUTPUT, &error))
+) -> Result<(), Failure<'a>>
+    ensures { OnOk result (Appends (W.contents output.old) (W.contents output.new) (listening_line heard.now)) }
+{
+    if let Err(error) = writeln!(output, "listening {heard}") {
+        return Err(write_failure(alloc, OUTPUT, &error));
+    }
+    output
+        .flush()
+        .map_err(|error| write_failure(alloc, OUTPUT, &error))
 }
 
 // Puts out how many entries the record of each bus has.
@@ -249,15 +267,44 @@ fn put_ends<'a, W: Write>(
     buses: &[BusWord<'_>],
     settled: &[Settled],
     output: &mut W,
-) -> Result<(), Failure<'a>> {
-    for (bus, settled) in buses.iter().zip(settled) {
-        let name = bus.first_name();
-        let count = settled.history.len();
-        if let Err(error) = writeln!(output, "bus {name} entries {count}") {
-            return Err(write_failure(alloc, OUTPUT, &error));
-        }
-    }
+) -> Result<(), Failure<'a>>
+    ensures { OnOk result (Appends (W.contents output.old) (W.contents output.new) (end_lines buses.now settled.now)) }
+{
+    put_each_end(alloc, buses, settled, output)?;
     output
         .flush()
         .map_err(|error| write_failure(alloc, OUTPUT, &error))
+}
+
+fn put_each_end<'a, W: Write>(
+    alloc: Global,
+    buses: &[BusWord<'_>],
+    settled: &[Settled],
+    output: &mut W,
+) -> Result<(), Failure<'a>>
+    ensures { OnOk result (Appends (W.contents output.old) (W.contents output.new) (end_lines buses.now settled.now)) }
+{
+    let Some((bus, buses)) = buses.split_first() else {
+        return Ok(());
+    };
+    let Some((first, settled)) = settled.split_first() else {
+        return Ok(());
+    };
+    put_end(alloc, bus, first, output)?;
+    put_each_end(alloc, buses, settled, output)
+}
+
+fn put_end<'a, W: Write>(
+    alloc: Global,
+    bus: &BusWord<'_>,
+    settled: &Settled,
+    output: &mut W,
+) -> Result<(), Failure<'a>>
+    ensures { OnOk result (Appends (W.contents output.old) (W.contents output.new) (end_line bus.now settled.now)) }
+{
+    let name = bus.first_name();
+    let count = settled.history.len();
+    writeln!(output, "bus {name} entries {count}").map_err(|error| write_failure(
+        alloc, OUTPUT, &error,
+    ))
 }

@@ -1,10 +1,10 @@
 //! canbusd: simulated CAN buses in user space.
 //!
 //! `canbusd bench BUS` reads lines that open sessions, feed them commands and put frames on one bus, and
-//! writes what the sessions are told; `canbusd audit FILE` checks the record of such a run. `program` carries
-//! out a command line and answers its status; the two jobs are can_jobs'.
+//! writes what the sessions are told; `canbusd serve BUS..` serves clients over sockets; `canbusd audit FILE` checks the
+//! record of such a run. `program` carries out a command line and answers its status; the jobs are can_jobs'.
 //!
-//! What is proved here: no command line, file or input makes a function fail or run on for ever.
+//! What is proved here: no command line, file or input makes a function fail, and none but `serve` waits for others.
 #![tactic(auto)]
 
 mod program;
