@@ -18,6 +18,16 @@ use std::{thread, time};
 /// all of its sessions up.
 const AFTER_A_FAULT_MS: u64 = 100;
 
+/// Who comes in at a door.
+#[derive(Drop)]
+enum Next {
+    Guest(Guest),
+    /// The connection could not be accepted, or nobody else is let in now.
+    Nobody,
+    /// The server is closed.
+    Closed,
+}
+
 // The doors of a server.
 impl<
     'a,
@@ -32,23 +42,48 @@ impl<
     pub fn accept_all(&self, door: &Door) {
         thread::scope(thread::scope_env(), self.rt, |scope| {
             for _ in 0..door.sessions() {
-                let accepted = door.accept();
-                if self.guests.lock(self.rt).is_closed() {
-                    break;
-                }
-                let Ok(conn) = accepted else {
-                    thread::sleep(self.rt, Duration::from_millis(AFTER_A_FAULT_MS));
-                    continue;
-                };
-                let Some(guest) = self.admit(conn) else {
-                    continue;
-                };
-                let place = guest.place;
-                if scope.spawn(move || self.run_session(guest)).is_err() {
-                    self.guests.lock(self.rt).leave(place);
+                match self.next_guest(door) {
+                    Next::Guest(guest) => {
+                        let place = guest.place;
+                        if scope.spawn(move || self.run_session(guest)).is_err() {
+                            self.let_go(place);
+                        }
+                    }
+                    Next::Nobody => {}
+                    Next::Closed => break,
                 }
             }
         });
+    }
+}
+
+impl<
+    'a,
+    N: RollName + MeterName,
+    F: FaultSource + Drop,
+    G: Gate + Drop,
+    C: Clock + Watch,
+    R: Wait + time::Clock,
+> Server<'a, N, F, G, C, R> {
+    /// Waits at a door for the next connection, and takes it in.
+    fn next_guest(&self, door: &Door) -> Next {
+        let accepted = door.accept();
+        if self.guests.lock(self.rt).is_closed() {
+            return Next::Closed;
+        }
+        let Ok(conn) = accepted else {
+            thread::sleep(self.rt, Duration::from_millis(AFTER_A_FAULT_MS));
+            return Next::Nobody;
+        };
+        match self.admit(conn) {
+            Some(guest) => Next::Guest(guest),
+            None => Next::Nobody,
+        }
+    }
+
+    /// Frees the place of a guest whose thread could not be started.
+    fn let_go(&self, place: usize) {
+        self.guests.lock(self.rt).leave(place);
     }
 
     /// Takes a connection in. Where as many sessions are at work as a server has, the client is told so.

@@ -5,18 +5,17 @@ use can_meter::MeterName;
 use can_roll::RollName;
 use can_station::{Gate, Pass, Wake};
 use std::sync::Wait;
-use std::thread::Threads;
 use std::time;
 use std::time::Duration;
 
 // The driver of a bus.
 impl<
     'a,
-    N: RollName + MeterName + Send + Sync,
-    F: FaultSource + Drop + Send,
-    G: Gate + Drop + Send + Sync,
-    C: Clock + Watch + Sync,
-    R: Threads + Wait + time::Clock + Sync,
+    N: RollName + MeterName,
+    F: FaultSource + Drop,
+    G: Gate + Drop,
+    C: Clock + Watch,
+    R: Wait + time::Clock,
 > Server<'a, N, F, G, C, R> {
     /// Steps a bus while an interface has a frame to send, until its station is stopped, and hands the pass back.
     pub fn drive(&self, bus: usize) {

@@ -134,6 +134,7 @@ impl<N: RollName + MeterName, F: FaultSource + Drop, G: Gate + Drop> Hub<N, F, G
     /// How many buses there are, 1 to 16.
     pub fn count(&self) -> usize
         ensures count { result ≡ length self.now }
+        ensures few { result ≤ 16 }
         ensures good { All (λ b. AreNames b.names) self.now }
     {
         self.wires.len()

@@ -1,3 +1,5 @@
+ghost use Rattle.std.specs.Prelude.{◌≡◌, ◌≤◌, length};
+
 use can_meter::MeterName;
 use can_roll::RollName;
 use can_station::Pass;
@@ -10,10 +12,11 @@ const MOST_BUSES: usize = 16;
 #[derive(Drop)]
 pub struct Returned<N: RollName + MeterName> {
     lists: Vec<Vec<Pass<N>>>,
+    ghost one_for_each: { length lists.items ≡ 16 },
 }
 
 impl<N: RollName + MeterName> Returned<N> {
-    /// No pass, with room for so many of each bus.
+    /// No pass, with room for so many of each of the first buses.
     pub fn new(alloc: Global, buses: usize, room: usize) -> Result<Returned<N>, AllocError> {
         let mut lists = Vec::with_capacity(alloc, MOST_BUSES)?;
         for bus in 0..MOST_BUSES {
@@ -31,7 +34,10 @@ impl<N: RollName + MeterName> Returned<N> {
     }
 
     /// The lists of so many buses.
-    pub fn into_lists(self, buses: usize) -> Vec<Vec<Pass<N>>> {
+    pub fn into_lists(self, buses: usize) -> Vec<Vec<Pass<N>>>
+        requires { buses ≤ 16 }
+        ensures { length result.items ≡ buses }
+    {
         let mut lists = self.lists;
         lists.truncate(buses);
         lists

@@ -69,7 +69,16 @@ impl<
             Ok(())
         })
     }
+}
 
+impl<
+    'a,
+    N: RollName + MeterName,
+    F: FaultSource + Drop,
+    G: Gate + Drop,
+    C: Clock + Watch,
+    R: Wait + time::Clock,
+> Server<'a, N, F, G, C, R> {
     /// Ends all other threads: no session is at work any more.
     fn finish(&self, until: Option<&UnixStream>) {
         let _ = self.guests.lock(self.rt).close();

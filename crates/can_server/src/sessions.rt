@@ -66,15 +66,35 @@ impl<
         };
         let place = &place;
         thread::scope(thread::scope_env(), self.rt, |scope| {
-            if scope
+            let delivers = scope
                 .spawn(move || self.deliver_all(talk, conn, place))
-                .is_ok()
-            {
-                self.hear_on(talk, conn);
-            }
-            talk.lock(self.rt).end();
-            self.tell_full(place.station);
+                .is_ok();
+            self.hear_out(talk, conn, place, delivers);
         });
+    }
+}
+
+impl<
+    'a,
+    N: RollName + MeterName,
+    F: FaultSource + Drop,
+    G: Gate + Drop,
+    C: Clock + Watch,
+    R: Wait + time::Clock,
+> Server<'a, N, F, G, C, R> {
+    /// Reads to the end, if the items are delivered beside, and ends the session.
+    fn hear_out(
+        &self,
+        talk: &Mutex<Talk<'_, N, F, G, R>>,
+        conn: &Conn,
+        place: &Place<'_, N, F, G>,
+        delivers: bool,
+    ) {
+        if delivers {
+            self.hear_on(talk, conn);
+        }
+        talk.lock(self.rt).end();
+        self.tell_full(place.station);
     }
 
     /// Reads until the session is raw: where its socket is, or none if it ended before.
