@@ -52,7 +52,6 @@ fn dialogue<N: RollName + MeterName, R: Wait + Abort>(
 
 /// A frame goes from a session on can0 to one on can1.
 #[test]
-#[tactic(auto, using(can_server::proofs::Naming::named))]
 fn a_frame_goes_from_one_session_to_the_other(rt: HostRuntime) {
     let benches = one_bus(&rt, rt.alloc());
     dialogue::<Brand, _>(&rt, rt.alloc(), benches);

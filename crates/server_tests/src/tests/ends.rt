@@ -46,7 +46,6 @@ fn ends<N: RollName + MeterName + Send + Sync, R: Machine>(
 }
 
 #[test]
-#[tactic(auto, using(can_server::proofs::Naming::named))]
 fn a_server_that_is_told_ends_all_sessions(rt: HostRuntime) -> io::Result<()> {
     let (told, until) = UnixStream::pair(&rt)?;
     let benches = one_bus(&rt, rt.alloc());

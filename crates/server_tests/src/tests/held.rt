@@ -130,7 +130,6 @@ fn hub_goes_on<N: RollName + MeterName + Send + Sync, R: Machine>(
 }
 
 #[test]
-#[tactic(auto, using(can_server::proofs::Naming::named))]
 fn a_bus_goes_on_while_another_is_held(rt: HostRuntime) {
     let alloc = rt.alloc();
     let signals = Signals::new();
@@ -206,7 +205,6 @@ fn sessions_meet<N: RollName + MeterName + Send + Sync, R: Machine>(
 }
 
 #[test]
-#[tactic(auto, using(can_server::proofs::Naming::named))]
 fn two_sessions_are_served_at_once(rt: HostRuntime) {
     let alloc = rt.alloc();
     let signals = Signals::new();

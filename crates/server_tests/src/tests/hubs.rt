@@ -21,7 +21,6 @@ fn fault_of_hub<N: RollName + MeterName>(
 }
 
 /// The same, for a hub that nobody uses.
-#[tactic(auto, using(can_server::proofs::Naming::named))]
 fn fault_of(alloc: Global, benches: Vec<Bench<Perfect, Open>>) -> Option<BusFault> {
     fault_of_hub::<Brand>(alloc, benches)
 }
@@ -103,7 +102,6 @@ fn finds<N: RollName + MeterName, R: Abort>(
 }
 
 #[test]
-#[tactic(auto, using(can_server::proofs::Naming::named))]
 fn a_name_is_found_by_its_bus_and_place(rt: HostRuntime) {
     let benches = two_buses(&rt, rt.alloc());
     finds::<Brand, _>(&rt, rt.alloc(), benches);
@@ -128,7 +126,6 @@ fn reads_nothing<N: RollName + MeterName, R: Wait + Abort>(
 }
 
 #[test]
-#[tactic(auto, using(can_server::proofs::Naming::named))]
 fn a_gauge_of_a_new_hub_reads_nothing(rt: HostRuntime) {
     let benches = two_buses(&rt, rt.alloc());
     reads_nothing::<Brand, _>(&rt, rt.alloc(), benches);
@@ -174,7 +171,6 @@ fn settled<N: RollName + MeterName, R: Wait + Abort>(
 }
 
 #[test]
-#[tactic(auto, using(can_server::proofs::Naming::named))]
 fn exchanged_passes_are_refused(rt: HostRuntime) {
     let benches = two_buses(&rt, rt.alloc());
     let outcome = settled::<Brand, _>(&rt, rt.alloc(), benches, true);
@@ -192,7 +188,6 @@ fn has_opened(bus: &Settled, wanted: Iface) -> bool {
 }
 
 #[test]
-#[tactic(auto, using(can_server::proofs::Naming::named))]
 fn each_bus_is_settled_with_its_own_passes(rt: HostRuntime) {
     let benches = two_buses(&rt, rt.alloc());
     let Ok(buses) = settled::<Brand, _>(&rt, rt.alloc(), benches, false) else {

@@ -54,7 +54,6 @@ fn fills<N: RollName + MeterName + Send + Sync, R: Machine>(
 }
 
 #[test]
-#[tactic(auto, using(can_server::proofs::Naming::named))]
 fn the_65th_session_at_once_is_refused(rt: HostRuntime) {
     let benches = one_bus(&rt, rt.alloc());
     fills::<Brand, _>(&rt, rt.alloc(), benches, Entrance::new(&rt, MOST + 1));
@@ -102,7 +101,6 @@ fn is_full<N: RollName + MeterName + Send + Sync, R: Machine>(
 }
 
 #[test]
-#[tactic(auto, using(can_server::proofs::Naming::named))]
 fn a_full_record_refuses_calls_alone(rt: HostRuntime) {
     let alloc = rt.alloc();
     let mut bench = bench(&rt, alloc, names(&rt, alloc, "can0,can1"));

@@ -55,7 +55,6 @@ fn serves_on<N: RollName + MeterName + Send + Sync, R: Machine>(
 }
 
 #[test]
-#[tactic(auto, using(can_server::proofs::Naming::named))]
 fn sessions_outlive_one_whose_client_goes_away(rt: HostRuntime) {
     let benches = one_bus(&rt, rt.alloc());
     serves_on::<Brand, _>(&rt, rt.alloc(), benches, Entrance::new(&rt, 4));
@@ -99,7 +98,6 @@ fn serves_silent<N: RollName + MeterName + Send + Sync, R: Machine>(
 }
 
 #[test]
-#[tactic(auto, using(can_server::proofs::Naming::named))]
 fn sessions_go_on_beside_a_client_that_never_reads(rt: HostRuntime) -> io::Result<()> {
     let alloc = rt.alloc();
     let path = socket_path(&rt, "peers", process::id(rt.process()))?;

@@ -30,7 +30,6 @@ fn attaches<N: RollName + MeterName, R: Wait + Abort>(
 }
 
 #[test]
-#[tactic(auto, using(can_server::proofs::Naming::named))]
 fn a_port_enters_the_bus_of_the_name(rt: HostRuntime) {
     let benches = two_buses(&rt, rt.alloc());
     attaches::<Brand, _>(&rt, rt.alloc(), benches);
@@ -56,7 +55,6 @@ fn attaches_often<N: RollName + MeterName, R: Wait + Abort>(
 }
 
 #[test]
-#[tactic(auto, using(can_server::proofs::Naming::named))]
 fn a_bus_has_4096_passes(rt: HostRuntime) {
     let benches = two_buses(&rt, rt.alloc());
     attaches_often::<Brand, _>(&rt, rt.alloc(), benches);

@@ -53,7 +53,6 @@ fn log<R: Abort>(rt: &R, alloc: Global, record: &Record) -> Vec<u8> {
 }
 
 #[test]
-#[tactic(auto, using(can_server::proofs::Naming::named))]
 fn a_frame_crosses_a_server_over_tcp(rt: HostRuntime) {
     let alloc = rt.alloc();
     let benches = one_bus(&rt, alloc);
@@ -63,7 +62,6 @@ fn a_frame_crosses_a_server_over_tcp(rt: HostRuntime) {
 }
 
 #[test]
-#[tactic(auto, using(can_server::proofs::Naming::named))]
 fn a_frame_crosses_a_server_over_a_unix_path(rt: HostRuntime) -> io::Result<()> {
     let alloc = rt.alloc();
     let path = socket_path(&rt, "rows", process::id(rt.process()))?;

@@ -94,7 +94,6 @@ fn last_bit<N: RollName + MeterName, R: Wait + Abort>(
 
 /// A session's gauge reads what the station published, attempt by attempt.
 #[test]
-#[tactic(auto, using(can_server::proofs::Naming::named))]
 fn a_session_is_told_its_error_counters(rt: HostRuntime) {
     let alloc = rt.alloc();
     let (names, faults) = (
