@@ -4,7 +4,7 @@ ghost use Rattle.std.specs.Duration.{as_nanos};
 
 use crate::bus_options::BusWord;
 use can_frame::Moment;
-use can_server::{Clock, Watch};
+use can_serving::{Clock, Watch};
 use std::io::Write;
 use std::sync::{Mutex, Wait};
 use std::time;

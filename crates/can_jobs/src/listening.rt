@@ -2,7 +2,7 @@
 
 use crate::faults::{Failure, Fault};
 use crate::notes::reason_note;
-use can_server::{Door, Listener};
+use can_serving::{Door, Listener};
 use std::alloc::{AllocError, Global};
 use std::io::{Error, ErrorKind};
 use std::net::{Net, TcpListener, TcpStream};

@@ -142,7 +142,7 @@ impl<N: RollName + MeterName, F: FaultSource + Drop, G: Gate + Drop> Hub<N, F, G
 
     /// The station of a bus.
     #[tactic(auto, using(crate::proofs::Places::number_at))]
-    pub(crate) fn station(&self, bus: usize) -> &Station<N, F, G>
+    pub fn station(&self, bus: usize) -> &Station<N, F, G>
         requires { bus < length self.now }
         ensures { result.now ≡ bus }
     {
@@ -150,7 +150,7 @@ impl<N: RollName + MeterName, F: FaultSource + Drop, G: Gate + Drop> Hub<N, F, G
     }
 
     /// How many milliseconds the driver of a bus sleeps after each step.
-    pub(crate) fn pace_ms(&self, bus: usize) -> u32
+    pub fn pace_ms(&self, bus: usize) -> u32
         requires { bus < length self.now }
     {
         self.wires[bus].pace_ms
@@ -169,7 +169,7 @@ impl<N: RollName + MeterName, F: FaultSource + Drop, G: Gate + Drop> Hub<N, F, G
     }
 
     /// Stops the stations of all buses.
-    pub(crate) fn stop_all<R: Wait>(&self, rt: &R) {
+    pub fn stop_all<R: Wait>(&self, rt: &R) {
         for wire in &self.wires {
             wire.station.stop(rt);
         }

@@ -5,23 +5,10 @@
 //! end [`Hub::settle`] takes the passes back and hands out the record of each bus.
 #![tactic(auto)]
 
-mod accepting;
 pub mod benches;
-pub mod conns;
-pub mod doors;
-mod driving;
-mod guests;
 pub mod hubs;
 pub mod ports;
-mod returned;
-mod server;
-pub mod serving;
-mod sessions;
-mod talks;
 
 pub use benches::Bench;
-pub use conns::Conn;
-pub use doors::{Door, Listener};
 pub use hubs::{Hub, SettleFault};
 pub use ports::PassPort;
-pub use serving::{Clock, Watch, serve};

@@ -1,11 +1,10 @@
 use crate::conns::{Conn, Out};
-use crate::hubs::Hub;
-use crate::ports::PassPort;
 use can_bus::SocketId;
 use can_fault::FaultSource;
 use can_frame::Moment;
 use can_meter::MeterName;
 use can_roll::RollName;
+use can_server::{Hub, PassPort};
 use can_session::{Session, Stage};
 use can_station::{Gate, Pass, Station};
 use std::alloc::{AllocError, Global};

@@ -1,0 +1,24 @@
+//! The threads that serve clients over the buses of a hub.
+//!
+//! [`serve`] takes connections in at its doors. Each is a session of two threads, one that reads what the client says
+//! and one that delivers its items, over a pass of the bus that it opens. Each bus has a driver, which steps it while
+//! an interface has a frame to send. At the end all passes are handed back, for the hub to settle.
+//!
+//! What is proved here: the sessions are can_session's, each with a pass of its own, and one list of passes is handed
+//! back for each bus. Not promised: that a peer gets anything, how long anybody waits, that no two wait for each other.
+#![tactic(auto)]
+
+mod accepting;
+pub mod conns;
+pub mod doors;
+mod driving;
+mod guests;
+mod returned;
+mod server;
+pub mod serving;
+mod sessions;
+mod talks;
+
+pub use conns::Conn;
+pub use doors::{Door, Listener};
+pub use serving::{Clock, Watch, serve};
