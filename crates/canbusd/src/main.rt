@@ -12,11 +12,14 @@ mod program;
 use can_jobs::{Failure, Fault};
 use program::{fail, run_words};
 use std::io::ErrorKind;
+use std::net::{TcpListener, TcpStream};
 use std::process::ExitCode;
 use std::rt::Env;
 use std::{env, io};
 
 fn main(rt: HostRuntime) -> ExitCode {
+    // The checker has to meet the sockets of the system before a server is made over them.
+    let _types: Option<(TcpListener, TcpStream)> = None;
     let alloc = rt.alloc();
     let status = match read_words(&rt) {
         Ok(words) => run_words(
