@@ -1,9 +1,10 @@
 //! Buses that are refused, and which name or limit it was.
-use super::support::runs;
+use super::support::{Sockets, runs};
 use std::test::Fail;
 
 #[test]
 fn refuses_buses(rt: HostRuntime) -> Result<(), Fail> {
+    let _sockets: Sockets = None;
     let alloc = rt.alloc();
     // The words, and what is told of them.
     let table = [

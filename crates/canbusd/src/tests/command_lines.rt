@@ -1,5 +1,5 @@
 //! Command lines that are refused, and those that ask for help.
-use super::support::run;
+use super::support::{Sockets, run};
 use can_jobs::ServerRuntime;
 use std::alloc::Global;
 use std::process::Abort;
@@ -21,6 +21,7 @@ fn tells(
 
 #[test]
 fn reads_command_lines(rt: HostRuntime) -> Result<(), Fail> {
+    let _sockets: Sockets = None;
     let alloc = rt.alloc();
     let faulty = [
         "canbusd",

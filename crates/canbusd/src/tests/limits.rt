@@ -1,5 +1,7 @@
 //! Runs at the limits: the longest lists and queues, the most sessions and interfaces, long runs and their records.
-use super::support::{Owned, TWO_SESSIONS, TWO_STARTED, carries_out, joined, run, runs, times};
+use super::support::{
+    Owned, Sockets, TWO_SESSIONS, TWO_STARTED, carries_out, joined, run, runs, times,
+};
 use std::alloc::Global;
 use std::fs;
 use std::test::Fail;
@@ -50,6 +52,7 @@ fn of_each_session(alloc: Global, line: &str) -> Result<String, Fail> {
 // A message has at most 1,024 bytes, so these have one digit each: the last alone lets 123 pass.
 #[test]
 fn a_message_sets_250_filters(rt: HostRuntime) -> Result<(), Fail> {
+    let _sockets: Sockets = None;
     let alloc = rt.alloc();
     let others = times(alloc, " 1 F", 249)?;
     let sent = "feed 1 < send 123 0 >< send 124 0 >\nattempt\nattempt\ndrain 2\n";
@@ -65,6 +68,7 @@ const OWN_DONE: &str = "1 < ok >\ntried can0 0 done - -\n";
 
 #[test]
 fn sixty_four_sessions_hear_a_frame(rt: HostRuntime) -> Result<(), Fail> {
+    let _sockets: Sockets = None;
     let alloc = rt.alloc();
     let opened = of_each_session(alloc, "session S\nfeed S < open can0 >< rawmode >\n")?;
     let greeted = of_each_session(alloc, "S < hi >\nS < ok >< ok >\n")?;
@@ -84,6 +88,7 @@ fn sixty_four_sessions_hear_a_frame(rt: HostRuntime) -> Result<(), Fail> {
 
 #[test]
 fn a_transmit_queue_holds_1024_frames(rt: HostRuntime) -> Result<(), Fail> {
+    let _sockets: Sockets = None;
     let alloc = rt.alloc();
     let sent = times(alloc, "feed 1 < send 123 0 >\n", 1025)?;
     let rest = joined(alloc, &[&sent, "feed 1 < stats >\n"])?;
@@ -94,6 +99,7 @@ fn a_transmit_queue_holds_1024_frames(rt: HostRuntime) -> Result<(), Fail> {
 
 #[test]
 fn a_receive_queue_holds_65536_items(rt: HostRuntime) -> Result<(), Fail> {
+    let _sockets: Sockets = None;
     let alloc = rt.alloc();
     let rounds = times(alloc, "feed 1 < send 123 0 >\nattempt\n", 65_537)?;
     let input = joined(alloc, &[TWO_SESSIONS, &rounds, "feed 2 < stats >\n"])?;
@@ -122,6 +128,7 @@ const FIRST_AND_LAST: &str =
 
 #[test]
 fn a_bus_has_sixteen_interfaces(rt: HostRuntime) -> Result<(), Fail> {
+    let _sockets: Sockets = None;
     let alloc = rt.alloc();
     let names = names_from(alloc, 0)?;
     let others = names_from(alloc, 1)?;
@@ -154,6 +161,7 @@ fn rounds_told(alloc: Global, count: u32) -> Result<String, Fail> {
 
 #[test]
 fn a_long_run_has_a_long_record(rt: HostRuntime) -> Result<(), Fail> {
+    let _sockets: Sockets = None;
     let alloc = rt.alloc();
     let rounds = times(alloc, "feed 1 < send 123 0 >\nattempt\ndrain 2\n", 4000)?;
     let input = joined(alloc, &[TWO_SESSIONS, &rounds])?;

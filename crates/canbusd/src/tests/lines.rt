@@ -1,6 +1,6 @@
 //! Lines that are carried out, and the limits of lines and of the input.
 use super::support::{
-    Owned, TWO_SESSIONS, TWO_STARTED, carries_out, joined, runs, runs_however_cut, times,
+    Owned, Sockets, TWO_SESSIONS, TWO_STARTED, carries_out, joined, runs, runs_however_cut, times,
 };
 use can_jobs::ServerRuntime;
 use std::alloc::Global;
@@ -9,6 +9,7 @@ use std::test::Fail;
 
 #[test]
 fn carries_out_lines(rt: HostRuntime) -> Result<(), Fail> {
+    let _sockets: Sockets = None;
     let alloc = rt.alloc();
     // The words, what follows the two sessions, and what they write then.
     let table = [
@@ -77,6 +78,7 @@ fn carries_out_lines(rt: HostRuntime) -> Result<(), Fail> {
 
 #[test]
 fn nobody_acknowledges_without_a_receiver(rt: HostRuntime) -> Result<(), Fail> {
+    let _sockets: Sockets = None;
     let alloc = rt.alloc();
     let attempts = times(alloc, "attempt\n", 17)?;
     let started = "session 1\nfeed 1 < open can0 >< rawmode >< send 123 0 >\n";
@@ -102,6 +104,7 @@ const OTHER: &str =
 
 #[test]
 fn refuses_lines(rt: HostRuntime) -> Result<(), Fail> {
+    let _sockets: Sockets = None;
     let alloc = rt.alloc();
     // A line that is refused, how it is shown, and what is told of it.
     let faulty = [
@@ -145,6 +148,7 @@ fn refuses_lines(rt: HostRuntime) -> Result<(), Fail> {
 
 #[test]
 fn tells_lines_far_down(rt: HostRuntime) -> Result<(), Fail> {
+    let _sockets: Sockets = None;
     let alloc = rt.alloc();
     // So many lines of 8 bytes stand before a line that is refused: more than are kept.
     for count in [0, 1, 1023, 1024, 1025, 2048, 2049, 5000] {
@@ -161,6 +165,7 @@ fn tells_lines_far_down(rt: HostRuntime) -> Result<(), Fail> {
 
 #[test]
 fn keeps_limits_of_lines(rt: HostRuntime) -> Result<(), Fail> {
+    let _sockets: Sockets = None;
     let alloc = rt.alloc();
     // What stands before and behind so many bytes, what is told then, the errors and the status.
     let table = [
@@ -187,6 +192,7 @@ fn keeps_limits_of_lines(rt: HostRuntime) -> Result<(), Fail> {
 
 #[test]
 fn tells_lines_that_are_too_long(rt: HostRuntime) -> Result<(), Fail> {
+    let _sockets: Sockets = None;
     let alloc = rt.alloc();
     // 72 bytes of a line are shown.
     let shown = times(alloc, "#", 72)?;
@@ -236,6 +242,7 @@ fn answers(
 
 #[test]
 fn tells_long_lines(rt: HostRuntime) -> Result<(), Fail> {
+    let _sockets: Sockets = None;
     let alloc = rt.alloc();
     // A line of 4,097 bytes that would be good if it were shorter, of which 72 are shown.
     let bytes = times(alloc, "x", 4090)?;
@@ -251,6 +258,7 @@ fn tells_long_lines(rt: HostRuntime) -> Result<(), Fail> {
 
 #[test]
 fn keeps_limits_of_the_input(rt: HostRuntime) -> Result<(), Fail> {
+    let _sockets: Sockets = None;
     let alloc = rt.alloc();
     let remark = times(alloc, "#", 4095)?;
     let remark = joined(alloc, &[&remark, "\n"])?;

@@ -1,5 +1,5 @@
 //! Records that are written and audited.
-use super::support::{carries_out, runs};
+use super::support::{Sockets, carries_out, runs};
 use std::fs;
 use std::test::Fail;
 
@@ -20,6 +20,7 @@ end 7
 
 #[test]
 fn writes_and_audits_records(rt: HostRuntime) -> Result<(), Fail> {
+    let _sockets: Sockets = None;
     let alloc = rt.alloc();
     let rest = "feed 1 < send 123 2 1 ff >\nat 0.000001\nattempt\ndrain 2\nfeed 2 < close >\n";
     let wanted = "tried can0 0 done can1 -\n2 < frame 123 0.000001 01FF >\n2 < closed 0 0 >\n";
@@ -61,6 +62,7 @@ fn writes_and_audits_records(rt: HostRuntime) -> Result<(), Fail> {
 
 #[test]
 fn tells_what_is_wrong_with_records(rt: HostRuntime) -> Result<(), Fail> {
+    let _sockets: Sockets = None;
     let alloc = rt.alloc();
     // What is put in place of what, and what is told then.
     let table = [

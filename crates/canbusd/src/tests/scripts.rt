@@ -1,5 +1,5 @@
 //! Scripts that are followed, and those that are refused.
-use super::support::{carries_out, joined, runs, times};
+use super::support::{Sockets, carries_out, joined, runs, times};
 use can_jobs::ServerRuntime;
 use std::alloc::Global;
 use std::fs;
@@ -45,6 +45,7 @@ fn goes_off(
 
 #[test]
 fn follows_scripts(rt: HostRuntime) -> Result<(), Fail> {
+    let _sockets: Sockets = None;
     let alloc = rt.alloc();
     // The script, what follows the two sessions, and what they write then.
     let table = [
@@ -89,6 +90,7 @@ fn follows_scripts(rt: HostRuntime) -> Result<(), Fail> {
 
 #[test]
 fn reports_faults_where_it_is_told_to(rt: HostRuntime) -> Result<(), Fail> {
+    let _sockets: Sockets = None;
     let alloc = rt.alloc();
     fs::write(&rt, "reported.script", b"0 global bit")?;
     let asked =
@@ -108,6 +110,7 @@ fn reports_faults_where_it_is_told_to(rt: HostRuntime) -> Result<(), Fail> {
 
 #[test]
 fn tells_faults_of_scripts(rt: HostRuntime) -> Result<(), Fail> {
+    let _sockets: Sockets = None;
     let alloc = rt.alloc();
     // The script, the words, and what is told of them.
     let faulty = [
@@ -153,6 +156,7 @@ fn tells_faults_of_scripts(rt: HostRuntime) -> Result<(), Fail> {
 
 #[test]
 fn tells_why_scripts_are_not_opened(rt: HostRuntime) -> Result<(), Fail> {
+    let _sockets: Sockets = None;
     let alloc = rt.alloc();
     let missing = [
         (

@@ -1,5 +1,5 @@
 //! Servers: what they are refused, how they end, and what a run leaves.
-use super::support::{run, runs};
+use super::support::{Sockets, run, runs};
 use can_jobs::ServerRuntime;
 use std::io::{Read, Write};
 use std::net::{Shutdown, TcpListener};
@@ -13,6 +13,7 @@ const NOTHING: &[u8] = b"";
 
 #[test]
 fn refuses_buses_and_addresses(rt: HostRuntime) -> Result<(), Fail> {
+    let _sockets: Sockets = None;
     let alloc = rt.alloc();
     // The words, and what is told of them.
     let table = [
@@ -57,6 +58,7 @@ fn refuses_buses_and_addresses(rt: HostRuntime) -> Result<(), Fail> {
 
 #[test]
 fn leaves_what_stands_at_an_address(rt: HostRuntime) -> Result<(), Fail> {
+    let _sockets: Sockets = None;
     let alloc = rt.alloc();
     let taken = TcpListener::bind(&rt, "127.0.0.1:0")?;
     let address = taken.local_addr()?;
@@ -87,6 +89,7 @@ fn leaves_what_stands_at_an_address(rt: HostRuntime) -> Result<(), Fail> {
 
 #[test]
 fn ends_with_its_input(rt: HostRuntime) -> Result<(), Fail> {
+    let _sockets: Sockets = None;
     let alloc = rt.alloc();
     let line = "canbusd serve --until-eof --listen ./short can0,can1 can2 can3@";
     let told = "canbusd: cannot open \n  : No such file or directory (os error 2)\n";
@@ -114,6 +117,7 @@ fn ends_with_its_input(rt: HostRuntime) -> Result<(), Fail> {
 
 #[test]
 fn tells_files_that_are_not_written(rt: HostRuntime) -> Result<(), Fail> {
+    let _sockets: Sockets = None;
     let alloc = rt.alloc();
     let line = "canbusd serve --until-eof --out none --listen ./lost can0 can1";
     let told = "canbusd: cannot open none/can0.log
@@ -200,9 +204,20 @@ fn talk<R: Abort + ServerRuntime>(rt: &R) {
 
 #[test]
 fn serves_two_clients(rt: HostRuntime) -> Result<(), Fail> {
+    let _sockets: Sockets = None;
     let alloc = rt.alloc();
     let line = "canbusd serve --sessions 2 --out . --listen ./talk can0,can1";
-    let (ended, ()) = thread::join(&rt, || run(&rt, alloc, line, NOTHING), || talk(&rt));
+    let (ended, ()) = thread::join(
+        &rt,
+        || {
+            let _sockets: Sockets = None;
+            run(&rt, alloc, line, NOTHING)
+        },
+        || {
+            let _sockets: Sockets = None;
+            talk(&rt)
+        },
+    );
     let ended = ended?;
     // Two sockets, a frame, its attempt and what the second socket receives of it, and both are closed.
     let told = "listening ./talk\nbus can0 entries 7\n";
@@ -232,9 +247,20 @@ fn fill<R: Abort + ServerRuntime>(rt: &R) {
 
 #[test]
 fn tells_once_that_a_record_is_full(rt: HostRuntime) -> Result<(), Fail> {
+    let _sockets: Sockets = None;
     let alloc = rt.alloc();
     let line = "canbusd serve --limit 2 --sessions 1 --listen ./full can0,can1";
-    let (ended, ()) = thread::join(&rt, || run(&rt, alloc, line, NOTHING), || fill(&rt));
+    let (ended, ()) = thread::join(
+        &rt,
+        || {
+            let _sockets: Sockets = None;
+            run(&rt, alloc, line, NOTHING)
+        },
+        || {
+            let _sockets: Sockets = None;
+            fill(&rt)
+        },
+    );
     let ended = ended?;
     let told = "listening ./full\nbus can0 entries 2\n";
     assert_eq!(&rt; ended.output.as_slice(), told.as_bytes());
@@ -258,13 +284,20 @@ fn sees_the_end<R: Abort + ServerRuntime>(rt: &R, input: &UnixStream) {
 
 #[test]
 fn the_end_of_the_input_ends_sessions(rt: HostRuntime) -> Result<(), Fail> {
+    let _sockets: Sockets = None;
     let alloc = rt.alloc();
-    let (ours, theirs) = UnixStream::pair(&rt)?;
     let line = "canbusd serve --until-eof --listen ./ended can0,can1";
+    let (ours, theirs) = UnixStream::pair(&rt)?;
     let (ended, ()) = thread::join(
         &rt,
-        || run(&rt, alloc, line, theirs),
-        || sees_the_end(&rt, &ours),
+        || {
+            let _sockets: Sockets = None;
+            run(&rt, alloc, line, theirs)
+        },
+        || {
+            let _sockets: Sockets = None;
+            sees_the_end(&rt, &ours)
+        },
     );
     let ended = ended?;
     // A socket was opened and closed.

@@ -1,5 +1,5 @@
 //! Streams and files that fail.
-use super::support::{runs, words_of};
+use super::support::{Sockets, runs, words_of};
 use crate::program::run_words;
 use can_jobs::{Fault, read_text};
 use std::test::Fail;
@@ -7,6 +7,7 @@ use test_streams::{Closed, Pieces};
 
 #[test]
 fn tells_faults(rt: HostRuntime) -> Result<(), Fail> {
+    let _sockets: Sockets = None;
     let alloc = rt.alloc();
     let broken = Pieces {
         rest: b"session 1\nsession",
@@ -32,6 +33,7 @@ fn tells_faults(rt: HostRuntime) -> Result<(), Fail> {
 // What is written is kept until the end, so it is only there that the output is found closed.
 #[test]
 fn makes_no_record_where_the_last_flush_fails(rt: HostRuntime) -> Result<(), Fail> {
+    let _sockets: Sockets = None;
     let alloc = rt.alloc();
     let words = words_of(alloc, "canbusd bench --record late.rec can0")?;
     let mut errors = Vec::new(alloc);

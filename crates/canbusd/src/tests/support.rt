@@ -4,8 +4,12 @@ use can_jobs::ServerRuntime;
 use std::alloc::Global;
 use std::io;
 use std::io::Read;
+use std::net::{TcpListener, TcpStream};
 use std::process::Abort;
 use std::test::Fail;
+
+/// The sockets of the system. The checker has to meet their types in each test that runs a command line.
+pub type Sockets = Option<(TcpListener, TcpStream)>;
 
 /// A reader of a text that it owns, in pieces of so many bytes.
 #[derive(Drop)]
