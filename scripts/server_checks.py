@@ -100,7 +100,13 @@ def sessions_that_come_and_go():
     openings = ["", "< open can0 >", "< open can0 >< rawmode >< send 123 1 2 >", "< open can1 >< rawmode >< close >",
                 "<<<>>> \0 < send", "< open can0 >< rawmode >" + "< send 7FF 8 1 2 3 4 5 6 7 8 >" * 50]
     with serving("--pace", "0", "--txqueue", "1024", "can0,can1") as server:
-        before = server.held()
+        # All threads of the server stand once somebody was greeted and nothing changes any more.
+        with contextlib.closing(Plain(server)) as visitor:
+            visitor.text()
+        before, earlier = server.held(), None
+        while before != earlier:
+            time.sleep(0.2)
+            before, earlier = server.held(), before
 
         def visit(first):
             for number in range(first, first + 250):
