@@ -272,7 +272,7 @@ fn keeps_limits_of_the_input(rt: HostRuntime) -> Result<(), Fail> {
         (16_777_216, 1, too_long, 1),
     ];
     for (len, size, errors, status) in table {
-        let text = String::from_str(alloc, &remarks[..remarks.len().min(len)])?;
+        let text = String::from_str(alloc, remarks.get(..len).unwrap_or(""))?;
         let wanted = ("", errors, status);
         let input = Owned::new(text, size);
         runs(&rt, alloc, "canbusd bench can0", input, wanted)?;
