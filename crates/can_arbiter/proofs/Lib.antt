@@ -1,2 +1,3 @@
 pub mod Scanning
 pub mod Heading
+pub mod Ranking

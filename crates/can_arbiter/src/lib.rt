@@ -7,10 +7,12 @@
 #![tactic(auto)]
 
 pub mod arbiter;
+pub mod index;
 pub mod laws;
 pub mod scan;
 
 pub use arbiter::Arbiter;
+pub use index::IndexArbiter;
 pub use scan::ScanArbiter;
 
 #[cfg(test)]

@@ -1,4 +1,4 @@
-use crate::{Arbiter, ScanArbiter};
+use crate::{Arbiter, IndexArbiter, ScanArbiter};
 use can_frame::{CanId, Frame, Iface};
 
 // An identifier, and whether the frame is a remote one.
@@ -41,24 +41,57 @@ fn frames_go_in_the_order_of_their_bits(rt: HostRuntime) {
     ];
     for (can0, can1, first) in rows {
         assert_eq!(rt;
-            first_of::<ScanArbiter>(can0, can1),
-            Some(first),
+            (
+                first_of::<ScanArbiter>(can0, can1),
+                first_of::<IndexArbiter>(can0, can1)
+            ),
+            (Some(first), Some(first)),
             "{can0:?} {can1:?}"
         );
     }
 }
 
+// Who goes first after each of some changes: the interface and the key that it gets or, without one, loses.
+fn firsts_of<A: Arbiter>(changes: [(u8, Option<u32>); 9]) -> [Option<u8>; 9] {
+    let mut arbiter = A::new();
+    let mut firsts = [None; 9];
+    for (place, (number, key)) in changes.into_iter().enumerate() {
+        let Some(iface) = Iface::new(number) else {
+            continue;
+        };
+        match key {
+            Some(key) => arbiter.set(iface, key),
+            None => arbiter.clear(iface),
+        }
+        firsts[place] = arbiter.winner().map(|iface| iface.number());
+    }
+    firsts
+}
+
 #[test]
-fn cleared_interfaces_do_not_win(rt: HostRuntime) {
-    let mut arbiter = ScanArbiter::new();
-    assert_eq!(rt; arbiter.winner(), None);
-    let (low, high) = (Iface::new(3), Iface::new(15));
-    let (low, high) = (low.expect(&rt, "below 16"), high.expect(&rt, "below 16"));
-    arbiter.set(high, 7);
-    arbiter.set(low, 8);
-    assert_eq!(rt; arbiter.winner(), Some(high));
-    arbiter.clear(high);
-    assert_eq!(rt; arbiter.winner(), Some(low));
-    arbiter.clear(low);
-    assert_eq!(rt; arbiter.winner(), None);
+fn a_change_of_keys_changes_who_is_first(rt: HostRuntime) {
+    let changes = [
+        (15, None),
+        (15, Some(7)),
+        (3, Some(8)),
+        (0, Some(7)),
+        (3, Some(u32::MAX)),
+        (0, None),
+        (3, Some(7)),
+        (3, None),
+        (15, None),
+    ];
+    let firsts = [
+        None,
+        Some(15),
+        Some(15),
+        Some(0),
+        Some(0),
+        Some(15),
+        Some(3),
+        Some(15),
+        None,
+    ];
+    assert_eq!(rt; firsts_of::<ScanArbiter>(changes), firsts);
+    assert_eq!(rt; firsts_of::<IndexArbiter>(changes), firsts);
 }

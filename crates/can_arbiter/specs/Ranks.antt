@@ -1,0 +1,24 @@
+use Rattle.std.specs.Prelude.{◌≢◌, ◌==◌, ◌<◌, ◌≡◌, ◌%◌, ◌/◌, ℕ, List, [], ◌∷◌, Option, Some, None, cond, map, length}
+use Rattle.std.specs.List.{range_with_len}
+use mathlib.Core.Path.{refl}
+
+-- The ranks of the interfaces that hold a key: a rank is the key times 16 plus the interface's number. What a
+-- row of ranks stands for; nothing that a caller of an arbiter has to know.
+
+-- the key that interface i has in this row
+abbrev pub key_in : List ℕ → ℕ → Option ℕ
+key_in [] i = None
+key_in (rank ∷ ranks) i = cond (rank % 16 == i) (Some (rank / 16)) (key_in ranks i)
+
+-- each interface's key in this row: place i is interface i's
+unfoldable pub keys_in : List ℕ → List (Option ℕ)
+keys_in ranks = map (key_in ranks) (range_with_len 0 16)
+
+-- there are 16 places
+pub length-keys_in : (ranks : List ℕ) → length (keys_in ranks) ≡ 16
+unfolding keys_in
+length-keys_in ranks = refl
+
+-- this rank goes before that one, which is another interface's
+abbrev pub GoesBefore : ℕ → ℕ → Type 0
+GoesBefore this that = (this < that) × (this % 16 ≢ that % 16)
