@@ -1,10 +1,11 @@
 ghost use Rattle.std.specs.Prelude.{◌≡◌, ◌<◌, ◌≤◌, ◌↔◌, [], length, IfOk};
 ghost use Rattle.can_filter.specs.Filters.{receives_all, passes};
 
+use crate::compiled::Compiled;
 use crate::filters::Filter;
-use crate::gates::gate_of;
-use crate::joining::{all_match, some_match};
+use crate::joining::all_match;
 use std::alloc::{AllocError, Global};
+use std::fmt;
 use std::marker::Model;
 use thiserror::Error;
 
@@ -23,22 +24,29 @@ pub enum FilterError {
 }
 
 /// The filters of a socket, at most 512, in the order given.
-#[derive(Debug, Drop)]
+#[derive(Drop)]
 pub struct FilterSet {
     filters: Vec<Filter>,
-    gate: Filter,
+    // Where there are filters.
+    compiled: Option<Box<Compiled>>,
 }
 
 impl Model for FilterSet {
     ghost use Rattle.std.specs.Prelude.{◌≤◌, List, length};
     ghost use Rattle.can_filter.specs.Filters.{CanFilter};
-    ghost use Rattle.can_filter.specs.Gates.{IsGate};
+    ghost use Rattle.can_filter.specs.Compiled.{IsCompiledOf};
 
     ghost Value = { List CanFilter };
 
     ghost view = { λ s. s.filters.items };
 
-    ghost invariant = { λ s. (length s.filters.items ≤ 512) × IsGate s.gate s.filters.items };
+    ghost invariant = { λ s. (length s.filters.items ≤ 512) × IsCompiledOf s.compiled s.filters.items };
+}
+
+impl fmt::Debug for FilterSet {
+    fn fmt<W: fmt::Write>(&self, f: &mut fmt::Formatter<W>) -> fmt::Result {
+        f.debug_tuple("FilterSet").field(&self.filters()).finish()
+    }
 }
 
 impl FilterSet {
@@ -46,10 +54,7 @@ impl FilterSet {
     pub fn all(alloc: Global) -> Result<FilterSet, AllocError>
         ensures { IfOk result (λ set. set ≡ receives_all) }
     {
-        let mut filters = Vec::with_capacity(alloc, 1)?;
-        filters.push_reserved(Filter::everything());
-        let gate = Filter::everything();
-        Ok(FilterSet { filters, gate })
+        FilterSet::compile(alloc, &[Filter::everything()])
     }
 
     /// No filters, so that no data frame passes. It takes no memory.
@@ -58,11 +63,12 @@ impl FilterSet {
     {
         FilterSet {
             filters: Vec::new(alloc),
-            gate: Filter::everything(),
+            compiled: None,
         }
     }
 
-    /// These filters, at most 512. `NoMemory` comes only where memory was really refused.
+    /// These filters, at most 512. `NoMemory` comes only where memory was really refused. The time grows with
+    /// their number `n` as `n log n`.
     pub fn from_slice(alloc: Global, filters: &[Filter]) -> Result<FilterSet, FilterError>
         ensures ok { IfOk result (λ set. set ≡ filters.now) }
         ensures too_many { (result ≡ Err FilterError.TooManyFilters) ↔ (512 < length filters.now) }
@@ -70,11 +76,7 @@ impl FilterSet {
         if filters.len() > MAX_FILTERS {
             return Err(FilterError::TooManyFilters);
         }
-        let gate = gate_of(filters);
-        match Vec::from_slice(alloc, filters) {
-            Ok(filters) => Ok(FilterSet { filters, gate }),
-            Err(_) => Err(FilterError::NoMemory),
-        }
+        FilterSet::compile(alloc, filters).map_err(|_| FilterError::NoMemory)
     }
 
     /// The filters, at most 512.
@@ -89,21 +91,37 @@ impl FilterSet {
     pub fn try_copy(&self, alloc: Global) -> Result<FilterSet, AllocError>
         ensures { IfOk result (λ set. set ≡ self.now) }
     {
-        let filters = Vec::from_slice(alloc, &self.filters)?;
-        let gate = self.gate;
-        Ok(FilterSet { filters, gate })
+        FilterSet::compile(alloc, &self.filters)
     }
 
     /// Whether a data frame with this identifier word passes the filters, which are joined by AND where
-    /// `join` says so and else by OR. The time grows with the number of filters, unless they all differ from
-    /// the word in the same bit.
+    /// `join` says so and else by OR. Joined by OR, filters that single out one data identifier each are looked
+    /// up all at once; else the time grows with the number of filters.
     pub fn passes(&self, word: u32, join: bool) -> bool
         ensures { result ≡ passes self.now join word }
     {
+        let Some(compiled) = &self.compiled else {
+            return false;
+        };
         if join {
-            !self.filters.is_empty() && all_match(&self.filters, word)
+            all_match(&self.filters, word)
         } else {
-            self.gate.agrees(word) && some_match(&self.filters, word)
+            compiled.finds(word)
         }
+    }
+
+    fn compile(alloc: Global, filters: &[Filter]) -> Result<FilterSet, AllocError>
+        requires { length filters.now ≤ 512 }
+        ensures { IfOk result (λ set. set ≡ filters.now) }
+    {
+        if filters.is_empty() {
+            return Ok(FilterSet::none(alloc));
+        }
+        let compiled = Box::new(alloc, Compiled::of(alloc, filters)?)?;
+        let filters = Vec::from_slice(alloc, filters)?;
+        Ok(FilterSet {
+            filters,
+            compiled: Some(compiled),
+        })
     }
 }

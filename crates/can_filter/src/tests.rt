@@ -46,6 +46,72 @@ fn each_of_many_filters_counts(rt: HostRuntime) -> Result<(), Fail> {
 }
 
 #[test]
+fn filters_of_one_identifier_stand_beside_others(rt: HostRuntime) -> Result<(), Fail> {
+    let list = [
+        Filter::new(0x123, 0xC000_07FF)?,
+        Filter::new(0x123, 0xC000_07FF)?,
+        Filter::new(0x8000_0123, 0xDFFF_FFFF)?,
+        Filter::new(0x2000_0200, 0x700)?,
+    ];
+    let set = FilterSet::from_slice(rt.alloc(), &list)?;
+    let copy = set.try_copy(rt.alloc())?;
+    let rows = [
+        (0x123, true),
+        (0x8000_0123, true),
+        (0x4000_0100, true),
+        (0x200, false),
+        (0x8000_0200, false),
+        (0x4000_0200, false),
+    ];
+    for (word, want) in rows {
+        assert_eq!(rt;
+            (set.passes(word, false), set.passes(word, true)),
+            (want, false),
+            "at {word}"
+        );
+        assert_eq!(rt; copy.passes(word, false), want, "at {word}");
+    }
+    Ok(())
+}
+
+// 512 filters, half of them of each kind of identifier, in falling order.
+#[test]
+fn many_identifiers_are_each_found(rt: HostRuntime) -> Result<(), Fail> {
+    let mut list = Vec::with_capacity(rt.alloc(), 512)?;
+    for place in 0..256u32 {
+        list.push(Filter::new(0x7FF - 2 * place, 0xC000_07FF)?)?;
+        list.push(Filter::new(0x9FFF_FFFF - 2 * place, 0xDFFF_FFFF)?)?;
+    }
+    let set = FilterSet::from_slice(rt.alloc(), &list)?;
+    for place in 0..256u32 {
+        let (standard, extended) = (0x7FF - 2 * place, 0x9FFF_FFFF - 2 * place);
+        assert_eq!(rt;
+            (set.passes(standard, false), set.passes(extended, false)),
+            (true, true),
+            "at {place}"
+        );
+        // A remote frame, and an identifier between two of the list.
+        assert_eq!(rt;
+            (
+                set.passes(0x4000_0000 | standard, false),
+                set.passes(standard - 1, false)
+            ),
+            (false, false),
+            "at {place}"
+        );
+        assert_eq!(rt;
+            (
+                set.passes(0xC000_0000 | extended, false),
+                set.passes(extended - 1, false)
+            ),
+            (false, false),
+            "at {place}"
+        );
+    }
+    Ok(())
+}
+
+#[test]
 fn a_set_has_at_most_512_filters(rt: HostRuntime) -> Result<(), Fail> {
     let filter = Filter::new(0x123, 0x7FF)?;
     let many = vec![in rt.alloc(); filter; 513]?;

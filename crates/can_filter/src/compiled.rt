@@ -1,0 +1,67 @@
+ghost use Rattle.std.specs.Prelude.{◌≡◌, ℕ, IfOk};
+ghost use Rattle.std.specs.List.Sorted.{IsNonDecreasing};
+ghost use Rattle.can_filter.specs.Gates.{IsGate};
+ghost use Rattle.can_filter.specs.Lookups.{is_found, is_listed, is_marked, is_matched};
+
+use crate::filters::Filter;
+use crate::gates::gate_of;
+use crate::joining::some_match;
+use crate::lookups::{EXTENDED, Parts, STANDARD};
+use std::alloc::{AllocError, Global};
+
+/// A list of filters compiled for frames that have to match some filter.
+#[derive(Drop)]
+pub struct Compiled {
+    parts: Parts,
+    gate: Filter,
+    ghost in_order: { IsNonDecreasing parts.extended.items },
+    ghost gated: { IsGate gate parts.masked.items },
+}
+
+impl Compiled {
+    /// These filters, compiled. The time grows with their number `n` as `n log n`.
+    pub fn of(alloc: Global, filters: &[Filter]) -> Result<Compiled, AllocError>
+        ensures { IfOk result (λ compiled. (word : ℕ) → is_found compiled.parts.standard compiled.parts.extended.items compiled.parts.masked.items compiled.parts.inverted.items word ≡ is_matched filters.now word) }
+    {
+        let mut parts = Parts::empty(alloc);
+        for filter in filters {
+            parts.add(*filter)?;
+        }
+        parts.extended.sort_unstable();
+        let gate = gate_of(&parts.masked);
+        Ok(Compiled { parts, gate })
+    }
+
+    /// Whether some filter matches the word. The time grows with the filters that are neither marked nor
+    /// listed, and with the logarithm of those that are listed.
+    pub fn finds(&self, word: u32) -> bool
+        ensures { result ≡ is_found self.now.parts.standard self.now.parts.extended.items self.now.parts.masked.items self.now.parts.inverted.items word }
+    {
+        self.is_marked(word)
+            || self.is_listed(word)
+            || self.is_masked(word)
+            || some_match(&self.parts.inverted, word)
+    }
+
+    fn is_marked(&self, word: u32) -> bool
+        ensures { result ≡ is_marked self.now.parts.standard word }
+    {
+        match self.parts.standard.get((word & STANDARD) as usize) {
+            Some(mark) => *mark,
+            None => false,
+        }
+    }
+
+    fn is_listed(&self, word: u32) -> bool
+        ensures { result ≡ is_listed self.now.parts.extended.items word }
+    {
+        let id = word & EXTENDED;
+        self.parts.extended.binary_search(&id).is_ok()
+    }
+
+    fn is_masked(&self, word: u32) -> bool
+        ensures { result ≡ is_matched self.now.parts.masked.items word }
+    {
+        self.gate.agrees(word) && some_match(&self.parts.masked, word)
+    }
+}
