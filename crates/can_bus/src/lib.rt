@@ -20,6 +20,7 @@ pub mod runs;
 mod socket;
 mod sockets;
 pub mod spelled;
+mod state;
 pub mod stats;
 
 pub use buses::{Bus, BusFault, ListBus, RingBus};
