@@ -133,13 +133,22 @@ drop-all [] = refl
 drop-all (x ∷ xs) = drop-all xs
 
 -- the winner's line, by whether it is done and whether it went off
-settle-kept : (room refused gone done : ℕ) (sent : List Pending) (off is_done' : Bool) → ◌≡◌ {A = LineState} (record { waiting = if off then [] else if is_done' then drop 1 (drop gone sent) else drop gone sent; room = room; sent = length sent; gone = if off then length sent else if is_done' then gone + 1 else gone; done = if is_done' then done + 1 else done; refused = refused }) (record { waiting = drop (if off then length sent else if is_done' then gone + 1 else gone) sent; room = room; sent = length sent; gone = if off then length sent else if is_done' then gone + 1 else gone; done = if is_done' then done + 1 else done; refused = refused })
+settle-kept : (room refused gone done : ℕ) (sent : List Pending) (off is_done' : Bool) → ◌≡◌ {A = LineState}
+    (record { waiting = if off then [] else if is_done' then drop 1 (drop gone sent) else drop gone sent; room = room; sent = length sent; gone = if off then length sent else if is_done' then gone + 1 else gone; done = if is_done' then done + 1 else done; refused = refused })
+    (record { waiting = drop (if off then length sent else if is_done' then gone + 1 else gone) sent; room = room; sent = length sent; gone = if off then length sent else if is_done' then gone + 1 else gone; done = if is_done' then done + 1 else done; refused = refused })
 settle-kept room refused gone done sent true is_done' = ap (λ (ps : List Pending). record { waiting = ps; room = room; sent = length sent; gone = length sent; done = if is_done' then done + 1 else done; refused = refused }) (sym (drop-all sent))
 settle-kept room refused gone done sent false true = ap (λ (ps : List Pending). record { waiting = ps; room = room; sent = length sent; gone = gone + 1; done = done + 1; refused = refused }) (drop-drop 1 gone sent)
 settle-kept room refused gone done sent false false = refl
 
 abbrev line-by : BusConfig → List Entry → ℕ → Bool → Bool → LineState
-line-by c past w off here = record { waiting = drop (if off then length (sent_by past w) else if here then gone_count past w + 1 else gone_count past w) (sent_by past w); room = c.tx_capacity; sent = length (sent_by past w); gone = if off then length (sent_by past w) else if here then gone_count past w + 1 else gone_count past w; done = if here then done_count past w + 1 else done_count past w; refused = (kept_line c past w).refused }
+line-by c past w off here = record {
+  waiting = drop (if off then length (sent_by past w) else if here then gone_count past w + 1 else gone_count past w) (sent_by past w);
+  room = c.tx_capacity;
+  sent = length (sent_by past w);
+  gone = if off then length (sent_by past w) else if here then gone_count past w + 1 else gone_count past w;
+  done = if here then done_count past w + 1 else done_count past w;
+  refused = (kept_line c past w).refused;
+}
 
 line-tried : (c : BusConfig) (past : List Entry) (m : ℕ) (v : Verdict) (t : Tried) (w : ℕ) (l : LineState) (p : Pending) → IsCarried c past m v t w l p → settled t.class (is_in w t.off) l ≡ kept_line c (entry m v (Some t) ∷ past) w
 line-tried c past m v t w l p is =
@@ -156,7 +165,9 @@ lines-tried c past m v t w l p is =
 
 -- ---- the keys
 
-keys-tried : (c : BusConfig) (past : List Entry) (m : ℕ) (v : Verdict) (t : Tried) (w : ℕ) (l : LineState) (p : Pending) → c.ifaces ≤ 16 → IsCarried c past m v t w l p → slice_set (kept_keys past) w (key_in (slice_get (settled t.class (is_in w t.off) l).waiting 0)) ≡ kept_keys (entry m v (Some t) ∷ past)
+keys-tried : (c : BusConfig) (past : List Entry) (m : ℕ) (v : Verdict) (t : Tried) (w : ℕ) (l : LineState) (p : Pending) → c.ifaces ≤ 16
+    → IsCarried c past m v t w l p
+    → slice_set (kept_keys past) w (key_in (slice_get (settled t.class (is_in w t.off) l).waiting 0)) ≡ kept_keys (entry m v (Some t) ∷ past)
 keys-tried c past m v t w l p few is =
     let e = entry m v (Some t) in
     let below : w < 16 = omega (arith, is.is_line.below) in
@@ -172,7 +183,9 @@ counts-tried c past m v t i = all_stepped-append at_start (steps_of c past i) (s
 map_all : (f g : ℕ → ErrorCounts) (xs : List ℕ) → ((i : ℕ) → f i ≡ g i) → map f xs ≡ map g xs
 map_all f g xs same = ap (λ (h : ℕ → ErrorCounts). map h xs) (fun_ext same)
 
-nodes-tried : (c : BusConfig) (past : List Entry) (m : ℕ) (v : Verdict) (t : Tried) (w : ℕ) (l : LineState) (p : Pending) → IsLegal c past → c.ifaces ≤ 16 → IsCarried c past m v t w l p → record (kept_nodes c past) { counters = (judged (attempt_between (kept_nodes c past) w v c.ack)).counters } ≡ kept_nodes c (entry m v (Some t) ∷ past)
+nodes-tried : (c : BusConfig) (past : List Entry) (m : ℕ) (v : Verdict) (t : Tried) (w : ℕ) (l : LineState) (p : Pending) → IsLegal c past
+    → c.ifaces ≤ 16 → IsCarried c past m v t w l p
+    → record (kept_nodes c past) { counters = (judged (attempt_between (kept_nodes c past) w v c.ack)).counters } ≡ kept_nodes c (entry m v (Some t) ∷ past)
 unfolding kept_nodes
 nodes-tried c past m v t w l p legal few is =
     let who : t.winner ≡ w = ap (λ (u : Tried). u.winner) is.tried_is in
@@ -183,12 +196,17 @@ nodes-tried c past m v t w l p legal few is =
 -- ---- what the sockets become
 
 -- items that come in are what the longer history leaves
-pub filled_at : (c : BusConfig) (past : List Entry) (e : Entry) (o : ℕ) → length (taken_from past o) ≤ length (queued_to c past o) → places (e ∷ past) ≡ places past → filters_of (e ∷ past) o ≡ filters_of past o → options_of (e ∷ past) o ≡ options_of past o → taken_from (e ∷ past) o ≡ taken_from past o → filled (kept_socket c past o) (candidates_of c past o e.event e.reply) ≡ kept_socket c (e ∷ past) o
+pub filled_at : (c : BusConfig) (past : List Entry) (e : Entry) (o : ℕ) → length (taken_from past o) ≤ length (queued_to c past o)
+    → places (e ∷ past) ≡ places past → filters_of (e ∷ past) o ≡ filters_of past o → options_of (e ∷ past) o ≡ options_of past o
+    → taken_from (e ∷ past) o ≡ taken_from past o
+    → filled (kept_socket c past o) (candidates_of c past o e.event e.reply) ≡ kept_socket c (e ∷ past) o
 filled_at c past e o le same_places same_filters same_options same_taken =
     let cs = candidates_of c past o e.event e.reply in
     let room : capacity_of past o - length (drop (length (taken_from past o)) (queued_to c past o)) ≡ capacity_of past o + length (taken_from past o) - length (queued_to c past o) = omega (arith, length-drop {A = Received}) in
-    let waits : drop (length (taken_from past o)) (queued_to c past o ++ take (capacity_of past o + length (taken_from past o) - length (queued_to c past o)) cs) ≡ drop (length (taken_from past o)) (queued_to c past o) ++ take (capacity_of past o + length (taken_from past o) - length (queued_to c past o)) cs = drop-append-le (length (taken_from past o)) (queued_to c past o) _ le in
-    let counts : length (dropped_at c past o ++ drop (capacity_of past o + length (taken_from past o) - length (queued_to c past o)) cs) ≡ length (dropped_at c past o) + length (drop (capacity_of past o + length (taken_from past o) - length (queued_to c past o)) cs) = length-append (dropped_at c past o) _ in
+    let waits : drop (length (taken_from past o)) (queued_to c past o ++ take (capacity_of past o + length (taken_from past o) - length (queued_to c past o)) cs) ≡ drop (length (taken_from past o)) (queued_to c past o) ++ take (capacity_of past o + length (taken_from past o) - length (queued_to c past o)) cs =
+    drop-append-le (length (taken_from past o)) (queued_to c past o) _ le in
+    let counts : length (dropped_at c past o ++ drop (capacity_of past o + length (taken_from past o) - length (queued_to c past o)) cs) ≡ length (dropped_at c past o) + length (drop (capacity_of past o + length (taken_from past o) - length (queued_to c past o)) cs) =
+    length-append (dropped_at c past o) _ in
     ap (λ n. record (kept_socket c past o) { waiting = drop (length (taken_from past o)) (queued_to c past o) ++ take n cs; dropped = length (dropped_at c past o) + length (drop n cs) }) room
     ∙ ap (λ (rs : List Received). record (kept_socket c past o) { waiting = rs; dropped = length (dropped_at c past o) + length (drop (capacity_of past o + length (taken_from past o) - length (queued_to c past o)) cs) }) (sym waits)
     ∙ ap (λ n. record (kept_socket c past o) { waiting = drop (length (taken_from past o)) (queued_to c (e ∷ past) o); dropped = n }) (sym counts)
@@ -202,7 +220,11 @@ map_open c past f g (x ∷ xs) same =
     cc
 
 -- every open socket is told the posts of an entry
-pub sockets-told : (c : BusConfig) (past : List Entry) (e : Entry) (posts : ℕ → List Post) (old after : List SocketState) → IsLegal c past → old ≡ kept_sockets c past → ((i : ℕ) → posts i ≡ posts_of c past i e.event e.reply) → places (e ∷ past) ≡ places past → open_sockets (e ∷ past) ≡ open_sockets past → ((o : ℕ) → filters_of (e ∷ past) o ≡ filters_of past o) → ((o : ℕ) → options_of (e ∷ past) o ≡ options_of past o) → ((o : ℕ) → taken_from (e ∷ past) o ≡ taken_from past o) → after ≡ map (reached posts) old → after ≡ kept_sockets c (e ∷ past)
+pub sockets-told : (c : BusConfig) (past : List Entry) (e : Entry) (posts : ℕ → List Post) (old after : List SocketState) → IsLegal c past
+    → old ≡ kept_sockets c past → ((i : ℕ) → posts i ≡ posts_of c past i e.event e.reply) → places (e ∷ past) ≡ places past
+    → open_sockets (e ∷ past) ≡ open_sockets past → ((o : ℕ) → filters_of (e ∷ past) o ≡ filters_of past o)
+    → ((o : ℕ) → options_of (e ∷ past) o ≡ options_of past o) → ((o : ℕ) → taken_from (e ∷ past) o ≡ taken_from past o)
+    → after ≡ map (reached posts) old → after ≡ kept_sockets c (e ∷ past)
 unfolding kept_sockets
 sockets-told c past e posts old after legal are posts_are same_places same_open same_filters same_options same_taken told =
     told
@@ -214,7 +236,9 @@ sockets-told c past e posts old after legal are posts_are same_places same_open 
     ∙ filled_at c past e o (taken_from-le-queued c past legal o) same_places (same_filters o) (same_options o) (same_taken o))
     ∙ ap (map (kept_socket c (e ∷ past))) (sym same_open)
 
-posts-tried : (c : BusConfig) (past : List Entry) (m : ℕ) (v : Verdict) (t : Tried) (w : ℕ) (l : LineState) (p : Pending) → IsLegal c past → c.ifaces ≤ 16 → IsCarried c past m v t w l p → (i : ℕ) → attempt_posts c.reporting (attempt_between (kept_nodes c past) w v c.ack) t (Some p) i ≡ posts_of c past i (Attempt m v) (reply.Tried t)
+posts-tried : (c : BusConfig) (past : List Entry) (m : ℕ) (v : Verdict) (t : Tried) (w : ℕ) (l : LineState) (p : Pending) → IsLegal c past
+    → c.ifaces ≤ 16 → IsCarried c past m v t w l p → (i : ℕ)
+    → attempt_posts c.reporting (attempt_between (kept_nodes c past) w v c.ack) t (Some p) i ≡ posts_of c past i (Attempt m v) (reply.Tried t)
 posts-tried c past m v t w l p legal few is i =
     let who : w ≡ t.winner = sym (ap (λ (u : Tried). u.winner) is.tried_is) in
     let frame : Some p ≡ slice_get (sent_by past t.winner) t.number = sym is.head_is ∙ ap (λ (u : Tried). slice_get (sent_by past u.winner) u.number) (sym is.tried_is) in

@@ -28,7 +28,8 @@ kept_more : (j new : Kept) (e : Entry) (parts parts' : Parts) → IsKept j parts
 kept_more j new e parts parts' kept longer room follows =
     let longer_config = longer.config in
     let longer_history = longer.history in
-    let is : ◌≡◌ {A = Kept} (record { config = j.config; history = e ∷ j.history; room = new.room }) new = ap (λ (c : BusConfig). record { config = c; history = e ∷ j.history; room = new.room }) (sym longer_config) ∙ ap (λ (h : List Entry). record { config = new.config; history = h; room = new.room }) (sym longer_history) in
+    let is : ◌≡◌ {A = Kept} (record { config = j.config; history = e ∷ j.history; room = new.room }) new =
+    ap (λ (c : BusConfig). record { config = c; history = e ∷ j.history; room = new.room }) (sym longer_config) ∙ ap (λ (h : List Entry). record { config = new.config; history = h; room = new.room }) (sym longer_history) in
     subst (λ k. IsKept k parts') is (record {
       of_parts = follows.after;
       legal = (room, follows.lawful, kept.legal);
@@ -37,7 +38,9 @@ kept_more j new e parts parts' kept longer room follows =
     })
 
 -- what the call's contract says of an entry that was added
-noted : (j new : Kept) (old : Journal) (e : Entry) → ◌≡◌ {A = Journal} (record { config = j.config; history = j.history }) old → IsLonger j e new → length j.history < j.config.limit → e.reply ≡ legal_reply j.config j.history e.event → Noted old e.event e.reply (record { config = new.config; history = new.history })
+noted : (j new : Kept) (old : Journal) (e : Entry) → ◌≡◌ {A = Journal} (record { config = j.config; history = j.history }) old → IsLonger j e new
+    → length j.history < j.config.limit → e.reply ≡ legal_reply j.config j.history e.event
+    → Noted old e.event e.reply (record { config = new.config; history = new.history })
 noted j new old e view longer room lawful =
     let longer_config = longer.config in
     let longer_history = longer.history in
@@ -67,8 +70,13 @@ not_full : (full : Bool) (n limit : ℕ) → IsTrue full ↔ (limit ≤ n) → f
 not_full full n limit test is = grind arith
 
 -- there was room, the state changed in this way, and the reply was noted
-pub done : {A : Type 0} (f : A → Reply) (j new : Kept) (before : Journal) (event : Event) (r : Result A Refusal) (w : Reply) (full : Bool) (parts parts' : Parts) (Changed : Parts → Type 0) → ◌≡◌ {A = Journal} (record { config = j.config; history = j.history }) before → IsKept j parts → IsTrue full ↔ (j.config.limit ≤ length j.history) → full ≡ false → Changed parts → w ≡ told f r → IsLonger j (record { event = event; reply = w }) new → (Changed (kept_parts j.config j.history) → Follows j.config j.history (record { event = event; reply = told f r }) parts') → IsDone f before event r new parts'
-done f j new before event r w full parts parts' Changed view kept test is changed told_is longer follows =
+pub done : {A : Type 0} {j new : Kept} {before : Journal} {event : Event} {r : Result A Refusal} {w : Reply} {full : Bool} {parts parts' : Parts} (f : A → Reply) (Changed : Parts → Type 0)
+    → ◌≡◌ {A = Journal} (record { config = j.config; history = j.history }) before → IsKept j parts
+    → IsTrue full ↔ (j.config.limit ≤ length j.history) → full ≡ false → Changed parts
+    → w ≡ told f r → IsLonger j (record { event = event; reply = w }) new
+    → (Changed (kept_parts j.config j.history) → Follows j.config j.history (record { event = event; reply = told f r }) parts')
+    → IsDone f before event r new parts'
+done {A} {j} {new} {before} {event} {r} {w} {full} {parts} {parts'} f Changed view kept test is changed told_is longer follows =
     let e : Entry = record { event = event; reply = told f r } in
     let room = not_full full (length j.history) j.config.limit test is in
     let next = follows (subst Changed kept.of_parts changed) in

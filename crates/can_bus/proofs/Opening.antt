@@ -194,7 +194,9 @@ opened_follows c past i k (Ok s) new remembers legal opens =
 opened_follows c past i k (Err why) new remembers legal opens = follows_refused c past (Open i k) why new tt (unopened (kept_parts c past) i k why new opens) (lawful c past i k (Err why) new remembers opens)
 
 -- memory was refused: nothing changed, and nothing else refuses the call
-pub no_memory : (j : Kept) (before : Journal) (parts new : Parts) (i k : ℕ) → ◌≡◌ {A = Journal} (record { config = j.config; history = j.history }) before → IsKept j parts → length j.history < j.config.limit → Opens parts i k (Err refusal.NoMemory) new → Refuses before (Open i k) refusal.NoMemory (record { config = j.config; history = j.history })
+pub no_memory : (j : Kept) (before : Journal) (parts new : Parts) (i k : ℕ)
+    → ◌≡◌ {A = Journal} (record { config = j.config; history = j.history }) before → IsKept j parts → length j.history < j.config.limit
+    → Opens parts i k (Err refusal.NoMemory) new → Refuses before (Open i k) refusal.NoMemory (record { config = j.config; history = j.history })
 no_memory j before parts new i k view kept room opens =
     let c = j.config in
     let past = j.history in

@@ -97,7 +97,9 @@ sent_by-here c past s f n v is =
     cond-true (iface_of past s.0 == iface_of past s.0) _ _ (eq-eqb (iface_of past s.0) (iface_of past s.0) refl)
     ∙ ap (λ (w : SocketState). sent_by past (iface_of past s.0) ++ of_frame f s w ∷ []) (sym is)
 
-waiting-here : (c : BusConfig) (past : List Entry) (s : SocketId) (f : CanFrame) (n : ℕ) (v : SocketState) → IsLegal c past → v ≡ kept_socket c past s.0 → drop (gone_count past (iface_of past s.0)) (sent_by (entry s f (Ok n) ∷ past) (iface_of past s.0)) ≡ drop (gone_count past (iface_of past s.0)) (sent_by past (iface_of past s.0)) ++ of_frame f s v ∷ []
+waiting-here : (c : BusConfig) (past : List Entry) (s : SocketId) (f : CanFrame) (n : ℕ) (v : SocketState) → IsLegal c past
+    → v ≡ kept_socket c past s.0
+    → drop (gone_count past (iface_of past s.0)) (sent_by (entry s f (Ok n) ∷ past) (iface_of past s.0)) ≡ drop (gone_count past (iface_of past s.0)) (sent_by past (iface_of past s.0)) ++ of_frame f s v ∷ []
 waiting-here c past s f n v legal is =
     let i = iface_of past s.0 in
     ap (drop (gone_count past i)) (sent_by-here c past s f n v is) ∙ drop-append-le (gone_count past i) (sent_by past i) _ (gone-le-sent c past legal i)
@@ -117,13 +119,17 @@ head-here c past s f n v l legal is =
     ∙ ap (λ (ps : List Pending). slice_get ps 0) (sym (waiting-here c past s f n v legal is.socket))
     ∙ slice_get-drop (gone_count past i) (sent_by (entry s f (Ok n) ∷ past) i)
 
-lines-sent : (c : BusConfig) (past : List Entry) (s : SocketId) (f : CanFrame) (n : ℕ) (v : SocketState) (l : LineState) → IsLegal c past → IsSender c past s.0 v l → slice_set (kept_lines c past) v.iface (record l { waiting = l.waiting ++ of_frame f s v ∷ []; sent = l.sent + 1 }) ≡ kept_lines c (entry s f (Ok n) ∷ past)
+lines-sent : (c : BusConfig) (past : List Entry) (s : SocketId) (f : CanFrame) (n : ℕ) (v : SocketState) (l : LineState) → IsLegal c past
+    → IsSender c past s.0 v l
+    → slice_set (kept_lines c past) v.iface (record l { waiting = l.waiting ++ of_frame f s v ∷ []; sent = l.sent + 1 }) ≡ kept_lines c (entry s f (Ok n) ∷ past)
 lines-sent c past s f n v l legal is =
     ap (λ (k : ℕ). slice_set (kept_lines c past) k (record l { waiting = l.waiting ++ of_frame f s v ∷ []; sent = l.sent + 1 })) is.iface
     ∙ ap (slice_set (kept_lines c past) (iface_of past s.0)) (line-sent c past s f n v l legal is)
     ∙ sym (kept_lines-one c past (entry s f (Ok n)) (iface_of past s.0) is.below (line-other c past s f n))
 
-keys-sent : (c : BusConfig) (past : List Entry) (s : SocketId) (f : CanFrame) (n : ℕ) (v : SocketState) (l : LineState) → IsLegal c past → iface_of past s.0 < 16 → IsSender c past s.0 v l → slice_set (kept_keys past) v.iface (key_in (slice_get (l.waiting ++ of_frame f s v ∷ []) 0)) ≡ kept_keys (entry s f (Ok n) ∷ past)
+keys-sent : (c : BusConfig) (past : List Entry) (s : SocketId) (f : CanFrame) (n : ℕ) (v : SocketState) (l : LineState) → IsLegal c past
+    → iface_of past s.0 < 16 → IsSender c past s.0 v l
+    → slice_set (kept_keys past) v.iface (key_in (slice_get (l.waiting ++ of_frame f s v ∷ []) 0)) ≡ kept_keys (entry s f (Ok n) ∷ past)
 keys-sent c past s f n v l legal few is =
     ap (λ (k : ℕ). slice_set (kept_keys past) k (key_in (slice_get (l.waiting ++ of_frame f s v ∷ []) 0))) is.iface
     ∙ ap (λ (p : Option Pending). slice_set (kept_keys past) (iface_of past s.0) (key_in p)) (head-here c past s f n v l legal is)

@@ -36,7 +36,9 @@ unfolding kept_nodes
 first_nodes c = refl
 
 -- the state of a bus on which nothing was done
-pub started : (c : BusConfig) (lines : List LineState) (keys : List (Option ℕ)) (z : ErrorCounts) (sockets : List SocketState) → lines ≡ replicate c.ifaces (fresh c) → keys ≡ no_keys → z ≡ at_start → sockets ≡ [] → record { lines = lines; keys = keys; nodes = all_at c z; sockets = sockets; opened = 0; tried = 0 } ≡ kept_parts c []
+pub started : (c : BusConfig) (lines : List LineState) (keys : List (Option ℕ)) (z : ErrorCounts) (sockets : List SocketState)
+    → lines ≡ replicate c.ifaces (fresh c) → keys ≡ no_keys → z ≡ at_start → sockets ≡ []
+    → record { lines = lines; keys = keys; nodes = all_at c z; sockets = sockets; opened = 0; tried = 0 } ≡ kept_parts c []
 started c lines keys z sockets lines_are keys_are zero_is sockets_are =
     parts-are (record { lines = lines; keys = keys; nodes = all_at c z; sockets = sockets; opened = 0; tried = 0 }) (kept_parts c []) (lines_are ∙ first_lines c) (keys_are ∙ first_keys) (ap (all_at c) zero_is ∙ first_nodes c) (sockets_are ∙ none_open c) refl refl
 

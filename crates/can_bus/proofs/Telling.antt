@@ -36,7 +36,8 @@ told_socket c past s None legal nowhere = sym (cond-false (is_open past s) _ _ (
 told_socket c past s (Some stats) legal tells =
     let at = IsThere-stands c past (kept_sockets c past) s tells.place tells.socket refl tells.stands in
     let all : length (taken_from past s) + length (drop (length (taken_from past s)) (queued_to c past s)) ≡ length (queued_to c past s) = omega (arith, length-drop (length (taken_from past s)) (queued_to c past s), taken_from-le-queued c past legal s) in
-    let told : stats ≡ record { queued = length (queued_to c past s); dropped = length (dropped_at c past s); taken = length (taken_from past s) } = tells.told ∙ ap counted at.left ∙ ap (λ (n : ℕ). record { queued = n; dropped = length (dropped_at c past s); taken = length (taken_from past s) }) all in
+    let told : stats ≡ record { queued = length (queued_to c past s); dropped = length (dropped_at c past s); taken = length (taken_from past s) } =
+    tells.told ∙ ap counted at.left ∙ ap (λ (n : ℕ). record { queued = n; dropped = length (dropped_at c past s); taken = length (taken_from past s) }) all in
     ap (λ (t : SocketStats). Some t) told ∙ sym (cond-true (is_open past s) _ _ at.is_there)
 
 -- ---- interfaces

@@ -3,7 +3,7 @@ ghost use Rattle.can_bus.specs.Changes.{AreReady, Restarts, Tries};
 
 use crate::events::{BusConfig, Pending, Received, Refusal, Tried};
 use crate::lines;
-use crate::news::{self, News};
+use crate::posting::{self, News};
 use crate::state::State;
 use can_arbiter::Arbiter;
 use can_attempt::{Judgement, judge};
@@ -58,7 +58,7 @@ impl<T: BoundedQueue<Pending>, R: BoundedQueue<Received>, A: Arbiter> State<T, R
             is_off,
         );
         let news = News::new(tried, pending, verdict, config, self.nodes, judgement);
-        news::tell_all(&mut self.sockets, &news);
+        posting::tell_all(&mut self.sockets, &news);
         self.nodes.counters = judgement.counters;
         self.tried += 1;
         Some(news.attempted.tried())
@@ -77,7 +77,7 @@ impl<T: BoundedQueue<Pending>, R: BoundedQueue<Received>, A: Arbiter> State<T, R
             return Err(Refusal::NotBusOff);
         }
         self.nodes.counters[place as usize] = Counters::zero();
-        news::tell_restart(&mut self.sockets, iface, moment);
+        posting::tell_restart(&mut self.sockets, iface, moment);
         Ok(())
     }
 }

@@ -19,7 +19,10 @@ push-requires-clause-spelled g c =
     legal_is_spelled c.self.inside.record.config c.self.inside.record.history (event.Receive c.args.id) _ (c.received_reply.ensures ∙ (received_follows _ _ c.args.id _ _ receives).lawful)
 
 is_done : (g : given.Over) (c : goal.After-push g) → IsDone reply.Received c.args.self.now (event.Receive c.args.id) c.receive-outcome.result c.push.new.self c.receive-outcome.new.self
-is_done g c = done reply.Received _ _ _ _ _ _ _ _ _ (λ (p : Parts). Receives p c.args.id.0 c.receive-outcome.result c.receive-outcome.new.self) c.self.view_is c.self.invariant c.is_full.ensures c.if-is_full.false c.receive-outcome.ensures c.received_reply.ensures c.push.ensures (received_follows _ _ c.args.id _ _)
+is_done g c =
+    done reply.Received (λ (p : Parts). Receives p c.args.id.0 c.receive-outcome.result c.receive-outcome.new.self)
+    c.self.view_is c.self.invariant c.is_full.ensures c.if-is_full.false c.receive-outcome.ensures c.received_reply.ensures c.push.ensures
+    (received_follows _ _ c.args.id _ _)
 
 pub invariant_of-self : goal.invariant_of-self
 invariant_of-self g c = (is_done g c).kept

@@ -17,7 +17,10 @@ sets : (g : given.Over) (c : goal.After-push g) → Sets c.self.inside.state c.a
 sets g c = subst (λ (fs : List CanFilter). Sets c.self.inside.state c.args.id.0 (λ v. record v { filters = fs }) c.set_filters-outcome.result c.set_filters-outcome.new.self) c.in-Ok.ensures c.set_filters-outcome.ensures
 
 is_done : (g : given.Over) (c : goal.After-push g) → IsDone done_reply c.args.self.now (event.SetFilters c.args.id c.args.filters.now) c.set_filters-outcome.result c.push.new.self c.set_filters-outcome.new.self
-is_done g c = done done_reply _ _ _ _ _ _ _ _ _ (λ (p : Parts). Sets p c.args.id.0 (λ v. record v { filters = c.args.filters.now }) c.set_filters-outcome.result c.set_filters-outcome.new.self) c.self.view_is c.self.invariant c.is_full.ensures c.if-is_full.false (sets g c) c.done_reply.ensures (longer g c) (filters_follow _ _ c.args.id c.args.filters.now _ _)
+is_done g c =
+    done done_reply (λ (p : Parts). Sets p c.args.id.0 (λ v. record v { filters = c.args.filters.now }) c.set_filters-outcome.result c.set_filters-outcome.new.self)
+    c.self.view_is c.self.invariant c.is_full.ensures c.if-is_full.false (sets g c) c.done_reply.ensures (longer g c)
+    (filters_follow _ _ c.args.id c.args.filters.now _ _)
 
 pub invariant_of-self : goal.invariant_of-self
 invariant_of-self g c = (is_done g c).kept

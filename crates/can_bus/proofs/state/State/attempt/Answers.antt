@@ -4,7 +4,7 @@ use Rattle.can_attempt.specs.Attempts.{attempt_between, judged}
 use Rattle.can_attempt.specs.declared.judgements.Judgement.{Judgement}
 use Rattle.can_attempt.specs.declared.nodes.Nodes.{Nodes}
 use Rattle.can_bus.specs.declared.events.Tried.{Tried}
-use Rattle.can_bus.specs.declared.news.News.{News}
+use Rattle.can_bus.specs.declared.posting.News.{News}
 use Rattle.can_bus.specs.Changes.{Carries, settled, tried_in, after_try}
 use Rattle.can_bus.specs.News.{told_news}
 use Rattle.can_bus.specs.Posts.{attempt_posts}
@@ -17,7 +17,9 @@ pub index-line-requires : goal.index-line-requires
 index-line-requires g c = omega (arith, (winner-ready _ _ _ c.self.view_is c.requires.ready c.in_ok-winner.ensures.first).there, c.number.ensures.number)
 
 pub returns-in_err-pending : goal.returns-in_err-pending
-returns-in_err-pending g c = absurd (heads-there _ _ _ (winner-ready _ _ _ c.self.view_is c.requires.ready c.in_ok-winner.ensures.first) (line-at _ _ _ _ c.number.ensures.number (winner-ready _ _ _ c.self.view_is c.requires.ready c.in_ok-winner.ensures.first) c.index-line.ensures) c.in_err-pending.ensures)
+returns-in_err-pending g c =
+    let ready = winner-ready _ _ _ c.self.view_is c.requires.ready c.in_ok-winner.ensures.first in
+    absurd (heads-there _ _ _ ready (line-at _ _ _ _ c.number.ensures.number ready c.index-line.ensures) c.in_err-pending.ensures)
 
 pub judge-judgement-requires-clause-there : goal.judge-judgement-requires-clause-there
 judge-judgement-requires-clause-there g c = (winner-ready _ _ _ c.self.view_is c.requires.ready c.in_ok-winner.ensures.first).counted
@@ -48,14 +50,16 @@ tell_all-requires g c =
 pub returns : goal.returns
 returns g c =
     let p : Parts = record { lines = c.self.inside.lines.items; keys = g.A.Arbiter.keys_of c.self.inside.arbiter; nodes = c.self.inside.nodes; sockets = c.self.inside.sockets.items; opened = c.self.inside.opened; tried = c.self.inside.tried } in
-    let new : Parts = record { lines = c.settle.new.lines.items; keys = g.A.Arbiter.keys_of c.settle.new.arbiter; nodes = record p.nodes { counters = c.judge-judgement.result.counters }; sockets = take c.self.inside.sockets.len (c.tell_all.new.sockets ++ drop (length c.tell_all.new.sockets) p.sockets); opened = p.opened; tried = p.tried + 1 } in
+    let told = take c.self.inside.sockets.len (c.tell_all.new.sockets ++ drop (length c.tell_all.new.sockets) p.sockets) in
+    let new : Parts = record { lines = c.settle.new.lines.items; keys = g.A.Arbiter.keys_of c.settle.new.arbiter; nodes = record p.nodes { counters = c.judge-judgement.result.counters }; sockets = told; opened = p.opened; tried = p.tried + 1 } in
     let w = c.in_ok-winner.winner in
     let line = c.index-line.result.now in
     let pending = c.in_ok-pending.pending in
     let t = c.tried_as-tried.result in
     let tr = attempt_between p.nodes w c.args.verdict c.args.config.ack in
     let who : t.winner ≡ w = ap (λ (u : Tried). u.winner) c.tried_as-tried.ensures in
-    let there : slice_get p.lines w ≡ Some line = (line-at _ _ _ _ c.number.ensures.number (winner-ready _ _ _ c.self.view_is c.requires.ready c.in_ok-winner.ensures.first) c.index-line.ensures) in
+    let ready = winner-ready _ _ _ c.self.view_is c.requires.ready c.in_ok-winner.ensures.first in
+    let there : slice_get p.lines w ≡ Some line = line-at _ _ _ _ c.number.ensures.number ready c.index-line.ensures in
     let answer : c.tried.result ≡ t = c.tried.ensures ∙ ap (λ (n : News). n.attempted.tried) c.new-news.ensures in
     subst (λ (u : Tried). Carries c.args.self.now c.args.config c.args.moment c.args.verdict u new) (sym answer)
     (subst (λ (o : Parts). Carries o c.args.config c.args.moment c.args.verdict t new) c.self.view_is
