@@ -25,57 +25,58 @@ pub legal-short : (c : BusConfig) (past : List Entry) → IsLegal c past → len
 legal-short c [] legal = omega arith
 legal-short c (e ∷ past) legal = omega (arith, legal.0)
 
-pub short : (j : Kept) (parts : Parts) (p : ℕ) → IsKept j parts p → length j.history ≤ 16777216
-short j parts p kept = omega (arith, legal-short j.config j.history kept.legal, kept.proper.few_entries)
+pub short : (j : Kept) (parts : Parts) → IsKept j parts → length j.history ≤ 16777216
+short j parts kept = omega (arith, legal-short j.config j.history kept.legal, kept.proper.few_entries)
 
-all_lines : (P : LineState → Type 0) (j : Kept) (parts : Parts) (p : ℕ) → IsKept j parts p → ((i : ℕ) → P (kept_line j.config j.history i)) → All P parts.lines
+all_lines : (P : LineState → Type 0) (j : Kept) (parts : Parts) → IsKept j parts → ((i : ℕ) → P (kept_line j.config j.history i)) → All P parts.lines
 unfolding kept_lines
-all_lines P j parts p kept each =
+all_lines P j parts kept each =
     subst (All P) (sym (ap (λ (q : Parts). q.lines) kept.of_parts))
     (All-map P (kept_line j.config j.history) (range_with_len 0 j.config.ifaces) (λ k d lt. each (get_or (range_with_len 0 j.config.ifaces) k d)))
 
-all_sockets : (P : SocketState → Type 0) (j : Kept) (parts : Parts) (p : ℕ) → IsKept j parts p → ((k s : ℕ) → slice_get (open_sockets j.history) k ≡ Some s → P (kept_socket j.config j.history s)) → All P parts.sockets
+all_sockets : (P : SocketState → Type 0) (j : Kept) (parts : Parts) → IsKept j parts → ((k s : ℕ) → slice_get (open_sockets j.history) k ≡ Some s → P (kept_socket j.config j.history s)) → All P parts.sockets
 unfolding kept_sockets
-all_sockets P j parts p kept each =
+all_sockets P j parts kept each =
     subst (All P) (sym (ap (λ (q : Parts). q.sockets) kept.of_parts))
     (All-map P (kept_socket j.config j.history) (open_sockets j.history) (λ k d lt. each k (get_or (open_sockets j.history) k d) (slice_get-get_or (open_sockets j.history) k d lt)))
 
 -- ---- interfaces
 
-pub small_sent : (j : Kept) (parts : Parts) (p : ℕ) → IsKept j parts p → All (λ (l : LineState). l.sent + 1 < 2 ^ 64) parts.lines
-small_sent j parts p kept = all_lines (λ (l : LineState). l.sent + 1 < 2 ^ 64) j parts p kept (λ i. omega (arith, sent_by-le j.history i, short j parts p kept))
+pub small_sent : (j : Kept) (parts : Parts) → IsKept j parts → All (λ (l : LineState). l.sent + 1 < 2 ^ 64) parts.lines
+small_sent j parts kept = all_lines (λ (l : LineState). l.sent + 1 < 2 ^ 64) j parts kept (λ i. omega (arith, sent_by-le j.history i, short j parts kept))
 
-pub small_refused : (j : Kept) (parts : Parts) (p : ℕ) → IsKept j parts p → All (λ (l : LineState). l.refused + 1 < 2 ^ 64) parts.lines
-small_refused j parts p kept = all_lines (λ (l : LineState). l.refused + 1 < 2 ^ 64) j parts p kept (λ i. omega (arith, refused-le j.history i, short j parts p kept))
+pub small_refused : (j : Kept) (parts : Parts) → IsKept j parts → All (λ (l : LineState). l.refused + 1 < 2 ^ 64) parts.lines
+small_refused j parts kept = all_lines (λ (l : LineState). l.refused + 1 < 2 ^ 64) j parts kept (λ i. omega (arith, refused-le j.history i, short j parts kept))
 
-pub small_gone : (j : Kept) (parts : Parts) (p : ℕ) → IsKept j parts p → All (λ (l : LineState). l.gone + 1 < 2 ^ 64) parts.lines
-small_gone j parts p kept = all_lines (λ (l : LineState). l.gone + 1 < 2 ^ 64) j parts p kept (λ i. omega (arith, sent_by-le j.history i, gone-le-sent j.config j.history kept.legal i, short j parts p kept))
+pub small_gone : (j : Kept) (parts : Parts) → IsKept j parts → All (λ (l : LineState). l.gone + 1 < 2 ^ 64) parts.lines
+small_gone j parts kept = all_lines (λ (l : LineState). l.gone + 1 < 2 ^ 64) j parts kept (λ i. omega (arith, sent_by-le j.history i, gone-le-sent j.config j.history kept.legal i, short j parts kept))
 
-pub small_done : (j : Kept) (parts : Parts) (p : ℕ) → IsKept j parts p → All (λ (l : LineState). l.done + 1 < 2 ^ 64) parts.lines
-small_done j parts p kept = all_lines (λ (l : LineState). l.done + 1 < 2 ^ 64) j parts p kept (λ i. omega (arith, sent_by-le j.history i, gone-le-sent j.config j.history kept.legal i, done-le-gone j.config j.history kept.legal i, short j parts p kept))
+pub small_done : (j : Kept) (parts : Parts) → IsKept j parts → All (λ (l : LineState). l.done + 1 < 2 ^ 64) parts.lines
+small_done j parts kept = all_lines (λ (l : LineState). l.done + 1 < 2 ^ 64) j parts kept (λ i. omega (arith, sent_by-le j.history i, gone-le-sent j.config j.history kept.legal i, done-le-gone j.config j.history kept.legal i, short j parts kept))
 
-pub done_and_lost : (j : Kept) (parts : Parts) (p : ℕ) → IsKept j parts p → All (λ (l : LineState). l.done ≤ l.gone) parts.lines
-done_and_lost j parts p kept = all_lines (λ (l : LineState). l.done ≤ l.gone) j parts p kept (λ i. done-le-gone j.config j.history kept.legal i)
+pub done_and_lost : (j : Kept) (parts : Parts) → IsKept j parts → All (λ (l : LineState). l.done ≤ l.gone) parts.lines
+done_and_lost j parts kept = all_lines (λ (l : LineState). l.done ≤ l.gone) j parts kept (λ i. done-le-gone j.config j.history kept.legal i)
 
-pub count_of_lines : (j : Kept) (parts : Parts) (p : ℕ) → IsKept j parts p → length parts.lines ≡ j.config.ifaces
-count_of_lines j parts p kept = ap (λ (q : Parts). length q.lines) kept.of_parts ∙ length-kept_lines j.config j.history
+pub count_of_lines : (j : Kept) (parts : Parts) → IsKept j parts → length parts.lines ≡ j.config.ifaces
+count_of_lines j parts kept = ap (λ (q : Parts). length q.lines) kept.of_parts ∙ length-kept_lines j.config j.history
 
 -- ---- sockets
 
-pub small_taken : (j : Kept) (parts : Parts) (p : ℕ) → IsKept j parts p → All (λ (v : SocketState). v.taken + 1 < 2 ^ 64) parts.sockets
-small_taken j parts p kept = all_sockets (λ (v : SocketState). v.taken + 1 < 2 ^ 64) j parts p kept (λ k s at. omega (arith, taken_from-le-queued j.config j.history kept.legal s, queued-le j.config j.history s, short j parts p kept))
+pub small_taken : (j : Kept) (parts : Parts) → IsKept j parts → All (λ (v : SocketState). v.taken + 1 < 2 ^ 64) parts.sockets
+small_taken j parts kept = all_sockets (λ (v : SocketState). v.taken + 1 < 2 ^ 64) j parts kept (λ k s at. omega (arith, taken_from-le-queued j.config j.history kept.legal s, queued-le j.config j.history s, short j parts kept))
 
-pub small_queued : (j : Kept) (parts : Parts) (p : ℕ) → IsKept j parts p → All (λ (v : SocketState). v.taken + length v.waiting < 2 ^ 64) parts.sockets
-small_queued j parts p kept = all_sockets (λ (v : SocketState). v.taken + length v.waiting < 2 ^ 64) j parts p kept (λ k s at. omega (arith, length-drop (length (taken_from j.history s)) (queued_to j.config j.history s), taken_from-le-queued j.config j.history kept.legal s, queued-le j.config j.history s, short j parts p kept))
+pub small_queued : (j : Kept) (parts : Parts) → IsKept j parts → All (λ (v : SocketState). v.taken + length v.waiting < 2 ^ 64) parts.sockets
+small_queued j parts kept =
+    all_sockets (λ (v : SocketState). v.taken + length v.waiting < 2 ^ 64) j parts kept (λ k s at. omega (arith, length-drop (length (taken_from j.history s)) (queued_to j.config j.history s), taken_from-le-queued j.config j.history kept.legal s, queued-le j.config j.history s, short j parts kept))
 
-pub small_dropped : (j : Kept) (parts : Parts) (p : ℕ) → IsKept j parts p → All (λ (v : SocketState). v.dropped + 3 < 2 ^ 64) parts.sockets
-small_dropped j parts p kept = all_sockets (λ (v : SocketState). v.dropped + 3 < 2 ^ 64) j parts p kept (λ k s at. omega (arith, dropped-le j.config j.history s, short j parts p kept))
+pub small_dropped : (j : Kept) (parts : Parts) → IsKept j parts → All (λ (v : SocketState). v.dropped + 3 < 2 ^ 64) parts.sockets
+small_dropped j parts kept = all_sockets (λ (v : SocketState). v.dropped + 3 < 2 ^ 64) j parts kept (λ k s at. omega (arith, dropped-le j.config j.history s, short j parts kept))
 
-pub small_dropped_one : (j : Kept) (parts : Parts) (p : ℕ) → IsKept j parts p → All (λ (v : SocketState). v.dropped + 1 < 2 ^ 64) parts.sockets
-small_dropped_one j parts p kept = all_sockets (λ (v : SocketState). v.dropped + 1 < 2 ^ 64) j parts p kept (λ k s at. omega (arith, dropped-le j.config j.history s, short j parts p kept))
+pub small_dropped_one : (j : Kept) (parts : Parts) → IsKept j parts → All (λ (v : SocketState). v.dropped + 1 < 2 ^ 64) parts.sockets
+small_dropped_one j parts kept = all_sockets (λ (v : SocketState). v.dropped + 1 < 2 ^ 64) j parts kept (λ k s at. omega (arith, dropped-le j.config j.history s, short j parts kept))
 
-pub known_ifaces : (j : Kept) (parts : Parts) (p : ℕ) → IsKept j parts p → All (λ (v : SocketState). v.iface < length parts.lines) parts.sockets
-known_ifaces j parts p kept = all_sockets (λ (v : SocketState). v.iface < length parts.lines) j parts p kept (λ k s at. subst (λ n. iface_of j.history s < n) (sym (count_of_lines j parts p kept)) (open-iface j.config j.history kept.legal k s at))
+pub known_ifaces : (j : Kept) (parts : Parts) → IsKept j parts → All (λ (v : SocketState). v.iface < length parts.lines) parts.sockets
+known_ifaces j parts kept = all_sockets (λ (v : SocketState). v.iface < length parts.lines) j parts kept (λ k s at. subst (λ n. iface_of j.history s < n) (sym (count_of_lines j parts kept)) (open-iface j.config j.history kept.legal k s at))
 
 -- ---- attempts and sockets ever opened
 
@@ -87,8 +88,8 @@ tape-le : (past : List Entry) → length (tape past) ≤ length past
 tape-le [] = omega arith
 tape-le (e ∷ past) = omega (arith, tape-step e.reply (tape past), tape-le past)
 
-pub small_tried : (j : Kept) (parts : Parts) (p : ℕ) → IsKept j parts p → parts.tried + 1 < 2 ^ 64
-small_tried j parts p kept = omega (arith, ap (λ (q : Parts). q.tried) kept.of_parts, tape-le j.history, short j parts p kept)
+pub small_tried : (j : Kept) (parts : Parts) → IsKept j parts → parts.tried + 1 < 2 ^ 64
+small_tried j parts kept = omega (arith, ap (λ (q : Parts). q.tried) kept.of_parts, tape-le j.history, short j parts kept)
 
 places-step : (e : Event) (r : Reply) (before : List Place) → length (places_after e r before) ≤ length before + 1
 places-step (Open i k) (reply.Opened s) before = omega (arith, length_push before (record { iface = i; capacity = k }))
@@ -98,5 +99,5 @@ places-le : (past : List Entry) → length (places past) ≤ length past
 places-le [] = omega arith
 places-le (e ∷ past) = omega (arith, places-step e.event e.reply (places past), places-le past)
 
-pub small_opened : (j : Kept) (parts : Parts) (p : ℕ) → IsKept j parts p → parts.opened + 1 < 2 ^ 32
-small_opened j parts p kept = omega (arith, ap (λ (q : Parts). q.opened) kept.of_parts, places-le j.history, short j parts p kept)
+pub small_opened : (j : Kept) (parts : Parts) → IsKept j parts → parts.opened + 1 < 2 ^ 32
+small_opened j parts kept = omega (arith, ap (λ (q : Parts). q.opened) kept.of_parts, places-le j.history, short j parts kept)

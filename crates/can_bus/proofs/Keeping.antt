@@ -1,4 +1,4 @@
-use Rattle.std.proofs.Common.{◌≡◌, ℕ, ◌<◌, ◌≤◌, List, [], ◌∷◌, length, map, Option, Result, Ok, Err, refl, sym, ap, ◌∙◌, subst, arith}
+use Rattle.std.proofs.Common.{◌≡◌, ◌↔◌, ℕ, ◌<◌, ◌≤◌, Bool, false, IsTrue, List, [], ◌∷◌, length, map, Option, Result, Ok, Err, refl, sym, ap, ◌∙◌, subst, arith}
 use Rattle.can_attempt.specs.declared.nodes.Nodes.{Nodes}
 use Rattle.can_bus.specs.declared.events.BusConfig.{BusConfig}
 use Rattle.can_bus.specs.declared.events.Entry.{Entry}
@@ -14,15 +14,9 @@ use Rattle.can_bus.specs.Sockets.{places, open_sockets, iface_of, filters_of, op
 use Rattle.can_bus.specs.Posts.{posts_of}
 use Rattle.can_bus.specs.Queues.{taken_from}
 use Rattle.can_bus.specs.Legal.{legal_reply}
-use Rattle.can_bus.specs.State.{LineState, SocketState, Parts, kept_socket, kept_sockets, kept_lines, kept_keys, kept_nodes, kept_parts, IsKept}
+use Rattle.can_bus.specs.State.{LineState, SocketState, Parts, kept_socket, kept_sockets, kept_lines, kept_keys, kept_nodes, kept_parts, IsKept, IsLonger}
 use Rattle.can_bus.proofs.Quiet.{queued_to-quiet, dropped_at-quiet}
 use Rattle.can_bus.proofs.Refusing.{never_full, never_no_memory}
-
--- a record with one entry more
-pub record IsLonger (j : Kept) (e : Entry) (new : Kept) : Type 0 where
-  pub config : new.config ≡ j.config
-  pub history : new.history ≡ e ∷ j.history
-  pub room : j.room ≤ new.room
 
 -- an entry's reply is the legal one, and the parts are what the longer history leaves
 pub record Follows (c : BusConfig) (past : List Entry) (e : Entry) (parts : Parts) : Type 0 where
@@ -30,22 +24,23 @@ pub record Follows (c : BusConfig) (past : List Entry) (e : Entry) (parts : Part
   pub after : parts ≡ kept_parts c (e ∷ past)
 
 -- one entry more is kept
-pub kept_more : (j new : Kept) (e : Entry) (parts parts' : Parts) (p p' : ℕ) → IsKept j parts p → IsLonger j e new → length j.history < j.config.limit → Follows j.config j.history e parts' → p ≤ p' → IsKept new parts' p'
-kept_more j new e parts parts' p p' kept longer room follows le =
+kept_more : (j new : Kept) (e : Entry) (parts parts' : Parts) → IsKept j parts → IsLonger j e new → length j.history < j.config.limit → Follows j.config j.history e parts' → IsKept new parts'
+kept_more j new e parts parts' kept longer room follows =
     let longer_config = longer.config in
     let longer_history = longer.history in
-    let is : ◌≡◌ {A = Kept} (record { config = j.config; history = e ∷ j.history; room = new.room }) new = ap (λ (c : BusConfig). record { config = c; history = e ∷ j.history; room = new.room }) (sym longer_config) ∙ ap (λ (h : List Entry). record { config = new.config; history = h; room = new.room }) (sym longer_history) in
-    subst (λ k. IsKept k parts' p') is
-    (record {
+    let is : ◌≡◌ {A = Kept} (record { config = j.config; history = e ∷ j.history; room = new.room }) new =
+    ap (λ (c : BusConfig). record { config = c; history = e ∷ j.history; room = new.room }) (sym longer_config) ∙ ap (λ (h : List Entry). record { config = new.config; history = h; room = new.room }) (sym longer_history) in
+    subst (λ k. IsKept k parts') is (record {
       of_parts = follows.after;
       legal = (room, follows.lawful, kept.legal);
       proper = kept.proper;
       room = omega (arith, kept.room, longer.room);
-      sockets_room = omega (arith, kept.sockets_room);
     })
 
 -- what the call's contract says of an entry that was added
-pub noted : (j new : Kept) (old : Journal) (e : Entry) → ◌≡◌ {A = Journal} (record { config = j.config; history = j.history }) old → IsLonger j e new → length j.history < j.config.limit → e.reply ≡ legal_reply j.config j.history e.event → Noted old e.event e.reply (record { config = new.config; history = new.history })
+noted : (j new : Kept) (old : Journal) (e : Entry) → ◌≡◌ {A = Journal} (record { config = j.config; history = j.history }) old → IsLonger j e new
+    → length j.history < j.config.limit → e.reply ≡ legal_reply j.config j.history e.event
+    → Noted old e.event e.reply (record { config = new.config; history = new.history })
 noted j new old e view longer room lawful =
     let longer_config = longer.config in
     let longer_history = longer.history in
@@ -62,18 +57,43 @@ refuses before event refusal.NoMemory new n = absurd (never_no_memory before.con
 refuses before event _ new n = n
 
 -- an answer that was noted is the call's answer
-pub answered : {A : Type 0} (f : A → Reply) (before : Journal) (event : Event) (r : Result A Refusal) (new : Journal) → Noted before event (told f r) new → Answers f before event r new
+answered : {A : Type 0} (f : A → Reply) (before : Journal) (event : Event) (r : Result A Refusal) (new : Journal) → Noted before event (told f r) new → Answers f before event r new
 answered f before event (Ok a) new n = n
 answered f before event (Err why) new n = refuses before event why new n
 
-pub parts-are : (q : Parts) (lines : List LineState) (keys : List (Option ℕ)) (nodes : Nodes) (sockets : List SocketState) (opened tried : ℕ) → lines ≡ q.lines → keys ≡ q.keys → nodes ≡ q.nodes → sockets ≡ q.sockets → opened ≡ q.opened → tried ≡ q.tried → record { lines = lines; keys = keys; nodes = nodes; sockets = sockets; opened = opened; tried = tried } ≡ q
-parts-are q lines keys nodes sockets opened tried a b c d e f =
-    ap (λ (x : List LineState). record { lines = x; keys = keys; nodes = nodes; sockets = sockets; opened = opened; tried = tried }) a
-    ∙ ap (λ (x : List (Option ℕ)). record { lines = q.lines; keys = x; nodes = nodes; sockets = sockets; opened = opened; tried = tried }) b
-    ∙ ap (λ (x : Nodes). record { lines = q.lines; keys = q.keys; nodes = x; sockets = sockets; opened = opened; tried = tried }) c
-    ∙ ap (λ (x : List SocketState). record { lines = q.lines; keys = q.keys; nodes = q.nodes; sockets = x; opened = opened; tried = tried }) d
-    ∙ ap (λ (x : ℕ). record { lines = q.lines; keys = q.keys; nodes = q.nodes; sockets = q.sockets; opened = x; tried = tried }) e
-    ∙ ap (λ (x : ℕ). record { lines = q.lines; keys = q.keys; nodes = q.nodes; sockets = q.sockets; opened = q.opened; tried = x }) f
+-- a call that was noted: what is kept, and what it answers
+pub record IsDone {A : Type 0} (told' : A → Reply) (before : Journal) (event : Event) (r : Result A Refusal) (new : Kept) (parts : Parts) : Type 0 where
+  pub kept : IsKept new parts
+  pub answers : Answers told' before event r (record { config = new.config; history = new.history })
+
+not_full : (full : Bool) (n limit : ℕ) → IsTrue full ↔ (limit ≤ n) → full ≡ false → n < limit
+not_full full n limit test is = grind arith
+
+-- there was room, the state changed in this way, and the reply was noted
+pub done : {A : Type 0} {j new : Kept} {before : Journal} {event : Event} {r : Result A Refusal} {w : Reply} {full : Bool} {parts parts' : Parts} (f : A → Reply) (Changed : Parts → Type 0)
+    → ◌≡◌ {A = Journal} (record { config = j.config; history = j.history }) before → IsKept j parts
+    → IsTrue full ↔ (j.config.limit ≤ length j.history) → full ≡ false → Changed parts
+    → w ≡ told f r → IsLonger j (record { event = event; reply = w }) new
+    → (Changed (kept_parts j.config j.history) → Follows j.config j.history (record { event = event; reply = told f r }) parts')
+    → IsDone f before event r new parts'
+done {A} {j} {new} {before} {event} {r} {w} {full} {parts} {parts'} f Changed view kept test is changed told_is longer follows =
+    let e : Entry = record { event = event; reply = told f r } in
+    let room = not_full full (length j.history) j.config.limit test is in
+    let next = follows (subst Changed kept.of_parts changed) in
+    let noted_is : IsLonger j e new = subst (λ (x : Reply). IsLonger j (record { event = event; reply = x }) new) told_is longer in
+    record {
+      kept = kept_more j new e parts parts' kept noted_is room next;
+      answers = answered f before event r _ (noted j new before e view noted_is room next.lawful);
+    }
+
+pub parts-are : (p q : Parts) → p.lines ≡ q.lines → p.keys ≡ q.keys → p.nodes ≡ q.nodes → p.sockets ≡ q.sockets → p.opened ≡ q.opened → p.tried ≡ q.tried → p ≡ q
+parts-are p q a b c d e f =
+    ap (λ (x : List LineState). record p { lines = x }) a
+    ∙ ap (λ (x : List (Option ℕ)). record p { lines = q.lines; keys = x }) b
+    ∙ ap (λ (x : Nodes). record p { lines = q.lines; keys = q.keys; nodes = x }) c
+    ∙ ap (λ (x : List SocketState). record q { sockets = x; opened = p.opened; tried = p.tried }) d
+    ∙ ap (λ (x : ℕ). record q { opened = x; tried = p.tried }) e
+    ∙ ap (λ (x : ℕ). record q { tried = x }) f
 
 pub map_same : {X : Type 0} (f g : ℕ → X) (xs : List ℕ) → ((o : ℕ) → g o ≡ f o) → map g xs ≡ map f xs
 map_same f g [] same = refl
@@ -139,15 +159,11 @@ refused-still c past (Attempt m v) why u = record { of_lines = refl; of_keys = r
 refused-still c past (Restart i m) why u = record { of_lines = refl; of_keys = refl; of_nodes = refl }
 
 -- a refusal that counts nothing changes nothing
-pub follows_refused : (c : BusConfig) (past : List Entry) (event : Event) (why : Refusal) (parts : Parts) → IsUncounted event why → parts ≡ kept_parts c past → reply.Refused why ≡ legal_reply c past event → Follows c past (refused event why) parts
-follows_refused c past event why parts u are lawful =
+pub follows_refused : (c : BusConfig) (past : List Entry) (event : Event) (why : Refusal) (new : Parts) → IsUncounted event why → new ≡ kept_parts c past → reply.Refused why ≡ legal_reply c past event → Follows c past (refused event why) new
+follows_refused c past event why new u same lawful =
     let quiet = refused-quiet c past event why in
     let still = refused-still c past event why u in
-    let l : parts.lines ≡ kept_lines c (refused event why ∷ past) = ap (λ (q : Parts). q.lines) are ∙ sym still.of_lines in
-    let k : parts.keys ≡ kept_keys (refused event why ∷ past) = ap (λ (q : Parts). q.keys) are ∙ sym still.of_keys in
-    let n : parts.nodes ≡ kept_nodes c (refused event why ∷ past) = ap (λ (q : Parts). q.nodes) are ∙ sym still.of_nodes in
-    let s : parts.sockets ≡ kept_sockets c (refused event why ∷ past) = ap (λ (q : Parts). q.sockets) are ∙ sym (kept_sockets-quiet c past (refused event why) quiet) in
     record {
       lawful = lawful;
-      after = parts-are (kept_parts c (refused event why ∷ past)) parts.lines parts.keys parts.nodes parts.sockets parts.opened parts.tried l k n s (ap (λ (q : Parts). q.opened) are ∙ ap length (sym quiet.of_places)) (ap (λ (q : Parts). q.tried) are);
+      after = same ∙ parts-are (kept_parts c past) (kept_parts c (refused event why ∷ past)) (sym still.of_lines) (sym still.of_keys) (sym still.of_nodes) (sym (kept_sockets-quiet c past (refused event why) quiet)) (ap length (sym quiet.of_places)) refl;
     }

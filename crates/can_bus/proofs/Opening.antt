@@ -13,12 +13,13 @@ use Rattle.can_bus.specs.declared.events.Event.TheVariants.{Open, SetFilters, Se
 use Rattle.can_bus.specs.declared.events.Reply.{Reply}
 use Rattle.can_bus.specs.declared.events.Reply.TheVariants as reply
 use Rattle.can_bus.specs.Journal.{Journal, Kept}
-use Rattle.can_bus.specs.Answer.{Refuses, TakesMemory, told, numbered}
+use Rattle.can_bus.specs.Answer.{Refuses, TakesMemory, told}
 use Rattle.can_bus.specs.Sockets.{Place, places, places_after, open_sockets, is_open, filters_of, filters_after, options_of, options_after}
 use Rattle.can_bus.specs.Queues.{queued_to, dropped_at, taken_from, taken_after, candidates_of}
 use Rattle.can_bus.specs.Legal.{legal_reply, IsLegal}
 use Rattle.can_bus.specs.State.{SocketState, Parts, kept_lines, kept_keys, kept_nodes, kept_socket, kept_sockets, kept_parts, IsKept}
 use Rattle.can_bus.specs.Changes.{Opens, IsCapacity, fresh}
+use Rattle.can_bus.proofs.Attempting.{count-kept}
 use Rattle.can_bus.proofs.Lists.{Rises}
 use Rattle.can_bus.proofs.Rising.{open_sockets-rise}
 use Rattle.can_bus.proofs.Quiet.{queued_to-quiet, dropped_at-quiet, queued_to-unoffered, dropped_at-unoffered}
@@ -134,22 +135,16 @@ map_below c past g a b (x ∷ xs) h same =
     let rest : map g xs ≡ map (kept_socket c past) xs = map_below c past g (x + 1) b xs h.1 same in
     cc
 
-sockets-opened : (c : BusConfig) (past : List Entry) (old new : List SocketState) (n i k : ℕ) (s : SocketId) → IsLegal c past → old ≡ kept_sockets c past → n ≡ length (places past) → new ≡ old ++ fresh n i k ∷ [] → new ≡ kept_sockets c (entry i k (Ok s) ∷ past)
+sockets-opened : (c : BusConfig) (past : List Entry) (i k : ℕ) (s : SocketId) → IsLegal c past → kept_sockets c past ++ fresh (length (places past)) i k ∷ [] ≡ kept_sockets c (entry i k (Ok s) ∷ past)
 unfolding kept_sockets
-sockets-opened c past old new n i k s legal are n_is after =
-    after
-    ∙ ap (λ (vs : List SocketState). vs ++ fresh n i k ∷ []) are
-    ∙ ap (λ m. map (kept_socket c past) (open_sockets past) ++ fresh m i k ∷ []) n_is
-    ∙ ap (λ (v : SocketState). map (kept_socket c past) (open_sockets past) ++ v ∷ []) (new_fresh c past i k s legal)
+sockets-opened c past i k s legal =
+    ap (λ (v : SocketState). map (kept_socket c past) (open_sockets past) ++ v ∷ []) (new_fresh c past i k s legal)
     ∙ ap (λ (vs : List SocketState). vs ++ kept_socket c (entry i k (Ok s) ∷ past) (length (places past)) ∷ []) (sym (map_below c past (kept_socket c (entry i k (Ok s) ∷ past)) 0 (length (places past)) (open_sockets past) (open_sockets-rise past) (old_same c past i k s)))
     ∙ sym (map_push (kept_socket c (entry i k (Ok s) ∷ past)) (open_sockets past) (length (places past)))
 
 still : (c : BusConfig) (past : List Entry) (i k : ℕ) (s : SocketId) → IsStill c past (entry i k (Ok s))
 unfolding kept_lines kept_keys kept_nodes
 still c past i k s = record { of_lines = refl; of_keys = refl; of_nodes = refl }
-
-length-sockets : (c : BusConfig) (past : List Entry) (parts : Parts) → parts ≡ kept_parts c past → length parts.sockets ≡ length (open_sockets past)
-length-sockets c past parts are = ap (λ (q : Parts). length q.sockets) are ∙ length-kept_sockets c past
 
 capacity_test : (k : ℕ) → IsCapacity k → not (nat_le 1 k && nat_le k 65536) ≡ false
 capacity_test k is = ap not (and_from (nat_le 1 k) (nat_le k 65536) (le-leb 1 k is.0) (le-leb k 65536 is.1))
@@ -166,44 +161,48 @@ no_capacity k isnt = by (nat_le 1 k) (nat_le k 65536) refl refl
 opening : (c : BusConfig) (past : List Entry) (i k : ℕ) → i < c.ifaces → IsCapacity k → legal_reply c past (Open i k) ≡ (if nat_le 64 (length (open_sockets past)) then reply.Refused refusal.TooManySockets else reply.Opened (record { 0 = length (places past) }))
 opening c past i k lt is = cond-false (nat_le c.ifaces i) _ _ (lt-leb c.ifaces i lt) ∙ cond-false (not (nat_le 1 k && nat_le k 65536)) _ _ (capacity_test k is)
 
-lawful : (c : BusConfig) (past : List Entry) (parts : Parts) (new : List SocketState) (i k : ℕ) (r : Result SocketId Refusal) → (r ≡ Err refusal.NoMemory → ⊥) → parts ≡ kept_parts c past → Opens c.ifaces parts.sockets parts.opened i k r new → told reply.Opened r ≡ legal_reply c past (Open i k)
-lawful c past parts new i k (Ok s) remembers are opens =
-    let few : length (open_sockets past) < 64 = omega (arith, length-sockets c past parts are, opens.2) in
-    ap (λ (w : SocketId). reply.Opened w) opens.3 ∙ ap (λ (q : Parts). reply.Opened (record { 0 = q.opened })) are
-    ∙ sym (opening c past i k opens.0 opens.1 ∙ cond-false (nat_le 64 (length (open_sockets past))) _ _ (lt-leb 64 (length (open_sockets past)) few))
-lawful c past parts new i k (Err refusal.NoInterface) remembers are opens = sym (cond-true (nat_le c.ifaces i) _ _ (le-leb c.ifaces i opens.0))
-lawful c past parts new i k (Err refusal.BadCapacity) remembers are opens =
-    sym (cond-false (nat_le c.ifaces i) _ _ (lt-leb c.ifaces i opens.0) ∙ cond-true (not (nat_le 1 k && nat_le k 65536)) _ _ (no_capacity k opens.1))
-lawful c past parts new i k (Err refusal.TooManySockets) remembers are opens =
-    let many : 64 ≤ length (open_sockets past) = omega (arith, length-sockets c past parts are, opens.2) in
-    sym (opening c past i k opens.0 opens.1 ∙ cond-true (nat_le 64 (length (open_sockets past))) _ _ (le-leb 64 (length (open_sockets past)) many))
-lawful c past parts new i k (Err refusal.NoMemory) remembers are opens = absurd (remembers refl)
-lawful c past parts new i k (Err _) remembers are opens = absurd opens
+lawful : (c : BusConfig) (past : List Entry) (i k : ℕ) (r : Result SocketId Refusal) (new : Parts) → (r ≡ Err refusal.NoMemory → ⊥) → Opens (kept_parts c past) i k r new → told reply.Opened r ≡ legal_reply c past (Open i k)
+lawful c past i k (Ok s) new remembers opens =
+    let below : i < c.ifaces = omega (arith, opens.0, count-kept c past) in
+    let few : length (open_sockets past) < 64 = omega (arith, length-kept_sockets c past, opens.2) in
+    ap (λ (w : SocketId). reply.Opened w) opens.3
+    ∙ sym (opening c past i k below opens.1 ∙ cond-false (nat_le 64 (length (open_sockets past))) _ _ (lt-leb 64 (length (open_sockets past)) few))
+lawful c past i k (Err refusal.NoInterface) new remembers opens =
+    let beyond : c.ifaces ≤ i = omega (arith, opens.0, count-kept c past) in
+    sym (cond-true (nat_le c.ifaces i) _ _ (le-leb c.ifaces i beyond))
+lawful c past i k (Err refusal.BadCapacity) new remembers opens =
+    let below : i < c.ifaces = omega (arith, opens.0, count-kept c past) in
+    sym (cond-false (nat_le c.ifaces i) _ _ (lt-leb c.ifaces i below) ∙ cond-true (not (nat_le 1 k && nat_le k 65536)) _ _ (no_capacity k opens.1))
+lawful c past i k (Err refusal.TooManySockets) new remembers opens =
+    let below : i < c.ifaces = omega (arith, opens.0, count-kept c past) in
+    let many : 64 ≤ length (open_sockets past) = omega (arith, length-kept_sockets c past, opens.2) in
+    sym (opening c past i k below opens.1 ∙ cond-true (nat_le 64 (length (open_sockets past))) _ _ (le-leb 64 (length (open_sockets past)) many))
+lawful c past i k (Err refusal.NoMemory) new remembers opens = absurd (remembers refl)
+lawful c past i k (Err _) new remembers opens = absurd opens
 
-unopened : (i n k : ℕ) (old new : List SocketState) (o : ℕ) (why : Refusal) → Opens n old o i k (Err why) new → new ≡ old
-unopened i n k old new o refusal.NoInterface opens = opens.1
-unopened i n k old new o refusal.BadCapacity opens = opens.2
-unopened i n k old new o refusal.TooManySockets opens = opens.3
-unopened i n k old new o refusal.NoMemory opens = opens.3
-unopened i n k old new o _ opens = absurd opens
-
-opened_leaves : (c : BusConfig) (past : List Entry) (parts : Parts) (new : List SocketState) (i k : ℕ) (r : Result SocketId Refusal) → (r ≡ Err refusal.NoMemory → ⊥) → IsLegal c past → parts ≡ kept_parts c past → Opens c.ifaces parts.sockets parts.opened i k r new → Follows c past (entry i k r) (record parts { sockets = new; opened = numbered r parts.opened })
-opened_leaves c past parts new i k (Ok s) remembers legal are opens =
-    let opened_is : parts.opened ≡ length (places past) = ap (λ (q : Parts). q.opened) are in
-    follows_at_sockets c past (entry i k (Ok s)) parts new (parts.opened + 1) are (lawful c past parts new i k (Ok s) remembers are opens) (still c past i k s) refl
-    (ap (λ n. n + 1) opened_is ∙ sym (length_push (places past) (record { iface = i; capacity = k })))
-    (sockets-opened c past parts.sockets new parts.opened i k s legal (ap (λ (q : Parts). q.sockets) are) opened_is opens.4)
-opened_leaves c past parts new i k (Err why) remembers legal are opens =
-    subst (λ (vs : List SocketState). Follows c past (entry i k (Err why)) (record parts { sockets = vs })) (sym (unopened i c.ifaces k parts.sockets new parts.opened why opens)) (follows_refused c past (Open i k) why parts tt are (lawful c past parts new i k (Err why) remembers are opens))
+pub unopened : (old : Parts) (i k : ℕ) (why : Refusal) (new : Parts) → Opens old i k (Err why) new → new ≡ old
+unopened old i k refusal.NoInterface new opens = opens.1
+unopened old i k refusal.BadCapacity new opens = opens.2
+unopened old i k refusal.TooManySockets new opens = opens.3
+unopened old i k refusal.NoMemory new opens = opens.3
+unopened old i k _ new opens = absurd opens
 
 -- a socket that was opened, or a refusal but for want of memory, leaves what its entry leaves
-pub opened_follows : (c : BusConfig) (past : List Entry) (parts : Parts) (new : List SocketState) (opened i k : ℕ) (r : Result SocketId Refusal) → (r ≡ Err refusal.NoMemory → ⊥) → IsLegal c past → parts ≡ kept_parts c past → Opens c.ifaces parts.sockets parts.opened i k r new → opened ≡ numbered r parts.opened → Follows c past (entry i k r) (record parts { sockets = new; opened = opened })
-opened_follows c past parts new opened i k r remembers legal are opens opened_is = subst (λ n. Follows c past (entry i k r) (record parts { sockets = new; opened = n })) (sym opened_is) (opened_leaves c past parts new i k r remembers legal are opens)
+pub opened_follows : (c : BusConfig) (past : List Entry) (i k : ℕ) (r : Result SocketId Refusal) (new : Parts) → (r ≡ Err refusal.NoMemory → ⊥) → IsLegal c past → Opens (kept_parts c past) i k r new → Follows c past (entry i k r) new
+opened_follows c past i k (Ok s) new remembers legal opens =
+    follows_at_sockets c past (entry i k (Ok s)) new _ _ (lawful c past i k (Ok s) new remembers opens) (still c past i k s) refl (sym (length_push (places past) (record { iface = i; capacity = k }))) (sockets-opened c past i k s legal) opens.4
+opened_follows c past i k (Err why) new remembers legal opens = follows_refused c past (Open i k) why new tt (unopened (kept_parts c past) i k why new opens) (lawful c past i k (Err why) new remembers opens)
 
 -- memory was refused: nothing changed, and nothing else refuses the call
-pub no_memory : (j : Kept) (before : Journal) (parts : Parts) (new : List SocketState) (p i k : ℕ) → ◌≡◌ {A = Journal} (record { config = j.config; history = j.history }) before → IsKept j parts p → length j.history < j.config.limit → Opens j.config.ifaces parts.sockets parts.opened i k (Err refusal.NoMemory) new → Refuses before (Open i k) refusal.NoMemory (record { config = j.config; history = j.history })
-no_memory j before parts new p i k view kept room opens =
-    let few : length (open_sockets j.history) < 64 = omega (arith, length-sockets j.config j.history parts kept.of_parts, opens.2) in
-    let granted : legal_reply j.config j.history (Open i k) ≡ reply.Opened (record { 0 = length (places j.history) }) = opening j.config j.history i k opens.0 opens.1 ∙ cond-false (nat_le 64 (length (open_sockets j.history))) _ _ (lt-leb 64 (length (open_sockets j.history)) few) in
-    subst (λ (b : Journal). Refuses b (Open i k) refusal.NoMemory (record { config = j.config; history = j.history })) view
+pub no_memory : (j : Kept) (before : Journal) (parts new : Parts) (i k : ℕ)
+    → ◌≡◌ {A = Journal} (record { config = j.config; history = j.history }) before → IsKept j parts → length j.history < j.config.limit
+    → Opens parts i k (Err refusal.NoMemory) new → Refuses before (Open i k) refusal.NoMemory (record { config = j.config; history = j.history })
+no_memory j before parts new i k view kept room opens =
+    let c = j.config in
+    let past = j.history in
+    let o : Opens (kept_parts c past) i k (Err refusal.NoMemory) new = subst (λ (p : Parts). Opens p i k (Err refusal.NoMemory) new) kept.of_parts opens in
+    let below : i < c.ifaces = omega (arith, o.0, count-kept c past) in
+    let few : length (open_sockets past) < 64 = omega (arith, length-kept_sockets c past, o.2) in
+    let granted : legal_reply c past (Open i k) ≡ reply.Opened (record { 0 = length (places past) }) = opening c past i k below o.1 ∙ cond-false (nat_le 64 (length (open_sockets past))) _ _ (lt-leb 64 (length (open_sockets past)) few) in
+    subst (λ (b : Journal). Refuses b (Open i k) refusal.NoMemory (record { config = c; history = past })) view
     (room, subst (TakesMemory (Open i k)) (sym granted) tt, refl)

@@ -14,11 +14,11 @@ use Rattle.can_bus.specs.Queues.{taken_from, queued_to, dropped_at}
 use Rattle.can_bus.specs.Legal.{legal_reply}
 use Rattle.can_bus.specs.State.{SocketState, Parts, kept_socket, kept_sockets, kept_lines, kept_keys, kept_nodes, kept_parts}
 use Rattle.can_bus.specs.Changes.{Gives, Receives, relieved}
-use Rattle.can_bus.proofs.Keeping.{Follows, IsStill, follows_refused}
+use Rattle.can_bus.proofs.Keeping.{Follows, IsStill}
 use Rattle.can_bus.proofs.Lists.{slice_get-drop}
-use Rattle.can_bus.proofs.Opened.{IsThere-stands, closed-nowhere}
+use Rattle.can_bus.proofs.Opened.{IsThere-stands}
 use Rattle.can_bus.proofs.Quiet.{queued_to-quiet, dropped_at-quiet}
-use Rattle.can_bus.proofs.SocketFacts.{kept_sockets-one, follows_at_sockets}
+use Rattle.can_bus.proofs.SocketFacts.{kept_sockets-one, follows_at_sockets, none_follows}
 
 abbrev pub entry : SocketId → Result (Option Received) Refusal → Entry
 entry s r = record { event = Receive s; reply = told reply.Received r }
@@ -55,19 +55,16 @@ still : (c : BusConfig) (past : List Entry) (s : SocketId) (item : Option Receiv
 unfolding kept_lines kept_keys kept_nodes
 still c past s item = record { of_lines = refl; of_keys = refl; of_nodes = refl }
 
-reply-given : (c : BusConfig) (past : List Entry) (old new : List SocketState) (s : SocketId) (item : Option Received) → old ≡ kept_sockets c past → Gives old s.0 item new → reply.Received item ≡ legal_reply c past (Receive s)
-reply-given c past old new s item are gives =
-    let at = IsThere-stands c past old s.0 gives.place gives.socket are gives.stands in
+reply-given : (c : BusConfig) (past : List Entry) (s : SocketId) (item : Option Received) (new : Parts) → Gives (kept_parts c past) s.0 item new → reply.Received item ≡ legal_reply c past (Receive s)
+reply-given c past s item new gives =
+    let at = IsThere-stands c past (kept_sockets c past) s.0 gives.place gives.socket refl gives.stands in
     let oldest : item ≡ slice_get (queued_to c past s.0) (length (taken_from past s.0)) = gives.oldest ∙ ap (λ (v : SocketState). slice_get v.waiting 0) at.left ∙ slice_get-drop (length (taken_from past s.0)) (queued_to c past s.0) in
     ap (λ (i : Option Received). reply.Received i) oldest ∙ sym (cond-true (is_open past s.0) _ _ at.is_there)
 
 -- an item that was given, or a refusal, leaves what its entry leaves
-pub received_follows : (c : BusConfig) (past : List Entry) (parts : Parts) (new : List SocketState) (s : SocketId) (r : Result (Option Received) Refusal) → parts ≡ kept_parts c past → Receives parts.sockets s.0 r new → Follows c past (entry s r) (record parts { sockets = new })
-received_follows c past parts new s (Ok item) are gives =
-    let sockets_are : parts.sockets ≡ kept_sockets c past = ap (λ (q : Parts). q.sockets) are in
-    follows_at_sockets c past (given s item) parts new parts.opened are (reply-given c past parts.sockets new s item sockets_are gives) (still c past s item) refl (ap (λ (q : Parts). q.opened) are)
-    (kept_sockets-one c past (given s item) parts.sockets new s.0 gives.place gives.socket (relieved item) sockets_are refl gives.stands (other c past s item) (same c past s item) gives.after)
-received_follows c past parts new s (Err why) are refuses =
-    let shut = closed-nowhere c past parts.sockets s.0 (ap (λ (q : Parts). q.sockets) are) refuses.1 in
-    let law : reply.Refused why ≡ legal_reply c past (Receive s) = ap (λ (w : Refusal). reply.Refused w) refuses.0 ∙ sym (cond-false (is_open past s.0) _ _ shut) in
-    subst (λ (vs : List SocketState). Follows c past (entry s (Err why)) (record parts { sockets = vs })) (sym refuses.2) (follows_refused c past (Receive s) why parts tt are law)
+pub received_follows : (c : BusConfig) (past : List Entry) (s : SocketId) (r : Result (Option Received) Refusal) (new : Parts) → Receives (kept_parts c past) s.0 r new → Follows c past (entry s r) new
+received_follows c past s (Ok item) new gives =
+    follows_at_sockets c past (given s item) new _ _ (reply-given c past s item new gives) (still c past s item) refl refl
+    (kept_sockets-one c past (given s item) (kept_sockets c past) _ s.0 gives.place gives.socket (relieved item) refl refl gives.stands (other c past s item) (same c past s item) refl)
+    gives.after
+received_follows c past s (Err why) new none = none_follows c past (Receive s) s.0 _ why new refl tt none

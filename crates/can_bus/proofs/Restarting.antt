@@ -13,10 +13,10 @@ use Rattle.can_bus.specs.Answer.{told, done_reply}
 use Rattle.can_bus.specs.Counters.{counts_of, steps_of, state_at}
 use Rattle.can_bus.specs.Posts.{restart_posts}
 use Rattle.can_bus.specs.Legal.{legal_reply, IsLegal}
-use Rattle.can_bus.specs.State.{SocketState, Parts, kept_lines, kept_keys, kept_nodes, kept_parts}
-use Rattle.can_bus.specs.Changes.{Restarts, is_off_at}
+use Rattle.can_bus.specs.State.{SocketState, Parts, kept_lines, kept_keys, kept_nodes, kept_sockets, kept_parts}
+use Rattle.can_bus.specs.Changes.{Restarts, after_restart}
 use Rattle.can_bus.proofs.Attempting.{sockets-told, count-kept}
-use Rattle.can_bus.proofs.Keeping.{Follows, IsUncounted, follows_refused, parts-are}
+use Rattle.can_bus.proofs.Keeping.{Follows, follows_refused, parts-are}
 use Rattle.can_bus.proofs.KeyFacts.{sixteen-one}
 use Rattle.can_bus.proofs.NodeFacts.{is_off_at-kept}
 
@@ -41,39 +41,28 @@ nodes-restarted c past i m old new lt are after =
     ∙ ap (λ (k : ErrorCounts). record { count = c.ifaces; counters = slice_set (map (counts_of c past) (range_with_len 0 16)) i k }) (sym (counts-restarted c past i m))
     ∙ ap (λ (ks : List ErrorCounts). record { count = c.ifaces; counters = ks }) (sym (sixteen-one (counts_of c past) (counts_of c (entry i m (Ok tt) ∷ past)) i 16 lt (counts-other c past i m)))
 
-refused_as : (c : BusConfig) (past : List Entry) (parts : Parts) (i m : ℕ) (why : Refusal) (new : Nodes) (after : List SocketState) → parts ≡ kept_parts c past → IsUncounted (Restart i m) why → new ≡ parts.nodes → after ≡ parts.sockets → reply.Refused why ≡ legal_reply c past (Restart i m) → Follows c past (entry i m (Err why)) (record parts { nodes = new; sockets = after })
-refused_as c past parts i m why new after are u nodes_same sockets_same law =
-    subst (λ (q : Parts). Follows c past (entry i m (Err why)) q)
-    (ap (λ (vs : List SocketState). record parts { sockets = vs }) (sym sockets_same) ∙ ap (λ (n : Nodes). record parts { nodes = n; sockets = after }) (sym nodes_same))
-    (follows_refused c past (Restart i m) why parts u are law)
-
 -- a restart, or its refusal, leaves what its entry leaves
-pub restarted_follows : (c : BusConfig) (past : List Entry) (parts : Parts) (i m : ℕ) (r : Result (Unit {0}) Refusal) (new : Nodes) (after : List SocketState) → IsLegal c past → c.ifaces ≤ 16 → parts ≡ kept_parts c past → Restarts parts.nodes parts.sockets i m r new after → Follows c past (entry i m r) (record parts { nodes = new; sockets = after })
-restarted_follows c past parts i m (Ok done) new after legal few are restarts =
+pub restarted_follows : (c : BusConfig) (past : List Entry) (i m : ℕ) (r : Result (Unit {0}) Refusal) (new : Parts) → IsLegal c past → c.ifaces ≤ 16 → Restarts (kept_parts c past) i m r new → Follows c past (entry i m r) new
+restarted_follows c past i m (Ok done) new legal few restarts =
     let e = entry i m (Ok tt) in
-    let nodes_are : parts.nodes ≡ kept_nodes c past = ap (λ (q : Parts). q.nodes) are in
-    let below : i < c.ifaces = subst (λ (n : ℕ). i < n) (ap (λ (n : Nodes). n.count) nodes_are ∙ count-kept c past) restarts.0 in
+    let old = kept_parts c past in
+    let below : i < c.ifaces = omega (arith, restarts.0, count-kept c past) in
     let few_i : i < 16 = omega arith in
-    let off : is_off (state_at c past i) ≡ true = sym (ap (λ (n : Nodes). is_off_at n i) nodes_are ∙ is_off_at-kept c past i few_i) ∙ restarts.1 in
+    let off : is_off (state_at c past i) ≡ true = sym (is_off_at-kept c past i few_i) ∙ restarts.1 in
     let same = still c past i m in
     record {
       lawful = sym (cond-false (nat_le c.ifaces i) _ _ (lt-leb c.ifaces i below) ∙ cond-true (is_off (state_at c past i)) _ _ off);
-      after = parts-are (kept_parts c (e ∷ past)) parts.lines parts.keys new after parts.opened parts.tried
-          (ap (λ (q : Parts). q.lines) are ∙ sym same.0)
-          (ap (λ (q : Parts). q.keys) are ∙ sym same.1)
-          (nodes-restarted c past i m parts.nodes new few_i nodes_are restarts.2)
-          (sockets-told c past e (restart_posts i m) parts.sockets after legal (ap (λ (q : Parts). q.sockets) are) (λ j. refl) refl refl (λ o. refl) (λ o. refl) (λ o. refl) restarts.3)
-          (ap (λ (q : Parts). q.opened) are)
-          (ap (λ (q : Parts). q.tried) are);
+      after = restarts.2 ∙ parts-are (after_restart old i m) (kept_parts c (e ∷ past)) (sym same.0) (sym same.1)
+          (nodes-restarted c past i m (kept_nodes c past) _ few_i refl refl)
+          (sockets-told c past e (restart_posts i m) (kept_sockets c past) _ legal refl (λ j. refl) refl refl (λ o. refl) (λ o. refl) (λ o. refl) refl)
+          refl refl;
     }
-restarted_follows c past parts i m (Err refusal.NoInterface) new after legal few are restarts =
-    let nodes_are : parts.nodes ≡ kept_nodes c past = ap (λ (q : Parts). q.nodes) are in
-    let beyond : c.ifaces ≤ i = subst (λ (n : ℕ). n ≤ i) (ap (λ (n : Nodes). n.count) nodes_are ∙ count-kept c past) restarts.0 in
-    refused_as c past parts i m refusal.NoInterface new after are tt restarts.1 restarts.2 (sym (cond-true (nat_le c.ifaces i) _ _ (le-leb c.ifaces i beyond)))
-restarted_follows c past parts i m (Err refusal.NotBusOff) new after legal few are restarts =
-    let nodes_are : parts.nodes ≡ kept_nodes c past = ap (λ (q : Parts). q.nodes) are in
-    let below : i < c.ifaces = subst (λ (n : ℕ). i < n) (ap (λ (n : Nodes). n.count) nodes_are ∙ count-kept c past) restarts.0 in
+restarted_follows c past i m (Err refusal.NoInterface) new legal few restarts =
+    let beyond : c.ifaces ≤ i = omega (arith, restarts.0, count-kept c past) in
+    follows_refused c past (Restart i m) refusal.NoInterface new tt restarts.1 (sym (cond-true (nat_le c.ifaces i) _ _ (le-leb c.ifaces i beyond)))
+restarted_follows c past i m (Err refusal.NotBusOff) new legal few restarts =
+    let below : i < c.ifaces = omega (arith, restarts.0, count-kept c past) in
     let few_i : i < 16 = omega arith in
-    let live : is_off (state_at c past i) ≡ false = sym (ap (λ (n : Nodes). is_off_at n i) nodes_are ∙ is_off_at-kept c past i few_i) ∙ restarts.1 in
-    refused_as c past parts i m refusal.NotBusOff new after are tt restarts.2 restarts.3 (sym (cond-false (nat_le c.ifaces i) _ _ (lt-leb c.ifaces i below) ∙ cond-false (is_off (state_at c past i)) _ _ live))
-restarted_follows c past parts i m (Err _) new after legal few are restarts = absurd restarts
+    let live : is_off (state_at c past i) ≡ false = sym (is_off_at-kept c past i few_i) ∙ restarts.1 in
+    follows_refused c past (Restart i m) refusal.NotBusOff new tt restarts.2 (sym (cond-false (nat_le c.ifaces i) _ _ (lt-leb c.ifaces i below) ∙ cond-false (is_off (state_at c past i)) _ _ live))
+restarted_follows c past i m (Err _) new legal few restarts = absurd restarts

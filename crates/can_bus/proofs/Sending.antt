@@ -3,7 +3,6 @@ use Rattle.std.proofs.lemmas.Bool.{eq-eqb, ne_eqb, cond-true, cond-false}
 use Rattle.std.proofs.lemmas.List.{length_push, length-drop, drop-append-le}
 use Rattle.can_frame.specs.Frames.{CanFrame}
 use Rattle.can_confine.specs.Confinement.{is_off}
-use Rattle.can_attempt.specs.declared.nodes.Nodes.{Nodes}
 use Rattle.can_bus.specs.declared.events.Entry.{Entry}
 use Rattle.can_bus.specs.declared.events.BusConfig.{BusConfig}
 use Rattle.can_bus.specs.declared.events.Pending.{Pending}
@@ -19,7 +18,7 @@ use Rattle.can_bus.specs.Legal.{legal_reply, IsLegal}
 use Rattle.can_bus.specs.Sockets.{iface_of, is_open}
 use Rattle.can_bus.specs.Transmit.{sent_by, gone_count, head_of}
 use Rattle.can_bus.specs.State.{LineState, SocketState, Parts, key_in, kept_line, kept_lines, kept_keys, kept_nodes, kept_socket, kept_sockets, kept_parts}
-use Rattle.can_bus.specs.Changes.{IsLineOf, Takes, FindsFull, IsOffFor, Sends, is_off_at}
+use Rattle.can_bus.specs.Changes.{IsLineOf, Takes, FindsFull, IsOffFor, Sends, with_line, is_off_at}
 use Rattle.can_bus.proofs.Keeping.{Follows, IsQuiet, kept_sockets-quiet, refused-quiet, follows_refused, parts-are}
 use Rattle.can_bus.proofs.KeyFacts.{kept_keys-one}
 use Rattle.can_bus.proofs.Lawful.{gone-le-sent, open-iface}
@@ -46,15 +45,15 @@ record IsSender (c : BusConfig) (past : List Entry) (s : ℕ) (v : SocketState) 
   below : iface_of past s < c.ifaces
   line : l ≡ kept_line c past (iface_of past s)
 
-sender : (c : BusConfig) (past : List Entry) (lines : List LineState) (sockets : List SocketState) (s : ℕ) (v : SocketState) (l : LineState) → lines ≡ kept_lines c past → sockets ≡ kept_sockets c past → IsLineOf lines sockets s v l → IsSender c past s v l
-sender c past lines sockets s v l lines_are sockets_are is_line =
-    let at = IsThere-stands c past sockets s is_line.place v sockets_are is_line.stands in
+sender : (c : BusConfig) (past : List Entry) (s : ℕ) (v : SocketState) (l : LineState) → IsLineOf (kept_parts c past) s v l → IsSender c past s v l
+sender c past s v l is_line =
+    let at = IsThere-stands c past (kept_sockets c past) s is_line.place v refl is_line.stands in
     let iface : v.iface ≡ iface_of past s = ap (λ (w : SocketState). w.iface) at.left in
-    let line = IsLine-at c past lines (iface_of past s) l lines_are (ap (slice_get lines) (sym iface) ∙ is_line.line) in
+    let line = IsLine-at c past (kept_lines c past) (iface_of past s) l refl (ap (slice_get (kept_lines c past)) (sym iface) ∙ is_line.line) in
     record { there = at.is_there; socket = at.left; iface = iface; below = line.below; line = line.left }
 
-off-is : (c : BusConfig) (past : List Entry) (nodes : Nodes) (k i : ℕ) → nodes ≡ kept_nodes c past → k ≡ i → i < 16 → is_off_at nodes k ≡ is_off (state_at c past i)
-off-is c past nodes k i are same below = ap (λ (n : Nodes). is_off_at n k) are ∙ ap (is_off_at (kept_nodes c past)) same ∙ is_off_at-kept c past i below
+off-is : (c : BusConfig) (past : List Entry) (k i : ℕ) → k ≡ i → i < 16 → is_off_at (kept_nodes c past) k ≡ is_off (state_at c past i)
+off-is c past k i same below = ap (is_off_at (kept_nodes c past)) same ∙ is_off_at-kept c past i below
 
 -- ---- the reply
 
@@ -98,7 +97,9 @@ sent_by-here c past s f n v is =
     cond-true (iface_of past s.0 == iface_of past s.0) _ _ (eq-eqb (iface_of past s.0) (iface_of past s.0) refl)
     ∙ ap (λ (w : SocketState). sent_by past (iface_of past s.0) ++ of_frame f s w ∷ []) (sym is)
 
-waiting-here : (c : BusConfig) (past : List Entry) (s : SocketId) (f : CanFrame) (n : ℕ) (v : SocketState) → IsLegal c past → v ≡ kept_socket c past s.0 → drop (gone_count past (iface_of past s.0)) (sent_by (entry s f (Ok n) ∷ past) (iface_of past s.0)) ≡ drop (gone_count past (iface_of past s.0)) (sent_by past (iface_of past s.0)) ++ of_frame f s v ∷ []
+waiting-here : (c : BusConfig) (past : List Entry) (s : SocketId) (f : CanFrame) (n : ℕ) (v : SocketState) → IsLegal c past
+    → v ≡ kept_socket c past s.0
+    → drop (gone_count past (iface_of past s.0)) (sent_by (entry s f (Ok n) ∷ past) (iface_of past s.0)) ≡ drop (gone_count past (iface_of past s.0)) (sent_by past (iface_of past s.0)) ++ of_frame f s v ∷ []
 waiting-here c past s f n v legal is =
     let i = iface_of past s.0 in
     ap (drop (gone_count past i)) (sent_by-here c past s f n v is) ∙ drop-append-le (gone_count past i) (sent_by past i) _ (gone-le-sent c past legal i)
@@ -118,19 +119,19 @@ head-here c past s f n v l legal is =
     ∙ ap (λ (ps : List Pending). slice_get ps 0) (sym (waiting-here c past s f n v legal is.socket))
     ∙ slice_get-drop (gone_count past i) (sent_by (entry s f (Ok n) ∷ past) i)
 
-lines-sent : (c : BusConfig) (past : List Entry) (old new : List LineState) (s : SocketId) (f : CanFrame) (n : ℕ) (v : SocketState) (l : LineState) → IsLegal c past → old ≡ kept_lines c past → IsSender c past s.0 v l → new ≡ slice_set old v.iface (record l { waiting = l.waiting ++ of_frame f s v ∷ []; sent = l.sent + 1 }) → new ≡ kept_lines c (entry s f (Ok n) ∷ past)
-lines-sent c past old new s f n v l legal are is after =
-    after
-    ∙ ap (λ (ls : List LineState). slice_set ls v.iface (record l { waiting = l.waiting ++ of_frame f s v ∷ []; sent = l.sent + 1 })) are
-    ∙ ap (λ (k : ℕ). slice_set (kept_lines c past) k (record l { waiting = l.waiting ++ of_frame f s v ∷ []; sent = l.sent + 1 })) is.iface
+lines-sent : (c : BusConfig) (past : List Entry) (s : SocketId) (f : CanFrame) (n : ℕ) (v : SocketState) (l : LineState) → IsLegal c past
+    → IsSender c past s.0 v l
+    → slice_set (kept_lines c past) v.iface (record l { waiting = l.waiting ++ of_frame f s v ∷ []; sent = l.sent + 1 }) ≡ kept_lines c (entry s f (Ok n) ∷ past)
+lines-sent c past s f n v l legal is =
+    ap (λ (k : ℕ). slice_set (kept_lines c past) k (record l { waiting = l.waiting ++ of_frame f s v ∷ []; sent = l.sent + 1 })) is.iface
     ∙ ap (slice_set (kept_lines c past) (iface_of past s.0)) (line-sent c past s f n v l legal is)
     ∙ sym (kept_lines-one c past (entry s f (Ok n)) (iface_of past s.0) is.below (line-other c past s f n))
 
-keys-sent : (c : BusConfig) (past : List Entry) (old new : List (Option ℕ)) (s : SocketId) (f : CanFrame) (n : ℕ) (v : SocketState) (l : LineState) → IsLegal c past → iface_of past s.0 < 16 → old ≡ kept_keys past → IsSender c past s.0 v l → new ≡ slice_set old v.iface (key_in (slice_get (l.waiting ++ of_frame f s v ∷ []) 0)) → new ≡ kept_keys (entry s f (Ok n) ∷ past)
-keys-sent c past old new s f n v l legal few are is after =
-    after
-    ∙ ap (λ (ks : List (Option ℕ)). slice_set ks v.iface (key_in (slice_get (l.waiting ++ of_frame f s v ∷ []) 0))) are
-    ∙ ap (λ (k : ℕ). slice_set (kept_keys past) k (key_in (slice_get (l.waiting ++ of_frame f s v ∷ []) 0))) is.iface
+keys-sent : (c : BusConfig) (past : List Entry) (s : SocketId) (f : CanFrame) (n : ℕ) (v : SocketState) (l : LineState) → IsLegal c past
+    → iface_of past s.0 < 16 → IsSender c past s.0 v l
+    → slice_set (kept_keys past) v.iface (key_in (slice_get (l.waiting ++ of_frame f s v ∷ []) 0)) ≡ kept_keys (entry s f (Ok n) ∷ past)
+keys-sent c past s f n v l legal few is =
+    ap (λ (k : ℕ). slice_set (kept_keys past) k (key_in (slice_get (l.waiting ++ of_frame f s v ∷ []) 0))) is.iface
     ∙ ap (λ (p : Option Pending). slice_set (kept_keys past) (iface_of past s.0) (key_in p)) (head-here c past s f n v l legal is)
     ∙ sym (kept_keys-one past (entry s f (Ok n)) (iface_of past s.0) few (head-other past s f n))
 
@@ -141,24 +142,22 @@ nodes-sent : (c : BusConfig) (past : List Entry) (s : SocketId) (f : CanFrame) (
 unfolding kept_nodes
 nodes-sent c past s f n = refl
 
-taken_follows : (c : BusConfig) (past : List Entry) (parts : Parts) (new : List LineState) (new_keys : List (Option ℕ)) (s : SocketId) (f : CanFrame) (n : ℕ) → IsConfig c → IsLegal c past → parts ≡ kept_parts c past → Takes parts.lines parts.keys parts.nodes parts.sockets s.0 n (of_frame f s) new new_keys → Follows c past (entry s f (Ok n)) (record parts { lines = new; keys = new_keys })
-taken_follows c past parts new new_keys s f n proper legal are takes =
+taken_follows : (c : BusConfig) (past : List Entry) (s : SocketId) (f : CanFrame) (n : ℕ) (new : Parts) → IsConfig c → IsLegal c past → Takes (kept_parts c past) s.0 n (of_frame f s) new → Follows c past (entry s f (Ok n)) new
+taken_follows c past s f n new proper legal takes =
     let e = entry s f (Ok n) in
-    let lines_are : parts.lines ≡ kept_lines c past = ap (λ (q : Parts). q.lines) are in
-    let sockets_are : parts.sockets ≡ kept_sockets c past = ap (λ (q : Parts). q.sockets) are in
-    let nodes_are : parts.nodes ≡ kept_nodes c past = ap (λ (q : Parts). q.nodes) are in
-    let is = sender c past parts.lines parts.sockets s.0 takes.socket takes.line lines_are sockets_are takes.is_line in
+    let v = takes.socket in
+    let l = takes.line in
+    let is = sender c past s.0 v l takes.is_line in
     let few : iface_of past s.0 < 16 = omega (arith, is.below, proper.few_ifaces) in
-    let live : is_off (state_at c past (iface_of past s.0)) ≡ false = sym (off-is c past parts.nodes takes.socket.iface (iface_of past s.0) nodes_are is.iface few) ∙ takes.live in
+    let live : is_off (state_at c past (iface_of past s.0)) ≡ false = sym (off-is c past v.iface (iface_of past s.0) is.iface few) ∙ takes.live in
     record {
-      lawful = ap (λ (m : ℕ). reply.Sent m) takes.number ∙ reply-sent c past s f takes.socket takes.line is live takes.room;
-      after = parts-are (kept_parts c (entry s f (Ok n) ∷ past)) new new_keys parts.nodes parts.sockets parts.opened parts.tried
-          (lines-sent c past parts.lines new s f n takes.socket takes.line legal lines_are is takes.after)
-          (keys-sent c past parts.keys new_keys s f n takes.socket takes.line legal few (ap (λ (q : Parts). q.keys) are) is takes.keys_after)
-          (nodes_are ∙ sym (nodes-sent c past s f n))
-          (sockets_are ∙ sym (kept_sockets-quiet c past (entry s f (Ok n)) (sent-quiet c past s f n)))
-          (ap (λ (q : Parts). q.opened) are)
-          (ap (λ (q : Parts). q.tried) are);
+      lawful = ap (λ (m : ℕ). reply.Sent m) takes.number ∙ reply-sent c past s f v l is live takes.room;
+      after = takes.after ∙ parts-are (with_line (kept_parts c past) v.iface (record l { waiting = l.waiting ++ of_frame f s v ∷ []; sent = l.sent + 1 })) (kept_parts c (e ∷ past))
+          (lines-sent c past s f n v l legal is)
+          (keys-sent c past s f n v l legal few is)
+          (sym (nodes-sent c past s f n))
+          (sym (kept_sockets-quiet c past e (sent-quiet c past s f n)))
+          refl refl;
     }
 
 -- ---- a frame that found the queue full
@@ -172,11 +171,9 @@ full-here c past s f v l is =
     ap (λ (k : LineState). record k { refused = k.refused + 1 }) is.line
     ∙ ap (λ (m : ℕ). record (kept_line c past i) { refused = m }) (sym (cond-true (iface_of past s.0 == iface_of past s.0) _ _ (eq-eqb (iface_of past s.0) (iface_of past s.0) refl)))
 
-lines-full : (c : BusConfig) (past : List Entry) (old new : List LineState) (s : SocketId) (f : CanFrame) (v : SocketState) (l : LineState) → old ≡ kept_lines c past → IsSender c past s.0 v l → new ≡ slice_set old v.iface (record l { refused = l.refused + 1 }) → new ≡ kept_lines c (full_entry s f ∷ past)
-lines-full c past old new s f v l are is after =
-    after
-    ∙ ap (λ (ls : List LineState). slice_set ls v.iface (record l { refused = l.refused + 1 })) are
-    ∙ ap (λ (k : ℕ). slice_set (kept_lines c past) k (record l { refused = l.refused + 1 })) is.iface
+lines-full : (c : BusConfig) (past : List Entry) (s : SocketId) (f : CanFrame) (v : SocketState) (l : LineState) → IsSender c past s.0 v l → slice_set (kept_lines c past) v.iface (record l { refused = l.refused + 1 }) ≡ kept_lines c (full_entry s f ∷ past)
+lines-full c past s f v l is =
+    ap (λ (k : ℕ). slice_set (kept_lines c past) k (record l { refused = l.refused + 1 })) is.iface
     ∙ ap (slice_set (kept_lines c past) (iface_of past s.0)) (full-here c past s f v l is)
     ∙ sym (kept_lines-one c past (full_entry s f) (iface_of past s.0) is.below (full-other c past s f))
 
@@ -188,48 +185,40 @@ keys-full : (past : List Entry) (s : SocketId) (f : CanFrame) → kept_keys (ful
 unfolding kept_keys
 keys-full past s f = refl
 
-full_follows : (c : BusConfig) (past : List Entry) (parts : Parts) (new : List LineState) (s : SocketId) (f : CanFrame) → IsConfig c → parts ≡ kept_parts c past → FindsFull parts.lines parts.nodes parts.sockets s.0 new → Follows c past (full_entry s f) (record parts { lines = new })
-full_follows c past parts new s f proper are full =
-    let lines_are : parts.lines ≡ kept_lines c past = ap (λ (q : Parts). q.lines) are in
-    let sockets_are : parts.sockets ≡ kept_sockets c past = ap (λ (q : Parts). q.sockets) are in
-    let nodes_are : parts.nodes ≡ kept_nodes c past = ap (λ (q : Parts). q.nodes) are in
-    let is = sender c past parts.lines parts.sockets s.0 full.socket full.line lines_are sockets_are full.is_line in
+full_follows : (c : BusConfig) (past : List Entry) (s : SocketId) (f : CanFrame) (new : Parts) → IsConfig c → FindsFull (kept_parts c past) s.0 new → Follows c past (full_entry s f) new
+full_follows c past s f new proper full =
+    let e = full_entry s f in
+    let v = full.socket in
+    let l = full.line in
+    let is = sender c past s.0 v l full.is_line in
     let few : iface_of past s.0 < 16 = omega (arith, is.below, proper.few_ifaces) in
-    let live : is_off (state_at c past (iface_of past s.0)) ≡ false = sym (off-is c past parts.nodes full.socket.iface (iface_of past s.0) nodes_are is.iface few) ∙ full.live in
+    let live : is_off (state_at c past (iface_of past s.0)) ≡ false = sym (off-is c past v.iface (iface_of past s.0) is.iface few) ∙ full.live in
     record {
-      lawful = reply-full c past s f full.socket full.line is live full.full;
-      after = parts-are (kept_parts c (full_entry s f ∷ past)) new parts.keys parts.nodes parts.sockets parts.opened parts.tried
-          (lines-full c past parts.lines new s f full.socket full.line lines_are is full.after)
-          (ap (λ (q : Parts). q.keys) are ∙ sym (keys-full past s f))
-          (nodes_are ∙ sym (nodes-full c past s f))
-          (sockets_are ∙ sym (kept_sockets-quiet c past (full_entry s f) (refused-quiet c past (Send s f) refusal.NoBuffers)))
-          (ap (λ (q : Parts). q.opened) are)
-          (ap (λ (q : Parts). q.tried) are);
+      lawful = reply-full c past s f v l is live full.full;
+      after = full.after ∙ parts-are (record (kept_parts c past) { lines = slice_set (kept_lines c past) v.iface (record l { refused = l.refused + 1 }) }) (kept_parts c (e ∷ past))
+          (lines-full c past s f v l is)
+          (sym (keys-full past s f))
+          (sym (nodes-full c past s f))
+          (sym (kept_sockets-quiet c past e (refused-quiet c past (Send s f) refusal.NoBuffers)))
+          refl refl;
     }
 
 -- ---- refusals that count nothing
 
-reply-off : (c : BusConfig) (past : List Entry) (parts : Parts) (s : SocketId) (f : CanFrame) → IsConfig c → IsLegal c past → parts ≡ kept_parts c past → IsOffFor parts.nodes parts.sockets s.0 → reply.Refused refusal.BusOff ≡ legal_reply c past (Send s f)
-reply-off c past parts s f proper legal are off =
-    let at = IsThere-stands c past parts.sockets s.0 off.place off.socket (ap (λ (q : Parts). q.sockets) are) off.stands in
+reply-off : (c : BusConfig) (past : List Entry) (s : SocketId) (f : CanFrame) → IsConfig c → IsLegal c past → IsOffFor (kept_parts c past) s.0 → reply.Refused refusal.BusOff ≡ legal_reply c past (Send s f)
+reply-off c past s f proper legal off =
+    let at = IsThere-stands c past (kept_sockets c past) s.0 off.place off.socket refl off.stands in
     let below = open-iface c past legal off.place s.0 at.listed in
     let few : iface_of past s.0 < 16 = omega (arith, below, proper.few_ifaces) in
-    let dead : is_off (state_at c past (iface_of past s.0)) ≡ true = sym (off-is c past parts.nodes off.socket.iface (iface_of past s.0) (ap (λ (q : Parts). q.nodes) are) (ap (λ (w : SocketState). w.iface) at.left) few) ∙ off.off in
+    let dead : is_off (state_at c past (iface_of past s.0)) ≡ true = sym (off-is c past off.socket.iface (iface_of past s.0) (ap (λ (w : SocketState). w.iface) at.left) few) ∙ off.off in
     sym (cond-true (is_off (state_at c past (iface_of past s.0))) _ _ dead) ∙ sym (cond-true (is_open past s.0) _ _ at.is_there)
 
-unsent : (c : BusConfig) (past : List Entry) (parts : Parts) (new : List LineState) (new_keys : List (Option ℕ)) (e : Entry) → new ≡ parts.lines → new_keys ≡ parts.keys → Follows c past e parts → Follows c past e (record parts { lines = new; keys = new_keys })
-unsent c past parts new new_keys e same same_keys follows =
-    subst (λ (ls : List LineState). Follows c past e (record parts { lines = ls; keys = new_keys })) (sym same)
-    (subst (λ (ks : List (Option ℕ)). Follows c past e (record parts { keys = ks })) (sym same_keys) follows)
-
 -- a frame that was sent, or a refusal, leaves what its entry leaves
-pub sent_follows : (c : BusConfig) (past : List Entry) (parts : Parts) (new : List LineState) (new_keys : List (Option ℕ)) (s : SocketId) (f : CanFrame) (r : Result ℕ Refusal) → IsConfig c → IsLegal c past → parts ≡ kept_parts c past → Sends parts.lines parts.keys parts.nodes parts.sockets s.0 (of_frame f s) r new new_keys → Follows c past (entry s f r) (record parts { lines = new; keys = new_keys })
-sent_follows c past parts new new_keys s f (Ok n) proper legal are takes = taken_follows c past parts new new_keys s f n proper legal are takes
-sent_follows c past parts new new_keys s f (Err refusal.NoSocket) proper legal are refuses =
-    let shut = closed-nowhere c past parts.sockets s.0 (ap (λ (q : Parts). q.sockets) are) refuses.0.0 in
-    unsent c past parts new new_keys (entry s f (Err refusal.NoSocket)) refuses.0.1 refuses.1 (follows_refused c past (Send s f) refusal.NoSocket parts tt are (sym (cond-false (is_open past s.0) _ _ shut)))
-sent_follows c past parts new new_keys s f (Err refusal.BusOff) proper legal are refuses =
-    unsent c past parts new new_keys (entry s f (Err refusal.BusOff)) refuses.0.1 refuses.1 (follows_refused c past (Send s f) refusal.BusOff parts tt are (reply-off c past parts s f proper legal are refuses.0.0))
-sent_follows c past parts new new_keys s f (Err refusal.NoBuffers) proper legal are refuses =
-    subst (λ (ks : List (Option ℕ)). Follows c past (entry s f (Err refusal.NoBuffers)) (record parts { lines = new; keys = ks })) (sym refuses.1) (full_follows c past parts new s f proper are refuses.0)
-sent_follows c past parts new new_keys s f (Err _) proper legal are refuses = absurd refuses.0
+pub sent_follows : (c : BusConfig) (past : List Entry) (s : SocketId) (f : CanFrame) (r : Result ℕ Refusal) (new : Parts) → IsConfig c → IsLegal c past → Sends (kept_parts c past) s.0 (of_frame f s) r new → Follows c past (entry s f r) new
+sent_follows c past s f (Ok n) new proper legal takes = taken_follows c past s f n new proper legal takes
+sent_follows c past s f (Err refusal.NoSocket) new proper legal refuses =
+    let shut = closed-nowhere c past (kept_sockets c past) s.0 refl refuses.0 in
+    follows_refused c past (Send s f) refusal.NoSocket new tt refuses.1 (sym (cond-false (is_open past s.0) _ _ shut))
+sent_follows c past s f (Err refusal.BusOff) new proper legal refuses = follows_refused c past (Send s f) refusal.BusOff new tt refuses.1 (reply-off c past s f proper legal refuses.0)
+sent_follows c past s f (Err refusal.NoBuffers) new proper legal full = full_follows c past s f new proper full
+sent_follows c past s f (Err _) new proper legal refuses = absurd refuses

@@ -15,10 +15,10 @@ use Rattle.can_bus.specs.Sockets.{places, open_sockets, is_open, filters_of, opt
 use Rattle.can_bus.specs.Legal.{legal_reply}
 use Rattle.can_bus.specs.State.{SocketState, Parts, kept_socket, kept_sockets, kept_lines, kept_keys, kept_nodes, kept_parts}
 use Rattle.can_bus.specs.Changes.{Sets}
-use Rattle.can_bus.proofs.Keeping.{Follows, IsStill, IsUncounted, follows_refused}
-use Rattle.can_bus.proofs.Opened.{IsThere-stands, closed-nowhere}
+use Rattle.can_bus.proofs.Keeping.{Follows, IsStill, IsUncounted}
+use Rattle.can_bus.proofs.Opened.{IsThere-stands}
 use Rattle.can_bus.proofs.Quiet.{queued_to-quiet, dropped_at-quiet}
-use Rattle.can_bus.proofs.SocketFacts.{kept_sockets-one, follows_at_sockets}
+use Rattle.can_bus.proofs.SocketFacts.{kept_sockets-one, follows_at_sockets, none_follows}
 
 abbrev pub entry : Event → Result (Unit {0}) Refusal → Entry
 entry e r = record { event = e; reply = told done_reply r }
@@ -36,16 +36,13 @@ record IsSetting (c : BusConfig) (past : List Entry) (e : Event) (s : ℕ) (chan
   others : (o : ℕ) → o ≢ s → kept_socket c (done_entry e ∷ past) o ≡ kept_socket c past o
   here : change (kept_socket c past s) ≡ kept_socket c (done_entry e ∷ past) s
 
-set_follows : (c : BusConfig) (past : List Entry) (parts : Parts) (new : List SocketState) (e : Event) (s : ℕ) (change : SocketState → SocketState) (r : Result (Unit {0}) Refusal) → IsSetting c past e s change → parts ≡ kept_parts c past → Sets parts.sockets s change r new → Follows c past (entry e r) (record parts { sockets = new })
-set_follows c past parts new e s change (Ok done) is are alters =
-    let sockets_are : parts.sockets ≡ kept_sockets c past = ap (λ (q : Parts). q.sockets) are in
-    let at = IsThere-stands c past parts.sockets s alters.place alters.socket sockets_are alters.stands in
-    follows_at_sockets c past (done_entry e) parts new parts.opened are (sym (is.answers ∙ cond-true (is_open past s) _ _ at.is_there)) is.still refl (ap (λ (q : Parts). q.opened) are ∙ ap length (sym is.of_places))
-    (kept_sockets-one c past (done_entry e) parts.sockets new s alters.place alters.socket change sockets_are is.of_open alters.stands is.others is.here alters.after)
-set_follows c past parts new e s change (Err why) is are refuses =
-    let shut = closed-nowhere c past parts.sockets s (ap (λ (q : Parts). q.sockets) are) refuses.1 in
-    let law : reply.Refused why ≡ legal_reply c past e = ap (λ (w : Refusal). reply.Refused w) refuses.0 ∙ sym (is.answers ∙ cond-false (is_open past s) _ _ shut) in
-    subst (λ (vs : List SocketState). Follows c past (entry e (Err why)) (record parts { sockets = vs })) (sym refuses.2) (follows_refused c past e why parts (is.uncounted why) are law)
+set_follows : (c : BusConfig) (past : List Entry) (e : Event) (s : ℕ) (change : SocketState → SocketState) (r : Result (Unit {0}) Refusal) (new : Parts) → IsSetting c past e s change → Sets (kept_parts c past) s change r new → Follows c past (entry e r) new
+set_follows c past e s change (Ok done) new is alters =
+    let at = IsThere-stands c past (kept_sockets c past) s alters.place alters.socket refl alters.stands in
+    follows_at_sockets c past (done_entry e) new _ _ (sym (is.answers ∙ cond-true (is_open past s) _ _ at.is_there)) is.still refl (ap length (sym is.of_places))
+    (kept_sockets-one c past (done_entry e) (kept_sockets c past) _ s alters.place alters.socket change refl is.of_open alters.stands is.others is.here refl)
+    alters.after
+set_follows c past e s change (Err why) new is none = none_follows c past e s _ why new is.answers (is.uncounted why) none
 
 -- ---- filters
 
@@ -71,8 +68,8 @@ sets-filters : (c : BusConfig) (past : List Entry) (s : SocketId) (fs : List Can
 sets-filters c past s fs = record { answers = refl; still = still-filters c past s fs; uncounted = λ why. tt; of_open = refl; of_places = refl; others = others-filters c past s fs; here = here-filters c past s fs }
 
 -- filters that were set, or a refusal, leave what their entry leaves
-pub filters_follow : (c : BusConfig) (past : List Entry) (parts : Parts) (new : List SocketState) (s : SocketId) (fs : List CanFilter) (r : Result (Unit {0}) Refusal) → parts ≡ kept_parts c past → Sets parts.sockets s.0 (λ v. record v { filters = fs }) r new → Follows c past (entry (SetFilters s fs) r) (record parts { sockets = new })
-filters_follow c past parts new s fs r are sets = set_follows c past parts new (SetFilters s fs) s.0 (λ v. record v { filters = fs }) r (sets-filters c past s fs) are sets
+pub filters_follow : (c : BusConfig) (past : List Entry) (s : SocketId) (fs : List CanFilter) (r : Result (Unit {0}) Refusal) (new : Parts) → Sets (kept_parts c past) s.0 (λ v. record v { filters = fs }) r new → Follows c past (entry (SetFilters s fs) r) new
+filters_follow c past s fs r new sets = set_follows c past (SetFilters s fs) s.0 (λ v. record v { filters = fs }) r new (sets-filters c past s fs) sets
 
 -- ---- options
 
@@ -98,5 +95,5 @@ sets-option : (c : BusConfig) (past : List Entry) (s : SocketId) (option : Opt) 
 sets-option c past s option = record { answers = refl; still = still-option c past s option; uncounted = λ why. tt; of_open = refl; of_places = refl; others = others-option c past s option; here = here-option c past s option }
 
 -- an option that was set, or a refusal, leaves what its entry leaves
-pub option_follows : (c : BusConfig) (past : List Entry) (parts : Parts) (new : List SocketState) (s : SocketId) (option : Opt) (r : Result (Unit {0}) Refusal) → parts ≡ kept_parts c past → Sets parts.sockets s.0 (λ v. record v { options = with_option option v.options }) r new → Follows c past (entry (SetOption s option) r) (record parts { sockets = new })
-option_follows c past parts new s option r are sets = set_follows c past parts new (SetOption s option) s.0 (λ v. record v { options = with_option option v.options }) r (sets-option c past s option) are sets
+pub option_follows : (c : BusConfig) (past : List Entry) (s : SocketId) (option : Opt) (r : Result (Unit {0}) Refusal) (new : Parts) → Sets (kept_parts c past) s.0 (λ v. record v { options = with_option option v.options }) r new → Follows c past (entry (SetOption s option) r) new
+option_follows c past s option r new sets = set_follows c past (SetOption s option) s.0 (λ v. record v { options = with_option option v.options }) r new (sets-option c past s option) sets

@@ -1,23 +1,32 @@
-use Rattle.std.proofs.Common.{◌≡◌, ◌≢◌, ℕ, List, ◌∷◌, length, map, slice_set, sym, ap, ◌∙◌}
+use Rattle.std.proofs.Common.{◌≡◌, ◌≢◌, ℕ, List, ◌∷◌, length, map, slice_set, if◌then◌else◌, refl, sym, ap, ◌∙◌}
+use Rattle.std.proofs.lemmas.Bool.{cond-false}
 use Rattle.std.proofs.lemmas.List.{length-map}
 use Rattle.can_bus.specs.declared.events.Entry.{Entry}
 use Rattle.can_bus.specs.declared.events.BusConfig.{BusConfig}
-use Rattle.can_bus.specs.Sockets.{places, open_sockets}
+use Rattle.can_bus.specs.declared.events.Event.{Event}
+use Rattle.can_bus.specs.declared.events.Reply.{Reply}
+use Rattle.can_bus.specs.declared.events.Reply.TheVariants as reply
+use Rattle.can_bus.specs.declared.events.Refusal.{Refusal}
+use Rattle.can_bus.specs.declared.events.Refusal.TheVariants as refusal
+use Rattle.can_bus.specs.Sockets.{places, open_sockets, is_open}
 use Rattle.can_bus.specs.Transmit.{tape}
 use Rattle.can_bus.specs.Legal.{legal_reply}
 use Rattle.can_bus.specs.State.{SocketState, Parts, kept_socket, kept_sockets, kept_lines, kept_keys, kept_nodes, kept_parts}
-use Rattle.can_bus.specs.Changes.{StandsAt}
+use Rattle.can_bus.specs.Changes.{StandsAt, FindsNone}
 use Rattle.can_bus.proofs.Lists.{map_one}
-use Rattle.can_bus.proofs.Opened.{IsThere-stands}
+use Rattle.can_bus.proofs.Opened.{IsThere-stands, closed-nowhere}
 use Rattle.can_bus.proofs.Rising.{open_sockets-rise}
-use Rattle.can_bus.proofs.Keeping.{Follows, IsStill, parts-are}
+use Rattle.can_bus.proofs.Keeping.{Follows, IsStill, IsUncounted, refused, follows_refused, parts-are}
 
 pub length-kept_sockets : (c : BusConfig) (past : List Entry) → length (kept_sockets c past) ≡ length (open_sockets past)
 unfolding kept_sockets
 length-kept_sockets c past = length-map (open_sockets past) (kept_socket c past)
 
 -- an entry that concerns one open socket
-pub kept_sockets-one : (c : BusConfig) (past : List Entry) (e : Entry) (old new : List SocketState) (s k : ℕ) (v : SocketState) (change : SocketState → SocketState) → old ≡ kept_sockets c past → open_sockets (e ∷ past) ≡ open_sockets past → StandsAt old s k v → ((o : ℕ) → o ≢ s → kept_socket c (e ∷ past) o ≡ kept_socket c past o) → change (kept_socket c past s) ≡ kept_socket c (e ∷ past) s → new ≡ slice_set old k (change v) → new ≡ kept_sockets c (e ∷ past)
+pub kept_sockets-one : (c : BusConfig) (past : List Entry) (e : Entry) (old new : List SocketState) (s k : ℕ) (v : SocketState) (change : SocketState → SocketState)
+    → old ≡ kept_sockets c past → open_sockets (e ∷ past) ≡ open_sockets past → StandsAt old s k v
+    → ((o : ℕ) → o ≢ s → kept_socket c (e ∷ past) o ≡ kept_socket c past o) → change (kept_socket c past s) ≡ kept_socket c (e ∷ past) s
+    → new ≡ slice_set old k (change v) → new ≡ kept_sockets c (e ∷ past)
 unfolding kept_sockets
 kept_sockets-one c past e old new s k v change are same_open stands others here after =
     let at = IsThere-stands c past old s k v are stands in
@@ -30,12 +39,18 @@ kept_sockets-one c past e old new s k v change are same_open stands others here 
     ∙ sym (ap (λ (os : List ℕ). map (kept_socket c (e ∷ past)) os) same_open)
 
 -- an entry that concerns the sockets alone
-pub follows_at_sockets : (c : BusConfig) (past : List Entry) (e : Entry) (parts : Parts) (new : List SocketState) (opened : ℕ) → parts ≡ kept_parts c past → e.reply ≡ legal_reply c past e.event → IsStill c past e → tape (e ∷ past) ≡ tape past → opened ≡ length (places (e ∷ past)) → new ≡ kept_sockets c (e ∷ past) → Follows c past e (record parts { sockets = new; opened = opened })
-follows_at_sockets c past e parts new opened are lawful still same_tape opened_is new_is =
-    let l : parts.lines ≡ kept_lines c (e ∷ past) = ap (λ (q : Parts). q.lines) are ∙ sym still.of_lines in
-    let k : parts.keys ≡ kept_keys (e ∷ past) = ap (λ (q : Parts). q.keys) are ∙ sym still.of_keys in
-    let n : parts.nodes ≡ kept_nodes c (e ∷ past) = ap (λ (q : Parts). q.nodes) are ∙ sym still.of_nodes in
-    record {
-      lawful = lawful;
-      after = parts-are (kept_parts c (e ∷ past)) parts.lines parts.keys parts.nodes new opened parts.tried l k n new_is opened_is (ap (λ (q : Parts). q.tried) are ∙ ap length (sym same_tape));
-    }
+pub follows_at_sockets : (c : BusConfig) (past : List Entry) (e : Entry) (new : Parts) (sockets : List SocketState) (opened : ℕ)
+    → e.reply ≡ legal_reply c past e.event → IsStill c past e → tape (e ∷ past) ≡ tape past → opened ≡ length (places (e ∷ past))
+    → sockets ≡ kept_sockets c (e ∷ past) → new ≡ record (kept_parts c past) { sockets = sockets; opened = opened } → Follows c past e new
+follows_at_sockets c past e new sockets opened lawful still same_tape opened_is sockets_are after = record {
+  lawful = lawful;
+  after = after ∙ parts-are (record (kept_parts c past) { sockets = sockets; opened = opened }) (kept_parts c (e ∷ past)) (sym still.of_lines) (sym still.of_keys) (sym still.of_nodes) sockets_are opened_is (ap length (sym same_tape));
+}
+
+-- a call on a socket that is not open
+pub none_follows : (c : BusConfig) (past : List Entry) (e : Event) (s : ℕ) (given : Reply) (why : Refusal) (new : Parts)
+    → legal_reply c past e ≡ (if is_open past s then given else reply.Refused refusal.NoSocket) → IsUncounted e why
+    → FindsNone (kept_parts c past) s why new → Follows c past (refused e why) new
+none_follows c past e s given why new law uncounted none =
+    let shut = closed-nowhere c past (kept_sockets c past) s refl none.1 in
+    follows_refused c past e why new uncounted none.2 (ap (λ (w : Refusal). reply.Refused w) none.0 ∙ sym (law ∙ cond-false (is_open past s) given _ shut))

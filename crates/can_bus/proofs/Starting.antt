@@ -6,7 +6,7 @@ use Rattle.can_attempt.specs.declared.nodes.Nodes.{Nodes}
 use Rattle.can_bus.specs.declared.events.Entry.{Entry}
 use Rattle.can_bus.specs.declared.events.BusConfig.{BusConfig}
 use Rattle.can_bus.specs.Journal.{Kept, IsConfig}
-use Rattle.can_bus.specs.State.{LineState, SocketState, kept_line, kept_lines, kept_sockets, kept_keys, kept_nodes, kept_parts, IsKept}
+use Rattle.can_bus.specs.State.{LineState, SocketState, Parts, kept_line, kept_lines, kept_sockets, kept_keys, kept_nodes, kept_parts, IsKept}
 use Rattle.can_bus.proofs.Keeping.{parts-are}
 
 abbrev fresh : BusConfig → LineState
@@ -35,15 +35,15 @@ first_nodes : (c : BusConfig) → all_at c at_start ≡ kept_nodes c []
 unfolding kept_nodes
 first_nodes c = refl
 
--- a bus on which nothing was done
-pub made : (j : Kept) (lines : List LineState) (keys : List (Option ℕ)) (z : ErrorCounts) (sockets : List SocketState) (p : ℕ) (c : BusConfig) → j.config ≡ c → j.history ≡ [] → c.limit ≤ j.room → IsConfig c → lines ≡ replicate c.ifaces (fresh c) → keys ≡ no_keys → z ≡ at_start → sockets ≡ [] → 64 ≤ p → IsKept j (record { lines = lines; keys = keys; nodes = all_at c z; sockets = sockets; opened = 0; tried = 0 }) p
-made j lines keys z sockets p c config history room proper lines_are keys_are zero_is sockets_are places_room =
+-- the state of a bus on which nothing was done
+pub started : (c : BusConfig) (lines : List LineState) (keys : List (Option ℕ)) (z : ErrorCounts) (sockets : List SocketState)
+    → lines ≡ replicate c.ifaces (fresh c) → keys ≡ no_keys → z ≡ at_start → sockets ≡ []
+    → record { lines = lines; keys = keys; nodes = all_at c z; sockets = sockets; opened = 0; tried = 0 } ≡ kept_parts c []
+started c lines keys z sockets lines_are keys_are zero_is sockets_are =
+    parts-are (record { lines = lines; keys = keys; nodes = all_at c z; sockets = sockets; opened = 0; tried = 0 }) (kept_parts c []) (lines_are ∙ first_lines c) (keys_are ∙ first_keys) (ap (all_at c) zero_is ∙ first_nodes c) (sockets_are ∙ none_open c) refl refl
+
+-- an empty record, and what it leaves
+pub made : (j : Kept) (parts : Parts) (c : BusConfig) → j.config ≡ c → j.history ≡ [] → c.limit ≤ j.room → IsConfig c → parts ≡ kept_parts c [] → IsKept j parts
+made j parts c config history room proper parts_are =
     let is : ◌≡◌ {A = Kept} (record { config = c; history = []; room = j.room }) j = ap (λ (k : BusConfig). record { config = k; history = []; room = j.room }) (sym config) ∙ ap (λ (h : List Entry). record { config = j.config; history = h; room = j.room }) (sym history) in
-    subst (λ k. IsKept k (record { lines = lines; keys = keys; nodes = all_at c z; sockets = sockets; opened = 0; tried = 0 }) p) is
-    (record {
-      of_parts = parts-are (kept_parts c []) lines keys (all_at c z) sockets 0 0 (lines_are ∙ first_lines c) (keys_are ∙ first_keys) (ap (all_at c) zero_is ∙ first_nodes c) (sockets_are ∙ none_open c) refl refl;
-      legal = tt;
-      proper = proper;
-      room = room;
-      sockets_room = places_room;
-    })
+    subst (λ k. IsKept k parts) is (record { of_parts = parts_are; legal = tt; proper = proper; room = room })

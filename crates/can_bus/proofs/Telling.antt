@@ -5,7 +5,6 @@ use Rattle.std.proofs.lemmas.Bool.{cond-true, cond-false, ltb-true}
 use Rattle.std.proofs.lemmas.List.{length-drop}
 use Rattle.std.proofs.lemmas.Option.{slice_get-map, slice_get_past}
 use Rattle.can_confine.specs.Confinement.{ErrorCounts}
-use Rattle.can_attempt.specs.declared.nodes.Nodes.{Nodes}
 use Rattle.can_attempt.specs.Attempts.{counts_at}
 use Rattle.can_bus.specs.declared.events.BusConfig.{BusConfig}
 use Rattle.can_bus.specs.declared.events.Entry.{Entry}
@@ -32,12 +31,13 @@ use Rattle.can_bus.proofs.Opened.{IsThere-stands, closed-nowhere}
 abbrev counted : SocketState → SocketStats
 counted v = record { queued = v.taken + length v.waiting; dropped = v.dropped; taken = v.taken }
 
-pub told_socket : (c : BusConfig) (past : List Entry) (sockets : List SocketState) (s : ℕ) (stats : Option SocketStats) → IsLegal c past → sockets ≡ kept_sockets c past → TellsSocket sockets s stats → stats ≡ socket_stats_of c past s
-told_socket c past sockets s None legal are nowhere = sym (cond-false (is_open past s) _ _ (closed-nowhere c past sockets s are nowhere))
-told_socket c past sockets s (Some stats) legal are tells =
-    let at = IsThere-stands c past sockets s tells.place tells.socket are tells.stands in
+pub told_socket : (c : BusConfig) (past : List Entry) (s : ℕ) (stats : Option SocketStats) → IsLegal c past → TellsSocket (kept_sockets c past) s stats → stats ≡ socket_stats_of c past s
+told_socket c past s None legal nowhere = sym (cond-false (is_open past s) _ _ (closed-nowhere c past (kept_sockets c past) s refl nowhere))
+told_socket c past s (Some stats) legal tells =
+    let at = IsThere-stands c past (kept_sockets c past) s tells.place tells.socket refl tells.stands in
     let all : length (taken_from past s) + length (drop (length (taken_from past s)) (queued_to c past s)) ≡ length (queued_to c past s) = omega (arith, length-drop (length (taken_from past s)) (queued_to c past s), taken_from-le-queued c past legal s) in
-    let told : stats ≡ record { queued = length (queued_to c past s); dropped = length (dropped_at c past s); taken = length (taken_from past s) } = tells.told ∙ ap counted at.left ∙ ap (λ (n : ℕ). record { queued = n; dropped = length (dropped_at c past s); taken = length (taken_from past s) }) all in
+    let told : stats ≡ record { queued = length (queued_to c past s); dropped = length (dropped_at c past s); taken = length (taken_from past s) } =
+    tells.told ∙ ap counted at.left ∙ ap (λ (n : ℕ). record { queued = n; dropped = length (dropped_at c past s); taken = length (taken_from past s) }) all in
     ap (λ (t : SocketStats). Some t) told ∙ sym (cond-true (is_open past s) _ _ at.is_there)
 
 -- ---- interfaces
@@ -67,8 +67,5 @@ kept_iface c past i false proper is =
     ap (option_map (told_line (counts_at (kept_nodes c past) i))) (slice_get_past (kept_lines c past) i past_end)
     ∙ sym (cond-false (nat_lt i c.ifaces) _ _ is)
 
-pub told_iface : (c : BusConfig) (past : List Entry) (lines : List LineState) (nodes : Nodes) (i : ℕ) → IsConfig c → lines ≡ kept_lines c past → nodes ≡ kept_nodes c past → option_map (told_line (counts_at nodes i)) (slice_get lines i) ≡ iface_stats_of c past i
-told_iface c past lines nodes i proper lines_are nodes_are =
-    ap (λ (ls : List LineState). option_map (told_line (counts_at nodes i)) (slice_get ls i)) lines_are
-    ∙ ap (λ (n : Nodes). option_map (told_line (counts_at n i)) (slice_get (kept_lines c past) i)) nodes_are
-    ∙ kept_iface c past i (nat_lt i c.ifaces) proper refl
+pub told_iface : (c : BusConfig) (past : List Entry) (i : ℕ) → IsConfig c → option_map (told_line (counts_at (kept_nodes c past) i)) (slice_get (kept_lines c past) i) ≡ iface_stats_of c past i
+told_iface c past i proper = kept_iface c past i (nat_lt i c.ifaces) proper refl

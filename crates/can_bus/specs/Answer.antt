@@ -43,11 +43,3 @@ told f (Err why) = reply.Refused why
 
 abbrev pub done_reply : Unit {0} → Reply
 done_reply done = reply.Done
-
-abbrev pub counted : Option Tried → ℕ → ℕ
-counted None n = n
-counted (Some t) n = n + 1
-
-abbrev pub numbered : Result SocketId Refusal → ℕ → ℕ
-numbered (Ok s) n = n + 1
-numbered (Err why) n = n

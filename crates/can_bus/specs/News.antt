@@ -1,5 +1,5 @@
 use Rattle.std.specs.Prelude.{ℕ, List, Some}
-use Rattle.can_bus.specs.declared.news.News.{News}
+use Rattle.can_bus.specs.declared.posting.News.{News}
 use Rattle.can_bus.specs.Attempted.{transmission_of}
 use Rattle.can_bus.specs.Posts.{Post, attempt_posts}
 

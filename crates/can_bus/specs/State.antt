@@ -1,4 +1,4 @@
-use Rattle.std.specs.Prelude.{◌≡◌, ℕ, ◌+◌, ◌-◌, ◌≤◌, List, ◌++◌, length, map, take, drop, Option}
+use Rattle.std.specs.Prelude.{◌≡◌, ℕ, ◌+◌, ◌-◌, ◌≤◌, List, ◌∷◌, ◌++◌, length, map, take, drop, Option}
 use Rattle.std.specs.List.{range_with_len}
 use Rattle.std.specs.Option.{option_map}
 use Rattle.can_filter.specs.Filters.{CanFilter}
@@ -86,10 +86,15 @@ pub record Parts : Type 0 where
 abbrev pub kept_parts : BusConfig → List Entry → Parts
 kept_parts c past = record { lines = kept_lines c past; keys = kept_keys past; nodes = kept_nodes c past; sockets = kept_sockets c past; opened = length (places past); tried = length (tape past) }
 
--- what is kept is what the history leaves, and there is memory for what may come
-pub record IsKept (j : Kept) (parts : Parts) (places_made : ℕ) : Type 0 where
+-- a record with one entry more
+pub record IsLonger (j : Kept) (e : Entry) (new : Kept) : Type 0 where
+  pub config : new.config ≡ j.config
+  pub history : new.history ≡ e ∷ j.history
+  pub room : j.room ≤ new.room
+
+-- what is kept is what the history leaves, and there is memory for all the entries that may come
+pub record IsKept (j : Kept) (parts : Parts) : Type 0 where
   pub of_parts : parts ≡ kept_parts j.config j.history
   pub legal : IsLegal j.config j.history
   pub proper : IsConfig j.config
   pub room : j.config.limit ≤ j.room
-  pub sockets_room : 64 ≤ places_made

@@ -1,4 +1,4 @@
-ghost use Rattle.std.specs.Prelude.{◌≡◌, ◌+◌, ◌<◌, ◌≤◌, ◌^◌, [], length, IfOk, OnOk, IsTrue, ◌↔◌};
+ghost use Rattle.std.specs.Prelude.{◌≡◌, [], length, IfOk, OnOk, ◌↔◌};
 ghost use Rattle.can_bus.specs.Answer.{Answers, done_reply, told_attempt};
 ghost use Rattle.can_bus.specs.Attempts.{winner};
 ghost use Rattle.can_bus.specs.Headline.{Headline};
@@ -10,17 +10,13 @@ ghost use Rattle.can_bus.specs.declared.events.Event.TheVariants as event;
 ghost use Rattle.can_bus.specs.declared.events.Reply.TheVariants as reply;
 
 use crate::events::{BusConfig, Closed, Event, Opt, Pending, Received, Refusal, SocketId, Tried};
-use crate::line::Line;
 use crate::records::Record;
 use crate::replies::{
-    attempt_reply, closed_reply, counted, done_reply, is_no_memory, numbered, opened_reply,
-    received_reply, sent_reply,
+    attempt_reply, closed_reply, done_reply, is_no_memory, opened_reply, received_reply, sent_reply,
 };
-use crate::socket::Socket;
+use crate::state::State;
 use crate::stats::{IfaceStats, SocketStats};
-use crate::{attempts, lines, sockets};
 use can_arbiter::{Arbiter, ScanArbiter};
-use can_attempt::Nodes;
 use can_confine::Counters;
 use can_fault::Verdict;
 use can_filter::FilterSet;
@@ -53,12 +49,7 @@ pub enum BusFault {
 #[derive(Drop)]
 pub struct Bus<T: BoundedQueue<Pending>, R: BoundedQueue<Received>, A: Arbiter> {
     record: Record,
-    lines: Vec<Line<T>>,
-    arbiter: A,
-    nodes: Nodes,
-    sockets: Vec<Socket<R>>,
-    opened: u32,
-    tried: u64,
+    state: State<T, R, A>,
 }
 
 /// The bus of the program: rings for its queues.
@@ -68,7 +59,6 @@ pub type RingBus = Bus<RingQueue<Pending>, RingQueue<Received>, ScanArbiter>;
 pub type ListBus = Bus<ListQueue<Pending>, ListQueue<Received>, ScanArbiter>;
 
 impl<T: BoundedQueue<Pending>, R: BoundedQueue<Received>, A: Arbiter> Model for Bus<T, R, A> {
-    ghost use Rattle.std.specs.Prelude.{◌≤◌, vec_capacity};
     ghost use Rattle.can_bus.specs.Journal.{Journal};
     ghost use Rattle.can_bus.specs.State.{IsKept};
 
@@ -76,7 +66,7 @@ impl<T: BoundedQueue<Pending>, R: BoundedQueue<Received>, A: Arbiter> Model for 
 
     ghost view = { λ b. record { config = b.record.config; history = b.record.history } };
 
-    ghost invariant = { λ b. IsKept b.record (record { lines = b.lines.items; keys = A.keys_of b.arbiter; nodes = b.nodes; sockets = b.sockets.items; opened = b.opened; tried = b.tried }) (vec_capacity b.sockets) };
+    ghost invariant = { λ b. IsKept b.record b.state };
 }
 
 impl<T: BoundedQueue<Pending>, R: BoundedQueue<Received>, A: Arbiter> Bus<T, R, A> {
@@ -89,27 +79,13 @@ impl<T: BoundedQueue<Pending>, R: BoundedQueue<Received>, A: Arbiter> Bus<T, R, 
         if !config.is_proper() {
             return Err(BusFault::BadConfig);
         }
-        let Ok(lines) = lines::make(alloc, config.ifaces, config.tx_capacity as usize) else {
-            return Err(BusFault::NoMemory);
-        };
-        let Ok(sockets) = Vec::with_capacity(alloc, 64) else {
+        let Ok(state) = State::new(alloc, config) else {
             return Err(BusFault::NoMemory);
         };
         let Ok(record) = Record::new(alloc, config) else {
             return Err(BusFault::NoMemory);
         };
-        Ok(Bus {
-            record,
-            lines,
-            arbiter: A::new(),
-            nodes: Nodes {
-                count: config.ifaces,
-                counters: [Counters::zero(); 16],
-            },
-            sockets,
-            opened: 0,
-            tried: 0,
-        })
+        Ok(Bus { record, state })
     }
 
     /// The bus's record: its configuration, and each event with its reply.
@@ -137,7 +113,7 @@ impl<T: BoundedQueue<Pending>, R: BoundedQueue<Received>, A: Arbiter> Bus<T, R, 
     pub fn next_attempt(&self) -> u64
         ensures { result ≡ length (tape self.now.history) }
     {
-        self.tried
+        self.state.tried()
     }
 
     /// Opens a socket on an interface, where `capacity` items may wait.
@@ -150,19 +126,10 @@ impl<T: BoundedQueue<Pending>, R: BoundedQueue<Received>, A: Arbiter> Bus<T, R, 
         if self.record.is_full() {
             return Err(Refusal::RecordFull);
         }
-        let ifaces = self.record.config().ifaces;
-        let outcome = sockets::open_in(
-            alloc,
-            &mut self.sockets,
-            self.opened,
-            ifaces,
-            iface,
-            capacity,
-        );
+        let outcome = self.state.open(alloc, iface, capacity);
         if is_no_memory(&outcome) {
             return Err(Refusal::NoMemory);
         }
-        self.opened = numbered(&outcome, self.opened);
         self.record
             .push(Event::Open(iface, capacity), opened_reply(&outcome));
         outcome
@@ -177,7 +144,7 @@ impl<T: BoundedQueue<Pending>, R: BoundedQueue<Received>, A: Arbiter> Bus<T, R, 
         if self.record.is_full() {
             return Err(Refusal::RecordFull);
         }
-        let outcome = sockets::close_in(&mut self.sockets, id);
+        let outcome = self.state.close(id);
         self.record.push(Event::Close(id), closed_reply(&outcome));
         outcome
     }
@@ -203,7 +170,7 @@ impl<T: BoundedQueue<Pending>, R: BoundedQueue<Received>, A: Arbiter> Bus<T, R, 
         let Ok(noted) = filters.try_copy(alloc) else {
             return Err(Refusal::NoMemory);
         };
-        let outcome = sockets::set_filters_on(&mut self.sockets, id, kept);
+        let outcome = self.state.set_filters(id, kept);
         self.record
             .push(Event::SetFilters(id, noted), done_reply(&outcome));
         outcome
@@ -216,7 +183,7 @@ impl<T: BoundedQueue<Pending>, R: BoundedQueue<Received>, A: Arbiter> Bus<T, R, 
         if self.record.is_full() {
             return Err(Refusal::RecordFull);
         }
-        let outcome = sockets::set_option_on(&mut self.sockets, id, option);
+        let outcome = self.state.set_option(id, option);
         self.record
             .push(Event::SetOption(id, option), done_reply(&outcome));
         outcome
@@ -232,14 +199,7 @@ impl<T: BoundedQueue<Pending>, R: BoundedQueue<Received>, A: Arbiter> Bus<T, R, 
         if self.record.is_full() {
             return Err(Refusal::RecordFull);
         }
-        let outcome = lines::send_on(
-            &mut self.lines,
-            &mut self.arbiter,
-            &self.nodes,
-            &self.sockets,
-            id,
-            frame,
-        );
+        let outcome = self.state.send(id, frame);
         self.record
             .push(Event::Send(id, frame), sent_reply(&outcome));
         outcome
@@ -254,7 +214,7 @@ impl<T: BoundedQueue<Pending>, R: BoundedQueue<Received>, A: Arbiter> Bus<T, R, 
         if self.record.is_full() {
             return Err(Refusal::RecordFull);
         }
-        let outcome = sockets::receive_from(&mut self.sockets, id);
+        let outcome = self.state.receive(id);
         self.record
             .push(Event::Receive(id), received_reply(&outcome));
         outcome
@@ -271,16 +231,7 @@ impl<T: BoundedQueue<Pending>, R: BoundedQueue<Received>, A: Arbiter> Bus<T, R, 
             return Err(Refusal::RecordFull);
         }
         let config = self.record.config();
-        let outcome = attempts::try_on(
-            &mut self.lines,
-            &mut self.arbiter,
-            &mut self.nodes,
-            &mut self.sockets,
-            config,
-            moment,
-            verdict,
-        );
-        self.tried = counted(&outcome, self.tried);
+        let outcome = self.state.attempt(config, moment, verdict);
         self.record
             .push(Event::Attempt(moment, verdict), attempt_reply(&outcome));
         Ok(outcome)
@@ -295,7 +246,7 @@ impl<T: BoundedQueue<Pending>, R: BoundedQueue<Received>, A: Arbiter> Bus<T, R, 
         if self.record.is_full() {
             return Err(Refusal::RecordFull);
         }
-        let outcome = attempts::restart_on(&mut self.nodes, &mut self.sockets, iface, moment);
+        let outcome = self.state.restart(iface, moment);
         self.record
             .push(Event::Restart(iface, moment), done_reply(&outcome));
         outcome
@@ -305,27 +256,28 @@ impl<T: BoundedQueue<Pending>, R: BoundedQueue<Received>, A: Arbiter> Bus<T, R, 
     pub fn socket_stats(&self, id: SocketId) -> Option<SocketStats>
         ensures { result ≡ socket_stats_of self.now.config self.now.history id.0 }
     {
-        sockets::stats_of(&self.sockets, id)
+        self.state.socket_stats(id)
     }
 
     /// What became of the frames of an interface, and its error counters. No event.
     pub fn iface_stats(&self, iface: Iface) -> Option<IfaceStats>
         ensures { result ≡ iface_stats_of self.now.config self.now.history iface }
     {
-        lines::stats_of(&self.lines, &self.nodes, iface)
+        self.state.iface_stats(iface)
     }
+
     /// The interface whose frame the next attempt tries: `None` where no live interface has one to send.
     /// No event.
     pub fn next_winner(&self) -> Option<Iface>
         ensures { result ≡ winner self.now.config self.now.history }
     {
-        self.arbiter.winner()
+        self.state.winner()
     }
 
     /// The error counters of all 16 places, by interface; where there is no interface they are 0. No event.
     pub fn counters(&self) -> [Counters; 16]
         ensures { result ≡ all_counts self.now.config self.now.history }
     {
-        self.nodes.counters
+        self.state.counters()
     }
 }

@@ -223,8 +223,8 @@ pub enum Reply {
     Refused(Refusal),
 }
 
-/// A call with its answer. It takes 96 bytes: 32 for the event, as wide as `SetFilters` with its list of
-/// filters, and 64 for the reply, as wide as `Tried`.
+/// A call with its answer. It takes 104 bytes: the event is as wide as `SetFilters` with its filters, and
+/// the reply as wide as `Tried`.
 #[derive(Debug, Drop)]
 pub struct Entry {
     pub event: Event,

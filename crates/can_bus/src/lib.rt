@@ -12,14 +12,15 @@ pub mod events;
 pub mod laws;
 mod line;
 mod lines;
-mod news;
 pub mod outcomes;
+mod posting;
 pub mod records;
 mod replies;
 pub mod runs;
 mod socket;
 mod sockets;
 pub mod spelled;
+mod state;
 pub mod stats;
 
 pub use buses::{Bus, BusFault, ListBus, RingBus};

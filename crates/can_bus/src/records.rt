@@ -1,4 +1,4 @@
-ghost use Rattle.std.specs.Prelude.{◌≡◌, ◌<◌, ◌≤◌, ◌^◌, ◌==◌, [], ◌∷◌, length, All, IfOk, IsSome, IfSome, IsTrue, ◌↔◌};
+ghost use Rattle.std.specs.Prelude.{◌≡◌, ◌<◌, ◌≤◌, ◌^◌, ◌==◌, [], length, All, IfOk, IsSome, IfSome, IsTrue, ◌↔◌};
 ghost use Rattle.can_bus.specs.Journal.{IsConfig};
 ghost use Rattle.can_bus.specs.Spelled.{IsSpelled, IsRecord};
 
@@ -32,6 +32,7 @@ impl Model for Record {
 
 impl Record {
     ghost use Rattle.std.specs.Prelude.{reverse};
+    ghost use Rattle.can_bus.specs.State.{IsLonger};
 
     /// An empty record, with memory for all the entries that its limit allows.
     pub(crate) fn new(alloc: Global, config: BusConfig) -> Result<Record, AllocError>
@@ -104,9 +105,7 @@ impl Record {
     pub(crate) fn push(&mut self, event: Event, reply: Reply)
         requires room { length self.old.history < self.old.room }
         requires spelled { IsSpelled (record { event = event; reply = reply }) }
-        ensures config { self.new.config ≡ self.old.config }
-        ensures history { self.new.history ≡ record { event = event; reply = reply } ∷ self.old.history }
-        ensures room { self.old.room ≤ self.new.room }
+        ensures { IsLonger self.old (record { event = event; reply = reply }) self.new }
     {
         // The checker has to meet the types inside a reply before a vector takes one.
         let _types: Option<(Item, Received)> = None;

@@ -1,5 +1,5 @@
-ghost use Rattle.std.specs.Prelude.{◌≡◌, ◌+◌, ◌<◌, ◌^◌, ◌↔◌, IsTrue};
-ghost use Rattle.can_bus.specs.Answer.{told, done_reply, told_attempt, counted, numbered};
+ghost use Rattle.std.specs.Prelude.{◌≡◌, ◌↔◌, IsTrue};
+ghost use Rattle.can_bus.specs.Answer.{told, done_reply, told_attempt};
 ghost use Rattle.can_bus.specs.declared.events.Reply.TheVariants as reply;
 
 use crate::events::{Closed, Received, Refusal, Reply, SocketId, Tried};
@@ -57,28 +57,6 @@ pub fn attempt_reply(outcome: &Option<Tried>) -> Reply
     match outcome {
         Some(tried) => Reply::Tried(*tried),
         None => Reply::Idle,
-    }
-}
-
-/// How many attempts there are after one that answered this.
-pub fn counted(outcome: &Option<Tried>, before: u64) -> u64
-    requires { before + 1 < 2 ^ 64 }
-    ensures { result ≡ counted outcome.now before }
-{
-    match outcome {
-        Some(_) => before + 1,
-        None => before,
-    }
-}
-
-/// How many sockets were ever opened after a call that answered this.
-pub fn numbered(outcome: &Result<SocketId, Refusal>, before: u32) -> u32
-    requires { before + 1 < 2 ^ 32 }
-    ensures { result ≡ numbered outcome.now before }
-{
-    match outcome {
-        Ok(_) => before + 1,
-        Err(_) => before,
     }
 }
 

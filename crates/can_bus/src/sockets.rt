@@ -1,12 +1,14 @@
-ghost use Rattle.std.specs.Prelude.{◌≡◌, ◌+◌, ◌<◌, ◌≤◌, ◌^◌, ◌==◌, All, vec_capacity, IfSome, IfNone, IsSomeAnd, slice_get, length, false};
+ghost use Rattle.std.specs.Prelude.{◌≡◌, ◌+◌, ◌<◌, ◌≤◌, ◌^◌, ◌==◌, All, IfSome, IfNone, IsSomeAnd, slice_get, length, false};
 ghost use Rattle.std.specs.List.{list_any};
 ghost use Rattle.can_bus.specs.Changes.{Receives, Sets, Closes, Opens};
 ghost use Rattle.can_bus.specs.Sockets.{with_option};
 ghost use Rattle.can_bus.specs.Stats.{TellsSocket};
 
-use crate::events::{Closed, Opt, Received, Refusal, SocketId};
+use crate::events::{Closed, Opt, Pending, Received, Refusal, SocketId};
 use crate::socket::Socket;
+use crate::state::State;
 use crate::stats::SocketStats;
+use can_arbiter::Arbiter;
 use can_filter::FilterSet;
 use can_frame::Iface;
 use can_queue::BoundedQueue;
@@ -30,117 +32,94 @@ pub fn find<R: BoundedQueue<Received>>(sockets: &[Socket<R>], id: SocketId) -> O
     None
 }
 
-/// Gives the oldest item of a socket.
-pub fn receive_from<R: BoundedQueue<Received>>(
-    sockets: &mut Vec<Socket<R>>,
-    id: SocketId,
-) -> Result<Option<Received>, Refusal>
-    requires { All (λ v. v.taken + 1 < 2 ^ 64) sockets.old.items }
-    ensures received { Receives sockets.old.items id.0 result sockets.new.items }
-    ensures room { vec_capacity sockets.new ≡ vec_capacity sockets.old }
-{
-    let Some(k) = find(sockets, id) else {
-        return Err(Refusal::NoSocket);
-    };
-    let socket = &mut sockets[k];
-    Ok(socket.receive())
-}
-
-/// Sets the filters of a socket.
-pub fn set_filters_on<R: BoundedQueue<Received>>(
-    sockets: &mut Vec<Socket<R>>,
-    id: SocketId,
-    filters: FilterSet,
-) -> Result<(), Refusal>
-    ensures set { Sets sockets.old.items id.0 (λ v. record v { filters = filters }) result sockets.new.items }
-    ensures room { vec_capacity sockets.new ≡ vec_capacity sockets.old }
-{
-    let Some(k) = find(sockets, id) else {
-        return Err(Refusal::NoSocket);
-    };
-    let socket = &mut sockets[k];
-    socket.set_filters(filters);
-    Ok(())
-}
-
-/// Sets an option of a socket.
-pub fn set_option_on<R: BoundedQueue<Received>>(
-    sockets: &mut Vec<Socket<R>>,
-    id: SocketId,
-    option: Opt,
-) -> Result<(), Refusal>
-    ensures set { Sets sockets.old.items id.0 (λ v. record v { options = with_option option v.options }) result sockets.new.items }
-    ensures room { vec_capacity sockets.new ≡ vec_capacity sockets.old }
-{
-    let Some(k) = find(sockets, id) else {
-        return Err(Refusal::NoSocket);
-    };
-    let socket = &mut sockets[k];
-    socket.set_option(option);
-    Ok(())
-}
-
-/// Closes a socket.
-pub fn close_in<R: BoundedQueue<Received>>(
-    sockets: &mut Vec<Socket<R>>,
-    id: SocketId,
-) -> Result<Closed, Refusal>
-    ensures closed { Closes sockets.old.items id.0 result sockets.new.items }
-    ensures room { vec_capacity sockets.new ≡ vec_capacity sockets.old }
-{
-    let Some(k) = find(sockets, id) else {
-        return Err(Refusal::NoSocket);
-    };
-    let socket = sockets.remove(k);
-    Ok(socket.counts())
-}
-
-/// Opens a socket under a number.
-pub fn open_in<R: BoundedQueue<Received>>(
-    alloc: Global,
-    sockets: &mut Vec<Socket<R>>,
-    number: u32,
-    ifaces: u8,
-    iface: Iface,
-    capacity: u32,
-) -> Result<SocketId, Refusal>
-    requires { 64 ≤ vec_capacity sockets.old }
-    ensures opened { Opens ifaces sockets.old.items number iface capacity result sockets.new.items }
-    ensures room { vec_capacity sockets.old ≤ vec_capacity sockets.new }
-{
-    if iface.number() >= ifaces {
-        return Err(Refusal::NoInterface);
+impl<T: BoundedQueue<Pending>, R: BoundedQueue<Received>, A: Arbiter> State<T, R, A> {
+    /// Opens a socket under the next number.
+    pub fn open(&mut self, alloc: Global, iface: Iface, capacity: u32) -> Result<SocketId, Refusal>
+        requires { self.old.opened + 1 < 2 ^ 32 }
+        ensures { Opens self.old iface capacity result self.new }
+    {
+        if iface.number() >= self.nodes.count {
+            return Err(Refusal::NoInterface);
+        }
+        if capacity < 1 || capacity > 65536 {
+            return Err(Refusal::BadCapacity);
+        }
+        if self.sockets.len() >= 64 {
+            return Err(Refusal::TooManySockets);
+        }
+        let number = self.opened;
+        let Ok(socket) = Socket::new(alloc, number, iface, capacity as usize) else {
+            return Err(Refusal::NoMemory);
+        };
+        if self.sockets.push(socket).is_err() {
+            return Err(Refusal::NoMemory);
+        }
+        self.opened += 1;
+        Ok(SocketId(number))
     }
-    if capacity < 1 || capacity > 65536 {
-        return Err(Refusal::BadCapacity);
-    }
-    if sockets.len() >= 64 {
-        return Err(Refusal::TooManySockets);
-    }
-    let Ok(socket) = Socket::new(alloc, number, iface, capacity as usize) else {
-        return Err(Refusal::NoMemory);
-    };
-    if sockets.push(socket).is_err() {
-        return Err(Refusal::NoMemory);
-    }
-    Ok(SocketId(number))
-}
 
-/// The counts of an open socket.
-pub fn stats_of<R: BoundedQueue<Received>>(
-    sockets: &Vec<Socket<R>>,
-    id: SocketId,
-) -> Option<SocketStats>
-    requires { All (λ v. v.taken + length v.waiting < 2 ^ 64) sockets.now.items }
-    ensures { TellsSocket sockets.now.items id.0 result }
-{
-    let k = find(sockets, id)?;
-    let socket = &sockets[k];
-    let counts = socket.counts();
-    let taken = socket.taken();
-    Some(SocketStats {
-        queued: taken + counts.unread,
-        dropped: counts.dropped,
-        taken,
-    })
+    /// Closes a socket.
+    pub fn close(&mut self, id: SocketId) -> Result<Closed, Refusal>
+        ensures { Closes self.old id.0 result self.new }
+    {
+        let Some(k) = find(&self.sockets, id) else {
+            return Err(Refusal::NoSocket);
+        };
+        let socket = self.sockets.remove(k);
+        Ok(socket.counts())
+    }
+
+    /// Sets the filters of a socket.
+    pub fn set_filters(&mut self, id: SocketId, filters: FilterSet) -> Result<(), Refusal>
+        ensures { Sets self.old id.0 (λ v. record v { filters = filters }) result self.new }
+    {
+        let Some(k) = find(&self.sockets, id) else {
+            return Err(Refusal::NoSocket);
+        };
+        let socket = &mut self.sockets[k];
+        socket.set_filters(filters);
+        Ok(())
+    }
+
+    /// Sets an option of a socket.
+    pub fn set_option(&mut self, id: SocketId, option: Opt) -> Result<(), Refusal>
+        ensures { Sets self.old id.0 (λ v. record v { options = with_option option v.options }) result self.new }
+    {
+        let Some(k) = find(&self.sockets, id) else {
+            return Err(Refusal::NoSocket);
+        };
+        let socket = &mut self.sockets[k];
+        socket.set_option(option);
+        Ok(())
+    }
+
+    /// Gives the oldest item of a socket.
+    pub fn receive(&mut self, id: SocketId) -> Result<Option<Received>, Refusal>
+        requires { All (λ v. v.taken + 1 < 2 ^ 64) self.old.sockets }
+        ensures { Receives self.old id.0 result self.new }
+    {
+        let Some(k) = find(&self.sockets, id) else {
+            return Err(Refusal::NoSocket);
+        };
+        let socket = &mut self.sockets[k];
+        Ok(socket.receive())
+    }
+
+    /// The counts of an open socket.
+    pub fn socket_stats(&self, id: SocketId) -> Option<SocketStats>
+        requires { All (λ v. v.taken + length v.waiting < 2 ^ 64) self.now.sockets }
+        ensures { TellsSocket self.now.sockets id.0 result }
+    {
+        let Some(k) = find(&self.sockets, id) else {
+            return None;
+        };
+        let socket = &self.sockets[k];
+        let counts = socket.counts();
+        let taken = socket.taken();
+        Some(SocketStats {
+            queued: taken + counts.unread,
+            dropped: counts.dropped,
+            taken,
+        })
+    }
 }

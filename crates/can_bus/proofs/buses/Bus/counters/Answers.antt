@@ -7,6 +7,7 @@ use Rattle.can_bus.proofs.buses.Bus.counters.Goals as goal
 
 pub returns : goal.returns
 returns g c =
-    ap (λ (q : Parts). q.nodes.counters) c.self.invariant.of_parts
+    c.counters.ensures
+    ∙ ap (λ (q : Parts). q.nodes.counters) c.self.invariant.of_parts
     ∙ counters-kept c.self.inside.record.config c.self.inside.record.history
     ∙ ap (λ (j : Journal). all_counts j.config j.history) c.self.view_is

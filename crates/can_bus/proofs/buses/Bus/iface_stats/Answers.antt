@@ -1,16 +1,19 @@
-use Rattle.std.proofs.Common.{ap, ◌∙◌}
+use Rattle.std.proofs.Common.{slice_get, ap, ◌∙◌}
+use Rattle.std.specs.Option.{option_map}
+use Rattle.can_attempt.specs.Attempts.{counts_at}
 use Rattle.can_bus.specs.Journal.{Journal}
 use Rattle.can_bus.specs.State.{Parts}
-use Rattle.can_bus.specs.Stats.{iface_stats_of}
+use Rattle.can_bus.specs.Stats.{told_line, iface_stats_of}
 use Rattle.can_bus.proofs.Bounds.{done_and_lost}
 use Rattle.can_bus.proofs.Telling.{told_iface}
 use Rattle.can_bus.proofs.buses.Bus.iface_stats.Goals as goal
 
-pub stats_of-requires : goal.stats_of-requires
-stats_of-requires g c = done_and_lost c.self.inside.record _ _ c.self.invariant
+pub iface_stats-requires : goal.iface_stats-requires
+iface_stats-requires g c = done_and_lost _ _ c.self.invariant
 
 pub returns : goal.returns
 returns g c =
-    c.stats_of.ensures
-    ∙ told_iface c.self.inside.record.config c.self.inside.record.history c.self.inside.lines.items c.self.inside.nodes c.args.iface c.self.invariant.proper (ap (λ (q : Parts). q.lines) c.self.invariant.of_parts) (ap (λ (q : Parts). q.nodes) c.self.invariant.of_parts)
+    c.iface_stats.ensures
+    ∙ ap (λ (q : Parts). option_map (told_line (counts_at q.nodes c.args.iface)) (slice_get q.lines c.args.iface)) c.self.invariant.of_parts
+    ∙ told_iface _ _ c.args.iface c.self.invariant.proper
     ∙ ap (λ (j : Journal). iface_stats_of j.config j.history c.args.iface) c.self.view_is

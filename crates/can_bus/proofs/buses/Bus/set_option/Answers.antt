@@ -1,33 +1,21 @@
-use Rattle.std.proofs.Common.{◌<◌, ◌∷◌, length, arith, ap, ◌∙◌}
 use Rattle.can_bus.specs.Answer.{done_reply}
 use Rattle.can_bus.specs.declared.events.Event.TheVariants as event
-use Rattle.can_bus.specs.declared.events.Reply.{Reply}
 use Rattle.can_bus.specs.State.{Parts}
-use Rattle.can_bus.proofs.Keeping.{IsLonger, Follows, kept_more, noted, answered}
-use Rattle.can_bus.proofs.Setting.{option_follows, entry}
+use Rattle.can_bus.specs.Changes.{Sets}
+use Rattle.can_bus.specs.Sockets.{with_option}
+use Rattle.can_bus.proofs.Keeping.{IsDone, done}
+use Rattle.can_bus.proofs.Setting.{option_follows}
 use Rattle.can_bus.proofs.buses.Bus.set_option.Given as given
 use Rattle.can_bus.proofs.buses.Bus.set_option.Goals as goal
 
-longer : (g : given.Over) (c : goal.After-push g) → IsLonger c.self.inside.record (entry (event.SetOption c.args.id c.args.option) c.set_option_on-outcome.result) c.push.new.self
-longer g c = record {
-  config = c.push.ensures.config;
-  history = c.push.ensures.history ∙ ap (λ (r : Reply). record { event = event.SetOption c.args.id c.args.option; reply = r } ∷ c.self.inside.record.history) c.done_reply.ensures;
-  room = c.push.ensures.room;
-}
-
-abbrev parts : (g : given.Over) (c : goal.After-push g) → Parts
-parts g c = record { lines = c.self.inside.lines.items; keys = g.A.Arbiter.keys_of c.self.inside.arbiter; nodes = c.self.inside.nodes; sockets = c.self.inside.sockets.items; opened = c.self.inside.opened; tried = c.self.inside.tried }
-
-follows : (g : given.Over) (c : goal.After-push g) → Follows c.self.inside.record.config c.self.inside.record.history (entry (event.SetOption c.args.id c.args.option) c.set_option_on-outcome.result) (record (parts g c) { sockets = c.set_option_on-outcome.new.sockets.items })
-follows g c = option_follows c.self.inside.record.config c.self.inside.record.history (parts g c) c.set_option_on-outcome.new.sockets.items c.args.id c.args.option c.set_option_on-outcome.result c.self.invariant.of_parts c.set_option_on-outcome.ensures.set
+is_done : (g : given.Over) (c : goal.After-push g) → IsDone done_reply c.args.self.now (event.SetOption c.args.id c.args.option) c.set_option-outcome.result c.push.new.self c.set_option-outcome.new.self
+is_done g c =
+    done done_reply (λ (p : Parts). Sets p c.args.id.0 (λ v. record v { options = with_option c.args.option v.options }) c.set_option-outcome.result c.set_option-outcome.new.self)
+    c.self.view_is c.self.invariant c.is_full.ensures c.if-is_full.false c.set_option-outcome.ensures c.done_reply.ensures c.push.ensures
+    (option_follows _ _ c.args.id c.args.option _ _)
 
 pub invariant_of-self : goal.invariant_of-self
-invariant_of-self g c =
-    let room : length c.self.inside.record.history < c.self.inside.record.config.limit = grind arith in
-    kept_more c.self.inside.record c.push.new.self (entry (event.SetOption c.args.id c.args.option) c.set_option_on-outcome.result) (parts g c) (record (parts g c) { sockets = c.set_option_on-outcome.new.sockets.items }) _ _ c.self.invariant (longer g c) room (follows g c) (omega (arith, c.set_option_on-outcome.ensures.room))
+invariant_of-self g c = (is_done g c).kept
 
 pub returns : goal.returns
-returns g c =
-    let room : length c.self.inside.record.history < c.self.inside.record.config.limit = grind arith in
-    let f = follows g c in
-    answered done_reply c.args.self.now (event.SetOption c.args.id c.args.option) c.set_option_on-outcome.result _ (noted c.self.inside.record c.push.new.self c.args.self.now (entry (event.SetOption c.args.id c.args.option) c.set_option_on-outcome.result) c.self.view_is (longer g c) room f.lawful)
+returns g c = (is_done g c).answers

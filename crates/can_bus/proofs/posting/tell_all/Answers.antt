@@ -2,7 +2,7 @@ use Rattle.std.proofs.Common.{slice_set, ap, sym, ◌∙◌, arith}
 use Rattle.std.proofs.lemmas.List.Edits.{map_over_more}
 use Rattle.can_bus.specs.News.{told_news}
 use Rattle.can_bus.specs.State.{reached}
-use Rattle.can_bus.proofs.news.tell_all.Goals as goal
+use Rattle.can_bus.proofs.posting.tell_all.Goals as goal
 
 pub loop-socket-preserved : goal.loop-socket-preserved
 loop-socket-preserved g c =

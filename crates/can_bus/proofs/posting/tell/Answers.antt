@@ -6,8 +6,8 @@ use Rattle.can_bus.specs.Posts.{data_posts, error_posts, fault_message_for, role
 use Rattle.can_bus.specs.State.{SocketState, filled}
 use Rattle.can_bus.proofs.Filling.{wanted, filled-nil, filled-dropped, told}
 use Rattle.can_bus.proofs.Lawful.{data_posts-le, error_posts-le}
-use Rattle.can_bus.proofs.news.tell.Goals as goal
-use Rattle.can_bus.proofs.news.tell.Goals.{then-contains, else-contains}
+use Rattle.can_bus.proofs.posting.tell.Goals as goal
+use Rattle.can_bus.proofs.posting.tell.Goals.{then-contains, else-contains}
 
 pub post_error-requires : goal.post_error-requires
 post_error-requires g c =

@@ -4,10 +4,12 @@ ghost use Rattle.can_bus.specs.Posts.{restart_posts, data_posts, error_posts, tr
 ghost use Rattle.can_bus.specs.Queues.{passing};
 ghost use Rattle.can_bus.specs.State.{filled, reached};
 
-use crate::events::{Pending, Received};
+use crate::events::{BusConfig, Pending, Received, Tried};
 use crate::outcomes::Attempted;
 use crate::socket::Socket;
+use can_attempt::{Judgement, Nodes};
 use can_errframe::restart_frame;
+use can_fault::Verdict;
 use can_frame::{ErrorFrame, Iface, IfaceSet, Item, Moment};
 use can_queue::BoundedQueue;
 
@@ -20,6 +22,30 @@ pub struct News {
     pub pending: Pending,
     /// The interfaces whose sockets are told of faults.
     pub reporting: IfaceSet,
+}
+
+impl News {
+    ghost use Rattle.can_bus.specs.Attempted.{IsJudged};
+
+    /// What is to be told of an attempt under these faults, where the interfaces were so before it, and of
+    /// what `judge` answers of it.
+    pub fn new(
+        tried: Tried,
+        pending: Pending,
+        verdict: Verdict,
+        config: BusConfig,
+        nodes: Nodes,
+        judgement: Judgement,
+    ) -> News
+        requires { IsJudged (record { tried = tried; verdict = verdict; ack = config.ack; nodes = nodes }) judgement }
+        ensures { result ≡ record { attempted = record { tried = tried; verdict = verdict; ack = config.ack; nodes = nodes }; pending = pending; reporting = config.reporting } }
+    {
+        News {
+            attempted: Attempted::new(tried, verdict, config.ack, nodes, judgement),
+            pending,
+            reporting: config.reporting,
+        }
+    }
 }
 
 /// Puts an error message frame of its interface to a socket, if there is one.

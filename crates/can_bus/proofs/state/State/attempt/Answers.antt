@@ -1,0 +1,84 @@
+use Rattle.std.proofs.Common.{◌≡◌, ℕ, ◌<◌, ◌≤◌, ◌+◌, ◌^◌, Bool, List, length, map, take, drop, ◌++◌, slice_get, slice_set, Option, Some, All, ◌∙◌, arith, sym, ap, refl, subst}
+use Rattle.can_frame.specs.Sets.{is_in}
+use Rattle.can_attempt.specs.Attempts.{attempt_between, judged}
+use Rattle.can_attempt.specs.declared.judgements.Judgement.{Judgement}
+use Rattle.can_attempt.specs.declared.nodes.Nodes.{Nodes}
+use Rattle.can_bus.specs.declared.events.Tried.{Tried}
+use Rattle.can_bus.specs.declared.posting.News.{News}
+use Rattle.can_bus.specs.Changes.{Carries, settled, tried_in, after_try}
+use Rattle.can_bus.specs.News.{told_news}
+use Rattle.can_bus.specs.Posts.{attempt_posts}
+use Rattle.can_bus.specs.State.{LineState, SocketState, Parts, key_in, reached}
+use Rattle.can_bus.proofs.Keeping.{parts-are}
+use Rattle.can_bus.proofs.Reading.{winner-ready, line-at, heads-there, written_back}
+use Rattle.can_bus.proofs.state.State.attempt.Goals as goal
+
+pub index-line-requires : goal.index-line-requires
+index-line-requires g c = omega (arith, (winner-ready _ _ _ c.self.view_is c.requires.ready c.in_ok-winner.ensures.first).there, c.number.ensures.number)
+
+pub returns-in_err-pending : goal.returns-in_err-pending
+returns-in_err-pending g c =
+    let ready = winner-ready _ _ _ c.self.view_is c.requires.ready c.in_ok-winner.ensures.first in
+    absurd (heads-there _ _ _ ready (line-at _ _ _ _ c.number.ensures.number ready c.index-line.ensures) c.in_err-pending.ensures)
+
+pub judge-judgement-requires-clause-there : goal.judge-judgement-requires-clause-there
+judge-judgement-requires-clause-there g c = (winner-ready _ _ _ c.self.view_is c.requires.ready c.in_ok-winner.ensures.first).counted
+
+pub judge-judgement-requires-clause-live : goal.judge-judgement-requires-clause-live
+judge-judgement-requires-clause-live g c = (winner-ready _ _ _ c.self.view_is c.requires.ready c.in_ok-winner.ensures.first).live
+
+pub settle-requires-clause-within : goal.settle-requires-clause-within
+settle-requires-clause-within g c = (winner-ready _ _ _ c.self.view_is c.requires.ready c.in_ok-winner.ensures.first).there
+
+pub settle-requires-clause-gone : goal.settle-requires-clause-gone
+settle-requires-clause-gone g c = subst (λ (p : Parts). All (λ (l : LineState). l.gone + 1 < 2 ^ 64) p.lines) (sym c.self.view_is) c.requires.gone
+
+pub settle-requires-clause-done : goal.settle-requires-clause-done
+settle-requires-clause-done g c = subst (λ (p : Parts). All (λ (l : LineState). l.done + 1 < 2 ^ 64) p.lines) (sym c.self.view_is) c.requires.done
+
+pub new-news-requires : goal.new-news-requires
+new-news-requires g c = record {
+  judged = c.judge-judgement.ensures ∙ ap (λ (u : Tried). judged (attempt_between c.self.inside.nodes u.winner c.args.verdict c.args.config.ack)) (sym c.tried_as-tried.ensures);
+  few = subst (λ (p : Parts). p.nodes.count ≤ 16) (sym c.self.view_is) c.requires.few;
+}
+
+pub tell_all-requires : goal.tell_all-requires
+tell_all-requires g c =
+    let dropped = subst (λ (p : Parts). All (λ (v : SocketState). v.dropped + 3 < 2 ^ 64) p.sockets) (sym c.self.view_is) c.requires.dropped in
+    subst (All (λ (v : SocketState). v.dropped + 3 < 2 ^ 64)) (sym c.deref_mut.ensures.value) dropped
+
+pub returns : goal.returns
+returns g c =
+    let p : Parts = record { lines = c.self.inside.lines.items; keys = g.A.Arbiter.keys_of c.self.inside.arbiter; nodes = c.self.inside.nodes; sockets = c.self.inside.sockets.items; opened = c.self.inside.opened; tried = c.self.inside.tried } in
+    let told = take c.self.inside.sockets.len (c.tell_all.new.sockets ++ drop (length c.tell_all.new.sockets) p.sockets) in
+    let new : Parts = record { lines = c.settle.new.lines.items; keys = g.A.Arbiter.keys_of c.settle.new.arbiter; nodes = record p.nodes { counters = c.judge-judgement.result.counters }; sockets = told; opened = p.opened; tried = p.tried + 1 } in
+    let w = c.in_ok-winner.winner in
+    let line = c.index-line.result.now in
+    let pending = c.in_ok-pending.pending in
+    let t = c.tried_as-tried.result in
+    let tr = attempt_between p.nodes w c.args.verdict c.args.config.ack in
+    let who : t.winner ≡ w = ap (λ (u : Tried). u.winner) c.tried_as-tried.ensures in
+    let ready = winner-ready _ _ _ c.self.view_is c.requires.ready c.in_ok-winner.ensures.first in
+    let there : slice_get p.lines w ≡ Some line = line-at _ _ _ _ c.number.ensures.number ready c.index-line.ensures in
+    let answer : c.tried.result ≡ t = c.tried.ensures ∙ ap (λ (n : News). n.attempted.tried) c.new-news.ensures in
+    subst (λ (u : Tried). Carries c.args.self.now c.args.config c.args.moment c.args.verdict u new) (sym answer)
+    (subst (λ (o : Parts). Carries o c.args.config c.args.moment c.args.verdict t new) c.self.view_is
+    (record {
+      place = w;
+      line = line;
+      pending = pending;
+      wins = c.in_ok-winner.ensures.first;
+      there = there;
+      oldest = sym c.in_ok-pending.ensures;
+      tried = c.tried_as-tried.ensures
+          ∙ ap (λ (n : ℕ). record { moment = c.args.moment; winner = w; number = n; frame = pending.frame; class = c.judge-judgement.result.class; accepted = c.judge-judgement.result.accepted; off = c.judge-judgement.result.off }) c.gone.ensures
+          ∙ ap (λ (j : Judgement). record { moment = c.args.moment; winner = w; number = line.gone; frame = pending.frame; class = j.class; accepted = j.accepted; off = j.off }) c.judge-judgement.ensures;
+      after = parts-are new (after_try p c.args.config tr line pending t)
+          (c.settle.ensures.lines line there ∙ ap (λ (b : Bool). slice_set p.lines w (settled t.class b line)) c.contains-is_off.ensures)
+          (c.settle.ensures.keys line there ∙ ap (λ (b : Bool). slice_set p.keys w (key_in (slice_get (settled t.class b line).waiting 0))) c.contains-is_off.ensures)
+          (ap (λ (j : Judgement). record p.nodes { counters = j.counters }) c.judge-judgement.ensures)
+          (written_back _ _ _ _ _ _ c.tell_all.ensures c.deref_mut.ensures.value c.deref_mut.ensures.len
+          ∙ ap (λ (n : News). map (reached (told_news n)) p.sockets) c.new-news.ensures
+          ∙ ap (λ (k : ℕ). map (reached (attempt_posts c.args.config.reporting (attempt_between p.nodes k c.args.verdict c.args.config.ack) t (Some pending))) p.sockets) who)
+          refl refl;
+    }))

@@ -1,0 +1,90 @@
+ghost use Rattle.std.specs.Prelude.{◌≡◌, [], IfOk, IfSome, IsNone, ◌↔◌};
+ghost use Rattle.can_arbiter.specs.Keys.{IsWinner, IsIdle};
+ghost use Rattle.can_bus.specs.State.{kept_parts};
+
+use crate::events::{BusConfig, Pending, Received};
+use crate::line::Line;
+use crate::lines;
+use crate::socket::Socket;
+use can_arbiter::Arbiter;
+use can_attempt::Nodes;
+use can_confine::Counters;
+use can_frame::Iface;
+use can_queue::{BoundedQueue, QueueError};
+use std::alloc::Global;
+use std::marker::Model;
+
+/// What a bus keeps beside its record, so that no call has to look through the entries.
+///
+/// There is always room for 64 sockets.
+#[derive(Drop)]
+pub struct State<T: BoundedQueue<Pending>, R: BoundedQueue<Received>, A: Arbiter> {
+    /// The interfaces, by number.
+    pub(crate) lines: Vec<Line<T>>,
+    /// By which keys they compete.
+    pub(crate) arbiter: A,
+    /// Their error counters.
+    pub(crate) nodes: Nodes,
+    /// The open sockets, by rising number.
+    pub(crate) sockets: Vec<Socket<R>>,
+    /// How many sockets were ever opened: the number of the next one.
+    pub(crate) opened: u32,
+    /// How many frames were tried: the number of the next attempt.
+    pub(crate) tried: u64,
+}
+
+impl<T: BoundedQueue<Pending>, R: BoundedQueue<Received>, A: Arbiter> Model for State<T, R, A> {
+    ghost use Rattle.std.specs.Prelude.{◌≤◌, vec_capacity};
+    ghost use Rattle.can_bus.specs.State.{Parts};
+
+    ghost Value = { Parts };
+
+    ghost view = { λ s. record { lines = s.lines.items; keys = A.keys_of s.arbiter; nodes = s.nodes; sockets = s.sockets.items; opened = s.opened; tried = s.tried } };
+
+    ghost invariant = { λ s. 64 ≤ vec_capacity s.sockets };
+}
+
+impl<T: BoundedQueue<Pending>, R: BoundedQueue<Received>, A: Arbiter> State<T, R, A> {
+    /// The state of a bus on which nothing was done.
+    pub fn new(alloc: Global, config: BusConfig) -> Result<State<T, R, A>, QueueError>
+        ensures { IfOk result (λ s. s ≡ kept_parts config []) }
+    {
+        let lines = lines::make(alloc, config.ifaces, config.tx_capacity as usize)?;
+        let Ok(sockets) = Vec::with_capacity(alloc, 64) else {
+            return Err(QueueError::NoMemory);
+        };
+        Ok(State {
+            lines,
+            arbiter: A::new(),
+            nodes: Nodes {
+                count: config.ifaces,
+                counters: [Counters::zero(); 16],
+            },
+            sockets,
+            opened: 0,
+            tried: 0,
+        })
+    }
+
+    /// How many frames were tried.
+    pub fn tried(&self) -> u64
+        ensures { result ≡ self.now.tried }
+    {
+        self.tried
+    }
+
+    /// The interface that wins the bus, if any competes.
+    pub fn winner(&self) -> Option<Iface>
+        ensures first { IfSome result (λ w. IsWinner self.now.keys w) }
+        ensures none { IsNone result ↔ IsIdle self.now.keys }
+    {
+        self.arbiter.winner()
+    }
+
+    /// The error counters of all 16 places.
+    pub fn counters(&self) -> [Counters; 16]
+        ensures { result ≡ self.now.nodes.counters }
+    {
+        self.nodes.counters
+    }
+}
