@@ -36,11 +36,12 @@ use Rattle.can_bus.specs.Spelled.{LeavesEntry, IsNumberOf, FitsReply}
 use Rattle.std.proofs.lemmas.Option.{none-some, same_Some}
 use Rattle.can_record.specs.declared.faults.Unread.{Unread}
 use Rattle.can_record.specs.declared.faults.Unread.TheVariants as unread
-use Rattle.can_record.specs.Words.{is_gap, is_word, gap_before, word, after, spell}
+use Rattle.can_record.specs.inner.Words.{is_gap, is_word, word, after}
+use Rattle.can_record.specs.Spelling.{gap_before, spell, set_word, mask_word, moment_word, flag_word, verdict_word, option_words, filter_words, refusal_words, received_words, event_words, reply_words, entry_line, ack_word, bus_words, end_words}
 use Rattle.can_frame.specs.Numbers.{number_in}
 use Rattle.can_record.specs.Values.{HoldsFilter, HoldsOption, HoldsVerdict, HoldsEvent, HoldsTried, HoldsReply, HasLine, HasBusLine}
-use Rattle.can_record.specs.Spelling.{set_word, mask_word, moment_word, flag_word, verdict_word, option_words, filter_words, refusal_words, received_words, event_words, reply_words, entry_line, ack_word, bus_words, end_words}
-use Rattle.can_record.specs.Reading.{Gives, number_at, long_at, mask_at, moment_at, socket_at, set_at, flag_at, item_at, frame_at, option_at, set_behind, verdict_at, class_at, refusal_in, closed_at, data_at, error_at, tried_at, fixed_in, reply_at, moment_of, with_reply, filter_at, filters_at, set_filters_at, set_option_at, setting_at, plain_at, entry_at, ack_at, config_at}
+use Rattle.can_record.specs.inner.Reading.{Gives, number_at, long_at, mask_at, moment_at, socket_at, set_at, flag_at, item_at, frame_at, option_at, set_behind, verdict_at, class_at, refusal_in, closed_at, data_at, error_at, tried_at, fixed_in, reply_at, moment_of, with_reply}
+use Rattle.can_record.specs.inner.Reading.{filter_at, filters_at, set_filters_at, set_option_at, setting_at, plain_at, entry_at, ack_at, config_at}
 use Rattle.can_frame.proofs.Numerals.{value-digits}
 use Rattle.can_record.proofs.Wording.{word-spelled, after-spelled}
 use Rattle.can_record.proofs.Digits.{number_again, long_again, is_word-decimal, is_word-digits, moment_again, is_word-moment}
@@ -155,7 +156,8 @@ closed_again : (u d : ℕ) (rest : List ℕ) → u < 2 ^ 64 → d < 2 ^ 64 → c
 unfolding closed_at
 closed_again u d rest hu hd = rw (long_field u 32 (decimal d ++ 10 ∷ rest) hu refl, long_field d 10 rest hd refl) refl
 
-data_again : (f : CanFrame) (from n m : ℕ) (rest : List ℕ) → IsItem (item.Data f) → from < 16 → n < 2 ^ 64 → m < 10 ^ 16 → data_at (decimal from ++ 32 ∷ (decimal n ++ 32 ∷ (frame_spelling (item.Data f) ++ 32 ∷ (moment_word m ++ 10 ∷ rest)))) ≡ Some (reply.Received (Some (record { item = item.Data f; from = from; number = n; moment = m })), rest)
+data_again : (f : CanFrame) (from n m : ℕ) (rest : List ℕ) → IsItem (item.Data f) → from < 16 → n < 2 ^ 64 → m < 10 ^ 16
+    → data_at (decimal from ++ 32 ∷ (decimal n ++ 32 ∷ (frame_spelling (item.Data f) ++ 32 ∷ (moment_word m ++ 10 ∷ rest)))) ≡ Some (reply.Received (Some (record { item = item.Data f; from = from; number = n; moment = m })), rest)
 unfolding data_at
 data_again f from n m rest good hi hn hm =
     rw (
@@ -217,7 +219,8 @@ leaves (SetOption s o) why h = h
 leaves (Send s f) why h = h
 leaves (Restart i m) why h = h
 
-received_again : (i : Item) (from n m : ℕ) (moment : Option ℕ) (rest : List ℕ) → IsNumberOf i n → IsItem i → from < 16 → n < 2 ^ 64 → m < 10 ^ 16 → reply_at moment (spell (received_words i (record { item = i; from = from; number = n; moment = m })) rest) ≡ Some (reply.Received (Some (record { item = i; from = from; number = n; moment = m })), rest)
+received_again : (i : Item) (from n m : ℕ) (moment : Option ℕ) (rest : List ℕ) → IsNumberOf i n → IsItem i → from < 16 → n < 2 ^ 64 → m < 10 ^ 16
+    → reply_at moment (spell (received_words i (record { item = i; from = from; number = n; moment = m })) rest) ≡ Some (reply.Received (Some (record { item = i; from = from; number = n; moment = m })), rest)
 unfolding reply_at word after
 received_again (item.Data f) from n m moment rest h good hi hn hm = data_again f from n m rest good hi hn hm
 received_again (item.Error e) from n m moment rest h good hi hn hm = error_again (item.Error e) from m rest good hi hm ∙ ap (λ (k : ℕ). Some (reply.Received (Some (record { item = item.Error e; from = from; number = k; moment = m })), rest)) (sym h)
@@ -252,7 +255,8 @@ with_reply_again : (e : Event) (r : Reply) (rest : List ℕ) → FitsReply e r �
 unfolding with_reply
 with_reply_again e r rest fits h = rw (after-spelled (codes "=") (spell (reply_words r) rest) (gap_before (reply_words r)) refl (gap_is (reply_words r)), reply_again e r rest fits h) refl
 
-set_filters_again : (s : SocketId) (fs : List CanFilter) (r : Reply) (rest : List ℕ) → HoldsEvent (SetFilters s fs) → FitsReply (SetFilters s fs) r → HoldsReply r → set_filters_at (decimal s.0 ++ 32 ∷ (decimal (length fs) ++ gap_before (filter_words fs ++ codes "=" ∷ reply_words r) ∷ spell (filter_words fs ++ codes "=" ∷ reply_words r) rest)) ≡ Some (record { event = SetFilters s fs; reply = r })
+set_filters_again : (s : SocketId) (fs : List CanFilter) (r : Reply) (rest : List ℕ) → HoldsEvent (SetFilters s fs) → FitsReply (SetFilters s fs) r → HoldsReply r
+    → set_filters_at (decimal s.0 ++ 32 ∷ (decimal (length fs) ++ gap_before (filter_words fs ++ codes "=" ∷ reply_words r) ∷ spell (filter_words fs ++ codes "=" ∷ reply_words r) rest)) ≡ Some (record { event = SetFilters s fs; reply = r })
 unfolding set_filters_at
 set_filters_again s fs r rest holds fits h =
     let behind = filter_words fs ++ codes "=" ∷ reply_words r in
@@ -263,7 +267,8 @@ set_filters_again s fs r rest holds fits h =
     )
     (with_reply_again (SetFilters s fs) r rest fits h)
 
-set_option_again : (s : SocketId) (o : Opt) (r : Reply) (rest : List ℕ) → HoldsEvent (SetOption s o) → FitsReply (SetOption s o) r → HoldsReply r → set_option_at (decimal s.0 ++ gap_before (option_words o ++ codes "=" ∷ reply_words r) ∷ spell (option_words o ++ codes "=" ∷ reply_words r) rest) ≡ Some (record { event = SetOption s o; reply = r })
+set_option_again : (s : SocketId) (o : Opt) (r : Reply) (rest : List ℕ) → HoldsEvent (SetOption s o) → FitsReply (SetOption s o) r → HoldsReply r
+    → set_option_at (decimal s.0 ++ gap_before (option_words o ++ codes "=" ∷ reply_words r) ∷ spell (option_words o ++ codes "=" ∷ reply_words r) rest) ≡ Some (record { event = SetOption s o; reply = r })
 unfolding set_option_at
 set_option_again s o r rest holds fits h =
     let behind = option_words o ++ codes "=" ∷ reply_words r in

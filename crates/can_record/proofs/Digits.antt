@@ -8,8 +8,8 @@ use Rattle.can_frame.specs.FrameText.{digits, digit_of}
 use Rattle.can_frame.specs.Numbers.{digit_in, number_after, number_in, one_more}
 use Rattle.can_frame.proofs.Lengths.{seconds_fit}
 use Rattle.can_frame.proofs.Numerals.{value-decimal, value-digits}
-use Rattle.can_record.specs.Words.{is_word}
-use Rattle.can_record.specs.Numerals.{long_in, moment_in}
+use Rattle.can_record.specs.inner.Words.{is_word}
+use Rattle.can_record.specs.inner.Numerals.{long_in, moment_in}
 use Rattle.can_record.specs.Spelling.{moment_word}
 
 -- ---- numbers

@@ -8,7 +8,7 @@ use Rattle.can_frame.specs.declared.items.Item.TheVariants as item
 use Rattle.can_frame.specs.FrameText.{digits, pairs, id_text, payload_text, frame_spelling, IsPayload, IsItem}
 use Rattle.can_frame.specs.FrameGuess.{item_in}
 use Rattle.can_frame.proofs.Guessing.{guessed}
-use Rattle.can_record.specs.Words.{is_word}
+use Rattle.can_record.specs.inner.Words.{is_word}
 use Rattle.can_record.proofs.Digits.{is_word-append, is_word-digits, is_word-decimal}
 
 -- what is written is read again

@@ -9,10 +9,9 @@ use Rattle.can_bus.specs.declared.events.Entry.{Entry}
 use Rattle.can_bus.specs.Journal.{Kept}
 use Rattle.can_record.specs.declared.faults.ReadFault.{ReadFault}
 use Rattle.can_record.specs.declared.faults.ReadFault.TheVariants as fault
-use Rattle.can_record.specs.Words.{gap_before, spell}
+use Rattle.can_record.specs.Spelling.{gap_before, spell, first_line, bus_words, end_words, entry_words, entry_line, entry_lines, record_spelling}
 use Rattle.can_record.specs.Values.{HasLine, HasBusLine, HasText}
-use Rattle.can_record.specs.Spelling.{first_line, bus_words, end_words, entry_words, entry_line, entry_lines, record_spelling}
-use Rattle.can_record.specs.Reading.{entry_at, config_at}
+use Rattle.can_record.specs.inner.Reading.{entry_at, config_at}
 use Rattle.can_record.specs.RecordFaults.{LacksFirst, IsTextOf, LacksBus, LacksEntry, BusIsWrong, LineIsWrong, GoesOn, IsFirstWrong, Ends, Reads, ReadsBack}
 use Rattle.can_record.proofs.Again.{spell-rest, entry_again, config_again, end_is_none}
 use Rattle.can_record.proofs.LineLists.{lines-rest}
@@ -45,7 +44,9 @@ spell-cancel (w ∷ ws) a b e = spell-cancel ws a b (cons-cancel (gap_before ws)
 pub first_is_wrong : (text rest : List ℕ) → text ≡ first_line ++ rest → LacksBus rest → IsFirstWrong text 2
 first_is_wrong text rest begins wrong = inl (record { rest = rest; second = refl; begins = begins; wrong = wrong })
 
-pub lines_begin : (text r1 r2 r3 b : List ℕ) (c : BusConfig) (es : List Entry) → text ≡ first_line ++ r1 → b ≡ spell (bus_words c) [] → r1 ≡ spell (bus_words c) [] ++ drop (length (spell (bus_words c) [])) r1 → r2 ≡ drop (length b) r1 → r2 ≡ entry_lines es r3 → text ≡ first_line ++ spell (bus_words c) (entry_lines es r3)
+pub lines_begin : (text r1 r2 r3 b : List ℕ) (c : BusConfig) (es : List Entry) → text ≡ first_line ++ r1 → b ≡ spell (bus_words c) []
+    → r1 ≡ spell (bus_words c) [] ++ drop (length (spell (bus_words c) [])) r1 → r2 ≡ drop (length b) r1 → r2 ≡ entry_lines es r3
+    → text ≡ first_line ++ spell (bus_words c) (entry_lines es r3)
 lines_begin text r1 r2 r3 b c es first buffer bus behind lines =
     let back : drop (length (spell (bus_words c) [])) r1 ≡ entry_lines es r3 = ap (λ (x : List ℕ). drop (length x) r1) (sym buffer) ∙ sym behind ∙ lines in
     first ∙ ap (λ (x : List ℕ). first_line ++ x) (bus ∙ ap (λ (x : List ℕ). spell (bus_words c) [] ++ x) back ∙ spell-rest (bus_words c) (entry_lines es r3))
@@ -141,7 +142,8 @@ reads_back text (Err fault.NoMemory) reads c es whole is = refl
 
 -- ---- what is written
 
-pub text_written : (t0 t1 t2 t3 new : List ℕ) (c d : BusConfig) (es hs : List Entry) (n : ℕ) → t0 ≡ [] → t1 ≡ t0 ++ first_line → t2 ≡ t1 ++ spell (bus_words c) [] → t3 ≡ t2 ++ entry_lines es [] → new ≡ t3 ++ spell (end_words n) [] → c ≡ d → es ≡ reverse hs → n ≡ length hs → new ≡ record_spelling d (reverse hs)
+pub text_written : (t0 t1 t2 t3 new : List ℕ) (c d : BusConfig) (es hs : List Entry) (n : ℕ) → t0 ≡ [] → t1 ≡ t0 ++ first_line → t2 ≡ t1 ++ spell (bus_words c) []
+    → t3 ≡ t2 ++ entry_lines es [] → new ≡ t3 ++ spell (end_words n) [] → c ≡ d → es ≡ reverse hs → n ≡ length hs → new ≡ record_spelling d (reverse hs)
 text_written t0 t1 t2 t3 new c d es hs n h0 h1 h2 h3 h4 hc he hn =
     let F = first_line in
     let B = spell (bus_words c) [] in
@@ -179,7 +181,10 @@ two_lines text n m h k =
 
 two_more : (text : List ℕ) (n m : ℕ) → GoesOn text n → GoesOn text m → n ≡ m
 two_more text n m h k =
-    let met = texts_meet h.config k.config h.entries k.entries (spell (end_words (length h.entries)) h.rest) (spell (end_words (length k.entries)) k.rest) h.whole k.whole (end_lacks (length h.entries) h.rest) (end_lacks (length k.entries) k.rest) (sym (record-then h.config h.entries h.rest) ∙ sym h.begins ∙ k.begins ∙ record-then k.config k.entries k.rest) in
+    let one = spell (end_words (length h.entries)) h.rest in
+    let other = spell (end_words (length k.entries)) k.rest in
+    let same = sym (record-then h.config h.entries h.rest) ∙ sym h.begins ∙ k.begins ∙ record-then k.config k.entries k.rest in
+    let met = texts_meet h.config k.config h.entries k.entries one other h.whole k.whole (end_lacks (length h.entries) h.rest) (end_lacks (length k.entries) k.rest) same in
     h.behind ∙ ap (λ (xs : List Entry). length xs + 4) met.1 ∙ sym k.behind
 
 pub one_first : (text : List ℕ) (n m : ℕ) → IsFirstWrong text n → IsFirstWrong text m → n ≡ m

@@ -3,7 +3,7 @@ use Rattle.std.proofs.Common.{◌≡◌, ◌-◌, ap, sym, ◌∙◌, append_ass
 use Rattle.std.proofs.Common.{rules}
 use Rattle.std.proofs.lemmas.Bool.{le-leb}
 use Rattle.std.proofs.lemmas.List.{at_drop_more, at_drop_all, take_more, take_all, drop_all, append-nil, length-drop}
-use Rattle.can_record.specs.Words.{is_gap, is_word, word, after}
+use Rattle.can_record.specs.inner.Words.{is_gap, is_word, word, after}
 
 pub word-spelled : (w rest : List ℕ) (g : ℕ) → is_word w ≡ true → is_gap g ≡ true → word (w ++ g ∷ rest) ≡ w
 unfolding word

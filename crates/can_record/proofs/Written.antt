@@ -13,8 +13,8 @@ use Rattle.can_bus.specs.declared.events.Received.{Received}
 use Rattle.can_bus.specs.declared.events.Reply.{Reply}
 use Rattle.can_bus.specs.declared.events.Reply.TheVariants as reply
 use Rattle.can_bus.specs.Spelled.{LeavesEntry, FitsReply}
-use Rattle.can_record.specs.Words.{spell, spaced}
-use Rattle.can_record.specs.Spelling.{mask_word, filter_words, refusal_words, received_words, event_words, reply_words, answered_line}
+use Rattle.can_record.specs.inner.Words.{spaced}
+use Rattle.can_record.specs.Spelling.{spell, mask_word, filter_words, refusal_words, received_words, event_words, reply_words, answered_line}
 use Rattle.can_record.proofs.Again.{leaves}
 
 -- what is written of one filter

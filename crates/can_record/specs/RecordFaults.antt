@@ -4,9 +4,8 @@ use Rattle.can_bus.specs.declared.events.Entry.{Entry}
 use Rattle.can_bus.specs.Journal.{Kept}
 use Rattle.can_record.specs.declared.faults.ReadFault.{ReadFault}
 use Rattle.can_record.specs.declared.faults.ReadFault.TheVariants as fault
-use Rattle.can_record.specs.Words.{spell}
+use Rattle.can_record.specs.Spelling.{spell, first_line, bus_words, end_words, entry_line, entry_lines, record_spelling}
 use Rattle.can_record.specs.Values.{HasLine, HasBusLine, HasText}
-use Rattle.can_record.specs.Spelling.{first_line, bus_words, end_words, entry_line, entry_lines, record_spelling}
 
 -- What is wrong with a text that is no record's (own choice).
 

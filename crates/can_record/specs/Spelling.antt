@@ -24,9 +24,18 @@ use Rattle.can_bus.specs.declared.events.Received.{Received}
 use Rattle.can_bus.specs.declared.events.Reply.{Reply}
 use Rattle.can_bus.specs.declared.events.Reply.TheVariants as reply
 use Rattle.can_bus.specs.declared.events.Entry.{Entry}
-use Rattle.can_record.specs.Words.{spell}
 
 -- How the lines of a record are written (own choice).
+
+-- what ends a word: a space, or the line's end (LF) where no word follows
+abbrev pub gap_before : List (List ℕ) → ℕ
+gap_before [] = 10
+gap_before (w ∷ ws) = 32
+
+-- a line of these words, one space between two of them and LF behind the last; and what follows the line
+abbrev pub spell : List (List ℕ) → List ℕ → List ℕ
+spell [] rest = rest
+spell (w ∷ ws) rest = w ++ gap_before ws ∷ spell ws rest
 
 -- a set of interfaces: 4 hexadecimal digits
 unfoldable pub set_word : IfaceSet → List ℕ

@@ -1,7 +1,7 @@
 ghost use Rattle.std.specs.Prelude.{IsTrue, IfOk, OnOk, ◌++◌, ◌∷◌, [], ◌+◌, ◌≡◌, ◌≤◌, ◌<◌, length};
 ghost use Rattle.std.specs.Option.{option_map};
 ghost use Rattle.std.specs.Result.{result_map_both};
-ghost use Rattle.can_record.specs.Reading.{Gives, moment_of, GivesFilters, begins_with, set_behind, option_at, verdict_at, filter_at, filters_at, with_reply, set_filters_at, set_option_at, setting_at, plain_at, entry_at};
+ghost use Rattle.can_record.specs.inner.Reading.{Gives, moment_of, GivesFilters, begins_with, set_behind, option_at, verdict_at, filter_at, filters_at, with_reply, set_filters_at, set_option_at, setting_at, plain_at, entry_at};
 
 use crate::faults::Unread;
 use crate::fields::{
@@ -17,7 +17,7 @@ use can_frame::{IfaceSet, Item, Moment};
 use std::alloc::{AllocError, Global};
 
 /// An entry as its line seems to spell it: the line has to be written again and compared.
-#[tactic(auto, unfolding(crate::specs::Reading::entry_at))]
+#[tactic(auto, unfolding(crate::specs::inner::Reading::entry_at))]
 pub(crate) fn guess_entry(alloc: Global, text: &[u8]) -> Result<Entry, Unread>
     ensures { Gives result (entry_at text.now) }
 {
@@ -29,7 +29,7 @@ pub(crate) fn guess_entry(alloc: Global, text: &[u8]) -> Result<Entry, Unread>
 }
 
 /// An entry whose line begins with this word and goes on with this text; of all events but those that set filters.
-#[tactic(auto, unfolding(crate::specs::Reading::plain_at))]
+#[tactic(auto, unfolding(crate::specs::inner::Reading::plain_at))]
 fn guess_plain(word: &[u8], text: &[u8]) -> Option<Entry>
     ensures { result ≡ plain_at word.now text.now }
 {
@@ -55,7 +55,7 @@ fn guess_plain(word: &[u8], text: &[u8]) -> Option<Entry>
 }
 
 /// The same of the events that set a bus up.
-#[tactic(auto, unfolding(crate::specs::Reading::setting_at))]
+#[tactic(auto, unfolding(crate::specs::inner::Reading::setting_at))]
 fn guess_setting(word: &[u8], text: &[u8]) -> Option<Entry>
     ensures { result ≡ setting_at word.now text.now }
 {
@@ -86,7 +86,7 @@ fn guess_setting(word: &[u8], text: &[u8]) -> Option<Entry>
 }
 
 /// An entry, once its event is read.
-#[tactic(auto, unfolding(crate::specs::Reading::with_reply))]
+#[tactic(auto, unfolding(crate::specs::inner::Reading::with_reply))]
 fn with_reply(event: Event, text: &[u8]) -> Option<Entry>
     ensures { result ≡ with_reply event text.now }
 {
@@ -110,7 +110,7 @@ fn moment_of(event: &Event) -> Option<Moment>
 }
 
 /// An option of a socket.
-#[tactic(auto, unfolding(crate::specs::Reading::set_option_at))]
+#[tactic(auto, unfolding(crate::specs::inner::Reading::set_option_at))]
 fn guess_option(text: &[u8]) -> Option<Entry>
     ensures { result ≡ set_option_at text.now }
 {
@@ -120,7 +120,7 @@ fn guess_option(text: &[u8]) -> Option<Entry>
 }
 
 /// The filters of a socket.
-#[tactic(auto, unfolding(crate::specs::Reading::set_filters_at))]
+#[tactic(auto, unfolding(crate::specs::inner::Reading::set_filters_at))]
 fn guess_filters(alloc: Global, text: &[u8]) -> Result<Entry, Unread>
     ensures { Gives result (set_filters_at text.now) }
 {
@@ -164,7 +164,7 @@ fn filter_fields<'a>(
 }
 
 /// One filter more, and what follows it.
-#[tactic(auto, unfolding(crate::specs::Reading::filter_at))]
+#[tactic(auto, unfolding(crate::specs::inner::Reading::filter_at))]
 fn filter_field<'a>(filters: &mut Vec<Filter>, text: &'a [u8]) -> Result<&'a [u8], Unread>
     ensures read { GivesFilters (result_map_both (λ rest. rest.now) (λ why. why) result) filters.new.items (filter_at filters.old.items text.now) }
     ensures count { IfOk result (λ rest. length filters.new.items ≡ length filters.old.items + 1) }
@@ -193,7 +193,7 @@ fn keep(filters: &mut Vec<Filter>, filter: Filter) -> Result<(), AllocError>
 }
 
 /// An option, by its name, and its value.
-#[tactic(auto, unfolding(crate::specs::Reading::option_at))]
+#[tactic(auto, unfolding(crate::specs::inner::Reading::option_at))]
 fn option_field(text: &[u8]) -> Option<(Opt, &[u8])>
     ensures { option_map (λ x. (x.0, x.1.now)) result ≡ option_at text.now }
 {
@@ -218,7 +218,7 @@ fn option_field(text: &[u8]) -> Option<(Opt, &[u8])>
 }
 
 /// A verdict.
-#[tactic(auto, unfolding(crate::specs::Reading::verdict_at))]
+#[tactic(auto, unfolding(crate::specs::inner::Reading::verdict_at))]
 fn verdict_field(text: &[u8]) -> Option<(Verdict, &[u8])>
     ensures { option_map (λ x. (x.0, x.1.now)) result ≡ verdict_at text.now }
 {
@@ -251,7 +251,7 @@ fn verdict_field(text: &[u8]) -> Option<(Verdict, &[u8])>
 }
 
 /// A set of interfaces, behind so many bytes.
-#[tactic(auto, unfolding(crate::specs::Reading::set_behind))]
+#[tactic(auto, unfolding(crate::specs::inner::Reading::set_behind))]
 fn set_behind(front: usize, text: &[u8]) -> Option<(IfaceSet, &[u8])>
     requires { front ≤ length text.now }
     ensures { option_map (λ x. (x.0, x.1.now)) result ≡ set_behind front text.now }

@@ -1,5 +1,5 @@
 ghost use Rattle.std.specs.Prelude.{◌≡◌, ◌++◌, ◌∷◌, [], ◌<◌, ◌^◌, decimal, OnOk, length};
-ghost use Rattle.can_record.specs.Words.{spaced};
+ghost use Rattle.can_record.specs.inner.Words.{spaced};
 ghost use Rattle.can_record.specs.Spelling.{event_words, flag_word, filter_words, option_words, verdict_word, local_front};
 
 use crate::writing::{put_count, put_item, put_mask, put_moment, put_set, put_word};

@@ -1,6 +1,6 @@
 ghost use Rattle.std.specs.Prelude.{IfSome, ◌≡◌, ◌^◌, ◌≤◌, ◌<◌};
 ghost use Rattle.std.specs.Option.{option_map};
-ghost use Rattle.can_record.specs.Reading.{number_at, long_at, mask_at, moment_at, socket_at, set_at, flag_at, item_at, frame_at};
+ghost use Rattle.can_record.specs.inner.Reading.{number_at, long_at, mask_at, moment_at, socket_at, set_at, flag_at, item_at, frame_at};
 
 use crate::numbers::{long_number, moment};
 use crate::words::{next_word, same_word};
@@ -8,7 +8,7 @@ use can_bus::SocketId;
 use can_frame::{Frame, Iface, IfaceSet, Item, Moment, guess_item, read_decimal, read_hexadecimal};
 
 /// A number below the limit, and what follows it.
-#[tactic(auto, unfolding(crate::specs::Reading::number_at))]
+#[tactic(auto, unfolding(crate::specs::inner::Reading::number_at))]
 fn below(limit: u64, text: &[u8]) -> Option<(u64, &[u8])>
     ensures value { option_map (λ x. (x.0, x.1.now)) result ≡ number_at limit text.now }
     ensures small { IfSome result (λ x. x.0 < limit) }
@@ -19,7 +19,7 @@ fn below(limit: u64, text: &[u8]) -> Option<(u64, &[u8])>
 }
 
 /// A number of 64 bits.
-#[tactic(auto, unfolding(crate::specs::Reading::long_at))]
+#[tactic(auto, unfolding(crate::specs::inner::Reading::long_at))]
 pub fn long_field(text: &[u8]) -> Option<(u64, &[u8])>
     ensures { option_map (λ x. (x.0, x.1.now)) result ≡ long_at text.now }
 {
@@ -60,7 +60,7 @@ pub fn count_field(text: &[u8]) -> Option<(usize, &[u8])>
     Some((n as usize, rest))
 }
 
-#[tactic(auto, unfolding(crate::specs::Reading::moment_at))]
+#[tactic(auto, unfolding(crate::specs::inner::Reading::moment_at))]
 pub fn moment_field(text: &[u8]) -> Option<(Moment, &[u8])>
     ensures { option_map (λ x. (x.0, x.1.now)) result ≡ moment_at text.now }
 {
@@ -69,7 +69,7 @@ pub fn moment_field(text: &[u8]) -> Option<(Moment, &[u8])>
     Some((m, rest))
 }
 
-#[tactic(auto, unfolding(crate::specs::Reading::socket_at))]
+#[tactic(auto, unfolding(crate::specs::inner::Reading::socket_at))]
 pub fn socket_field(text: &[u8]) -> Option<(SocketId, &[u8])>
     ensures { option_map (λ x. (x.0, x.1.now)) result ≡ socket_at text.now }
 {
@@ -78,7 +78,7 @@ pub fn socket_field(text: &[u8]) -> Option<(SocketId, &[u8])>
 }
 
 /// A word of 32 bits in hexadecimal.
-#[tactic(auto, unfolding(crate::specs::Reading::mask_at))]
+#[tactic(auto, unfolding(crate::specs::inner::Reading::mask_at))]
 pub fn mask_field(text: &[u8]) -> Option<(u32, &[u8])>
     ensures { option_map (λ x. (x.0, x.1.now)) result ≡ mask_at text.now }
 {
@@ -87,7 +87,7 @@ pub fn mask_field(text: &[u8]) -> Option<(u32, &[u8])>
     Some((mask, rest))
 }
 
-#[tactic(auto, unfolding(crate::specs::Reading::set_at))]
+#[tactic(auto, unfolding(crate::specs::inner::Reading::set_at))]
 pub fn set_field(text: &[u8]) -> Option<(IfaceSet, &[u8])>
     ensures { option_map (λ x. (x.0, x.1.now)) result ≡ set_at text.now }
 {
@@ -96,7 +96,7 @@ pub fn set_field(text: &[u8]) -> Option<(IfaceSet, &[u8])>
     Some((IfaceSet(bits as u16), rest))
 }
 
-#[tactic(auto, unfolding(crate::specs::Reading::flag_at))]
+#[tactic(auto, unfolding(crate::specs::inner::Reading::flag_at))]
 pub fn flag_field(text: &[u8]) -> Option<(bool, &[u8])>
     ensures { option_map (λ x. (x.0, x.1.now)) result ≡ flag_at text.now }
 {
@@ -110,7 +110,7 @@ pub fn flag_field(text: &[u8]) -> Option<(bool, &[u8])>
     None
 }
 
-#[tactic(auto, unfolding(crate::specs::Reading::item_at))]
+#[tactic(auto, unfolding(crate::specs::inner::Reading::item_at))]
 pub fn item_field(text: &[u8]) -> Option<(Item, &[u8])>
     ensures { option_map (λ x. (x.0, x.1.now)) result ≡ item_at text.now }
 {
@@ -119,7 +119,7 @@ pub fn item_field(text: &[u8]) -> Option<(Item, &[u8])>
     Some((item, rest))
 }
 
-#[tactic(auto, unfolding(crate::specs::Reading::frame_at))]
+#[tactic(auto, unfolding(crate::specs::inner::Reading::frame_at))]
 pub fn frame_field(text: &[u8]) -> Option<(Frame, &[u8])>
     ensures { option_map (λ x. (x.0, x.1.now)) result ≡ frame_at text.now }
 {

@@ -4,10 +4,9 @@ ghost use Rattle.can_bus.specs.declared.events.Entry.{Entry as AnEntry};
 ghost use Rattle.can_bus.specs.declared.events.BusConfig.{BusConfig as AConfig};
 ghost use Rattle.can_bus.specs.Spelled.{FitsReply, IsSpelled};
 ghost use Rattle.can_record.specs.declared.faults.Unread.TheVariants as unread;
-ghost use Rattle.can_record.specs.Words.{spell};
+ghost use Rattle.can_record.specs.Spelling.{spell, ack_word, answered_line, bus_words, end_words, entry_line};
 ghost use Rattle.can_record.specs.Values.{HasLine, HasBusLine};
-ghost use Rattle.can_record.specs.Spelling.{ack_word, answered_line, bus_words, end_words, entry_line};
-ghost use Rattle.can_record.specs.Reading.{ack_at, config_at};
+ghost use Rattle.can_record.specs.inner.Reading.{ack_at, config_at};
 
 use crate::event_reading::guess_entry;
 use crate::event_writing::put_event;
@@ -156,7 +155,7 @@ fn has_bus_line(config: BusConfig) -> bool
 }
 
 /// A configuration as its line seems to spell it.
-#[tactic(auto, unfolding(crate::specs::Reading::config_at))]
+#[tactic(auto, unfolding(crate::specs::inner::Reading::config_at))]
 fn guess_config(text: &[u8]) -> Option<BusConfig>
     ensures { result ≡ config_at text.now }
 {
@@ -176,7 +175,7 @@ fn guess_config(text: &[u8]) -> Option<BusConfig>
 }
 
 /// Who acknowledges.
-#[tactic(auto, unfolding(crate::specs::Reading::ack_at))]
+#[tactic(auto, unfolding(crate::specs::inner::Reading::ack_at))]
 fn ack_field(text: &[u8]) -> Option<(AckMode, &[u8])>
     ensures { option_map (λ x. (x.0, x.1.now)) result ≡ ack_at text.now }
 {

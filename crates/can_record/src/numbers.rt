@@ -1,5 +1,5 @@
 ghost use Rattle.std.specs.Prelude.{◌≡◌};
-ghost use Rattle.can_record.specs.Numerals.{with_digit, long_in, moment_in};
+ghost use Rattle.can_record.specs.inner.Numerals.{with_digit, long_in, moment_in};
 
 use can_frame::{Moment, read_decimal};
 
@@ -11,7 +11,7 @@ fn with_digit(front: u64, last: u64) -> Option<u64>
 }
 
 /// A decimal number of 64 bits. Not every one of 20 digits has 64 bits, so the last digit is read by itself.
-#[tactic(auto, unfolding(crate::specs::Numerals::long_in))]
+#[tactic(auto, unfolding(crate::specs::inner::Numerals::long_in))]
 pub fn long_number(word: &[u8]) -> Option<u64>
     ensures { result ≡ long_in word.now }
 {
@@ -25,7 +25,7 @@ pub fn long_number(word: &[u8]) -> Option<u64>
 }
 
 /// Seconds, a point and six digits of microseconds.
-#[tactic(auto, unfolding(crate::specs::Numerals::moment_in))]
+#[tactic(auto, unfolding(crate::specs::inner::Numerals::moment_in))]
 pub fn moment(word: &[u8]) -> Option<Moment>
     ensures { result ≡ moment_in word.now }
 {

@@ -1,6 +1,6 @@
 ghost use Rattle.std.specs.Prelude.{◌≡◌};
 ghost use Rattle.std.specs.Option.{option_map};
-ghost use Rattle.can_record.specs.Reading.{class_at, refusal_in, closed_at, data_at, error_at, tried_at, fixed_in, reply_at};
+ghost use Rattle.can_record.specs.inner.Reading.{class_at, refusal_in, closed_at, data_at, error_at, tried_at, fixed_in, reply_at};
 
 use crate::fields::{
     frame_field, iface_field, item_field, long_field, moment_field, set_field, socket_field,
@@ -11,7 +11,7 @@ use can_bus::{Closed, Received, Refusal, Reply, Tried};
 use can_frame::{Item, Moment};
 
 /// A reply to an attempt of this moment, or to another event.
-#[tactic(auto, unfolding(crate::specs::Reading::reply_at))]
+#[tactic(auto, unfolding(crate::specs::inner::Reading::reply_at))]
 pub fn reply_field(moment: Option<Moment>, text: &[u8]) -> Option<(Reply, &[u8])>
     ensures { option_map (λ x. (x.0, x.1.now)) result ≡ reply_at moment text.now }
 {
@@ -41,7 +41,7 @@ pub fn reply_field(moment: Option<Moment>, text: &[u8]) -> Option<(Reply, &[u8])
 }
 
 /// The reply of this one word.
-#[tactic(auto, unfolding(crate::specs::Reading::fixed_in))]
+#[tactic(auto, unfolding(crate::specs::inner::Reading::fixed_in))]
 fn fixed_reply(word: &[u8]) -> Option<Reply>
     ensures { result ≡ fixed_in word.now }
 {
@@ -59,7 +59,7 @@ fn fixed_reply(word: &[u8]) -> Option<Reply>
 }
 
 /// The counts of a closed socket.
-#[tactic(auto, unfolding(crate::specs::Reading::closed_at))]
+#[tactic(auto, unfolding(crate::specs::inner::Reading::closed_at))]
 fn closed_field(text: &[u8]) -> Option<(Reply, &[u8])>
     ensures { option_map (λ x. (x.0, x.1.now)) result ≡ closed_at text.now }
 {
@@ -69,7 +69,7 @@ fn closed_field(text: &[u8]) -> Option<(Reply, &[u8])>
 }
 
 /// A frame that was received.
-#[tactic(auto, unfolding(crate::specs::Reading::data_at))]
+#[tactic(auto, unfolding(crate::specs::inner::Reading::data_at))]
 fn data_field(text: &[u8]) -> Option<(Reply, &[u8])>
     ensures { option_map (λ x. (x.0, x.1.now)) result ≡ data_at text.now }
 {
@@ -93,7 +93,7 @@ fn data_field(text: &[u8]) -> Option<(Reply, &[u8])>
 }
 
 /// An error message frame that was received.
-#[tactic(auto, unfolding(crate::specs::Reading::error_at))]
+#[tactic(auto, unfolding(crate::specs::inner::Reading::error_at))]
 fn error_field(text: &[u8]) -> Option<(Reply, &[u8])>
     ensures { option_map (λ x. (x.0, x.1.now)) result ≡ error_at text.now }
 {
@@ -116,7 +116,7 @@ fn error_field(text: &[u8]) -> Option<(Reply, &[u8])>
 }
 
 /// A frame that was tried at this moment.
-#[tactic(auto, unfolding(crate::specs::Reading::tried_at))]
+#[tactic(auto, unfolding(crate::specs::inner::Reading::tried_at))]
 fn tried_field(moment: Moment, text: &[u8]) -> Option<(Reply, &[u8])>
     ensures { option_map (λ x. (x.0, x.1.now)) result ≡ tried_at moment text.now }
 {
@@ -143,7 +143,7 @@ fn tried_field(moment: Moment, text: &[u8]) -> Option<(Reply, &[u8])>
 }
 
 /// How an attempt ended.
-#[tactic(auto, unfolding(crate::specs::Reading::class_at))]
+#[tactic(auto, unfolding(crate::specs::inner::Reading::class_at))]
 fn class_field(text: &[u8]) -> Option<(Class, &[u8])>
     ensures { option_map (λ x. (x.0, x.1.now)) result ≡ class_at text.now }
 {
@@ -164,7 +164,7 @@ fn class_field(text: &[u8]) -> Option<(Class, &[u8])>
 }
 
 /// The refusal of this name.
-#[tactic(auto, unfolding(crate::specs::Reading::refusal_in))]
+#[tactic(auto, unfolding(crate::specs::inner::Reading::refusal_in))]
 fn refusal_of(word: &[u8]) -> Option<Refusal>
     ensures { result ≡ refusal_in word.now }
 {

@@ -1,6 +1,6 @@
 ghost use Rattle.std.specs.Prelude.{◌≡◌};
 ghost use Rattle.std.specs.Str.{bytes_eq};
-ghost use Rattle.can_record.specs.Words.{word, after};
+ghost use Rattle.can_record.specs.inner.Words.{word, after};
 
 /// The first word, and what follows the byte that ends it.
 pub fn next_word(text: &[u8]) -> (&[u8], &[u8])

@@ -49,7 +49,9 @@ winner-of c past (Some i) h first none = sym (winner-is c past h.legal h.proper.
 abbrev tried_by : ℕ → ℕ → ℕ → Pending → Judgement → Reply
 tried_by m w n p j = reply.Tried (record { moment = m; winner = w; number = n; frame = p.frame; class = j.class; accepted = j.accepted; off = j.off })
 
-pub tried-is : (c : BusConfig) (past : List Entry) (m : ℕ) (v : Verdict) (w : ℕ) (p : Pending) (n : ℕ) (nodes : Nodes) (j : Judgement) → IsHistory c past → winner c past ≡ Some w → head_of past w ≡ Some p → n ≡ gone_count past w → nodes ≡ kept_nodes c past → j ≡ judged (attempt_between nodes w v c.ack) → tried_by m w n p j ≡ attempt_reply c past m v (winner c past)
+pub tried-is : (c : BusConfig) (past : List Entry) (m : ℕ) (v : Verdict) (w : ℕ) (p : Pending) (n : ℕ) (nodes : Nodes) (j : Judgement) → IsHistory c past
+    → winner c past ≡ Some w → head_of past w ≡ Some p → n ≡ gone_count past w → nodes ≡ kept_nodes c past → j ≡ judged (attempt_between nodes w v c.ack)
+    → tried_by m w n p j ≡ attempt_reply c past m v (winner c past)
 tried-is c past m v w p n nodes j h won head number are judges =
     ap (λ (k : ℕ). tried_by m w k p j) number
     ∙ ap (λ (k : Judgement). tried_by m w (gone_count past w) p k) (judges ∙ ap (λ (q : Nodes). judged (attempt_between q w v c.ack)) are ∙ ap judged (between-is c past w v h.legal h.proper.few_ifaces))

@@ -1,4 +1,4 @@
-use Rattle.std.proofs.Common.{◌≡◌, ◌≢◌, ℕ, ◌+◌, ◌<◌, ◌≤◌, ◌==◌, nat_le, Bool, true, false, if◌then◌else◌, List, [], ◌∷◌, length, map, get_or, slice_set, inl, inr, refl, sym, ap, ◌∙◌, subst, arith}
+use Rattle.std.proofs.Common.{◌≡◌, ◌≢◌, ℕ, ◌+◌, ◌<◌, ◌≤◌, ◌==◌, nat_le, Bool, true, false, if◌then◌else◌, List, [], ◌∷◌, length, map, get_or, slice_set, refl, sym, ap, ◌∙◌, subst, arith}
 use mathlib.Core.Path.{fun_ext}
 use Rattle.std.specs.List.{range_with_len}
 use Rattle.std.proofs.lemmas.Bool.{eq-eqb, ne_eqb, cond-true, cond-false, leb-false}
@@ -23,7 +23,7 @@ use Rattle.can_bus.proofs.Lawful.{WasTried, by_attempt}
 use Rattle.can_bus.proofs.NodeFacts.{counts_at-kept}
 use Rattle.can_bus.proofs.OffFacts.{all_stepped-append, winner-contends}
 use Rattle.can_replay.proofs.Before.{before_more}
-use Rattle.can_reference.specs.Counted.{Counts}
+use Rattle.can_reference.specs.inner.Counted.{Counts}
 use Rattle.can_replay.specs.Histories.{before, IsHistory}
 
 -- The error counts of all interfaces, one entry after another.
@@ -60,7 +60,9 @@ counts-tried c past m v t i = all_stepped-append at_start (steps_of c past i) (s
 map_all : (f g : ℕ → ErrorCounts) (xs : List ℕ) → ((i : ℕ) → f i ≡ g i) → map f xs ≡ map g xs
 map_all f g xs same = ap (λ (h : ℕ → ErrorCounts). map h xs) (fun_ext same)
 
-nodes-tried : (c : BusConfig) (past : List Entry) (m : ℕ) (v : Verdict) (t : Tried) (old new : Nodes) → IsHistory c past → old ≡ kept_nodes c past → new ≡ record old { counters = (judged (attempt_between old t.winner v c.ack)).counters } → new ≡ kept_nodes c (record { event = Attempt m v; reply = reply.Tried t } ∷ past)
+nodes-tried : (c : BusConfig) (past : List Entry) (m : ℕ) (v : Verdict) (t : Tried) (old new : Nodes) → IsHistory c past → old ≡ kept_nodes c past
+    → new ≡ record old { counters = (judged (attempt_between old t.winner v c.ack)).counters }
+    → new ≡ kept_nodes c (record { event = Attempt m v; reply = reply.Tried t } ∷ past)
 unfolding kept_nodes
 nodes-tried c past m v t old new h are after =
     after
@@ -123,7 +125,9 @@ pub first-nodes : (c : BusConfig) (z : ErrorCounts) → z ≡ at_start → all_a
 unfolding kept_nodes
 first-nodes c z is = ap (all_at c) is
 
-pub counted_more : (c : BusConfig) (es : List Entry) (k : ℕ) (e : Entry) (old new : Nodes) → k < length es → e ≡ get_or es k e → (IsHistory c (before es k) → old ≡ kept_nodes c (before es k)) → Counts c e.event e.reply old new → IsHistory c (before es (k + 1)) → new ≡ kept_nodes c (before es (k + 1))
+pub counted_more : (c : BusConfig) (es : List Entry) (k : ℕ) (e : Entry) (old new : Nodes) → k < length es → e ≡ get_or es k e
+    → (IsHistory c (before es k) → old ≡ kept_nodes c (before es k)) → Counts c e.event e.reply old new → IsHistory c (before es (k + 1))
+    → new ≡ kept_nodes c (before es (k + 1))
 counted_more c es k e old new lt read so_far counted h =
     let more = before_more es k e lt read in
     let here : IsHistory c (e ∷ before es k) = subst (IsHistory c) more h in

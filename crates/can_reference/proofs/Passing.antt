@@ -10,7 +10,9 @@ use Rattle.can_bus.specs.Queues.{passing}
 use Rattle.can_bus.proofs.Filling.{passing-append}
 
 -- one post more passes or not
-pub passing_more : (fs : List CanFilter) (o : Options) (s : ℕ) (posts : List Post) (k : ℕ) (p : Post) (now new : List Received) (wanted : Bool) → k < length posts → p ≡ get_or posts k p → wanted ≡ wants fs o p.received.item (is_own p.sender s) → now ≡ passing fs o s (take k posts) → new ≡ (if wanted then now ++ p.received ∷ [] else now) → new ≡ passing fs o s (take (k + 1) posts)
+pub passing_more : (fs : List CanFilter) (o : Options) (s : ℕ) (posts : List Post) (k : ℕ) (p : Post) (now new : List Received) (wanted : Bool) → k < length posts
+    → p ≡ get_or posts k p → wanted ≡ wants fs o p.received.item (is_own p.sender s) → now ≡ passing fs o s (take k posts)
+    → new ≡ (if wanted then now ++ p.received ∷ [] else now) → new ≡ passing fs o s (take (k + 1) posts)
 passing_more fs o s posts k p now new wanted lt read asked so_far stepped =
     stepped
     ∙ ap (λ (rs : List Received). if wanted then rs ++ p.received ∷ [] else rs) so_far

@@ -38,7 +38,9 @@ offered_more c es k s e old more new r so_far is all =
 abbrev room_at : BusConfig → List Entry → ℕ → ℕ
 room_at c past s = capacity_of past s + length (taken_from past s) - length (queued_to c past s)
 
-pub queued_more : (c : BusConfig) (es : List Entry) (k s : ℕ) (e : Entry) (room : ℕ) (old more new : List Received) → Reads c es k e → old ≡ queued_to c (before es k) s → more ≡ candidates_of c (before es k) s e.event e.reply → room ≡ capacity_of (before es k) s + length (taken_from (before es k) s) - length old → new ≡ old ++ take room more → new ≡ queued_to c (before es (k + 1)) s
+pub queued_more : (c : BusConfig) (es : List Entry) (k s : ℕ) (e : Entry) (room : ℕ) (old more new : List Received) → Reads c es k e → old ≡ queued_to c (before es k) s
+    → more ≡ candidates_of c (before es k) s e.event e.reply → room ≡ capacity_of (before es k) s + length (taken_from (before es k) s) - length old
+    → new ≡ old ++ take room more → new ≡ queued_to c (before es (k + 1)) s
 queued_more c es k s e room old more new r so_far is room_is all =
     let past = before es k in
     all
@@ -47,7 +49,9 @@ queued_more c es k s e room old more new r so_far is room_is all =
     ∙ ap (λ (rs : List Received). queued_to c past s ++ take (room_at c past s) rs) is
     ∙ ap (λ (h : List Entry). queued_to c h s) (sym r.more)
 
-pub dropped_more : (c : BusConfig) (es : List Entry) (k s : ℕ) (e : Entry) (room : ℕ) (queued old more new : List Received) → Reads c es k e → queued ≡ queued_to c (before es k) s → old ≡ dropped_at c (before es k) s → more ≡ candidates_of c (before es k) s e.event e.reply → room ≡ capacity_of (before es k) s + length (taken_from (before es k) s) - length queued → new ≡ old ++ drop room more → new ≡ dropped_at c (before es (k + 1)) s
+pub dropped_more : (c : BusConfig) (es : List Entry) (k s : ℕ) (e : Entry) (room : ℕ) (queued old more new : List Received) → Reads c es k e
+    → queued ≡ queued_to c (before es k) s → old ≡ dropped_at c (before es k) s → more ≡ candidates_of c (before es k) s e.event e.reply
+    → room ≡ capacity_of (before es k) s + length (taken_from (before es k) s) - length queued → new ≡ old ++ drop room more → new ≡ dropped_at c (before es (k + 1)) s
 dropped_more c es k s e room queued old more new r queued_are so_far is room_is all =
     let past = before es k in
     all
@@ -68,7 +72,8 @@ pub none-offered : (c : BusConfig) (past : List Entry) (s : ℕ) (e : Event) (r 
 none-offered c past s e r shut = sym (cond-false (is_open past s) _ _ shut)
 
 -- one item more is kept or not
-pub kept_more : (test : Received → Bool) (items : List Received) (k : ℕ) (x : Received) (is_kept : Bool) (old new : List Received) → k < length items → x ≡ get_or items k x → is_kept ≡ test x → old ≡ filter test (take k items) → new ≡ (if is_kept then old ++ x ∷ [] else old) → new ≡ filter test (take (k + 1) items)
+pub kept_more : (test : Received → Bool) (items : List Received) (k : ℕ) (x : Received) (is_kept : Bool) (old new : List Received) → k < length items
+    → x ≡ get_or items k x → is_kept ≡ test x → old ≡ filter test (take k items) → new ≡ (if is_kept then old ++ x ∷ [] else old) → new ≡ filter test (take (k + 1) items)
 kept_more test items k x is_kept old new lt read asked so_far stepped =
     stepped
     ∙ ap (λ (rs : List Received). if is_kept then rs ++ x ∷ [] else rs) so_far

@@ -46,7 +46,9 @@ restart-live c past i m nodes off h below are is not_off =
 pub opened : (past : List Entry) (numbers : List ℕ) (s : ℕ) (found : Bool) → numbers ≡ open_sockets past → found ≡ list_any (λ k. k == s) numbers → found ≡ is_open past s
 opened past numbers s found are is = is ∙ ap (list_any (λ k. k == s)) are
 
-pub closed : (c : BusConfig) (past : List Entry) (s : SocketId) (queued dropped taken : List Received) (unread lost : ℕ) → is_open past s.0 ≡ true → queued ≡ queued_to c past s.0 → dropped ≡ dropped_at c past s.0 → taken ≡ taken_from past s.0 → unread ≡ length queued - length taken → lost ≡ length dropped → reply.Closed (record { unread = unread; dropped = lost }) ≡ legal_reply c past (event.Close s)
+pub closed : (c : BusConfig) (past : List Entry) (s : SocketId) (queued dropped taken : List Received) (unread lost : ℕ) → is_open past s.0 ≡ true
+    → queued ≡ queued_to c past s.0 → dropped ≡ dropped_at c past s.0 → taken ≡ taken_from past s.0 → unread ≡ length queued - length taken → lost ≡ length dropped
+    → reply.Closed (record { unread = unread; dropped = lost }) ≡ legal_reply c past (event.Close s)
 closed c past s queued dropped taken unread lost there queued_are dropped_are taken_are unread_is lost_is =
     ap (λ (n : ℕ). reply.Closed (record { unread = n; dropped = lost })) (unread_is ∙ ap (λ (rs : List Received). length rs - length taken) queued_are ∙ ap (λ (rs : List Received). length (queued_to c past s.0) - length rs) taken_are)
     ∙ ap (λ (n : ℕ). reply.Closed (record { unread = length (queued_to c past s.0) - length (taken_from past s.0); dropped = n })) (lost_is ∙ ap length dropped_are)
@@ -81,7 +83,8 @@ send_as c past i = if is_off (state_at c past i) then reply.Refused refusal.BusO
 on-open : (c : BusConfig) (past : List Entry) (s : SocketId) (f : CanFrame) (i : ℕ) → IsOn past s.0 i → send_as c past i ≡ legal_reply c past (event.Send s f)
 on-open c past s f i on = ap (send_as c past) on.iface ∙ sym (cond-true (is_open past s.0) _ _ on.there)
 
-pub sent-off : (c : BusConfig) (past : List Entry) (s : SocketId) (f : CanFrame) (i : ℕ) (nodes : Nodes) (off : Bool) → IsHistory c past → IsOn past s.0 i → nodes ≡ kept_nodes c past → off ≡ is_off (state_of (counts_at nodes i)) → off ≡ true → reply.Refused refusal.BusOff ≡ legal_reply c past (event.Send s f)
+pub sent-off : (c : BusConfig) (past : List Entry) (s : SocketId) (f : CanFrame) (i : ℕ) (nodes : Nodes) (off : Bool) → IsHistory c past → IsOn past s.0 i
+    → nodes ≡ kept_nodes c past → off ≡ is_off (state_of (counts_at nodes i)) → off ≡ true → reply.Refused refusal.BusOff ≡ legal_reply c past (event.Send s f)
 sent-off c past s f i nodes off h on are is is_true =
     let here : is_off (state_at c past i) ≡ true = sym (off-kept c past nodes i off (few-on c past s.0 i h on) are is) ∙ is_true in
     sym (cond-true (is_off (state_at c past i)) _ _ here) ∙ on-open c past s f i on
@@ -94,13 +97,17 @@ pub record IsQueue (past : List Entry) (i sent gone : ℕ) : Type 0 where
 waiting : (past : List Entry) (i sent gone n : ℕ) → IsQueue past i sent gone → n ≡ sent - gone → n ≡ length (sent_by past i) - gone_count past i
 waiting past i sent gone n queue is = is ∙ ap (λ (k : ℕ). k - gone) queue.sent_is ∙ ap (λ (k : ℕ). length (sent_by past i) - k) queue.gone_is
 
-pub sent-full : (c : BusConfig) (past : List Entry) (s : SocketId) (f : CanFrame) (i : ℕ) (nodes : Nodes) (off : Bool) (sent gone n : ℕ) → IsHistory c past → IsOn past s.0 i → nodes ≡ kept_nodes c past → off ≡ is_off (state_of (counts_at nodes i)) → off ≡ false → IsQueue past i sent gone → n ≡ sent - gone → n ≡ c.tx_capacity → reply.Refused refusal.NoBuffers ≡ legal_reply c past (event.Send s f)
+pub sent-full : (c : BusConfig) (past : List Entry) (s : SocketId) (f : CanFrame) (i : ℕ) (nodes : Nodes) (off : Bool) (sent gone n : ℕ) → IsHistory c past
+    → IsOn past s.0 i → nodes ≡ kept_nodes c past → off ≡ is_off (state_of (counts_at nodes i)) → off ≡ false → IsQueue past i sent gone → n ≡ sent - gone
+    → n ≡ c.tx_capacity → reply.Refused refusal.NoBuffers ≡ legal_reply c past (event.Send s f)
 sent-full c past s f i nodes off sent gone n h on are is live queue room full =
     let here : is_off (state_at c past i) ≡ false = sym (off-kept c past nodes i off (few-on c past s.0 i h on) are is) ∙ live in
     let is_full : (length (sent_by past i) - gone_count past i == c.tx_capacity) ≡ true = eq-eqb _ _ (sym (waiting past i sent gone n queue room) ∙ full) in
     sym (cond-false (is_off (state_at c past i)) _ _ here ∙ cond-true (length (sent_by past i) - gone_count past i == c.tx_capacity) _ _ is_full) ∙ on-open c past s f i on
 
-pub sent-taken : (c : BusConfig) (past : List Entry) (s : SocketId) (f : CanFrame) (i : ℕ) (nodes : Nodes) (off : Bool) (sent gone n : ℕ) → IsHistory c past → IsOn past s.0 i → nodes ≡ kept_nodes c past → off ≡ is_off (state_of (counts_at nodes i)) → off ≡ false → IsQueue past i sent gone → n ≡ sent - gone → n ≢ c.tx_capacity → reply.Sent sent ≡ legal_reply c past (event.Send s f)
+pub sent-taken : (c : BusConfig) (past : List Entry) (s : SocketId) (f : CanFrame) (i : ℕ) (nodes : Nodes) (off : Bool) (sent gone n : ℕ) → IsHistory c past
+    → IsOn past s.0 i → nodes ≡ kept_nodes c past → off ≡ is_off (state_of (counts_at nodes i)) → off ≡ false → IsQueue past i sent gone → n ≡ sent - gone
+    → n ≢ c.tx_capacity → reply.Sent sent ≡ legal_reply c past (event.Send s f)
 sent-taken c past s f i nodes off sent gone n h on are is live queue room free =
     let here : is_off (state_at c past i) ≡ false = sym (off-kept c past nodes i off (few-on c past s.0 i h on) are is) ∙ live in
     let is_free : (length (sent_by past i) - gone_count past i == c.tx_capacity) ≡ false = ne_eqb _ _ (λ e. free (waiting past i sent gone n queue room ∙ e)) in
@@ -133,7 +140,9 @@ entries-legal c past e h = when (nat_le c.limit (length past)) refl
     when true full = h
     when false room = record { proper = h.proper; legal = (leb-false c.limit (length past) room, refl, h.legal) }
 
-pub replies_more : (c : BusConfig) (past new : List Entry) (events : List Event) (k : ℕ) (e : Event) (r : Reply) (rs rs' all : List Reply) → k < length events → e ≡ get_or events k e → r ≡ reply_after c past e → new ≡ entries_after c past e → rs' ≡ rs ++ r ∷ [] → rs ++ replies_after c past (drop k events) ≡ all → rs' ++ replies_after c new (drop (k + 1) events) ≡ all
+pub replies_more : (c : BusConfig) (past new : List Entry) (events : List Event) (k : ℕ) (e : Event) (r : Reply) (rs rs' all : List Reply) → k < length events
+    → e ≡ get_or events k e → r ≡ reply_after c past e → new ≡ entries_after c past e → rs' ≡ rs ++ r ∷ [] → rs ++ replies_after c past (drop k events) ≡ all
+    → rs' ++ replies_after c new (drop (k + 1) events) ≡ all
 unfolding replies_after
 replies_more c past new events k e r rs rs' all lt read answer after more so_far =
     let rest = replies_after c new (drop (k + 1) events) in

@@ -2,7 +2,7 @@ ghost use Rattle.std.specs.Prelude.{◌≡◌, ◌<◌, ◌≤◌, reverse, slic
 ghost use Rattle.can_confine.specs.Confinement.{is_off, state_of, at_start};
 ghost use Rattle.can_attempt.specs.Attempts.{counts_at, attempt_between, judged};
 ghost use Rattle.can_bus.specs.State.{kept_nodes};
-ghost use Rattle.can_reference.specs.Counted.{Counts};
+ghost use Rattle.can_reference.specs.inner.Counted.{Counts};
 ghost use Rattle.can_replay.specs.Histories.{IsHistory};
 
 use can_attempt::{AckMode, Judgement, Nodes, judge};

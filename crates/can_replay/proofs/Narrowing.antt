@@ -81,15 +81,36 @@ winning past is = find (λ i. not (list_any (λ j. beats past j i) is)) is
 winner-narrow : (c : BusConfig) (n : ℕ) (past : List Entry) → winner (narrow c n) past ≡ winner c past
 winner-narrow c n past = ap (λ (k : ℕ → ErrorCounts). winning past (contending c past k)) (counts-narrow c n past)
 
+-- the reply of an attempt by these error counts
+abbrev tried_by : BusConfig → List Entry → ℕ → Verdict → ℕ → Pending → (ℕ → ErrorCounts) → Reply
+tried_by c past m v w p k =
+    let t = sending c k w v in
+    reply.Tried (record {
+      moment = m;
+      winner = w;
+      number = gone_count past w;
+      frame = p.frame;
+      class = class_of t;
+      accepted = set_of (accepted_in (class_of t) t);
+      off = set_of (off_after t);
+    })
+
 tried-narrow : (c : BusConfig) (n : ℕ) (past : List Entry) (m : ℕ) (v : Verdict) (w : ℕ) (p : Option Pending) → tried_head (narrow c n) past m v w p ≡ tried_head c past m v w p
 tried-narrow c n past m v w None = refl
-tried-narrow c n past m v w (Some p) = ap (λ (k : ℕ → ErrorCounts). let t = sending c k w v in reply.Tried (record { moment = m; winner = w; number = gone_count past w; frame = p.frame; class = class_of t; accepted = set_of (accepted_in (class_of t) t); off = set_of (off_after t) })) (counts-narrow c n past)
+tried-narrow c n past m v w (Some p) = ap (tried_by c past m v w p) (counts-narrow c n past)
 
 attempt-narrow : (c : BusConfig) (n : ℕ) (past : List Entry) (m : ℕ) (v : Verdict) (o : Option ℕ) → attempt_reply (narrow c n) past m v o ≡ attempt_reply c past m v o
 attempt-narrow c n past m v None = refl
 attempt-narrow c n past m v (Some w) = tried-narrow c n past m v w (head_of past w)
 
 -- ---- replies
+
+-- the reply of a send on an interface by these error counts
+abbrev sent_on : BusConfig → List Entry → ℕ → (ℕ → ErrorCounts) → Reply
+sent_on c past i k =
+    if is_off (state_of (k i)) then reply.Refused refusal.BusOff
+    else if length (sent_by past i) - gone_count past i == c.tx_capacity then reply.Refused refusal.NoBuffers
+    else reply.Sent (length (sent_by past i))
 
 pub reply-narrow : (c : BusConfig) (n : ℕ) (past : List Entry) (e : Event) → legal_reply (narrow c n) past e ≡ legal_reply c past e
 reply-narrow c n past (Open i capacity) = refl
@@ -98,7 +119,7 @@ reply-narrow c n past (Close s) =
     ∙ ap (λ (ds : List Received). if_open past s.0 (reply.Closed (record { unread = length (queued_to c past s.0) - length (taken_from past s.0); dropped = length ds }))) (dropped-narrow c n past s.0)
 reply-narrow c n past (SetFilters s filters) = refl
 reply-narrow c n past (SetOption s option) = refl
-reply-narrow c n past (Send s frame) = ap (λ (k : ℕ → ErrorCounts). if_open past s.0 (if is_off (state_of (k (iface_of past s.0))) then reply.Refused refusal.BusOff else if length (sent_by past (iface_of past s.0)) - gone_count past (iface_of past s.0) == c.tx_capacity then reply.Refused refusal.NoBuffers else reply.Sent (length (sent_by past (iface_of past s.0))))) (counts-narrow c n past)
+reply-narrow c n past (Send s frame) = ap (λ (k : ℕ → ErrorCounts). if_open past s.0 (sent_on c past (iface_of past s.0) k)) (counts-narrow c n past)
 reply-narrow c n past (Receive s) = ap (λ (qs : List Received). if_open past s.0 (reply.Received (slice_get qs (length (taken_from past s.0))))) (queued-narrow c n past s.0)
 reply-narrow c n past (Attempt m v) = ap (attempt_reply (narrow c n) past m v) (winner-narrow c n past) ∙ attempt-narrow c n past m v (winner c past)
 reply-narrow c n past (Restart i m) = ap (λ (k : ℕ → ErrorCounts). if nat_le c.ifaces i then reply.Refused refusal.NoInterface else if is_off (state_of (k i)) then reply.Done else reply.Refused refusal.NotBusOff) (counts-narrow c n past)

@@ -1,5 +1,5 @@
 use Rattle.std.proofs.Common.{◌≡◌, ◌+◌, length}
-use Rattle.can_record.specs.Reading.{filters_at}
+use Rattle.can_record.specs.inner.Reading.{filters_at}
 use Rattle.can_record.proofs.event_reading.filter_fields.Given as goal
 
 abbrev pub invariant-loop-left : goal.invariant-loop-left

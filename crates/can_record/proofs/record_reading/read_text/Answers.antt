@@ -1,9 +1,8 @@
 use Rattle.std.proofs.Common.{◌≡◌, ◌++◌, ◌∙◌, IsTrue, Bool, true, false, Err, List, ℕ, [], drop, ap, sym, subst}
 use Rattle.can_record.specs.declared.faults.Unread.{Unread}
 use Rattle.can_record.specs.declared.faults.Unread.TheVariants as unread
-use Rattle.can_record.specs.Spelling.{first_line, end_words}
+use Rattle.can_record.specs.Spelling.{first_line, end_words, spell}
 use Rattle.can_record.specs.RecordFaults.{Ends}
-use Rattle.can_record.specs.Words.{spell}
 use Rattle.can_record.proofs.Whole.{first_is_wrong, lines_begin, whole_text, end_is_wrong, made_text}
 use Rattle.can_record.proofs.record_reading.read_text.Goals as goal
 

@@ -1,5 +1,5 @@
 use Rattle.std.proofs.Common.{◌≡◌, ◌++◌, take, drop}
-use Rattle.can_record.specs.Words.{word, after}
+use Rattle.can_record.specs.inner.Words.{word, after}
 use Rattle.can_record.proofs.words.next_word.Given as goal
 
 abbrev pub invariant-loop-end : goal.invariant-loop-end

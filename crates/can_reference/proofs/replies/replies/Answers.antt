@@ -17,7 +17,8 @@ loop-event-preserved c =
     let old = reverse c.loop-event.past.items in
     record {
       lawful = subst (IsHistory c.args.config) (sym c.in_ok-reply.ensures.entries) (entries-legal c.args.config old c.event-item.result c.loop-event.invariant.lawful);
-      so_far = replies_more c.args.config old (reverse c.answer.new.past.items) c.args.events.now c.loop-event.event-index c.event-item.result c.in_ok-reply.reply c.loop-event.replies.items c.push.new.self.items _ c.loop-event-test.true c.event-item.is c.in_ok-reply.ensures.reply c.in_ok-reply.ensures.entries c.in_ok-push.ensures.items c.loop-event.invariant.so_far;
+      so_far = replies_more c.args.config old (reverse c.answer.new.past.items) c.args.events.now c.loop-event.event-index c.event-item.result c.in_ok-reply.reply
+          c.loop-event.replies.items c.push.new.self.items _ c.loop-event-test.true c.event-item.is c.in_ok-reply.ensures.reply c.in_ok-reply.ensures.entries c.in_ok-push.ensures.items c.loop-event.invariant.so_far;
     }
 
 pub returns : goal.returns

@@ -21,16 +21,6 @@ unfoldable pub after : List ℕ → List ℕ
 after [] = []
 after (b ∷ bs) = if is_gap b then bs else after bs
 
--- what ends a word: a space, or the line's end (LF) where no word follows
-abbrev pub gap_before : List (List ℕ) → ℕ
-gap_before [] = 10
-gap_before (w ∷ ws) = 32
-
--- a line of these words, one space between two of them and LF behind the last; and what follows the line
-abbrev pub spell : List (List ℕ) → List ℕ → List ℕ
-spell [] rest = rest
-spell (w ∷ ws) rest = w ++ gap_before ws ∷ spell ws rest
-
 -- words, a space behind each
 abbrev pub spaced : List (List ℕ) → List ℕ
 spaced [] = []

@@ -28,8 +28,8 @@ use Rattle.can_bus.specs.declared.events.Reply.TheVariants as reply
 use Rattle.can_bus.specs.declared.events.Entry.{Entry}
 use Rattle.can_record.specs.declared.faults.Unread.{Unread}
 use Rattle.can_record.specs.declared.faults.Unread.TheVariants as unread
-use Rattle.can_record.specs.Words.{word, after}
-use Rattle.can_record.specs.Numerals.{long_in, moment_in}
+use Rattle.can_record.specs.inner.Words.{word, after}
+use Rattle.can_record.specs.inner.Numerals.{long_in, moment_in}
 
 -- An entry as a line seems to spell it. It is written again and compared, so here it may be read loosely (own choice).
 
