@@ -1,4 +1,4 @@
-//! The tests of can_audit, in a crate of their own: so can_audit is proved once for them.
+//! The tests of what can_audit offers, in a crate of their own: so none of it is proved again for them.
 #![tactic(auto)]
 
 #[cfg(test)]

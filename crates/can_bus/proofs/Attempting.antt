@@ -54,7 +54,7 @@ length-counters c past = long 16
     long : (n : ℕ) → length (map (counts_of c past) (range_with_len 0 n)) ≡ n
     long n = length-map (range_with_len 0 n) (counts_of c past) ∙ length-range_with_len 0 n
 
-counts_at-all : (c : BusConfig) (past : List Entry) → IsLegal c past → c.ifaces ≤ 16 → (i : ℕ) → counts_at (kept_nodes c past) i ≡ counts_of c past i
+pub counts_at-all : (c : BusConfig) (past : List Entry) → IsLegal c past → c.ifaces ≤ 16 → (i : ℕ) → counts_at (kept_nodes c past) i ≡ counts_of c past i
 counts_at-all c past legal few i =
     elim (cases_lt i 16) [
       | inl lt ↦ counts_at-kept c past i lt
@@ -65,7 +65,7 @@ pub count-kept : (c : BusConfig) (past : List Entry) → (kept_nodes c past).cou
 unfolding kept_nodes
 count-kept c past = refl
 
-between-is : (c : BusConfig) (past : List Entry) (w : ℕ) (v : Verdict) → IsLegal c past → c.ifaces ≤ 16 → attempt_between (kept_nodes c past) w v c.ack ≡ transmission c past w v
+pub between-is : (c : BusConfig) (past : List Entry) (w : ℕ) (v : Verdict) → IsLegal c past → c.ifaces ≤ 16 → attempt_between (kept_nodes c past) w v c.ack ≡ transmission c past w v
 between-is c past w v legal few =
     ap (λ (n : ℕ). record { count = n; counts = counts_at (kept_nodes c past); winner = w; verdict = v; ack = c.ack }) (count-kept c past)
     ∙ ap (λ (f : ℕ → ErrorCounts). record { count = c.ifaces; counts = f; winner = w; verdict = v; ack = c.ack }) (fun_ext (counts_at-all c past legal few))

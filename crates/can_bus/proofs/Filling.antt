@@ -18,7 +18,7 @@ use Rattle.can_bus.proofs.Lawful.{passing-le}
 
 -- Items come to a socket one after another, or all at once.
 
-passing-append : (fs : List CanFilter) (o : Options) (s : ℕ) (ps qs : List Post) → passing fs o s (ps ++ qs) ≡ passing fs o s ps ++ passing fs o s qs
+pub passing-append : (fs : List CanFilter) (o : Options) (s : ℕ) (ps qs : List Post) → passing fs o s (ps ++ qs) ≡ passing fs o s ps ++ passing fs o s qs
 passing-append fs o s [] qs = refl
 passing-append fs o s (p ∷ ps) qs =
     let rest = passing-append fs o s ps qs in

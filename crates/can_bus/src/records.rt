@@ -61,7 +61,16 @@ impl Record {
         if !are_spelled(&entries) {
             return None;
         }
-        Some(Record { config, entries })
+        Some(Record::from_spelled(config, entries))
+    }
+
+    /// The same of parts that are known to make a record: nothing is looked at.
+    pub fn from_spelled(config: BusConfig, entries: Vec<Entry>) -> Record
+        requires { IsRecord config entries.items }
+        ensures config { result.config ≡ config }
+        ensures history { result.history ≡ reverse entries.items }
+    {
+        Record { config, entries }
     }
 
     /// What the bus was made with.

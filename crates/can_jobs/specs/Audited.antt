@@ -3,8 +3,8 @@ use Rattle.std.specs.Io.KnownBytes.{Appends}
 use Rattle.can_bus.specs.declared.events.BusConfig.{BusConfig}
 use Rattle.can_bus.specs.declared.events.Entry.{Entry}
 use Rattle.can_bus.specs.Legal.{IsLegal}
-use Rattle.can_audit.specs.RecordFaults.{IsTextOf, Reads}
-use Rattle.can_audit.specs.Audits.{IsFirstWrong}
+use Rattle.can_record.specs.RecordFaults.{IsTextOf, Reads}
+use Rattle.can_replay.specs.Audits.{IsFirstWrong}
 use Rattle.can_jobs.specs.declared.faults.Fault.{Fault}
 use Rattle.can_jobs.specs.declared.faults.Fault.TheVariants as fault
 

@@ -1,8 +1,8 @@
 ghost use Rattle.std.specs.Prelude.{◌≡◌, List, ℕ, IfErr, IfOk, Ok, OnOk, length, reverse, string_bytes};
 ghost use Rattle.std.specs.Io.KnownBytes.{Appends};
 ghost use Rattle.can_bus.specs.Legal.{IsLegal};
-ghost use Rattle.can_audit.specs.Audits.{Blames};
-ghost use Rattle.can_audit.specs.RecordFaults.{Reads};
+ghost use Rattle.can_replay.specs.Audits.{Blames};
+ghost use Rattle.can_record.specs.RecordFaults.{Reads};
 ghost use Rattle.can_jobs.specs.Audited.{Faults, IsAudited, SaysOf, entries_line};
 ghost use Rattle.can_jobs.specs.declared.faults.Fault.TheVariants as fault;
 
@@ -10,8 +10,9 @@ use crate::faults::{Failure, Fault};
 use crate::files::{OUTPUT, read_file, write_failure};
 use crate::notes::record_note;
 use crate::wrong_entries::wrong_note;
-use can_audit::{AuditFault, audit, read_record};
 use can_bus::Record;
+use can_record::read_record;
+use can_replay::{AuditFault, audit};
 use std::alloc::Global;
 use std::io::Write;
 use std::rt::Files;

@@ -1,8 +1,8 @@
 ghost use Rattle.std.specs.Prelude.{◌≡◌, IfErr, IsTrue, false};
 
-use can_audit::ReadFault;
 use can_bus::BusFault;
 use can_fault::ScriptError;
+use can_record::ReadFault;
 use can_session::BenchFault;
 use std::alloc::{AllocError, Global};
 use std::io::Write;

@@ -2,7 +2,7 @@
 //!
 //! `read_options` reads the words; `run_bench`, `run_serve` and `audit_file` are the three jobs, `files` reads what they
 //! need, `saved` writes what they leave, and `notes` has what is told behind a fault's text. The bench itself is
-//! `can_session::bench`, the server can_serving's, the record's text and its audit are can_audit's: what they write and
+//! `can_session::bench`, the server can_serving's, the record's text can_record's and its audit can_replay's: what they write and
 //! answer is proved there. What is proved here: a bench runs on the bus that its options describe, and a server is made
 //! of such buses; a server that ends well put out how many entries the legal record of each bus has; an audit writes
 //! `ok N entries` only of a legal record's text; and no words, file or input make a function fail. What a file or a

@@ -2,9 +2,9 @@
 //! They are found anew from the texts that the program has, and one that there is no memory for is left out.
 use crate::bus_options::{BusSettings, BusWord};
 use crate::shown::{Line, Shown};
-use can_audit::ReadFault;
 use can_fault::ScriptError;
 use can_frame::is_name;
+use can_record::ReadFault;
 use can_session::{Order, SessionNumber, read_order};
 use std::alloc::{AllocError, Global};
 use std::io::Error;

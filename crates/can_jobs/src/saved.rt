@@ -1,16 +1,16 @@
 //! The files that a run leaves: the record of a bus, and its log.
 ghost use Rattle.std.specs.Prelude.{◌≡◌, reverse, OnOk};
 ghost use Rattle.std.specs.Io.KnownBytes.{Appends};
-ghost use Rattle.can_audit.specs.Spelling.{record_spelling};
+ghost use Rattle.can_record.specs.Spelling.{record_spelling};
 ghost use Rattle.can_logfile.specs.Log.{joined, log_lines};
 
 use crate::faults::{Failure, Fault};
 use crate::files::write_failure;
 use crate::notes::reason_note;
-use can_audit::write_record;
 use can_bus::Record;
 use can_frame::Names;
 use can_logfile::write_tape;
+use can_record::write_record;
 use std::alloc::Global;
 use std::fs;
 use std::io::{BufWriter, Error, ErrorKind, Write};

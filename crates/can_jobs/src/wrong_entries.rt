@@ -1,10 +1,10 @@
 ghost use Rattle.std.specs.Prelude.{reverse};
 ghost use Rattle.can_bus.specs.Spelled.{FitsReply};
-ghost use Rattle.can_audit.specs.Audits.{IsToldWrong};
+ghost use Rattle.can_replay.specs.Audits.{IsToldWrong};
 
 use crate::shown::{Line, Shown};
-use can_audit::line_text;
 use can_bus::{Event, Record, Reply};
+use can_record::line_text;
 use std::alloc::{AllocError, Global};
 
 /// How many lines of a record's text stand before those of its entries.

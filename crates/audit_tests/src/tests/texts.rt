@@ -1,11 +1,11 @@
 // Record texts, written and read.
 
 use can_attempt::AckMode;
-use can_audit::text_laws::read_back;
 use can_audit::{ReadFault, read_record, read_record_bytes, record_text, write_record};
 use can_bus::{Bus, BusConfig, Event, ListBus, Record, SocketId, run};
 use can_fault::Verdict;
 use can_frame::{CanId, Frame, Iface, IfaceSet, Moment};
+use can_record::text_laws::read_back;
 use std::alloc::AllocGlobal;
 use std::io;
 use std::io::Write;

@@ -6,8 +6,8 @@ use Rattle.can_bus.specs.declared.events.Reply.{Reply}
 use Rattle.can_bus.specs.Legal.{legal_reply}
 use Rattle.can_bus.specs.Spelled.{FitsReply}
 use Rattle.can_bus.proofs.Fitting.{legal_is_spelled}
-use Rattle.can_audit.specs.Audits.{IsToldWrong}
-use Rattle.can_audit.specs.Histories.{before}
+use Rattle.can_replay.specs.Audits.{IsToldWrong}
+use Rattle.can_replay.specs.Histories.{before}
 use Rattle.can_jobs.proofs.wrong_entries.wrong_note.Goals as goal
 
 -- a reply that is told is the legal one

@@ -1,8 +1,0 @@
-use Rattle.can_audit.proofs.Auditing.{none-wrong, one-first}
-use Rattle.can_audit.proofs.laws.at_most_one_entry_is_the_first_wrong.Goals as goal
-
-pub returns : goal.returns
-returns c = record {
-  legal = λ proper entries k. none-wrong c.args.config entries k proper;
-  one = λ proper entries j k. one-first c.args.config entries j k proper;
-}

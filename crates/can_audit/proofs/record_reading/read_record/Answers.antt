@@ -1,5 +1,0 @@
-use Rattle.std.proofs.Common.{◌∙◌}
-use Rattle.can_audit.proofs.record_reading.read_record.Goals as goal
-
-pub returns-clause-back : goal.returns-clause-back
-returns-clause-back c = λ d entries whole is. c.read_record_bytes.ensures.back d entries whole (c.as_bytes.ensures.value ∙ is)

@@ -1,7 +1,0 @@
-use Rattle.std.proofs.Common.{[], take}
-use Rattle.std.specs.Io.KnownBytes.{Appends}
-use Rattle.can_audit.specs.Spelling.{entry_lines}
-use Rattle.can_audit.proofs.record_writing.write_lines.Given as goal
-
-abbrev pub invariant-loop-entry : goal.invariant-loop-entry
-invariant-loop-entry g l = Appends (g.W.Write.contents l.initial.writer) (g.W.Write.contents l.writer) (entry_lines (take l.entry-index l.entries) [])

@@ -1,7 +1,0 @@
-use Rattle.std.proofs.Common.{take}
-use Rattle.std.specs.Prelude.{All}
-use Rattle.can_audit.specs.Values.{HasLine}
-use Rattle.can_audit.proofs.text_laws.hold_lines.Given as goal
-
-abbrev pub invariant-loop-entry : goal.invariant-loop-entry
-invariant-loop-entry l = All HasLine (take l.entry-index l.entries)

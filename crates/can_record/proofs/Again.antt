@@ -1,0 +1,351 @@
+-- A line that was written is read again.
+use Rattle.std.proofs.Common.{◌≡◌, ℕ, ◌^◌, ◌<◌, ◌≤◌, Bool, true, false, List, [], ◌∷◌, ◌++◌, length, Option, Some, None, Err, append_assoc, refl, sym, ap, ◌∙◌, arith}
+use Rattle.std.specs.Prelude.{All, codes, decimal}
+use Rattle.std.proofs.lemmas.Bool.{lt-ltb}
+use Rattle.std.proofs.lemmas.List.{append-nil}
+use Rattle.std.proofs.lemmas.List.Elements.{All-head, All-tail}
+use Rattle.can_frame.specs.FrameText.{frame_spelling, IsItem}
+use Rattle.can_frame.specs.Frames.{CanFrame}
+use Rattle.can_frame.specs.declared.items.Item.{Item}
+use Rattle.can_frame.specs.declared.items.Item.TheVariants as item
+use Rattle.can_frame.specs.declared.ifaces.IfaceSet.{IfaceSet}
+use Rattle.can_filter.specs.Filters.{CanFilter}
+use Rattle.can_fault.specs.declared.verdicts.GlobalKind.TheVariants as global
+use Rattle.can_fault.specs.declared.verdicts.LocalKind.TheVariants as local
+use Rattle.can_fault.specs.declared.verdicts.Verdict.{Verdict}
+use Rattle.can_fault.specs.declared.verdicts.Verdict.TheVariants as verdict
+use Rattle.can_attempt.specs.declared.classes.Class.{Class}
+use Rattle.can_attempt.specs.declared.classes.Class.TheVariants as class
+use Rattle.can_attempt.specs.Words.{class_word}
+use Rattle.can_attempt.specs.declared.acks.AckMode.{AckMode}
+use Rattle.can_attempt.specs.declared.acks.AckMode.TheVariants as ack
+use Rattle.can_bus.specs.declared.events.BusConfig.{BusConfig}
+use Rattle.can_bus.specs.declared.events.SocketId.{SocketId}
+use Rattle.can_bus.specs.declared.events.Opt.{Opt}
+use Rattle.can_bus.specs.declared.events.Opt.TheVariants as opt
+use Rattle.can_bus.specs.declared.events.Event.{Event}
+use Rattle.can_bus.specs.declared.events.Event.TheVariants.{Open, Close, SetFilters, SetOption, Send, Receive, Attempt, Restart}
+use Rattle.can_bus.specs.declared.events.Refusal.{Refusal}
+use Rattle.can_bus.specs.declared.events.Refusal.TheVariants as refusal
+use Rattle.can_bus.specs.declared.events.Received.{Received}
+use Rattle.can_bus.specs.declared.events.Tried.{Tried}
+use Rattle.can_bus.specs.declared.events.Reply.{Reply}
+use Rattle.can_bus.specs.declared.events.Reply.TheVariants as reply
+use Rattle.can_bus.specs.declared.events.Entry.{Entry}
+use Rattle.can_bus.specs.Spelled.{LeavesEntry, IsNumberOf, FitsReply}
+use Rattle.std.proofs.lemmas.Option.{none-some, same_Some}
+use Rattle.can_record.specs.declared.faults.Unread.{Unread}
+use Rattle.can_record.specs.declared.faults.Unread.TheVariants as unread
+use Rattle.can_record.specs.inner.Words.{is_gap, is_word, word, after}
+use Rattle.can_record.specs.Spelling.{gap_before, spell, set_word, mask_word, moment_word, flag_word, verdict_word, option_words, filter_words, refusal_words, received_words, event_words, reply_words, entry_line, ack_word, bus_words, end_words}
+use Rattle.can_frame.specs.Numbers.{number_in}
+use Rattle.can_record.specs.Values.{HoldsFilter, HoldsOption, HoldsVerdict, HoldsEvent, HoldsTried, HoldsReply, HasLine, HasBusLine}
+use Rattle.can_record.specs.inner.Reading.{Gives, number_at, long_at, mask_at, moment_at, socket_at, set_at, flag_at, item_at, frame_at, option_at, set_behind, verdict_at, class_at, refusal_in, closed_at, data_at, error_at, tried_at, fixed_in, reply_at, moment_of, with_reply}
+use Rattle.can_record.specs.inner.Reading.{filter_at, filters_at, set_filters_at, set_option_at, setting_at, plain_at, entry_at, ack_at, config_at}
+use Rattle.can_frame.proofs.Numerals.{value-digits}
+use Rattle.can_record.proofs.Wording.{word-spelled, after-spelled}
+use Rattle.can_record.proofs.Digits.{number_again, long_again, is_word-decimal, is_word-digits, moment_again, is_word-moment}
+use Rattle.can_record.proofs.FrameWords.{item_again, is_word-item}
+
+-- ---- fields
+
+pub number_field : (limit n g : ℕ) (rest : List ℕ) → n < limit → limit ≤ 10 ^ 19 → is_gap g ≡ true → number_at limit (decimal n ++ g ∷ rest) ≡ Some (n, rest)
+unfolding number_at
+number_field limit n g rest lt wide gap =
+    let small : n < 10 ^ 19 = omega (arith, lt, wide) in
+    let plain = is_word-decimal n (omega (arith, small)) in
+    rw (word-spelled (decimal n) rest g plain gap, after-spelled (decimal n) rest g plain gap, number_again n small, lt-ltb n limit lt) refl
+
+long_field : (n g : ℕ) (rest : List ℕ) → n < 2 ^ 64 → is_gap g ≡ true → long_at (decimal n ++ g ∷ rest) ≡ Some (n, rest)
+unfolding long_at
+long_field n g rest lt gap =
+    let plain = is_word-decimal n lt in
+    rw (word-spelled (decimal n) rest g plain gap, after-spelled (decimal n) rest g plain gap, long_again n lt) refl
+
+mask-plain : (n : ℕ) → is_word (mask_word n) ≡ true
+unfolding mask_word
+mask-plain n = is_word-digits 16 8 n
+
+mask-again : (n : ℕ) → n < 2 ^ 32 → number_in 16 8 (mask_word n) ≡ Some n
+unfolding mask_word
+mask-again n lt = value-digits 16 8 n (omega arith) (omega arith) (omega (arith, lt))
+
+mask_field : (n g : ℕ) (rest : List ℕ) → n < 2 ^ 32 → is_gap g ≡ true → mask_at (mask_word n ++ g ∷ rest) ≡ Some (n, rest)
+unfolding mask_at
+mask_field n g rest lt gap = rw (word-spelled (mask_word n) rest g (mask-plain n) gap, after-spelled (mask_word n) rest g (mask-plain n) gap, mask-again n lt) refl
+
+set-plain : (set : IfaceSet) → is_word (set_word set) ≡ true
+unfolding set_word
+set-plain set = is_word-digits 16 4 set.0
+
+set-again : (set : IfaceSet) → set.0 < 2 ^ 16 → number_in 16 4 (set_word set) ≡ Some set.0
+unfolding set_word
+set-again set lt = value-digits 16 4 set.0 (omega arith) (omega arith) (omega (arith, lt))
+
+pub set_field : (set : IfaceSet) (g : ℕ) (rest : List ℕ) → set.0 < 2 ^ 16 → is_gap g ≡ true → set_at (set_word set ++ g ∷ rest) ≡ Some (set, rest)
+unfolding set_at
+set_field set g rest lt gap = rw (word-spelled (set_word set) rest g (set-plain set) gap, after-spelled (set_word set) rest g (set-plain set) gap, set-again set lt) refl
+
+moment_field : (m g : ℕ) (rest : List ℕ) → m < 10 ^ 16 → is_gap g ≡ true → moment_at (moment_word m ++ g ∷ rest) ≡ Some (m, rest)
+unfolding moment_at
+moment_field m g rest lt gap =
+    let plain = is_word-moment m lt in
+    rw (word-spelled (moment_word m) rest g plain gap, after-spelled (moment_word m) rest g plain gap, moment_again m lt) refl
+
+socket_field : (s : SocketId) (g : ℕ) (rest : List ℕ) → s.0 < 2 ^ 32 → is_gap g ≡ true → socket_at (decimal s.0 ++ g ∷ rest) ≡ Some (s, rest)
+unfolding socket_at
+socket_field s g rest lt gap = rw (number_field (2 ^ 32) s.0 g rest lt (omega arith) gap) refl
+
+item_field : (i : Item) (g : ℕ) (rest : List ℕ) → IsItem i → is_gap g ≡ true → item_at (frame_spelling i ++ g ∷ rest) ≡ Some (i, rest)
+unfolding item_at
+item_field i g rest good gap =
+    let plain = is_word-item i good in
+    rw (word-spelled (frame_spelling i) rest g plain gap, after-spelled (frame_spelling i) rest g plain gap, item_again i good) refl
+
+frame_field : (f : CanFrame) (g : ℕ) (rest : List ℕ) → IsItem (item.Data f) → is_gap g ≡ true → frame_at (frame_spelling (item.Data f) ++ g ∷ rest) ≡ Some (f, rest)
+unfolding frame_at
+frame_field f g rest good gap = rw (item_field (item.Data f) g rest good gap) refl
+
+flag_field : (on : Bool) (rest : List ℕ) → flag_at (flag_word on ++ 32 ∷ rest) ≡ Some (on, rest)
+unfolding flag_at word after
+flag_field false rest = refl
+flag_field true rest = refl
+
+class_field : (c : Class) (rest : List ℕ) → class_at (class_word c ++ 32 ∷ rest) ≡ Some (c, rest)
+unfolding class_at word after
+class_field class.Done rest = refl
+class_field class.LastBit rest = refl
+class_field class.Destroyed rest = refl
+class_field class.NoAck rest = refl
+
+option_again : (o : Opt) (w : List ℕ) (ws : List (List ℕ)) (rest : List ℕ) → HoldsOption o → option_at (spell (option_words o ++ w ∷ ws) rest) ≡ Some (o, spell (w ∷ ws) rest)
+unfolding option_at word after
+option_again (opt.Loopback on) w ws rest h = rw (flag_field on (spell (w ∷ ws) rest)) refl
+option_again (opt.RecvOwn on) w ws rest h = rw (flag_field on (spell (w ∷ ws) rest)) refl
+option_again (opt.Join on) w ws rest h = rw (flag_field on (spell (w ∷ ws) rest)) refl
+option_again (opt.ErrMask mask) w ws rest h = rw (mask_field mask 32 (spell (w ∷ ws) rest) h refl) refl
+
+verdict_again : (v : Verdict) (rest : List ℕ) → HoldsVerdict v → verdict_at (verdict_word v ++ 32 ∷ rest) ≡ Some (v, rest)
+unfolding verdict_at set_behind word after
+verdict_again verdict.Good rest h = refl
+verdict_again (verdict.Global global.Bit) rest h = refl
+verdict_again (verdict.Global global.Form) rest h = refl
+verdict_again verdict.LastBit rest h = refl
+verdict_again (verdict.Local set local.Stuff) rest h = rw (set_field set 32 rest h refl) refl
+verdict_again (verdict.Local set local.Crc) rest h = rw (set_field set 32 rest h refl) refl
+verdict_again (verdict.Local set local.Form) rest h = rw (set_field set 32 rest h refl) refl
+
+pub gap_is : (ws : List (List ℕ)) → is_gap (gap_before ws) ≡ true
+gap_is [] = refl
+gap_is (w ∷ ws) = refl
+
+filter_again : (acc : List CanFilter) (f : CanFilter) (g : ℕ) (rest : List ℕ) → HoldsFilter f → is_gap g ≡ true → filter_at acc (mask_word f.id ++ 32 ∷ (mask_word f.mask ++ g ∷ rest)) ≡ Some (acc ++ f ∷ [], rest)
+unfolding filter_at
+filter_again acc f g rest h gap = rw (mask_field f.id 32 (mask_word f.mask ++ g ∷ rest) h.id refl, mask_field f.mask g rest h.mask gap, h.unmarked) refl
+
+filters_again : (fs acc : List CanFilter) (w : List ℕ) (ws : List (List ℕ)) (rest : List ℕ) → All HoldsFilter fs → filters_at acc (length fs) (spell (filter_words fs ++ w ∷ ws) rest) ≡ Some (acc ++ fs, spell (w ∷ ws) rest)
+unfolding filters_at
+filters_again [] acc w ws rest h = ap (λ (x : List CanFilter). Some (x, spell (w ∷ ws) rest)) (sym (append-nil acc))
+filters_again (f ∷ fs) acc w ws rest h =
+    rw (filter_again acc f (gap_before (filter_words fs ++ w ∷ ws)) (spell (filter_words fs ++ w ∷ ws) rest) (All-head HoldsFilter f fs h) (gap_is (filter_words fs ++ w ∷ ws)))
+    (filters_again fs (acc ++ f ∷ []) w ws rest (All-tail HoldsFilter f fs h) ∙ ap (λ (x : List CanFilter). Some (x, spell (w ∷ ws) rest)) (append_assoc acc (f ∷ []) fs))
+
+-- ---- replies
+
+closed_again : (u d : ℕ) (rest : List ℕ) → u < 2 ^ 64 → d < 2 ^ 64 → closed_at (decimal u ++ 32 ∷ (decimal d ++ 10 ∷ rest)) ≡ Some (reply.Closed (record { unread = u; dropped = d }), rest)
+unfolding closed_at
+closed_again u d rest hu hd = rw (long_field u 32 (decimal d ++ 10 ∷ rest) hu refl, long_field d 10 rest hd refl) refl
+
+data_again : (f : CanFrame) (from n m : ℕ) (rest : List ℕ) → IsItem (item.Data f) → from < 16 → n < 2 ^ 64 → m < 10 ^ 16
+    → data_at (decimal from ++ 32 ∷ (decimal n ++ 32 ∷ (frame_spelling (item.Data f) ++ 32 ∷ (moment_word m ++ 10 ∷ rest)))) ≡ Some (reply.Received (Some (record { item = item.Data f; from = from; number = n; moment = m })), rest)
+unfolding data_at
+data_again f from n m rest good hi hn hm =
+    rw (
+      number_field 16 from 32 (decimal n ++ 32 ∷ (frame_spelling (item.Data f) ++ 32 ∷ (moment_word m ++ 10 ∷ rest))) hi (omega arith) refl,
+      long_field n 32 (frame_spelling (item.Data f) ++ 32 ∷ (moment_word m ++ 10 ∷ rest)) hn refl,
+      frame_field f 32 (moment_word m ++ 10 ∷ rest) good refl,
+      moment_field m 10 rest hm refl,
+    ) refl
+
+error_again : (i : Item) (from m : ℕ) (rest : List ℕ) → IsItem i → from < 16 → m < 10 ^ 16 → error_at (decimal from ++ 32 ∷ (frame_spelling i ++ 32 ∷ (moment_word m ++ 10 ∷ rest))) ≡ Some (reply.Received (Some (record { item = i; from = from; number = 0; moment = m })), rest)
+unfolding error_at
+error_again i from m rest good hi hm =
+    rw (
+      number_field 16 from 32 (frame_spelling i ++ 32 ∷ (moment_word m ++ 10 ∷ rest)) hi (omega arith) refl,
+      item_field i 32 (moment_word m ++ 10 ∷ rest) good refl,
+      moment_field m 10 rest hm refl,
+    ) refl
+
+tried_again : (t : Tried) (rest : List ℕ) → HoldsTried t → tried_at t.moment (decimal t.winner ++ 32 ∷ (decimal t.number ++ 32 ∷ (frame_spelling (item.Data t.frame) ++ 32 ∷ (class_word t.class ++ 32 ∷ (set_word t.accepted ++ 32 ∷ (set_word t.off ++ 10 ∷ rest)))))) ≡ Some (reply.Tried t, rest)
+unfolding tried_at
+tried_again t rest h =
+    rw (
+      number_field 16 t.winner 32 (decimal t.number ++ 32 ∷ (frame_spelling (item.Data t.frame) ++ 32 ∷ (class_word t.class ++ 32 ∷ (set_word t.accepted ++ 32 ∷ (set_word t.off ++ 10 ∷ rest))))) h.winner (omega arith) refl,
+      long_field t.number 32 (frame_spelling (item.Data t.frame) ++ 32 ∷ (class_word t.class ++ 32 ∷ (set_word t.accepted ++ 32 ∷ (set_word t.off ++ 10 ∷ rest)))) h.number refl,
+      frame_field t.frame 32 (class_word t.class ++ 32 ∷ (set_word t.accepted ++ 32 ∷ (set_word t.off ++ 10 ∷ rest))) h.frame refl,
+      class_field t.class (set_word t.accepted ++ 32 ∷ (set_word t.off ++ 10 ∷ rest)),
+      set_field t.accepted 32 (set_word t.off ++ 10 ∷ rest) h.accepted refl,
+      set_field t.off 10 rest h.off refl,
+    ) refl
+
+-- an attempt's frame was tried at its moment
+tried_moment : (e : Event) (t : Tried) → FitsReply e (reply.Tried t) → moment_of e ≡ Some t.moment
+tried_moment (Attempt m v) t h = ap Some (sym h)
+tried_moment (Open i c) t h = absurd h
+tried_moment (Close s) t h = absurd h
+tried_moment (SetFilters s fs) t h = absurd h
+tried_moment (SetOption s o) t h = absurd h
+tried_moment (Send s f) t h = absurd h
+tried_moment (Receive s) t h = absurd h
+tried_moment (Restart i m) t h = absurd h
+
+received_number : (e : Event) (r : Received) → FitsReply e (reply.Received (Some r)) → IsNumberOf r.item r.number
+received_number (Receive s) r h = h
+received_number (Attempt m v) r h = absurd h
+received_number (Open i c) r h = absurd h
+received_number (Close s) r h = absurd h
+received_number (SetFilters s fs) r h = absurd h
+received_number (SetOption s o) r h = absurd h
+received_number (Send s f) r h = absurd h
+received_number (Restart i m) r h = absurd h
+
+pub leaves : (e : Event) (why : Refusal) → FitsReply e (reply.Refused why) → LeavesEntry why
+leaves (Receive s) why h = h
+leaves (Attempt m v) why h = h
+leaves (Open i c) why h = h
+leaves (Close s) why h = h
+leaves (SetFilters s fs) why h = h
+leaves (SetOption s o) why h = h
+leaves (Send s f) why h = h
+leaves (Restart i m) why h = h
+
+received_again : (i : Item) (from n m : ℕ) (moment : Option ℕ) (rest : List ℕ) → IsNumberOf i n → IsItem i → from < 16 → n < 2 ^ 64 → m < 10 ^ 16
+    → reply_at moment (spell (received_words i (record { item = i; from = from; number = n; moment = m })) rest) ≡ Some (reply.Received (Some (record { item = i; from = from; number = n; moment = m })), rest)
+unfolding reply_at word after
+received_again (item.Data f) from n m moment rest h good hi hn hm = data_again f from n m rest good hi hn hm
+received_again (item.Error e) from n m moment rest h good hi hn hm = error_again (item.Error e) from m rest good hi hm ∙ ap (λ (k : ℕ). Some (reply.Received (Some (record { item = item.Error e; from = from; number = k; moment = m })), rest)) (sym h)
+
+refused_again : (why : Refusal) (moment : Option ℕ) (rest : List ℕ) → LeavesEntry why → reply_at moment (spell (refusal_words why) rest) ≡ Some (reply.Refused why, rest)
+unfolding reply_at fixed_in refusal_in word after
+refused_again refusal.NoInterface moment rest h = refl
+refused_again refusal.BadCapacity moment rest h = refl
+refused_again refusal.TooManySockets moment rest h = refl
+refused_again refusal.NoSocket moment rest h = refl
+refused_again refusal.BusOff moment rest h = refl
+refused_again refusal.NoBuffers moment rest h = refl
+refused_again refusal.NotBusOff moment rest h = refl
+refused_again refusal.RecordFull moment rest h = absurd h
+refused_again refusal.NoMemory moment rest h = absurd h
+
+reply_again : (e : Event) (r : Reply) (rest : List ℕ) → FitsReply e r → HoldsReply r → reply_at (moment_of e) (spell (reply_words r) rest) ≡ Some (r, rest)
+unfolding reply_at fixed_in word after
+reply_again e (reply.Opened s) rest fits h = rw (socket_field s 10 rest h refl) refl
+reply_again e (reply.Closed c) rest fits h = closed_again c.unread c.dropped rest h.0 h.1
+reply_again e reply.Done rest fits h = refl
+reply_again e (reply.Sent n) rest fits h = rw (long_field n 10 rest h refl) refl
+reply_again e (reply.Received None) rest fits h = refl
+reply_again e (reply.Received (Some r)) rest fits h = received_again r.item r.from r.number r.moment (moment_of e) rest (received_number e r fits) h.0 h.1 h.2 h.3
+reply_again e reply.Idle rest fits h = refl
+reply_again e (reply.Tried t) rest fits h = rw (tried_moment e t fits) (tried_again t rest h)
+reply_again e (reply.Refused why) rest fits h = refused_again why (moment_of e) rest (leaves e why fits)
+
+-- ---- entries
+
+with_reply_again : (e : Event) (r : Reply) (rest : List ℕ) → FitsReply e r → HoldsReply r → with_reply e (spell (codes "=" ∷ reply_words r) rest) ≡ Some (record { event = e; reply = r })
+unfolding with_reply
+with_reply_again e r rest fits h = rw (after-spelled (codes "=") (spell (reply_words r) rest) (gap_before (reply_words r)) refl (gap_is (reply_words r)), reply_again e r rest fits h) refl
+
+set_filters_again : (s : SocketId) (fs : List CanFilter) (r : Reply) (rest : List ℕ) → HoldsEvent (SetFilters s fs) → FitsReply (SetFilters s fs) r → HoldsReply r
+    → set_filters_at (decimal s.0 ++ 32 ∷ (decimal (length fs) ++ gap_before (filter_words fs ++ codes "=" ∷ reply_words r) ∷ spell (filter_words fs ++ codes "=" ∷ reply_words r) rest)) ≡ Some (record { event = SetFilters s fs; reply = r })
+unfolding set_filters_at
+set_filters_again s fs r rest holds fits h =
+    let behind = filter_words fs ++ codes "=" ∷ reply_words r in
+    rw (
+      socket_field s 32 (decimal (length fs) ++ gap_before behind ∷ spell behind rest) holds.0 refl,
+      number_field 513 (length fs) (gap_before behind) (spell behind rest) (omega (arith, holds.1)) (omega arith) (gap_is behind),
+      filters_again fs [] (codes "=") (reply_words r) rest holds.2,
+    )
+    (with_reply_again (SetFilters s fs) r rest fits h)
+
+set_option_again : (s : SocketId) (o : Opt) (r : Reply) (rest : List ℕ) → HoldsEvent (SetOption s o) → FitsReply (SetOption s o) r → HoldsReply r
+    → set_option_at (decimal s.0 ++ gap_before (option_words o ++ codes "=" ∷ reply_words r) ∷ spell (option_words o ++ codes "=" ∷ reply_words r) rest) ≡ Some (record { event = SetOption s o; reply = r })
+unfolding set_option_at
+set_option_again s o r rest holds fits h =
+    let behind = option_words o ++ codes "=" ∷ reply_words r in
+    rw (socket_field s (gap_before behind) (spell behind rest) holds.0 (gap_is behind), option_again o (codes "=") (reply_words r) rest holds.1) (with_reply_again (SetOption s o) r rest fits h)
+
+entry_kinds : (e : Event) (r : Reply) (rest : List ℕ) → FitsReply e r → HoldsEvent e → HoldsReply r → entry_at (spell (event_words e ++ codes "=" ∷ reply_words r) rest) ≡ Some (record { event = e; reply = r })
+unfolding entry_at plain_at setting_at word after
+entry_kinds (Open i c) r rest fits holds h = rw (number_field 16 i 32 (decimal c ++ 32 ∷ spell (codes "=" ∷ reply_words r) rest) holds.0 (omega arith) refl, number_field (2 ^ 32) c 32 (spell (codes "=" ∷ reply_words r) rest) holds.1 (omega arith) refl) (with_reply_again (Open i c) r rest fits h)
+entry_kinds (Close s) r rest fits holds h = rw (socket_field s 32 (spell (codes "=" ∷ reply_words r) rest) holds refl) (with_reply_again (Close s) r rest fits h)
+entry_kinds (SetFilters s fs) r rest fits holds h = set_filters_again s fs r rest holds fits h
+entry_kinds (SetOption s o) r rest fits holds h = set_option_again s o r rest holds fits h
+entry_kinds (Send s f) r rest fits holds h = rw (socket_field s 32 (frame_spelling (item.Data f) ++ 32 ∷ spell (codes "=" ∷ reply_words r) rest) holds.0 refl, frame_field f 32 (spell (codes "=" ∷ reply_words r) rest) holds.1 refl) (with_reply_again (Send s f) r rest fits h)
+entry_kinds (Receive s) r rest fits holds h = rw (socket_field s 32 (spell (codes "=" ∷ reply_words r) rest) holds refl) (with_reply_again (Receive s) r rest fits h)
+entry_kinds (Attempt m v) r rest fits holds h = rw (moment_field m 32 (verdict_word v ++ 32 ∷ spell (codes "=" ∷ reply_words r) rest) holds.0 refl, verdict_again v (spell (codes "=" ∷ reply_words r) rest) holds.1) (with_reply_again (Attempt m v) r rest fits h)
+entry_kinds (Restart i m) r rest fits holds h = rw (number_field 16 i 32 (moment_word m ++ 32 ∷ spell (codes "=" ∷ reply_words r) rest) holds.0 (omega arith) refl, moment_field m 32 (spell (codes "=" ∷ reply_words r) rest) holds.1 refl) (with_reply_again (Restart i m) r rest fits h)
+
+-- the entry of a line
+pub entry_again : (e : Entry) (rest : List ℕ) → HasLine e → entry_at (entry_line e rest) ≡ Some e
+entry_again e rest h = entry_kinds e.event e.reply rest h.spelled h.event h.reply
+
+-- ---- the bus and the end
+
+ack_field : (a : AckMode) (rest : List ℕ) → ack_at (ack_word a ++ 32 ∷ rest) ≡ Some (a, rest)
+unfolding ack_at word after
+ack_field ack.Always rest = refl
+ack_field ack.Peers rest = refl
+
+-- the configuration of a bus's line
+pub config_again : (c : BusConfig) (rest : List ℕ) → HasBusLine c → config_at (spell (bus_words c) rest) ≡ Some c
+unfolding config_at word after
+config_again c rest h =
+    let few : c.ifaces < 256 = omega (arith, h.proper.few_ifaces) in
+    let short : c.tx_capacity < 2 ^ 32 = omega (arith, h.proper.few_frames) in
+    let small : c.limit < 2 ^ 32 = omega (arith, h.proper.few_entries) in
+    rw (
+      number_field 256 c.ifaces 32 (ack_word c.ack ++ 32 ∷ (set_word c.reporting ++ 32 ∷ (decimal c.tx_capacity ++ 32 ∷ (decimal c.limit ++ 10 ∷ rest)))) few (omega arith) refl,
+      ack_field c.ack (set_word c.reporting ++ 32 ∷ (decimal c.tx_capacity ++ 32 ∷ (decimal c.limit ++ 10 ∷ rest))),
+      set_field c.reporting 32 (decimal c.tx_capacity ++ 32 ∷ (decimal c.limit ++ 10 ∷ rest)) h.reporting refl,
+      number_field (2 ^ 32) c.tx_capacity 32 (decimal c.limit ++ 10 ∷ rest) short (omega arith) refl,
+      number_field (2 ^ 32) c.limit 10 rest small (omega arith) refl,
+    ) refl
+
+-- the end's line is no entry's
+pub end_is_none : (count : ℕ) (rest : List ℕ) → entry_at (spell (end_words count) rest) ≡ None
+unfolding entry_at plain_at setting_at word after
+end_is_none count rest = refl
+
+-- where a line stands, nothing but want of memory keeps it from being read
+pub refused : (u : Unread) (text : List ℕ) → Gives (Err u) (entry_at text) → (e : Entry) (rest : List ℕ) → HasLine e → text ≡ entry_line e rest → u ≡ unread.NoMemory
+refused unread.NoMemory text h e rest spelled is = refl
+refused unread.Bad text h e rest spelled is = absurd (none-some e (sym h ∙ ap entry_at is ∙ entry_again e rest spelled))
+
+-- one text begins with one line
+pub same_entry : (read : Entry) (text : List ℕ) → entry_at text ≡ Some read → (e : Entry) (rest : List ℕ) → HasLine e → text ≡ entry_line e rest → e ≡ read
+same_entry read text h e rest spelled is = same_Some e read (sym (ap entry_at is ∙ entry_again e rest spelled) ∙ h)
+
+-- a line, and what follows it
+pub spell-rest : (ws : List (List ℕ)) (rest : List ℕ) → spell ws [] ++ rest ≡ spell ws rest
+spell-rest [] rest = refl
+spell-rest (w ∷ ws) rest = append_assoc w (gap_before ws ∷ spell ws []) rest ∙ ap (λ (x : List ℕ). w ++ gap_before ws ∷ x) (spell-rest ws rest)
+
+-- what was cleared holds what was put
+pub kept : (old new l : List ℕ) → old ≡ [] → new ≡ old ++ l → new ≡ l
+kept old new l nothing h = h ∙ ap (λ (x : List ℕ). x ++ l) nothing
+
+-- where a bus's line stands, it is read
+pub config_refused : (text : List ℕ) → None ≡ config_at text → (c : BusConfig) (rest : List ℕ) → HasBusLine c → text ≡ spell (bus_words c) rest → ⊥
+config_refused text h c rest good is = none-some c (h ∙ ap config_at is ∙ config_again c rest good)
+
+-- one text begins with one bus's line
+pub same_config : (read : BusConfig) (text : List ℕ) → Some read ≡ config_at text → (c : BusConfig) (rest : List ℕ) → HasBusLine c → text ≡ spell (bus_words c) rest → c ≡ read
+same_config read text h c rest good is = same_Some c read (sym (ap config_at is ∙ config_again c rest good) ∙ sym h)
+
+nothing_is_none : entry_at [] ≡ None
+unfolding entry_at plain_at setting_at word after
+nothing_is_none = refl
+
+-- a line is not empty
+pub line_some : (e : Entry) → HasLine e → entry_line e [] ≡ [] → ⊥
+line_some e h is = none-some e (sym (sym (entry_again e [] h) ∙ ap entry_at is ∙ nothing_is_none))

@@ -1,0 +1,73 @@
+-- A line in the parts in which it is written.
+use Rattle.std.proofs.Common.{◌≡◌, ℕ, List, [], ◌∷◌, ◌++◌, length, Some, None, append_assoc, refl, sym, ap, ◌∙◌}
+use Rattle.std.specs.Prelude.{codes, decimal}
+use Rattle.std.specs.List.{flat_map}
+use Rattle.std.proofs.lemmas.List.{append-nil}
+use Rattle.can_filter.specs.Filters.{CanFilter}
+use Rattle.can_frame.specs.declared.items.Item.{Item}
+use Rattle.can_frame.specs.declared.items.Item.TheVariants as item
+use Rattle.can_bus.specs.declared.events.Event.{Event}
+use Rattle.can_bus.specs.declared.events.Refusal.{Refusal}
+use Rattle.can_bus.specs.declared.events.Refusal.TheVariants as refusal
+use Rattle.can_bus.specs.declared.events.Received.{Received}
+use Rattle.can_bus.specs.declared.events.Reply.{Reply}
+use Rattle.can_bus.specs.declared.events.Reply.TheVariants as reply
+use Rattle.can_bus.specs.Spelled.{LeavesEntry, FitsReply}
+use Rattle.can_record.specs.inner.Words.{spaced}
+use Rattle.can_record.specs.Spelling.{spell, mask_word, filter_words, refusal_words, received_words, event_words, reply_words, answered_line}
+use Rattle.can_record.proofs.Again.{leaves}
+
+-- what is written of one filter
+abbrev pub filter_part : CanFilter → List ℕ
+filter_part f = spaced (filter_words (f ∷ []))
+
+pub filters_words : (fs : List CanFilter) → flat_map filter_part fs ≡ spaced (filter_words fs)
+filters_words [] = refl
+filters_words (f ∷ fs) = rw (filters_words fs) (append_assoc (mask_word f.id ++ 32 ∷ []) ((mask_word f.mask ++ 32 ∷ []) ++ []) (spaced (filter_words fs)) ∙ ap (λ (x : List ℕ). (mask_word f.id ++ 32 ∷ []) ++ x) (append_assoc (mask_word f.mask ++ 32 ∷ []) [] (spaced (filter_words fs))))
+
+pub filters_of : (fs : List CanFilter) (out mid new : List ℕ) → mid ≡ out ++ (decimal (length fs) ++ 32 ∷ []) → new ≡ mid ++ flat_map filter_part fs → new ≡ out ++ (decimal (length fs) ++ 32 ∷ [] ++ spaced (filter_words fs))
+filters_of fs out mid new front back = back ∙ rw (front, filters_words fs) (append_assoc out (decimal (length fs) ++ 32 ∷ []) (spaced (filter_words fs)))
+
+pub two_words : (out mid new a b : List ℕ) → mid ≡ out ++ (a ++ 32 ∷ []) → new ≡ mid ++ (b ++ 32 ∷ []) → new ≡ out ++ spaced (a ∷ b ∷ [])
+two_words out mid new a b front back = back ∙ rw (front) (append_assoc out (a ++ 32 ∷ []) (b ++ 32 ∷ []) ∙ ap (λ (x : List ℕ). out ++ ((a ++ 32 ∷ []) ++ x)) (sym (append-nil (b ++ 32 ∷ []))))
+
+-- ---- a line's parts
+
+-- a reply has words
+ended : (e : Event) (r : Reply) → FitsReply e r → (codes "=" ++ 32 ∷ []) ++ spell (reply_words r) [] ≡ spell (codes "=" ∷ reply_words r) []
+ended e (reply.Opened s) h = refl
+ended e (reply.Closed c) h = refl
+ended e reply.Done h = refl
+ended e (reply.Sent n) h = refl
+ended e (reply.Received None) h = refl
+ended e (reply.Received (Some r)) h = received_ended r.item r
+  where
+    received_ended : (i : Item) (r : Received) → (codes "=" ++ 32 ∷ []) ++ spell (received_words i r) [] ≡ spell (codes "=" ∷ received_words i r) []
+    received_ended (item.Data f) r = refl
+    received_ended (item.Error m) r = refl
+ended e reply.Idle h = refl
+ended e (reply.Tried t) h = refl
+ended e (reply.Refused why) h = refused_ended why (leaves e why h)
+  where
+    refused_ended : (why : Refusal) → LeavesEntry why → (codes "=" ++ 32 ∷ []) ++ spell (refusal_words why) [] ≡ spell (codes "=" ∷ refusal_words why) []
+    refused_ended refusal.NoInterface h = refl
+    refused_ended refusal.BadCapacity h = refl
+    refused_ended refusal.TooManySockets h = refl
+    refused_ended refusal.NoSocket h = refl
+    refused_ended refusal.BusOff h = refl
+    refused_ended refusal.NoBuffers h = refl
+    refused_ended refusal.NotBusOff h = refl
+    refused_ended refusal.RecordFull h = absurd h
+    refused_ended refusal.NoMemory h = absurd h
+
+spell-append : (ws vs : List (List ℕ)) (v rest : List ℕ) → spaced ws ++ spell (v ∷ vs) rest ≡ spell (ws ++ v ∷ vs) rest
+spell-append [] vs v rest = refl
+spell-append (w ∷ []) vs v rest = append_assoc (w ++ 32 ∷ []) [] (spell (v ∷ vs) rest) ∙ append_assoc w (32 ∷ []) (spell (v ∷ vs) rest)
+spell-append (w ∷ u ∷ ws) vs v rest =
+    append_assoc (w ++ 32 ∷ []) (spaced (u ∷ ws)) (spell (v ∷ vs) rest)
+    ∙ append_assoc w (32 ∷ []) (spaced (u ∷ ws) ++ spell (v ∷ vs) rest)
+    ∙ ap (λ (x : List ℕ). w ++ 32 ∷ x) (spell-append (u ∷ ws) vs v rest)
+
+pub line_of : (e : Event) (r : Reply) (out a b new : List ℕ) → a ≡ out ++ spaced (event_words e) → b ≡ a ++ (codes "=" ++ 32 ∷ []) → new ≡ b ++ spell (reply_words r) [] → FitsReply e r → new ≡ out ++ answered_line e r []
+line_of e r out a b new ha hb hn h = hn ∙ rw (hb, ha) (append_assoc (out ++ spaced (event_words e)) (codes "=" ++ 32 ∷ []) (spell (reply_words r) []) ∙ append_assoc out (spaced (event_words e)) ((codes "=" ++ 32 ∷ []) ++ spell (reply_words r) [])
+    ∙ ap (λ (x : List ℕ). out ++ x) (ap (λ (x : List ℕ). spaced (event_words e) ++ x) (ended e r h) ∙ spell-append (event_words e) (reply_words r) (codes "=") []))

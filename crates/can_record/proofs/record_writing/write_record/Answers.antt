@@ -1,0 +1,23 @@
+use Rattle.std.proofs.Common.{◌≡◌, ◌++◌, ◌∙◌, [], refl, ap, subst}
+use Rattle.std.specs.Io.KnownBytes.{Appends}
+use Rattle.can_record.specs.Spelling.{spell, end_words, entry_lines}
+use Rattle.can_record.proofs.Again.{kept}
+use Rattle.can_record.proofs.Growing.{Appends-then}
+use Rattle.can_record.proofs.Whole.{text_written}
+use Rattle.can_record.proofs.record_writing.write_record.Goals as goal
+
+pub returns : goal.returns
+returns g c =
+    let w0 = g.W.Write.contents c.args.writer.now in
+    let w1 = g.W.Write.contents c.write_all.new.self in
+    let w2 = g.W.Write.contents c.write_lines.new.writer in
+    let w3 = g.W.Write.contents c.write_all-2.new.self in
+    let front = c.deref.result.now in
+    let lines = entry_lines c.entries.result.now [] in
+    let last = c.deref-2.result.now in
+    let end : last ≡ spell (end_words c.len.result) [] = c.deref-2.ensures.value ∙ kept c.clear.new.self.items c.put_end.new.out.items (spell (end_words c.len.result) []) c.clear.ensures.items c.in_ok-put_end.ensures in
+    subst (Appends w0 w3)
+    (text_written c.new-line.result.items c.extend_from_slice.new.self.items front (front ++ lines) ((front ++ lines) ++ last) _ _ _ _ _ c.new-line.ensures.items
+    c.in_ok-extend_from_slice.ensures.items (c.deref.ensures.value ∙ c.in_ok-put_bus.ensures) refl (ap (λ x. (front ++ lines) ++ x) end)
+    c.config.ensures.config c.entries.ensures.entries c.len.ensures)
+    (Appends-then w0 w2 w3 (front ++ lines) last (Appends-then w0 w1 w2 front lines c.in_ok-write_all.ensures.bytes c.in_ok-write_lines.ensures) c.in_ok-write_all-2.ensures.bytes)

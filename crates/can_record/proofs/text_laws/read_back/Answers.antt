@@ -1,0 +1,26 @@
+use Rattle.std.proofs.Common.{◌≡◌, ◌∙◌, List, ap, sym, subst}
+use Rattle.std.specs.Prelude.{All, reverse}
+use Rattle.std.proofs.lemmas.List.{reverse-reverse}
+use Rattle.can_bus.specs.declared.events.Entry.{Entry}
+use Rattle.can_record.specs.Values.{HasLine, HasBusLine, HasText}
+use Rattle.can_record.proofs.text_laws.read_back.Goals as goal
+use Rattle.can_record.proofs.text_laws.read_back.Goals.{After-drop-text}
+
+-- the record has a text
+whole : (c : After-drop-text) → HasText c.args.kept.now.config (reverse c.args.kept.now.history)
+whole c = record {
+  bus = subst HasBusLine c.config.ensures.config c.hold_config.ensures;
+  lines = subst (λ (xs : List Entry). All HasLine xs) c.entries.ensures.entries c.hold_lines.ensures;
+}
+
+same : (c : After-drop-text) → (c.in-Ok.read.config ≡ c.args.kept.now.config) × (reverse c.in-Ok.read.history ≡ reverse c.args.kept.now.history)
+same c = c.in-Ok.ensures.back c.args.kept.now.config (reverse c.args.kept.now.history) (whole c) (c.deref.ensures.value ∙ c.in_ok-text.ensures)
+
+same_list : (xs ys : List Entry) → reverse xs ≡ reverse ys → xs ≡ ys
+same_list xs ys e = sym (reverse-reverse xs) ∙ ap reverse e ∙ reverse-reverse ys
+
+pub returns-in-Ok-clause-config : goal.returns-in-Ok-clause-config
+returns-in-Ok-clause-config c = (same c).0
+
+pub returns-in-Ok-clause-history : goal.returns-in-Ok-clause-history
+returns-in-Ok-clause-history c = same_list c.in-Ok.read.history c.args.kept.now.history (same c).1

@@ -1,0 +1,4 @@
+pub mod Values
+pub mod Spelling
+pub mod RecordFaults
+pub mod inner

@@ -1,0 +1,81 @@
+use Rattle.std.specs.Prelude.{◌≡◌, ◌≢◌, ℕ, ◌+◌, ◌⊎◌, List, [], ◌++◌, length, reverse, Result, Ok, Err}
+use Rattle.can_bus.specs.declared.events.BusConfig.{BusConfig}
+use Rattle.can_bus.specs.declared.events.Entry.{Entry}
+use Rattle.can_bus.specs.Journal.{Kept}
+use Rattle.can_record.specs.declared.faults.ReadFault.{ReadFault}
+use Rattle.can_record.specs.declared.faults.ReadFault.TheVariants as fault
+use Rattle.can_record.specs.Spelling.{spell, first_line, bus_words, end_words, entry_line, entry_lines, record_spelling}
+use Rattle.can_record.specs.Values.{HasLine, HasBusLine, HasText}
+
+-- What is wrong with a text that is no record's (own choice).
+
+-- the text is the record's
+abbrev pub IsTextOf : List ℕ → BusConfig → List Entry → Type 0
+IsTextOf text c entries = HasText c entries × (text ≡ record_spelling c entries)
+
+-- the text does not begin with the first line
+abbrev pub LacksFirst : List ℕ → Type 0
+LacksFirst text = (rest : List ℕ) → text ≢ first_line ++ rest
+
+-- no line of a bus stands here
+abbrev pub LacksBus : List ℕ → Type 0
+LacksBus rest = (c : BusConfig) (more : List ℕ) → HasBusLine c → rest ≢ spell (bus_words c) more
+
+-- no line of an entry stands here
+abbrev pub LacksEntry : List ℕ → Type 0
+LacksEntry rest = (e : Entry) (more : List ℕ) → HasLine e → rest ≢ entry_line e more
+
+-- no end after so many entries stands here
+abbrev pub LacksEnd : ℕ → List ℕ → Type 0
+LacksEnd count rest = (more : List ℕ) → rest ≢ spell (end_words count) more
+
+-- behind the first line no line of a bus stands
+pub record BusIsWrong (text : List ℕ) (n : ℕ) : Type 0 where
+  pub rest : List ℕ
+  pub second : n ≡ 2
+  pub begins : text ≡ first_line ++ rest
+  pub wrong : LacksBus rest
+
+-- behind the lines of a bus and of entries stands neither an entry's line nor the end
+pub record LineIsWrong (text : List ℕ) (n : ℕ) : Type 0 where
+  pub config : BusConfig
+  pub entries : List Entry
+  pub rest : List ℕ
+  pub whole : HasText config entries
+  pub begins : text ≡ first_line ++ spell (bus_words config) (entry_lines entries rest)
+  pub next : n ≡ length entries + 3
+  pub wrong : LacksEntry rest
+  pub open_end : LacksEnd (length entries) rest
+
+-- the text is a record's, and goes on
+pub record GoesOn (text : List ℕ) (n : ℕ) : Type 0 where
+  pub config : BusConfig
+  pub entries : List Entry
+  pub rest : List ℕ
+  pub whole : HasText config entries
+  pub begins : text ≡ record_spelling config entries ++ rest
+  pub behind : n ≡ length entries + 4
+  pub more : rest ≢ []
+
+-- the first line that is wrong or missing, from 1
+abbrev pub IsFirstWrong : List ℕ → ℕ → Type 0
+IsFirstWrong text n = BusIsWrong text n ⊎ LineIsWrong text n ⊎ GoesOn text n
+
+-- what reading the end of a text answers, after so many entries
+abbrev pub Ends : {A : Type 0} → ℕ → List ℕ → Result A ReadFault → Type 0
+Ends count rest (Ok u) = rest ≡ spell (end_words count) []
+Ends count rest (Err (fault.BadLine n)) = ((n ≡ count + 3) × LacksEnd count rest) ⊎ ((n ≡ count + 4) × ((more : List ℕ) × (rest ≡ spell (end_words count) more) × (more ≢ [])))
+Ends count rest (Err fault.NoMemory) = Unit {0}
+Ends count rest (Err fault.BadVersion) = ⊥
+
+-- what reading a text answers
+abbrev pub Reads : List ℕ → Result Kept ReadFault → Type 0
+Reads text (Ok r) = IsTextOf text r.config (reverse r.history)
+Reads text (Err fault.BadVersion) = LacksFirst text
+Reads text (Err (fault.BadLine n)) = IsFirstWrong text n
+Reads text (Err fault.NoMemory) = Unit {0}
+
+-- of the text of this record: reading gives the record, unless memory is refused
+abbrev pub ReadsBack : BusConfig → List Entry → Result Kept ReadFault → Type 0
+ReadsBack c entries (Ok r) = (r.config ≡ c) × (reverse r.history ≡ entries)
+ReadsBack c entries (Err why) = why ≡ fault.NoMemory

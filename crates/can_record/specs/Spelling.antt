@@ -1,0 +1,159 @@
+use Rattle.std.specs.Prelude.{ℕ, Bool, true, false, List, [], ◌∷◌, ◌++◌, length, codes, decimal, Some, None}
+use Rattle.can_frame.specs.declared.ifaces.IfaceSet.{IfaceSet}
+use Rattle.can_frame.specs.declared.items.Item.{Item}
+use Rattle.can_frame.specs.declared.items.Item.TheVariants as item
+use Rattle.can_frame.specs.FrameText.{digits, frame_spelling}
+use Rattle.can_frame.specs.Moments.{moment_text}
+use Rattle.can_filter.specs.Filters.{CanFilter}
+use Rattle.can_fault.specs.declared.verdicts.GlobalKind.TheVariants as global
+use Rattle.can_fault.specs.declared.verdicts.LocalKind.{LocalKind}
+use Rattle.can_fault.specs.declared.verdicts.LocalKind.TheVariants as local
+use Rattle.can_fault.specs.declared.verdicts.Verdict.{Verdict}
+use Rattle.can_fault.specs.declared.verdicts.Verdict.TheVariants as verdict
+use Rattle.can_attempt.specs.declared.acks.AckMode.{AckMode}
+use Rattle.can_attempt.specs.declared.acks.AckMode.TheVariants as ack
+use Rattle.can_attempt.specs.Words.{class_word}
+use Rattle.can_bus.specs.declared.events.BusConfig.{BusConfig}
+use Rattle.can_bus.specs.declared.events.Opt.{Opt}
+use Rattle.can_bus.specs.declared.events.Opt.TheVariants as opt
+use Rattle.can_bus.specs.declared.events.Event.{Event}
+use Rattle.can_bus.specs.declared.events.Event.TheVariants.{Open, Close, SetFilters, SetOption, Send, Receive, Attempt, Restart}
+use Rattle.can_bus.specs.declared.events.Refusal.{Refusal}
+use Rattle.can_bus.specs.declared.events.Refusal.TheVariants as refusal
+use Rattle.can_bus.specs.declared.events.Received.{Received}
+use Rattle.can_bus.specs.declared.events.Reply.{Reply}
+use Rattle.can_bus.specs.declared.events.Reply.TheVariants as reply
+use Rattle.can_bus.specs.declared.events.Entry.{Entry}
+
+-- How the lines of a record are written (own choice).
+
+-- what ends a word: a space, or the line's end (LF) where no word follows
+abbrev pub gap_before : List (List ℕ) → ℕ
+gap_before [] = 10
+gap_before (w ∷ ws) = 32
+
+-- a line of these words, one space between two of them and LF behind the last; and what follows the line
+abbrev pub spell : List (List ℕ) → List ℕ → List ℕ
+spell [] rest = rest
+spell (w ∷ ws) rest = w ++ gap_before ws ∷ spell ws rest
+
+-- a set of interfaces: 4 hexadecimal digits
+unfoldable pub set_word : IfaceSet → List ℕ
+set_word set = digits 16 4 set.0
+
+-- a word of 32 bits: 8 hexadecimal digits
+unfoldable pub mask_word : ℕ → List ℕ
+mask_word n = digits 16 8 n
+
+-- a moment: seconds, a point and six digits of microseconds
+unfoldable pub moment_word : ℕ → List ℕ
+moment_word micros = moment_text micros
+
+-- a switch: 0 or 1
+abbrev pub flag_word : Bool → List ℕ
+flag_word false = codes "0"
+flag_word true = codes "1"
+
+-- filters: the identifier word and the mask of each, in 8 hexadecimal digits
+abbrev pub filter_words : List CanFilter → List (List ℕ)
+filter_words [] = []
+filter_words (f ∷ fs) = mask_word f.id ∷ mask_word f.mask ∷ filter_words fs
+
+-- an option of a socket and its value; an error mask has 8 hexadecimal digits
+abbrev pub option_words : Opt → List (List ℕ)
+option_words (opt.Loopback on) = codes "loopback" ∷ flag_word on ∷ []
+option_words (opt.RecvOwn on) = codes "recvown" ∷ flag_word on ∷ []
+option_words (opt.Join on) = codes "join" ∷ flag_word on ∷ []
+option_words (opt.ErrMask mask) = codes "errmask" ∷ mask_word mask ∷ []
+
+-- a local fault and a colon
+abbrev pub local_front : LocalKind → List ℕ
+local_front local.Stuff = codes "local-stuff:"
+local_front local.Crc = codes "local-crc:"
+local_front local.Form = codes "local-form:"
+
+-- a verdict, with the interfaces that see a local fault
+abbrev pub verdict_word : Verdict → List ℕ
+verdict_word verdict.Good = codes "good"
+verdict_word (verdict.Global global.Bit) = codes "global-bit"
+verdict_word (verdict.Global global.Form) = codes "global-form"
+verdict_word verdict.LastBit = codes "lastbit"
+verdict_word (verdict.Local set kind) = local_front kind ++ set_word set
+
+-- who acknowledges
+abbrev pub ack_word : AckMode → List ℕ
+ack_word ack.Always = codes "always"
+ack_word ack.Peers = codes "peers"
+
+-- the name of a refusal; a call that found the record full, or no memory, has no line
+abbrev pub refusal_words : Refusal → List (List ℕ)
+refusal_words refusal.NoInterface = codes "no-interface" ∷ []
+refusal_words refusal.BadCapacity = codes "bad-capacity" ∷ []
+refusal_words refusal.TooManySockets = codes "too-many-sockets" ∷ []
+refusal_words refusal.NoSocket = codes "no-socket" ∷ []
+refusal_words refusal.BusOff = codes "bus-off" ∷ []
+refusal_words refusal.NoBuffers = codes "no-buffers" ∷ []
+refusal_words refusal.NotBusOff = codes "not-bus-off" ∷ []
+refusal_words refusal.RecordFull = []
+refusal_words refusal.NoMemory = []
+
+-- an event: what was called, and with what
+abbrev pub event_words : Event → List (List ℕ)
+event_words (Open i capacity) = codes "open" ∷ decimal i ∷ decimal capacity ∷ []
+event_words (Close s) = codes "close" ∷ decimal s.0 ∷ []
+event_words (SetFilters s filters) = codes "filters" ∷ decimal s.0 ∷ decimal (length filters) ∷ filter_words filters
+event_words (SetOption s option) = codes "option" ∷ decimal s.0 ∷ option_words option
+event_words (Send s frame) = codes "send" ∷ decimal s.0 ∷ frame_spelling (item.Data frame) ∷ []
+event_words (Receive s) = codes "receive" ∷ decimal s.0 ∷ []
+event_words (Attempt m verdict) = codes "attempt" ∷ moment_word m ∷ verdict_word verdict ∷ []
+event_words (Restart i m) = codes "restart" ∷ decimal i ∷ moment_word m ∷ []
+
+-- an item that was received: where it comes from, its number if it is a frame, the item, and when it was put to the socket
+abbrev pub received_words : Item → Received → List (List ℕ)
+received_words (item.Data f) r = codes "data" ∷ decimal r.from ∷ decimal r.number ∷ frame_spelling r.item ∷ moment_word r.moment ∷ []
+received_words (item.Error e) r = codes "error" ∷ decimal r.from ∷ frame_spelling r.item ∷ moment_word r.moment ∷ []
+
+-- a reply; a frame was tried at the moment of its attempt, which is not repeated
+abbrev pub reply_words : Reply → List (List ℕ)
+reply_words (reply.Opened s) = codes "socket" ∷ decimal s.0 ∷ []
+reply_words (reply.Closed c) = codes "closed" ∷ decimal c.unread ∷ decimal c.dropped ∷ []
+reply_words reply.Done = codes "ok" ∷ []
+reply_words (reply.Sent n) = codes "number" ∷ decimal n ∷ []
+reply_words (reply.Received None) = codes "none" ∷ []
+reply_words (reply.Received (Some r)) = received_words r.item r
+reply_words reply.Idle = codes "idle" ∷ []
+reply_words (reply.Tried t) = codes "tried" ∷ decimal t.winner ∷ decimal t.number ∷ frame_spelling (item.Data t.frame) ∷ class_word t.class ∷ set_word t.accepted ∷ set_word t.off ∷ []
+reply_words (reply.Refused why) = refusal_words why
+
+-- an entry: its event, `=`, and its reply
+abbrev pub entry_words : Entry → List (List ℕ)
+entry_words e = event_words e.event ++ codes "=" ∷ reply_words e.reply
+
+-- the line of an entry, and what follows it
+abbrev pub entry_line : Entry → List ℕ → List ℕ
+entry_line e rest = spell (entry_words e) rest
+
+-- the line of an event with this reply, and what follows it
+abbrev pub answered_line : Event → Reply → List ℕ → List ℕ
+answered_line e r rest = entry_line (record { event = e; reply = r }) rest
+
+-- the first line
+abbrev pub first_line : List ℕ
+first_line = codes "canbus record 1" ++ 10 ∷ []
+
+-- the bus: how many interfaces, who acknowledges, the interfaces with reporting on, the room of a transmit queue, the limit
+abbrev pub bus_words : BusConfig → List (List ℕ)
+bus_words c = codes "bus" ∷ decimal c.ifaces ∷ ack_word c.ack ∷ set_word c.reporting ∷ decimal c.tx_capacity ∷ decimal c.limit ∷ []
+
+-- the end: how many entries there were
+abbrev pub end_words : ℕ → List (List ℕ)
+end_words count = codes "end" ∷ decimal count ∷ []
+
+-- lines of entries, and what follows them
+unfoldable pub entry_lines : List Entry → List ℕ → List ℕ
+entry_lines [] rest = rest
+entry_lines (e ∷ es) rest = entry_line e (entry_lines es rest)
+
+-- the text of a record: the first line, that of the bus, one for each entry, the oldest first, and that of the end
+abbrev pub record_spelling : BusConfig → List Entry → List ℕ
+record_spelling c entries = first_line ++ spell (bus_words c) (entry_lines entries (spell (end_words (length entries)) []))

@@ -1,0 +1,278 @@
+use Rattle.std.specs.Prelude.{ℕ, zero, suc, ◌^◌, nat_lt, ◌==◌, bit_and, Bool, true, false, List, [], ◌∷◌, ◌++◌, length, take, drop, codes, Option, Some, None, Result, Ok, Err, ◌≡◌, if◌then◌else◌}
+use Rattle.std.specs.Str.{bytes_eq}
+use Rattle.can_frame.specs.Numbers.{number_in}
+use Rattle.can_frame.specs.Frames.{CanFrame}
+use Rattle.can_frame.specs.FrameGuess.{item_in}
+use Rattle.can_frame.specs.declared.items.Item.{Item}
+use Rattle.can_frame.specs.declared.items.Item.TheVariants as item
+use Rattle.can_frame.specs.declared.ifaces.IfaceSet.{IfaceSet}
+use Rattle.can_filter.specs.Filters.{CanFilter}
+use Rattle.can_fault.specs.declared.verdicts.GlobalKind.TheVariants as global
+use Rattle.can_fault.specs.declared.verdicts.LocalKind.TheVariants as local
+use Rattle.can_fault.specs.declared.verdicts.Verdict.{Verdict}
+use Rattle.can_fault.specs.declared.verdicts.Verdict.TheVariants as verdict
+use Rattle.can_attempt.specs.declared.acks.AckMode.{AckMode}
+use Rattle.can_attempt.specs.declared.acks.AckMode.TheVariants as ack
+use Rattle.can_attempt.specs.declared.classes.Class.{Class}
+use Rattle.can_attempt.specs.declared.classes.Class.TheVariants as class
+use Rattle.can_bus.specs.declared.events.SocketId.{SocketId}
+use Rattle.can_bus.specs.declared.events.BusConfig.{BusConfig}
+use Rattle.can_bus.specs.declared.events.Opt.{Opt}
+use Rattle.can_bus.specs.declared.events.Opt.TheVariants as opt
+use Rattle.can_bus.specs.declared.events.Event.{Event}
+use Rattle.can_bus.specs.declared.events.Event.TheVariants.{Open, Close, SetFilters, SetOption, Send, Receive, Attempt, Restart}
+use Rattle.can_bus.specs.declared.events.Refusal.{Refusal}
+use Rattle.can_bus.specs.declared.events.Refusal.TheVariants as refusal
+use Rattle.can_bus.specs.declared.events.Reply.{Reply}
+use Rattle.can_bus.specs.declared.events.Reply.TheVariants as reply
+use Rattle.can_bus.specs.declared.events.Entry.{Entry}
+use Rattle.can_record.specs.declared.faults.Unread.{Unread}
+use Rattle.can_record.specs.declared.faults.Unread.TheVariants as unread
+use Rattle.can_record.specs.inner.Words.{word, after}
+use Rattle.can_record.specs.inner.Numerals.{long_in, moment_in}
+
+-- An entry as a line seems to spell it. It is written again and compared, so here it may be read loosely (own choice).
+
+-- what a call answered is what reading gives, unless memory was refused
+abbrev pub Gives : {X : Type 0} → Result X Unread → Option X → Type 0
+Gives (Ok x) read = read ≡ Some x
+Gives (Err unread.NoMemory) read = Unit {0}
+Gives (Err unread.Bad) read = read ≡ None
+
+infixl 10 ◌>>=◌
+-- and then, where there is something
+abbrev pub ◌>>=◌ : {A B : Type 0} → Option A → (A → Option B) → Option B
+None >>= f = None
+(Some x) >>= f = f x
+
+-- a value and what follows it
+abbrev pub Found : Type 0 → Type 0
+Found A = Option (A × List ℕ)
+
+-- a number below the limit
+unfoldable pub number_at : ℕ → List ℕ → Option (ℕ × List ℕ)
+number_at limit t = number_in 10 19 (word t) >>= λ n. if nat_lt n limit then Some (n, after t) else None
+
+-- a number of 64 bits
+unfoldable pub long_at : List ℕ → Option (ℕ × List ℕ)
+long_at t = long_in (word t) >>= λ n. Some (n, after t)
+
+-- a word of 32 bits, in hexadecimal
+unfoldable pub mask_at : List ℕ → Option (ℕ × List ℕ)
+mask_at t = number_in 16 8 (word t) >>= λ n. Some (n, after t)
+
+-- a moment
+unfoldable pub moment_at : List ℕ → Option (ℕ × List ℕ)
+moment_at t = moment_in (word t) >>= λ m. Some (m, after t)
+
+-- a socket
+unfoldable pub socket_at : List ℕ → Option (SocketId × List ℕ)
+socket_at t = number_at (2 ^ 32) t >>= λ s. Some (record { 0 = s.0 }, s.1)
+
+-- a set of interfaces
+unfoldable pub set_at : List ℕ → Option (IfaceSet × List ℕ)
+set_at t = number_in 16 4 (word t) >>= λ n. Some (record { 0 = n }, after t)
+
+-- a switch
+unfoldable pub flag_at : List ℕ → Option (Bool × List ℕ)
+flag_at t =
+    if bytes_eq (word t) (codes "0") then Some (false, after t)
+    else if bytes_eq (word t) (codes "1") then Some (true, after t)
+    else None
+
+-- an item
+unfoldable pub item_at : List ℕ → Option (Item × List ℕ)
+item_at t = item_in (word t) >>= λ i. Some (i, after t)
+
+-- the frame of an item
+abbrev pub frame_of_item : Item → Option CanFrame
+frame_of_item (item.Data f) = Some f
+frame_of_item (item.Error e) = None
+
+-- a frame
+unfoldable pub frame_at : List ℕ → Option (CanFrame × List ℕ)
+frame_at t = item_at t >>= λ i. frame_of_item i.0 >>= λ f. Some (f, i.1)
+
+-- the option of this name and its value
+unfoldable pub option_at : List ℕ → Option (Opt × List ℕ)
+option_at t =
+    if bytes_eq (word t) (codes "loopback") then (flag_at (after t) >>= λ on. Some (opt.Loopback on.0, on.1))
+    else if bytes_eq (word t) (codes "recvown") then (flag_at (after t) >>= λ on. Some (opt.RecvOwn on.0, on.1))
+    else if bytes_eq (word t) (codes "join") then (flag_at (after t) >>= λ on. Some (opt.Join on.0, on.1))
+    else if bytes_eq (word t) (codes "errmask") then (mask_at (after t) >>= λ m. Some (opt.ErrMask m.0, m.1))
+    else None
+
+-- a set behind the front of a word of so many bytes
+unfoldable pub set_behind : ℕ → List ℕ → Option (IfaceSet × List ℕ)
+set_behind n t = set_at (drop n t)
+
+-- the text begins with these bytes
+abbrev pub begins_with : List ℕ → List ℕ → Bool
+begins_with front t = bytes_eq (take (length front) t) front
+
+-- a verdict
+unfoldable pub verdict_at : List ℕ → Option (Verdict × List ℕ)
+verdict_at t =
+    if bytes_eq (word t) (codes "good") then Some (verdict.Good, after t)
+    else if bytes_eq (word t) (codes "global-bit") then Some (verdict.Global global.Bit, after t)
+    else if bytes_eq (word t) (codes "global-form") then Some (verdict.Global global.Form, after t)
+    else if bytes_eq (word t) (codes "lastbit") then Some (verdict.LastBit, after t)
+    else if begins_with (codes "local-stuff:") t then (set_behind 12 t >>= λ s. Some (verdict.Local s.0 local.Stuff, s.1))
+    else if begins_with (codes "local-crc:") t then (set_behind 10 t >>= λ s. Some (verdict.Local s.0 local.Crc, s.1))
+    else if begins_with (codes "local-form:") t then (set_behind 11 t >>= λ s. Some (verdict.Local s.0 local.Form, s.1))
+    else None
+
+-- how an attempt ended
+unfoldable pub class_at : List ℕ → Option (Class × List ℕ)
+class_at t =
+    if bytes_eq (word t) (codes "done") then Some (class.Done, after t)
+    else if bytes_eq (word t) (codes "lastbit") then Some (class.LastBit, after t)
+    else if bytes_eq (word t) (codes "destroyed") then Some (class.Destroyed, after t)
+    else if bytes_eq (word t) (codes "noack") then Some (class.NoAck, after t)
+    else None
+
+-- the refusal of this name
+unfoldable pub refusal_in : List ℕ → Option Refusal
+refusal_in w =
+    if bytes_eq w (codes "no-interface") then Some refusal.NoInterface
+    else if bytes_eq w (codes "bad-capacity") then Some refusal.BadCapacity
+    else if bytes_eq w (codes "too-many-sockets") then Some refusal.TooManySockets
+    else if bytes_eq w (codes "no-socket") then Some refusal.NoSocket
+    else if bytes_eq w (codes "bus-off") then Some refusal.BusOff
+    else if bytes_eq w (codes "no-buffers") then Some refusal.NoBuffers
+    else if bytes_eq w (codes "not-bus-off") then Some refusal.NotBusOff
+    else None
+
+-- the counts of a closed socket
+unfoldable pub closed_at : List ℕ → Option (Reply × List ℕ)
+closed_at t = do
+  u ← long_at t
+  d ← long_at u.1
+  Some (reply.Closed (record { unread = u.0; dropped = d.0 }), d.1)
+
+-- a data frame that was received
+unfoldable pub data_at : List ℕ → Option (Reply × List ℕ)
+data_at t = do
+  i ← number_at 16 t
+  n ← long_at i.1
+  f ← frame_at n.1
+  m ← moment_at f.1
+  Some (reply.Received (Some (record { item = item.Data f.0; from = i.0; number = n.0; moment = m.0 })), m.1)
+
+-- an error message frame that was received
+unfoldable pub error_at : List ℕ → Option (Reply × List ℕ)
+error_at t = do
+  i ← number_at 16 t
+  e ← item_at i.1
+  m ← moment_at e.1
+  Some (reply.Received (Some (record { item = e.0; from = i.0; number = 0; moment = m.0 })), m.1)
+
+-- a frame that was tried at this moment
+unfoldable pub tried_at : ℕ → List ℕ → Option (Reply × List ℕ)
+tried_at moment t = do
+  w ← number_at 16 t
+  n ← long_at w.1
+  f ← frame_at n.1
+  c ← class_at f.1
+  a ← set_at c.1
+  o ← set_at a.1
+  Some (reply.Tried (record { moment = moment; winner = w.0; number = n.0; frame = f.0; class = c.0; accepted = a.0; off = o.0 }), o.1)
+
+-- the reply of this one word
+unfoldable pub fixed_in : List ℕ → Option Reply
+fixed_in w =
+    if bytes_eq w (codes "ok") then Some reply.Done
+    else if bytes_eq w (codes "none") then Some (reply.Received None)
+    else if bytes_eq w (codes "idle") then Some reply.Idle
+    else (refusal_in w >>= λ why. Some (reply.Refused why))
+
+-- the reply to an attempt of this moment, or to another event
+unfoldable pub reply_at : Option ℕ → List ℕ → Option (Reply × List ℕ)
+reply_at moment t =
+    if bytes_eq (word t) (codes "number") then (long_at (after t) >>= λ n. Some (reply.Sent n.0, n.1))
+    else if bytes_eq (word t) (codes "data") then data_at (after t)
+    else if bytes_eq (word t) (codes "error") then error_at (after t)
+    else if bytes_eq (word t) (codes "tried") then (moment >>= λ m. tried_at m (after t))
+    else if bytes_eq (word t) (codes "socket") then (socket_at (after t) >>= λ s. Some (reply.Opened s.0, s.1))
+    else if bytes_eq (word t) (codes "closed") then closed_at (after t)
+    else (fixed_in (word t) >>= λ r. Some (r, after t))
+
+-- the moment of an attempt
+abbrev pub moment_of : Event → Option ℕ
+moment_of (Attempt m v) = Some m
+moment_of _ = None
+
+-- an entry, once its event is read
+unfoldable pub with_reply : Event → List ℕ → Option Entry
+with_reply e t = reply_at (moment_of e) (after t) >>= λ r. Some (record { event = e; reply = r.0 })
+
+-- one filter more
+unfoldable pub filter_at : List CanFilter → List ℕ → Option (List CanFilter × List ℕ)
+filter_at fs t = do
+  i ← mask_at t
+  m ← mask_at i.1
+  if bit_and m.0 (2 ^ 29) == 0 then Some (fs ++ record { id = i.0; mask = m.0 } ∷ [], m.1) else None
+
+-- so many filters more
+unfoldable pub filters_at : List CanFilter → ℕ → List ℕ → Option (List CanFilter × List ℕ)
+filters_at fs zero t = Some (fs, t)
+filters_at fs (suc n) t = filter_at fs t >>= λ f. filters_at f.0 n f.1
+
+-- filters were read behind those that were there, unless memory was refused
+abbrev pub GivesFilters : Result (List ℕ) Unread → List CanFilter → Option (List CanFilter × List ℕ) → Type 0
+GivesFilters (Ok rest) filters read = read ≡ Some (filters, rest)
+GivesFilters (Err unread.NoMemory) filters read = Unit {0}
+GivesFilters (Err unread.Bad) filters read = read ≡ None
+
+-- the filters of a socket
+unfoldable pub set_filters_at : List ℕ → Option Entry
+set_filters_at t = do
+  s ← socket_at t
+  n ← number_at 513 s.1
+  fs ← filters_at [] n.0 n.1
+  with_reply (SetFilters s.0 fs.0) fs.1
+
+-- an option of a socket
+unfoldable pub set_option_at : List ℕ → Option Entry
+set_option_at t = do
+  s ← socket_at t
+  o ← option_at s.1
+  with_reply (SetOption s.0 o.0) o.1
+
+-- an entry whose line begins with this word and goes on with this text: of the events that set a bus up
+unfoldable pub setting_at : List ℕ → List ℕ → Option Entry
+setting_at w t =
+    if bytes_eq w (codes "open") then (number_at 16 t >>= λ i. number_at (2 ^ 32) i.1 >>= λ c. with_reply (Open i.0 c.0) c.1)
+    else if bytes_eq w (codes "close") then (socket_at t >>= λ s. with_reply (Close s.0) s.1)
+    else if bytes_eq w (codes "option") then set_option_at t
+    else if bytes_eq w (codes "restart") then (number_at 16 t >>= λ i. moment_at i.1 >>= λ m. with_reply (Restart i.0 m.0) m.1)
+    else None
+
+-- of the other events, but for one that sets filters
+unfoldable pub plain_at : List ℕ → List ℕ → Option Entry
+plain_at w t =
+    if bytes_eq w (codes "attempt") then (moment_at t >>= λ m. verdict_at m.1 >>= λ v. with_reply (Attempt m.0 v.0) v.1)
+    else if bytes_eq w (codes "receive") then (socket_at t >>= λ s. with_reply (Receive s.0) s.1)
+    else if bytes_eq w (codes "send") then (socket_at t >>= λ s. frame_at s.1 >>= λ f. with_reply (Send s.0 f.0) f.1)
+    else setting_at w t
+
+-- an entry as its line seems to spell it
+unfoldable pub entry_at : List ℕ → Option Entry
+entry_at t = if bytes_eq (word t) (codes "filters") then set_filters_at (after t) else plain_at (word t) (after t)
+
+-- who acknowledges
+unfoldable pub ack_at : List ℕ → Option (AckMode × List ℕ)
+ack_at t =
+    if bytes_eq (word t) (codes "always") then Some (ack.Always, after t)
+    else if bytes_eq (word t) (codes "peers") then Some (ack.Peers, after t)
+    else None
+
+-- the configuration of a bus
+unfoldable pub config_at : List ℕ → Option BusConfig
+config_at t = do
+  i ← number_at 256 (after t)
+  a ← ack_at i.1
+  r ← set_at a.1
+  x ← number_at (2 ^ 32) r.1
+  l ← number_at (2 ^ 32) x.1
+  Some (record { ifaces = i.0; ack = a.0; reporting = r.0; tx_capacity = x.0; limit = l.0 })

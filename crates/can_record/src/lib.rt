@@ -1,0 +1,22 @@
+//! The text of a record, both ways: `record_text` writes a record as text and `read_record` reads it back. A record has
+//! one text, and a text is of one record at most.
+#![tactic(auto)]
+
+mod event_reading;
+mod event_writing;
+pub mod faults;
+mod fields;
+mod lines;
+mod numbers;
+pub mod record_reading;
+pub mod record_writing;
+mod reply_reading;
+mod reply_writing;
+pub mod text_laws;
+mod values;
+mod words;
+mod writing;
+
+pub use faults::ReadFault;
+pub use record_reading::{read_record, read_record_bytes};
+pub use record_writing::{line_text, record_text, write_record};

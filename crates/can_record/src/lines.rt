@@ -1,0 +1,190 @@
+ghost use Rattle.std.specs.Prelude.{◌≡◌, ◌≤◌, ◌++◌, ◌∷◌, [], IfOk, IfErr, IsTrue, OnOk, decimal, drop, length, List, ℕ};
+ghost use Rattle.std.specs.Option.{option_map};
+ghost use Rattle.can_bus.specs.declared.events.Entry.{Entry as AnEntry};
+ghost use Rattle.can_bus.specs.declared.events.BusConfig.{BusConfig as AConfig};
+ghost use Rattle.can_bus.specs.Spelled.{FitsReply, IsSpelled};
+ghost use Rattle.can_record.specs.declared.faults.Unread.TheVariants as unread;
+ghost use Rattle.can_record.specs.Spelling.{spell, ack_word, answered_line, bus_words, end_words, entry_line};
+ghost use Rattle.can_record.specs.Values.{HasLine, HasBusLine};
+ghost use Rattle.can_record.specs.inner.Reading.{ack_at, config_at};
+
+use crate::event_reading::guess_entry;
+use crate::event_writing::put_event;
+use crate::faults::Unread;
+use crate::fields::{byte_field, set_field, short_field};
+use crate::reply_writing::put_reply;
+use crate::values::{hold_event, hold_reply};
+use crate::words::{next_word, same_word};
+use crate::writing::{put_count, put_set, put_word};
+use can_attempt::AckMode;
+use can_bus::{BusConfig, Entry, Event, Reply, is_spelled};
+use std::alloc::{AllocError, Global};
+
+/// The first line of each record text.
+pub const FIRST_LINE: &[u8] = b"canbus record 1\n";
+
+/// The line of an entry.
+pub fn put_line(out: &mut Vec<u8>, entry: &Entry) -> Result<(), AllocError>
+    requires { IsSpelled entry.now }
+    ensures { OnOk result (out.new.items ≡ out.old.items ++ entry_line entry.now []) }
+{
+    put_answered(out, &entry.event, &entry.reply)
+}
+
+/// The line of an event with this reply.
+#[tactic(auto, using(crate::proofs::Written::line_of))]
+pub fn put_answered(out: &mut Vec<u8>, event: &Event, reply: &Reply) -> Result<(), AllocError>
+    requires { FitsReply event.now reply.now }
+    ensures { OnOk result (out.new.items ≡ out.old.items ++ answered_line event.now reply.now []) }
+{
+    put_event(out, event)?;
+    put_word(out, b"=", b' ')?;
+    put_reply(out, reply)
+}
+
+/// The line of a bus.
+pub fn put_bus(out: &mut Vec<u8>, config: BusConfig) -> Result<(), AllocError>
+    ensures { OnOk result (out.new.items ≡ out.old.items ++ spell (bus_words config) []) }
+{
+    put_word(out, b"bus", b' ')?;
+    put_count(out, u64::from(config.ifaces), b' ')?;
+    put_ack(out, config.ack)?;
+    put_set(out, config.reporting, b' ')?;
+    put_count(out, u64::from(config.tx_capacity), b' ')?;
+    put_count(out, u64::from(config.limit), b'\n')?;
+    Ok(())
+}
+
+/// Who acknowledges, and a space.
+fn put_ack(out: &mut Vec<u8>, ack: AckMode) -> Result<(), AllocError>
+    ensures { OnOk result (out.new.items ≡ out.old.items ++ (ack_word ack ++ 32 ∷ [])) }
+{
+    match ack {
+        AckMode::Always => put_word(out, b"always", b' '),
+        AckMode::Peers => put_word(out, b"peers", b' '),
+    }
+}
+
+/// The last line.
+pub fn put_end(out: &mut Vec<u8>, count: u64) -> Result<(), AllocError>
+    ensures { OnOk result (out.new.items ≡ out.old.items ++ spell (end_words count) []) }
+{
+    put_word(out, b"end", b' ')?;
+    put_count(out, count, b'\n')?;
+    Ok(())
+}
+
+/// Whether a text begins with another.
+pub fn begins(text: &[u8], front: &[u8]) -> bool
+    ensures yes { IsTrue result → text.now ≡ front.now ++ drop (length front.now) text.now }
+    ensures no { (rest : List ℕ) → text.now ≡ front.now ++ rest → IsTrue result }
+{
+    text.starts_with(front)
+}
+
+/// What follows so many bytes.
+#[tactic(auto, using(crate::proofs::Wording::rest_of))]
+pub fn behind(text: &[u8], count: usize) -> &[u8]
+    requires { count ≤ length text.now }
+    ensures { result.now ≡ drop count text.now }
+{
+    &text[count..]
+}
+
+/// Whether an entry has a line.
+fn has_line(entry: &Entry) -> bool
+    ensures yes { IsTrue result → HasLine entry.now }
+    ensures no { HasLine entry.now → IsTrue result }
+{
+    hold_event(&entry.event);
+    hold_reply(&entry.reply);
+    is_spelled(entry)
+}
+
+/// The entry whose line the text begins with. The line is left in the buffer.
+pub(crate) fn read_line(buffer: &mut Vec<u8>, alloc: Global, text: &[u8]) -> Result<Entry, Unread>
+    ensures found { IfOk result (λ e. HasLine e × (buffer.new.items ≡ entry_line e []) × (text.now ≡ entry_line e [] ++ drop (length (entry_line e [])) text.now)) }
+    ensures only { (e : AnEntry) (rest : List ℕ) → HasLine e → text.now ≡ entry_line e rest → IfErr result (λ u. u ≡ unread.NoMemory) }
+{
+    let read = match guess_entry(alloc, text) {
+        Ok(read) => read,
+        Err(why) => return Err(why),
+    };
+    if !has_line(&read) {
+        return Err(Unread::Bad);
+    }
+    buffer.clear();
+    match put_line(buffer, &read) {
+        Ok(()) => {}
+        Err(_) => return Err(Unread::NoMemory),
+    }
+    if !begins(text, buffer) {
+        return Err(Unread::Bad);
+    }
+    Ok(read)
+}
+
+/// The configuration whose line the text begins with. The line is left in the buffer.
+pub(crate) fn read_bus(buffer: &mut Vec<u8>, text: &[u8]) -> Result<BusConfig, Unread>
+    ensures found { IfOk result (λ c. HasBusLine c × (buffer.new.items ≡ spell (bus_words c) []) × (text.now ≡ spell (bus_words c) [] ++ drop (length (spell (bus_words c) [])) text.now)) }
+    ensures only { (c : AConfig) (rest : List ℕ) → HasBusLine c → text.now ≡ spell (bus_words c) rest → IfErr result (λ u. u ≡ unread.NoMemory) }
+{
+    let Some(config) = guess_config(text) else {
+        return Err(Unread::Bad);
+    };
+    if !has_bus_line(config) {
+        return Err(Unread::Bad);
+    }
+    buffer.clear();
+    match put_bus(buffer, config) {
+        Ok(()) => {}
+        Err(_) => return Err(Unread::NoMemory),
+    }
+    if !begins(text, buffer) {
+        return Err(Unread::Bad);
+    }
+    Ok(config)
+}
+
+/// Whether a configuration has a line.
+fn has_bus_line(config: BusConfig) -> bool
+    ensures yes { IsTrue result → HasBusLine config }
+    ensures no { HasBusLine config → IsTrue result }
+{
+    config.is_proper()
+}
+
+/// A configuration as its line seems to spell it.
+#[tactic(auto, unfolding(crate::specs::inner::Reading::config_at))]
+fn guess_config(text: &[u8]) -> Option<BusConfig>
+    ensures { result ≡ config_at text.now }
+{
+    let (_, rest) = next_word(text);
+    let (ifaces, rest) = byte_field(rest)?;
+    let (ack, rest) = ack_field(rest)?;
+    let (reporting, rest) = set_field(rest)?;
+    let (tx_capacity, rest) = short_field(rest)?;
+    let (limit, _) = short_field(rest)?;
+    Some(BusConfig {
+        ifaces,
+        ack,
+        reporting,
+        tx_capacity,
+        limit,
+    })
+}
+
+/// Who acknowledges.
+#[tactic(auto, unfolding(crate::specs::inner::Reading::ack_at))]
+fn ack_field(text: &[u8]) -> Option<(AckMode, &[u8])>
+    ensures { option_map (λ x. (x.0, x.1.now)) result ≡ ack_at text.now }
+{
+    let (word, rest) = next_word(text);
+    if same_word(word, b"always") {
+        return Some((AckMode::Always, rest));
+    }
+    if same_word(word, b"peers") {
+        return Some((AckMode::Peers, rest));
+    }
+    None
+}

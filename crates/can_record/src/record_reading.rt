@@ -1,0 +1,102 @@
+ghost use Rattle.std.specs.Prelude.{◌≡◌, ◌++◌, [], All, IfOk, ◌<◌, ◌^◌, List, ℕ, length};
+ghost use Rattle.can_bus.specs.declared.events.BusConfig.{BusConfig as AConfig};
+ghost use Rattle.can_bus.specs.declared.events.Entry.{Entry as AnEntry};
+ghost use Rattle.can_record.specs.Values.{HasLine, HasText};
+ghost use Rattle.can_record.specs.Spelling.{entry_lines, record_spelling};
+ghost use Rattle.can_record.specs.RecordFaults.{LacksEntry, Ends, Reads, ReadsBack};
+
+use crate::faults::{ReadFault, Unread};
+use crate::lines::{FIRST_LINE, begins, behind, put_end, read_bus, read_line};
+use can_bus::{Entry, Received, Record};
+use can_frame::Item;
+use std::alloc::{AllocError, Global};
+
+/// The record of a text, as `record_text` writes it: no other text is taken.
+///
+/// `BadVersion` where the text does not begin with the first line, and otherwise `BadLine` with the first line
+/// that is wrong or missing, from 1; where the text goes on behind its end, that is the line behind the end.
+/// The time is linear in the text, and nothing is allocated for a line but the filters that it sets.
+pub fn read_record(alloc: Global, text: &str) -> Result<Record, ReadFault>
+    ensures reads { Reads text.now result }
+    ensures back { (c : AConfig) (entries : List AnEntry) → HasText c entries → text.now ≡ record_spelling c entries → ReadsBack c entries result }
+{
+    read_record_bytes(alloc, text.as_bytes())
+}
+
+/// The same of the bytes of a text, which need not be UTF-8.
+pub fn read_record_bytes(alloc: Global, text: &[u8]) -> Result<Record, ReadFault>
+    ensures reads { Reads text.now result }
+    ensures back { (c : AConfig) (entries : List AnEntry) → HasText c entries → text.now ≡ record_spelling c entries → ReadsBack c entries result }
+{
+    read_text(alloc, text)
+}
+
+fn read_text(alloc: Global, text: &[u8]) -> Result<Record, ReadFault>
+    ensures { Reads text.now result }
+{
+    if !begins(text, FIRST_LINE) {
+        return Err(ReadFault::BadVersion);
+    }
+    let rest = behind(text, FIRST_LINE.len());
+    let mut buffer = Vec::new(alloc);
+    let config = match read_bus(&mut buffer, rest) {
+        Ok(config) => config,
+        Err(Unread::Bad) => return Err(ReadFault::BadLine(2)),
+        Err(Unread::NoMemory) => return Err(ReadFault::NoMemory),
+    };
+    let rest = behind(rest, buffer.len());
+    let mut entries = Vec::new(alloc);
+    let Ok(rest) = read_lines(alloc, &mut buffer, &mut entries, rest) else {
+        return Err(ReadFault::NoMemory);
+    };
+    match read_end(&mut buffer, entries.len(), rest) {
+        Ok(()) => {}
+        Err(why) => return Err(why),
+    }
+    Ok(Record::from_spelled(config, entries))
+}
+
+/// Whether the text ends here, after so many entries.
+fn read_end(buffer: &mut Vec<u8>, count: usize, text: &[u8]) -> Result<(), ReadFault>
+    requires { count < 2 ^ 63 }
+    ensures { Ends count text.now result }
+{
+    let count = count as u64;
+    buffer.clear();
+    match put_end(buffer, count) {
+        Ok(()) => {}
+        Err(_) => return Err(ReadFault::NoMemory),
+    }
+    if !begins(text, buffer) {
+        return Err(ReadFault::BadLine(count + 3));
+    }
+    if text.len() > buffer.len() {
+        return Err(ReadFault::BadLine(count + 4));
+    }
+    Ok(())
+}
+
+/// The entries of the lines that stand here, up to the first place where none does, and what follows there.
+fn read_lines<'a>(
+    alloc: Global,
+    buffer: &mut Vec<u8>,
+    entries: &mut Vec<Entry>,
+    text: &'a [u8],
+) -> Result<&'a [u8], AllocError>
+    requires { entries.old.items ≡ [] }
+    ensures lines { IfOk result (λ rest. text.now ≡ entry_lines entries.new.items rest.now) }
+    ensures have { IfOk result (λ rest. All HasLine entries.new.items) }
+    ensures stops { IfOk result (λ rest. LacksEntry rest.now) }
+{
+    // The checker has to meet the types inside an entry before a vector takes one.
+    let _types: Option<(Item, Received)> = None;
+    let mut rest = text;
+    loop {
+        match read_line(buffer, alloc, rest) {
+            Ok(entry) => entries.push(entry)?,
+            Err(Unread::Bad) => return Ok(rest),
+            Err(Unread::NoMemory) => return Err(AllocError),
+        }
+        rest = behind(rest, buffer.len());
+    }
+}

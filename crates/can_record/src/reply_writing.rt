@@ -1,0 +1,86 @@
+ghost use Rattle.std.specs.Prelude.{◌≡◌, ◌++◌, ◌∷◌, [], decimal, OnOk};
+ghost use Rattle.can_record.specs.Spelling.{spell, reply_words, received_words, refusal_words};
+ghost use Rattle.can_bus.specs.declared.events.Reply.TheVariants as reply;
+
+use crate::writing::{put_count, put_item, put_moment, put_set, put_word};
+use can_bus::{Received, Refusal, Reply, Tried};
+use can_frame::Item;
+use std::alloc::AllocError;
+
+/// The words of a reply, and the end of its line.
+pub fn put_reply(out: &mut Vec<u8>, reply: &Reply) -> Result<(), AllocError>
+    ensures { OnOk result (out.new.items ≡ out.old.items ++ spell (reply_words reply.now) []) }
+{
+    match reply {
+        Reply::Opened(id) => {
+            put_word(out, b"socket", b' ')?;
+            put_count(out, u64::from(id.0), b'\n')?;
+        }
+        Reply::Closed(counts) => {
+            put_word(out, b"closed", b' ')?;
+            put_count(out, counts.unread, b' ')?;
+            put_count(out, counts.dropped, b'\n')?;
+        }
+        Reply::Done => put_word(out, b"ok", b'\n')?,
+        Reply::Sent(number) => {
+            put_word(out, b"number", b' ')?;
+            put_count(out, *number, b'\n')?;
+        }
+        Reply::Received(None) => put_word(out, b"none", b'\n')?,
+        Reply::Received(Some(received)) => put_received(out, received)?,
+        Reply::Idle => put_word(out, b"idle", b'\n')?,
+        Reply::Tried(tried) => put_tried(out, tried)?,
+        Reply::Refused(why) => put_refusal(out, *why)?,
+    }
+    Ok(())
+}
+
+/// An item that was received, and the end of its line.
+fn put_received(out: &mut Vec<u8>, received: &Received) -> Result<(), AllocError>
+    ensures { OnOk result (out.new.items ≡ out.old.items ++ spell (received_words received.now.item received.now) []) }
+{
+    let from = u64::from(received.from.number());
+    match &received.item {
+        Item::Data(_) => {
+            put_word(out, b"data", b' ')?;
+            put_count(out, from, b' ')?;
+            put_count(out, received.number, b' ')?;
+        }
+        Item::Error(_) => {
+            put_word(out, b"error", b' ')?;
+            put_count(out, from, b' ')?;
+        }
+    }
+    put_item(out, &received.item, b' ')?;
+    put_moment(out, received.moment, b'\n')
+}
+
+/// A frame that was tried, and the end of its line.
+fn put_tried(out: &mut Vec<u8>, tried: &Tried) -> Result<(), AllocError>
+    ensures { OnOk result (out.new.items ≡ out.old.items ++ spell (reply_words (reply.Tried tried.now)) []) }
+{
+    put_word(out, b"tried", b' ')?;
+    put_count(out, u64::from(tried.winner.number()), b' ')?;
+    put_count(out, tried.number, b' ')?;
+    put_item(out, &Item::Data(tried.frame), b' ')?;
+    put_word(out, tried.class.word(), b' ')?;
+    put_set(out, tried.accepted, b' ')?;
+    put_set(out, tried.off, b'\n')
+}
+
+/// The name of a refusal, and the end of its line; nothing where it has no line.
+fn put_refusal(out: &mut Vec<u8>, why: Refusal) -> Result<(), AllocError>
+    ensures { OnOk result (out.new.items ≡ out.old.items ++ spell (refusal_words why) []) }
+{
+    match why {
+        Refusal::NoInterface => put_word(out, b"no-interface", b'\n'),
+        Refusal::BadCapacity => put_word(out, b"bad-capacity", b'\n'),
+        Refusal::TooManySockets => put_word(out, b"too-many-sockets", b'\n'),
+        Refusal::NoSocket => put_word(out, b"no-socket", b'\n'),
+        Refusal::BusOff => put_word(out, b"bus-off", b'\n'),
+        Refusal::NoBuffers => put_word(out, b"no-buffers", b'\n'),
+        Refusal::NotBusOff => put_word(out, b"not-bus-off", b'\n'),
+        Refusal::RecordFull => Ok(()),
+        Refusal::NoMemory => Ok(()),
+    }
+}

@@ -1,0 +1,68 @@
+ghost use Rattle.std.specs.Prelude.{◌≡◌, List, ℕ, All, IfOk};
+ghost use Rattle.can_bus.specs.declared.events.BusConfig.{BusConfig as AConfig};
+ghost use Rattle.can_bus.specs.declared.events.Entry.{Entry as AnEntry};
+ghost use Rattle.can_bus.specs.Journal.{IsConfig};
+ghost use Rattle.can_bus.specs.Spelled.{IsSpelled};
+ghost use Rattle.can_record.specs.Values.{HasBusLine, HasLine, HasText};
+ghost use Rattle.can_record.specs.Spelling.{record_spelling};
+ghost use Rattle.can_record.specs.RecordFaults.{IsTextOf, LacksFirst, IsFirstWrong};
+
+use crate::faults::ReadFault;
+use crate::record_reading::read_record_bytes;
+use crate::record_writing::record_text;
+use crate::values::{hold_event, hold_reply};
+use can_bus::{BusConfig, Entry, Record};
+use std::alloc::{AllocError, Global};
+
+/// No text is the text of two records.
+pub fn record_texts_tell_records_apart()
+    ensures { (c d : AConfig) (es ds : List AnEntry) → HasText c es → HasText d ds → record_spelling c es ≡ record_spelling d ds → (c ≡ d) × (es ≡ ds) }
+{}
+
+/// A text is a record's, or lacks the first line, or has one line that is the first wrong one: no two of these.
+pub fn a_text_is_at_fault_in_one_way()
+    ensures whole { (text : List ℕ) (n : ℕ) (c : AConfig) (es : List AnEntry) → IsTextOf text c es → IsFirstWrong text n → ⊥ }
+    ensures first { (text : List ℕ) (c : AConfig) (es : List AnEntry) → IsTextOf text c es → LacksFirst text → ⊥ }
+    ensures version { (text : List ℕ) (n : ℕ) → LacksFirst text → IsFirstWrong text n → ⊥ }
+    ensures line { (text : List ℕ) (n m : ℕ) → IsFirstWrong text n → IsFirstWrong text m → n ≡ m }
+{}
+
+/// What is written of a record is read back, unless memory is refused.
+pub fn read_back(alloc: Global, kept: &Record) -> Result<Record, AllocError>
+    ensures config { IfOk result (λ r. r.config ≡ kept.now.config) }
+    ensures history { IfOk result (λ r. r.history ≡ kept.now.history) }
+{
+    hold_config(kept.config());
+    hold_lines(kept.entries());
+    let text = record_text(alloc, kept)?;
+    match read_record_bytes(alloc, &text) {
+        Ok(read) => Ok(read),
+        Err(_) => Err(AllocError),
+    }
+}
+
+/// A configuration within the limits has a line.
+fn hold_config(config: BusConfig)
+    requires { IsConfig config }
+    ensures { HasBusLine config }
+{
+    let _bits = config.reporting.0;
+}
+
+/// Entries that are spelled have lines.
+fn hold_lines(entries: &[Entry])
+    requires { All IsSpelled entries.now }
+    ensures { All HasLine entries.now }
+{
+    for entry in entries {
+        hold_line(entry);
+    }
+}
+
+fn hold_line(entry: &Entry)
+    requires { IsSpelled entry.now }
+    ensures { HasLine entry.now }
+{
+    hold_event(&entry.event);
+    hold_reply(&entry.reply);
+}

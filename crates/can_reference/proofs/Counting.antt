@@ -1,0 +1,139 @@
+use Rattle.std.proofs.Common.{◌≡◌, ◌≢◌, ℕ, ◌+◌, ◌<◌, ◌≤◌, ◌==◌, nat_le, Bool, true, false, if◌then◌else◌, List, [], ◌∷◌, length, map, get_or, slice_set, refl, sym, ap, ◌∙◌, subst, arith}
+use mathlib.Core.Path.{fun_ext}
+use Rattle.std.specs.List.{range_with_len}
+use Rattle.std.proofs.lemmas.Bool.{eq-eqb, ne_eqb, cond-true, cond-false, leb-false}
+use Rattle.can_confine.specs.Confinement.{ErrorCounts, Step, all_stepped, at_start, state_of, is_off}
+use Rattle.can_fault.specs.declared.verdicts.Verdict.{Verdict}
+use Rattle.can_attempt.specs.declared.nodes.Nodes.{Nodes}
+use Rattle.can_attempt.specs.Attempts.{Transmission, attempt_between, counts_at, counts_after, judged, steps_at}
+use Rattle.can_bus.specs.declared.events.BusConfig.{BusConfig}
+use Rattle.can_bus.specs.declared.events.Entry.{Entry}
+use Rattle.can_bus.specs.declared.events.Event.{Event}
+use Rattle.can_bus.specs.declared.events.Event.TheVariants.{Open, Close, SetFilters, SetOption, Send, Receive, Attempt, Restart}
+use Rattle.can_bus.specs.declared.events.Reply.{Reply}
+use Rattle.can_bus.specs.declared.events.Reply.TheVariants as reply
+use Rattle.can_bus.specs.declared.events.Refusal.TheVariants as refusal
+use Rattle.can_bus.specs.declared.events.Tried.{Tried}
+use Rattle.can_bus.specs.Counters.{counts_of, steps_of, state_at, transmission}
+use Rattle.can_bus.specs.Legal.{legal_reply}
+use Rattle.can_bus.specs.State.{kept_nodes}
+use Rattle.can_bus.proofs.Attempting.{between-is, count-kept, counts_at-all}
+use Rattle.can_bus.proofs.KeyFacts.{sixteen-one}
+use Rattle.can_bus.proofs.Lawful.{WasTried, by_attempt}
+use Rattle.can_bus.proofs.NodeFacts.{counts_at-kept}
+use Rattle.can_bus.proofs.OffFacts.{all_stepped-append, winner-contends}
+use Rattle.can_replay.proofs.Before.{before_more}
+use Rattle.can_reference.specs.inner.Counted.{Counts}
+use Rattle.can_replay.specs.Histories.{before, IsHistory}
+
+-- The error counts of all interfaces, one entry after another.
+
+-- ---- the interface that sent is there, and not bus off
+
+pub record IsLive (nodes : Nodes) (i : ℕ) : Type 0 where
+  pub few : nodes.count ≤ 16
+  pub there : i < nodes.count
+  pub live : is_off (state_of (counts_at nodes i)) ≡ false
+
+pub live-kept : (c : BusConfig) (past : List Entry) (i : ℕ) → IsHistory c past → i < c.ifaces → is_off (state_of (counts_of c past i)) ≡ false → IsLive (kept_nodes c past) i
+live-kept c past i h below live =
+    let count = count-kept c past in
+    record {
+      few = omega (arith, count, h.proper.few_ifaces);
+      there = omega (arith, count, below);
+      live = ap (λ (k : ErrorCounts). is_off (state_of k)) (counts_at-all c past h.legal h.proper.few_ifaces i) ∙ live;
+    }
+
+pub winner-live : (c : BusConfig) (past : List Entry) (m : ℕ) (v : Verdict) (t : Tried) → IsHistory c past → WasTried c past m v t → IsLive (kept_nodes c past) t.winner
+winner-live c past m v t h w =
+    let contends = winner-contends c past w.place w.won in
+    subst (IsLive (kept_nodes c past)) (sym (ap (λ (u : Tried). u.winner) w.is)) (live-kept c past w.place h contends.below contends.live)
+
+pub earlier : (c : BusConfig) (e : Entry) (past : List Entry) → IsHistory c (e ∷ past) → IsHistory c past
+earlier c e past h = record { proper = h.proper; legal = h.legal.2 }
+
+-- ---- what an entry leaves
+
+counts-tried : (c : BusConfig) (past : List Entry) (m : ℕ) (v : Verdict) (t : Tried) (i : ℕ) → counts_of c (record { event = Attempt m v; reply = reply.Tried t } ∷ past) i ≡ counts_after (transmission c past t.winner v) i
+counts-tried c past m v t i = all_stepped-append at_start (steps_of c past i) (steps_at i (transmission c past t.winner v))
+
+map_all : (f g : ℕ → ErrorCounts) (xs : List ℕ) → ((i : ℕ) → f i ≡ g i) → map f xs ≡ map g xs
+map_all f g xs same = ap (λ (h : ℕ → ErrorCounts). map h xs) (fun_ext same)
+
+nodes-tried : (c : BusConfig) (past : List Entry) (m : ℕ) (v : Verdict) (t : Tried) (old new : Nodes) → IsHistory c past → old ≡ kept_nodes c past
+    → new ≡ record old { counters = (judged (attempt_between old t.winner v c.ack)).counters }
+    → new ≡ kept_nodes c (record { event = Attempt m v; reply = reply.Tried t } ∷ past)
+unfolding kept_nodes
+nodes-tried c past m v t old new h are after =
+    after
+    ∙ ap (λ (n : Nodes). record n { counters = (judged (attempt_between n t.winner v c.ack)).counters }) are
+    ∙ ap (λ (tr : Transmission). record { count = c.ifaces; counters = (judged tr).counters }) (between-is c past t.winner v h.legal h.proper.few_ifaces)
+    ∙ ap (λ (cs : List ErrorCounts). record { count = c.ifaces; counters = cs }) (map_all (counts_after (transmission c past t.winner v)) (counts_of c (record { event = Attempt m v; reply = reply.Tried t } ∷ past)) (range_with_len 0 16) (λ i. sym (counts-tried c past m v t i)))
+
+counts-restarted : (c : BusConfig) (past : List Entry) (i m : ℕ) → counts_of c (record { event = Restart i m; reply = reply.Done } ∷ past) i ≡ at_start
+counts-restarted c past i m = ap (λ (ss : List Step). all_stepped at_start ss) (cond-true (i == i) [] (steps_of c past i) (eq-eqb i i refl))
+
+counts-other : (c : BusConfig) (past : List Entry) (i m j : ℕ) → j ≢ i → counts_of c (record { event = Restart i m; reply = reply.Done } ∷ past) j ≡ counts_of c past j
+counts-other c past i m j ne = ap (λ (ss : List Step). all_stepped at_start ss) (cond-false (i == j) [] (steps_of c past j) (ne_eqb i j (λ e. ne (sym e))))
+
+nodes-restarted : (c : BusConfig) (past : List Entry) (i m : ℕ) (old new : Nodes) → i < 16 → old ≡ kept_nodes c past → new ≡ record old { counters = slice_set old.counters i at_start } → new ≡ kept_nodes c (record { event = Restart i m; reply = reply.Done } ∷ past)
+unfolding kept_nodes
+nodes-restarted c past i m old new lt are after =
+    after
+    ∙ ap (λ (n : Nodes). record n { counters = slice_set n.counters i at_start }) are
+    ∙ ap (λ (k : ErrorCounts). record { count = c.ifaces; counters = slice_set (map (counts_of c past) (range_with_len 0 16)) i k }) (sym (counts-restarted c past i m))
+    ∙ ap (λ (ks : List ErrorCounts). record { count = c.ifaces; counters = ks }) (sym (sixteen-one (counts_of c past) (counts_of c (record { event = Restart i m; reply = reply.Done } ∷ past)) i 16 lt (counts-other c past i m)))
+
+tried-law : (c : BusConfig) (past : List Entry) (e : Event) (t : Tried) (old new : Nodes) → IsHistory c past → reply.Tried t ≡ legal_reply c past e → old ≡ kept_nodes c past → Counts c e (reply.Tried t) old new → new ≡ kept_nodes c (record { event = e; reply = reply.Tried t } ∷ past)
+tried-law c past e t old new h law are =
+    by_attempt (λ k. Counts c k (reply.Tried t) old new → new ≡ kept_nodes c (record { event = k; reply = reply.Tried t } ∷ past)) c past e t law
+    (λ m v w counted.
+    let live : IsLive old t.winner = subst (λ (n : Nodes). IsLive n t.winner) (sym are) (winner-live c past m v t h w) in
+    nodes-tried c past m v t old new h are (counted live.few live.there live.live))
+
+-- a restart that is answered so is of an interface that is there
+restart-below : (c : BusConfig) (past : List Entry) (i m : ℕ) → reply.Done ≡ legal_reply c past (Restart i m) → i < c.ifaces
+restart-below c past i m law = when (nat_le c.ifaces i) refl law
+  where
+    when : (b : Bool) → nat_le c.ifaces i ≡ b → reply.Done ≡ (if b then reply.Refused refusal.NoInterface else if is_off (state_at c past i) then reply.Done else reply.Refused refusal.NotBusOff) → i < c.ifaces
+    when true above l = cc
+    when false below l = leb-false c.ifaces i below
+
+pub counted-kept : (c : BusConfig) (past : List Entry) (e : Event) (r : Reply) (old new : Nodes) → IsHistory c past → r ≡ legal_reply c past e → old ≡ kept_nodes c past → Counts c e r old new → new ≡ kept_nodes c (record { event = e; reply = r } ∷ past)
+unfolding kept_nodes
+counted-kept c past e (reply.Tried t) old new h law are counted = tried-law c past e t old new h law are counted
+counted-kept c past (Restart i m) reply.Done old new h law are counted = nodes-restarted c past i m old new (omega (arith, restart-below c past i m law, h.proper.few_ifaces)) are counted
+counted-kept c past (Open i n) _ old new h law are counted = counted ∙ are
+counted-kept c past (Close s) _ old new h law are counted = counted ∙ are
+counted-kept c past (SetFilters s f) _ old new h law are counted = counted ∙ are
+counted-kept c past (SetOption s o) _ old new h law are counted = counted ∙ are
+counted-kept c past (Send s f) _ old new h law are counted = counted ∙ are
+counted-kept c past (Receive s) _ old new h law are counted = counted ∙ are
+counted-kept c past (Attempt m v) _ old new h law are counted = counted ∙ are
+counted-kept c past (Restart i m) _ old new h law are counted = counted ∙ are
+
+-- ---- one entry after another
+
+pub counts-as : (c : BusConfig) (e : Event) (r : Reply) (old new : Nodes) (m : ℕ) (v : Verdict) (t : Tried) → e ≡ Attempt m v → r ≡ reply.Tried t → Counts c (Attempt m v) (reply.Tried t) old new → Counts c e r old new
+counts-as c e r old new m v t event_is reply_is counted =
+    subst (λ (k : Event). Counts c k r old new) (sym event_is) (subst (λ (k : Reply). Counts c (Attempt m v) k old new) (sym reply_is) counted)
+
+abbrev all_at : BusConfig → ErrorCounts → Nodes
+all_at c z = record { count = c.ifaces; counters = z ∷ z ∷ z ∷ z ∷ z ∷ z ∷ z ∷ z ∷ z ∷ z ∷ z ∷ z ∷ z ∷ z ∷ z ∷ z ∷ [] }
+
+pub first-nodes : (c : BusConfig) (z : ErrorCounts) → z ≡ at_start → all_at c z ≡ kept_nodes c []
+unfolding kept_nodes
+first-nodes c z is = ap (all_at c) is
+
+pub counted_more : (c : BusConfig) (es : List Entry) (k : ℕ) (e : Entry) (old new : Nodes) → k < length es → e ≡ get_or es k e
+    → (IsHistory c (before es k) → old ≡ kept_nodes c (before es k)) → Counts c e.event e.reply old new → IsHistory c (before es (k + 1))
+    → new ≡ kept_nodes c (before es (k + 1))
+counted_more c es k e old new lt read so_far counted h =
+    let more = before_more es k e lt read in
+    let here : IsHistory c (e ∷ before es k) = subst (IsHistory c) more h in
+    let past : IsHistory c (before es k) = earlier c e (before es k) here in
+    counted-kept c (before es k) e.event e.reply old new past here.legal.1 (so_far past) counted ∙ ap (kept_nodes c) (sym more)
+
+-- whether an interface is bus off, as it is kept
+pub off-kept : (c : BusConfig) (past : List Entry) (nodes : Nodes) (i : ℕ) (off : Bool) → i < 16 → nodes ≡ kept_nodes c past → off ≡ is_off (state_of (counts_at nodes i)) → off ≡ is_off (state_at c past i)
+off-kept c past nodes i off few are is = is ∙ ap (λ (n : Nodes). is_off (state_of (counts_at n i))) are ∙ ap (λ (k : ErrorCounts). is_off (state_of k)) (counts_at-kept c past i few)

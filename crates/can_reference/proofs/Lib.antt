@@ -1,0 +1,7 @@
+pub mod Sizes
+pub mod Counting
+pub mod Passing
+pub mod Competing
+pub mod Replying
+pub mod Posting
+pub mod Queueing

@@ -1,0 +1,5 @@
+use Rattle.can_reference.proofs.Counting.{counts-as}
+use Rattle.can_reference.proofs.counters.note.Goals as goal
+
+pub returns-in-Tried : goal.returns-in-Tried
+returns-in-Tried c = counts-as c.args.config c.args.entry.now.event c.args.entry.now.reply c.args.nodes.now c.note_attempt.new.nodes _ _ _ c.in-Attempt.is c.in-Tried.is c.note_attempt.ensures

@@ -1,0 +1,96 @@
+ghost use Rattle.std.specs.Prelude.{◌≡◌, reverse, slice_set, IfOk, IfSome, IsNone};
+ghost use Rattle.can_arbiter.specs.Keys.{IsWinner, IsIdle};
+ghost use Rattle.can_bus.specs.State.{key_in, kept_keys};
+ghost use Rattle.can_bus.specs.Attempts.{winner, attempt_reply};
+ghost use Rattle.can_bus.specs.declared.events.BusConfig.{BusConfig};
+ghost use Rattle.can_bus.specs.declared.events.Reply.TheVariants as reply;
+ghost use Rattle.can_replay.specs.Histories.{IsHistory};
+
+use crate::counters::{judgement_of, nodes_of};
+use crate::sockets::iface_at;
+use crate::transmit::{gone_count, head_of};
+use can_arbiter::{Arbiter, ScanArbiter};
+use can_attempt::Judgement;
+use can_bus::{BusConfig, Entry, Pending, Reply, Tried};
+use can_fault::Verdict;
+use can_frame::{Iface, Moment};
+use std::alloc::{AllocError, Global};
+
+// What an attempt answers, by the entries before it.
+
+/// Tells an arbiter the frame that an interface competes with, if any.
+fn compete<A: Arbiter>(arbiter: &mut A, iface: Iface, head: Option<Pending>)
+    ensures { A.keys_of arbiter.new ≡ slice_set (A.keys_of arbiter.old) iface (key_in head) }
+{
+    match head {
+        Some(pending) => arbiter.set(iface, pending.frame.arbitration_key()),
+        None => arbiter.clear(iface),
+    }
+}
+
+/// The interface whose frame goes first. One that is bus off has no frame to send.
+fn first_of<A: Arbiter>(alloc: Global, past: &[Entry]) -> Result<Option<Iface>, AllocError>
+    ensures first { IfOk result (λ w. IfSome w (λ i. IsWinner (kept_keys (reverse past.now)) i)) }
+    ensures none { IfOk result (λ w. IsNone w → IsIdle (kept_keys (reverse past.now))) }
+{
+    let mut arbiter = A::new();
+    for place in 0..16u8 {
+        let iface = iface_at(place);
+        let head = head_of(alloc, past, iface)?;
+        compete(&mut arbiter, iface, head);
+    }
+    Ok(arbiter.winner())
+}
+
+/// The interface that wins the bus, if one has a frame to send.
+fn winner(alloc: Global, past: &[Entry]) -> Result<Option<Iface>, AllocError>
+    ensures { (c : BusConfig) → IsHistory c (reverse past.now) → IfOk result (λ w. w ≡ winner c (reverse past.now)) }
+{
+    let first = first_of::<ScanArbiter>(alloc, past)?;
+    Ok(first)
+}
+
+/// The answer of an attempt that was judged.
+fn tried_as(
+    moment: Moment,
+    winner: Iface,
+    number: usize,
+    pending: &Pending,
+    judgement: &Judgement,
+) -> Reply
+    ensures { result ≡ reply.Tried (record { moment = moment; winner = winner; number = number; frame = pending.now.frame; class = judgement.now.class; accepted = judgement.now.accepted; off = judgement.now.off }) }
+{
+    Reply::Tried(Tried {
+        moment,
+        winner,
+        number: number as u64,
+        frame: pending.frame,
+        class: judgement.class,
+        accepted: judgement.accepted,
+        off: judgement.off,
+    })
+}
+
+/// The reply of an attempt after these entries.
+pub fn attempt_reply(
+    alloc: Global,
+    config: BusConfig,
+    past: &[Entry],
+    moment: Moment,
+    verdict: Verdict,
+) -> Result<Reply, AllocError>
+    ensures { IsHistory config (reverse past.now) → IfOk result (λ r. r ≡ attempt_reply config (reverse past.now) moment verdict (winner config (reverse past.now))) }
+{
+    let Some(winner) = winner(alloc, past)? else {
+        return Ok(Reply::Idle);
+    };
+    let Some(pending) = head_of(alloc, past, winner)? else {
+        return Ok(Reply::Idle);
+    };
+    let number = gone_count(alloc, past, winner)?;
+    let nodes = nodes_of(config, past);
+    Ok(match judgement_of(&nodes, winner, verdict, config.ack) {
+        Some(judgement) => tried_as(moment, winner, number, &pending, &judgement),
+        None => Reply::Idle,
+    })
+}

@@ -1,0 +1,86 @@
+ghost use Rattle.std.specs.Prelude.{◌≡◌, ◌<◌, ◌≤◌, reverse, slice_set, false, Some, IfSome};
+ghost use Rattle.can_confine.specs.Confinement.{is_off, state_of, at_start};
+ghost use Rattle.can_attempt.specs.Attempts.{counts_at, attempt_between, judged};
+ghost use Rattle.can_bus.specs.State.{kept_nodes};
+ghost use Rattle.can_reference.specs.inner.Counted.{Counts};
+ghost use Rattle.can_replay.specs.Histories.{IsHistory};
+
+use can_attempt::{AckMode, Judgement, Nodes, judge};
+use can_bus::{BusConfig, Entry, Event, Reply};
+use can_confine::Counters;
+use can_fault::Verdict;
+use can_frame::Iface;
+
+// The error counters of a bus's interfaces, by its entries.
+
+/// What becomes of an attempt, where the interface that sends is there and not bus off.
+pub fn judgement_of(
+    nodes: &Nodes,
+    winner: Iface,
+    verdict: Verdict,
+    ack: AckMode,
+) -> Option<Judgement>
+    ensures some { IfSome result (λ j. (j ≡ judged (attempt_between nodes.now winner verdict ack)) × (nodes.now.count ≤ 16)) }
+    ensures live { nodes.now.count ≤ 16 → winner < nodes.now.count → is_off (state_of (counts_at nodes.now winner)) ≡ false → result ≡ Some (judged (attempt_between nodes.now winner verdict ack)) }
+{
+    if nodes.count > 16 || winner.number() >= nodes.count || nodes.is_off(winner) {
+        return None;
+    }
+    Some(judge(nodes, winner, verdict, ack))
+}
+
+/// Takes the counters that an attempt leaves.
+fn count(nodes: &mut Nodes, judgement: &Judgement)
+    ensures { nodes.new ≡ record nodes.old { counters = judgement.now.counters } }
+{
+    nodes.counters = judgement.counters;
+}
+
+/// What an attempt does to the error counters.
+fn note_attempt(config: BusConfig, nodes: &mut Nodes, winner: Iface, verdict: Verdict)
+    ensures { nodes.old.count ≤ 16 → winner < nodes.old.count → is_off (state_of (counts_at nodes.old winner)) ≡ false → nodes.new ≡ record nodes.old { counters = (judged (attempt_between nodes.old winner verdict config.ack)).counters } }
+{
+    if let Some(judgement) = judgement_of(nodes, winner, verdict, config.ack) {
+        count(nodes, &judgement);
+    }
+}
+
+/// What a restart does to them.
+fn note_restart(nodes: &mut Nodes, iface: Iface)
+    ensures { nodes.new ≡ record nodes.old { counters = slice_set nodes.old.counters iface at_start } }
+{
+    nodes.counters[iface.number() as usize] = Counters::zero();
+}
+
+/// What an entry does to them.
+fn note(config: BusConfig, entry: &Entry, nodes: &mut Nodes)
+    ensures { Counts config entry.now.event entry.now.reply nodes.old nodes.new }
+{
+    match &entry.event {
+        Event::Attempt(_, verdict) => {
+            if let Reply::Tried(tried) = &entry.reply {
+                note_attempt(config, nodes, tried.winner, *verdict);
+            }
+        }
+        Event::Restart(iface, _) => {
+            if matches!(&entry.reply, Reply::Done) {
+                note_restart(nodes, *iface);
+            }
+        }
+        _ => {}
+    }
+}
+
+/// The interfaces with the error counters that the entries leave.
+pub fn nodes_of(config: BusConfig, past: &[Entry]) -> Nodes
+    ensures { IsHistory config (reverse past.now) → result ≡ kept_nodes config (reverse past.now) }
+{
+    let mut nodes = Nodes {
+        count: config.ifaces,
+        counters: [Counters::zero(); 16],
+    };
+    for entry in past {
+        note(config, entry, &mut nodes);
+    }
+    nodes
+}

@@ -1,0 +1,17 @@
+//! The slow answer, a reference for tests: the list of entries is filtered and counted anew for each question, by one
+//! function for each definition of `can_bus`.
+//!
+//! `replies_of` answers a list of events as a bus would, with other means, and `queued`, `candidates` and `projected`
+//! say of a record what reached a socket. The time grows with the square of the number of entries and more.
+#![tactic(auto)]
+
+mod attempts;
+mod counters;
+mod posts;
+pub mod queues;
+pub mod replies;
+mod sockets;
+mod transmit;
+
+pub use queues::{candidates, projected, queued};
+pub use replies::{ReplayFault, replies_of};

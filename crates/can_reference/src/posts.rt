@@ -1,0 +1,218 @@
+ghost use Rattle.std.specs.Prelude.{◌≡◌, ℕ, ◌++◌, ◌∷◌, reverse, IfOk};
+ghost use Rattle.can_filter.specs.Passing.{wants};
+ghost use Rattle.can_bus.specs.Posts.{sender_in, data_posts, error_posts, attempt_posts, restart_posts, posts_of, is_own};
+ghost use Rattle.can_bus.specs.Queues.{passing};
+ghost use Rattle.can_bus.specs.declared.events.Event.TheVariants as event;
+ghost use Rattle.can_bus.specs.declared.events.Reply.TheVariants as reply;
+ghost use Rattle.can_bus.specs.Attempted.{transmission_of};
+ghost use Rattle.can_replay.specs.Histories.{IsHistory};
+
+use crate::counters::{judgement_of, nodes_of};
+use crate::transmit::{frame_at, sent_by};
+use can_bus::{Attempted, BusConfig, Entry, Event, Pending, Received, Reply, SocketId, Tried};
+use can_errframe::restart_frame;
+use can_fault::Verdict;
+use can_filter::{FilterSet, Options, wants};
+use can_frame::{ErrorFrame, Iface, IfaceSet, Item, Moment};
+use std::alloc::{AllocError, Global};
+use std::marker::Model;
+
+// What an entry puts to the sockets of an interface.
+
+/// An item for the sockets of an interface, and the number of the socket that sent it.
+#[derive(Debug, Clone, Copy)]
+pub struct Post {
+    received: Received,
+    sender: Option<u32>,
+}
+
+impl Model for Post {
+    ghost use Rattle.can_bus.specs.Posts.{Post};
+
+    ghost Value = { Post };
+
+    ghost view = { λ p. record { received = p.received; sender = p.sender } };
+
+    ghost inverse = { λ v. record { received = v.received; sender = v.sender } };
+}
+
+/// The number of the socket that sent a frame.
+fn sender_in(pending: &Option<Pending>) -> Option<u32>
+    ensures { result ≡ sender_in pending.now }
+{
+    match pending {
+        Some(pending) => Some(pending.socket.0),
+        None => None,
+    }
+}
+
+/// Adds the frame that was tried, where it comes to the interface.
+fn put_frame(
+    posts: &mut Vec<Post>,
+    attempted: &Attempted,
+    pending: &Option<Pending>,
+    iface: Iface,
+) -> Result<(), AllocError>
+    ensures { IfOk result (λ u. posts.new.items ≡ posts.old.items ++ data_posts iface attempted.now.tried pending.now) }
+{
+    let sender = sender_in(pending);
+    if attempted.is_posted(iface, *pending) {
+        let tried = attempted.tried();
+        let received = Received {
+            item: Item::Data(tried.frame),
+            from: tried.winner,
+            number: tried.number,
+            moment: tried.moment,
+        };
+        posts.push(Post { received, sender })?;
+    }
+    Ok(())
+}
+
+/// Adds an error message frame of the interface, if there is one.
+fn put_error(
+    posts: &mut Vec<Post>,
+    iface: Iface,
+    moment: Moment,
+    error: Option<ErrorFrame>,
+) -> Result<(), AllocError>
+    ensures { IfOk result (λ u. posts.new.items ≡ posts.old.items ++ error_posts iface moment error) }
+{
+    if let Some(error) = error {
+        let received = Received {
+            item: Item::Error(error),
+            from: iface,
+            number: 0,
+            moment,
+        };
+        posts.push(Post {
+            received,
+            sender: None,
+        })?;
+    }
+    Ok(())
+}
+
+/// What an attempt puts to the sockets of an interface, in order.
+fn attempt_posts(
+    alloc: Global,
+    reporting: IfaceSet,
+    attempted: &Attempted,
+    pending: Option<Pending>,
+    iface: Iface,
+) -> Result<Vec<Post>, AllocError>
+    ensures { IfOk result (λ ps. ps.items ≡ attempt_posts reporting (transmission_of attempted.now) attempted.now.tried pending iface) }
+{
+    let moment = attempted.tried().moment;
+    let mut posts = Vec::new(alloc);
+    put_frame(&mut posts, attempted, &pending, iface)?;
+    if reporting.contains(iface) {
+        put_error(&mut posts, iface, moment, attempted.fault_at(iface))?;
+    }
+    put_error(&mut posts, iface, moment, attempted.state_change_at(iface))?;
+    Ok(posts)
+}
+
+/// What an entry with a frame that was tried puts to the sockets of an interface.
+fn tried_posts(
+    alloc: Global,
+    config: BusConfig,
+    past: &[Entry],
+    iface: Iface,
+    verdict: Verdict,
+    tried: &Tried,
+) -> Result<Vec<Post>, AllocError>
+    ensures { (m : ℕ) → IsHistory config (record { event = event.Attempt m verdict; reply = reply.Tried tried.now } ∷ reverse past.now) → IfOk result (λ ps. ps.items ≡ posts_of config (reverse past.now) iface (event.Attempt m verdict) (reply.Tried tried.now)) }
+{
+    let nodes = nodes_of(config, past);
+    let judgement = match judgement_of(&nodes, tried.winner, verdict, config.ack) {
+        Some(judgement) => judgement,
+        None => return Ok(Vec::new(alloc)),
+    };
+    let sent = sent_by(alloc, past, tried.winner)?;
+    let pending = frame_at(&sent, tried.number as usize);
+    let attempted = Attempted::new(*tried, verdict, config.ack, nodes, judgement);
+    attempt_posts(alloc, config.reporting, &attempted, pending, iface)
+}
+
+/// What a restart puts to the sockets of an interface.
+fn restart_posts(
+    alloc: Global,
+    restarted: Iface,
+    moment: Moment,
+    iface: Iface,
+) -> Result<Vec<Post>, AllocError>
+    ensures { IfOk result (λ ps. ps.items ≡ restart_posts restarted moment iface) }
+{
+    let mut posts = Vec::new(alloc);
+    if iface == restarted {
+        put_error(&mut posts, iface, moment, Some(restart_frame()))?;
+    }
+    Ok(posts)
+}
+
+/// What an entry puts to the sockets of an interface, in order, after the entries before it.
+pub fn posts_of(
+    alloc: Global,
+    config: BusConfig,
+    past: &[Entry],
+    iface: Iface,
+    entry: &Entry,
+) -> Result<Vec<Post>, AllocError>
+    ensures { IsHistory config (entry.now ∷ reverse past.now) → IfOk result (λ ps. ps.items ≡ posts_of config (reverse past.now) iface entry.now.event entry.now.reply) }
+{
+    match &entry.event {
+        Event::Attempt(_, verdict) => match &entry.reply {
+            Reply::Tried(tried) => tried_posts(alloc, config, past, iface, *verdict, tried),
+            _ => Ok(Vec::new(alloc)),
+        },
+        Event::Restart(restarted, moment) => match &entry.reply {
+            Reply::Done => restart_posts(alloc, *restarted, *moment, iface),
+            _ => Ok(Vec::new(alloc)),
+        },
+        _ => Ok(Vec::new(alloc)),
+    }
+}
+
+/// Whether a socket sent it.
+fn is_own(post: &Post, id: SocketId) -> bool
+    ensures { result ≡ is_own post.now.sender id.0 }
+{
+    match post.sender {
+        Some(sender) => sender == id.0,
+        None => false,
+    }
+}
+
+/// The item of a post.
+fn item_of(post: &Post) -> Received
+    ensures { result ≡ post.now.received }
+{
+    post.received
+}
+
+/// Whether a post passes these filters and options.
+fn is_wanted(filters: &FilterSet, options: &Options, id: SocketId, post: &Post) -> bool
+    ensures { result ≡ wants filters.now options.now post.now.received.item (is_own post.now.sender id.0) }
+{
+    wants(filters, options, &post.received.item, is_own(post, id))
+}
+
+/// The posts that pass these filters and options.
+pub fn passing(
+    alloc: Global,
+    filters: &FilterSet,
+    options: &Options,
+    id: SocketId,
+    posts: &[Post],
+) -> Result<Vec<Received>, AllocError>
+    ensures { IfOk result (λ rs. rs.items ≡ passing filters.now options.now id.0 posts.now) }
+{
+    let mut passed = Vec::new(alloc);
+    for post in posts {
+        if is_wanted(filters, options, id, post) {
+            passed.push(item_of(post))?;
+        }
+    }
+    Ok(passed)
+}

@@ -1,0 +1,4 @@
+pub mod Answering
+pub mod Auditing
+pub mod Narrowing
+pub mod Before

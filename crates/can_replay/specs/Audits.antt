@@ -1,0 +1,33 @@
+use Rattle.std.specs.Prelude.{◌≡◌, ◌≢◌, ℕ, ◌≤◌, nat_le, ◌⊎◌, List, slice_get, Option, Some, None, if◌then◌else◌}
+use Rattle.can_bus.specs.declared.events.BusConfig.{BusConfig}
+use Rattle.can_bus.specs.declared.events.Entry.{Entry}
+use Rattle.can_bus.specs.declared.events.Event.{Event}
+use Rattle.can_bus.specs.declared.events.Reply.{Reply}
+use Rattle.can_bus.specs.Legal.{legal_reply, IsLegal}
+use Rattle.can_replay.specs.declared.audits.AuditFault.{AuditFault}
+use Rattle.can_replay.specs.declared.audits.AuditFault.TheVariants as fault
+use Rattle.can_replay.specs.Histories.{before}
+
+-- Whether entries, the oldest first, are a legal history, and if not where they go wrong.
+
+-- entry k is the first wrong one: those before it are a legal history, and it stands past the limit or has
+-- another reply than they give (own choice)
+pub record IsFirstWrong (c : BusConfig) (entries : List Entry) (k : ℕ) : Type 0 where
+  pub entry : Entry
+  pub there : slice_get entries k ≡ Some entry
+  pub legal_before : IsLegal c (before entries k)
+  pub wrong : (c.limit ≤ k) ⊎ (entry.reply ≢ legal_reply c (before entries k) entry.event)
+
+-- the reply that would be legal at entry k, whose event is e: none where no entry may stand there
+abbrev pub allowed : BusConfig → List Entry → ℕ → Event → Option Reply
+allowed c entries k e = if nat_le c.limit k then None else Some (legal_reply c (before entries k) e)
+
+-- entry k is the first wrong one, and this reply would be legal there
+pub record IsToldWrong (c : BusConfig) (entries : List Entry) (k : ℕ) (legal : Option Reply) : Type 0 where
+  pub first : IsFirstWrong c entries k
+  pub is_allowed : legal ≡ allowed c entries k first.entry.event
+
+-- what a fault says of the entries: want of memory says nothing
+abbrev pub Blames : BusConfig → List Entry → AuditFault → Type 0
+Blames c entries (fault.Wrong k legal) = IsToldWrong c entries k legal
+Blames c entries fault.NoMemory = Unit {0}

@@ -1,0 +1,3 @@
+pub mod Audits
+pub mod Histories
+pub mod Replies
