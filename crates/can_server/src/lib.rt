@@ -6,9 +6,11 @@
 #![tactic(auto)]
 
 pub mod benches;
+pub mod held;
 pub mod hubs;
 pub mod ports;
 
 pub use benches::Bench;
+pub use held::HeldPort;
 pub use hubs::{Hub, SettleFault};
 pub use ports::PassPort;

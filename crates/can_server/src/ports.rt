@@ -19,9 +19,9 @@ use std::sync::Wait;
 /// A station that was entered, with a gauge of its meter and the pass.
 #[derive(Drop)]
 pub struct Entered<'a, N: RollName + MeterName, F: FaultSource + Drop, G: Gate + Drop> {
-    station: &'a Station<N, F, G>,
+    pub(crate) station: &'a Station<N, F, G>,
     gauge: Gauge<N>,
-    pass: Pass<N>,
+    pub(crate) pass: Pass<N>,
 }
 
 impl<'a, N: RollName + MeterName, F: FaultSource + Drop, G: Gate + Drop> Model
@@ -45,10 +45,10 @@ impl<'a, N: RollName + MeterName, F: FaultSource + Drop, G: Gate + Drop> Model
 /// for nobody. They are 0/0 where no station was entered, or where its bus has no such interface.
 #[derive(Drop)]
 pub struct PassPort<'a, N: RollName + MeterName, F: FaultSource + Drop, G: Gate + Drop, R: Wait> {
-    rt: &'a R,
-    alloc: Global,
+    pub(crate) rt: &'a R,
+    pub(crate) alloc: Global,
     hub: &'a Hub<N, F, G>,
-    entered: Option<Entered<'a, N, F, G>>,
+    pub(crate) entered: Option<Entered<'a, N, F, G>>,
 }
 
 impl<'a, N: RollName + MeterName, F: FaultSource + Drop, G: Gate + Drop, R: Wait> Model
@@ -104,7 +104,7 @@ impl<'a, N: RollName + MeterName, F: FaultSource + Drop, G: Gate + Drop, R: Wait
 }
 
 /// A station's answer, as a port gives it.
-fn pass_on<V>(outcome: Result<V, StationRefusal>) -> Result<V, PortRefusal>
+pub(crate) fn pass_on<V>(outcome: Result<V, StationRefusal>) -> Result<V, PortRefusal>
     ensures { result ≡ passed_on outcome }
 {
     match outcome {

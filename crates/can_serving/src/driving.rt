@@ -3,10 +3,13 @@ use crate::serving::{Clock, Watch};
 use can_fault::FaultSource;
 use can_meter::MeterName;
 use can_roll::RollName;
-use can_station::{Gate, Pass, Wake};
+use can_station::{Gate, Hold, Pass};
 use std::sync::Wait;
 use std::time;
 use std::time::Duration;
+
+/// The most steps of a driver in one hold of the lock.
+const MOST_STEPS: u32 = 32;
 
 // The driver of a bus.
 impl<
@@ -36,17 +39,30 @@ impl<
         }
         let station = self.hub.station(bus);
         let pace = Duration::from_millis(u64::from(self.hub.pace_ms(bus)));
+        let most = if pace.is_zero() { MOST_STEPS } else { 1 };
         for _ in self.rt.forever() {
-            if station.wait_work(self.rt) == Wake::Stopped {
+            let Some(hold) = station.hold_work(self.rt) else {
+                break;
+            };
+            if !self.step_some(hold, most, pass) {
+                self.tell_full(station);
                 break;
             }
-            match station.step(self.rt, self.alloc, pass, self.host.now()) {
-                Ok(_) => station.rest(self.rt, pace),
-                Err(_) => {
-                    self.tell_full(station);
-                    break;
-                }
+            station.rest(self.rt, pace);
+        }
+    }
+
+    /// Steps a bus up to so many times in one hold of its lock, while an interface has a frame to send: whether no step
+    /// was refused.
+    fn step_some(&self, mut hold: Hold<'_, N, F, G>, most: u32, pass: &mut Pass<N>) -> bool {
+        for _ in 0..most {
+            if !hold.has_work() {
+                break;
+            }
+            if hold.step(self.alloc, pass, self.host.now()).is_err() {
+                return false;
             }
         }
+        true
     }
 }

@@ -4,7 +4,7 @@ use can_fault::FaultSource;
 use can_frame::Moment;
 use can_meter::MeterName;
 use can_roll::RollName;
-use can_server::{Hub, PassPort};
+use can_server::{HeldPort, Hub, PassPort};
 use can_session::{Session, Stage};
 use can_station::{Gate, Pass, Station};
 use std::alloc::{AllocError, Global};
@@ -12,7 +12,7 @@ use std::io::Write;
 use std::sync::Wait;
 
 /// The most bytes of items that go out in one write.
-const MOST_BYTES: usize = 1024;
+const MOST_BYTES: usize = 4096;
 
 /// The most bytes of an item's text.
 const LONGEST: usize = 256;
@@ -63,30 +63,41 @@ impl<'a, N: RollName + MeterName, F: FaultSource + Drop, G: Gate + Drop, R: Wait
 
     /// Takes a piece of what the client says: whether the session goes on.
     pub fn feed(&mut self, alloc: Global, piece: &[u8], moment: Moment, conn: &Conn) -> bool {
+        self.batch.clear();
+        let mut port = HeldPort::new(&mut self.port);
         let fed = self
             .session
-            .feed(alloc, piece, moment, &mut self.port, &mut Out(conn));
-        fed.is_ok() && !self.is_over()
+            .feed(alloc, piece, moment, &mut port, &mut self.batch);
+        drop(port);
+        self.write_batch(conn) && fed.is_ok() && !self.is_over()
     }
 
     /// Gives the client up to so many items, whose texts go out in one write: whether there can be more. A client that
     /// takes nothing ends the session.
     pub fn deliver(&mut self, waiting: u64, conn: &Conn) -> bool {
         self.batch.clear();
+        let mut port = HeldPort::new(&mut self.port);
         let mut can_be_more = true;
         for _ in 0..waiting {
             if !can_be_more || self.batch.len() > MOST_BYTES - LONGEST {
                 break;
             }
-            let delivered = self.session.deliver(&mut self.port, &mut self.batch);
+            let delivered = self.session.deliver(&mut port, &mut self.batch);
             can_be_more = delivered == Ok(true);
         }
-        if Out(conn).write_all(&self.batch).is_err() {
+        drop(port);
+        self.write_batch(conn) && can_be_more
+    }
+
+    /// Writes what the client is told, with no lock but the session's. Where the client does not take it, the session
+    /// ends.
+    fn write_batch(&mut self, conn: &Conn) -> bool {
+        let taken = Out(conn).write_all(&self.batch).is_ok();
+        if !taken {
             self.end();
             conn.shutdown();
-            return false;
         }
-        can_be_more
+        taken
     }
 
     /// Ends the session.

@@ -13,6 +13,7 @@
 mod calls;
 pub mod gates;
 mod gauges;
+pub mod holds;
 pub mod passes;
 mod publishing;
 pub mod refusals;
@@ -21,6 +22,7 @@ pub mod stations;
 mod waits;
 
 pub use gates::{Gate, Open, Point};
+pub use holds::Hold;
 pub use passes::{Pass, Settled};
 pub use refusals::{StationRefusal, TooManyPasses, WrongStation};
 pub use state::StationState;

@@ -197,6 +197,11 @@ impl<N: RollName + MeterName, F: FaultSource + Drop> StationState<N, F> {
         }
     }
 
+    /// Whether a live interface has a frame to send.
+    pub(crate) fn has_work(&self) -> bool {
+        self.bus.next_winner().is_some()
+    }
+
     /// Why a wait for a frame to send ends, if it does.
     pub(crate) fn work_wake(&self) -> Option<Wake>
         ensures { result ≡ work_wake self.now }

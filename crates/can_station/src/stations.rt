@@ -7,10 +7,11 @@ ghost use Rattle.can_station.specs.Passes.{Attempted, AllOf, SomeOther, Settles,
 ghost use Rattle.can_station.specs.Published.{AllTrue, GaugesOf, SomeOtherGauge};
 
 use crate::gates::{Gate, Point};
+use crate::holds::Hold;
 use crate::passes::{Pass, Settled, keep};
 use crate::refusals::{StationRefusal, TooManyPasses, WrongStation};
 use crate::state::StationState;
-use crate::waits::ROOM;
+use crate::waits::{News, ROOM};
 use can_bus::{BusConfig, BusFault, Entry, Event, Refusal, Reply, RingBus, Tried};
 use can_fault::FaultSource;
 use can_frame::Moment;
@@ -122,12 +123,33 @@ impl<N: RollName + MeterName, F: FaultSource + Drop, G: Gate + Drop> Station<N, 
     fn hold<R: Wait>(&self, rt: &R) -> MutexGuard<'_, StationState<N, F>>
         ensures { (mutex_guard_value result).number ≡ self.now }
     {
-        let state = self.state.lock(rt);
+        self.own(rt, self.state.lock(rt))
+    }
+
+    /// The state under the lock, which has the station's number.
+    pub(crate) fn own<'s, R: Wait>(
+        &'s self,
+        rt: &R,
+        state: MutexGuard<'s, StationState<N, F>>,
+    ) -> MutexGuard<'s, StationState<N, F>>
+        ensures { (mutex_guard_value result).number ≡ self.now }
+    {
         if state.number() == self.number {
             return state;
         }
         for _ in rt.forever() {}
         unreachable!()
+    }
+
+    /// Takes the lock for several calls. Until the answer is dropped, all other calls of the station wait.
+    pub fn lock<R: Wait>(&self, rt: &R) -> Hold<'_, N, F, G>
+        ensures { result ≡ self.now }
+    {
+        Hold {
+            station: self,
+            state: self.hold(rt),
+            news: News::none(),
+        }
     }
 
     /// The next pass, with which no call was made. Passes are numbered from 0; `TooManyPasses` from the 4,097th on.
@@ -166,32 +188,11 @@ impl<N: RollName + MeterName, F: FaultSource + Drop, G: Gate + Drop> Station<N, 
         if pass.slip.number() != self.number {
             return Err(StationRefusal::WrongStation);
         }
-        let reply = self.carry_out(rt, alloc, &mut pass.slip, &mut pass.calls, event);
+        let mut hold = self.lock(rt);
+        let reply = hold.carry_out(alloc, &mut pass.slip, &mut pass.calls, event);
+        drop(hold);
         self.gate.at(Point::AfterReply);
         Ok(reply)
-    }
-
-    /// Carries out an event for the pass of this slip, and keeps it among its calls.
-    fn carry_out<R: Wait>(
-        &self,
-        rt: &R,
-        alloc: Global,
-        slip: &mut Slip<N>,
-        calls: &mut Vec<Entry>,
-        event: Event,
-    ) -> Reply
-        requires own { slip.old.number ≡ self.now }
-        requires room { vec_len calls.old < vec_capacity calls.old }
-        ensures slip { slip.new ≡ slip_after event result slip.old }
-        ensures calls { reverse calls.new.items ≡ history_after event result (reverse calls.old.items) }
-        ensures suits { Suits event result }
-    {
-        let mut state = self.hold(rt);
-        let reply = state.call(alloc, slip, &event);
-        drop(state);
-        self.wake(&event, &reply);
-        keep(calls, event, &reply);
-        reply
     }
 
     /// Tries the frame that wins the bus, with the verdict that the source has for the next attempt: `None` where no
@@ -214,35 +215,13 @@ impl<N: RollName + MeterName, F: FaultSource + Drop, G: Gate + Drop> Station<N, 
             return Err(StationRefusal::WrongStation);
         }
         self.gate.at(Point::BeforeStep);
-        match self.attempt(rt, alloc, &mut pass.slip, &mut pass.calls, moment) {
+        let mut hold = self.lock(rt);
+        match hold.attempt(alloc, &mut pass.slip, &mut pass.calls, moment) {
             Reply::Tried(tried) => Ok(Some(tried)),
             Reply::Idle => Ok(None),
             Reply::Refused(why) => Err(StationRefusal::Bus(why)),
             _ => unreachable!(),
         }
-    }
-
-    /// Carries out an attempt at a moment, with the source's verdict.
-    fn attempt<R: Wait>(
-        &self,
-        rt: &R,
-        alloc: Global,
-        slip: &mut Slip<N>,
-        calls: &mut Vec<Entry>,
-        moment: Moment,
-    ) -> Reply
-        requires own { slip.old.number ≡ self.now }
-        requires room { vec_len calls.old < vec_capacity calls.old }
-        ensures { Attempted moment slip.old (reverse calls.old.items) result slip.new (reverse calls.new.items) }
-    {
-        let mut state = self.hold(rt);
-        self.gate.at(Point::InStep);
-        let (verdict, reply) = state.step(alloc, slip, moment);
-        drop(state);
-        let event = Event::Attempt(moment, verdict);
-        self.wake(&event, &reply);
-        keep(calls, event, &reply);
-        reply
     }
 
     /// Takes passes and gauges back, and hands out the record: a legal history whose entries can be marked with
@@ -280,7 +259,7 @@ impl<N: RollName + MeterName, F: FaultSource + Drop, G: Gate + Drop> Station<N, 
 
 /// How many places a pass's list has to have before a call: one for the call, and but for a close one that is left
 /// for a close. So the close of a socket that the pass opened is never refused for memory.
-fn places_for(event: &Event) -> usize
+pub(crate) fn places_for(event: &Event) -> usize
     ensures { 1 ≤ result }
 {
     match event {

@@ -1,4 +1,7 @@
-use crate::gates::Gate;
+ghost use Rattle.std.specs.Prelude.{◌≡◌, IfSome};
+
+use crate::gates::{Gate, Point};
+use crate::holds::Hold;
 use crate::stations::Station;
 use can_bus::{Event, IfaceStats, Refusal, Reply, SocketId, SocketStats};
 use can_fault::FaultSource;
@@ -27,6 +30,42 @@ pub enum Wake {
     Closed,
     /// The station was stopped.
     Stopped,
+}
+
+/// What calls have changed for those who wait.
+#[derive(Debug, Clone, Copy, PartialEq, Eq)]
+pub(crate) struct News {
+    /// There may be a frame to send.
+    has_work: bool,
+    /// There may be an item, or a socket is closed.
+    has_items: bool,
+    /// A call met a full record.
+    is_full: bool,
+}
+
+impl News {
+    /// Nothing changed.
+    pub(crate) fn none() -> News {
+        News {
+            has_work: false,
+            has_items: false,
+            is_full: false,
+        }
+    }
+
+    /// Adds what a call can have changed. A frame to send comes of `send` alone; items come of attempts and restarts,
+    /// and a socket closes by `close`.
+    pub(crate) fn add(&mut self, event: &Event, reply: &Reply) {
+        match (event, reply) {
+            (_, Reply::Refused(Refusal::RecordFull)) => self.is_full = true,
+            (_, Reply::Refused(_) | Reply::Idle) => {}
+            (Event::Send(_, _), _) => self.has_work = true,
+            (Event::Close(_) | Event::Attempt(_, _) | Event::Restart(_, _), _) => {
+                self.has_items = true;
+            }
+            _ => {}
+        }
+    }
 }
 
 // What a station tells without an event. All of these may wait for the lock.
@@ -67,6 +106,25 @@ impl<N: RollName + MeterName, F: FaultSource + Drop, G: Gate + Drop> Station<N, 
         state.work_wake().unwrap_or(Wake::Stopped)
     }
 
+    /// Waits as `wait_work` does, and keeps the lock for the driver's steps: `None` after `stop`.
+    pub fn hold_work<R: Wait>(&self, rt: &R) -> Option<Hold<'_, N, F, G>>
+        ensures { IfSome result (λ h. h ≡ self.now) }
+    {
+        self.gate.at(Point::BeforeStep);
+        let state = self.work.wait_while(rt, self.state.lock(rt), |state| {
+            state.work_wake().is_none()
+        });
+        let state = self.own(rt, state);
+        match state.work_wake() {
+            Some(Wake::Ready) => Some(Hold {
+                station: self,
+                state,
+                news: News::none(),
+            }),
+            _ => None,
+        }
+    }
+
     /// Waits so long, or until `stop`. Where the duration is 0 it returns at once, without the lock; no call of a
     /// pass ends it.
     pub fn rest<R: Wait + Clock>(&self, rt: &R, duration: Duration) {
@@ -94,19 +152,16 @@ impl<N: RollName + MeterName, F: FaultSource + Drop, G: Gate + Drop> Station<N, 
         self.ends.notify_all();
     }
 
-    /// Wakes those for whom a call can have changed what they wait for. A frame to send comes of `send` alone; items
-    /// come of attempts and restarts, and a socket closes by `close`.
-    pub(crate) fn wake(&self, event: &Event, reply: &Reply) {
-        match (event, reply) {
-            (_, Reply::Refused(Refusal::RecordFull)) => {
-                let _ = self.fullness.compare_exchange(ROOM, FULL, SeqCst, SeqCst);
-            }
-            (_, Reply::Refused(_) | Reply::Idle) => {}
-            (Event::Send(_, _), _) => self.work.notify_all(),
-            (Event::Close(_) | Event::Attempt(_, _) | Event::Restart(_, _), _) => {
-                self.items.notify_all();
-            }
-            _ => {}
+    /// Wakes those to whom calls gave something to do. The lock has to be free.
+    pub(crate) fn tell(&self, news: News) {
+        if news.is_full {
+            let _ = self.fullness.compare_exchange(ROOM, FULL, SeqCst, SeqCst);
+        }
+        if news.has_work {
+            self.work.notify_all();
+        }
+        if news.has_items {
+            self.items.notify_all();
         }
     }
 }

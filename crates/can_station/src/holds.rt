@@ -1,0 +1,190 @@
+ghost use Rattle.std.specs.Prelude.{◌≡◌, ◌<◌, reverse, vec_len, vec_capacity, IfOk};
+ghost use Rattle.can_bus.specs.declared.events.Event.TheVariants as event;
+ghost use Rattle.can_bus.specs.declared.events.Reply.TheVariants as reply;
+ghost use Rattle.can_bus.specs.Run.{history_after};
+ghost use Rattle.can_station.specs.Held.{slip_after};
+ghost use Rattle.can_station.specs.Passes.{Attempted, Suits, Called, Stepped, same};
+
+use crate::gates::{Gate, Point};
+use crate::passes::{Pass, keep};
+use crate::refusals::StationRefusal;
+use crate::state::StationState;
+use crate::stations::{Station, places_for};
+use crate::waits::News;
+use can_bus::{Entry, Event, Received, Refusal, Reply, SocketId, Tried};
+use can_fault::FaultSource;
+use can_frame::{Frame, Moment};
+use can_meter::MeterName;
+use can_roll::{RollName, Slip};
+use std::alloc::Global;
+use std::marker::Model;
+use std::sync::MutexGuard;
+
+/// A station's lock, taken for several calls. Each is one event of the bus, as a call of the station itself is.
+///
+/// Contracts see it as the station's number. Whoever the calls have given something to do is woken once the lock is
+/// free again.
+pub struct Hold<'s, N: RollName + MeterName, F: FaultSource + Drop, G: Gate + Drop> {
+    pub(crate) station: &'s Station<N, F, G>,
+    pub(crate) state: MutexGuard<'s, StationState<N, F>>,
+    pub(crate) news: News,
+}
+
+impl<'s, N: RollName + MeterName, F: FaultSource + Drop, G: Gate + Drop> Model
+    for Hold<'s, N, F, G> {
+    ghost use Rattle.std.specs.Prelude.{ℕ};
+    ghost use Rattle.std.specs.Sync.Mutex.{mutex_guard_value};
+
+    ghost Value = { ℕ };
+
+    ghost view = { λ h. (mutex_guard_value h.state).number };
+}
+
+impl<'s, N: RollName + MeterName, F: FaultSource + Drop, G: Gate + Drop> Hold<'s, N, F, G> {
+    /// The number of the station.
+    pub fn number(&self) -> u8
+        ensures { result ≡ self.now }
+    {
+        self.state.number()
+    }
+
+    /// Whether a live interface has a frame to send.
+    pub fn has_work(&self) -> bool {
+        self.state.has_work()
+    }
+
+    /// Makes a call of a pass. Before the bus's own refusals come `NoMemory`, where the pass's list of calls can't grow,
+    /// and `WrongStation`.
+    fn call(
+        &mut self,
+        alloc: Global,
+        pass: &mut Pass<N>,
+        event: Event,
+    ) -> Result<Reply, StationRefusal>
+        ensures number { self.new ≡ self.old }
+        ensures called { Called same self.old pass.old event result pass.new }
+        ensures suits { IfOk result (λ r. Suits event r) }
+    {
+        if pass.calls.reserve(places_for(&event)).is_err() {
+            return Err(StationRefusal::Bus(Refusal::NoMemory));
+        }
+        if pass.slip.number() != self.state.number() {
+            return Err(StationRefusal::WrongStation);
+        }
+        Ok(self.carry_out(alloc, &mut pass.slip, &mut pass.calls, event))
+    }
+
+    /// Carries out an event for the pass of this slip, and keeps it among its calls.
+    pub(crate) fn carry_out(
+        &mut self,
+        alloc: Global,
+        slip: &mut Slip<N>,
+        calls: &mut Vec<Entry>,
+        event: Event,
+    ) -> Reply
+        requires own { slip.old.number ≡ self.old }
+        requires room { vec_len calls.old < vec_capacity calls.old }
+        ensures number { self.new ≡ self.old }
+        ensures slip { slip.new ≡ slip_after event result slip.old }
+        ensures calls { reverse calls.new.items ≡ history_after event result (reverse calls.old.items) }
+        ensures suits { Suits event result }
+    {
+        let reply = self.state.call(alloc, slip, &event);
+        self.news.add(&event, &reply);
+        keep(calls, event, &reply);
+        reply
+    }
+
+    /// Sends a frame on a socket, as the station's `send` does.
+    pub fn send(
+        &mut self,
+        alloc: Global,
+        pass: &mut Pass<N>,
+        socket: SocketId,
+        frame: Frame,
+    ) -> Result<u64, StationRefusal>
+        ensures number { self.new ≡ self.old }
+        ensures called { Called reply.Sent self.old pass.old (event.Send socket frame) result pass.new }
+    {
+        match self.call(alloc, pass, Event::Send(socket, frame))? {
+            Reply::Sent(number) => Ok(number),
+            Reply::Refused(why) => Err(StationRefusal::Bus(why)),
+            _ => unreachable!(),
+        }
+    }
+
+    /// Takes the oldest item of a socket, as the station's `receive` does.
+    pub fn receive(
+        &mut self,
+        alloc: Global,
+        pass: &mut Pass<N>,
+        socket: SocketId,
+    ) -> Result<Option<Received>, StationRefusal>
+        ensures number { self.new ≡ self.old }
+        ensures called { Called reply.Received self.old pass.old (event.Receive socket) result pass.new }
+    {
+        match self.call(alloc, pass, Event::Receive(socket))? {
+            Reply::Received(item) => Ok(item),
+            Reply::Refused(why) => Err(StationRefusal::Bus(why)),
+            _ => unreachable!(),
+        }
+    }
+
+    /// Tries the frame that wins the bus, as the station's `step` does.
+    pub fn step(
+        &mut self,
+        alloc: Global,
+        pass: &mut Pass<N>,
+        moment: Moment,
+    ) -> Result<Option<Tried>, StationRefusal>
+        ensures number { self.new ≡ self.old }
+        ensures stepped { Stepped self.old pass.old moment result pass.new }
+    {
+        if pass.calls.reserve(1).is_err() {
+            return Err(StationRefusal::Bus(Refusal::NoMemory));
+        }
+        if pass.slip.number() != self.state.number() {
+            return Err(StationRefusal::WrongStation);
+        }
+        match self.attempt(alloc, &mut pass.slip, &mut pass.calls, moment) {
+            Reply::Tried(tried) => Ok(Some(tried)),
+            Reply::Idle => Ok(None),
+            Reply::Refused(why) => Err(StationRefusal::Bus(why)),
+            _ => unreachable!(),
+        }
+    }
+
+    /// Carries out an attempt at a moment, with the source's verdict.
+    pub(crate) fn attempt(
+        &mut self,
+        alloc: Global,
+        slip: &mut Slip<N>,
+        calls: &mut Vec<Entry>,
+        moment: Moment,
+    ) -> Reply
+        requires own { slip.old.number ≡ self.old }
+        requires room { vec_len calls.old < vec_capacity calls.old }
+        ensures number { self.new ≡ self.old }
+        ensures attempted { Attempted moment slip.old (reverse calls.old.items) result slip.new (reverse calls.new.items) }
+    {
+        let station = self.station;
+        station.gate.at(Point::InStep);
+        let (verdict, reply) = self.state.step(alloc, slip, moment);
+        let event = Event::Attempt(moment, verdict);
+        self.news.add(&event, &reply);
+        keep(calls, event, &reply);
+        reply
+    }
+}
+
+impl<N: RollName + MeterName, F: FaultSource + Drop, G: Gate + Drop> Drop for Hold<'_, N, F, G> {
+    fn drop(self) {
+        let Hold {
+            station,
+            state,
+            news,
+        } = self;
+        drop(state);
+        station.tell(news);
+    }
+}
