@@ -215,3 +215,24 @@ def plain(server, name):
     greeted = client.text(), client.answer(f"< open {name} >"), client.answer("< rawmode >")
     demand(greeted == ("< hi >", "< ok >", "< ok >"), f"{greeted}")
     return client
+
+
+class Pair:
+    """Two sessions between which frames go, whatever else happens on their bus. Nobody else sends 29-bit identifier 0,
+    which goes before all others but 11-bit identifier 0."""
+
+    def __init__(self, server, source="can0", target="can1"):
+        self.source, self.target, self.count = plain(server, source), plain(server, target), 0
+        told = self.source.answer("< filter 0 >"), self.target.answer("< filter 1 80000000 DFFFFFFF >")
+        demand(told == ("< ok >", "< ok >"), f"{told}")
+
+    def go_on(self, after="what happened"):
+        """The next frame from the one to the other."""
+        self.count += 1
+        data = self.count.to_bytes(4, "big")
+        self.source.tell(f"< send 00000000 4 {data.hex(' ')} >")
+        try:
+            got = self.target.frame()
+        except TimeoutError:
+            got = "nothing"
+        demand(got == ("00000000", data), f"after {after} others get {got} in place of frame {self.count}")
