@@ -120,19 +120,19 @@ class Server:
                 held += sum(int(line.split()[1]) for line in status if line.startswith(f"{what}:"))
         return held
 
-    def finish(self):
-        """Ends it; its status, and what it wrote after `listening`."""
+    def finish(self, patience=WAIT):
+        """Ends it, which may take so many seconds; its status, and what it wrote after `listening`."""
         if self.child.stdin is None:
             os.killpg(self.child.pid, signal.SIGINT)
         try:
-            written, _ = self.child.communicate(timeout=WAIT)
+            written, _ = self.child.communicate(timeout=patience)
         except subprocess.TimeoutExpired:
             raise Wrong("it did not end") from None
         return self.child.returncode, written
 
-    def end(self, says=""):
+    def end(self, says="", patience=WAIT):
         """Ends it, as it has to; what it wrote after `listening`."""
-        status, written = self.finish()
+        status, written = self.finish(patience)
         demand(status == 0, f"status {status}: {self.said()}")
         demand(self.said() == says, f"standard error: {self.said()}")
         return written
