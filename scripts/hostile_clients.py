@@ -1,5 +1,5 @@
-"""What scripts/hostile-input does to `canbusd serve`: clients that say anything, go at any moment, or take nothing. After each
-of them a frame still goes from one session to another on the same bus, and in the end the record is audited."""
+"""What scripts/hostile-input does to `canbusd serve`: clients that say anything, go at any moment, or take nothing. After
+each of them a frame still goes from one session to another on the same bus, and in the end the record is audited."""
 
 import contextlib
 import random
@@ -16,9 +16,9 @@ RNG = random.Random()
 FAST = ("--pace", "0", "--txqueue", "1024")
 # What a client says to come into raw mode, and there.
 DIALOGUE = b"< open can1 >< rawmode >< filter 1 123 7FF >< send 124 2 1 2 >< stats >< errmask FF >< send 7FF 0 >"
-WORDS = [b"open", b"can1", b"can2", b"rawmode", b"send", b"sendrtr", b"123", b"12345678", b"8", b"0", b"ff", b"filter", b"512", b"join",
-         b"loopback", b"recvown", b"errmask", b"FFFFFFFF", b"errdata", b"1", b"stats", b"status", b"echo", b"restart", b"bcmmode",
-         b"close", b"\0", b"\xff\xfe", b"<", b">", b"><", b"< ", b" >", b"\r\n", b"\t", b"x" * 1100]
+WORDS = [b"open", b"can1", b"can2", b"rawmode", b"send", b"sendrtr", b"123", b"12345678", b"8", b"0", b"ff", b"filter",
+         b"512", b"join", b"loopback", b"recvown", b"errmask", b"FFFFFFFF", b"errdata", b"1", b"stats", b"status", b"echo",
+         b"restart", b"bcmmode", b"close", b"\0", b"\xff\xfe", b"<", b">", b"><", b"< ", b" >", b"\r\n", b"\t", b"x" * 1100]
 
 
 @contextlib.contextmanager
@@ -167,7 +167,8 @@ def slow_readers():
             one.tell("< close >")
             texts = list(iter(one.text, ""))
             numbers = [int(text.split()[4], 16) for text in texts if text.startswith("< frame 123 ")]
-            demand(numbers == sorted(set(numbers)) and texts[-1].startswith("< closed "), f"{len(texts)} texts, {texts[-1:]}")
+            is_in_order = numbers == sorted(set(numbers)) and texts[-1].startswith("< closed ")
+            demand(is_in_order, f"{len(texts)} texts, {texts[-1:]}")
     return "each that read on had its frames in order"
 
 

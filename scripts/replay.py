@@ -1,5 +1,5 @@
-"""What an audit has to say of a record's text, by a replay that shares nothing with canbusd but docs/RECORD.md and the rules of
-the bus. It is written to be read, not to be fast."""
+"""What an audit has to say of a record's text, by a replay that shares nothing with canbusd but docs/RECORD.md and the
+rules of the bus. It is written to be read, not to be fast."""
 
 import re
 
@@ -26,8 +26,8 @@ LINES = {
 INTERFACE, SOCKET, COUNT = 16, 2**32, 2**64
 WIDTHS = {"open": [INTERFACE, SOCKET], "close": [SOCKET], "filters": [SOCKET, 513], "option": [SOCKET], "send": [SOCKET],
           "receive": [SOCKET], "attempt": [], "restart": [INTERFACE]}
-REPLY_WIDTHS = {"socket": [SOCKET], "closed": [COUNT, COUNT], "number": [COUNT], "data": [INTERFACE, COUNT], "error": [INTERFACE],
-                "tried": [INTERFACE, COUNT]}
+REPLY_WIDTHS = {"socket": [SOCKET], "closed": [COUNT, COUNT], "number": [COUNT], "data": [INTERFACE, COUNT],
+                "error": [INTERFACE], "tried": [INTERFACE, COUNT]}
 
 
 def verdict_on(data):
@@ -307,7 +307,8 @@ TO_THE_WINNER = {"global-bit": (0x81, 0x0A), "global-form": (0x82, 0x1B)}
 def fault_frame(outcome, kind, part):
     codes = None
     if part == "winner":
-        codes = {"destroyed": TO_THE_WINNER.get(kind, (0x81, 0x00)), "lastbit": (0x82, 0x1A), "noack": (0x80, 0x19)}.get(outcome)
+        by_outcome = {"destroyed": TO_THE_WINNER.get(kind, (0x81, 0x00)), "lastbit": (0x82, 0x1A), "noack": (0x80, 0x19)}
+        codes = by_outcome.get(outcome)
     elif part == "named":
         codes = NAMED[kind]
     elif part == "other" and outcome == "destroyed":

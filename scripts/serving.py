@@ -51,7 +51,8 @@ def run_checks(only="", faults=()):
 
 def chosen_program():
     """The path of the program that fits the sources at hand. Where there is none it is proved and built now."""
-    chosen = subprocess.run([os.path.join(ROOT, "scripts", "program"), "choose"], stdout=subprocess.PIPE, text=True, check=True)
+    chosen = subprocess.run([os.path.join(ROOT, "scripts", "program"), "choose"], stdout=subprocess.PIPE, text=True,
+                            check=True)
     return os.path.join(ROOT, chosen.stdout.strip())
 
 
