@@ -1,4 +1,5 @@
-"""What scripts/check-clients stands on: checks, a server for each of them, and a client that is a plain socket."""
+"""What the scripts that try `canbusd serve` stand on: checks, a server for each of them, and a client that is a plain
+socket."""
 
 import contextlib
 import os
@@ -8,7 +9,9 @@ import signal
 import socket
 import subprocess
 import tempfile
+import time
 
+ROOT = os.path.dirname(os.path.dirname(os.path.abspath(__file__)))
 WAIT = 10
 CHECKS = []
 
@@ -28,22 +31,61 @@ def demand(is_right, saw):
         raise Wrong(saw)
 
 
+def run_checks(only="", faults=()):
+    """Runs the checks with this word in their names, where these exceptions too are faults: whether all went well."""
+    passed = failed = 0
+    for function in CHECKS:
+        name = function.__name__.replace("_", " ")
+        if only not in name:
+            continue
+        try:
+            saw = function()
+            passed += 1
+            print(f"ok {name}: {saw}", flush=True)
+        except (Wrong, OSError, subprocess.SubprocessError, ValueError, *faults) as fault:
+            failed += 1
+            print(f"failed {name} ({function.__doc__}): {fault}", flush=True)
+    print(f"{passed} ok, {failed} failed")
+    return failed == 0
+
+
+def chosen_program():
+    """The path of the program that fits the sources at hand. Where there is none it is proved and built now."""
+    chosen = subprocess.run([os.path.join(ROOT, "scripts", "program"), "choose"], stdout=subprocess.PIPE, text=True,
+                            check=True)
+    return os.path.join(ROOT, chosen.stdout.strip())
+
+
+def come_true(question):
+    """Whether this comes true while we wait."""
+    until = time.monotonic() + WAIT
+    while time.monotonic() < until:
+        if question():
+            return True
+        time.sleep(0.02)
+    return False
+
+
 class Server:
-    """A server that runs in a folder of its own, in a group of processes of its own."""
+    """A server that runs in a folder of its own, in a group of processes of its own. Where it is given a pipe for its
+    input, the end of that ends it; else Ctrl-C does."""
 
     program = None
     keeps_folders = False
 
-    def __init__(self, *words, address="127.0.0.1:0"):
+    def __init__(self, *words, address="127.0.0.1:0", **how):
         self.folder = tempfile.mkdtemp(prefix="canbusd-")
         self.errors = open(self.path("stderr"), "w+", encoding="utf-8")
         self.child = subprocess.Popen(
-            [self.program, "serve", "--listen", address, "--out", ".", *words], cwd=self.folder, stdin=subprocess.DEVNULL,
-            stdout=subprocess.PIPE, stderr=self.errors, text=True, start_new_session=True)
+            [self.program, "serve", "--listen", address, "--out", ".", *words], cwd=self.folder, stdout=subprocess.PIPE,
+            stderr=self.errors, text=True, start_new_session=True, **{"stdin": subprocess.DEVNULL, **how})
         line = self.child.stdout.readline()
         if not line.startswith("listening "):
+            with contextlib.suppress(subprocess.TimeoutExpired):
+                self.child.wait(WAIT)
+            told = self.said()
             self.close()
-            raise Wrong(f"it does not listen: {line!r} {self.said()}")
+            raise Wrong(f"it does not listen: {line!r} {told}")
         self.address = line.removeprefix("listening ").rstrip("\n")
         if ":" in self.address:
             self.host, self.port = self.address.split(":")[0], int(self.address.split(":")[1])
@@ -71,14 +113,28 @@ class Server:
         """How many file descriptors and threads its processes have."""
         return sum(len(os.listdir(f"/proc/{process}/{what}")) for process, _ in self.processes() for what in ("fd", "task"))
 
-    def end(self, says=""):
-        """Ends it as Ctrl-C does; what it wrote after `listening`."""
-        os.killpg(self.child.pid, signal.SIGINT)
+    def memory(self, what):
+        """How much memory its processes have, in kilobytes, by VmRSS or VmHWM of their status."""
+        held = 0
+        for process, _ in self.processes():
+            with contextlib.suppress(OSError), open(f"/proc/{process}/status", encoding="utf-8") as status:
+                held += sum(int(line.split()[1]) for line in status if line.startswith(f"{what}:"))
+        return held
+
+    def finish(self, patience=WAIT):
+        """Ends it, which may take so many seconds; its status, and what it wrote after `listening`."""
+        if self.child.stdin is None:
+            os.killpg(self.child.pid, signal.SIGINT)
         try:
-            written, _ = self.child.communicate(timeout=WAIT)
+            written, _ = self.child.communicate(timeout=patience)
         except subprocess.TimeoutExpired:
             raise Wrong("it did not end") from None
-        demand(self.child.returncode == 0, f"status {self.child.returncode}: {self.said()}")
+        return self.child.returncode, written
+
+    def end(self, says="", patience=WAIT):
+        """Ends it, as it has to; what it wrote after `listening`."""
+        status, written = self.finish(patience)
+        demand(status == 0, f"status {status}: {self.said()}")
         demand(self.said() == says, f"standard error: {self.said()}")
         return written
 
@@ -100,13 +156,18 @@ class Server:
 
 
 @contextlib.contextmanager
-def serving(*words, **more):
+def serving(*words, **how):
     """A server that is gone in the end, whatever happens."""
-    server = Server(*words, **more)
+    server = Server(*words, **how)
     try:
         yield server
     finally:
         server.close()
+
+
+def serving_alone(*words, **how):
+    """A server that is the program alone, without its launcher."""
+    return serving("--until-eof", *words, stdin=subprocess.PIPE, **how)
 
 
 class Plain:
@@ -155,3 +216,24 @@ def plain(server, name):
     greeted = client.text(), client.answer(f"< open {name} >"), client.answer("< rawmode >")
     demand(greeted == ("< hi >", "< ok >", "< ok >"), f"{greeted}")
     return client
+
+
+class Pair:
+    """Two sessions between which frames go, whatever else happens on their bus. Nobody else sends 29-bit identifier 0,
+    which goes before all others but 11-bit identifier 0."""
+
+    def __init__(self, server, source="can0", target="can1"):
+        self.source, self.target, self.count = plain(server, source), plain(server, target), 0
+        told = self.source.answer("< filter 0 >"), self.target.answer("< filter 1 80000000 DFFFFFFF >")
+        demand(told == ("< ok >", "< ok >"), f"{told}")
+
+    def go_on(self, after="what happened"):
+        """The next frame from the one to the other."""
+        self.count += 1
+        data = self.count.to_bytes(4, "big")
+        self.source.tell(f"< send 00000000 4 {data.hex(' ')} >")
+        try:
+            got = self.target.frame()
+        except TimeoutError:
+            got = "nothing"
+        demand(got == ("00000000", data), f"after {after} others get {got} in place of frame {self.count}")

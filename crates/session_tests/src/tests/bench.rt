@@ -137,11 +137,11 @@ fn attempts(alloc: Global, count: u8) -> Result<String, Fail> {
     Ok(lines)
 }
 
-/// A script that gives the attempts 0 to 31 this verdict.
-fn ever(alloc: Global, verdict: &str) -> Result<String, Fail> {
+/// A script that gives so many attempts this verdict, at most 99 of them.
+fn ever(alloc: Global, verdict: &str, count: u8) -> Result<String, Fail> {
     let mut script = String::new(alloc);
-    for number in 0..32_u8 {
-        script.push(char::from(b'0' + number / 10))?;
+    for number in 0..count {
+        script.push(char::from(b'0' + number / 10 % 10))?;
         script.push(char::from(b'0' + number % 10))?;
         script.push(' ')?;
         script.push_str(verdict)?;
@@ -280,7 +280,7 @@ const CAME_BACK: &str =
 #[test]
 fn an_interface_goes_off_and_comes_back(rt: HostRuntime) -> Result<(), Fail> {
     let alloc = rt.alloc();
-    let script = ever(alloc, "global bit")?;
+    let script = ever(alloc, "global bit", 32)?;
     let lines = attempts(alloc, 32)?;
     let tried = times(alloc, "tried can0 0 destroyed - -\n", 31)?;
     let rest = joined(alloc, &[THREE_SENT, &lines, RESTARTED])?;
@@ -299,13 +299,64 @@ const ONE_LOST: &str = "\n1 < stats 0 0 0 1 0 0 1 0 >\n";
 #[test]
 fn a_frame_is_received_at_most_32_times(rt: HostRuntime) -> Result<(), Fail> {
     let alloc = rt.alloc();
-    let script = ever(alloc, "lastbit")?;
+    let script = ever(alloc, "lastbit", 32)?;
     let lines = times(alloc, "attempt\n", 32)?;
     let tried = times(alloc, "tried can0 0 lastbit can1 -\n", 31)?;
     let frames = times(alloc, "< frame 123 0.000000  >", 32)?;
     let rest = joined(alloc, &[ONE_SENT, &lines, DRAINED])?;
     let output = joined(alloc, &[&tried, LAST_BIT, &frames, ONE_LOST])?;
     two_write(&rt, &script, &rest, &output)
+}
+
+const BOTH_SEND: &str = "feed 1 < send 123 0 >\nfeed 2 < send 123 0 >\n";
+
+const BOTH_LOST: &str =
+    "tried can1 0 destroyed - can1\nidle\n1 < stats 0 0 0 1 0 0 1 0 >\n2 < stats 0 0 0 1 0 0 1 0 >\n";
+
+#[test]
+fn two_interfaces_go_off_one_after_the_other(rt: HostRuntime) -> Result<(), Fail> {
+    let alloc = rt.alloc();
+    let script = ever(alloc, "global bit", 64)?;
+    let lines = times(alloc, "attempt\n", 65)?;
+    let rest = joined(
+        alloc,
+        &[BOTH_SEND, &lines, "feed 1 < stats >\nfeed 2 < stats >\n"],
+    )?;
+    let first = times(alloc, "tried can0 0 destroyed - -\n", 31)?;
+    let second = times(alloc, "tried can1 0 destroyed - -\n", 31)?;
+    let output = joined(
+        alloc,
+        &[
+            &first,
+            "tried can0 0 destroyed - can0\n",
+            &second,
+            BOTH_LOST,
+        ],
+    )?;
+    two_write(&rt, &script, &rest, &output)
+}
+
+const TRIED: &str = "feed 1 < send 123 4 11 22 33 44 >\nat 23.424242\nattempt\n";
+
+#[test]
+fn lines_before_a_read_fault_are_carried_out(rt: HostRuntime) -> Result<(), Fail> {
+    let alloc = rt.alloc();
+    let wanted = joined(alloc, &[GREETED, "tried can0 0 done can1 -\n"])?;
+    // The reader fails behind the whole line of the attempt, or within the next.
+    for next in ["", "drain"] {
+        let input = joined(alloc, &[STARTED, TRIED, next])?;
+        let broken = Pieces {
+            rest: input.as_bytes(),
+            size: 8,
+            is_broken: true,
+        };
+        let mut output = Vec::new(alloc);
+        let config = config_of(alloc, TWO, "")?;
+        let ended = bench(alloc, config, broken, &mut output);
+        assert_eq!(rt; output.as_slice(), wanted.as_bytes());
+        assert_eq!(rt; ended.err(), Some(BenchFault::Read));
+    }
+    Ok(())
 }
 
 #[test]
@@ -329,16 +380,6 @@ fn faults_end_a_run(rt: HostRuntime) -> Result<(), Fail> {
     let marks = times(alloc, "#", 4097)?;
     let long = joined(alloc, &[STARTED, &marks])?;
     stops(&rt, TWO, &long, GREETED, BenchFault::BadLine(5))?;
-    let broken = Pieces {
-        rest: b"session 1\nsession",
-        size: 8,
-        is_broken: true,
-    };
-    let mut output = Vec::new(alloc);
-    let config = config_of(alloc, TWO, "")?;
-    let ended = bench(alloc, config, broken, &mut output);
-    assert_eq!(rt; output.as_slice(), b"1 < hi >\n".as_slice());
-    assert_eq!(rt; ended.err(), Some(BenchFault::Read));
     let config = config_of(alloc, TWO, "")?;
     let ended = bench(alloc, config, b"session 1\n".as_slice(), &mut Closed);
     assert_eq!(rt; ended.err(), Some(BenchFault::Write));
