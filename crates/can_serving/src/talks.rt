@@ -5,7 +5,7 @@ use can_frame::Moment;
 use can_meter::MeterName;
 use can_roll::RollName;
 use can_server::{Hub, PassPort};
-use can_session::{Session, Stage};
+use can_dialog::{Session, Stage};
 use can_station::{Gate, Pass, Station};
 use std::alloc::{AllocError, Global};
 use std::io::Write;

@@ -1,3 +1,4 @@
 mod bench;
+mod dialogue;
 mod lines;
 mod sessions;
