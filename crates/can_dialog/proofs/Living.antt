@@ -52,8 +52,11 @@ on : {P : Type 0} (step : P → (call : Call) → Reply call → P → Type 0) (
 on {P} step d kept Greet acts p port q first others text mid after h forgotten k is = (false ∷ forgotten, (first, mid, port, others, h, k, is))
 on {P} step d kept Deliver acts p port q first others text mid after h forgotten k is = (false ∷ forgotten, (first, mid, port, others, h, k, is))
 on {P} step d kept End acts p port q first others text mid after h forgotten k is = (false ∷ forgotten, (first, mid, port, others, h, k, is))
-on {P} step d kept (Hear moment piece) acts p port q first others text mid after h forgotten k is =
-    (h.0 ++ forgotten, subst (λ (t : List ℕ). Lives step d (h.0 ++ forgotten) (turns_of kept (Hear moment piece ∷ acts)) p q t after) (sym is) (turns_and_more step moment d h.0 forgotten (messages_of (kept ++ piece)) (turns_of (kept_of (kept ++ piece)) acts) p port q first others mid after h.1 k))
+on {P} step d kept (Hear moment piece) acts p port q first others text mid after h forgotten k is = (
+  h.0 ++ forgotten,
+  subst (λ (t : List ℕ). Lives step d (h.0 ++ forgotten) (turns_of kept (Hear moment piece ∷ acts)) p q t after) (sym is)
+      (turns_and_more step moment d h.0 forgotten (messages_of (kept ++ piece)) (turns_of (kept_of (kept ++ piece)) acts) p port q first others mid after h.1 k),
+)
 
 pub lives : {P : Type 0} (step : P → (call : Call) → Reply call → P → Type 0) (capacity : ℕ) (stage : Stage) (kept : List ℕ) (acts : List (Act (List ℕ))) (p q : P) (text : List ℕ) (after : Dialog)
     → IsCalled step (record { capacity = capacity; stage = stage }) kept acts p q text after → (forgotten : List Bool) × Lives step (record { capacity = capacity; stage = stage }) forgotten (turns_of kept acts) p q text after

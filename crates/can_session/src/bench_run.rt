@@ -8,6 +8,7 @@ ghost use Rattle.can_session.specs.Runs.{IsBench, IsRecordOf, at_start, Ends, En
 
 use crate::bench_state::Bench;
 use crate::lines::{LineFault, Lines};
+use crate::unheard::Unheard;
 use can_bus::{BusConfig, Record};
 use can_fault::FaultSource;
 use can_frame::Names;
@@ -71,12 +72,30 @@ pub fn bench<F: FaultSource + Drop, R: Read + Drop, W: Write>(
     ensures legal { IfOk result (λ r. IsLegal r.config r.history) }
     ensures headline { IfOk result (λ r. Headline r.config r.history) }
 {
+    bench_noting(alloc, config, input, out, &mut Unheard::none())
+}
+
+/// As `bench`, and notes what sessions were fed that is in no message, where the run comes to its end.
+pub fn bench_noting<F: FaultSource + Drop, R: Read + Drop, W: Write>(
+    alloc: Global,
+    config: BenchConfig<F>,
+    input: R,
+    out: &mut W,
+    unheard: &mut Unheard,
+) -> Result<Record, BenchFault>
+    ensures bad { (result ≡ Err BenchFault.BadConfig) ↔ (¬ IsBench config.names config.config config.rx_capacity) }
+    ensures untouched { result ≡ Err BenchFault.BadConfig → out.new ≡ out.old }
+    ensures runs { result ≢ Err BenchFault.BadConfig → (now : Input) × Ends IsRecordOf W.contents (F.verdicts config.script) (R.remaining input) (at_start config.names config.config config.rx_capacity) out.old result now out.new }
+    ensures legal { IfOk result (λ r. IsLegal r.config r.history) }
+    ensures headline { IfOk result (λ r. Headline r.config r.history) }
+{
     let mut script = config.script;
     let mut state = Bench::new(alloc, config.names, config.config, config.rx_capacity)?;
     let Ok(mut lines) = Lines::new(alloc, input) else {
         return Err(BenchFault::NoMemory);
     };
     run(alloc, &mut state, &mut script, &mut lines, out)?;
+    *unheard = state.unheard();
     Ok(state.into_record())
 }
 

@@ -13,6 +13,7 @@ use crate::line_prefix::{begin_spoken, end_spoken};
 use crate::orders::{Order, SessionNumber, read_order};
 use crate::starts::{make_bus, no_sessions, the_start};
 use crate::turns::{self, Act, BenchPort, NoMemory};
+use crate::unheard::Unheard;
 use can_bus::{BusConfig, Record};
 use can_dialog::{BusPort, Session};
 use can_fault::FaultSource;
@@ -28,6 +29,7 @@ pub struct Bench {
     capacity: u32,
     sessions: Vec<Option<Session>>,
     moment: Moment,
+    unheard: Unheard,
 }
 
 impl Model for Bench {
@@ -67,7 +69,13 @@ impl Bench {
             capacity,
             sessions,
             moment: the_start(),
+            unheard: Unheard::none(),
         })
+    }
+
+    /// What its sessions were fed that is in no message.
+    pub fn unheard(&self) -> Unheard {
+        self.unheard
     }
 
     /// The record of its bus.
@@ -124,6 +132,9 @@ impl Bench {
         match &mut self.sessions[place_of(session)] {
             None => Ok(false),
             Some(speaker) => {
+                if let Act::Feed(bytes) = act {
+                    self.unheard.hear(session, bytes);
+                }
                 let begun = begin_spoken(said, session)?;
                 turns::carry_out(speaker, self.alloc, act, self.moment, &mut self.port, said)?;
                 end_spoken(said, begun)?;

@@ -17,10 +17,12 @@ pub mod orders;
 mod read_buffer;
 mod starts;
 mod turns;
+pub mod unheard;
 
-pub use bench_run::{BenchConfig, BenchFault, bench, bench_lines};
+pub use bench_run::{BenchConfig, BenchFault, bench, bench_lines, bench_noting};
 pub use can_dialog::{
     BusPort, Dialog, Port, PortRefusal, RawSocket, Session, SessionFault, Stage, count_of,
 };
 pub use lines::{LineFault, Lines};
 pub use orders::{Order, SessionNumber, read_order};
+pub use unheard::Unheard;

@@ -2,3 +2,4 @@ mod bench;
 mod dialogue;
 mod lines;
 mod sessions;
+mod unheard;

@@ -9,7 +9,8 @@ pub loop-item-preserved : goal.loop-item-preserved
 loop-item-preserved g c =
     let turns = c.loop-item.invariant.0 in
     let played = c.take_turn.ensures in
-    let more = turns_taken g.P.Port.step c.args.moment c.args.dialog.now turns.0 c.args.items.now c.args.port.now c.loop-item.port c.take_turn.new.port c.loop-item.said.items (voiced c.take_turn.result) c.loop-item.dialog c.take_turn.new.dialog played.0 c.loop-item.item-index c.item-item.result c.loop-item-test.true c.item-item.is turns.1 played.1 in
+    let more = turns_taken g.P.Port.step c.args.moment c.args.dialog.now turns.0 c.args.items.now c.args.port.now c.loop-item.port c.take_turn.new.port c.loop-item.said.items
+    (voiced c.take_turn.result) c.loop-item.dialog c.take_turn.new.dialog played.0 c.loop-item.item-index c.item-item.result c.loop-item-test.true c.item-item.is turns.1 played.1 in
     elim c.match-take_turn.branch [
       | in-Some w ↦
           (let text : c.match-take_turn.said.items ≡ c.loop-item.said.items ++ voiced c.take_turn.result = rw (w.said-is, w.in-Some.is) w.say.ensures.text in

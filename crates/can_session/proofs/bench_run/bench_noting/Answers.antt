@@ -3,7 +3,7 @@ use Rattle.can_session.specs.Benches.{BenchState}
 use Rattle.can_session.specs.Lines.{Input, unread}
 use Rattle.can_session.specs.Runs.{AreAll, Ran, IsRecordOf, at_start, Ends}
 use Rattle.can_session.proofs.Running.{err_is, ends_before, ends_unmade, ends_err}
-use Rattle.can_session.proofs.bench_run.bench.Goals as goal
+use Rattle.can_session.proofs.bench_run.bench_noting.Goals as goal
 
 pub returns-in_err-state-clause-runs : goal.returns-in_err-state-clause-runs
 returns-in_err-state-clause-runs g c =
