@@ -7,7 +7,7 @@ use Rattle.can_bus.specs.declared.events.Reply.{Reply}
 use Rattle.can_bus.specs.declared.events.SocketId.{SocketId}
 use Rattle.can_bus.specs.declared.events.Reply.TheVariants as reply
 use Rattle.std.specs.Prelude.{slice_get}
-use Rattle.can_session.specs.declared.port.PortRefusal.{PortRefusal}
+use Rattle.can_dialog.specs.declared.port.PortRefusal.{PortRefusal}
 use Rattle.can_station.specs.Passes.{PassSeen, Called}
 use Rattle.can_station.specs.declared.refusals.StationRefusal.{StationRefusal}
 use Rattle.can_server.specs.Buses.{BusSeen, IsFirstNamed, items_on}

@@ -9,11 +9,11 @@ use Rattle.can_bus.specs.declared.events.Reply.{Reply}
 use Rattle.can_bus.specs.declared.events.Reply.TheVariants as reply
 use Rattle.can_bus.specs.declared.events.Refusal.TheVariants as refusal
 use Rattle.can_bus.specs.Answer.{done_reply}
-use Rattle.can_session.specs.declared.port.PortRefusal.{PortRefusal}
-use Rattle.can_session.specs.declared.port.PortRefusal.TheVariants as port
-use Rattle.can_session.specs.Calls.{Call}
-use Rattle.can_session.specs.Calls.{Reply as CallReply}
-use Rattle.can_session.specs.Calls.Call.{Attach, Open, Close, SetFilters, SetOption, Send, Receive, Restart, CountsOfSocket, CountsOfIface, CountersOfIface}
+use Rattle.can_dialog.specs.declared.port.PortRefusal.{PortRefusal}
+use Rattle.can_dialog.specs.declared.port.PortRefusal.TheVariants as port
+use Rattle.can_dialog.specs.Calls.{Call}
+use Rattle.can_dialog.specs.Calls.{Reply as CallReply}
+use Rattle.can_dialog.specs.Calls.Call.{Attach, Open, Close, SetFilters, SetOption, Send, Receive, Restart, CountsOfSocket, CountsOfIface, CountersOfIface}
 use Rattle.can_station.specs.Passes.{PassSeen, Called}
 use Rattle.can_station.specs.declared.refusals.StationRefusal.{StationRefusal}
 use Rattle.can_station.specs.declared.refusals.StationRefusal.TheVariants as station

@@ -10,7 +10,7 @@ use can_filter::FilterSet;
 use can_frame::{Frame, Iface, Moment};
 use can_meter::{Gauge, MeterName};
 use can_roll::RollName;
-use can_session::{Port, PortRefusal};
+use can_dialog::{Port, PortRefusal};
 use can_station::{Gate, Pass, Station, StationRefusal};
 use std::alloc::Global;
 use std::marker::Model;

@@ -4,7 +4,7 @@
 //! and one that delivers its items, over a pass of the bus that it opens. Each bus has a driver, which steps it while
 //! an interface has a frame to send. At the end all passes are handed back, for the hub to settle.
 //!
-//! What is proved here: the sessions are can_session's, each with a pass of its own, and one list of passes is handed
+//! What is proved here: the sessions are can_dialog's, each with a pass of its own, and one list of passes is handed
 //! back for each bus. Not promised: that a peer gets anything, how long anybody waits, that no two wait for each other.
 #![tactic(auto)]
 

@@ -2,8 +2,8 @@
 use Rattle.std.proofs.Common.{◌≡◌, ℕ, ◌+◌, inl, List, [], ◌∷◌, ◌++◌, length, take, drop, Option, Some, None, refl, sym, ap, subst, ◌∙◌, append_assoc, arith, false}
 use Rattle.std.specs.Io.KnownBytes.{Consumes, Keeps, prepend_known}
 use Rattle.std.proofs.lemmas.List.{take-append-drop, length-append, length-take-le}
-use Rattle.can_session.specs.Windows.{Gains}
-use Rattle.can_session.specs.Looks.{LineAt}
+use Rattle.can_session.specs.inner.Reads.{Gains}
+use Rattle.can_session.specs.inner.Looks.{LineAt}
 use Rattle.can_session.specs.Lines.{Input, Waits, Overruns, TakesLine, left_of}
 
 -- a list of one

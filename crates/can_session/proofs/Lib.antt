@@ -1,9 +1,4 @@
-pub mod Faulting
 pub mod FirstWords
-pub mod Turning
-pub mod Room
-pub mod Counts
-pub mod Cuts
 pub mod HeldBytes
 pub mod Inputs
 pub mod LineLaws
@@ -11,6 +6,4 @@ pub mod Searches
 pub mod SetTexts
 pub mod Speaking
 pub mod Running
-pub mod Living
-pub mod Naming
 pub mod FirstPlaces

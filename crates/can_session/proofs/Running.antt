@@ -1,5 +1,6 @@
 use Rattle.std.proofs.Common.{◌≡◌, ◌⊎◌, inl, inr, ℕ, ◌+◌, ◌≤◌, Bool, true, false, arith, List, [], ◌∷◌, ◌++◌, length, Option, Some, None, Result, Ok, Err, refl, sym, ap, subst, ◌∙◌, append_assoc}
-use Rattle.std.specs.Io.KnownBytes.{Appends, prepend_known}
+use Rattle.std.specs.Io.KnownBytes.{Appends, Keeps, prepend_known}
+use Rattle.std.proofs.KnownBytes.{Appends-nil, Appends-trans, Appends-kept, prepend_known-nil}
 use Rattle.std.specs.List.{All}
 use Rattle.std.proofs.lemmas.List.{append-nil, length-append}
 use Rattle.std.proofs.lemmas.List.Elements.{All-nil, All-cons, All-append}
@@ -15,7 +16,6 @@ use Rattle.can_session.specs.Orders.{order_of}
 use Rattle.can_session.specs.Benches.{BenchState, IsCarriedOut, AreCarriedOut, IsRefused}
 use Rattle.can_session.specs.Runs.{AreAll, AreFirst, IsNext, ComeBeforeBad, ComeBeforeStop, Ran, Ends, EndsAt}
 use Rattle.can_session.proofs.LineLaws.{first_lines, next, end, stop}
-use Rattle.can_session.proofs.Turning.{appends_more}
 
 -- these lines were given of the input, where the reader tells its bytes
 abbrev pub AreOf : Option (List ℕ) → List (List ℕ) → Input → Type 0
@@ -79,15 +79,16 @@ ran_more {W} contents v lines line b mid after out between new more h short k wr
       short = All-append IsLine lines (line ∷ []) h.short (one_short line short);
       text = h.text ++ more;
       carried = carried_more v lines line b mid after h.text more h.carried k;
-      wrote = appends_more (contents out) (contents between) (contents new) h.text more h.wrote wrote;
+      wrote = Appends-trans (contents out) (contents between) (contents new) h.text more h.wrote wrote;
     }
 
-appends_none : (a : Option (List ℕ)) → Appends a a []
-appends_none None = tt
-appends_none (Some bytes) = sym (append-nil bytes)
+pub ran_kept : {W : Type 0} (contents : W → Option (List ℕ)) (v : VerdictMap) (lines : List (List ℕ)) (b after : BenchState) (out between new : W)
+    → Ran contents v lines b out after between → Keeps (contents between) (contents new) → Ran contents v lines b out after new
+ran_kept {W} contents v lines b after out between new h k =
+    record { text = h.text; short = h.short; carried = h.carried; wrote = Appends-kept (contents out) (contents between) (contents new) h.text h.wrote k }
 
 pub ran_start : {W : Type 0} (contents : W → Option (List ℕ)) (v : VerdictMap) (b : BenchState) (out : W) → Ran contents v [] b out b out
-ran_start {W} contents v b out = record { text = []; short = All-nil IsLine; carried = (refl, refl); wrote = appends_none (contents out) }
+ran_start {W} contents v b out = record { text = []; short = All-nil IsLine; carried = (refl, refl); wrote = Appends-nil (contents out) }
 
 -- the line that stands is short
 pub short_line : (old new : Input) → TakesLine old new → IsLine new.line
@@ -154,11 +155,11 @@ ran_on {W} contents v w lines line b mid after out between new same h short (mor
 -- a run ends at the next line; but for a fault of the writer nothing more was written
 pub ends_stop : {A W : Type 0} (leaves : A → BenchState → Type 0) (contents : W → Option (List ℕ)) (v : VerdictMap) (input : Option (List ℕ)) (lines : List (List ℕ)) (number : ℕ) (old now : Input) (b mid : BenchState) (out between new : W) (fault : BenchFault)
     → AreOf input lines old → IsWithin now → number ≡ length lines + 1 → Ran contents v lines b out mid between
-    → EndsAt number fault old now mid × ((fault ≡ Write) ⊎ (new ≡ between)) → Ends leaves contents v input b out (Err fault) now new
+    → EndsAt number fault old now mid × ((fault ≡ Write) ⊎ Keeps (contents between) (contents new)) → Ends leaves contents v input b out (Err fault) now new
 ends_stop {A} {W} leaves contents v input lines number old now b mid out between new fault h within is ran (why, inl write) =
     subst (λ (f : BenchFault). Ends {A = A} {W = W} leaves contents v input b out (Err f) now new) (sym write) tt
 ends_stop {A} {W} leaves contents v input lines number old now b mid out between new fault h within is ran (why, inr same) =
-    ends_at leaves contents v input lines number old now b mid out new fault h within is (subst (λ (w : W). Ran contents v lines b out mid w) (sym same) ran) why
+    ends_at leaves contents v input lines number old now b mid out new fault h within is (ran_kept contents v lines b mid out between new ran same) why
 
 pub err_is : {A E : Type 0} (r : Result A E) (e : E) → IsErr r × IsErrAnd r (λ x. x ≡ e) → r ≡ Err e
 err_is (Ok a) e h = let wrong = h.0 in cc
@@ -190,10 +191,5 @@ ends_err {A} {B} {W} leaves others contents v input b out now new Read h = h
 ends_err {A} {B} {W} leaves others contents v input b out now new Write h = h
 ends_err {A} {B} {W} leaves others contents v input b out now new NoMemory h = h
 
-prepend_none : (o : Option (List ℕ)) → prepend_known [] o ≡ o
-prepend_none None = refl
-prepend_none (Some bytes) = refl
-
--- at first all that the reader has is left
 pub left_unread : (coming : Option (List ℕ)) → left_of (unread coming) ≡ coming
-left_unread coming = prepend_none coming
+left_unread coming = prepend_known-nil coming

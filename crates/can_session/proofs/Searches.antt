@@ -7,7 +7,7 @@ use Rattle.std.proofs.lemmas.List.Folds.{list_any-append, list_any_none}
 use Rattle.std.proofs.lemmas.List.Sums.{passes_at_first, fails_before_first}
 use Rattle.std.proofs.Math.Seq.{take-add}
 use Rattle.can_session.specs.Lines.{is_lf}
-use Rattle.can_session.specs.Looks.{LineAt}
+use Rattle.can_session.specs.inner.Looks.{LineAt}
 
 -- before the first LF there is none
 none_before : (xs : List ℕ) → list_any is_lf (take (position_or_len is_lf xs) xs) ≡ false

@@ -1,8 +1,8 @@
 use Rattle.std.proofs.Common.{◌≡◌, ℕ, ◌+◌, ◌-◌, ◌<◌, List, [], ◌∷◌, ◌++◌, length, Some, slice_get, slice_set, sym, ap, ◌∙◌, append_assoc, arith}
 use Rattle.std.specs.Fmt.{decimal}
 use Rattle.std.proofs.lemmas.List.{append-nil, length-append}
-use Rattle.can_session.specs.Sessions.{SessionState}
-use Rattle.can_session.specs.BusSteps.{NamedBus}
+use Rattle.can_dialog.specs.Sessions.{SessionState}
+use Rattle.can_dialog.specs.BusSteps.{NamedBus}
 use Rattle.can_session.specs.Benches.{BenchState, Speaks, spoken}
 
 -- a session at its place has done something, and what it said was put out

@@ -8,12 +8,12 @@ use Rattle.can_bus.specs.Journal.{Journal}
 use Rattle.can_bus.specs.Transmit.{tape}
 use Rattle.can_bus.specs.Answer.{Answers, told_attempt}
 use Rattle.can_proto.specs.Messages.{messages_of, kept_of}
-use Rattle.can_session.specs.declared.stages.Stage.{Stage}
-use Rattle.can_session.specs.declared.stages.Stage.TheVariants.{NoBus, Ended}
-use Rattle.can_session.specs.Plans.{Plays}
-use Rattle.can_session.specs.Turns.{ending, delivery, greeting}
-use Rattle.can_session.specs.Sessions.{SessionState, Turns}
-use Rattle.can_session.specs.BusSteps.{NamedBus, BusStep}
+use Rattle.can_dialog.specs.declared.stages.Stage.{Stage}
+use Rattle.can_dialog.specs.declared.stages.Stage.TheVariants.{NoBus, Ended}
+use Rattle.can_dialog.specs.Plans.{Plays}
+use Rattle.can_dialog.specs.Turns.{ending, delivery, greeting}
+use Rattle.can_dialog.specs.Sessions.{SessionState, Turns}
+use Rattle.can_dialog.specs.BusSteps.{NamedBus, BusStep}
 use Rattle.can_session.specs.Orders.{Effect, order_of}
 use Rattle.can_session.specs.Orders.Effect.{Does_nothing, Sets, Starts, Feeds, Drains, Ends, Attempts}
 use Rattle.can_session.specs.AttemptLines.{attempt_line}

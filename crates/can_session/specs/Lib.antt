@@ -1,14 +1,6 @@
-pub mod Calls
-pub mod Plans
-pub mod Turns
-pub mod Sessions
-pub mod BusSteps
 pub mod Lines
-pub mod Looks
 pub mod Orders
-pub mod Windows
 pub mod AttemptLines
 pub mod Benches
 pub mod Runs
-pub mod Lives
-pub mod Deliveries
+pub mod inner

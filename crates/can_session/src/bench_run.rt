@@ -1,14 +1,14 @@
 ghost use Rattle.std.specs.Prelude.{◌≡◌, ◌≢◌, ◌+◌, ◌<◌, ◌≤◌, ◌↔◌, ◌⊎◌, List, ℕ, Err, None, length, IfOk, IfErr, OnOk, OnErr, MatchBool};
-ghost use Rattle.std.specs.Io.KnownBytes.{Appends};
+ghost use Rattle.std.specs.Io.KnownBytes.{Appends, Keeps};
 ghost use Rattle.can_bus.specs.Headline.{Headline};
 ghost use Rattle.can_bus.specs.Legal.{IsLegal};
 ghost use Rattle.can_session.specs.Lines.{Input, FindsEnd, TakesLine, IsWithin, unread};
-ghost use Rattle.can_session.specs.Benches.{IsCarriedOut};
+ghost use Rattle.can_session.specs.Benches.{BenchState, IsCarriedOut};
 ghost use Rattle.can_session.specs.Runs.{IsBench, IsRecordOf, at_start, Ends, EndsAt, fault_of};
 
+use crate::bench_state::Bench;
 use crate::lines::{LineFault, Lines};
-use crate::output::put;
-use crate::stand::Stand;
+use crate::unheard::Unheard;
 use can_bus::{BusConfig, Record};
 use can_fault::FaultSource;
 use can_frame::Names;
@@ -56,6 +56,7 @@ pub struct BenchConfig<F> {
 /// Carries out the lines of an input on one bus, and writes what they put out: the bus's record.
 ///
 /// Each line's output is written in one call, so a writer that is slow for small writes wants a buffer around it.
+/// Before each read the writer is flushed, so that whoever writes the input has the answers to all lines so far.
 /// Of the input no more than 8,192 bytes are kept, at any length. The time grows with the lines and with what they
 /// do on the bus. `NoMemory` comes before the first line or in place of a line; what the lines before it put out was
 /// written. `bench_lines` tells more of how far the input was read.
@@ -71,18 +72,31 @@ pub fn bench<F: FaultSource + Drop, R: Read + Drop, W: Write>(
     ensures legal { IfOk result (λ r. IsLegal r.config r.history) }
     ensures headline { IfOk result (λ r. Headline r.config r.history) }
 {
-    let BenchConfig {
-        names,
-        config,
-        mut script,
-        rx_capacity,
-    } = config;
-    let mut stand = Stand::new(alloc, names, config, rx_capacity)?;
+    bench_noting(alloc, config, input, out, &mut Unheard::none())
+}
+
+/// As `bench`, and notes what sessions were fed that is in no message, where the run comes to its end.
+pub fn bench_noting<F: FaultSource + Drop, R: Read + Drop, W: Write>(
+    alloc: Global,
+    config: BenchConfig<F>,
+    input: R,
+    out: &mut W,
+    unheard: &mut Unheard,
+) -> Result<Record, BenchFault>
+    ensures bad { (result ≡ Err BenchFault.BadConfig) ↔ (¬ IsBench config.names config.config config.rx_capacity) }
+    ensures untouched { result ≡ Err BenchFault.BadConfig → out.new ≡ out.old }
+    ensures runs { result ≢ Err BenchFault.BadConfig → (now : Input) × Ends IsRecordOf W.contents (F.verdicts config.script) (R.remaining input) (at_start config.names config.config config.rx_capacity) out.old result now out.new }
+    ensures legal { IfOk result (λ r. IsLegal r.config r.history) }
+    ensures headline { IfOk result (λ r. Headline r.config r.history) }
+{
+    let mut script = config.script;
+    let mut state = Bench::new(alloc, config.names, config.config, config.rx_capacity)?;
     let Ok(mut lines) = Lines::new(alloc, input) else {
         return Err(BenchFault::NoMemory);
     };
-    run(alloc, &mut stand, &mut script, &mut lines, out)?;
-    Ok(stand.into_record())
+    run(alloc, &mut state, &mut script, &mut lines, out)?;
+    *unheard = state.unheard();
+    Ok(state.into_record())
 }
 
 /// As `bench`, over lines of which nothing was read: behind it they stand where the run ended. That tells how far the
@@ -100,32 +114,27 @@ pub fn bench_lines<F: FaultSource + Drop, R: Read + Drop, W: Write>(
     ensures legal { IfOk result (λ r. IsLegal r.config r.history) }
     ensures headline { IfOk result (λ r. Headline r.config r.history) }
 {
-    let BenchConfig {
-        names,
-        config,
-        mut script,
-        rx_capacity,
-    } = config;
-    let mut stand = Stand::new(alloc, names, config, rx_capacity)?;
-    run(alloc, &mut stand, &mut script, lines, out)?;
-    Ok(stand.into_record())
+    let mut script = config.script;
+    let mut state = Bench::new(alloc, config.names, config.config, config.rx_capacity)?;
+    run(alloc, &mut state, &mut script, lines, out)?;
+    Ok(state.into_record())
 }
 
 /// Carries out the lines that are left.
 fn run<F: FaultSource, R: Read + Drop, W: Write>(
     alloc: Global,
-    stand: &mut Stand,
+    state: &mut Bench,
     script: &mut F,
     lines: &mut Lines<R>,
     out: &mut W,
 ) -> Result<(), BenchFault>
     requires { lines.old ≡ unread lines.old.coming }
-    ensures { Ends (λ (_ : Unit {0}) after. after ≡ stand.new) W.contents (F.verdicts script.old) lines.old.coming stand.old out.old result lines.new out.new }
+    ensures { Ends (λ (_ : Unit {0}) after. after ≡ state.new) W.contents (F.verdicts script.old) lines.old.coming state.old out.old result lines.new out.new }
 {
     let mut said = Vec::new(alloc);
     let mut number = 1;
     loop {
-        match go_on(stand, script, lines, number, &mut said, out) {
+        match go_on(state, script, lines, number, &mut said, out) {
             Ok(true) => number += 1,
             Ok(false) => return Ok(()),
             Err(fault) => return Err(fault),
@@ -135,7 +144,7 @@ fn run<F: FaultSource, R: Read + Drop, W: Write>(
 
 /// Carries out the next line, which has this number, if there is one: whether there was.
 fn go_on<F: FaultSource, R: Read + Drop, W: Write>(
-    stand: &mut Stand,
+    state: &mut Bench,
     script: &mut F,
     lines: &mut Lines<R>,
     number: u32,
@@ -143,25 +152,56 @@ fn go_on<F: FaultSource, R: Read + Drop, W: Write>(
     out: &mut W,
 ) -> Result<bool, BenchFault>
     requires { lines.old.fault ≡ None }
-    ensures on { IfOk result (λ more. MatchBool more (TakesLine lines.old lines.new × (text : List ℕ) × IsCarriedOut (F.verdicts script.old) lines.new.line stand.old text stand.new × Appends (W.contents out.old) (W.contents out.new) text) (FindsEnd lines.old lines.new × (stand.new ≡ stand.old) × (out.new ≡ out.old))) }
-    ensures stops { IfErr result (λ fault. EndsAt number fault lines.old lines.new stand.old × ((fault ≡ BenchFault.Write) ⊎ (out.new ≡ out.old))) }
+    ensures on { IfOk result (λ more. MatchBool more (TakesLine lines.old lines.new × (text : List ℕ) × IsCarriedOut (F.verdicts script.old) lines.new.line state.old text state.new × Appends (W.contents out.old) (W.contents out.new) text) (FindsEnd lines.old lines.new × (state.new ≡ state.old) × Keeps (W.contents out.old) (W.contents out.new))) }
+    ensures stops { IfErr result (λ fault. EndsAt number fault lines.old lines.new state.old × ((fault ≡ BenchFault.Write) ⊎ Keeps (W.contents out.old) (W.contents out.new))) }
     ensures keeps { F.verdicts script.new ≡ F.verdicts script.old }
     ensures within { IsWithin lines.new }
 {
-    match lines.next_line() {
-        Ok(true) => {}
-        Ok(false) => return Ok(false),
-        Err(fault) => return Err(told(fault, number)),
+    if !next_line(lines, number, out)? {
+        return Ok(false);
     }
-    match stand.take_line(script, lines.line(), said) {
+    match state.take_line(script, lines.line(), said) {
         Ok(true) => {}
         Ok(false) => return Err(BenchFault::BadLine(number)),
         Err(_) => return Err(BenchFault::NoMemory),
     }
-    if put(out, said) {
-        Ok(true)
-    } else {
-        Err(BenchFault::Write)
+    put(out, said)?;
+    Ok(true)
+}
+
+/// Goes on to the next line, which has this number, if there is one: whether there is. Before a read what was put out
+/// is flushed.
+fn next_line<R: Read + Drop, W: Write>(
+    lines: &mut Lines<R>,
+    number: u32,
+    out: &mut W,
+) -> Result<bool, BenchFault>
+    requires { lines.old.fault ≡ None }
+    ensures on { IfOk result (λ more. MatchBool more (TakesLine lines.old lines.new) (FindsEnd lines.old lines.new)) }
+    ensures stops { IfErr result (λ fault. (b : BenchState) → EndsAt number fault lines.old lines.new b) }
+    ensures keeps { result ≢ Err BenchFault.Write → Keeps (W.contents out.old) (W.contents out.new) }
+    ensures within { IsWithin lines.new }
+{
+    if lines.take_held() {
+        return Ok(true);
+    }
+    if out.flush().is_err() {
+        return Err(BenchFault::Write);
+    }
+    match lines.next_line() {
+        Ok(more) => Ok(more),
+        Err(fault) => Err(told(fault, number)),
+    }
+}
+
+/// Writes what a line puts out.
+fn put<W: Write>(out: &mut W, said: &[u8]) -> Result<(), BenchFault>
+    ensures wrote { OnOk result (Appends (W.contents out.old) (W.contents out.new) said.now) }
+    ensures fault { OnErr result (result ≡ Err BenchFault.Write) }
+{
+    match out.write_all(said) {
+        Ok(()) => Ok(()),
+        Err(_) => Err(BenchFault::Write),
     }
 }
 

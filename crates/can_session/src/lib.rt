@@ -1,39 +1,28 @@
-//! A session of the protocol over any port, and a bus as a port.
+//! The bench: one bus with up to 64 sessions, driven by the lines of an input.
 //!
-//! `Port` is what a session calls: its law is one relation of the port's state before, a call, its answer and
-//! the state after. `Session` reads pieces of a client's stream, makes the calls that the commands ask for,
-//! and writes what the client is told. Which calls, which text and which stage follow is fixed by the port's
-//! answers alone: `specs/Turns.antt` has the plan of each command. The laws say that the cuts of the stream have
-//! no say, and that all that a session writes is the text of its turns.
+//! `bench` reads the lines, carries them out one after another, and writes what each puts out. `specs/Benches.antt`
+//! says what a line does, `specs/Runs.antt` how a run ends. The sessions, and the bus as their port, are can_dialog's,
+//! and can be named through this crate too.
 #![tactic(auto)]
 
 mod attempt_lines;
 pub mod bench_run;
-pub mod bus_port;
-mod commands;
-mod deliveries;
-mod dialog;
-pub mod laws;
+mod bench_state;
+mod byte_search;
 pub mod line_law;
+mod line_prefix;
 pub mod lines;
 mod numbers;
 pub mod orders;
-mod output;
-mod places;
-pub mod port;
-pub mod session;
-mod spoken;
-pub mod stages;
-mod stand;
+mod read_buffer;
 mod starts;
 mod turns;
-mod window;
+pub mod unheard;
 
-pub use bench_run::{BenchConfig, BenchFault, bench, bench_lines};
-pub use bus_port::BusPort;
+pub use bench_run::{BenchConfig, BenchFault, bench, bench_lines, bench_noting};
+pub use can_dialog::{
+    BusPort, Dialog, Port, PortRefusal, RawSocket, Session, SessionFault, Stage, count_of,
+};
 pub use lines::{LineFault, Lines};
 pub use orders::{Order, SessionNumber, read_order};
-pub use places::count_of;
-pub use port::{Port, PortRefusal};
-pub use session::{Session, SessionFault};
-pub use stages::{Dialog, RawSocket, Stage};
+pub use unheard::Unheard;

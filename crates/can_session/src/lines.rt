@@ -2,10 +2,10 @@ ghost use Rattle.std.specs.Prelude.{◌≡◌, ◌≤◌, ◌<◌, ◌+◌, ◌�
 ghost use Rattle.std.specs.List.{list_any};
 ghost use Rattle.std.specs.Io.KnownBytes.{IsAtEnd};
 ghost use Rattle.can_session.specs.Lines.{is_lf, unread, Fails, Fills, FindsEnd, Halts, IsOver, IsWithin, Repeats, Stops, TakesLine};
-ghost use Rattle.can_session.specs.Looks.{Shows};
+ghost use Rattle.can_session.specs.inner.Looks.{Shows};
 
-use crate::places::place_of;
-use crate::window::Window;
+use crate::byte_search::place_of;
+use crate::read_buffer::ReadBuffer;
 use std::alloc::{AllocError, Global};
 use std::io::Read;
 use std::marker::Model;
@@ -33,7 +33,7 @@ pub enum LineFault {
 pub struct Lines<R: Read + Drop> {
     input: R,
     // It begins with the line that stands, and with the LF of that line if it has one.
-    window: Window,
+    buffer: ReadBuffer,
     // How many bytes the line that stands has without its LF, and with it.
     line: usize,
     width: usize,
@@ -50,9 +50,9 @@ impl<R: Read + Drop> Model for Lines<R> {
 
     ghost Value = { Input };
 
-    ghost view = { λ l. record { line = take l.line l.window; given = l.given; held = drop l.width l.window; coming = R.remaining l.input; reads = l.reads; ended = l.is_over; fault = l.fault } };
+    ghost view = { λ l. record { line = take l.line l.buffer; given = l.given; held = drop l.width l.buffer; coming = R.remaining l.input; reads = l.reads; ended = l.is_over; fault = l.fault } };
 
-    ghost invariant = { λ l. (l.line ≤ l.width) × (l.width ≤ length l.window) × IsWithin (record { line = take l.line l.window; given = l.given; held = drop l.width l.window; coming = R.remaining l.input; reads = l.reads; ended = l.is_over; fault = l.fault }) };
+    ghost invariant = { λ l. (l.line ≤ l.width) × (l.width ≤ length l.buffer) × IsWithin (record { line = take l.line l.buffer; given = l.given; held = drop l.width l.buffer; coming = R.remaining l.input; reads = l.reads; ended = l.is_over; fault = l.fault }) };
 }
 
 impl<R: Read + Drop> Lines<R> {
@@ -60,10 +60,10 @@ impl<R: Read + Drop> Lines<R> {
     pub fn new(alloc: Global, input: R) -> Result<Lines<R>, AllocError>
         ensures { IfOk result (λ l. l ≡ unread (R.remaining input)) }
     {
-        let window = Window::new(alloc)?;
+        let buffer = ReadBuffer::new(alloc)?;
         Ok(Lines {
             input,
-            window,
+            buffer,
             line: 0,
             width: 0,
             given: 0,
@@ -77,7 +77,25 @@ impl<R: Read + Drop> Lines<R> {
     pub fn line(&self) -> &[u8]
         ensures { result.now ≡ self.now.line }
     {
-        &self.window.as_slice()[..self.line]
+        &self.buffer.as_slice()[..self.line]
+    }
+
+    /// Goes on to the next line without a read, if it was read whole: whether it was.
+    pub fn take_held(&mut self) -> bool
+        ensures took { MatchBool result (TakesLine self.old self.new) (self.new ≡ self.old) }
+        ensures fine { result ≡ true → self.old.fault ≡ None }
+        ensures within { IsWithin self.new }
+    {
+        if self.fault().is_some() || self.is_over() {
+            return false;
+        }
+        match find_line(self.held(), 0) {
+            Look::Line(len) => {
+                self.give(len, len + 1);
+                true
+            }
+            Look::Long | Look::Begun => false,
+        }
     }
 
     /// Goes on to the next line, of at most 4,096 bytes, and answers whether there is one. It reads only while no
@@ -156,7 +174,7 @@ impl<R: Read + Drop> Lines<R> {
     fn held(&self) -> &[u8]
         ensures { result.now ≡ self.now.held }
     {
-        &self.window.as_slice()[self.width..]
+        &self.buffer.as_slice()[self.width..]
     }
 
     // Gives the line of so many bytes, and with its LF of so many, that stands at the front of what is held.
@@ -167,7 +185,7 @@ impl<R: Read + Drop> Lines<R> {
         ensures within { IsWithin self.new }
         ensures given { self.new ≡ record self.old { line = take line self.old.held; given = self.old.given + width; held = drop width self.old.held } }
     {
-        self.window.consume(self.width);
+        self.buffer.consume(self.width);
         self.line = line;
         self.width = width;
         self.given += width;
@@ -179,8 +197,8 @@ impl<R: Read + Drop> Lines<R> {
         ensures within { IsWithin self.new }
         ensures given { self.new ≡ record self.old { line = self.old.held; given = self.old.given + length self.old.held; held = []; ended = true } }
     {
-        self.window.consume(self.width);
-        let rest = self.window.as_slice().len();
+        self.buffer.consume(self.width);
+        let rest = self.buffer.as_slice().len();
         self.line = rest;
         self.width = rest;
         self.given += rest;
@@ -200,16 +218,16 @@ impl<R: Read + Drop> Lines<R> {
         if self.reads == LONGEST_INPUT {
             return Err(LineFault::InputTooLong);
         }
-        self.window.consume(self.width);
+        self.buffer.consume(self.width);
         self.line = 0;
         self.width = 0;
-        let held = self.window.as_slice().len();
+        let held = self.buffer.as_slice().len();
         let left = LONGEST_INPUT - self.given - held;
-        let Ok(read) = self.window.read_from(&mut self.input, left.max(1)) else {
+        let Ok(read) = self.buffer.read_from(&mut self.input, left.max(1)) else {
             return Err(LineFault::Read);
         };
         if read > left {
-            self.window.truncate(held);
+            self.buffer.truncate(held);
             return Err(LineFault::InputTooLong);
         }
         if read > 0 {

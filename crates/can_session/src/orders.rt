@@ -2,7 +2,7 @@ ghost use Rattle.std.specs.Prelude.{◌≡◌, ◌≤◌, ◌<◌, ◌^◌, ◌�
 ghost use Rattle.can_session.specs.Orders.{Effect, effect_of, order_of, asked_by, fed_by, is_remark, session_number, session_of, moment_of, parted};
 ghost use Rattle.can_proto.specs.Verbs.{is_word};
 
-use crate::places::place_of;
+use crate::byte_search::place_of;
 use can_frame::{Moment, read_decimal};
 use std::marker::Model;
 

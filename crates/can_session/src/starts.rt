@@ -3,8 +3,8 @@ ghost use Rattle.std.specs.Prelude.{◌≡◌, [], ◌⊎◌, ◌↔◌, None, E
 ghost use Rattle.can_bus.specs.Journal.{IsConfig};
 
 use crate::bench_run::BenchFault;
-use crate::session::Session;
 use can_bus::{BusConfig, BusFault, RingBus};
+use can_dialog::Session;
 use can_frame::Moment;
 use std::alloc::{AllocError, Global};
 

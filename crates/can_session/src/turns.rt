@@ -1,13 +1,13 @@
 ghost use Rattle.std.specs.Prelude.{◌≡◌, ◌++◌, [], ℕ, List, OnOk, IfOk};
-ghost use Rattle.can_session.specs.Turns.{greeting};
+ghost use Rattle.can_dialog.specs.Turns.{greeting};
 ghost use Rattle.can_session.specs.Benches.{beginning, spoken, IsFed, IsDrained, IsEnded};
+ghost use Rattle.can_session.specs.inner.Acts.{done_by};
 
-use crate::bus_port::BusPort;
+use crate::line_prefix::{begin_spoken, end_spoken};
 use crate::orders::SessionNumber;
-use crate::session::{Session, SessionFault};
-use crate::spoken::{begin_spoken, end_spoken};
 use can_arbiter::ScanArbiter;
 use can_bus::{Pending, Received};
+use can_dialog::{BusPort, Session, SessionFault};
 use can_frame::Moment;
 use can_queue::RingQueue;
 use std::alloc::{AllocError, Global};
@@ -23,6 +23,17 @@ impl From<AllocError> for NoMemory {
     fn from(_refused: AllocError) -> NoMemory {
         NoMemory
     }
+}
+
+/// What a line has a session do.
+#[derive(Clone, Copy)]
+pub enum Act<'a> {
+    /// It is fed these bytes.
+    Feed(&'a [u8]),
+    /// It is given its items until there is none.
+    Drain,
+    /// It ends.
+    End,
 }
 
 /// Starts a session with this number, and keeps what it says in its first line.
@@ -52,8 +63,29 @@ fn greeted(alloc: Global, capacity: u32, said: &mut Vec<u8>) -> Result<Session, 
     }
 }
 
+/// Has a session act, and adds what it says.
+pub fn carry_out(
+    session: &mut Session,
+    alloc: Global,
+    act: Act<'_>,
+    moment: Moment,
+    port: &mut BenchPort,
+    said: &mut Vec<u8>,
+) -> Result<(), NoMemory>
+    ensures { OnOk result ((text : List ℕ) × done_by act.entry moment session.old port.old text session.new port.new × (said.new.items ≡ said.old.items ++ text)) }
+{
+    match act {
+        Act::Feed(bytes) => feed(session, alloc, bytes, moment, port, said),
+        Act::Drain => drain(session, port, said),
+        Act::End => {
+            end(session, port);
+            Ok(())
+        }
+    }
+}
+
 /// Feeds a session a piece, and adds what it says. A session that is over hears nothing.
-pub fn feed(
+fn feed(
     session: &mut Session,
     alloc: Global,
     bytes: &[u8],
@@ -71,11 +103,7 @@ pub fn feed(
 }
 
 /// Gives a session its items until there is none, and adds what it says.
-pub fn drain(
-    session: &mut Session,
-    port: &mut BenchPort,
-    said: &mut Vec<u8>,
-) -> Result<(), NoMemory>
+fn drain(session: &mut Session, port: &mut BenchPort, said: &mut Vec<u8>) -> Result<(), NoMemory>
     ensures { OnOk result ((text : List ℕ) × IsDrained session.old port.old text session.new port.new × (said.new.items ≡ said.old.items ++ text)) }
 {
     loop {
@@ -89,7 +117,7 @@ pub fn drain(
 }
 
 /// Ends a session.
-pub fn end(session: &mut Session, port: &mut BenchPort)
+fn end(session: &mut Session, port: &mut BenchPort)
     ensures { IsEnded session.old port.old [] session.new port.new }
 {
     let _ = session.end(port);

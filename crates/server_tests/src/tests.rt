@@ -19,7 +19,7 @@ use can_frame::{Iface, IfaceSet, Moment, Names};
 use can_meter::{Gauge, MeterName, Status};
 use can_roll::RollName;
 use can_server::{Bench, Hub, PassPort};
-use can_session::Port;
+use can_dialog::Port;
 use can_station::{Blanks, Gate, Open, Pass};
 use std::alloc::Global;
 use std::process::Abort;

@@ -1,3 +1,5 @@
 mod bench;
+mod dialogue;
 mod lines;
 mod sessions;
+mod unheard;

@@ -5,7 +5,7 @@ ghost use Rattle.can_server.specs.Benches.{NamedFrom};
 
 use super::*;
 use can_bus::Refusal;
-use can_session::PortRefusal;
+use can_dialog::PortRefusal;
 use std::marker::Brand;
 
 /// A name of the second bus is one of its interfaces, and the pass is that bus's. No other bytes are a name.

@@ -4,7 +4,7 @@ ghost use Rattle.std.specs.Prelude.{◌≡◌};
 ghost use Rattle.can_server.specs.Benches.{NamedFrom};
 
 use super::*;
-use can_session::Session;
+use can_dialog::Session;
 use can_station::Station;
 use std::marker::Brand;
 use test_streams::Output;

@@ -10,13 +10,13 @@ use test_streams::{Closed, Pieces};
 
 /// A bench of a test: its names, who acknowledges, its script, and how many events it has.
 #[derive(Clone, Copy)]
-struct Made {
+pub struct Made {
     names: &'static str,
     ack: AckMode,
     limit: u32,
 }
 
-const TWO: Made = Made {
+pub const TWO: Made = Made {
     names: "can0,can1",
     ack: AckMode::Always,
     limit: 1000,
@@ -36,7 +36,7 @@ struct Ran {
     entries: usize,
 }
 
-fn config_of(alloc: Global, made: Made, script: &str) -> Result<BenchConfig<Script>, Fail> {
+pub fn config_of(alloc: Global, made: Made, script: &str) -> Result<BenchConfig<Script>, Fail> {
     let names = Names::read(alloc, made.names).map_err(|_| Fail::new("not made"))?;
     let script = Script::read(alloc, script, &names).map_err(|_| Fail::new("not made"))?;
     Ok(BenchConfig {

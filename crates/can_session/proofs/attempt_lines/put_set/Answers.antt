@@ -10,6 +10,8 @@ loop-number-preserved c =
     let at = c.in-Some.ensures.1 in
     let whole = c.args.said.now.items ++ set_text c.args.names.now c.args.set in
     elim c.if-contains.branch [
-      | then-contains+in_ok-put_member w ↦ member_kept c.args.names.now c.args.set c.loop-number.number c.in-Some.iface c.loop-number.is_first c.if-contains.is_first c.loop-number.said.items c.if-contains.said.items whole lt at (sym c.contains.ensures ∙ w.if-contains.true) w.is_first-is (ap (λ v. v.items) w.said-is ∙ w.in_ok-put_member.ensures) c.loop-number.invariant
-      | else-contains w ↦ other_kept c.args.names.now c.args.set c.loop-number.number c.in-Some.iface c.loop-number.is_first c.if-contains.is_first c.loop-number.said.items c.if-contains.said.items whole lt at (sym c.contains.ensures ∙ w.if-contains.false) w.is_first-is (ap (λ v. v.items) w.said-is) c.loop-number.invariant
+      | then-contains+in_ok-put_member w ↦ member_kept c.args.names.now c.args.set c.loop-number.number c.in-Some.iface c.loop-number.is_first c.if-contains.is_first c.loop-number.said.items
+          c.if-contains.said.items whole lt at (sym c.contains.ensures ∙ w.if-contains.true) w.is_first-is (ap (λ v. v.items) w.said-is ∙ w.in_ok-put_member.ensures) c.loop-number.invariant
+      | else-contains w ↦ other_kept c.args.names.now c.args.set c.loop-number.number c.in-Some.iface c.loop-number.is_first c.if-contains.is_first c.loop-number.said.items
+          c.if-contains.said.items whole lt at (sym c.contains.ensures ∙ w.if-contains.false) w.is_first-is (ap (λ v. v.items) w.said-is) c.loop-number.invariant
     ]

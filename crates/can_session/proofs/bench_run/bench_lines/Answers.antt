@@ -4,16 +4,16 @@ use Rattle.can_session.specs.Runs.{Ran, IsRecordOf, at_start, Ends}
 use Rattle.can_session.proofs.Running.{err_is, ends_unmade, ends_err}
 use Rattle.can_session.proofs.bench_run.bench_lines.Goals as goal
 
-pub returns-in_err-stand-clause-runs : goal.returns-in_err-stand-clause-runs
-returns-in_err-stand-clause-runs g c =
+pub returns-in_err-state-clause-runs : goal.returns-in_err-state-clause-runs
+returns-in_err-state-clause-runs g c =
     let contents = g.W.Write.contents in
     let v = g.F.FaultSource.verdicts c.args.config.script in
-    let fault = c.in_err-stand.field-0.0 in
+    let fault = c.in_err-state.field-0.0 in
     let is = err_is c.from_residual.result fault c.from_residual.ensures in
     let start = at_start c.args.config.names c.args.config.config c.args.config.rx_capacity in
     let now = c.args.lines.now in
     λ good. subst (λ r. Ends IsRecordOf contents v now.coming start c.args.out.now r now c.args.out.now) (sym is)
-    (ends_unmade IsRecordOf contents v now.coming start c.args.out.now now fault c.in_err-stand.ensures.faults (λ bad. good (is ∙ ap (λ e. Err e) bad)))
+    (ends_unmade IsRecordOf contents v now.coming start c.args.out.now now fault c.in_err-state.ensures.faults (λ bad. good (is ∙ ap (λ e. Err e) bad)))
 
 pub returns-in_err-run-clause-runs : goal.returns-in_err-run-clause-runs
 returns-in_err-run-clause-runs g c =
@@ -24,10 +24,10 @@ returns-in_err-run-clause-runs g c =
     let start = at_start c.args.config.names c.args.config.config c.args.config.rx_capacity in
     let coming = c.args.lines.now.coming in
     let now = c.run.new.lines in
-    let leaves : Unit {0} → BenchState → Type 0 = λ _ after. after ≡ c.run.new.stand in
-    let ended = ends_err leaves IsRecordOf contents v coming c.in_ok-stand.stand c.args.out.now now c.run.new.out fault c.in_err-run.ensures in
+    let leaves : Unit {0} → BenchState → Type 0 = λ _ after. after ≡ c.run.new.state in
+    let ended = ends_err leaves IsRecordOf contents v coming c.in_ok-state.state c.args.out.now now c.run.new.out fault c.in_err-run.ensures in
     λ _. subst (λ r. Ends IsRecordOf contents v coming start c.args.out.now r now c.run.new.out) (sym is)
-    (subst (λ (b : BenchState). Ends IsRecordOf contents v coming b c.args.out.now (Err fault) now c.run.new.out) c.in_ok-stand.ensures.made ended)
+    (subst (λ (b : BenchState). Ends IsRecordOf contents v coming b c.args.out.now (Err fault) now c.run.new.out) c.in_ok-state.ensures.made ended)
 
 pub returns-clause-runs : goal.returns-clause-runs
 returns-clause-runs g c =
@@ -38,6 +38,6 @@ returns-clause-runs g c =
       ran.2,
       ran.3,
       ran.4,
-      subst (λ (b : BenchState). Ran g.W.Write.contents (g.F.FaultSource.verdicts c.args.config.script) ran.0 b c.args.out.now ran.1 c.run.new.out) c.in_ok-stand.ensures.made ran.5,
+      subst (λ (b : BenchState). Ran g.W.Write.contents (g.F.FaultSource.verdicts c.args.config.script) ran.0 b c.args.out.now ran.1 c.run.new.out) c.in_ok-state.ensures.made ran.5,
       subst (λ (b : BenchState). IsRecordOf c.into_record.result b) (sym ran.6) c.into_record.ensures.record,
     )

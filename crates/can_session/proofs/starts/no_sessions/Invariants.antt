@@ -1,5 +1,5 @@
 use Rattle.std.proofs.Common.{◌≡◌, Option, None, replicate}
-use Rattle.can_session.specs.Sessions.{SessionState}
+use Rattle.can_dialog.specs.Sessions.{SessionState}
 use Rattle.can_session.proofs.starts.no_sessions.Given as goal
 
 abbrev pub invariant-loop : goal.invariant-loop

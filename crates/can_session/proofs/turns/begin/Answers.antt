@@ -1,4 +1,4 @@
-use Rattle.can_session.specs.Turns.{greeting}
+use Rattle.can_dialog.specs.Turns.{greeting}
 use Rattle.can_session.proofs.Speaking.{ends_spoken}
 use Rattle.can_session.proofs.turns.begin.Goals as goal
 

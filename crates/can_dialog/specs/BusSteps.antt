@@ -1,0 +1,58 @@
+use Rattle.std.specs.Prelude.{◌≡◌, ℕ, List, Option, Some, None, Result, Ok, Err}
+use Rattle.can_frame.specs.Names.{place_of}
+use Rattle.can_confine.specs.Confinement.{ErrorCounts, at_start}
+use Rattle.can_bus.specs.declared.events.Event.{Event}
+use Rattle.can_bus.specs.declared.events.Event.TheVariants as event
+use Rattle.can_bus.specs.declared.events.Reply.{Reply}
+use Rattle.can_bus.specs.declared.events.Reply.TheVariants as reply
+use Rattle.can_bus.specs.declared.events.Refusal.{Refusal}
+use Rattle.can_bus.specs.declared.events.Refusal.TheVariants as refusal
+use Rattle.can_bus.specs.Journal.{Journal}
+use Rattle.can_bus.specs.Answer.{Answers, done_reply}
+use Rattle.can_bus.specs.declared.stats.IfaceStats.{IfaceStats}
+use Rattle.can_bus.specs.Stats.{socket_stats_of, iface_stats_of}
+use Rattle.can_dialog.specs.declared.port.PortRefusal.{PortRefusal}
+use Rattle.can_dialog.specs.declared.port.PortRefusal.TheVariants as port
+use Rattle.can_dialog.specs.Calls.{Call}
+use Rattle.can_dialog.specs.Calls.{Reply as CallReply}
+use Rattle.can_dialog.specs.Calls.Call.{Attach, Open, Close, SetFilters, SetOption, Send, Receive, Restart, CountsOfSocket, CountsOfIface, CountersOfIface}
+
+-- A bus as a port: each call but the look-ups is one event of the bus.
+
+-- the names of the interfaces, and the bus
+pub record NamedBus : Type 0 where
+  pub names : List (List ℕ)
+  pub journal : Journal
+
+-- a bus's answer, as a port gives it
+abbrev pub passed_on : {A : Type 0} → Result A Refusal → Result A PortRefusal
+passed_on (Ok a) = Ok a
+passed_on (Err why) = Err (port.Bus why)
+
+-- the interface at a place among the names, if there is one
+abbrev pub interface_at : Option ℕ → Result ℕ PortRefusal
+interface_at None = Err (port.Bus refusal.NoInterface)
+interface_at (Some iface) = Ok iface
+
+-- the error counters among the counts of an interface: 0/0 where there is no such interface
+abbrev pub counters_in : Option IfaceStats → ErrorCounts
+counters_in None = at_start
+counters_in (Some counts) = counts.counters
+
+-- one event of the bus, answered as the bus answers it
+abbrev pub IsEvent : {A : Type 0} → (A → Reply) → NamedBus → Event → Result A PortRefusal → NamedBus → Type 0
+IsEvent {A} told old event answer new = (outcome : Result A Refusal) × (answer ≡ passed_on outcome) × Answers told old.journal event outcome new.journal × (new.names ≡ old.names)
+
+-- a call on a bus with names
+abbrev pub BusStep : NamedBus → (call : Call) → CallReply call → NamedBus → Type 0
+BusStep old (Attach name) answer new = (answer ≡ interface_at (place_of old.names name)) × (new ≡ old)
+BusStep old (Open iface capacity) answer new = IsEvent reply.Opened old (event.Open iface capacity) answer new
+BusStep old (Close socket) answer new = IsEvent reply.Closed old (event.Close socket) answer new
+BusStep old (SetFilters socket filters) answer new = IsEvent done_reply old (event.SetFilters socket filters) answer new
+BusStep old (SetOption socket option) answer new = IsEvent done_reply old (event.SetOption socket option) answer new
+BusStep old (Send socket frame) answer new = IsEvent reply.Sent old (event.Send socket frame) answer new
+BusStep old (Receive socket) answer new = IsEvent reply.Received old (event.Receive socket) answer new
+BusStep old (Restart iface moment) answer new = IsEvent done_reply old (event.Restart iface moment) answer new
+BusStep old (CountsOfSocket socket) answer new = (answer ≡ socket_stats_of old.journal.config old.journal.history socket.0) × (new ≡ old)
+BusStep old (CountsOfIface iface) answer new = (answer ≡ iface_stats_of old.journal.config old.journal.history iface) × (new ≡ old)
+BusStep old (CountersOfIface iface) answer new = (answer ≡ counters_in (iface_stats_of old.journal.config old.journal.history iface)) × (new ≡ old)

@@ -1,0 +1,7 @@
+pub mod Calls
+pub mod Plans
+pub mod Turns
+pub mod Sessions
+pub mod BusSteps
+pub mod Lives
+pub mod inner

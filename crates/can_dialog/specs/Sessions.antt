@@ -1,0 +1,78 @@
+use Rattle.std.specs.Prelude.{◌≡◌, ◌≢◌, ℕ, Bool, List, [], ◌∷◌, ◌++◌, count_by, Option}
+use Rattle.std.specs.Io.KnownBytes.{Appends}
+use Rattle.can_proto.specs.declared.messages.Incoming.{Incoming}
+use Rattle.can_proto.specs.Messages.{is_open_mark, messages_of, kept_of}
+use Rattle.can_dialog.specs.declared.stages.Stage.{Stage}
+use Rattle.can_dialog.specs.declared.stages.Stage.TheVariants.{Raw}
+use Rattle.can_dialog.specs.declared.stages.Dialog.{Dialog}
+use Rattle.can_dialog.specs.Calls.{Call, Reply}
+use Rattle.can_dialog.specs.Plans.{Plays}
+use Rattle.can_dialog.specs.Turns.{turn, ending, delivery}
+
+-- What a session says, over any port.
+
+-- what is kept between calls: the text of a message begun, and how far the session is
+pub record SessionState : Type 0 where
+  pub kept : List ℕ
+  pub dialog : Dialog
+
+-- the session is not in raw mode
+abbrev pub IsNotRaw : Stage → Type 0
+IsNotRaw (Raw raw) = ⊥
+IsNotRaw _ = Unit {0}
+
+-- the turns of items, one after another, with the places where memory was refused while a command was read
+abbrev pub Turns : {P : Type 0} → (P → (call : Call) → Reply call → P → Type 0) → ℕ → Dialog → List Bool → List Incoming → P → P → List ℕ → Dialog → Type 0
+Turns {P} step moment d [] [] p q text after = (q ≡ p) × (text ≡ []) × (after ≡ d)
+Turns {P} step moment d (forgot ∷ more) (item ∷ items) p q text after =
+    (first : List ℕ) × (mid : Dialog) × (port : P) × (others : List ℕ)
+    × Plays step (turn forgot moment d item) p port first mid × Turns step moment mid more items port q others after × (text ≡ first ++ others)
+Turns {P} step moment d _ _ p q text after = ⊥
+
+-- a writer takes a text; an empty text leaves it alone
+pub record Wrote {W : Type 0} (contents : W → Option (List ℕ)) (old : W) (text : List ℕ) (new : W) : Type 0 where
+  pub grows : Appends (contents old) (contents new) text
+  pub alone : text ≡ [] → new ≡ old
+
+-- the items are answered over the port, and the writer takes what is said
+pub record Says {P W : Type 0} (step : P → (call : Call) → Reply call → P → Type 0) (contents : W → Option (List ℕ)) (moment : ℕ) (before : Dialog) (items : List Incoming) (p q : P) (out new : W) (after : Dialog) : Type 0 where
+  pub forgotten : List Bool
+  pub text : List ℕ
+  pub turns : Turns step moment before forgotten items p q text after
+  pub wrote : Wrote contents out text new
+
+-- the items are answered over the port, what is said does not reach the client, and the session ends
+pub record Cut {P : Type 0} (step : P → (call : Call) → Reply call → P → Type 0) (moment : ℕ) (before : Dialog) (items : List Incoming) (p q : P) (after : Dialog) : Type 0 where
+  pub forgotten : List Bool
+  pub text : List ℕ
+  pub mid : Dialog
+  pub port : P
+  pub some : text ≢ []
+  pub turns : Turns step moment before forgotten items p port text mid
+  pub ends : Plays step (ending mid.stage mid) port q [] after
+
+-- one delivery over the port, and the writer takes its text; `more`: it was an item
+pub record Delivers {P W : Type 0} (step : P → (call : Call) → Reply call → P → Type 0) (contents : W → Option (List ℕ)) (stage : Stage) (p q : P) (out new : W) (more : Bool) : Type 0 where
+  pub text : List ℕ
+  pub plays : Plays step (delivery stage) p q text more
+  pub wrote : Wrote contents out text new
+
+-- one delivery over the port, whose text does not reach the client, and the session ends
+pub record DeliveryCut {P : Type 0} (step : P → (call : Call) → Reply call → P → Type 0) (before : Dialog) (p q : P) (after : Dialog) : Type 0 where
+  pub text : List ℕ
+  pub more : Bool
+  pub port : P
+  pub some : text ≢ []
+  pub plays : Plays step (delivery before.stage) p port text more
+  pub ends : Plays step (ending before.stage before) port q [] after
+
+-- pieces are fed one after another, from the text kept before
+abbrev pub Feeds : {P : Type 0} → (P → (call : Call) → Reply call → P → Type 0) → ℕ → Dialog → List ℕ → List (List ℕ) → P → P → List ℕ → Dialog → Type 0
+Feeds {P} step moment d before [] p q text after = (q ≡ p) × (text ≡ []) × (after ≡ d)
+Feeds {P} step moment d before (piece ∷ pieces) p q text after =
+    (forgotten : List Bool) × (first : List ℕ) × (mid : Dialog) × (port : P) × (others : List ℕ)
+    × Turns step moment d forgotten (messages_of (before ++ piece)) p port first mid × Feeds step moment mid (kept_of (before ++ piece)) pieces port q others after × (text ≡ first ++ others)
+
+-- how many messages a text begins
+abbrev pub begun : List ℕ → ℕ
+begun text = count_by is_open_mark text

@@ -1,0 +1,205 @@
+use Rattle.std.specs.Prelude.{ℕ, Bool, true, false, if◌then◌else◌, List, [], Option, Some, None, Result, Ok, Err}
+use Rattle.can_confine.specs.Confinement.{ErrorCounts}
+use Rattle.can_bus.specs.declared.events.SocketId.{SocketId}
+use Rattle.can_bus.specs.declared.events.Closed.{Closed}
+use Rattle.can_bus.specs.declared.events.Received.{Received}
+use Rattle.can_bus.specs.declared.events.Refusal.TheVariants as refusal
+use Rattle.can_bus.specs.declared.stats.SocketStats.{SocketStats}
+use Rattle.can_bus.specs.declared.stats.IfaceStats.{IfaceStats}
+use Rattle.can_proto.specs.declared.messages.Incoming.{Incoming}
+use Rattle.can_proto.specs.declared.messages.Incoming.TheVariants.{Message, TooLong}
+use Rattle.can_proto.specs.declared.commands.Mode.{Mode}
+use Rattle.can_proto.specs.declared.commands.Mode.TheVariants as mode
+use Rattle.can_proto.specs.declared.commands.Command.{Command}
+use Rattle.can_proto.specs.declared.commands.Command.TheVariants as command
+use Rattle.can_proto.specs.declared.faults.ProtoFault.{ProtoFault}
+use Rattle.can_proto.specs.declared.faults.ProtoFault.TheVariants as fault
+use Rattle.can_proto.specs.declared.answers.Answer.{Answer}
+use Rattle.can_proto.specs.declared.answers.Answer.TheVariants as answer
+use Rattle.can_proto.specs.declared.answers.Cause.TheVariants as cause
+use Rattle.can_proto.specs.Words.{words_of}
+use Rattle.can_proto.specs.Commands.{reading, takes_memory}
+use Rattle.can_proto.specs.Causes.{cause_of_fault}
+use Rattle.can_proto.specs.Spelling.{reply_text, item_text}
+use Rattle.can_dialog.specs.declared.port.PortRefusal.{PortRefusal}
+use Rattle.can_dialog.specs.declared.port.PortRefusal.TheVariants as port
+use Rattle.can_dialog.specs.declared.stages.Stage.{Stage}
+use Rattle.can_dialog.specs.declared.stages.Stage.TheVariants.{NoBus, Opened, Raw, Ended}
+use Rattle.can_dialog.specs.declared.stages.RawSocket.{RawSocket}
+use Rattle.can_dialog.specs.declared.stages.Dialog.{Dialog}
+use Rattle.can_dialog.specs.Calls.{cause_of_port}
+use Rattle.can_dialog.specs.Calls.Call.{Attach, Open, Close, SetFilters, SetOption, Send, Receive, Restart, CountsOfSocket, CountsOfIface, CountersOfIface}
+use Rattle.can_dialog.specs.Plans.{Plan}
+use Rattle.can_dialog.specs.Plans.Plan.{Tell, Ask}
+
+-- The turns of a session: for each command the calls that it makes, what the client is told, and what the session knows
+-- after it (the commands are those of socketcand's raw mode; filter and what follows it is own choice).
+
+-- the mode that a stage has
+abbrev pub mode_of : Stage → Mode
+mode_of NoBus = mode.NoBus
+mode_of (Opened iface) = mode.Opened
+mode_of (Raw raw) = mode.Raw
+mode_of Ended = mode.Ended
+
+-- the text of an answer, if there is one
+abbrev pub voiced : Option Answer → List ℕ
+voiced None = []
+voiced (Some a) = reply_text a
+
+-- an answer without a call
+abbrev pub tells : Answer → Dialog → Plan Dialog
+tells a d = Tell (reply_text a) d
+
+-- no answer
+abbrev pub silent : Dialog → Plan Dialog
+silent d = Tell [] d
+
+-- a refusal of the port: it is told, and nothing changes
+abbrev pub refused : PortRefusal → Dialog → Plan Dialog
+refused why d = tells (answer.Refused (cause_of_port why)) d
+
+-- a command that the stage does not have
+abbrev pub misplaced : Dialog → Plan Dialog
+misplaced d = tells (answer.Refused cause.WrongState) d
+
+-- the same session at another stage
+abbrev pub at_stage : Stage → Dialog → Dialog
+at_stage stage d = record d { stage = stage }
+
+-- after the port was asked for an interface
+abbrev pub attached : Dialog → Result ℕ PortRefusal → Plan Dialog
+attached d (Ok iface) = tells answer.Done (at_stage (Opened iface) d)
+attached d (Err why) = refused why d
+
+-- after the port was asked for a socket; the data of error message frames are not told at first
+abbrev pub entered : Dialog → ℕ → Result SocketId PortRefusal → Plan Dialog
+entered d iface (Ok socket) = tells answer.Done (at_stage (Raw (record { iface = iface; socket = socket; errdata = false })) d)
+entered d iface (Err why) = refused why d
+
+-- after a frame was sent: only a refusal is told
+abbrev pub sent : Dialog → Result ℕ PortRefusal → Plan Dialog
+sent d (Ok number) = silent d
+sent d (Err why) = refused why d
+
+-- what is told of a call that has nothing to say but that it was done
+abbrev pub told : Result (Unit {0}) PortRefusal → Answer
+told (Ok _) = answer.Done
+told (Err why) = answer.Refused (cause_of_port why)
+
+-- after such a call
+abbrev pub done : Dialog → Result (Unit {0}) PortRefusal → Plan Dialog
+done d outcome = tells (told outcome) d
+
+-- after the port was asked for an interface's counts, with those of the socket known
+abbrev pub counted : Dialog → SocketStats → Option IfaceStats → Plan Dialog
+counted d s None = refused (port.Bus refusal.NoInterface) d
+counted d s (Some i) = tells (answer.Stats s i) d
+
+-- after the port was asked for a socket's counts: without them the interface's are not asked for
+abbrev pub looked_up : Dialog → ℕ → Option SocketStats → Plan Dialog
+looked_up d iface None = refused (port.Bus refusal.NoSocket) d
+looked_up d iface (Some s) = Ask (CountsOfIface iface) (counted d s)
+
+-- the counts are asked for
+abbrev pub looking_up : Dialog → RawSocket → Plan Dialog
+looking_up d raw = Ask (CountsOfSocket raw.socket) (looked_up d raw.iface)
+
+-- after the port was asked for the interface's error counters
+abbrev pub metered : Dialog → ErrorCounts → Plan Dialog
+metered d counters = tells (answer.Status counters) d
+
+-- after the client had the socket closed: then the session is over
+abbrev pub closed : Dialog → Result Closed PortRefusal → Plan Dialog
+closed d (Ok c) = tells (answer.Closing c) (at_stage Ended d)
+closed d (Err why) = refused why d
+
+-- the client has the socket closed
+abbrev pub closing : Dialog → RawSocket → Plan Dialog
+closing d raw = Ask (Close raw.socket) (closed d)
+
+-- a command before an interface is opened
+abbrev pub doing_unopened : Dialog → Command → Plan Dialog
+doing_unopened d command.Echo = tells answer.Echo d
+doing_unopened d (command.Open name) = Ask (Attach name) (attached d)
+doing_unopened d _ = misplaced d
+
+-- a command with an interface opened
+abbrev pub doing_opened : Dialog → ℕ → Command → Plan Dialog
+doing_opened d iface command.Echo = tells answer.Echo d
+doing_opened d iface command.Rawmode = Ask (Open iface d.capacity) (entered d iface)
+doing_opened d iface _ = misplaced d
+
+-- a command in raw mode, at a moment
+abbrev pub doing_raw : ℕ → Dialog → RawSocket → Command → Plan Dialog
+doing_raw moment d raw command.Echo = tells answer.Echo d
+doing_raw moment d raw (command.Open name) = misplaced d
+doing_raw moment d raw command.Rawmode = tells answer.Done d
+doing_raw moment d raw (command.Send frame) = Ask (Send raw.socket frame) (sent d)
+doing_raw moment d raw (command.SetFilters filters) = Ask (SetFilters raw.socket filters) (done d)
+doing_raw moment d raw (command.SetOption option) = Ask (SetOption raw.socket option) (done d)
+doing_raw moment d raw (command.ErrData on) = tells answer.Done (at_stage (Raw (record raw { errdata = on })) d)
+doing_raw moment d raw command.Stats = looking_up d raw
+doing_raw moment d raw command.Status = Ask (CountersOfIface raw.iface) (metered d)
+doing_raw moment d raw command.Restart = Ask (Restart raw.iface moment) (done d)
+doing_raw moment d raw command.Close = closing d raw
+
+-- a command, by the stage of the session
+abbrev pub doing : ℕ → Dialog → Stage → Command → Plan Dialog
+doing moment d NoBus c = doing_unopened d c
+doing moment d (Opened iface) c = doing_opened d iface c
+doing moment d (Raw raw) c = doing_raw moment d raw c
+doing moment d Ended c = silent d
+
+-- what was read, where memory was refused for it: only a command that is kept on the heap is lost by that
+abbrev pub without_memory : Result Command ProtoFault → Result Command ProtoFault
+without_memory (Ok c) = if takes_memory c then Err fault.NoMemory else Ok c
+without_memory (Err e) = Err e
+
+-- what a message is read as; `forgot`: memory was refused while it was read
+abbrev pub read_as : Bool → Result Command ProtoFault → Result Command ProtoFault
+read_as false read = read
+read_as true read = without_memory read
+
+-- a fault of a message is told, and nothing is done
+abbrev pub answering : ℕ → Dialog → Result Command ProtoFault → Plan Dialog
+answering moment d (Ok c) = doing moment d d.stage c
+answering moment d (Err e) = tells (answer.Refused (cause_of_fault e)) d
+
+-- what a client said
+abbrev pub heard : Bool → ℕ → Dialog → Incoming → Plan Dialog
+heard forgot moment d TooLong = tells (answer.Refused cause.MessageTooLong) d
+heard forgot moment d (Message inside) = answering moment d (read_as forgot (reading (mode_of d.stage) (words_of inside)))
+
+-- a session that is over does nothing and says nothing
+abbrev pub unless_over : Stage → Plan Dialog → Dialog → Plan Dialog
+unless_over Ended plan d = silent d
+unless_over _ plan d = plan
+
+-- one item of the client's stream
+abbrev pub turn : Bool → ℕ → Dialog → Incoming → Plan Dialog
+turn forgot moment d item = unless_over d.stage (heard forgot moment d item) d
+
+-- after the socket of a session that ends was closed, whatever the port answered
+abbrev pub ended_by : Dialog → Result Closed PortRefusal → Plan Dialog
+ended_by d _ = silent (at_stage Ended d)
+
+-- the end of a session: a raw socket is closed
+abbrev pub ending : Stage → Dialog → Plan Dialog
+ending (Raw raw) d = Ask (Close raw.socket) (ended_by d)
+ending _ d = silent (at_stage Ended d)
+
+-- after one receive: an item is told, and there may be more
+abbrev pub delivered : Bool → Result (Option Received) PortRefusal → Plan Bool
+delivered errdata (Ok (Some r)) = Tell (item_text errdata r.item r.moment) true
+delivered errdata (Ok None) = Tell [] false
+delivered errdata (Err why) = Tell (reply_text (answer.Refused (cause_of_port why))) false
+
+-- a delivery: one receive in raw mode, and no call elsewhere
+abbrev pub delivery : Stage → Plan Bool
+delivery (Raw raw) = Ask (Receive raw.socket) (delivered raw.errdata)
+delivery _ = Tell [] false
+
+-- the first text of a session
+abbrev pub greeting : List ℕ
+greeting = reply_text answer.Greeting

@@ -1,0 +1,154 @@
+ghost use Rattle.std.specs.Prelude.{◌≡◌, length};
+ghost use Rattle.can_frame.specs.Names.{place_of};
+ghost use Rattle.can_bus.specs.Answer.{Answers, told_attempt};
+ghost use Rattle.can_bus.specs.Transmit.{tape};
+ghost use Rattle.can_bus.specs.declared.events.Event.TheVariants as event;
+ghost use Rattle.can_dialog.specs.BusSteps.{passed_on};
+
+use crate::port::{Port, PortRefusal};
+use can_arbiter::Arbiter;
+use can_bus::{
+    Bus, Closed, IfaceStats, Opt, Pending, Received, Refusal, SocketId, SocketStats, Tried,
+};
+use can_confine::Counters;
+use can_fault::Verdict;
+use can_filter::FilterSet;
+use can_frame::{Frame, Iface, Moment, Names};
+use can_queue::BoundedQueue;
+use std::alloc::Global;
+use std::marker::Model;
+
+/// A bus as a port: the bus with the names of its interfaces. Each call is one event of the bus, but for the
+/// look-ups of a name, of counts and of error counters, which are none.
+#[derive(Drop)]
+pub struct BusPort<T: BoundedQueue<Pending>, R: BoundedQueue<Received>, A: Arbiter> {
+    alloc: Global,
+    names: Names,
+    bus: Bus<T, R, A>,
+}
+
+impl<T: BoundedQueue<Pending>, R: BoundedQueue<Received>, A: Arbiter> Model for BusPort<T, R, A> {
+    ghost use Rattle.can_dialog.specs.BusSteps.{NamedBus};
+
+    ghost Value = { NamedBus };
+
+    ghost view = { λ p. record { names = p.names; journal = p.bus } };
+}
+
+impl<T: BoundedQueue<Pending>, R: BoundedQueue<Received>, A: Arbiter> BusPort<T, R, A> {
+    /// The port of a bus whose interfaces have these names, the first interface 0. Memory that calls take
+    /// is asked of `alloc`.
+    pub fn new(alloc: Global, names: Names, bus: Bus<T, R, A>) -> BusPort<T, R, A>
+        ensures { result ≡ record { names = names; journal = bus } }
+    {
+        BusPort { alloc, names, bus }
+    }
+
+    /// The names of the interfaces.
+    pub fn names(&self) -> &Names
+        ensures { result.now ≡ self.now.names }
+    {
+        &self.names
+    }
+
+    /// The bus, taken out.
+    pub fn into_bus(self) -> Bus<T, R, A>
+        ensures { result ≡ self.journal }
+    {
+        self.bus
+    }
+
+    /// The number of the next attempt that tries a frame.
+    pub fn next_attempt(&self) -> u64
+        ensures { result ≡ length (tape self.now.journal.history) }
+    {
+        self.bus.next_attempt()
+    }
+
+    /// Tries the frame that wins the bus, under these faults: `None` where no live interface has one to
+    /// send. Refusal: `RecordFull`.
+    pub fn attempt(&mut self, moment: Moment, verdict: Verdict) -> Result<Option<Tried>, Refusal>
+        ensures answer { Answers told_attempt self.old.journal (event.Attempt moment verdict) result self.new.journal }
+        ensures names { self.new.names ≡ self.old.names }
+    {
+        self.bus.attempt(moment, verdict)
+    }
+}
+
+/// A bus's answer, as a port gives it.
+fn pass_on<V>(outcome: Result<V, Refusal>) -> Result<V, PortRefusal>
+    ensures { result ≡ passed_on outcome }
+{
+    match outcome {
+        Ok(value) => Ok(value),
+        Err(refusal) => Err(PortRefusal::Bus(refusal)),
+    }
+}
+
+/// The interface with this name. Names are ASCII, so bytes that are no UTF-8 are none of them.
+fn interface_named(names: &Names, name: &[u8]) -> Option<Iface>
+    ensures { result ≡ place_of names.now name.now }
+{
+    // The proof learns here that the names are good.
+    let _ = names.count();
+    match str::from_utf8(name) {
+        Ok(name) => names.find(name),
+        Err(_) => None,
+    }
+}
+
+impl<T: BoundedQueue<Pending>, R: BoundedQueue<Received>, A: Arbiter> Port for BusPort<T, R, A> {
+    ghost use Rattle.can_dialog.specs.BusSteps.{BusStep};
+
+    ghost step = { BusStep };
+
+    fn attach(&mut self, name: &[u8]) -> Result<Iface, PortRefusal> {
+        match interface_named(&self.names, name) {
+            Some(iface) => Ok(iface),
+            None => Err(PortRefusal::Bus(Refusal::NoInterface)),
+        }
+    }
+
+    fn open(&mut self, iface: Iface, capacity: u32) -> Result<SocketId, PortRefusal> {
+        pass_on(self.bus.open(self.alloc, iface, capacity))
+    }
+
+    fn close(&mut self, socket: SocketId) -> Result<Closed, PortRefusal> {
+        pass_on(self.bus.close(socket))
+    }
+
+    fn set_filters(&mut self, socket: SocketId, filters: &FilterSet) -> Result<(), PortRefusal> {
+        pass_on(self.bus.set_filters(self.alloc, socket, filters))
+    }
+
+    fn set_option(&mut self, socket: SocketId, option: Opt) -> Result<(), PortRefusal> {
+        pass_on(self.bus.set_option(socket, option))
+    }
+
+    fn send(&mut self, socket: SocketId, frame: Frame) -> Result<u64, PortRefusal> {
+        pass_on(self.bus.send(socket, frame))
+    }
+
+    fn receive(&mut self, socket: SocketId) -> Result<Option<Received>, PortRefusal> {
+        pass_on(self.bus.receive(socket))
+    }
+
+    fn restart(&mut self, iface: Iface, moment: Moment) -> Result<(), PortRefusal> {
+        pass_on(self.bus.restart(iface, moment))
+    }
+
+    fn socket_stats(&mut self, socket: SocketId) -> Option<SocketStats> {
+        self.bus.socket_stats(socket)
+    }
+
+    fn iface_stats(&mut self, iface: Iface) -> Option<IfaceStats> {
+        self.bus.iface_stats(iface)
+    }
+
+    fn status(&mut self, iface: Iface) -> Counters {
+        match self.bus.iface_stats(iface) {
+            Some(stats) => stats.counters,
+            None => Counters::zero(),
+        }
+    }
+}

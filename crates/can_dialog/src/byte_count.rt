@@ -1,0 +1,32 @@
+ghost use Rattle.std.specs.Prelude.{◌≡◌, ◌≤◌, ◌==◌, length, count_by};
+
+/// How many bytes are counted at once: no more than a byte can count.
+const BLOCK: usize = 128;
+
+/// How many of these bytes a text has.
+#[tactic(auto, using(crate::proofs::Counts::counted_parts, crate::proofs::Counts::counted_few))]
+pub fn count_of(text: &[u8], mark: u8) -> usize
+    ensures { result ≡ count_by (λ b. b == mark) text.now }
+{
+    let mut count = 0;
+    let mut rest = text;
+    while !rest.is_empty() {
+        let (block, after) = rest.split_at(rest.len().min(BLOCK));
+        count += usize::from(count_in_block(block, mark));
+        rest = after;
+    }
+    count
+}
+
+/// The same of few bytes. No byte decides what is done, so that the compiler can count many at once.
+#[tactic(auto, using(crate::proofs::Counts::counted_more))]
+fn count_in_block(block: &[u8], mark: u8) -> u8
+    requires { length block.now ≤ 128 }
+    ensures { result ≡ count_by (λ b. b == mark) block.now }
+{
+    let mut count = 0;
+    for byte in block {
+        count += u8::from(*byte == mark);
+    }
+    count
+}

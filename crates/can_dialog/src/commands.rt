@@ -1,0 +1,148 @@
+ghost use Rattle.std.specs.Prelude.{◌≡◌, Some};
+ghost use Rattle.can_dialog.specs.Calls.{cause_of_port};
+ghost use Rattle.can_dialog.specs.Plans.{Plays};
+ghost use Rattle.can_dialog.specs.Turns.{voiced, told as told_of, looking_up, closing, doing, doing_unopened, doing_opened, doing_raw};
+
+use crate::port::{Port, PortRefusal};
+use crate::stages::{Dialog, RawSocket, Stage};
+use can_bus::Refusal;
+use can_frame::{Iface, Moment};
+use can_proto::{Answer, Cause, Command};
+
+/// What a client is told of a refusal.
+fn refused(refusal: PortRefusal) -> Option<Answer>
+    ensures { result ≡ Some (Answer.Refused (cause_of_port refusal)) }
+{
+    Some(Answer::Refused(refusal.cause()))
+}
+
+/// What a client is told of a call that has nothing to say but that it was done.
+fn told(outcome: Result<(), PortRefusal>) -> Option<Answer>
+    ensures { result ≡ Some (told_of outcome) }
+{
+    match outcome {
+        Ok(()) => Some(Answer::Done),
+        Err(refusal) => refused(refusal),
+    }
+}
+
+/// A command before an interface is opened.
+fn do_unopened<P: Port>(dialog: &mut Dialog, command: &Command, port: &mut P) -> Option<Answer>
+    ensures { Plays P.step (doing_unopened dialog.old command.now) port.old port.new (voiced result) dialog.new }
+{
+    match command {
+        Command::Echo => Some(Answer::Echo),
+        Command::Open(name) => match port.attach(name.bytes()) {
+            Ok(iface) => {
+                dialog.stage = Stage::Opened(iface);
+                Some(Answer::Done)
+            }
+            Err(refusal) => refused(refusal),
+        },
+        _ => Some(Answer::Refused(Cause::WrongState)),
+    }
+}
+
+/// A command with an interface opened.
+fn do_opened<P: Port>(
+    dialog: &mut Dialog,
+    iface: Iface,
+    command: &Command,
+    port: &mut P,
+) -> Option<Answer>
+    ensures { Plays P.step (doing_opened dialog.old iface command.now) port.old port.new (voiced result) dialog.new }
+{
+    match command {
+        Command::Echo => Some(Answer::Echo),
+        Command::Rawmode => match port.open(iface, dialog.capacity) {
+            Ok(socket) => {
+                dialog.stage = Stage::Raw(RawSocket {
+                    iface,
+                    socket,
+                    errdata: false,
+                });
+                Some(Answer::Done)
+            }
+            Err(refusal) => refused(refusal),
+        },
+        _ => Some(Answer::Refused(Cause::WrongState)),
+    }
+}
+
+/// The counts of the socket and of its interface.
+fn look_up<P: Port>(dialog: Dialog, raw: RawSocket, port: &mut P) -> Option<Answer>
+    ensures { Plays P.step (looking_up dialog raw) port.old port.new (voiced result) dialog }
+{
+    let Some(socket) = port.socket_stats(raw.socket) else {
+        return refused(PortRefusal::Bus(Refusal::NoSocket));
+    };
+    match port.iface_stats(raw.iface) {
+        Some(iface) => Some(Answer::Stats(socket, iface)),
+        None => refused(PortRefusal::Bus(Refusal::NoInterface)),
+    }
+}
+
+/// The socket is closed, and the session is over.
+fn close<P: Port>(dialog: &mut Dialog, raw: RawSocket, port: &mut P) -> Option<Answer>
+    ensures { Plays P.step (closing dialog.old raw) port.old port.new (voiced result) dialog.new }
+{
+    match port.close(raw.socket) {
+        Ok(closed) => {
+            dialog.stage = Stage::Ended;
+            Some(Answer::Closing(closed))
+        }
+        Err(refusal) => refused(refusal),
+    }
+}
+
+/// A command in raw mode.
+fn do_raw<P: Port>(
+    dialog: &mut Dialog,
+    raw: RawSocket,
+    command: &Command,
+    moment: Moment,
+    port: &mut P,
+) -> Option<Answer>
+    ensures { Plays P.step (doing_raw moment dialog.old raw command.now) port.old port.new (voiced result) dialog.new }
+{
+    match command {
+        Command::Echo => Some(Answer::Echo),
+        Command::Open(_) => Some(Answer::Refused(Cause::WrongState)),
+        Command::Rawmode => Some(Answer::Done),
+        Command::Send(frame) => match port.send(raw.socket, *frame) {
+            Ok(_) => None,
+            Err(refusal) => refused(refusal),
+        },
+        Command::SetFilters(filters) => told(port.set_filters(raw.socket, filters)),
+        Command::SetOption(option) => told(port.set_option(raw.socket, *option)),
+        Command::ErrData(on) => {
+            dialog.stage = Stage::Raw(RawSocket {
+                errdata: *on,
+                ..raw
+            });
+            Some(Answer::Done)
+        }
+        Command::Stats => look_up(*dialog, raw, port),
+        Command::Status => Some(Answer::Status(port.status(raw.iface))),
+        Command::Restart => told(port.restart(raw.iface, moment)),
+        Command::Close => close(dialog, raw, port),
+    }
+}
+
+/// Carries out a command: what the client is told, if anything.
+pub fn carry_out<P: Port>(
+    dialog: &mut Dialog,
+    command: &Command,
+    moment: Moment,
+    port: &mut P,
+) -> Option<Answer>
+    ensures { Plays P.step (doing moment dialog.old dialog.old.stage command.now) port.old port.new (voiced result) dialog.new }
+{
+    let stage = dialog.stage;
+    match &stage {
+        Stage::NoBus => do_unopened(dialog, command, port),
+        Stage::Opened(iface) => do_opened(dialog, *iface, command, port),
+        Stage::Raw(raw) => do_raw(dialog, *raw, command, moment, port),
+        Stage::Ended => None,
+    }
+}

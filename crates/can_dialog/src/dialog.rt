@@ -1,0 +1,44 @@
+ghost use Rattle.std.specs.Prelude.{◌≡◌, Bool, []};
+ghost use Rattle.can_dialog.specs.Plans.{Plays};
+ghost use Rattle.can_dialog.specs.Turns.{voiced, turn, ending};
+
+use crate::commands::carry_out;
+use crate::port::Port;
+use crate::stages::{Dialog, Stage};
+use can_frame::Moment;
+use can_proto::{Answer, Cause, Command, Incoming};
+use std::alloc::Global;
+
+/// One item of the client's stream: what the client is told, if anything.
+pub fn take_turn<P: Port>(
+    dialog: &mut Dialog,
+    alloc: Global,
+    item: &Incoming,
+    moment: Moment,
+    port: &mut P,
+) -> Option<Answer>
+    ensures { (forgot : Bool) × Plays P.step (turn forgot moment dialog.old item.now) port.old port.new (voiced result) dialog.new }
+{
+    if let Stage::Ended = dialog.stage {
+        return None;
+    }
+    match item {
+        Incoming::TooLong => Some(Answer::Refused(Cause::MessageTooLong)),
+        Incoming::Message(message) => {
+            match Command::read(alloc, dialog.stage.mode(), message) {
+                Ok(command) => carry_out(dialog, &command, moment, port),
+                Err(fault) => Some(Answer::Refused(Cause::from(fault))),
+            }
+        }
+    }
+}
+
+/// The end of a session: a raw socket is closed, whatever the port answers.
+pub fn finish<P: Port>(dialog: &mut Dialog, port: &mut P)
+    ensures { Plays P.step (ending dialog.old.stage dialog.old) port.old port.new [] dialog.new }
+{
+    if let Stage::Raw(raw) = dialog.stage {
+        let _ = port.close(raw.socket);
+    }
+    dialog.stage = Stage::Ended;
+}

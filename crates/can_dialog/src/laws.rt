@@ -1,0 +1,29 @@
+ghost use Rattle.std.specs.Prelude.{◌≡◌, ◌↔◌, ℕ, Bool, List, [], flat_map};
+ghost use Rattle.can_proto.specs.Messages.{messages_of};
+ghost use Rattle.can_dialog.specs.declared.stages.Dialog.{Dialog};
+ghost use Rattle.can_dialog.specs.Sessions.{Turns, Feeds};
+ghost use Rattle.can_dialog.specs.Lives.{Act, Lives, IsCalled, turns_of, heard_in};
+
+use crate::port::Port;
+use can_proto::laws::every_cut_gives_the_same_messages;
+
+// What holds of sessions over every port. The clause is the law.
+
+/// What a session says and does for a stream of bytes does not depend on where the stream was cut into
+/// pieces: pieces fed one after another can lead a port and a session somewhere, with some text, exactly
+/// where the whole stream fed at once can.
+pub fn every_cut_says_the_same<P: Port>()
+    ensures { (moment : ℕ) (before after : Dialog) (pieces : List (List ℕ)) (p q : P) (text : List ℕ) → Feeds P.step moment before [] pieces p q text after ↔ ((forgotten : List Bool) × Turns P.step moment before forgotten (messages_of (flat_map (λ piece. piece) pieces)) p q text after) }
+{
+    every_cut_gives_the_same_messages();
+}
+
+/// All that a session writes is the text of its turns, one after another, over what the port answers. The
+/// turns are those of the calls made, and what is heard in them is what the whole stream gives, however its
+/// bytes were cut into pieces.
+pub fn calls_come_to_turns<P: Port>()
+    ensures texts { (before after : Dialog) (calls : List (Act (List ℕ))) (p q : P) (text : List ℕ) → IsCalled P.step before [] calls p q text after → (forgotten : List Bool) × Lives P.step before forgotten (turns_of [] calls) p q text after }
+    ensures heard { (calls : List (Act (List ℕ))) → heard_in (turns_of [] calls) ≡ messages_of (flat_map (λ piece. piece) (heard_in calls)) }
+{
+    every_cut_gives_the_same_messages();
+}

@@ -1,0 +1,25 @@
+//! Sessions of the protocol over any port, and a bus as a port.
+//!
+//! `Port` is what a session calls: its law is one relation of the port's state before, a call, its answer and
+//! the state after. `Session` reads pieces of a client's stream, makes the calls that the commands ask for,
+//! and writes what the client is told. Which calls, which text and which stage follow is fixed by the port's
+//! answers alone: `specs/Turns.antt` has the plan of each command. The laws say that the cuts of the stream have
+//! no say, and that all that a session writes is the text of its turns.
+#![tactic(auto)]
+
+pub mod bus_port;
+mod byte_count;
+mod commands;
+mod deliveries;
+mod dialog;
+pub mod laws;
+mod output;
+pub mod port;
+pub mod session;
+pub mod stages;
+
+pub use bus_port::BusPort;
+pub use byte_count::count_of;
+pub use port::{Port, PortRefusal};
+pub use session::{Session, SessionFault};
+pub use stages::{Dialog, RawSocket, Stage};

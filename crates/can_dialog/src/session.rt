@@ -1,0 +1,210 @@
+ghost use Rattle.std.specs.Prelude.{◌≡◌, ◌≢◌, ◌⊎◌, ◌+◌, ◌*◌, ◌≤◌, ◌++◌, ◌↔◌, [], List, Bool, true, false, length, vec_capacity, IfOk, OnOk, OnErr};
+ghost use Rattle.can_proto.specs.Messages.{messages_of, kept_of};
+ghost use Rattle.can_dialog.specs.Plans.{Plays};
+ghost use Rattle.can_dialog.specs.Turns.{ending, delivery, greeting};
+ghost use Rattle.can_dialog.specs.Sessions.{IsNotRaw, Turns, Says, Cut, Wrote, Delivers, DeliveryCut};
+
+use crate::deliveries::take_delivery;
+use crate::dialog::{finish, take_turn};
+use crate::output::{make_room, put, say};
+use crate::port::Port;
+use crate::stages::{Dialog, Stage};
+use can_frame::Moment;
+use can_proto::{Answer, Incoming, Reader, reply_text};
+use std::alloc::{AllocError, Global};
+use std::io::Write;
+use std::marker::Model;
+use thiserror::Error;
+
+/// Why a call of a session was not done as a whole.
+#[derive(Debug, Clone, Copy, PartialEq, Eq, Error)]
+pub enum SessionFault {
+    /// The session is over. Nothing was done.
+    #[error("session ended")]
+    Ended,
+    /// Memory was refused. Nothing was taken.
+    #[error("no memory")]
+    NoMemory,
+    /// The writer failed. A raw socket was closed, and the session is over.
+    #[error("write fault")]
+    Write,
+}
+
+/// A session over any port: it reads a client's stream in pieces, and writes what the client is told.
+///
+/// Between calls it keeps the text of a message begun, the capacity of its socket and its stage. Each text
+/// that a call writes goes to the writer in one `write_all`.
+#[derive(Drop)]
+pub struct Session {
+    reader: Reader,
+    dialog: Dialog,
+    said: Vec<u8>,
+}
+
+impl Model for Session {
+    ghost use Rattle.std.specs.Prelude.{◌≤◌};
+    ghost use Rattle.can_dialog.specs.Sessions.{SessionState, begun};
+
+    ghost Value = { SessionState };
+
+    ghost view = { λ s. record { kept = s.reader; dialog = s.dialog } };
+
+    ghost invariant = { λ s. begun s.reader ≤ 1 };
+}
+
+/// The turns of items in order: what is told is added to `said`, where there is room for it.
+fn take_turns<P: Port>(
+    dialog: &mut Dialog,
+    alloc: Global,
+    items: &[Incoming],
+    moment: Moment,
+    port: &mut P,
+    said: &mut Vec<u8>,
+)
+    requires empty { said.old.items ≡ [] }
+    requires room { length items.now * 256 ≤ vec_capacity said.old }
+    ensures { (forgotten : List Bool) × Turns P.step moment dialog.old forgotten items.now port.old port.new said.new.items dialog.new }
+{
+    for item in items {
+        if let Some(answer) = take_turn(dialog, alloc, item, moment, port) {
+            say(said, answer);
+        }
+    }
+}
+
+impl Session {
+    /// A session that has just begun, whose socket is to hold `capacity` items. It takes the room for its
+    /// reader.
+    pub fn new(alloc: Global, capacity: u32) -> Result<Session, AllocError>
+        ensures { IfOk result (λ s. s ≡ record { kept = []; dialog = record { capacity = capacity; stage = Stage.NoBus } }) }
+    {
+        Ok(Session {
+            reader: Reader::new(alloc)?,
+            dialog: Dialog {
+                capacity,
+                stage: Stage::NoBus,
+            },
+            said: Vec::new(alloc),
+        })
+    }
+
+    /// How far the session has come.
+    pub fn stage(&self) -> Stage
+        ensures { result ≡ self.now.dialog.stage }
+    {
+        self.dialog.stage
+    }
+
+    /// Writes the first text of a session. Not to be called in raw mode, where a frame may have been
+    /// written before.
+    ///
+    /// Refusals: `Ended`, `Write`.
+    pub fn greet<W: Write>(&mut self, out: &mut W) -> Result<(), SessionFault>
+        requires { IsNotRaw self.old.dialog.stage }
+        ensures said { OnOk result (Wrote W.contents out.old greeting out.new × (self.new ≡ self.old)) }
+        ensures ended { (result ≡ Err SessionFault.Ended) ↔ (self.old.dialog.stage ≡ Stage.Ended) }
+        ensures nothing { result ≡ Err SessionFault.Ended → (self.new ≡ self.old) × (out.new ≡ out.old) }
+        ensures memory { result ≢ Err SessionFault.NoMemory }
+        ensures cut { result ≡ Err SessionFault.Write → self.new ≡ record self.old { dialog = record self.old.dialog { stage = Stage.Ended } } }
+    {
+        if let Stage::Ended = self.dialog.stage {
+            return Err(SessionFault::Ended);
+        }
+        let text = reply_text(Answer::Greeting);
+        if !put(out, text.as_bytes()) {
+            self.dialog.stage = Stage::Ended;
+            return Err(SessionFault::Write);
+        }
+        Ok(())
+    }
+
+    /// Takes the next piece of the client's stream: carries out the messages that it ends, in order, and
+    /// writes what the client is told of all of them in one `write_all`, or nothing where there is no text.
+    /// A restart happens at `moment`.
+    ///
+    /// Refusals, in this order: `Ended`; `NoMemory`, before anything of the piece was taken; `Write`, after
+    /// the messages of the piece were carried out. Where memory is refused while a command is read or by the
+    /// port, the client is told so and the piece goes on.
+    ///
+    /// The time grows with the piece. It takes 256 bytes for each `<` of the piece and 256 more, and keeps
+    /// this room for the next call.
+    pub fn feed<P: Port, W: Write>(
+        &mut self,
+        alloc: Global,
+        piece: &[u8],
+        moment: Moment,
+        port: &mut P,
+        out: &mut W,
+    ) -> Result<(), SessionFault>
+        ensures said { OnOk result (Says P.step W.contents moment self.old.dialog (messages_of (self.old.kept ++ piece.now)) port.old port.new out.old out.new self.new.dialog) }
+        ensures keeps { OnOk result (self.new.kept ≡ kept_of (self.old.kept ++ piece.now)) }
+        ensures ended { (result ≡ Err SessionFault.Ended) ↔ (self.old.dialog.stage ≡ Stage.Ended) }
+        ensures nothing { (result ≡ Err SessionFault.Ended) ⊎ (result ≡ Err SessionFault.NoMemory) → (self.new ≡ self.old) × (port.new ≡ port.old) × (out.new ≡ out.old) }
+        ensures cut { result ≡ Err SessionFault.Write → Cut P.step moment self.old.dialog (messages_of (self.old.kept ++ piece.now)) port.old port.new self.new.dialog }
+    {
+        if let Stage::Ended = self.dialog.stage {
+            return Err(SessionFault::Ended);
+        }
+        if make_room(&mut self.said, piece).is_err() {
+            return Err(SessionFault::NoMemory);
+        }
+        let Ok(items) = self.reader.feed(alloc, piece) else {
+            return Err(SessionFault::NoMemory);
+        };
+        take_turns(
+            &mut self.dialog,
+            alloc,
+            &items,
+            moment,
+            port,
+            &mut self.said,
+        );
+        if !put(out, &self.said) {
+            finish(&mut self.dialog, port);
+            return Err(SessionFault::Write);
+        }
+        Ok(())
+    }
+
+    /// Takes one item from the socket and writes its text: whether there was one. Outside raw mode there is
+    /// none, and no call is made. A refusal of the port is told to the client, and is no item. No memory is
+    /// taken but what the port and the writer take.
+    ///
+    /// Refusals: `Ended`; `Write`, where the item is lost.
+    pub fn deliver<P: Port, W: Write>(
+        &mut self,
+        port: &mut P,
+        out: &mut W,
+    ) -> Result<bool, SessionFault>
+        ensures said { IfOk result (λ more. Delivers P.step W.contents self.old.dialog.stage port.old port.new out.old out.new more × (self.new ≡ self.old)) }
+        ensures ended { (result ≡ Err SessionFault.Ended) ↔ (self.old.dialog.stage ≡ Stage.Ended) }
+        ensures nothing { result ≡ Err SessionFault.Ended → (self.new ≡ self.old) × (port.new ≡ port.old) × (out.new ≡ out.old) }
+        ensures memory { result ≢ Err SessionFault.NoMemory }
+        ensures cut { result ≡ Err SessionFault.Write → DeliveryCut P.step self.old.dialog port.old port.new self.new.dialog × (self.new.kept ≡ self.old.kept) }
+    {
+        if let Stage::Ended = self.dialog.stage {
+            return Err(SessionFault::Ended);
+        }
+        let delivery = take_delivery(self.dialog.stage, port);
+        if !delivery.write(out) {
+            finish(&mut self.dialog, port);
+            return Err(SessionFault::Write);
+        }
+        Ok(delivery.is_item())
+    }
+
+    /// Ends the session: a raw socket is closed, and where the port refuses that, the session is over all
+    /// the same. Refusal: `Ended`.
+    pub fn end<P: Port>(&mut self, port: &mut P) -> Result<(), SessionFault>
+        ensures done { OnOk result (Plays P.step (ending self.old.dialog.stage self.old.dialog) port.old port.new [] self.new.dialog × (self.new.kept ≡ self.old.kept)) }
+        ensures ended { (result ≡ Err SessionFault.Ended) ↔ (self.old.dialog.stage ≡ Stage.Ended) }
+        ensures nothing { result ≡ Err SessionFault.Ended → (self.new ≡ self.old) × (port.new ≡ port.old) }
+        ensures faults { OnErr result (result ≡ Err SessionFault.Ended) }
+    {
+        if let Stage::Ended = self.dialog.stage {
+            return Err(SessionFault::Ended);
+        }
+        finish(&mut self.dialog, port);
+        Ok(())
+    }
+}

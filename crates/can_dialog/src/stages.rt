@@ -1,0 +1,49 @@
+ghost use Rattle.std.specs.Prelude.{◌≡◌};
+ghost use Rattle.can_dialog.specs.Turns.{mode_of};
+
+use can_bus::SocketId;
+use can_frame::Iface;
+use can_proto::Mode;
+
+/// The socket of a session in raw mode, its interface, and whether the data of error message frames are
+/// told.
+#[derive(Debug, Clone, Copy, PartialEq, Eq)]
+pub struct RawSocket {
+    pub iface: Iface,
+    pub socket: SocketId,
+    pub errdata: bool,
+}
+
+/// How far a session has come, with what it has there.
+#[derive(Debug, Clone, Copy, PartialEq, Eq)]
+pub enum Stage {
+    /// No interface is opened.
+    NoBus,
+    /// This interface is opened, no socket on it.
+    Opened(Iface),
+    /// A socket is open.
+    Raw(RawSocket),
+    /// The session is over.
+    Ended,
+}
+
+impl Stage {
+    /// The mode that decides which commands may stand.
+    pub fn mode(self) -> Mode
+        ensures { result ≡ mode_of self }
+    {
+        match self {
+            Stage::NoBus => Mode::NoBus,
+            Stage::Opened(_) => Mode::Opened,
+            Stage::Raw(_) => Mode::Raw,
+            Stage::Ended => Mode::Ended,
+        }
+    }
+}
+
+/// What a session knows between its turns: the capacity of the socket that it is to open, and its stage.
+#[derive(Debug, Clone, Copy, PartialEq, Eq)]
+pub struct Dialog {
+    pub capacity: u32,
+    pub stage: Stage,
+}

@@ -1,0 +1,11 @@
+use Rattle.std.specs.Prelude.{◌≡◌, ℕ, List, ◌++◌, length, Option}
+use Rattle.std.specs.Io.KnownBytes.{Consumes}
+
+-- What one read does to the bytes that a buffer holds (own choice).
+
+-- so many bytes, of those that the reader had left, stand behind the bytes that were held
+pub record Gains (old new : List ℕ) (before after : Option (List ℕ)) (count : ℕ) : Type 0 where
+  pub bytes : List ℕ
+  pub counted : length bytes ≡ count
+  pub behind : new ≡ old ++ bytes
+  pub taken : Consumes before after bytes

@@ -1,0 +1,11 @@
+ghost use Rattle.std.specs.Prelude.{◌≡◌, ◌<◌, ◌==◌, length, position, IfSome};
+
+use memchr::memchr;
+
+/// Where the first of these bytes stands in a text, if one does.
+pub fn place_of(text: &[u8], mark: u8) -> Option<usize>
+    ensures place { result ≡ position (λ b. b == mark) text.now }
+    ensures within { IfSome result (λ n. n < length text.now) }
+{
+    memchr(mark, text)
+}

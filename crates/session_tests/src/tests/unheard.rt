@@ -1,0 +1,26 @@
+use crate::tests::bench::{TWO, config_of};
+use can_session::{SessionNumber, Unheard, bench_noting};
+use std::process::Abort;
+use std::test::Fail;
+
+const FED: &str =
+    "session 1\nsession 2\nsession 3\nfeed 1 < echo\nfeed 2 echo >\nfeed 3 < echo > < ec\nfeed 3 ho >\n";
+
+#[test]
+fn what_is_in_no_message_is_noted(rt: HostRuntime) -> Result<(), Fail> {
+    let alloc = rt.alloc();
+    let mut output = Vec::new(alloc);
+    let mut unheard = Unheard::none();
+    let config = config_of(alloc, TWO, "")?;
+    let ended = bench_noting(alloc, config, FED.as_bytes(), &mut output, &mut unheard);
+    assert!(rt; ended.is_ok());
+    // Whether a message was begun and not ended, and whether bytes stood outside messages.
+    for (number, wanted) in [(1, (true, false)), (2, (false, true)), (3, (false, false))] {
+        let noted = SessionNumber::new(number).map(|session| (
+            unheard.has_begun(session),
+            unheard.has_outside(session),
+        ));
+        assert!(rt; noted == Some(wanted));
+    }
+    Ok(())
+}
