@@ -1,9 +1,11 @@
 ghost use Rattle.std.specs.Prelude.{◌≡◌, ◌≤◌};
 
-use can_jobs::{
-    Failure, Fault, Job, OUTPUT, ServerRuntime, audit_file, read_options, run_bench, run_serve,
-    write_failure,
-};
+use canbusd_audit::audit_file;
+use canbusd_bench::run_bench;
+use canbusd_faults::{Failure, Fault};
+use canbusd_files::{OUTPUT, write_failure};
+use canbusd_options::{Job, read_options};
+use canbusd_serve::{ServerRuntime, run_serve};
 use clap::error::ErrorKind;
 use std::alloc::Global;
 use std::io::{BufWriter, Read, Write};

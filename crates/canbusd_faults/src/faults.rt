@@ -1,0 +1,119 @@
+ghost use Rattle.std.specs.Prelude.{◌≡◌, IfErr, IsTrue, false};
+
+use can_audit::{AuditFault, ReadFault};
+use can_bus::BusFault;
+use can_fault::ScriptError;
+use can_session::BenchFault;
+use std::alloc::{AllocError, Global};
+use std::io::Write;
+use thiserror::Error;
+
+/// Why a command line was not carried out, in the words that the program prints.
+#[derive(Debug, Clone, Copy, PartialEq, Eq, Error)]
+pub enum Fault<'a> {
+    /// The names are none that the interfaces of a bus may have.
+    #[error("bad bus")]
+    BadNames,
+    /// The path of a file.
+    #[error("cannot open {0}")]
+    CannotOpen(&'a str),
+    /// A file cannot be read, or is no UTF-8 text.
+    #[error("read fault")]
+    Read,
+    #[error("{0}")]
+    Script(ScriptError),
+    #[error("{0}")]
+    Bench(BenchFault),
+    /// No server can have these buses.
+    #[error("{0}")]
+    Buses(BusFault),
+    #[error("cannot listen")]
+    CannotListen,
+    /// The first name of a bus to which a pass of another came back.
+    #[error("bus {0}: wrong station")]
+    WrongStation(&'a str),
+    /// The log of the bus with this first name has so many whole lines, and no more could be written.
+    #[error("log of {name}: {whole_lines} whole lines")]
+    Log { name: &'a str, whole_lines: u64 },
+    #[error("{0}")]
+    Record(ReadFault),
+    #[error("{0}")]
+    Audit(AuditFault),
+    #[error("write fault")]
+    Write,
+    #[error("no memory")]
+    NoMemory,
+}
+
+/// A fault with the lines that are told behind its text.
+#[derive(Drop)]
+pub struct Failure<'a> {
+    pub fault: Fault<'a>,
+    pub notes: String,
+}
+
+impl<'a> Failure<'a> {
+    /// A fault alone.
+    pub fn new(alloc: Global, fault: Fault<'a>) -> Failure<'a>
+        ensures { result.fault ≡ fault.entry }
+    {
+        Failure {
+            fault,
+            notes: String::new(alloc),
+        }
+    }
+
+    /// A fault with notes, or alone where there was no memory for them.
+    pub fn with(alloc: Global, fault: Fault<'a>, notes: Result<String, AllocError>) -> Failure<'a>
+        ensures { result.fault ≡ fault.entry }
+    {
+        match notes {
+            Ok(notes) => Failure { fault, notes },
+            Err(_) => Failure::new(alloc, fault),
+        }
+    }
+
+    /// Writes `canbusd: TEXT` and the notes.
+    pub fn tell<E: Write>(&self, errors: &mut E) {
+        let fault = self.fault;
+        let _ = writeln!(errors, "canbusd: {fault}");
+        let _ = errors.write_all(self.notes.as_bytes());
+    }
+}
+
+/// Where faults are told that end a part of a job alone.
+#[derive(Drop)]
+pub struct Telling<'e, E: Write> {
+    errors: &'e mut E,
+    has_told: bool,
+}
+
+impl<'e, E: Write> Telling<'e, E> {
+    /// Nothing was told yet.
+    pub fn new(errors: &'e mut E) -> Telling<'e, E>
+        ensures { result.has_told ≡ false }
+    {
+        Telling {
+            errors,
+            has_told: false,
+        }
+    }
+
+    /// Tells why a part of a job was not done, where it was not.
+    pub fn pass_on(&mut self, outcome: Result<(), Failure<'_>>)
+        ensures kept { IsTrue self.old.has_told → IsTrue self.new.has_told }
+        ensures told { IfErr outcome.entry (λ _. IsTrue self.new.has_told) }
+    {
+        if let Err(failure) = outcome {
+            failure.tell(self.errors);
+            self.has_told = true;
+        }
+    }
+
+    /// Whether a fault was told.
+    pub fn has_told(&self) -> bool
+        ensures { result ≡ self.now.has_told }
+    {
+        self.has_told
+    }
+}
