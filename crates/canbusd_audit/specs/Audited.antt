@@ -4,7 +4,7 @@ use Rattle.can_bus.specs.declared.events.BusConfig.{BusConfig}
 use Rattle.can_bus.specs.declared.events.Entry.{Entry}
 use Rattle.can_bus.specs.Legal.{IsLegal}
 use Rattle.can_audit.specs.RecordFaults.{IsTextOf, Reads}
-use Rattle.can_audit.specs.Audits.{Blames}
+use Rattle.can_audit.specs.Audits.{IsFirstWrong}
 use Rattle.canbusd_faults.specs.declared.faults.Fault.{Fault}
 use Rattle.canbusd_faults.specs.declared.faults.Fault.TheVariants as fault
 
@@ -22,10 +22,11 @@ pub record IsAudited (text : List ℕ) (old new : Option (List ℕ)) : Type 0 wh
   pub legal : IsLegal config (reverse entries)
   pub wrote : Appends old new (entries_line (length entries))
 
--- what a fault says of a record's entries: what the audit says of them, or nothing where it is the writer's
+-- what a fault says of a record's entries: the first wrong one is told; of the writer and of memory it says nothing
 abbrev pub SaysOf : BusConfig → List Entry → Fault → Type 0
-SaysOf c entries (fault.Audit why) = Blames c entries why
+SaysOf c entries (fault.WrongEntry k) = IsFirstWrong c entries k
 SaysOf c entries fault.Write = Unit {0}
+SaysOf c entries fault.NoMemory = Unit {0}
 SaysOf c entries _ = ⊥
 
 -- the text is a record's, and a fault says this of its entries
@@ -38,4 +39,5 @@ pub record IsBlamed (text : List ℕ) (why : Fault) : Type 0 where
 -- what a fault says of a text: it is no record's, or a record's that is wrong
 abbrev pub Faults : List ℕ → Fault → Type 0
 Faults text (fault.Record why) = Reads text (Err why)
+Faults text fault.NoMemory = Unit {0}
 Faults text why = IsBlamed text why

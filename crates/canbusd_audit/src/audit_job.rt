@@ -85,8 +85,8 @@ fn audit_failure<'a>(alloc: Global, path: &str, record: &Record, why: AuditFault
     match why {
         AuditFault::Wrong { entry, legal } => {
             let note = wrong_note(alloc, path, record, entry, legal);
-            Failure::with(alloc, Fault::Audit(why), note)
+            Failure::with(alloc, Fault::WrongEntry(entry), note)
         }
-        AuditFault::NoMemory => Failure::new(alloc, Fault::Audit(why)),
+        AuditFault::NoMemory => Failure::new(alloc, Fault::NoMemory),
     }
 }

@@ -1,6 +1,6 @@
 ghost use Rattle.std.specs.Prelude.{◌≡◌, IfErr, IsTrue, false};
 
-use can_audit::{AuditFault, ReadFault};
+use can_audit::ReadFault;
 use can_bus::BusFault;
 use can_fault::ScriptError;
 use can_session::BenchFault;
@@ -37,8 +37,9 @@ pub enum Fault<'a> {
     Log { name: &'a str, whole_lines: u64 },
     #[error("{0}")]
     Record(ReadFault),
-    #[error("{0}")]
-    Audit(AuditFault),
+    /// The first entry of a record that is no legal history, counted from 0.
+    #[error("entry {0}: wrong")]
+    WrongEntry(usize),
     #[error("write fault")]
     Write,
     #[error("no memory")]
