@@ -2,14 +2,15 @@
 //!
 //! `canbusd bench BUS` reads lines that open sessions, feed them commands and put frames on one bus, and
 //! writes what the sessions are told; `canbusd serve BUS..` serves clients over sockets; `canbusd audit FILE` checks the
-//! record of such a run. `program` carries out a command line and answers its status; the jobs are can_jobs'.
+//! record of such a run. `program` carries out a command line and answers its status; its words are canbusd_options', its jobs
+//! canbusd_bench's, canbusd_serve's and canbusd_audit's.
 //!
 //! What is proved here: no command line, file or input makes a function fail, and none but `serve` waits for others.
 #![tactic(auto)]
 
 mod program;
 
-use can_jobs::{Failure, Fault};
+use canbusd_faults::{Failure, Fault};
 use program::{fail, run_words};
 use std::io::ErrorKind;
 use std::net::{TcpListener, TcpStream};

@@ -1,9 +1,15 @@
-ghost use Rattle.std.specs.Prelude.{◌≡◌, ◌≤◌};
+ghost use Rattle.std.specs.Prelude.{◌≡◌, ◌≤◌, [], IsOk};
+ghost use Rattle.std.specs.Io.Buffered.{writer_buffer, writer_contents};
+ghost use Rattle.std.specs.Io.KnownBytes.{Keeps};
+ghost use Rattle.canbusd.specs.Done.{IsCarriedOut};
 
-use can_jobs::{
-    Failure, Fault, Job, OUTPUT, ServerRuntime, audit_file, read_options, run_bench, run_serve,
-    write_failure,
-};
+use canbusd_audit::audit_file;
+use canbusd_bench::run_bench;
+use canbusd_faults::{Failure, Fault};
+use canbusd_files::{OUTPUT, write_failure};
+use canbusd_options::{Job, read_options};
+use canbusd_serve::{ServerRuntime, run_serve};
+use clap::Error;
 use clap::error::ErrorKind;
 use std::alloc::Global;
 use std::io::{BufWriter, Read, Write};
@@ -31,44 +37,71 @@ pub fn run_words<
         return fail(&Failure::new(alloc, Fault::NoMemory), errors);
     };
     match read_options(alloc, words) {
-        Ok(job) => {
-            let outcome = match job {
-                Job::Bench(options) => run_bench(rt, alloc, options, input, &mut output),
-                Job::Audit(path) => audit_file(rt, alloc, path, &mut output),
-                Job::Serve(options) => {
-                    match run_serve(rt, alloc, &options, input, &mut output, errors) {
-                        Ok(true) => Ok(()),
-                        Ok(false) => return FAILED,
-                        Err(failure) => Err(failure),
-                    }
-                }
-            };
-            finish(alloc, outcome, &mut output, errors)
-        }
-        Err(error) if error.kind() == ErrorKind::OutOfMemory => {
-            fail(&Failure::new(alloc, Fault::NoMemory), errors)
-        }
-        Err(error) if error.use_stderr() => {
-            let _ = write!(errors, "{error}");
-            BAD_WORDS
-        }
-        Err(help) => {
-            let outcome = write!(output, "{help}").map_err(|error| write_failure(
-                alloc, OUTPUT, &error,
-            ));
-            finish(alloc, outcome, &mut output, errors)
-        }
+        Ok(job) => carry_out(rt, alloc, job, input, &mut output, errors),
+        Err(error) => tell_words(alloc, &error, &mut output, errors),
     }
 }
 
-// Writes what was put out, also before a fault; a fault of that comes first. Answers the status.
-fn finish<W: Write, E: Write>(
+// Carries out a job. The status is 0 only once it was done and all that it put out was written.
+fn carry_out<
+    H: ServerRuntime,
+    R: Read + Drop + Send + 'static,
+    W: Write + Drop,
+    E: Write + Send,
+>(
+    rt: &H,
     alloc: Global,
-    outcome: Result<(), Failure<'_>>,
-    output: &mut W,
+    job: Job<'_>,
+    input: R,
+    output: &mut BufWriter<W>,
     errors: &mut E,
 ) -> u8
-    ensures { result ≤ 1 }
+    ensures status { result ≤ 1 }
+    ensures done { result ≡ 0 → IsCarriedOut (writer_contents W.contents) writer_buffer job.entry (R.remaining input) output.old output.new }
+{
+    let outcome = match job {
+        Job::Bench(options) => run_bench(rt, alloc, options, input, output),
+        Job::Audit(path) => audit_file(rt, alloc, path, output),
+        Job::Serve(options) => match run_serve(rt, alloc, &options, input, output, errors) {
+            Ok(true) => Ok(()),
+            Ok(false) => return FAILED,
+            Err(failure) => Err(failure),
+        },
+    };
+    finish(alloc, outcome, output, errors)
+}
+
+// Tells why the words ask for no job, or what help they ask for.
+fn tell_words<W: Write + Drop, E: Write>(
+    alloc: Global,
+    error: &Error,
+    output: &mut BufWriter<W>,
+    errors: &mut E,
+) -> u8
+    ensures { result ≤ 2 }
+{
+    if error.kind() == ErrorKind::OutOfMemory {
+        return fail(&Failure::new(alloc, Fault::NoMemory), errors);
+    }
+    if error.use_stderr() {
+        let _ = write!(errors, "{error}");
+        return BAD_WORDS;
+    }
+    let outcome = write!(output, "{error}").map_err(|error| write_failure(alloc, OUTPUT, &error));
+    finish(alloc, outcome, output, errors)
+}
+
+// Writes what was put out, also before a fault; a fault of that comes first. Answers the status.
+fn finish<W: Write + Drop, E: Write>(
+    alloc: Global,
+    outcome: Result<(), Failure<'_>>,
+    output: &mut BufWriter<W>,
+    errors: &mut E,
+) -> u8
+    ensures status { result ≤ 1 }
+    ensures done { result ≡ 0 → IsOk outcome.entry }
+    ensures flushed { result ≡ 0 → writer_buffer output.new ≡ [] }
+    ensures kept { Keeps (writer_contents W.contents output.old) (writer_contents W.contents output.new) }
 {
     if let Err(error) = output.flush() {
         return fail(&write_failure(alloc, OUTPUT, &error), errors);

@@ -1,6 +1,6 @@
 //! Command lines that are refused, and those that ask for help.
 use super::support::{Sockets, run};
-use can_jobs::ServerRuntime;
+use canbusd_serve::ServerRuntime;
 use std::alloc::Global;
 use std::process::Abort;
 use std::test::Fail;

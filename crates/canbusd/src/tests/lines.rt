@@ -2,7 +2,7 @@
 use super::support::{
     Owned, Sockets, TWO_SESSIONS, TWO_STARTED, carries_out, joined, runs, runs_however_cut, times,
 };
-use can_jobs::ServerRuntime;
+use canbusd_serve::ServerRuntime;
 use std::alloc::Global;
 use std::process::Abort;
 use std::test::Fail;

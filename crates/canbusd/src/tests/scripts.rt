@@ -1,6 +1,6 @@
 //! Scripts that are followed, and those that are refused.
 use super::support::{Sockets, carries_out, joined, runs, times};
-use can_jobs::ServerRuntime;
+use canbusd_serve::ServerRuntime;
 use std::alloc::Global;
 use std::fs;
 use std::process::Abort;

@@ -1,6 +1,6 @@
 //! Servers: what they are refused, how they end, and what a run leaves.
 use super::support::{Sockets, run, runs};
-use can_jobs::ServerRuntime;
+use canbusd_serve::ServerRuntime;
 use std::io::{Read, Write};
 use std::net::{Shutdown, TcpListener};
 use std::os::unix::net::{UnixListener, UnixStream};

@@ -1,7 +1,8 @@
 //! Streams and files that fail.
 use super::support::{Sockets, runs, words_of};
 use crate::program::run_words;
-use can_jobs::{Fault, read_text};
+use canbusd_faults::Fault;
+use canbusd_files::read_text;
 use std::test::Fail;
 use test_streams::{Closed, Pieces};
 

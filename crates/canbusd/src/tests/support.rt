@@ -1,6 +1,6 @@
 //! A command line carried out over an input, and what it wrote.
 use crate::program::run_words;
-use can_jobs::ServerRuntime;
+use canbusd_serve::ServerRuntime;
 use std::alloc::Global;
 use std::io;
 use std::io::Read;

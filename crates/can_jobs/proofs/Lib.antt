@@ -1,2 +1,0 @@
-pub mod Benching
-pub mod Serving

@@ -1,0 +1,46 @@
+ghost use Rattle.std.specs.Prelude.{reverse};
+ghost use Rattle.can_bus.specs.Spelled.{FitsReply};
+ghost use Rattle.can_replay.specs.Audits.{IsToldWrong};
+
+use can_record::line_text;
+use can_bus::{Event, Record, Reply};
+use canbusd_faults::{Line, Shown};
+use std::alloc::{AllocError, Global};
+
+/// How many lines of a record's text stand before those of its entries.
+const HEAD: u64 = 2;
+
+/// The line of a wrong entry in the text of a record, and the one that would be legal there: `None` past the limit.
+pub fn wrong_note(
+    alloc: Global,
+    path: &str,
+    record: &Record,
+    place: usize,
+    legal: Option<Reply>,
+) -> Result<String, AllocError>
+    requires { IsToldWrong «record».now.config (reverse «record».now.history) place legal }
+{
+    let entry = &record.entries()[place];
+    let text = shown_line(alloc, &entry.event, &entry.reply)?;
+    let line = Line::new(path, (place as u64).saturating_add(HEAD + 1), &text);
+    match legal {
+        Some(reply) => {
+            let legal = shown_line(alloc, &entry.event, &reply)?;
+            let legal = Shown::cut(&legal);
+            format!(in alloc; "  {line}\n  legal is: {legal}\n")
+        }
+        None => {
+            let limit = record.config().limit;
+            format!(in alloc; "  {line}\n  line 2 allows at most {limit} entries\n")
+        }
+    }
+}
+
+// The line of an event with this reply in the text of a record, without its LF.
+fn shown_line(alloc: Global, event: &Event, reply: &Reply) -> Result<Vec<u8>, AllocError>
+    requires { FitsReply event.now reply.now }
+{
+    let mut text = line_text(alloc, event, reply)?;
+    let _lf = text.pop();
+    Ok(text)
+}

@@ -1,0 +1,46 @@
+use Rattle.std.specs.Prelude.{◌≡◌, ℕ, List, length, Option, Result, Ok, Err}
+use Rattle.std.specs.Io.KnownBytes.{Keeps}
+use Rattle.can_frame.specs.Names.{AreNames, names_in}
+use Rattle.can_fault.specs.Sources.{VerdictMap}
+use Rattle.can_bus.specs.Journal.{Kept}
+use Rattle.can_bus.specs.Legal.{IsLegal}
+use Rattle.can_session.specs.declared.bench_run.BenchFault.{BenchFault}
+use Rattle.can_session.specs.declared.bench_run.BenchFault.TheVariants.{BadConfig}
+use Rattle.can_session.specs.Lines.{Input}
+use Rattle.can_session.specs.Benches.{BenchState}
+use Rattle.can_session.specs.Runs.{IsBench, IsRecordOf, Ends, at_start}
+use Rattle.canbusd_options.specs.declared.bench_options.BenchOptions.{BenchOptions}
+use Rattle.canbusd_files.specs.Buses.{AreVerdicts, config_of}
+use Rattle.canbusd_faults.specs.declared.faults.Fault.{Fault}
+use Rattle.canbusd_faults.specs.declared.faults.Fault.TheVariants as fault
+
+-- What the options of a bench ask for (own choice).
+
+-- the bench that options describe, with these names, before its first line
+abbrev pub begun : BenchOptions → List (List ℕ) → BenchState
+begun o names = at_start names (config_of o.settings (length names)) o.settings.rx_capacity
+
+-- a run over the bytes of a reader ends so, wherever it leaves the reader
+abbrev pub EndsOver : {W : Type 0} → (W → Option (List ℕ)) → VerdictMap → Option (List ℕ) → BenchState → W → Result Kept BenchFault → W → Type 0
+EndsOver contents verdicts input at old r new = (now : Input) × Ends IsRecordOf contents verdicts input at old r now new
+
+-- how a run that options describe ends in a fault: nothing was read or written where a number is outside its limits
+abbrev pub StopsBy : {W : Type 0} → (W → Option (List ℕ)) → BenchOptions → List (List ℕ) → VerdictMap → Option (List ℕ) → W → Fault → W → Type 0
+StopsBy contents o names verdicts input out (fault.Bench BadConfig) new = (IsBench names (config_of o.settings (length names)) o.settings.rx_capacity → ⊥) × (new ≡ out)
+StopsBy contents o names verdicts input out (fault.Bench why) new = EndsOver contents verdicts input (begun o names) out (Err why) new
+StopsBy contents o names verdicts input out _ new = ⊥
+
+-- a run that options describe came to its end, with these names and this record
+pub record IsRun {W : Type 0} (contents : W → Option (List ℕ)) (o : BenchOptions) (names : List (List ℕ)) (input : Option (List ℕ)) (old : W) (r : Kept) (new : W) : Type 0 where
+  pub verdicts : VerdictMap
+  pub scripted : AreVerdicts o.bus.script names verdicts
+  pub ends : EndsOver contents verdicts input (begun o names) old (Ok r) new
+  pub legal : IsLegal r.config r.history
+
+-- a run that options describe came to its end, and all that it put out was written
+pub record IsBenched {W : Type 0} (contents : W → Option (List ℕ)) (o : BenchOptions) (input : Option (List ℕ)) (old new : W) : Type 0 where
+  pub named : AreNames (names_in o.bus.names.now)
+  pub kept : Kept
+  pub written : W
+  pub run : IsRun contents o (names_in o.bus.names.now) input old kept written
+  pub flushed : Keeps (contents written) (contents new)

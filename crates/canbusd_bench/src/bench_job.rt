@@ -1,0 +1,114 @@
+ghost use Rattle.std.specs.Prelude.{IfErr, IfOk, Ok, OnOk};
+ghost use Rattle.can_bus.specs.Legal.{IsLegal};
+ghost use Rattle.canbusd_bench.specs.Benched.{EndsOver, IsBenched, IsRun, StopsBy, begun};
+
+use crate::input_notes::input_note;
+use crate::recent::Recent;
+use can_bus::Record;
+use can_fault::FaultSource;
+use can_frame::Names;
+use can_session::{BenchConfig, BenchFault, bench};
+use canbusd_faults::{Failure, Fault, fixed_note, reason_note};
+use canbusd_files::{
+    INPUT, OUTPUT, bus_config, limits_note, read_names, read_source, save_record, write_failure,
+};
+use canbusd_options::BenchOptions;
+use std::alloc::{AllocError, Global};
+use std::io::{Read, Write};
+use std::rt::Files;
+
+/// Runs the bench that the options describe, over the lines of an input. The names are looked at first, then the
+/// script, and then the limits of the bus. The record is written behind a run that came to its end, once all its
+/// output was written.
+pub fn run_bench<'a, H: Files, R: Read + Drop, W: Write>(
+    rt: &H,
+    alloc: Global,
+    options: BenchOptions<'a>,
+    input: R,
+    output: &mut W,
+) -> Result<(), Failure<'a>>
+    ensures { OnOk result (IsBenched W.contents options.entry (R.remaining input) output.old output.new) }
+{
+    let names = read_names(alloc, options.bus.names)?;
+    let record = run_scripted(rt, alloc, options, names, input, output)?;
+    output
+        .flush()
+        .map_err(|error| write_failure(alloc, OUTPUT, &error))?;
+    match options.record {
+        Some(path) => save_record(rt, alloc, path, &record),
+        None => Ok(()),
+    }
+}
+
+// Runs the bench of these names, with the faults of the script that the options name.
+fn run_scripted<'a, H: Files, R: Read + Drop, W: Write>(
+    rt: &H,
+    alloc: Global,
+    options: BenchOptions<'a>,
+    names: Names,
+    input: R,
+    output: &mut W,
+) -> Result<Record, Failure<'a>>
+    ensures { IfOk result (λ r. IsRun W.contents options.entry names (R.remaining input) output.old r output.new) }
+{
+    let source = read_source(rt, alloc, options.bus, &names)?;
+    run_on(alloc, options, names, source, input, output)
+}
+
+// Runs the bench of these names and faults.
+fn run_on<'a, F: FaultSource + Drop, R: Read + Drop, W: Write>(
+    alloc: Global,
+    options: BenchOptions<'_>,
+    names: Names,
+    script: F,
+    input: R,
+    output: &mut W,
+) -> Result<Record, Failure<'a>>
+    ensures ends { IfOk result (λ r. EndsOver W.contents (F.verdicts script) (R.remaining input) (begun options.entry names) output.old (Ok r) output.new) }
+    ensures legal { IfOk result (λ r. IsLegal r.config r.history) }
+    ensures fault { IfErr result (λ failure. StopsBy W.contents options.entry names (F.verdicts script) (R.remaining input) output.old failure.fault output.new) }
+{
+    let config = BenchConfig {
+        config: bus_config(options.settings, &names),
+        names,
+        script,
+        rx_capacity: options.settings.rx_capacity,
+    };
+    let mut input = Recent::new(alloc, input);
+    match bench(alloc, config, &mut input, output) {
+        Ok(record) => Ok(record),
+        Err(fault) => {
+            let notes = bench_note(alloc, fault, &options, &input);
+            Err(Failure::with(alloc, Fault::Bench(fault), notes))
+        }
+    }
+}
+
+// What is told of a fault of the bench.
+fn bench_note<R: Read + Drop>(
+    alloc: Global,
+    fault: BenchFault,
+    options: &BenchOptions<'_>,
+    input: &Recent<R>,
+) -> Result<String, AllocError> {
+    match fault {
+        BenchFault::BadConfig => limits_note(alloc, &options.settings),
+        BenchFault::BadLine(number) => match input.line(number) {
+            Some(line) => input_note(alloc, INPUT, number, line),
+            None => Ok(String::new(alloc)),
+        },
+        BenchFault::InputTooLong => fixed_note(
+            alloc,
+            "the input has at most 16777216 bytes, and takes at most as many reads",
+        ),
+        BenchFault::Read => match input.error() {
+            Some(error) => reason_note(alloc, INPUT, &error),
+            None => Ok(String::new(alloc)),
+        },
+        BenchFault::Write => Ok(String::new(alloc)),
+        BenchFault::NoMemory => fixed_note(
+            alloc,
+            "a run takes 104 bytes of memory for each event of --limit",
+        ),
+    }
+}

@@ -1,0 +1,58 @@
+//! What is told of a line of the bench's input that is wrong.
+use can_session::{Order, SessionNumber, read_order};
+use canbusd_faults::{Line, WITH_CR, fixed_note};
+use std::alloc::{AllocError, Global};
+
+/// How many bytes a line of the bench's input has at most.
+const LONGEST_LINE: usize = 4096;
+
+/// The line of the bench's input that is wrong, and why.
+pub fn input_note(
+    alloc: Global,
+    place: &str,
+    number: u32,
+    line: &[u8],
+) -> Result<String, AllocError> {
+    let order = if line.len() > LONGEST_LINE {
+        None
+    } else {
+        read_order(line)
+    };
+    let note = match &order {
+        Some(Order::Session(session)) => started_note(alloc, *session)?,
+        Some(Order::Feed(session, _) | Order::Drain(session) | Order::End(session)) => {
+            missing_note(alloc, *session)?
+        }
+        _ => fixed_note(alloc, form_of(line))?,
+    };
+    let line = Line::new(place, u64::from(number), line);
+    format!(in alloc; "  {line}\n{note}")
+}
+
+fn started_note(alloc: Global, session: SessionNumber) -> Result<String, AllocError> {
+    let number = session.number();
+    format!(in alloc; "  session {number} was started before: a number is used once\n")
+}
+
+fn missing_note(alloc: Global, session: SessionNumber) -> Result<String, AllocError> {
+    let number = session.number();
+    format!(in alloc; "  no line before it starts session {number}\n")
+}
+
+// What a line that spells nothing should look like.
+fn form_of(line: &[u8]) -> &'static str {
+    if line.len() > LONGEST_LINE {
+        return "a line has at most 4096 bytes";
+    }
+    if let [.., b'\r'] = line {
+        return WITH_CR;
+    }
+    let word = line.split(|byte| *byte == b' ').next().unwrap_or(line);
+    match word {
+        b"at" => "at SECONDS.MICROS: 1 to 10 digits, a point, 6 digits, as at 1.500000",
+        b"session" | b"drain" | b"end" => "one space stands before the session, which is 1 to 64",
+        b"feed" => "feed S BYTES: S is 1 to 64, and one space stands before BYTES",
+        b"attempt" => "nothing stands behind attempt",
+        _ => "a line begins with at, session, feed, drain, end or attempt; see canbusd help bench",
+    }
+}

@@ -1,0 +1,13 @@
+//! What the program tells of a command line that it did not carry out: a fault with its line of text, and notes behind it.
+//!
+//! What is proved here: a failure has the fault that it was made of; what was told stays told; only printable ASCII is
+//! shown of what a file or a client holds.
+#![tactic(auto)]
+
+mod faults;
+mod notes;
+mod shown;
+
+pub use faults::{Failure, Fault, Telling};
+pub use notes::{WITH_CR, fixed_note, line_of, reason_note};
+pub use shown::{Line, Shown};

@@ -1,0 +1,90 @@
+//! A bus as the words of a command line describe it: its faults and its configuration.
+ghost use Rattle.std.specs.Prelude.{◌≡◌, ◌≤◌, length, IfOk};
+ghost use Rattle.canbusd_files.specs.Buses.{AreVerdicts, config_of, verdicts_of};
+ghost use Rattle.canbusd_files.specs.Buses.{first_ifaces as first_ifaces_of};
+
+use crate::scripts::read_script;
+use can_bus::BusConfig;
+use can_fault::{FaultSource, Perfect, Script, Verdict};
+use can_frame::{IfaceSet, Names};
+use canbusd_faults::Failure;
+use canbusd_options::{BusSettings, BusWord};
+use std::alloc::{AllocError, Global};
+use std::rt::Files;
+
+/// Where the verdicts of a bus's attempts come from.
+#[derive(Drop)]
+pub enum Source {
+    /// A script of faults.
+    Script(Script),
+    /// No fault: each attempt is good.
+    Perfect(Perfect),
+}
+
+impl FaultSource for Source {
+    ghost use Rattle.canbusd_files.specs.Buses.{verdicts_of};
+
+    ghost verdicts = { verdicts_of };
+
+    fn verdict(&mut self, attempt: u64) -> Verdict {
+        match self {
+            Source::Script(script) => script.verdict(attempt),
+            Source::Perfect(perfect) => perfect.verdict(attempt),
+        }
+    }
+}
+
+/// The faults of a bus that has these names: those of the script that its word names, if it names one.
+pub fn read_source<'a, H: Files>(
+    rt: &H,
+    alloc: Global,
+    bus: BusWord<'a>,
+    names: &Names,
+) -> Result<Source, Failure<'a>>
+    ensures { IfOk result (λ source. AreVerdicts bus.entry.script names.now (verdicts_of source)) }
+{
+    match bus.script {
+        Some(path) => Ok(Source::Script(read_script(rt, alloc, path, bus.names, names)?)),
+        None => Ok(Source::Perfect(Perfect)),
+    }
+}
+
+/// The bus that settings describe, for these names.
+pub fn bus_config(settings: BusSettings, names: &Names) -> BusConfig
+    ensures { result ≡ config_of settings (length names.now) }
+{
+    BusConfig {
+        ifaces: names.count(),
+        ack: settings.ack,
+        reporting: if settings.is_reporting {
+            first_ifaces(names.count())
+        } else {
+            IfaceSet::empty()
+        },
+        tx_capacity: settings.tx_capacity,
+        limit: settings.limit,
+    }
+}
+
+// The interfaces of a bus that has so many.
+fn first_ifaces(count: u8) -> IfaceSet
+    requires { count ≤ 16 }
+    ensures { result ≡ first_ifaces_of count }
+{
+    IfaceSet(((1_u32 << count) - 1) as u16)
+}
+
+/// Which option is past its limits.
+pub fn limits_note(alloc: Global, settings: &BusSettings) -> Result<String, AllocError> {
+    let limits = [
+        ("txqueue", settings.tx_capacity, 1024),
+        ("rxqueue", settings.rx_capacity, 65_536),
+        ("limit", settings.limit, 16_777_216),
+    ];
+    for (option, number, most) in limits {
+        if number < 1 || number > most {
+            return format!(in alloc; "  --{option} {number}: from 1 to {most}\n");
+        }
+    }
+    Ok(String::new(alloc))
+}

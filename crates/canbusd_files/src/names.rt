@@ -1,0 +1,59 @@
+//! The names of a bus's interfaces, joined by commas as they are given.
+ghost use Rattle.std.specs.Prelude.{◌≡◌, IfErr, IfOk, OnOk};
+ghost use Rattle.can_frame.specs.Names.{AreNames, names_in};
+ghost use Rattle.canbusd_faults.specs.declared.faults.Fault.TheVariants as fault;
+
+use can_frame::{Names, NamesError, is_name};
+use canbusd_faults::{Failure, Fault, Shown, fixed_note};
+use std::alloc::{AllocError, Global};
+
+/// The names of a bus.
+pub fn read_names<'a>(alloc: Global, names: &str) -> Result<Names, Failure<'a>>
+    ensures names { IfOk result (λ n. n ≡ names_in names.now) }
+    ensures good { OnOk result (AreNames (names_in names.now)) }
+    ensures bad { IfErr result (λ failure. failure.fault ≡ fault.BadNames → AreNames (names_in names.now) → ⊥) }
+{
+    Names::read(alloc, names).map_err(|error| match error {
+        NamesError::BadNames => Failure::with(alloc, Fault::BadNames, names_note(alloc, names)),
+        NamesError::NoMemory => Failure::new(alloc, Fault::NoMemory),
+    })
+}
+
+// Which name is wrong, stands twice, or is one too many.
+fn names_note(alloc: Global, names: &str) -> Result<String, AllocError> {
+    let count = names.split(',').count();
+    if count > 16 {
+        return format!(in alloc; "  {count} names: a bus has 1 to 16\n");
+    }
+    if let Some(name) = names.split(',').find(|name| !is_name(name)) {
+        return name_note(alloc, name);
+    }
+    match names.split(',').find(|name| is_repeated(names, name)) {
+        Some(name) => format!(in alloc; "  {name}: this name stands twice\n"),
+        None => Ok(String::new(alloc)),
+    }
+}
+
+fn name_note(alloc: Global, name: &str) -> Result<String, AllocError> {
+    let shown = Shown::cut(name.as_bytes());
+    let len = name.len();
+    if len == 0 {
+        fixed_note(
+            alloc,
+            "a name is empty: names of 1 to 15 bytes are joined by commas",
+        )
+    } else if len > 15 {
+        format!(in alloc; "  {shown}: {len} bytes, a name has 1 to 15\n")
+    } else {
+        format!(in alloc; "  {shown}: a name has ASCII letters, digits, _, - and . alone\n")
+    }
+}
+
+fn is_repeated(names: &str, name: &str) -> bool {
+    names.split(',').filter(|other| *other == name).count() > 1
+}
+
+/// Whether a name is among names joined by commas.
+pub fn has_name(names: &str, name: &str) -> bool {
+    names.split(',').any(|other| other == name)
+}

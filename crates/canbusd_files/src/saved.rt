@@ -1,0 +1,94 @@
+//! The files that a run leaves: the record of a bus, and its log.
+ghost use Rattle.std.specs.Prelude.{◌≡◌, reverse, OnOk};
+ghost use Rattle.std.specs.Io.KnownBytes.{Appends};
+ghost use Rattle.can_record.specs.Spelling.{record_spelling};
+ghost use Rattle.can_logfile.specs.Log.{joined, log_lines};
+
+use crate::files::write_failure;
+use can_record::write_record;
+use can_bus::Record;
+use can_frame::Names;
+use can_logfile::write_tape;
+use canbusd_faults::{Failure, Fault, reason_note};
+use std::alloc::Global;
+use std::fs;
+use std::io::{BufWriter, Error, ErrorKind, Write};
+use std::rt::Files;
+
+/// Writes the text of a record to the file with this path.
+pub fn save_record<'a, H: Files>(
+    rt: &H,
+    alloc: Global,
+    path: &'a str,
+    record: &Record,
+) -> Result<(), Failure<'a>> {
+    let file = create(rt, alloc, path)?;
+    let mut file = BufWriter::new(alloc, file).map_err(|_| Failure::new(alloc, Fault::NoMemory))?;
+    put_record(alloc, path, record, &mut file)
+}
+
+/// Writes the log of a record to the file with this path, in one write a line, so that a fault tells how many whole
+/// lines the file has. The log is called by this name.
+pub fn save_log<'a, H: Files>(
+    rt: &H,
+    alloc: Global,
+    path: &'a str,
+    name: &'a str,
+    names: &Names,
+    record: &Record,
+) -> Result<(), Failure<'a>> {
+    let mut file = create(rt, alloc, path)?;
+    put_log(alloc, name, names, record, &mut file)
+}
+
+fn create<'a, H: Files>(rt: &H, alloc: Global, path: &'a str) -> Result<H::File, Failure<'a>> {
+    fs::create(rt, path).map_err(|error| {
+        let reason = reason_note(alloc, path, &error);
+        Failure::with(alloc, Fault::CannotOpen(path), reason)
+    })
+}
+
+// Writes the text of a record, to its last byte.
+fn put_record<'a, W: Write>(
+    alloc: Global,
+    path: &str,
+    record: &Record,
+    file: &mut W,
+) -> Result<(), Failure<'a>>
+    ensures { OnOk result (Appends (W.contents file.old) (W.contents file.new) (record_spelling «record».now.config (reverse «record».now.history))) }
+{
+    write_record(alloc, record, file).map_err(|error| record_failure(alloc, path, &error))?;
+    file.flush()
+        .map_err(|error| write_failure(alloc, path, &error))
+}
+
+// Writes the lines of a log.
+fn put_log<'a, W: Write>(
+    alloc: Global,
+    name: &'a str,
+    names: &Names,
+    record: &Record,
+    file: &mut W,
+) -> Result<(), Failure<'a>>
+    ensures { OnOk result (Appends (W.contents file.old) (W.contents file.new) (joined (log_lines names.now «record».now.history))) }
+{
+    match write_tape(names, record, file) {
+        Ok(_) => Ok(()),
+        Err(fault) => Err(Failure::new(
+            alloc,
+            Fault::Log {
+                name,
+                whole_lines: fault.whole_lines,
+            },
+        )),
+    }
+}
+
+// What a fault of writing a record is told as.
+fn record_failure<'a>(alloc: Global, path: &str, error: &Error) -> Failure<'a> {
+    if error.kind() == ErrorKind::OutOfMemory {
+        Failure::new(alloc, Fault::NoMemory)
+    } else {
+        write_failure(alloc, path, error)
+    }
+}

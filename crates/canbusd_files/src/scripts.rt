@@ -1,0 +1,105 @@
+//! Scripts of faults: a file, and what is told of a line of it that is wrong.
+ghost use Rattle.std.specs.Prelude.{List, ℕ, IfOk, Ok};
+ghost use Rattle.can_fault.specs.Scripts.{Reads as Spells};
+
+use crate::files::read_file;
+use crate::names::has_name;
+use can_fault::{Script, ScriptError};
+use can_frame::Names;
+use canbusd_faults::{Failure, Fault, Line, Shown, WITH_CR, fixed_note, line_of};
+use std::alloc::{AllocError, Global};
+use std::rt::Files;
+
+/// The script of faults in the file with this path, for a bus with these names, which are given as they are read too.
+pub fn read_script<'a, H: Files>(
+    rt: &H,
+    alloc: Global,
+    path: &'a str,
+    bus: &str,
+    names: &Names,
+) -> Result<Script, Failure<'a>>
+    ensures { IfOk result (λ script. (text : List ℕ) × Spells names.now text (Ok script)) }
+{
+    let text = read_file(rt, alloc, path)?;
+    script_in(alloc, path, &text, bus, names)
+}
+
+// The script that the text of a file spells.
+fn script_in<'a>(
+    alloc: Global,
+    path: &str,
+    text: &str,
+    bus: &str,
+    names: &Names,
+) -> Result<Script, Failure<'a>>
+    ensures { IfOk result (λ script. Spells names.now text.now (Ok script)) }
+{
+    match Script::read(alloc, text, names) {
+        Ok(script) => Ok(script),
+        Err(ScriptError::NoMemory) => Err(Failure::new(alloc, Fault::NoMemory)),
+        Err(fault) => {
+            let notes = script_note(alloc, path, text, bus, fault);
+            Err(Failure::with(alloc, Fault::Script(fault), notes))
+        }
+    }
+}
+
+// The line of a script that is wrong, and why.
+fn script_note(
+    alloc: Global,
+    path: &str,
+    text: &str,
+    names: &str,
+    fault: ScriptError,
+) -> Result<String, AllocError> {
+    let (number, note) = match fault {
+        ScriptError::BadLine(number) => (number, bad_verdict_note(alloc, line_of(text, number))?),
+        ScriptError::UnknownInterface(number) => {
+            let line = line_of(text, number);
+            (number, unknown_note(alloc, line, names)?)
+        }
+        ScriptError::RepeatedAttempt(number) => (number, repeated_note(alloc, text, number)?),
+        ScriptError::NoMemory => return Ok(String::new(alloc)),
+    };
+    let line = Line::new(path, number as u64, line_of(text, number).as_bytes());
+    format!(in alloc; "  {line}\n{note}")
+}
+
+fn bad_verdict_note(alloc: Global, line: &str) -> Result<String, AllocError> {
+    if line.ends_with('\r') {
+        return fixed_note(alloc, WITH_CR);
+    }
+    fixed_note(
+        alloc,
+        "a line is NUMBER VERDICT, as 0 lastbit; see canbusd help bench",
+    )
+}
+
+// The first name behind the last space that the bus does not have.
+fn unknown_note(alloc: Global, line: &str, names: &str) -> Result<String, AllocError> {
+    let list = line.rsplit(' ').next().unwrap_or("");
+    match list.split(',').find(|name| !has_name(names, name)) {
+        Some(name) => {
+            let name = Shown::cut(name.as_bytes());
+            format!(in alloc; "  {name} is none of {names}\n")
+        }
+        None => Ok(String::new(alloc)),
+    }
+}
+
+// Where the attempt of this line stood first.
+fn repeated_note(alloc: Global, text: &str, number: usize) -> Result<String, AllocError> {
+    let attempt = attempt_of(line_of(text, number));
+    let place = text
+        .split('\n')
+        .position(|line| attempt_of(line) == attempt)
+        .unwrap_or(0);
+    let first = place.saturating_add(1);
+    format!(in alloc; "  line {first} has a verdict for this attempt\n")
+}
+
+// The number that a line of a script begins with.
+fn attempt_of(line: &str) -> Option<u32> {
+    let (number, _) = line.split_once(' ')?;
+    number.parse().ok()
+}

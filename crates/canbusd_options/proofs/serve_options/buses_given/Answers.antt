@@ -1,0 +1,34 @@
+use Rattle.std.proofs.Common.{◌≡◌, ℕ, List, [], map, Option, Some, None, unwrap_or, codes, IfOk, sym, subst, ap, ◌∙◌}
+use Rattle.std.specs.Option.{option_map}
+use Rattle.canbusd_options.specs.Options.{buses_given as buses_of}
+use Rattle.canbusd_options.specs.BusWords.{names_part, script_part}
+use Rattle.canbusd_options.proofs.Rules.{texts_in_rows}
+use Rattle.canbusd_options.proofs.serve_options.buses_given.Goals as goal
+
+-- what is in an option is what stands there
+within : {A : Type 0} (f : A → List (List ℕ)) (r : Option A) (o : Option (List (List ℕ))) (x : A) → r ≡ Some x → option_map f r ≡ o → f x ≡ unwrap_or o []
+within f r o x is same = ap (λ q. unwrap_or (option_map f q) []) (sym is) ∙ ap (λ q. unwrap_or q []) same
+
+pub returns-in-Some-clause-names : goal.returns-in-Some-clause-names
+returns-in-Some-clause-names c =
+    subst (λ xs. IfOk c.read_buses.result (λ buses. map (λ bus. bus.names.now) buses.items ≡ map names_part xs))
+    (within _ _ _ _ c.in-Some.is (c.get_strs.ensures ∙ texts_in_rows c.args.serve.now (codes "BUS"))) c.read_buses.ensures.names
+
+pub returns-in-Some-clause-scripts : goal.returns-in-Some-clause-scripts
+returns-in-Some-clause-scripts c =
+    subst (λ xs. IfOk c.read_buses.result (λ buses. map (λ bus. option_map (λ path. path.now) bus.script) buses.items ≡ map script_part xs))
+    (within _ _ _ _ c.in-Some.is (c.get_strs.ensures ∙ texts_in_rows c.args.serve.now (codes "BUS"))) c.read_buses.ensures.scripts
+
+-- and nothing where it is empty
+without : {A : Type 0} (f : A → List (List ℕ)) (r : Option A) (o : Option (List (List ℕ))) → r ≡ None → option_map f r ≡ o → [] ≡ unwrap_or o []
+without f r o is same = ap (λ q. unwrap_or (option_map f q) []) (sym is) ∙ ap (λ q. unwrap_or q []) same
+
+pub returns-in-None-clause-names : goal.returns-in-None-clause-names
+returns-in-None-clause-names c =
+    ap (map (λ bus. bus.names.now)) c.new.ensures.items
+    ∙ ap (map names_part) (without _ _ _ c.in-None.is (c.get_strs.ensures ∙ texts_in_rows c.args.serve.now (codes "BUS")))
+
+pub returns-in-None-clause-scripts : goal.returns-in-None-clause-scripts
+returns-in-None-clause-scripts c =
+    ap (map (λ bus. option_map (λ path. path.now) bus.script)) c.new.ensures.items
+    ∙ ap (map script_part) (without _ _ _ c.in-None.is (c.get_strs.ensures ∙ texts_in_rows c.args.serve.now (codes "BUS")))

@@ -1,0 +1,3 @@
+pub mod BusWords
+pub mod Options
+pub mod Program

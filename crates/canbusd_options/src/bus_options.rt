@@ -1,0 +1,204 @@
+//! The words that say what a bus is like, which bench and serve share.
+ghost use Rattle.std.specs.Prelude.{◌≡◌, ◌≤◌, ◌↔◌, codes, false, IfOk, IfSome};
+ghost use Rattle.clap.specs.Words.{rule_of};
+ghost use Rattle.canbusd_options.specs.Options.{AreSettings, IsNumberOf, IsPeers, given, rows_in};
+ghost use Rattle.canbusd_options.specs.Program.{AddsBusRules, IsAckRule, default_rule, flag_rule, word_rule};
+
+use crate::bench_options::bench_command;
+use crate::serve_options::serve_command;
+use can_attempt::AckMode;
+use clap::error::ErrorKind;
+use clap::{Arg, ArgAction, ArgMatches, Command, Error};
+use std::alloc::{AllocError, Global};
+
+const ACK: &str = "ack";
+
+const ALWAYS: &str = "always";
+
+const PEERS: &str = "peers";
+
+const REPORT: &str = "report";
+
+const TXQUEUE: &str = "txqueue";
+
+const RXQUEUE: &str = "rxqueue";
+
+const LIMIT: &str = "limit";
+
+pub const BUS: &str = "BUS";
+
+/// What the options say of a bus, and of its sockets.
+#[derive(Debug, Clone, Copy)]
+pub struct BusSettings {
+    /// Who acknowledges frames.
+    pub ack: AckMode,
+    /// Whether sockets are told of each fault.
+    pub is_reporting: bool,
+    /// How many frames an interface keeps to be sent.
+    pub tx_capacity: u32,
+    /// How many items a socket keeps.
+    pub rx_capacity: u32,
+    /// How many events the run has at most.
+    pub limit: u32,
+}
+
+/// The command whose words are read.
+#[derive(Debug, Clone, Copy)]
+pub enum Verb {
+    Bench,
+    Serve,
+}
+
+impl Verb {
+    /// A fault of the words of this command, with its usage.
+    pub fn error(self, alloc: Global, message: &str) -> Result<Error, AllocError> {
+        let mut command = match self {
+            Verb::Bench => bench_command(alloc)?.bin_name("canbusd bench")?,
+            Verb::Serve => serve_command(alloc)?.bin_name("canbusd serve")?,
+        };
+        command.error(ErrorKind::ValueValidation, message)
+    }
+}
+
+/// What the options of a command say of a bus.
+pub fn settings_given(
+    alloc: Global,
+    verb: Verb,
+    matches: &ArgMatches<'_>,
+) -> Result<BusSettings, Error>
+    ensures { IfOk result (λ settings. AreSettings (rows_in matches.now) settings) }
+{
+    Ok(BusSettings {
+        ack: ack_mode(matches),
+        is_reporting: matches.get_flag(REPORT),
+        tx_capacity: number_given(alloc, verb, matches, TXQUEUE)?,
+        rx_capacity: number_given(alloc, verb, matches, RXQUEUE)?,
+        limit: number_given(alloc, verb, matches, LIMIT)?,
+    })
+}
+
+// The parser takes no other words than these two.
+#[tactic(auto, using(crate::proofs::Rules::text_in_rows))]
+fn ack_mode(matches: &ArgMatches<'_>) -> AckMode
+    ensures { (result ≡ AckMode.Peers) ↔ IsPeers (rows_in matches.now) }
+{
+    match matches.get_str(ACK) {
+        Some(word) if word == PEERS => AckMode::Peers,
+        _ => AckMode::Always,
+    }
+}
+
+fn number_given(
+    alloc: Global,
+    verb: Verb,
+    matches: &ArgMatches<'_>,
+    option: &str,
+) -> Result<u32, Error>
+    ensures { IfOk result (λ n. IsNumberOf n (given (rows_in matches.now) option.now)) }
+{
+    number_within(alloc, verb, matches, option, 0, u32::MAX)
+}
+
+/// The number that an option was given, in decimal digits alone, within limits.
+#[tactic(auto, using(crate::proofs::Rules::text_in_rows))]
+pub fn number_within(
+    alloc: Global,
+    verb: Verb,
+    matches: &ArgMatches<'_>,
+    option: &str,
+    least: u32,
+    most: u32,
+) -> Result<u32, Error>
+    ensures number { IfOk result (λ n. IsNumberOf n (given (rows_in matches.now) option.now)) }
+    ensures least { IfOk result (λ n. least ≤ n) }
+    ensures most { IfOk result (λ n. n ≤ most) }
+{
+    let text = matches.get_str(option).unwrap_or("");
+    match number_in(text) {
+        Some(number) if least <= number && number <= most => Ok(number),
+        _ => {
+            let message = format!(in alloc;
+                "invalid value '{text}' for '--{option}': not a number from {least} to {most} in decimal digits"
+            )?;
+            Err(verb.error(alloc, &message)?)
+        }
+    }
+}
+
+// The number that a text of decimal digits alone writes.
+fn number_in(text: &str) -> Option<u32>
+    ensures { IfSome result (λ n. IsNumberOf n text.now) }
+{
+    if !text.bytes().all(|byte| byte.is_ascii_digit()) {
+        return None;
+    }
+    text.parse().ok()
+}
+
+/// Adds the options that say what a bus is like.
+pub fn with_bus_options<'a>(
+    alloc: Global,
+    command: Command<'a>,
+) -> Result<Command<'a>, AllocError>
+    ensures { IfOk result (λ c. AddsBusRules command.entry c) }
+{
+    let tx_help = "Frames that an interface keeps to be sent, 1 to 1024";
+    let rx_help = "Frames that a socket keeps to be received, 1 to 65536";
+    let limit_help = "Calls and attempts of the run, 1 to 16777216, of 104 bytes of memory each";
+    command
+        .arg(ack_option(alloc))?
+        .arg(report_option(alloc))?
+        .arg(number_option(alloc, TXQUEUE, "N", "10", tx_help))?
+        .arg(number_option(alloc, RXQUEUE, "N", "256", rx_help))?
+        .arg(number_option(alloc, LIMIT, "N", "1000000", limit_help))
+}
+
+fn ack_option<'a>(alloc: Global) -> Arg<'a>
+    ensures rule { IsAckRule (rule_of result) }
+    ensures local { result.global ≡ false }
+{
+    Arg::new(alloc, ACK)
+        .long(ACK)
+        .value_name("MODE")
+        .value_parser([ALWAYS, PEERS].as_slice())
+        .default_value(ALWAYS)
+        .help("Who acknowledges: a silent node, or the other interfaces alone")
+}
+
+fn report_option<'a>(alloc: Global) -> Arg<'a>
+    ensures rule { rule_of result ≡ flag_rule (codes "report") }
+    ensures local { result.global ≡ false }
+{
+    Arg::new(alloc, REPORT)
+        .long(REPORT)
+        .action(ArgAction::SetTrue)
+        .help("Make error message frames of each fault too, not of changes of state alone")
+}
+
+/// An option with a number.
+pub fn number_option<'a>(
+    alloc: Global,
+    name: &'a str,
+    value: &'a str,
+    default: &'a str,
+    help: &'a str,
+) -> Arg<'a>
+    ensures rule { rule_of result ≡ default_rule name.entry.now default.entry.now }
+    ensures local { result.global ≡ false }
+{
+    Arg::new(alloc, name)
+        .long(name)
+        .value_name(value)
+        .default_value(default)
+        .help(help)
+}
+
+/// The last word of bench, and each of the last words of serve.
+pub fn bus_argument<'a>(alloc: Global) -> Arg<'a>
+    ensures rule { rule_of result ≡ word_rule (codes "BUS") }
+    ensures local { result.global ≡ false }
+{
+    Arg::new(alloc, BUS).required(true).help(
+        "Names of 1 to 16 interfaces, joined by commas; @FILE behind them is a script of faults",
+    )
+}

@@ -1,0 +1,41 @@
+ghost use Rattle.std.specs.Prelude.{◌≡◌};
+ghost use Rattle.std.specs.Option.{option_map};
+ghost use Rattle.canbusd_options.specs.BusWords.{first_name_of, names_part, script_part};
+
+/// A word BUS: `names`, or `names@FILE`.
+#[derive(Debug, Clone, Copy)]
+pub struct BusWord<'a> {
+    /// The names of the interfaces, joined by commas.
+    pub names: &'a str,
+    /// The path of the script of faults, if there is one.
+    pub script: Option<&'a str>,
+}
+
+impl<'a> BusWord<'a> {
+    /// The names, and what follows the first `@`, if there is one.
+    pub fn read(word: &'a str) -> BusWord<'a>
+        ensures names { result.names.now ≡ names_part word.now }
+        ensures script { option_map (λ path. path.now) result.script ≡ script_part word.now }
+    {
+        match word.split_once('@') {
+            Some((names, script)) => BusWord {
+                names,
+                script: Some(script),
+            },
+            None => BusWord {
+                names: word,
+                script: None,
+            },
+        }
+    }
+
+    /// The first of the names, by which the bus is called.
+    pub fn first_name(&self) -> &'a str
+        ensures { result.now ≡ first_name_of self.now.names.now }
+    {
+        match self.names.split_once(',') {
+            Some((first, _)) => first,
+            None => self.names,
+        }
+    }
+}

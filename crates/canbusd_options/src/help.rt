@@ -1,0 +1,91 @@
+//! The texts that `--help` adds behind the options.
+
+pub const PROGRAM_HELP: &str =
+    "`canbusd help bench` has the options of bench, the lines that it reads, and an example to copy; `canbusd help serve`
+the options of serve, and how clients connect. `man canbusd` has all of it, the statuses and the texts of faults.
+
+Statuses: 0 done; 1 a fault, told as `canbusd: TEXT`; 2 a fault of the command line.
+
+Example, with what it writes:
+  $ printf '%s\\n' 'session 1' 'feed 1 < open can0 >< rawmode >< send 123 2 AB CD >' attempt | canbusd bench can0,can1
+  1 < hi >
+  1 < ok >< ok >
+  tried can0 0 done can1 -";
+
+pub const BENCH_HELP: &str = "Lines of standard input, carried out one after the other:
+  at SECONDS.MICROS  Set the moment, at first 0.000000: 1 to 10 digits, a point, 6 digits
+  session S          Start session S, 1 to 64
+  feed S BYTES       Feed session S bytes of its client: messages, in one piece or cut anywhere
+  drain S            Write what the socket of session S received
+  end S              End session S
+  attempt            Put the frame that wins arbitration on the bus, and write what became of it
+Empty lines and lines that begin with # do nothing. A line has at most 4096 bytes, and all lines 16777216.
+
+Messages of a session (socketcand's raw mode), in the order of a first run:
+  < open NAME >              Take an interface of the bus
+  < rawmode >                Get a socket there; the messages below need one
+  < send ID LEN BYTE .. >    Send a frame: ID of 1 to 3 hexadecimal digits for 11 bits, of 8 for 29 bits
+  < sendrtr ID LEN >         Send a remote frame
+  < filter N ID MASK .. >    Receive what matches one of N filters, in words of linux/can.h; at first everything
+  < join 0|1 >               Receive what matches all filters, not one of them (0)
+  < loopback 0|1 >           Give frames to other sockets of the interface too (1)
+  < recvown 0|1 >            Receive own frames too (0)
+  < errmask HEX >            Receive error message frames of these classes (0)
+  < errdata 0|1 >            Write error message frames with their data (0)
+  < stats >                  Write < stats QUEUED DROPPED TAKEN SENT DONE WAITING LOST REFUSED >
+  < status >                 Write < status STATE TEC REC >, from the error counters of the interface
+  < restart >                Bring the interface back that is bus off
+  < close >                  Close the socket, and write < closed UNREAD DROPPED >
+What is done is answered < ok >, a send nothing, what is refused < error TEXT >. < echo > is answered at any time.
+
+What is received: < frame ID MOMENT DATA >, < remote ID MOMENT LEN >, < error CLASS MOMENT > or with DATA.
+What an attempt writes: tried NAME NUMBER CLASS ACCEPTED OFF, or idle, or record full. NUMBER counts the frames of
+NAME from 0; CLASS is done, or lastbit, destroyed or noack, and then the frame is sent again; ACCEPTED and OFF are
+the interfaces that accepted it and that went bus off, or -.
+
+Lines of a script: NUMBER VERDICT, for the attempt of that number, from 0. VERDICT is good, lastbit,
+global bit, global form, local stuff NAMES, local crc NAMES or local form NAMES. Other attempts are good.
+
+Example, with what it writes:
+  $ printf '%s\\n' 'session 1' 'feed 1 < open can0 >< rawmode >' 'session 2' 'feed 2 < open can1 >< rawmode >' \\
+      'feed 1 < send 123 2 AB CD >' attempt 'drain 2' | canbusd bench can0,can1
+  1 < hi >
+  1 < ok >< ok >
+  2 < hi >
+  2 < ok >< ok >
+  tried can0 0 done can1 -
+  2 < frame 123 0.000000 ABCD >";
+
+pub const SERVE_HELP: &str =
+    "Clients connect to ADDR and speak socketcand's raw mode: `canbusd help bench` has its messages. Each opens
+an interface by its name. On each bus the frame that wins arbitration goes out at once where one waits, and MS
+milliseconds later the next attempt may follow. Moments are microseconds since 1970.
+
+It prints `listening ADDR`, with the port that it got where the port given is 0. Once N sessions have come and ended,
+or with --until-eof standard input has ended, it prints for each bus, by its first name, `bus NAME entries N`, and
+writes DIR/NAME.log, which candump's readers take, and DIR/NAME.rec, which `canbusd audit` checks. DIR must exist.
+
+--limit is for each bus, and it is how long a run can be. Each send, each attempt and each receive of a session is an
+entry. It takes 104 bytes in the record, and up to twice that in the list of the session that made it: 1000 frames a
+second to 4 sessions fill 1000000 entries in less than 3 minutes. When a bus is full each of its calls answers
+`record full`, and standard error says so once.
+
+Example, with a client in Python (package python3-can):
+  $ canbusd serve --out . can0,can1@faults.script &
+  listening 127.0.0.1:29536
+  $ python3
+  >>> import can
+  >>> bus = can.Bus(interface=\"socketcand\", host=\"127.0.0.1\", port=29536, channel=\"can0\")
+  >>> bus.send(can.Message(arbitration_id=0x123, data=[1, 2], is_extended_id=False))";
+
+pub const AUDIT_HELP: &str =
+    "Prints `ok N entries` where each reply in the record is the one that the entries before it allow.
+Else it tells the first line that no record may have, or the first entry (from 0) whose reply is wrong,
+with the reply that would be legal.
+
+Example, with what it writes:
+  $ printf '%s\\n' 'session 1' 'feed 1 < open can0 >< rawmode >' | canbusd bench --record run.rec can0
+  1 < hi >
+  1 < ok >< ok >
+  $ canbusd audit run.rec
+  ok 1 entries";

@@ -1,0 +1,18 @@
+//! The words of the command line of canbusd: its commands, their options and their help.
+//!
+//! `read_options` reads the words: the job that it answers is the one that they ask for, by the arguments and defaults of
+//! specs/Program and clap's definition of how words are read. A misspelt name of an option is refused by that proof.
+#![tactic(auto)]
+
+mod bench_options;
+mod bus_options;
+mod bus_word;
+mod command_line;
+mod help;
+mod serve_options;
+
+pub use bench_options::BenchOptions;
+pub use bus_options::BusSettings;
+pub use bus_word::BusWord;
+pub use command_line::{Job, read_options};
+pub use serve_options::ServeOptions;

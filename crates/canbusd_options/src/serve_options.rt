@@ -1,0 +1,136 @@
+//! The words of serve.
+ghost use Rattle.std.specs.Prelude.{◌≡◌, codes, false, map, IfOk};
+ghost use Rattle.std.specs.Option.{option_map};
+ghost use Rattle.clap.specs.Words.{rule_of};
+ghost use Rattle.canbusd_options.specs.BusWords.{names_part, script_part};
+ghost use Rattle.canbusd_options.specs.Options.{AreServeOptions, buses_given as buses_of, rows_in};
+ghost use Rattle.canbusd_options.specs.Program.{HasRules, default_rule, flag_rule, option_rule, serve_app, words_rule};
+
+use crate::bus_options::{
+    BUS, BusSettings, Verb, bus_argument, number_option, number_within, settings_given,
+    with_bus_options,
+};
+use crate::bus_word::BusWord;
+use crate::help::SERVE_HELP;
+use clap::{Arg, ArgAction, ArgMatches, Command, Error};
+use std::alloc::{AllocError, Global};
+
+const LISTEN: &str = "listen";
+
+const SESSIONS: &str = "sessions";
+
+const PACE: &str = "pace";
+
+const OUT: &str = "out";
+
+const UNTIL_EOF: &str = "until-eof";
+
+const MOST_SESSIONS: u32 = 4_000;
+
+const MOST_PACE: u32 = 60_000;
+
+/// The words of `canbusd serve`.
+#[derive(Debug, Drop)]
+pub struct ServeOptions<'a> {
+    pub settings: BusSettings,
+    pub buses: Vec<BusWord<'a>>,
+    /// Where it listens: a Unix path where it begins with `/` or `.`, else host and port.
+    pub address: &'a str,
+    /// How many sessions it serves, 1 to 4,000.
+    pub sessions: u32,
+    /// How many milliseconds pass after each attempt, at most 60,000.
+    pub pace_ms: u32,
+    /// The folder that gets logs and records, if they are wanted.
+    pub folder: Option<&'a str>,
+    /// Whether the end of standard input ends the run.
+    pub is_until_eof: bool,
+}
+
+pub fn serve_options<'a>(alloc: Global, serve: &ArgMatches<'a>) -> Result<ServeOptions<'a>, Error>
+    ensures { IfOk result (λ options. AreServeOptions (rows_in serve.now) options) }
+{
+    Ok(ServeOptions {
+        settings: settings_given(alloc, Verb::Serve, serve)?,
+        buses: buses_given(alloc, serve)?,
+        address: serve.get_str(LISTEN).unwrap_or(""),
+        sessions: number_within(alloc, Verb::Serve, serve, SESSIONS, 1, MOST_SESSIONS)?,
+        pace_ms: number_within(alloc, Verb::Serve, serve, PACE, 0, MOST_PACE)?,
+        folder: serve.get_str(OUT),
+        is_until_eof: serve.get_flag(UNTIL_EOF),
+    })
+}
+
+fn buses_given<'a>(alloc: Global, serve: &ArgMatches<'a>) -> Result<Vec<BusWord<'a>>, AllocError>
+    ensures names { IfOk result (λ buses. map (λ bus. bus.names.now) buses.items ≡ map names_part (buses_of (rows_in serve.now))) }
+    ensures scripts { IfOk result (λ buses. map (λ bus. option_map (λ path. path.now) bus.script) buses.items ≡ map script_part (buses_of (rows_in serve.now))) }
+{
+    match serve.get_strs(BUS) {
+        Some(words) => read_buses(alloc, words),
+        None => Ok(Vec::new(alloc)),
+    }
+}
+
+fn read_buses<'a>(alloc: Global, words: &[&'a str]) -> Result<Vec<BusWord<'a>>, AllocError>
+    ensures names { IfOk result (λ buses. map (λ bus. bus.names.now) buses.items ≡ map names_part (map (λ word. word.now) words.now)) }
+    ensures scripts { IfOk result (λ buses. map (λ bus. option_map (λ path. path.now) bus.script) buses.items ≡ map script_part (map (λ word. word.now) words.now)) }
+{
+    let mut buses = Vec::new(alloc);
+    for word in words {
+        buses.push(BusWord::read(word))?;
+    }
+    Ok(buses)
+}
+
+pub fn serve_command<'a>(alloc: Global) -> Result<Command<'a>, AllocError>
+    ensures { IfOk result (λ c. HasRules serve_app c) }
+{
+    let sessions_help = "Sessions to serve before the end, 1 to 4000";
+    let pace_help = "Milliseconds after each attempt of a bus, 0 to 60000";
+    let command = Command::new(alloc, "serve")
+        .about("Serve clients on buses")
+        .after_help(SERVE_HELP);
+    with_bus_options(alloc, command)?
+        .arg(listen_option(alloc))?
+        .arg(number_option(alloc, SESSIONS, "N", "4000", sessions_help))?
+        .arg(number_option(alloc, PACE, "MS", "1", pace_help))?
+        .arg(out_option(alloc))?
+        .arg(until_eof_option(alloc))?
+        .arg(buses_argument(alloc))
+}
+
+fn buses_argument<'a>(alloc: Global) -> Arg<'a>
+    ensures rule { rule_of result ≡ words_rule (codes "BUS") }
+    ensures local { result.global ≡ false }
+{
+    bus_argument(alloc).num_args(1..)
+}
+
+fn listen_option<'a>(alloc: Global) -> Arg<'a>
+    ensures rule { rule_of result ≡ default_rule (codes "listen") (codes "127.0.0.1:29536") }
+    ensures local { result.global ≡ false }
+{
+    Arg::new(alloc, LISTEN)
+        .long(LISTEN)
+        .value_name("ADDR")
+        .default_value("127.0.0.1:29536")
+        .help("Host and port, or a Unix path that begins with / or .")
+}
+
+fn out_option<'a>(alloc: Global) -> Arg<'a>
+    ensures rule { rule_of result ≡ option_rule (codes "out") }
+    ensures local { result.global ≡ false }
+{
+    Arg::new(alloc, OUT).long(OUT).value_name("DIR").help(
+        "Write the log and the record of each bus into DIR at the end",
+    )
+}
+
+fn until_eof_option<'a>(alloc: Global) -> Arg<'a>
+    ensures rule { rule_of result ≡ flag_rule (codes "until-eof") }
+    ensures local { result.global ≡ false }
+{
+    Arg::new(alloc, UNTIL_EOF)
+        .long(UNTIL_EOF)
+        .action(ArgAction::SetTrue)
+        .help("End the run where standard input ends")
+}

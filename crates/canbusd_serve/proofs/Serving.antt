@@ -1,0 +1,66 @@
+use Rattle.std.proofs.Common.{◌≡◌, ◌+◌, ◌<◌, ℕ, suc, take, get_or, List, [], ◌∷◌, ◌++◌, length, All, Vec, Result, Ok, Err, Bool, true, false, IfErr, OnOk, IsTrue, refl, ap, ◌∙◌, sym, subst, arith, rules}
+use Rattle.std.proofs.lemmas.List.{take_more}
+use Rattle.std.proofs.lemmas.List.Elements.{All-cons}
+use Rattle.can_frame.specs.Names.{AreNames, names_in}
+use Rattle.can_station.specs.declared.gates.Open.{Open}
+use Rattle.can_station.specs.declared.passes.Settled.{Settled}
+use Rattle.can_station.specs.Passes.{PassSeen}
+use Rattle.can_server.specs.declared.benches.Bench.{Bench}
+use Rattle.can_server.specs.Benches.{buses_from}
+use Rattle.can_server.specs.Settling.{AllSettle}
+use Rattle.canbusd_options.specs.declared.bus_word.BusWord.{BusWord}
+use Rattle.canbusd_files.specs.declared.buses.Source.{Source}
+use Rattle.canbusd_options.specs.declared.serve_options.ServeOptions.{ServeOptions}
+use Rattle.canbusd_serve.specs.Served.{AreBenches, IsBenchOf, IsLegalEnd}
+
+-- The buses of a server, one after the other.
+
+-- one more bus
+benches-push : (o : ServeOptions) (buses : List BusWord) (bs : List (Bench Source Open)) (bus : BusWord) (b : Bench Source Open) → AreBenches o buses bs → IsBenchOf o bus b → AreBenches o (buses ++ bus ∷ []) (bs ++ b ∷ [])
+benches-push o [] [] bus b are is = (is, tt)
+benches-push o (x ∷ xs) (y ∷ ys) bus b are is = (are.0, benches-push o xs ys bus b are.1 is)
+benches-push o [] (y ∷ ys) bus b are is = absurd are
+benches-push o (x ∷ xs) [] bus b are is = absurd are
+
+-- the bus of the next word
+pub benches-more : (o : ServeOptions) (buses : List BusWord) (bs : List (Bench Source Open)) (i : ℕ) (bus : BusWord) (b : Bench Source Open) → i < length buses → bus ≡ get_or buses i bus → AreBenches o (take i buses) bs → IsBenchOf o bus b → AreBenches o (take (i + 1) buses) (bs ++ b ∷ [])
+benches-more o buses bs i bus b below here are is =
+    subst (λ l. AreBenches o l (bs ++ b ∷ [])) (ap (λ z. take i buses ++ z ∷ []) here ∙ sym (take_more buses i bus below)) (benches-push o (take i buses) bs bus b are is)
+
+-- there is one for each word
+pub benches-length : (o : ServeOptions) (buses : List BusWord) (bs : List (Bench Source Open)) → AreBenches o buses bs → length bs ≡ length buses
+benches-length o [] [] are = refl
+benches-length o (x ∷ xs) (y ∷ ys) are = ap suc (benches-length o xs ys are.1)
+benches-length o [] (y ∷ ys) are = absurd are
+benches-length o (x ∷ xs) [] are = absurd are
+
+-- their names are good
+pub benches-named : (o : ServeOptions) (buses : List BusWord) (bs : List (Bench Source Open)) → AreBenches o buses bs → All (λ bus. AreNames (names_in bus.names.now)) buses
+benches-named o [] [] are = λ k d low. absurd (omega arith)
+benches-named o (x ∷ xs) (y ∷ ys) are = All-cons (λ bus. AreNames (names_in bus.names.now)) x xs (subst AreNames are.0.names are.0.good) (benches-named o xs ys are.1)
+benches-named o [] (y ∷ ys) are = absurd are
+benches-named o (x ∷ xs) [] are = absurd are
+
+-- a hub has a bus for each
+pub buses-length : {F G : Type 0} (n : ℕ) (bs : List (Bench F G)) → length (buses_from n bs) ≡ length bs
+buses-length n [] = refl
+buses-length n (b ∷ more) = ap suc (buses-length (suc n) more)
+
+-- what is settled is one for each list of passes
+pub settles-length : {A : Type 0} (passes : List (Vec PassSeen A)) (ends : List Settled) → AllSettle passes ends → length ends ≡ length passes
+settles-length [] [] all = refl
+settles-length (p ∷ ps) (s ∷ ss) all = ap suc (settles-length ps ss all.1)
+settles-length [] (s ∷ ss) all = absurd all
+settles-length (p ∷ ps) [] all = absurd all
+
+-- and its records are of legal histories
+pub settles-legal : {A : Type 0} (passes : List (Vec PassSeen A)) (ends : List Settled) → AllSettle passes ends → All (λ s. IsLegalEnd s) ends
+settles-legal [] [] all = λ k d low. absurd (omega arith)
+settles-legal (p ∷ ps) (s ∷ ss) all = All-cons (λ s. IsLegalEnd s) s ss all.0.legal (settles-legal ps ss all.1)
+settles-legal [] (s ∷ ss) all = absurd all
+settles-legal (p ∷ ps) [] all = absurd all
+
+-- where nothing was told, the outcome was good
+pub not-told : {A E : Type 0} (P : Type 0) (r : Result A E) (told : Bool) → IfErr r (λ _. IsTrue told) → OnOk r P → told ≡ false → P
+not-told P (Ok a) told if_bad if_good quiet = if_good
+not-told P (Err e) told if_bad if_good quiet = absurd (search rules)

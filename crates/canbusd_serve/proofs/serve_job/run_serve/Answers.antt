@@ -1,0 +1,33 @@
+use Rattle.std.proofs.Common.{◌≡◌, not, Bool, true, false, length, IsTrue, ap, sym, subst, ◌∙◌, rules}
+use Rattle.can_server.proofs.Naming.{named}
+use Rattle.std.specs.Io.KnownBytes.{Appends}
+use Rattle.can_logfile.proofs.Growing.{Appends-then}
+use Rattle.canbusd_serve.specs.Served.{end_lines}
+use Rattle.canbusd_serve.proofs.Serving.{benches-length, benches-named, not-told}
+use Rattle.canbusd_serve.proofs.serve_job.run_serve.Goals as goal
+use Rattle.canbusd_serve.proofs.serve_job.run_serve.Goals.{in-Some, in_default}
+
+pub serve_named-requires-after_bounds : goal.serve_named-requires-after_bounds
+serve_named-requires-after_bounds g c lifetimes met = named c.in_ok-benches.benches.items
+
+-- nothing was told before, where nothing was told after
+quiet : (before after result : Bool) → (IsTrue before → IsTrue after) → result ≡ after → IsTrue (not result) → before ≡ false
+quiet before after result kept is whole = grind rules
+
+pub returns : goal.returns
+returns g c = λ whole.
+    let kept : IsTrue c.pass_on.new.self.has_told → IsTrue c.match-options.telling.has_told = λ told. elim c.match-options.branch [
+      | in-Some w ↦ subst (λ t. IsTrue t.has_told) (sym w.telling-is) (w.save_all.ensures told)
+      | in_default w ↦ subst (λ t. IsTrue t.has_told) (sym w.telling-is) told
+    ] in
+    let ends = not-told _ c.put_ends.result _ c.pass_on.ensures.told c.put_ends.ensures (quiet _ _ _ kept c.has_told.ensures whole) in
+    let ours = subst (λ buses. Appends (g.W.Write.contents c.serve_named.new.output) (g.W.Write.contents c.put_ends.new.output) (end_lines buses c.deref-2.result.now)) c.deref.ensures.value ends in
+    let all = subst (λ settled. Appends (g.W.Write.contents c.serve_named.new.output) (g.W.Write.contents c.put_ends.new.output) (end_lines c.args.options.now.buses.items settled)) c.deref-2.ensures.value ours in
+    record {
+      named = benches-named _ _ _ c.in_ok-benches.ensures;
+      settled = c.in_ok-settled.settled.items;
+      each = c.in_ok-settled.ensures.each ∙ benches-length _ _ _ c.in_ok-benches.ensures;
+      legal = c.in_ok-settled.ensures.legal;
+      heard = c.in_ok-settled.ensures.listening.0;
+      wrote = Appends-then _ _ _ _ _ c.in_ok-settled.ensures.listening.1 all;
+    }

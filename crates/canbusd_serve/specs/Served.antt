@@ -1,0 +1,59 @@
+use Rattle.std.specs.Prelude.{◌≡◌, ℕ, List, [], ◌∷◌, ◌++◌, length, All, Option, codes, decimal}
+use Rattle.std.specs.List.{AllZip}
+use Rattle.std.specs.Io.KnownBytes.{Appends}
+use Rattle.can_frame.specs.Names.{AreNames, names_in}
+use Rattle.can_bus.specs.Legal.{IsLegal}
+use Rattle.can_station.specs.declared.gates.Open.{Open}
+use Rattle.can_station.specs.declared.passes.Settled.{Settled}
+use Rattle.can_server.specs.declared.benches.Bench.{Bench}
+use Rattle.canbusd_options.specs.declared.bus_word.BusWord.{BusWord}
+use Rattle.canbusd_files.specs.declared.buses.Source.{Source}
+use Rattle.canbusd_options.specs.declared.serve_options.ServeOptions.{ServeOptions}
+use Rattle.canbusd_files.specs.Buses.{AreVerdicts, config_of, verdicts_of}
+use Rattle.canbusd_options.specs.BusWords.{first_name_of}
+
+-- A server's buses, and what it puts out at its end (own choice).
+
+-- a bus of a server is what its word and the options describe
+pub record IsBenchOf (o : ServeOptions) (bus : BusWord) (b : Bench Source Open) : Type 0 where
+  pub names : b.names ≡ names_in bus.names.now
+  pub good : AreNames b.names
+  pub config : b.config ≡ config_of o.settings (length b.names)
+  pub verdicts : AreVerdicts bus.script b.names (verdicts_of b.source)
+  pub pace_ms : b.pace_ms ≡ o.pace_ms
+  pub rx_capacity : b.rx_capacity ≡ o.settings.rx_capacity
+
+-- each bus of a server is what its word describes
+abbrev pub AreBenches : ServeOptions → List BusWord → List (Bench Source Open) → Type 0
+AreBenches o buses benches = AllZip (λ bus b. IsBenchOf o bus b) buses benches
+
+-- the record is of a legal history
+abbrev pub IsLegalEnd : Settled → Type 0
+IsLegalEnd s = IsLegal s.history.config s.history.history
+
+-- the line of a bus at the end: its first name, and how many entries its record has
+abbrev pub end_line : BusWord → Settled → List ℕ
+end_line bus s = codes "bus " ++ first_name_of bus.names.now ++ codes " entries " ++ decimal (length s.history.history) ++ 10 ∷ []
+
+-- the lines of all buses
+abbrev pub end_lines : List BusWord → List Settled → List ℕ
+end_lines [] settled = []
+end_lines (bus ∷ buses) [] = []
+end_lines (bus ∷ buses) (s ∷ settled) = end_line bus s ++ end_lines buses settled
+
+-- the line that tells where a server listens
+abbrev pub listening_line : List ℕ → List ℕ
+listening_line heard = codes "listening " ++ heard ++ 10 ∷ []
+
+-- it was told where a server listens
+abbrev pub IsListening : {W : Type 0} → (W → Option (List ℕ)) → W → W → Type 0
+IsListening contents old new = (heard : List ℕ) × Appends (contents old) (contents new) (listening_line heard)
+
+-- a server told where it listens, and at its end how many entries each bus has, whose records are legal
+pub record IsServed {W : Type 0} (contents : W → Option (List ℕ)) (o : ServeOptions) (old new : W) : Type 0 where
+  pub named : All (λ bus. AreNames (names_in bus.names.now)) o.buses.items
+  pub settled : List Settled
+  pub each : length settled ≡ length o.buses.items
+  pub legal : All (λ s. IsLegalEnd s) settled
+  pub heard : List ℕ
+  pub wrote : Appends (contents old) (contents new) (listening_line heard ++ end_lines o.buses.items settled)

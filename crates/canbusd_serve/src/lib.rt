@@ -1,0 +1,14 @@
+//! `canbusd serve`: a server on the buses of its options, and the logs and records that it leaves.
+//!
+//! The server itself is can_serving's. What is proved here: a server is made of the buses that its options describe; one
+//! that ends well put out how many entries the legal record of each bus has. What a socket holds is not known to any
+//! contract.
+#![tactic(auto)]
+
+mod buses_notes;
+mod hosts;
+mod listening;
+mod serve_files;
+mod serve_job;
+
+pub use serve_job::{ServerRuntime, run_serve};

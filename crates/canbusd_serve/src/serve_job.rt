@@ -1,0 +1,311 @@
+ghost use Rattle.std.specs.Prelude.{◌≡◌, length, All, IfOk, IsTrue, OnOk};
+ghost use Rattle.std.specs.Io.KnownBytes.{Appends};
+ghost use Rattle.can_server.specs.Benches.{NamedFrom};
+ghost use Rattle.canbusd_serve.specs.Served.{AreBenches, IsBenchOf, IsLegalEnd, IsListening, IsServed, end_line, end_lines, listening_line};
+
+use crate::buses_notes::buses_note;
+use crate::hosts::Host;
+use crate::listening::{Listening, leave, listen, listen_failure};
+use crate::serve_files::save_all;
+use can_bus::BusFault;
+use can_meter::MeterName;
+use can_roll::RollName;
+use can_server::{Bench, Hub};
+use can_serving::{Door, serve};
+use can_station::{Blanks, Open, Pass, Settled};
+use canbusd_faults::{Failure, Fault, Telling, fixed_note};
+use canbusd_files::{
+    INPUT, OUTPUT, Source, bus_config, read_names, read_source, write_failure,
+};
+use canbusd_options::{BusWord, ServeOptions};
+use std::alloc::Global;
+use std::io::{ErrorKind, Read, Write};
+use std::marker::Brand;
+use std::net::{Net, Shutdown, TcpListener, TcpStream};
+use std::os::unix::net::UnixStream;
+use std::rt::Files;
+use std::sync::{Mutex, Wait};
+use std::thread;
+use std::thread::Threads;
+use std::time::Clock;
+
+/// What a server takes of the system: files, the clock, threads and sockets.
+pub trait ServerRuntime: Files
+    + Clock
+    + Threads
+    + Wait
+    + Net<Listener = TcpListener, Stream = TcpStream>
+    + Sync {}
+
+impl<
+    R: Files + Clock + Threads + Wait + Net<Listener = TcpListener, Stream = TcpStream> + Sync,
+> ServerRuntime for R {}
+
+/// Serves the buses that the options describe until their sessions have come and ended, or, where that is asked for,
+/// until the input has ended. It puts out where it listens, and at the end how many entries the record of each bus
+/// has; then it writes the logs and records. Answers whether all of that was written: each fault of it is told among
+/// the errors, as is a bus whose record is full.
+///
+/// Bus by bus the names are looked at first, then the script; then the limits of the buses, and then it listens. The
+/// input is read only where its end is asked for.
+pub fn run_serve<'a, H: ServerRuntime, R: Read + Drop + Send + 'static, W: Write, E: Write + Send>(
+    rt: &H,
+    alloc: Global,
+    options: &ServeOptions<'a>,
+    input: R,
+    output: &mut W,
+    errors: &mut E,
+) -> Result<bool, Failure<'a>>
+    ensures { IfOk result (λ whole. IsTrue whole → IsServed W.contents options.now output.old output.new) }
+{
+    let run = ServerRun { rt, alloc, options };
+    let benches = run.read_benches()?;
+    let settled = run.serve_named::<Brand, _, _, _>(benches, input, output, errors)?;
+    let mut telling = Telling::new(errors);
+    telling.pass_on(put_ends(alloc, &options.buses, &settled, output));
+    if let Some(folder) = options.folder {
+        save_all(rt, alloc, folder, &options.buses, &settled, &mut telling);
+    }
+    Ok(!telling.has_told())
+}
+
+// What a server runs with.
+#[derive(Drop)]
+struct ServerRun<'r, 'a, H: ServerRuntime> {
+    rt: &'r H,
+    alloc: Global,
+    options: &'r ServeOptions<'a>,
+}
+
+impl<'r, 'a, H: ServerRuntime> ServerRun<'r, 'a, H> {
+    // What the buses of the options are made of.
+    fn read_benches(&self) -> Result<Vec<Bench<Source, Open>>, Failure<'a>>
+        ensures { IfOk result (λ benches. AreBenches self.now.options.now self.now.options.now.buses.items benches.items) }
+    {
+        let mut benches = Vec::new(self.alloc);
+        for bus in &self.options.buses {
+            let bench = self.read_bench(*bus)?;
+            let Ok(()) = benches.push(bench) else {
+                return Err(Failure::new(self.alloc, Fault::NoMemory));
+            };
+        }
+        Ok(benches)
+    }
+
+    fn read_bench(&self, bus: BusWord<'a>) -> Result<Bench<Source, Open>, Failure<'a>>
+        ensures { IfOk result (λ bench. IsBenchOf self.now.options.now bus.entry bench) }
+    {
+        let names = read_names(self.alloc, bus.names)?;
+        let source = read_source(self.rt, self.alloc, bus, &names)?;
+        let Ok(blanks) = Blanks::new(self.alloc, usize::from(names.count())) else {
+            return Err(Failure::new(self.alloc, Fault::NoMemory));
+        };
+        Ok(Bench {
+            config: bus_config(self.options.settings, &names),
+            names,
+            blanks,
+            source,
+            gate: Open,
+            pace_ms: self.options.pace_ms,
+            rx_capacity: self.options.settings.rx_capacity,
+        })
+    }
+
+    // Serves the buses that are made of these, and settles them.
+    fn serve_named<
+        N: RollName + MeterName + Send + Sync,
+        R: Read + Drop + Send + 'static,
+        W: Write,
+        E: Write + Send,
+    >(
+        &self,
+        benches: Vec<Bench<Source, Open>>,
+        input: R,
+        output: &mut W,
+        errors: &mut E,
+    ) -> Result<Vec<Settled>, Failure<'a>>
+        requires { NamedFrom N.roll N.meter 0 benches.items }
+        ensures each { IfOk result (λ settled. length settled.items ≡ length benches.items) }
+        ensures legal { IfOk result (λ settled. All (λ s. IsLegalEnd s) settled.items) }
+        ensures listening { OnOk result (IsListening W.contents output.old output.new) }
+    {
+        let hub = match Hub::<N, Source, Open>::new(self.alloc, benches) {
+            Ok(hub) => hub,
+            Err(fault) => return Err(self.hub_failure(fault)),
+        };
+        let passes = self.serve_hub(&hub, input, output, errors)?;
+        match hub.settle(self.rt, self.alloc, passes) {
+            Ok(settled) => Ok(settled),
+            Err(fault) => Err(self.wrong_station(fault.bus)),
+        }
+    }
+
+    fn hub_failure(&self, fault: BusFault) -> Failure<'a> {
+        let notes = match fault {
+            BusFault::BadConfig => {
+                buses_note(self.alloc, &self.options.settings, &self.options.buses)
+            }
+            BusFault::NoMemory => fixed_note(
+                self.alloc,
+                "each bus takes 104 bytes of memory for each event of --limit",
+            ),
+        };
+        Failure::with(self.alloc, Fault::Buses(fault), notes)
+    }
+
+    fn wrong_station(&self, bus: usize) -> Failure<'a> {
+        let name = self
+            .options
+            .buses
+            .get(bus)
+            .map_or("", |bus| bus.first_name());
+        Failure::new(self.alloc, Fault::WrongStation(name))
+    }
+
+    // Listens, and serves the buses of a hub: the passes of each.
+    fn serve_hub<
+        N: RollName + MeterName + Send + Sync,
+        R: Read + Drop + Send + 'static,
+        W: Write,
+        E: Write + Send,
+    >(
+        &self,
+        hub: &Hub<N, Source, Open>,
+        input: R,
+        output: &mut W,
+        errors: &mut E,
+    ) -> Result<Vec<Vec<Pass<N>>>, Failure<'a>>
+        ensures passes { IfOk result (λ passes. length passes.items ≡ length hub.now) }
+        ensures listening { OnOk result (IsListening W.contents output.old output.new) }
+    {
+        let address = self.options.address;
+        let sessions = self.options.sessions;
+        let Listening { door, heard } = listen(self.rt, self.alloc, address, sessions)?;
+        let served = match put_listening(self.alloc, &heard, output) {
+            Ok(()) => self.serve_door(hub, door, input, errors),
+            Err(failure) => Err(failure),
+        };
+        leave(self.rt, address);
+        served
+    }
+
+    fn serve_door<
+        N: RollName + MeterName + Send + Sync,
+        R: Read + Drop + Send + 'static,
+        E: Write + Send,
+    >(
+        &self,
+        hub: &Hub<N, Source, Open>,
+        door: Door,
+        input: R,
+        errors: &mut E,
+    ) -> Result<Vec<Vec<Pass<N>>>, Failure<'a>>
+        ensures { IfOk result (λ passes. length passes.items ≡ length hub.now) }
+    {
+        let until = if self.options.is_until_eof {
+            Some(self.end_of(input)?)
+        } else {
+            None
+        };
+        let host = Host {
+            rt: self.rt,
+            buses: &self.options.buses,
+            errors: Mutex::new(errors),
+        };
+        match serve(self.rt, self.alloc, hub, &[door], &host, until.as_ref()) {
+            Ok(passes) => Ok(passes),
+            Err(_) => Err(Failure::new(self.alloc, Fault::NoMemory)),
+        }
+    }
+
+    // A stream that ends where the input does. Its reader is a thread that nobody joins, since a read of the input
+    // may wait for longer than the run.
+    fn end_of<R: Read + Drop + Send + 'static>(&self, input: R) -> Result<UnixStream, Failure<'a>> {
+        let (ours, theirs) = match UnixStream::pair(self.rt) {
+            Ok(pair) => pair,
+            Err(error) => return Err(listen_failure(self.alloc, INPUT, &error)),
+        };
+        match thread::spawn(self.rt, move || end_with(input, &theirs)) {
+            Ok(_) => Ok(ours),
+            Err(_) => Err(Failure::new(self.alloc, Fault::NoMemory)),
+        }
+    }
+}
+
+// Reads an input to its end, and then shuts a stream down.
+fn end_with<R: Read + Drop>(mut input: R, stream: &UnixStream) {
+    let mut piece = [0; 4096];
+    for _ in 0..u64::MAX {
+        match input.read(&mut piece) {
+            Ok(0) => break,
+            Ok(_) => {}
+            Err(error) if error.kind() == ErrorKind::Interrupted => {}
+            Err(_) => break,
+        }
+    }
+    let _ = stream.shutdown(Shutdown::Both);
+}
+
+// Puts out where the server listens, for others to read at once.
+fn put_listening<'a, W: Write>(
+    alloc: Global,
+    heard: &str,
+    output: &mut W,
+) -> Result<(), Failure<'a>>
+    ensures { OnOk result (Appends (W.contents output.old) (W.contents output.new) (listening_line heard.now)) }
+{
+    if let Err(error) = writeln!(output, "listening {heard}") {
+        return Err(write_failure(alloc, OUTPUT, &error));
+    }
+    output
+        .flush()
+        .map_err(|error| write_failure(alloc, OUTPUT, &error))
+}
+
+// Puts out how many entries the record of each bus has.
+fn put_ends<'a, W: Write>(
+    alloc: Global,
+    buses: &[BusWord<'_>],
+    settled: &[Settled],
+    output: &mut W,
+) -> Result<(), Failure<'a>>
+    ensures { OnOk result (Appends (W.contents output.old) (W.contents output.new) (end_lines buses.now settled.now)) }
+{
+    put_each_end(alloc, buses, settled, output)?;
+    output
+        .flush()
+        .map_err(|error| write_failure(alloc, OUTPUT, &error))
+}
+
+fn put_each_end<'a, W: Write>(
+    alloc: Global,
+    buses: &[BusWord<'_>],
+    settled: &[Settled],
+    output: &mut W,
+) -> Result<(), Failure<'a>>
+    ensures { OnOk result (Appends (W.contents output.old) (W.contents output.new) (end_lines buses.now settled.now)) }
+{
+    let Some((bus, buses)) = buses.split_first() else {
+        return Ok(());
+    };
+    let Some((first, settled)) = settled.split_first() else {
+        return Ok(());
+    };
+    put_end(alloc, bus, first, output)?;
+    put_each_end(alloc, buses, settled, output)
+}
+
+fn put_end<'a, W: Write>(
+    alloc: Global,
+    bus: &BusWord<'_>,
+    settled: &Settled,
+    output: &mut W,
+) -> Result<(), Failure<'a>>
+    ensures { OnOk result (Appends (W.contents output.old) (W.contents output.new) (end_line bus.now settled.now)) }
+{
+    let name = bus.first_name();
+    let count = settled.history.len();
+    writeln!(output, "bus {name} entries {count}").map_err(|error| write_failure(
+        alloc, OUTPUT, &error,
+    ))
+}
