@@ -28,6 +28,26 @@ def demand(is_right, saw):
         raise Wrong(saw)
 
 
+def run_checks(only, faults=()):
+    """Runs the checks with this word in their names, a line for each; how many passed, and how many failed.
+
+    A check also fails by one of these faults, and by a process or a system that fails.
+    """
+    passed = failed = 0
+    for function in CHECKS:
+        name = function.__name__.replace("_", " ")
+        if only not in name:
+            continue
+        try:
+            saw = function()
+            passed += 1
+            print(f"ok {name}: {saw}", flush=True)
+        except (Wrong, OSError, subprocess.SubprocessError, ValueError, *faults) as fault:
+            failed += 1
+            print(f"failed {name} ({function.__doc__}): {fault}", flush=True)
+    return passed, failed
+
+
 class Server:
     """A server that runs in a folder of its own, in a group of processes of its own."""
 

@@ -7,4 +7,4 @@ NAME = re.compile("[A-Za-z0-9_.-]{1,15}")
 
 def shown(line):
     """The beginning of a line, without what a terminal would take for commands."""
-    return "".join(char if char.isprintable() else "?" for char in line[:60]) + (" .." if len(line) > 60 else "")
+    return "".join(char if " " <= char <= "~" else "?" for char in line[:60]) + (" .." if len(line) > 60 else "")
