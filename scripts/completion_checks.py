@@ -11,9 +11,9 @@ import subprocess
 import tempfile
 import time
 
-from serving import WAIT, check, demand
+from serving import ROOT, WAIT, check, demand
 
-CONTRIB = os.path.join(os.path.dirname(os.path.dirname(os.path.abspath(__file__))), "contrib")
+CONTRIB = os.path.join(ROOT, "contrib")
 FILES = ["faults.script", "first.bench", "run.rec", "out.txt", "my faults.script", "logs/kept.rec"]
 # What is typed, and what the tab key adds to it.
 TYPED = [

@@ -9,6 +9,7 @@ import socket
 import subprocess
 import tempfile
 
+ROOT = os.path.dirname(os.path.dirname(os.path.abspath(__file__)))
 WAIT = 10
 CHECKS = []
 
@@ -28,11 +29,8 @@ def demand(is_right, saw):
         raise Wrong(saw)
 
 
-def run_checks(only, faults=()):
-    """Runs the checks with this word in their names, a line for each; how many passed, and how many failed.
-
-    A check also fails by one of these faults, and by a process or a system that fails.
-    """
+def run_checks(only="", faults=()):
+    """Runs the checks with this word in their names, where these exceptions too are faults: whether all went well."""
     passed = failed = 0
     for function in CHECKS:
         name = function.__name__.replace("_", " ")
@@ -45,7 +43,8 @@ def run_checks(only, faults=()):
         except (Wrong, OSError, subprocess.SubprocessError, ValueError, *faults) as fault:
             failed += 1
             print(f"failed {name} ({function.__doc__}): {fault}", flush=True)
-    return passed, failed
+    print(f"{passed} ok, {failed} failed")
+    return failed == 0
 
 
 class Server:
