@@ -389,7 +389,7 @@ function begin() {
   document.querySelectorAll("[data-zoom]").forEach(one => one.onclick = () => one.dataset.zoom === "all" ? look(0, count) : zoom(Number(one.dataset.zoom)));
   at("number").onchange = () => choose(stepOfAttempt(Number(at("number").value)));
   document.addEventListener("keydown", event => {
-    if (event.target.matches("input, select")) return;
+    if (event.target.matches?.("input, select")) return;
     if (event.key === "ArrowLeft" || event.key === "ArrowRight") { choose(view.step + (event.key === "ArrowLeft" ? -1 : 1)); event.preventDefault(); }
   });
   at("items").addEventListener("scroll", showItems);
