@@ -7,7 +7,12 @@ _canbusd() {
     _arguments -C \
         '(- *)--help[show the help]' \
         '(- *)--version[show the version]' \
-        '1:command:((bench\:"run a bus from lines of standard input" serve\:"serve clients on buses" audit\:"check a record" help\:"show the help of a command"))' \
+        '1:command:((
+            bench\:"run a bus from lines of standard input"
+            serve\:"serve clients on buses"
+            audit\:"check a record"
+            help\:"show the help of a command"
+        ))' \
         '*::argument:->argument'
     [[ $state == argument ]] || return
     local -a shared=(

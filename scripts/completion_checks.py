@@ -59,7 +59,13 @@ class Shell:
         self.child, self.terminal = pty.fork()
         if self.child == 0:
             os.chdir(folder)
-            environment = {"PATH": os.environ["PATH"], "TERM": "dumb", "HOME": folder, "COLUMNS": "200", "LC_ALL": "C.UTF-8"}
+            environment = {
+                "PATH": os.environ["PATH"],
+                "TERM": "dumb",
+                "HOME": folder,
+                "COLUMNS": "200",
+                "LC_ALL": "C.UTF-8",
+            }
             os.execvpe(words[0], words, environment)
 
     def until(self, pattern):
@@ -103,7 +109,10 @@ def completes(words, *commands):
     return f"{len(TYPED)} lines"
 
 
-BASH_LINE = ["show_line() { printf 'LINE[%s]\\n' \"$READLINE_LINE\"; READLINE_LINE=; }", "bind -x '\"\\C-t\": show_line'"]
+BASH_LINE = [
+    "show_line() { printf 'LINE[%s]\\n' \"$READLINE_LINE\"; READLINE_LINE=; }",
+    "bind -x '\"\\C-t\": show_line'",
+]
 
 
 @check
@@ -115,16 +124,30 @@ def completion_in_bash():
 @check
 def completion_in_bash_with_other_words():
     """where neither `=` nor `@` parts words"""
-    return completes(["bash", "--norc", "--noprofile", "-i"], f"source {CONTRIB}/canbusd.bash", "COMP_WORDBREAKS=${COMP_WORDBREAKS//[=@]}",
-                     *BASH_LINE)
+    return completes(
+        ["bash", "--norc", "--noprofile", "-i"],
+        f"source {CONTRIB}/canbusd.bash",
+        "COMP_WORDBREAKS=${COMP_WORDBREAKS//[=@]}",
+        *BASH_LINE,
+    )
 
 
 @check
 def completion_in_zsh():
     """with zsh's own completion system, which finds the file by its name"""
-    return completes(["zsh", "-f", "-i"], "mkdir functions", f"cp {CONTRIB}/canbusd.zsh functions/_canbusd", "fpath=($PWD/functions $fpath)",
-                     "autoload -Uz compinit", "compinit -u -D", "unsetopt zle_bracketed_paste automenu autolist",
-                     "show-line() { zle -I; print -r -- \"LINE[$BUFFER]\"; BUFFER=; }", "zle -N show-line", "bindkey '^T' show-line", "bindkey '^I' complete-word")
+    return completes(
+        ["zsh", "-f", "-i"],
+        "mkdir functions",
+        f"cp {CONTRIB}/canbusd.zsh functions/_canbusd",
+        "fpath=($PWD/functions $fpath)",
+        "autoload -Uz compinit",
+        "compinit -u -D",
+        "unsetopt zle_bracketed_paste automenu autolist",
+        'show-line() { zle -I; print -r -- "LINE[$BUFFER]"; BUFFER=; }',
+        "zle -N show-line",
+        "bindkey '^T' show-line",
+        "bindkey '^I' complete-word",
+    )
 
 
 @check
@@ -134,8 +157,15 @@ def completion_in_fish():
         return "fish is not installed"
     with folder_of_files() as folder:
         for typed, wanted in TYPED:
-            done = subprocess.run(["fish", "--no-config", "-c", f'source {CONTRIB}/canbusd.fish; complete --do-complete "{typed}"'], cwd=folder,
-                                  env={**os.environ, "HOME": folder}, capture_output=True, text=True, timeout=60, check=False)
+            done = subprocess.run(
+                ["fish", "--no-config", "-c", f'source {CONTRIB}/canbusd.fish; complete --do-complete "{typed}"'],
+                cwd=folder,
+                env={**os.environ, "HOME": folder},
+                capture_output=True,
+                text=True,
+                timeout=60,
+                check=False,
+            )
             offers = [line.split("\t")[0] for line in done.stdout.splitlines()]
             word = re.split("[ <>]", typed)[-1] + wanted.rstrip(" ").replace("\\", "")
             demand(offers == ([word] if wanted else []), f"`{typed}` is offered {offers} {done.stderr}")

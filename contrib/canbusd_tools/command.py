@@ -34,12 +34,18 @@ def carry_out(work):
 
 def record_words(description, epilog, drawings=()):
     """The parser of a command that takes a record, behind one of the drawings if there are some."""
-    parser = argparse.ArgumentParser(description=description, epilog=epilog, formatter_class=argparse.RawDescriptionHelpFormatter)
+    parser = argparse.ArgumentParser(
+        description=description, epilog=epilog, formatter_class=argparse.RawDescriptionHelpFormatter
+    )
     if drawings:
         parser.add_argument("drawing", choices=drawings, metavar="DRAWING", help=" or ".join(drawings))
     parser.add_argument("record", metavar="RECORD", help="what `canbusd bench --record` or `canbusd serve --out` wrote")
-    parser.add_argument("--names", metavar="NAME,..", help="the names of the interfaces; without them those in the log beside the "
-                        "record (can0.log beside can0.rec), if there is one")
+    parser.add_argument(
+        "--names",
+        metavar="NAME,..",
+        help="the names of the interfaces; without them those in the log beside the "
+        "record (can0.log beside can0.rec), if there is one",
+    )
     return parser
 
 

@@ -24,7 +24,7 @@ class Frame:
 
 
 def arbitration_bits(identifier, rtr):
-    """The bits that arbitration compares (Bosch CAN 2.0), with blanks between the fields, at the same places in all frames."""
+    """The bits that arbitration compares (Bosch CAN 2.0), with blanks between fields, at the same places in all frames."""
     number = int(identifier, 16)
     if len(identifier) == 3:
         return f"{number:011b} {rtr}0"

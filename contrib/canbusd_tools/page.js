@@ -15,7 +15,9 @@ function column(text, width) {
   const bytes = Uint8Array.from(atob(text), char => char.charCodeAt(0));
   return new { 1: Uint8Array, 2: Uint16Array, 4: Uint32Array }[width](bytes.buffer);
 }
-const columns = table => Object.fromEntries(Object.entries(table).map(([name, [width, text]]) => [name, column(text, width)]));
+function columns(table) {
+  return Object.fromEntries(Object.entries(table).map(([name, [width, text]]) => [name, column(text, width)]));
+}
 const steps = columns(run.steps), contenders = columns(run.contenders), items = columns(run.items);
 const tec = run.tec.map(text => column(text, 2)), rec = run.rec.map(text => column(text, 2));
 const waiting = run.waiting.map(text => column(text, 2));
@@ -116,7 +118,8 @@ function drawBucket(pen, bucket, row) {
     if (hit >> i & 1) fill(colour("hit"), 1, 3);
     if (worst[i] >= 0 && bucket.last - bucket.first === 1) {
       const text = worst[i] === RESTART ? "restart" : run.texts[steps.frame[bucket.first]];
-      if (pen.measureText(text).width < wide - 6) label(pen, text, bucket.left + wide / 2, top + row / 2 - 1, "#fff", "center");
+      const fits = pen.measureText(text).width < wide - 6;
+      if (fits) label(pen, text, bucket.left + wide / 2, top + row / 2 - 1, "#fff", "center");
     }
   });
 }
@@ -212,7 +215,8 @@ function drawQueue() {
     line(pen, width, queue.fill, high, 14, most, colour("tec"));
     pen.fillStyle = colour("destroyed");
     for (const bucket of buckets(width)) {
-      if (queue.dropped.subarray(bucket.first, bucket.last).includes(1)) pen.fillRect(bucket.left, 0, Math.max(bucket.width - 1, 1), 6);
+      const lost = queue.dropped.subarray(bucket.first, bucket.last).includes(1);
+      if (lost) pen.fillRect(bucket.left, 0, Math.max(bucket.width - 1, 1), 6);
     }
     markChosen(pen, width, high + 20);
   });
@@ -224,13 +228,15 @@ function sentence(step) {
   const who = names[steps.iface[step]];
   if (steps.kind[step] === RESTART) return `${who} is restarted: it is back on the bus, with both counts 0.`;
   const off = steps.off[step] ? ` ${who} goes bus off.` : "";
-  return `${who} wins with its frame ${steps.number[step]}, ${run.texts[steps.frame[step]]}. Fault: ${run.verdicts[steps.verdict[step]]}. `
+  const frame = run.texts[steps.frame[step]], fault = run.verdicts[steps.verdict[step]];
+  return `${who} wins with its frame ${steps.number[step]}, ${frame}. Fault: ${fault}. `
     + `Outcome: ${KIND_WORDS[steps.kind[step]]}. Accepted by ${listed(steps.accepted[step])}.${off}`;
 }
 
 function arbitration(step) {
   const from = contenders.offsets[step], to = contenders.offsets[step + 1];
-  if (to - from < 2) return element("p", steps.kind[step] === RESTART ? "" : "No other interface had a frame to send.");
+  if (steps.kind[step] === RESTART) return "";
+  if (to - from < 2) return element("p", "No other interface had a frame to send.");
   const taking = [];
   for (let k = from; k < to; k++) taking.push({ iface: contenders.ifaces[k], frame: contenders.frames[k] });
   const best = run.bits[taking.find(one => one.iface === steps.iface[step]).frame];
@@ -240,36 +246,46 @@ function arbitration(step) {
     const shown = [names[iface].padEnd(wide) + "  "];
     if (iface === steps.iface[step]) shown.push(bits + "  wins with ");
     else if (lost < 0) shown.push(bits + "  equal bits, the lower number wins: ");
-    else shown.push(bits.slice(0, lost), element("b", bits[lost]), " ".repeat(Math.max(best.length, bits.length) - lost) + " falls silent: ");
+    else {
+      const rest = " ".repeat(Math.max(best.length, bits.length) - lost);
+      shown.push(bits.slice(0, lost), element("b", bits[lost]), rest + " falls silent: ");
+    }
     return element("div", [...shown, run.texts[frame]]);
   }));
 }
 
 function countersAround(step) {
-  const before = step ? [tec.map(values => values[step - 1]), rec.map(values => values[step - 1])] : [names.map(() => 0), names.map(() => 0)];
-  const pair = (old, now) => old === now ? String(now) : `${old} \u2192 ${now}`;
-  const rows = names.map((name, i) => tableRow("td", [name, pair(before[0][i], tec[i][step]), pair(before[1][i], rec[i][step]),
-    steps.hit[step] >> i & 1 ? "saw the fault" : steps.accepted[step] >> i & 1 ? "accepted" : "", waiting[i][step]]));
+  const change = counts => {
+    const old = step ? counts[step - 1] : 0;
+    return old === counts[step] ? String(old) : `${old} \u2192 ${counts[step]}`;
+  };
+  const part = i => steps.hit[step] >> i & 1 ? "saw the fault" : steps.accepted[step] >> i & 1 ? "accepted" : "";
+  const rows = names.map((name, i) => tableRow("td", [name, change(tec[i]), change(rec[i]), part(i), waiting[i][step]]));
   return element("table", [tableRow("th", ["interface", "transmit count", "receive count", "", "frames waiting"]), ...rows]);
 }
 
 function showChosen() {
   if (!count) { at("chosen").replaceChildren(element("p", "No frame was tried.")); return; }
   const step = view.step, kind = steps.kind[step];
-  const title = kind === RESTART ? `Restart at ${run.moments[step]}` : `Attempt ${steps.attempt[step]} at ${run.moments[step]}`;
-  at("chosen").replaceChildren(element("h2", `${title}, entry ${steps.entry[step]}`), element("p", sentence(step)),
-    arbitration(step), countersAround(step));
+  const title = kind === RESTART ? "Restart" : `Attempt ${steps.attempt[step]}`;
+  at("chosen").replaceChildren(element("h2", `${title} at ${run.moments[step]}, entry ${steps.entry[step]}`),
+    element("p", sentence(step)), arbitration(step), countersAround(step));
   if (kind !== RESTART) at("number").value = steps.attempt[step];
 }
 
 // Tables.
 
 function showTables() {
-  at("ifaces").replaceChildren(tableRow("th", ["interface", "sent", "done", "waiting", "lost", "refused", "transmit count", "receive count", "state"]),
-    ...run.ifaces.map((one, i) => tableRow("td", [names[i], one.sent, one.done, one.waiting, counted(one.lost), counted(one.refused), one.tec, one.rec, one.state])));
-  at("sockets").replaceChildren(tableRow("th", ["socket", "interface", "capacity", "queued", "taken", "in the queue", "unread at the close", "dropped", "open"]),
+  at("ifaces").replaceChildren(
+    tableRow("th", ["interface", "sent", "done", "waiting", "lost", "refused", "transmit count", "receive count", "state"]),
+    ...run.ifaces.map((one, i) => tableRow("td", [names[i], one.sent, one.done, one.waiting, counted(one.lost),
+      counted(one.refused), one.tec, one.rec, one.state])));
+  at("sockets").replaceChildren(
+    tableRow("th", ["socket", "interface", "capacity", "queued", "taken", "in the queue", "unread at the close", "dropped",
+      "open"]),
     ...run.sockets.map((one, k) => {
-      const row = tableRow("td", [one.number, names[one.iface], one.capacity, one.queued, one.taken, one.waiting, one.unread, counted(one.dropped), one.open]);
+      const row = tableRow("td", [one.number, names[one.iface], one.capacity, one.queued, one.taken, one.waiting, one.unread,
+        counted(one.dropped), one.open]);
       row.onclick = () => chooseSocket(k);
       return row;
     }));
@@ -285,12 +301,13 @@ function chooseSocket(socket) {
 let found = [];
 function findItems() {
   const socket = at("of-socket").value, fate = at("of-fate").value, text = at("of-frame").value.trim().toUpperCase();
+  const fits = item => (socket === "" || items.socket[item] === Number(socket))
+    && (fate === "" || items.fate[item] === Number(fate))
+    && (text === "" || run.texts[items.frame[item]].startsWith(text));
   found = [];
-  for (let item = 0; item < items.socket.length && found.length < MOST_ROWS; item++) {
-    if ((socket === "" || items.socket[item] === Number(socket)) && (fate === "" || items.fate[item] === Number(fate))
-      && (text === "" || run.texts[items.frame[item]].startsWith(text))) found.push(item);
-  }
-  at("found").textContent = `${found.length} of ${run.itemsInAll}` + (found.length === MOST_ROWS || run.itemsInAll > items.socket.length ? ", the first of them" : "");
+  for (let item = 0; item < items.socket.length && found.length < MOST_ROWS; item++) if (fits(item)) found.push(item);
+  const isCut = found.length === MOST_ROWS || run.itemsInAll > items.socket.length;
+  at("found").textContent = `${found.length} of ${run.itemsInAll}${isCut ? ", the first of them" : ""}`;
   at("room").style.height = (found.length + 1) * ROW + "px";
   at("items").scrollTop = 0;
   showItems();
@@ -299,9 +316,9 @@ function findItems() {
 function itemRow(item) {
   const step = items.step[item], frame = items.frame[item], isError = items.number[item] === NO_NUMBER;
   const fate = FATES[items.fate[item]];
-  const row = tableRow("td", [steps.kind[step] === RESTART ? "restart" : steps.attempt[step], run.moments[step], items.socket[item],
-    names[items.sender[item]], isError ? "" : items.number[item], run.texts[frame], run.meanings[frame] || "",
-    fate === "dropped" ? element("td", fate, { className: "bad" }) : fate]);
+  const row = tableRow("td", [steps.kind[step] === RESTART ? "restart" : steps.attempt[step], run.moments[step],
+    items.socket[item], names[items.sender[item]], isError ? "" : items.number[item], run.texts[frame],
+    run.meanings[frame] || "", fate === "dropped" ? element("td", fate, { className: "bad" }) : fate]);
   row.onclick = () => choose(step);
   if (step === view.step) row.className = "chosen";
   return row;
@@ -358,10 +375,17 @@ function stepOfAttempt(number) {
 }
 
 function listenTo(canvas) {
-  const stepAt = event => view.from + (event.offsetX - LEFT) / (canvas.clientWidth - LEFT - RIGHT) * (view.to - view.from);
+  const width = () => canvas.clientWidth - LEFT - RIGHT;
+  const stepAt = event => view.from + (event.offsetX - LEFT) / width() * (view.to - view.from);
   let held = null;
-  canvas.addEventListener("wheel", event => { event.preventDefault(); zoom(event.deltaY < 0 ? 0.8 : 1.25, stepAt(event)); }, { passive: false });
-  canvas.addEventListener("pointerdown", event => { held = { step: stepAt(event), x: event.offsetX, moved: false }; canvas.setPointerCapture(event.pointerId); });
+  canvas.addEventListener("wheel", event => {
+    event.preventDefault();
+    zoom(event.deltaY < 0 ? 0.8 : 1.25, stepAt(event));
+  }, { passive: false });
+  canvas.addEventListener("pointerdown", event => {
+    held = { step: stepAt(event), x: event.offsetX, moved: false };
+    canvas.setPointerCapture(event.pointerId);
+  });
   canvas.addEventListener("pointermove", event => {
     if (!held || Math.abs(event.offsetX - held.x) < 4 && !held.moved) return;
     held.moved = true;
@@ -374,26 +398,45 @@ function listenTo(canvas) {
   });
 }
 
-function begin() {
+function showWords() {
   document.title = run.title;
   at("title").textContent = run.title;
   at("facts").textContent = run.facts;
-  at("legend").append(...KINDS.map((kind, k) => [kind, KIND_WORDS[k]]).concat([["accepted", "accepted it"], ["hit", "saw the fault alone"], ["off", "bus off"]])
-    .flatMap(([name, words]) => { const mark = element("i", ""); mark.style.background = `var(--${name})`; return [mark, words]; }));
-  at("of-socket").append(element("option", "all", { value: "" }), ...run.sockets.map((one, k) => element("option", `${one.number} on ${names[one.iface]}`, { value: String(k) })));
-  at("of-fate").append(element("option", "all", { value: "" }), ...FATES.map((fate, k) => element("option", fate, { value: String(k) })));
+  const marks = KINDS.map((kind, k) => [kind, KIND_WORDS[k]]);
+  marks.push(["accepted", "accepted it"], ["hit", "saw the fault alone"], ["off", "bus off"]);
+  for (const [name, words] of marks) {
+    const mark = element("i", "");
+    mark.style.background = `var(--${name})`;
+    at("legend").append(mark, words);
+  }
+  const options = words => [["all", ""], ...words.map((text, k) => [text, String(k)])]
+    .map(([text, value]) => element("option", text, { value }));
+  at("of-socket").append(...options(run.sockets.map(one => `${one.number} on ${names[one.iface]}`)));
+  at("of-fate").append(...options(FATES));
+}
+
+function listen() {
   ["of-socket", "of-fate", "of-frame"].forEach(id => at(id).addEventListener("input", findItems));
   ["attempts", "counters", "waiting", "queue"].forEach(id => listenTo(at(id)));
-  document.querySelectorAll("[data-move]").forEach(one => one.onclick = () => choose(view.step + Number(one.dataset.move)));
-  document.querySelectorAll("[data-fault]").forEach(one => one.onclick = () => nextFault(Number(one.dataset.fault)));
-  document.querySelectorAll("[data-zoom]").forEach(one => one.onclick = () => one.dataset.zoom === "all" ? look(0, count) : zoom(Number(one.dataset.zoom)));
+  const onClick = (name, work) => document.querySelectorAll(`[data-${name}]`)
+    .forEach(one => one.onclick = () => work(one.dataset[name]));
+  onClick("move", by => choose(view.step + Number(by)));
+  onClick("fault", by => nextFault(Number(by)));
+  onClick("zoom", by => by === "all" ? look(0, count) : zoom(Number(by)));
   at("number").onchange = () => choose(stepOfAttempt(Number(at("number").value)));
   document.addEventListener("keydown", event => {
-    if (event.target.matches?.("input, select")) return;
-    if (event.key === "ArrowLeft" || event.key === "ArrowRight") { choose(view.step + (event.key === "ArrowLeft" ? -1 : 1)); event.preventDefault(); }
+    const by = { ArrowLeft: -1, ArrowRight: 1 }[event.key];
+    if (!by || event.target.matches?.("input, select")) return;
+    event.preventDefault();
+    choose(view.step + by);
   });
   at("items").addEventListener("scroll", showItems);
   window.addEventListener("resize", () => requestAnimationFrame(show));
+}
+
+function begin() {
+  showWords();
+  listen();
   showTables();
   const wanted = /^#step=(\d+)$/.exec(location.hash);
   if (wanted) view.step = Math.min(Number(wanted[1]), Math.max(count - 1, 0));

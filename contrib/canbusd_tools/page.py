@@ -47,18 +47,20 @@ class Texts:
 
 def steps_of(run, texts, verdicts):
     steps = run.steps
-    return columns({
-        "kind": ("B", [KINDS.index(step.kind) for step in steps]),
-        "attempt": ("I", [step.attempt for step in steps]),
-        "entry": ("I", [step.entry for step in steps]),
-        "iface": ("B", [step.iface for step in steps]),
-        "number": ("I", [step.number for step in steps]),
-        "frame": ("I", [texts.place(step.text) for step in steps]),
-        "verdict": ("I", [verdicts.place(step.verdict) for step in steps]),
-        "accepted": ("H", [members(step.accepted) for step in steps]),
-        "hit": ("H", [members(step.hit) for step in steps]),
-        "off": ("H", [members(step.off) for step in steps]),
-    })
+    return columns(
+        {
+            "kind": ("B", [KINDS.index(step.kind) for step in steps]),
+            "attempt": ("I", [step.attempt for step in steps]),
+            "entry": ("I", [step.entry for step in steps]),
+            "iface": ("B", [step.iface for step in steps]),
+            "number": ("I", [step.number for step in steps]),
+            "frame": ("I", [texts.place(step.text) for step in steps]),
+            "verdict": ("I", [verdicts.place(step.verdict) for step in steps]),
+            "accepted": ("H", [members(step.accepted) for step in steps]),
+            "hit": ("H", [members(step.hit) for step in steps]),
+            "off": ("H", [members(step.off) for step in steps]),
+        }
+    )
 
 
 def contenders_of(run, texts):
@@ -66,24 +68,28 @@ def contenders_of(run, texts):
     for step in run.steps:
         offsets.append(offsets[-1] + len(step.contenders))
     flat = [contender for step in run.steps for contender in step.contenders]
-    return columns({
-        "offsets": ("I", offsets),
-        "ifaces": ("B", [number for number, _ in flat]),
-        "frames": ("I", [texts.place(frame.text) for _, frame in flat]),
-    })
+    return columns(
+        {
+            "offsets": ("I", offsets),
+            "ifaces": ("B", [number for number, _ in flat]),
+            "frames": ("I", [texts.place(frame.text) for _, frame in flat]),
+        }
+    )
 
 
 def items_of(items, texts):
-    return columns({
-        "socket": ("I", [item.socket.number for item in items]),
-        "step": ("I", [item.step for item in items]),
-        "frame": ("I", [texts.place(item.text) for item in items]),
-        "sender": ("B", [item.sender for item in items]),
-        "number": ("I", [NO_NUMBER if item.number is None else item.number for item in items]),
-        "fate": ("B", [FATES.index(item.fate) for item in items]),
-        # The first step behind which it was in its queue no more.
-        "after": ("I", [0 if item.taken_after is None else item.taken_after + 1 for item in items]),
-    })
+    return columns(
+        {
+            "socket": ("I", [item.socket.number for item in items]),
+            "step": ("I", [item.step for item in items]),
+            "frame": ("I", [texts.place(item.text) for item in items]),
+            "sender": ("B", [item.sender for item in items]),
+            "number": ("I", [NO_NUMBER if item.number is None else item.number for item in items]),
+            "fate": ("B", [FATES.index(item.fate) for item in items]),
+            # The first step behind which it was in its queue no more.
+            "after": ("I", [0 if item.taken_after is None else item.taken_after + 1 for item in items]),
+        }
+    )
 
 
 def bits_of(run, texts):
@@ -93,16 +99,35 @@ def bits_of(run, texts):
 
 
 def ifaces_of(run):
-    return [{"sent": one.sent, "done": one.done, "waiting": len(one.waiting), "lost": one.lost, "refused": one.refused,
-             "tec": one.tec, "rec": one.rec, "state": STATES[one.state()]} for one in run.ifaces]
+    return [
+        {
+            "sent": one.sent,
+            "done": one.done,
+            "waiting": len(one.waiting),
+            "lost": one.lost,
+            "refused": one.refused,
+            "tec": one.tec,
+            "rec": one.rec,
+            "state": STATES[one.state()],
+        }
+        for one in run.ifaces
+    ]
 
 
 def socket_of(socket):
     is_open = socket.closed_after is None
     waiting = len(socket.queue)
-    return {"number": socket.number, "iface": socket.iface, "capacity": socket.capacity, "queued": socket.queued,
-            "taken": socket.taken, "waiting": waiting, "unread": socket.queued - socket.taken - waiting,
-            "dropped": socket.dropped, "open": "to the end" if is_open else "closed"}
+    return {
+        "number": socket.number,
+        "iface": socket.iface,
+        "capacity": socket.capacity,
+        "queued": socket.queued,
+        "taken": socket.taken,
+        "waiting": waiting,
+        "unread": socket.queued - socket.taken - waiting,
+        "dropped": socket.dropped,
+        "open": "to the end" if is_open else "closed",
+    }
 
 
 def verdict_words(verdict, names):
@@ -119,9 +144,11 @@ def facts_of(run):
     words = {"done": "done", "lastbit": "failed in the last bit", "destroyed": "destroyed", "noack": "not acknowledged"}
     outcomes = [f"{counts[kind]} {text}" for kind, text in words.items() if counts[kind]]
     dropped = sum(socket.dropped for socket in run.sockets)
-    return (f"Entries: {len(run.record.lines)}. Attempts: {run.attempts} ({', '.join(outcomes) or 'none'}), "
-            f"and {run.idle} idle. Restarts: {counts['restart']}. Items: {len(run.items)}, {dropped} of them dropped. "
-            "Attempts stand in their order; no time passes on the wire.")
+    return (
+        f"Entries: {len(run.record.lines)}. Attempts: {run.attempts} ({', '.join(outcomes) or 'none'}), "
+        f"and {run.idle} idle. Restarts: {counts['restart']}. Items: {len(run.items)}, {dropped} of them dropped. "
+        "Attempts stand in their order; no time passes on the wire."
+    )
 
 
 def page(run, names, title, most_items):
@@ -130,16 +157,20 @@ def page(run, names, title, most_items):
     items = run.items[:most_items]
     worst = max(run.sockets, key=lambda socket: (socket.dropped, socket.queued), default=None)
     data = {
-        "title": title, "facts": facts_of(run), "names": names,
+        "title": title,
+        "facts": facts_of(run),
+        "names": names,
         "steps": steps_of(run, texts, verdicts),
         "contenders": contenders_of(run, texts),
-        "items": items_of(items, texts), "itemsInAll": len(run.items),
+        "items": items_of(items, texts),
+        "itemsInAll": len(run.items),
         "moments": [step.moment for step in run.steps],
         "tec": [packed("H", [step.counts[i][0] for step in run.steps]) for i in range(len(names))],
         "rec": [packed("H", [step.counts[i][1] for step in run.steps]) for i in range(len(names))],
         "waiting": [packed("H", [step.waiting[i] for step in run.steps]) for i in range(len(names))],
         "ifaces": ifaces_of(run),
-        "sockets": [socket_of(socket) for socket in run.sockets], "socket": worst.number if worst else 0,
+        "sockets": [socket_of(socket) for socket in run.sockets],
+        "socket": worst.number if worst else 0,
         "bits": bits_of(run, texts),
         "texts": texts.all(),
         "meanings": {place: meaning(text) for place, text in enumerate(texts.all()) if text and meaning(text)},
@@ -147,7 +178,12 @@ def page(run, names, title, most_items):
     }
     # No name ends the element that the data stands in.
     text = json.dumps(data, separators=(",", ":")).replace("<", "\\u003c")
-    return part("page.html").replace("/*STYLE*/", part("page.css")).replace("/*SCRIPT*/", part("page.js")).replace("/*RUN*/", text)
+    return (
+        part("page.html")
+        .replace("/*STYLE*/", part("page.css"))
+        .replace("/*SCRIPT*/", part("page.js"))
+        .replace("/*RUN*/", text)
+    )
 
 
 def part(name):

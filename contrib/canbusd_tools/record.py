@@ -29,8 +29,11 @@ ENTRIES = {
         ("option", f"{NUMBER} (?:(?:loopback|recvown|join) [01]|errmask {WORD})", "ok"),
         ("send", f"{NUMBER} {FRAME}", f"number {NUMBER}"),
         ("receive", NUMBER, f"none|data {IFACE} {NUMBER} {FRAME} {MOMENT}|error {IFACE} {ERROR_FRAME} {MOMENT}"),
-        ("attempt", f"{MOMENT} {VERDICT}",
-         f"idle|tried {IFACE} {NUMBER} {FRAME} (?:done|lastbit|destroyed|noack) {SET} {SET}"),
+        (
+            "attempt",
+            f"{MOMENT} {VERDICT}",
+            f"idle|tried {IFACE} {NUMBER} {FRAME} (?:done|lastbit|destroyed|noack) {SET} {SET}",
+        ),
         ("restart", f"{IFACE} {MOMENT}", "ok"),
     ]
 }
@@ -123,7 +126,9 @@ def names_of(record, path, given=None):
     if given is not None:
         names = given.split(",")
         if len(set(names)) != record.ifaces or not all(map(NAME.fullmatch, names)) or len(names) != record.ifaces:
-            raise BadRecord(f"its bus has {record.ifaces} interfaces, and `--names {given}` is not as many names, all different")
+            raise BadRecord(
+                f"its bus has {record.ifaces} interfaces, and `--names {given}` is not as many names, all different"
+            )
         return names
     log = log_beside(path)
     winners = names_in_log(record, log) if log else {}

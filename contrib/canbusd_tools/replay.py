@@ -47,7 +47,9 @@ class Socket:
 
     def passes(self, word):
         """Whether a data frame with this identifier word passes the filters."""
-        matches = [((word ^ identifier) & mask == 0) != bool(identifier & 0x20000000) for identifier, mask in self.filters]
+        matches = [
+            ((word ^ identifier) & mask == 0) != bool(identifier & 0x20000000) for identifier, mask in self.filters
+        ]
         return bool(matches) and (all(matches) if self.options["join"] else any(matches))
 
     def put(self, item):
@@ -96,8 +98,22 @@ class Interface:
 class Step:
     """A tried attempt or a restart: `kind` is done, lastbit, destroyed, noack or restart."""
 
-    __slots__ = ("kind", "entry", "moment", "iface", "attempt", "number", "text", "verdict", "accepted", "off", "hit",
-                 "contenders", "counts", "waiting")
+    __slots__ = (
+        "kind",
+        "entry",
+        "moment",
+        "iface",
+        "attempt",
+        "number",
+        "text",
+        "verdict",
+        "accepted",
+        "off",
+        "hit",
+        "contenders",
+        "counts",
+        "waiting",
+    )
 
     def __init__(self, kind, entry, moment, iface):
         self.kind, self.entry, self.moment, self.iface = kind, entry, moment, iface
@@ -229,8 +245,11 @@ class Run:
     # Attempts.
 
     def on_attempt(self, entry, moment, verdict):
-        contenders = [(number, iface.waiting[0].frame) for number, iface in enumerate(self.ifaces)
-                      if iface.waiting and not iface.is_off()]
+        contenders = [
+            (number, iface.waiting[0].frame)
+            for number, iface in enumerate(self.ifaces)
+            if iface.waiting and not iface.is_off()
+        ]
         if not contenders:
             self.idle += 1
             return ["idle"]
@@ -320,7 +339,9 @@ class Run:
             self.post_error(number, 0x040, bytes(8))
             return
         transmit, receive = severity(iface.tec), severity(iface.rec)
-        code = (TRANSMIT_CODES[transmit] if transmit >= receive else 0) | (RECEIVE_CODES[receive] if receive >= transmit else 0)
+        code = (TRANSMIT_CODES[transmit] if transmit >= receive else 0) | (
+            RECEIVE_CODES[receive] if receive >= transmit else 0
+        )
         self.post_error(number, 0x204, (0, code, 0, 0, 0, 0, iface.tec, iface.rec))
 
     def post_error(self, number, error_class, data):
