@@ -1,34 +1,56 @@
 # Completions of canbusd for bash.
 _canbusd() {
-    local word=${COMP_WORDS[COMP_CWORD]} before=${COMP_WORDS[COMP_CWORD - 1]}
+    local text=$2 before=$3
     COMPREPLY=()
-    if [ "$COMP_CWORD" -eq 1 ]; then
-        mapfile -t COMPREPLY < <(compgen -W "bench serve audit help --help --version" -- "$word")
-        return
-    fi
+    # The value of an option stands behind a blank or behind `=`, where bash parts words unless COMP_WORDBREAKS lacks it.
+    [ "$before" != = ] || before=${COMP_WORDS[COMP_CWORD - 2]}
+    case $text in --*=*) before=${text%%=*} ;; esac
     local options="--ack --report --txqueue --rxqueue --limit --help"
-    case ${COMP_WORDS[1]} in
-    audit) compopt -o default ;;
-    help) mapfile -t COMPREPLY < <(compgen -W "bench serve audit" -- "$word") ;;
-    bench) _canbusd_words "$word" "$before" "$options --record" ;;
-    serve) _canbusd_words "$word" "$before" "$options --listen --sessions --pace --out --until-eof" ;;
+    case $COMP_CWORD,$before,${COMP_WORDS[1]} in
+    # Behind a redirection stands a file.
+    *,*[\<\>]*,*) compopt -o default ;;
+    1,*) _canbusd_offer "bench serve audit help --help --version" ;;
+    *,audit) compopt -o default ;;
+    *,help) _canbusd_offer "bench serve audit" ;;
+    *,bench) _canbusd_word "$options --record" ;;
+    *,serve) _canbusd_word "$options --listen --sessions --pace --out --until-eof" ;;
     esac
 }
 
 # Completes a word of bench or serve: what an option takes, the file behind a bus, or one of the options.
-_canbusd_words() {
-    local word=$1 before=$2 options=$3
-    case $before in
-    --ack) mapfile -t COMPREPLY < <(compgen -W "always peers" -- "$word") ;;
-    --record | --listen) compopt -o default ;;
-    --out) compopt -o dirnames ;;
-    --txqueue | --rxqueue | --limit | --sessions | --pace) ;;
-    *)
-        case $word in
-        *@*) mapfile -t COMPREPLY < <(compgen -f -P "${word%%@*}@" -- "${word#*@}") ;;
-        *) mapfile -t COMPREPLY < <(compgen -W "$options" -- "$word") ;;
-        esac
-        ;;
+_canbusd_word() {
+    case $before,$text in
+    --ack,*) _canbusd_offer "always peers" ;;
+    --record,* | --listen,* | *@*) _canbusd_files -f default ;;
+    --out,*) _canbusd_files -d dirnames ;;
+    --txqueue,* | --rxqueue,* | --limit,* | --sessions,* | --pace,*) ;;
+    *) _canbusd_offer "$1" ;;
     esac
+}
+
+# Offers these words, behind a front of the word such as `--ack=`.
+_canbusd_offer() {
+    local front=
+    case $text in --*=*) front=${text%%=*}= ;; esac
+    mapfile -t COMPREPLY < <(compgen -P "$front" -W "$1" -- "${text#"$front"}")
+}
+
+# Offers files (-f) or folders (-d): readline does, but behind a front of the word such as `can0@` or `--out=`.
+_canbusd_files() {
+    local rest=${text#*[@=]} place
+    local front=${text%"$rest"}
+    if [ -z "$front" ]; then
+        compopt -o "$2"
+        return
+    fi
+    # The rest without its backslashes, as files are named.
+    mapfile -t COMPREPLY < <(compgen "$1" -- "$(printf '%s' "$rest" | sed 's/\\\(.\)/\1/g')")
+    for place in "${!COMPREPLY[@]}"; do
+        if [ -d "${COMPREPLY[place]}" ]; then
+            compopt -o nospace
+            COMPREPLY[place]+=/
+        fi
+        COMPREPLY[place]=$front$(printf '%q' "${COMPREPLY[place]}")
+    done
 }
 complete -F _canbusd canbusd

@@ -1,0 +1,372 @@
+"""Replays the events of a record by the rules of docs/DEFINITIONS.md, and keeps what there is to draw.
+
+The program is not asked. Each reply is compared with the one that the rules give.
+"""
+
+from collections import deque
+
+from canbusd_tools.frames import Frame, error_frame
+from canbusd_tools.record import BadRecord
+
+OFF, PASSIVE, WARNING = 256, 128, 96
+MOST_SOCKETS = 64
+# The bytes 2 and 3 of a fault's error message frame: by the verdict at the winner, and by the local fault at who is hit.
+AT_THE_WINNER = {"global-bit": (0x81, 0x0A), "global-form": (0x82, 0x1B), "local": (0x81, 0x00)}
+AT_THE_HIT = {"stuff": (0x04, 0x0A), "crc": (0x00, 0x08), "form": (0x02, 0x1B)}
+# A change of state's byte 1, by the severity of a side: active, warning, passive.
+TRANSMIT_CODES, RECEIVE_CODES = (0x40, 0x08, 0x20), (0x40, 0x04, 0x10)
+
+
+def severity(count):
+    """How bad a count is: 0 active, 1 warning, 2 passive, 3 off."""
+    return (count >= WARNING) + (count >= PASSIVE) + (count >= OFF)
+
+
+class Item:
+    """What an interface put to a socket: a frame, and what became of it."""
+
+    __slots__ = ("socket", "step", "text", "sender", "number", "moment", "fate", "taken_after")
+
+    def __init__(self, socket, step, text, sender, number, moment):
+        self.socket, self.step, self.text = socket, step, text
+        self.sender, self.number, self.moment = sender, number, moment
+        # waiting, taken, unread (at the close) or dropped.
+        self.fate = "waiting"
+        # The last step before it was taken or its socket closed.
+        self.taken_after = None
+
+
+class Socket:
+    def __init__(self, number, iface, capacity, opened_after):
+        self.number, self.iface, self.capacity = number, iface, capacity
+        self.opened_after, self.closed_after = opened_after, None
+        self.filters = [(0, 0)]
+        self.options = {"loopback": 1, "recvown": 0, "join": 0, "errmask": 0}
+        self.queue = deque()
+        self.queued = self.dropped = self.taken = 0
+
+    def passes(self, word):
+        """Whether a data frame with this identifier word passes the filters."""
+        matches = [
+            ((word ^ identifier) & mask == 0) != bool(identifier & 0x20000000) for identifier, mask in self.filters
+        ]
+        return bool(matches) and (all(matches) if self.options["join"] else any(matches))
+
+    def put(self, item):
+        if len(self.queue) == self.capacity:
+            item.fate = "dropped"
+            self.dropped += 1
+        else:
+            self.queue.append(item)
+            self.queued += 1
+
+
+class Sent:
+    """A frame in a transmit queue."""
+
+    __slots__ = ("number", "frame", "socket", "loops_back")
+
+    def __init__(self, number, frame, socket, loops_back):
+        self.number, self.frame, self.socket, self.loops_back = number, frame, socket, loops_back
+
+
+class Interface:
+    def __init__(self):
+        self.tec = self.rec = 0
+        self.waiting = deque()
+        self.sent = self.done = self.lost = self.refused = 0
+
+    def is_off(self):
+        return self.tec >= OFF
+
+    def is_passive(self):
+        return self.state() == 2
+
+    def state(self):
+        return severity(max(self.tec, self.rec))
+
+    def restart(self):
+        self.tec = self.rec = 0
+
+    def receive_error(self):
+        self.rec = min(self.rec + 1, 255)
+
+    def good_reception(self):
+        self.rec = 127 if self.rec > 127 else max(self.rec - 1, 0)
+
+
+class Step:
+    """A tried attempt or a restart: `kind` is done, lastbit, destroyed, noack or restart."""
+
+    __slots__ = (
+        "kind",
+        "entry",
+        "moment",
+        "iface",
+        "attempt",
+        "number",
+        "text",
+        "verdict",
+        "accepted",
+        "off",
+        "hit",
+        "contenders",
+        "counts",
+        "waiting",
+    )
+
+    def __init__(self, kind, entry, moment, iface):
+        self.kind, self.entry, self.moment, self.iface = kind, entry, moment, iface
+        # Its number among the attempts; of a restart that of the next attempt.
+        self.attempt = 0
+        self.number, self.text, self.verdict = 0, "", ""
+        self.accepted, self.off, self.hit = [], [], []
+        # The frame of each interface that takes part, as pairs.
+        self.contenders = []
+        # Behind the step: transmit and receive count of each interface. Before it: how many frames wait at each.
+        self.counts, self.waiting = [], []
+
+
+class Run:
+    """The replay of a record: its steps, its items, and its interfaces and sockets as they are in the end."""
+
+    def __init__(self, record):
+        self.record = record
+        self.ifaces = [Interface() for _ in range(record.ifaces)]
+        self.sockets, self.steps, self.items = [], [], []
+        self.open_sockets = [[] for _ in self.ifaces]
+        self.frames = {}
+        self.attempts = self.idle = 0
+        self.moment = None
+        for number, (event, reply) in enumerate(record.entries()):
+            if number >= record.limit:
+                raise BadRecord(f"entry {number}: past the limit of {record.limit} entries")
+            legal = getattr(self, "on_" + event[0])(number, *event[1:])
+            if legal != reply:
+                raise BadRecord(f"entry {number}: wrong: `{' '.join(reply)}`; legal is `{' '.join(legal)}`")
+
+    def frame(self, text):
+        """The frame of this text, one for all places where it stands."""
+        if text not in self.frames:
+            self.frames[text] = Frame(text)
+        return self.frames[text]
+
+    def open_socket(self, number):
+        """The socket of this number, if it is open."""
+        if int(number) < len(self.sockets):
+            socket = self.sockets[int(number)]
+            return socket if socket.closed_after is None else None
+        return None
+
+    def last_step(self):
+        return len(self.steps) - 1
+
+    # Calls of sockets: each answers the words of its reply.
+
+    def on_open(self, _entry, iface, capacity):
+        iface, capacity = int(iface), int(capacity)
+        if iface >= len(self.ifaces):
+            return ["no-interface"]
+        if not 1 <= capacity <= 65536:
+            return ["bad-capacity"]
+        if sum(map(len, self.open_sockets)) == MOST_SOCKETS:
+            return ["too-many-sockets"]
+        socket = Socket(len(self.sockets), iface, capacity, self.last_step())
+        self.sockets.append(socket)
+        self.open_sockets[iface].append(socket)
+        return ["socket", str(socket.number)]
+
+    def on_close(self, _entry, number):
+        socket = self.open_socket(number)
+        if socket is None:
+            return ["no-socket"]
+        for item in socket.queue:
+            item.fate, item.taken_after = "unread", self.last_step()
+        unread = len(socket.queue)
+        socket.queue.clear()
+        socket.closed_after = self.last_step()
+        self.open_sockets[socket.iface].remove(socket)
+        return ["closed", str(unread), str(socket.dropped)]
+
+    def on_filters(self, _entry, number, _count, *words):
+        socket = self.open_socket(number)
+        if socket is None:
+            return ["no-socket"]
+        numbers = [int(word, 16) for word in words]
+        socket.filters = list(zip(numbers[::2], numbers[1::2]))
+        return ["ok"]
+
+    def on_option(self, _entry, number, kind, value):
+        socket = self.open_socket(number)
+        if socket is None:
+            return ["no-socket"]
+        socket.options[kind] = int(value, 16)
+        return ["ok"]
+
+    def on_send(self, _entry, number, text):
+        socket = self.open_socket(number)
+        if socket is None:
+            return ["no-socket"]
+        iface = self.ifaces[socket.iface]
+        if iface.is_off():
+            return ["bus-off"]
+        if len(iface.waiting) == self.record.tx_capacity:
+            iface.refused += 1
+            return ["no-buffers"]
+        iface.waiting.append(Sent(iface.sent, self.frame(text), socket, socket.options["loopback"]))
+        iface.sent += 1
+        return ["number", str(iface.sent - 1)]
+
+    def on_receive(self, _entry, number):
+        socket = self.open_socket(number)
+        if socket is None:
+            return ["no-socket"]
+        if not socket.queue:
+            return ["none"]
+        item = socket.queue.popleft()
+        item.fate, item.taken_after = "taken", self.last_step()
+        socket.taken += 1
+        if item.number is None:
+            return ["error", str(item.sender), item.text, item.moment]
+        return ["data", str(item.sender), str(item.number), item.text, item.moment]
+
+    def on_restart(self, entry, number, moment):
+        number = int(number)
+        if number >= len(self.ifaces):
+            return ["no-interface"]
+        if not self.ifaces[number].is_off():
+            return ["not-bus-off"]
+        step = self.begin(Step("restart", entry, moment, number))
+        self.ifaces[number].restart()
+        self.post_error(number, 0x100, bytes(8))
+        self.end(step)
+        return ["ok"]
+
+    # Attempts.
+
+    def on_attempt(self, entry, moment, verdict):
+        contenders = [
+            (number, iface.waiting[0].frame)
+            for number, iface in enumerate(self.ifaces)
+            if iface.waiting and not iface.is_off()
+        ]
+        if not contenders:
+            self.idle += 1
+            return ["idle"]
+        # Of equal bits the first, which is the lower number, wins.
+        winner = min(contenders, key=lambda contender: contender[1].bits)[0]
+        sent = self.ifaces[winner].waiting[0]
+        step = self.begin(Step("", entry, moment, winner))
+        step.number, step.text, step.verdict, step.contenders = sent.number, sent.frame.text, verdict, contenders
+        before = [(iface.tec, iface.rec) for iface in self.ifaces]
+        receivers = [i for i, iface in enumerate(self.ifaces) if i != winner and not iface.is_off()]
+        self.judge(step, receivers)
+        self.leave_queue(step)
+        self.post_frame(step, sent)
+        for number in range(len(self.ifaces)):
+            self.post_fault(step, number, number in receivers)
+            self.post_state(number, before[number])
+        self.end(step)
+        return ["tried", str(winner), str(step.number), step.text, step.kind, shown(step.accepted), shown(step.off)]
+
+    def judge(self, step, receivers):
+        """What becomes of an attempt, and of the error counters."""
+        winner, verdict = self.ifaces[step.iface], step.verdict.split(":")
+        if len(verdict) > 1:
+            named = int(verdict[1], 16)
+            step.hit = [i for i in receivers if named >> i & 1]
+        unhurt = [i for i in receivers if i not in step.hit]
+        wrong, good = step.hit, []
+        if verdict[0].startswith("global") or not all(self.ifaces[i].is_passive() for i in step.hit):
+            step.kind, wrong = "destroyed", receivers
+            winner.tec += 8
+        elif not self.record.always and not unhurt:
+            step.kind = "noack"
+            winner.tec += 0 if winner.is_passive() else 8
+        else:
+            step.kind = "lastbit" if verdict[0] == "lastbit" else "done"
+            step.accepted = good = unhurt
+            winner.tec = winner.tec + 8 if step.kind == "lastbit" else max(winner.tec - 1, 0)
+        for i in wrong:
+            self.ifaces[i].receive_error()
+        for i in good:
+            self.ifaces[i].good_reception()
+        step.off = [step.iface] if winner.is_off() else []
+
+    def leave_queue(self, step):
+        """A frame that is done leaves its queue; a winner that goes off loses all of its frames."""
+        winner = self.ifaces[step.iface]
+        if step.kind == "done":
+            winner.waiting.popleft()
+            winner.done += 1
+        if step.off:
+            winner.lost += len(winner.waiting)
+            winner.waiting.clear()
+
+    def post_frame(self, step, sent):
+        """Puts the frame to the sockets where it was accepted, and looped back."""
+        looped = [step.iface] if step.kind == "done" and sent.loops_back else []
+        for number in sorted(step.accepted + looped):
+            for socket in self.open_sockets[number]:
+                if socket.passes(sent.frame.word) and (socket is not sent.socket or socket.options["recvown"]):
+                    self.put(Item(socket, len(self.steps), step.text, step.iface, step.number, step.moment))
+
+    def post_fault(self, step, number, is_receiver):
+        """An error message frame for the fault that an interface saw in the attempt, where faults are reported."""
+        kind, _, local = step.verdict.partition(":")[0].partition("-")
+        place = None
+        if not self.record.reporting >> number & 1:
+            return
+        if number == step.iface:
+            if step.kind == "destroyed":
+                place = AT_THE_WINNER[f"{kind}-{local}" if kind == "global" else "local"]
+            elif step.kind != "done":
+                place = (0x80, 0x19) if step.kind == "noack" else (0x82, 0x1A)
+        elif number in step.hit:
+            place = AT_THE_HIT[local]
+        elif step.kind == "destroyed" and is_receiver:
+            place = (0x04, 0x00)
+        if place:
+            nobody = step.kind == "noack" and number == step.iface
+            self.post_error(number, 0x0A0 if nobody else 0x088, (0, 0, *place, 0, 0, 0, 0))
+
+    def post_state(self, number, before):
+        """An error message frame for a change of an interface's state."""
+        iface = self.ifaces[number]
+        if iface.state() == severity(max(before)):
+            return
+        if iface.is_off():
+            self.post_error(number, 0x040, bytes(8))
+            return
+        transmit, receive = severity(iface.tec), severity(iface.rec)
+        code = (TRANSMIT_CODES[transmit] if transmit >= receive else 0) | (
+            RECEIVE_CODES[receive] if receive >= transmit else 0
+        )
+        self.post_error(number, 0x204, (0, code, 0, 0, 0, 0, iface.tec, iface.rec))
+
+    def post_error(self, number, error_class, data):
+        text = None
+        for socket in self.open_sockets[number]:
+            if socket.options["errmask"] & error_class:
+                text = text or error_frame(error_class, data)
+                self.put(Item(socket, len(self.steps), text, number, None, self.moment))
+
+    def put(self, item):
+        self.items.append(item)
+        item.socket.put(item)
+
+    def begin(self, step):
+        self.moment = step.moment
+        step.attempt = self.attempts
+        step.waiting = [len(iface.waiting) for iface in self.ifaces]
+        return step
+
+    def end(self, step):
+        step.counts = [(iface.tec, iface.rec) for iface in self.ifaces]
+        self.steps.append(step)
+        self.attempts += step.kind != "restart"
+
+
+def shown(numbers):
+    """A set of interfaces as a record spells it."""
+    return f"{sum(1 << number for number in numbers):04X}"
