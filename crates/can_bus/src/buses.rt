@@ -16,7 +16,7 @@ use crate::replies::{
 };
 use crate::state::State;
 use crate::stats::{IfaceStats, SocketStats};
-use can_arbiter::{Arbiter, ScanArbiter};
+use can_arbiter::{Arbiter, IndexArbiter, ScanArbiter};
 use can_confine::Counters;
 use can_fault::Verdict;
 use can_filter::FilterSet;
@@ -53,7 +53,7 @@ pub struct Bus<T: BoundedQueue<Pending>, R: BoundedQueue<Received>, A: Arbiter> 
 }
 
 /// The bus of the program: rings for its queues.
-pub type RingBus = Bus<RingQueue<Pending>, RingQueue<Received>, ScanArbiter>;
+pub type RingBus = Bus<RingQueue<Pending>, RingQueue<Received>, IndexArbiter>;
 
 /// The plainest bus, with lists for its queues.
 pub type ListBus = Bus<ListQueue<Pending>, ListQueue<Received>, ScanArbiter>;

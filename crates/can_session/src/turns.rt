@@ -5,7 +5,7 @@ ghost use Rattle.can_session.specs.inner.Acts.{done_by};
 
 use crate::line_prefix::{begin_spoken, end_spoken};
 use crate::orders::SessionNumber;
-use can_arbiter::ScanArbiter;
+use can_arbiter::IndexArbiter;
 use can_bus::{Pending, Received};
 use can_dialog::{BusPort, Session, SessionFault};
 use can_frame::Moment;
@@ -13,7 +13,7 @@ use can_queue::RingQueue;
 use std::alloc::{AllocError, Global};
 
 /// The bus of a bench, with its names.
-pub type BenchPort = BusPort<RingQueue<Pending>, RingQueue<Received>, ScanArbiter>;
+pub type BenchPort = BusPort<RingQueue<Pending>, RingQueue<Received>, IndexArbiter>;
 
 /// Memory was refused.
 #[derive(Debug, Clone, Copy, PartialEq, Eq)]
