@@ -1,3 +1,11 @@
 mod bench;
 mod lines;
 mod sessions;
+
+use std::fmt::Debug;
+use std::process::Abort;
+
+/// Both are alike. Where they are not, the test ends and says what differs.
+fn same<T: PartialEq + Debug + Drop>(rt: &impl Abort, got: T, expected: T) {
+    assert_eq!(rt; got, expected);
+}
