@@ -3,3 +3,11 @@ mod dialogue;
 mod lines;
 mod sessions;
 mod unheard;
+
+use std::fmt::Debug;
+use std::process::Abort;
+
+/// Both are alike. Where they are not, the test ends and says what differs.
+fn same<T: PartialEq + Debug + Drop>(rt: &impl Abort, got: T, expected: T) {
+    assert_eq!(rt; got, expected);
+}

@@ -1,3 +1,4 @@
+use super::same;
 use can_attempt::AckMode;
 use can_bus::BusConfig;
 use can_fault::Script;
@@ -87,8 +88,8 @@ fn writes(
 ) -> Result<(), Fail> {
     for size in [1, 65_536] {
         let ran = run(rt.alloc(), made, script, input, size)?;
-        assert_eq!(rt; ran.output.as_slice(), wanted.as_bytes());
-        assert_eq!(rt; ran.fault, None);
+        same(rt, ran.output.as_slice(), wanted.as_bytes());
+        same(rt, ran.fault, None);
     }
     Ok(())
 }
@@ -102,8 +103,8 @@ fn stops(
     fault: BenchFault,
 ) -> Result<(), Fail> {
     let ran = run(rt.alloc(), made, "", input, 4096)?;
-    assert_eq!(rt; ran.output.as_slice(), wanted.as_bytes());
-    assert_eq!(rt; ran.fault, Some(fault));
+    same(rt, ran.output.as_slice(), wanted.as_bytes());
+    same(rt, ran.fault, Some(fault));
     Ok(())
 }
 
@@ -382,7 +383,7 @@ fn faults_end_a_run(rt: HostRuntime) -> Result<(), Fail> {
     stops(&rt, TWO, &long, GREETED, BenchFault::BadLine(5))?;
     let config = config_of(alloc, TWO, "")?;
     let ended = bench(alloc, config, b"session 1\n".as_slice(), &mut Closed);
-    assert_eq!(rt; ended.err(), Some(BenchFault::Write));
+    same(&rt, ended.err(), Some(BenchFault::Write));
     Ok(())
 }
 
@@ -395,7 +396,7 @@ fn bad_benches_are_refused(rt: HostRuntime) -> Result<(), Fail> {
         config.config.ifaces = ifaces;
         config.rx_capacity = rx_capacity;
         let ended = bench(alloc, config, b"session 1\n".as_slice(), &mut Closed);
-        assert_eq!(rt; ended.err(), Some(BenchFault::BadConfig));
+        same(&rt, ended.err(), Some(BenchFault::BadConfig));
     }
     let ran = run(
         alloc,
@@ -404,7 +405,7 @@ fn bad_benches_are_refused(rt: HostRuntime) -> Result<(), Fail> {
         "session 1\nfeed 1 < open can0 >< rawmode >\nattempt\n",
         9,
     )?;
-    assert_eq!(rt; ran.entries, 2);
+    same(&rt, ran.entries, 2);
     Ok(())
 }
 
@@ -437,8 +438,8 @@ fn a_bench_over_lines_leaves_them_where_it_ended(rt: HostRuntime) -> Result<(), 
         let config = config_of(alloc, TWO, "")?;
         let ended = bench_lines(alloc, config, &mut lines, &mut output);
         assert!(rt; output.as_slice().starts_with(b"1 < hi >\n"));
-        assert_eq!(rt; ended.err(), fault);
-        assert_eq!(rt; lines.next_line(), next);
+        same(&rt, ended.err(), fault);
+        same(&rt, lines.next_line(), next);
     }
     Ok(())
 }
@@ -450,8 +451,8 @@ fn a_bad_bench_reads_no_line(rt: HostRuntime) -> Result<(), Fail> {
     let mut config = config_of(alloc, TWO, "")?;
     config.rx_capacity = 0;
     let ended = bench_lines(alloc, config, &mut lines, &mut Closed);
-    assert_eq!(rt; ended.err(), Some(BenchFault::BadConfig));
-    assert_eq!(rt; lines.next_line(), Ok(true));
-    assert_eq!(rt; lines.line(), b"session 1".as_slice());
+    same(&rt, ended.err(), Some(BenchFault::BadConfig));
+    same(&rt, lines.next_line(), Ok(true));
+    same(&rt, lines.line(), b"session 1".as_slice());
     Ok(())
 }

@@ -1,3 +1,4 @@
+use super::same;
 use can_session::{LineFault, Lines, Order, read_order};
 use std::alloc::{AllocError, Global};
 use std::io::Read;
@@ -44,8 +45,8 @@ fn lines_end_with_lf_and_the_last_may_lack_it(rt: HostRuntime) {
         assert!(rt; goes_on(&mut lines, b""));
         assert!(rt; goes_on(&mut lines, b"at 1.000000\r"));
         assert!(rt; goes_on(&mut lines, b"end 1"));
-        assert_eq!(rt; lines.next_line(), Ok(false));
-        assert_eq!(rt; lines.next_line(), Ok(false));
+        same(&rt, lines.next_line(), Ok(false));
+        same(&rt, lines.next_line(), Ok(false));
     }
 }
 
@@ -61,8 +62,8 @@ fn a_line_has_at_most_4096_bytes(rt: HostRuntime) -> Result<(), AllocError> {
     for (len, behind, lines, fault) in table {
         let text = times(rt.alloc(), b'#', len, behind)?;
         let (count, found) = count_lines(rt.alloc(), text.as_slice())?;
-        assert_eq!(rt; count, lines);
-        assert_eq!(rt; found, fault);
+        same(&rt, count, lines);
+        same(&rt, found, fault);
     }
     Ok(())
 }
@@ -89,8 +90,8 @@ fn an_input_has_limits(rt: HostRuntime) -> Result<(), AllocError> {
             is_broken: false,
         };
         let (count, found) = count_lines(rt.alloc(), input)?;
-        assert_eq!(rt; count, 4096);
-        assert_eq!(rt; found, fault);
+        same(&rt, count, 4096);
+        same(&rt, found, fault);
     }
     Ok(())
 }
@@ -104,8 +105,8 @@ fn whole_lines_come_before_a_read_fault(rt: HostRuntime) -> Result<(), AllocErro
             is_broken: true,
         };
         let (count, found) = count_lines(rt.alloc(), input)?;
-        assert_eq!(rt; count, 2);
-        assert_eq!(rt; found, Some(LineFault::Read));
+        same(&rt, count, 2);
+        same(&rt, found, Some(LineFault::Read));
     }
     Ok(())
 }
@@ -143,9 +144,9 @@ fn good_lines_are_read(rt: HostRuntime) {
     ];
     for (line, wanted) in table {
         let (kind, number, len) = told(line);
-        assert_eq!(rt; kind, wanted.0);
-        assert_eq!(rt; number, wanted.1);
-        assert_eq!(rt; len, wanted.2);
+        same(&rt, kind, wanted.0);
+        same(&rt, number, wanted.1);
+        same(&rt, len, wanted.2);
     }
 }
 
@@ -185,7 +186,7 @@ fn a_fault_is_told_again(rt: HostRuntime) -> Result<(), AllocError> {
     let long = times(rt.alloc(), b'#', 4097, b"\nattempt\n")?;
     let mut lines = Lines::new(rt.alloc(), long.as_slice())?;
     for _ in 0..2 {
-        assert_eq!(rt; lines.next_line(), Err(LineFault::LineTooLong));
+        same(&rt, lines.next_line(), Err(LineFault::LineTooLong));
     }
     Ok(())
 }

@@ -1,3 +1,4 @@
+use super::same;
 use can_arbiter::ScanArbiter;
 use can_attempt::AckMode;
 use can_bus::{
@@ -9,7 +10,8 @@ use can_filter::FilterSet;
 use can_frame::{CanId, Frame, Iface, IfaceSet, Item, Moment, Names};
 use can_queue::ListQueue;
 use can_session::{BusPort, Port, PortRefusal, Session, SessionFault, Stage};
-use std::alloc::Global;
+use std::alloc::{AllocGlobal, Global};
+use std::process::Abort;
 use test_streams::Output;
 
 /// A port that gives one item at each receive, and counts its calls.
@@ -151,27 +153,28 @@ fn drained<P: Port>(session: &mut Session, alloc: Global, port: &mut P) -> Optio
     None
 }
 
-/// Whether a session writes this for a piece.
+/// A session writes this for a piece.
 fn says<P: Port>(
+    rt: &(impl Abort + AllocGlobal),
     session: &mut Session,
-    alloc: Global,
     piece: &[u8],
     micros: u64,
     port: &mut P,
     want: &[u8],
-) -> bool {
-    match told(session, alloc, piece, micros, port) {
-        Some(text) => text.as_slice() == want,
-        None => false,
-    }
+) {
+    let text = told(session, rt.alloc(), piece, micros, port).expect(rt, "a text");
+    assert_eq!(rt; text.as_slice(), want, "after {piece:?}");
 }
 
-/// Whether a session writes this until there is no item more.
-fn drains<P: Port>(session: &mut Session, alloc: Global, port: &mut P, want: &[u8]) -> bool {
-    match drained(session, alloc, port) {
-        Some(text) => text.as_slice() == want,
-        None => false,
-    }
+/// A session writes this until there is no item more.
+fn drains<P: Port>(
+    rt: &(impl Abort + AllocGlobal),
+    session: &mut Session,
+    port: &mut P,
+    want: &[u8],
+) {
+    let text = drained(session, rt.alloc(), port).expect(rt, "a text");
+    same(rt, text.as_slice(), want);
 }
 
 /// What a new session writes for its greeting and the pieces.
@@ -228,7 +231,7 @@ fn every_cut_is_answered_alike(rt: HostRuntime) {
             b"< hi >< echo >< echo >".as_slice(),
             "cut at {cut}"
         );
-        assert_eq!(rt; port.calls, 0);
+        same(&rt, port.calls, 0);
     }
 }
 
@@ -243,7 +246,7 @@ fn one_byte_at_a_time_is_answered_as_all_at_once(rt: HostRuntime) {
         text.extend_from_slice(&more).expect(&rt, "memory");
     }
     let want = b"< ok >< ok >< ok >< stats 0 0 0 1 0 1 0 0 >< echo >";
-    assert_eq!(rt; text.as_slice(), want.as_slice());
+    same(&rt, text.as_slice(), want.as_slice());
 }
 
 #[test]
@@ -261,7 +264,7 @@ fn a_long_message_is_told_and_the_next_is_read(rt: HostRuntime) {
         stream.extend_from_slice(b">< echo >").expect(&rt, "memory");
         let mut session = Session::new(rt.alloc(), 256).expect(&rt, "memory");
         let mut port = Counting::new();
-        assert!(rt; says(&mut session, rt.alloc(), &stream, 0, &mut port, want));
+        says(&rt, &mut session, &stream, 0, &mut port, want);
     }
 }
 
@@ -286,31 +289,24 @@ fn faults_and_refusals_are_told(rt: HostRuntime) {
         (b"< filter 1 123 C00007FF >", b"< ok >"),
     ];
     for (piece, want) in cases {
-        assert!(rt;
-            says(&mut session, rt.alloc(), piece, 0, &mut port, want),
-            "at {piece:?}"
-        );
+        says(&rt, &mut session, piece, 0, &mut port, want);
     }
     let mut other = Session::new(rt.alloc(), 256).expect(&rt, "memory");
-    assert!(rt;
-        says(
-            &mut other,
-            rt.alloc(),
-            b"< open can2 >",
-            0,
-            &mut port,
-            b"< error no such interface >"
-        )
+    says(
+        &rt,
+        &mut other,
+        b"< open can2 >",
+        0,
+        &mut port,
+        b"< error no such interface >",
     );
-    assert!(rt;
-        says(
-            &mut other,
-            rt.alloc(),
-            b"<open \xFF>",
-            0,
-            &mut port,
-            b"< error no such interface >"
-        )
+    says(
+        &rt,
+        &mut other,
+        b"<open \xFF>",
+        0,
+        &mut port,
+        b"< error no such interface >",
     );
 }
 
@@ -328,26 +324,22 @@ fn a_frame_goes_from_one_session_to_another(rt: HostRuntime) {
     let mut one = raw_on(rt.alloc(), b"< open can0 >< rawmode >", &mut port).expect(&rt, "raw");
     let mut two = raw_on(rt.alloc(), b"< open can1 >< rawmode >", &mut port).expect(&rt, "raw");
     let send = b"< send 123 4 11 22 33 44 >";
-    assert!(rt; says(&mut one, rt.alloc(), send, 0, &mut port, b""));
+    says(&rt, &mut one, send, 0, &mut port, b"");
     assert!(rt; attempt(&mut port, 23_424_242, Verdict::Good));
-    assert!(rt;
-        drains(
-            &mut two,
-            rt.alloc(),
-            &mut port,
-            b"< frame 123 23.424242 11223344 >"
-        )
+    drains(
+        &rt,
+        &mut two,
+        &mut port,
+        b"< frame 123 23.424242 11223344 >",
     );
-    assert!(rt; drains(&mut one, rt.alloc(), &mut port, b""));
-    assert!(rt;
-        says(
-            &mut two,
-            rt.alloc(),
-            b"< stats >",
-            0,
-            &mut port,
-            b"< stats 1 0 1 0 0 0 0 0 >"
-        )
+    drains(&rt, &mut one, &mut port, b"");
+    says(
+        &rt,
+        &mut two,
+        b"< stats >",
+        0,
+        &mut port,
+        b"< stats 1 0 1 0 0 0 0 0 >",
     );
 }
 
@@ -360,8 +352,8 @@ fn nothing_follows_a_close(rt: HostRuntime) {
     told(&mut one, rt.alloc(), send, 0, &mut port).expect(&rt, "memory");
     assert!(rt; attempt(&mut port, 23_424_242, Verdict::Good));
     let close = b"< close >< echo >";
-    assert!(rt; says(&mut two, rt.alloc(), close, 0, &mut port, b"< closed 1 0 >"));
-    assert_eq!(rt; two.stage(), Stage::Ended);
+    says(&rt, &mut two, close, 0, &mut port, b"< closed 1 0 >");
+    same(&rt, two.stage(), Stage::Ended);
     assert!(rt; drained(&mut two, rt.alloc(), &mut port).is_none());
     assert!(rt; told(&mut two, rt.alloc(), b"< echo >", 0, &mut port).is_none());
 }
@@ -371,14 +363,14 @@ fn error_message_frames_are_told_with_their_data(rt: HostRuntime) {
     let mut port = bus_of(rt.alloc(), "can0", AckMode::Peers).expect(&rt, "a bus");
     let mut one = raw_on(rt.alloc(), b"< open can0 >< rawmode >", &mut port).expect(&rt, "raw");
     let piece = b"< errmask 204 >< errdata 1 >< send 123 0 >";
-    assert!(rt; says(&mut one, rt.alloc(), piece, 0, &mut port, b"< ok >< ok >"));
+    says(&rt, &mut one, piece, 0, &mut port, b"< ok >< ok >");
     for micros in 1..18 {
         assert!(rt; attempt(&mut port, micros, Verdict::Good));
     }
     let want = b"< error 204 0.000012 0008000000006000 >< error 204 0.000016 0020000000008000 >";
-    assert!(rt; drains(&mut one, rt.alloc(), &mut port, want));
+    drains(&rt, &mut one, &mut port, want);
     let status = b"< status passive 128 0 >";
-    assert!(rt; says(&mut one, rt.alloc(), b"< status >", 17, &mut port, status));
+    says(&rt, &mut one, b"< status >", 17, &mut port, status);
 }
 
 /// The error counters that a port tells of the interface of a number, its transmit count first.
@@ -391,12 +383,12 @@ fn counts<P: Port>(port: &mut P, number: u8) -> Option<(u16, u16)> {
 fn a_bus_tells_the_error_counters_of_each_interface(rt: HostRuntime) {
     let mut port = bus_of(rt.alloc(), "can0,can1", AckMode::Always).expect(&rt, "a bus");
     let mut one = raw_on(rt.alloc(), b"< open can1 >< rawmode >", &mut port).expect(&rt, "raw");
-    assert!(rt; says(&mut one, rt.alloc(), b"< send 123 0 >", 0, &mut port, b""));
+    says(&rt, &mut one, b"< send 123 0 >", 0, &mut port, b"");
     assert!(rt; attempt(&mut port, 1, Verdict::Global(GlobalKind::Bit)));
-    assert_eq!(rt; counts(&mut port, 1), Some((8, 0)));
-    assert_eq!(rt; counts(&mut port, 0), Some((0, 1)));
-    assert_eq!(rt; counts(&mut port, 2), Some((0, 0)));
-    assert_eq!(rt; counts(&mut port, 15), Some((0, 0)));
+    same(&rt, counts(&mut port, 1), Some((8, 0)));
+    same(&rt, counts(&mut port, 0), Some((0, 1)));
+    same(&rt, counts(&mut port, 2), Some((0, 0)));
+    same(&rt, counts(&mut port, 15), Some((0, 0)));
 }
 
 #[test]
@@ -408,37 +400,24 @@ fn a_restart_has_the_moment_of_its_piece(rt: HostRuntime) {
     for micros in 1..33 {
         assert!(rt; attempt(&mut port, micros, Verdict::Global(GlobalKind::Bit)));
     }
-    assert!(rt; drains(&mut one, rt.alloc(), &mut port, b"< error 040 0.000032 >"));
-    assert!(rt;
-        says(
-            &mut one,
-            rt.alloc(),
-            b"< send 123 0 >",
-            32,
-            &mut port,
-            b"< error bus off >"
-        )
+    drains(&rt, &mut one, &mut port, b"< error 040 0.000032 >");
+    says(
+        &rt,
+        &mut one,
+        b"< send 123 0 >",
+        32,
+        &mut port,
+        b"< error bus off >",
     );
-    assert!(rt;
-        says(
-            &mut one,
-            rt.alloc(),
-            b"< restart >",
-            40,
-            &mut port,
-            b"< ok >"
-        )
-    );
-    assert!(rt; drains(&mut one, rt.alloc(), &mut port, b"< error 100 0.000040 >"));
-    assert!(rt;
-        says(
-            &mut one,
-            rt.alloc(),
-            b"< stats >",
-            40,
-            &mut port,
-            b"< stats 2 0 2 3 0 0 3 0 >"
-        )
+    says(&rt, &mut one, b"< restart >", 40, &mut port, b"< ok >");
+    drains(&rt, &mut one, &mut port, b"< error 100 0.000040 >");
+    says(
+        &rt,
+        &mut one,
+        b"< stats >",
+        40,
+        &mut port,
+        b"< stats 2 0 2 3 0 0 3 0 >",
     );
 }
 
@@ -473,50 +452,51 @@ fn deliver<P: Port>(
 fn a_writer_that_fails_ends_the_session(rt: HostRuntime) {
     let mut port = Counting::new();
     let mut session = raw_on(rt.alloc(), b"< open can0 >< rawmode >", &mut port).expect(&rt, "raw");
-    assert_eq!(rt; port.calls, 2);
-    assert_eq!(rt; deliver(&mut session, rt.alloc(), 100, &mut port), Ok(true));
-    assert_eq!(rt;
-        deliver(&mut session, rt.alloc(), 12, &mut port),
-        Err(SessionFault::Write)
+    same(&rt, port.calls, 2);
+    same(
+        &rt,
+        deliver(&mut session, rt.alloc(), 100, &mut port),
+        Ok(true),
     );
-    assert_eq!(rt; port.calls, 5);
+    same(
+        &rt,
+        deliver(&mut session, rt.alloc(), 12, &mut port),
+        Err(SessionFault::Write),
+    );
+    same(&rt, port.calls, 5);
     assert!(rt; port.is_last_close);
     assert!(rt; is_over(&mut session, rt.alloc(), &mut port));
-    assert_eq!(rt; port.calls, 5);
+    same(&rt, port.calls, 5);
 }
 
 #[test]
 fn a_piece_whose_text_is_not_taken_ends_the_session(rt: HostRuntime) {
     let mut port = Counting::new();
     let mut session = raw_on(rt.alloc(), b"< open can0 >< rawmode >", &mut port).expect(&rt, "raw");
-    assert!(rt;
-        says(
-            &mut session,
-            rt.alloc(),
-            b"< send 1 0 >",
-            0,
-            &mut port,
-            b"< error wrong station >"
-        )
+    says(
+        &rt,
+        &mut session,
+        b"< send 1 0 >",
+        0,
+        &mut port,
+        b"< error wrong station >",
     );
-    assert!(rt;
-        says(
-            &mut session,
-            rt.alloc(),
-            b"< stats >",
-            0,
-            &mut port,
-            b"< error no socket >"
-        )
+    says(
+        &rt,
+        &mut session,
+        b"< stats >",
+        0,
+        &mut port,
+        b"< error no socket >",
     );
     let mut out = Output::new(rt.alloc(), 3);
     let moment = Moment::new(0).expect(&rt, "a moment");
     let fed = session.feed(rt.alloc(), b"< echo >", moment, &mut port, &mut out);
-    assert_eq!(rt; fed, Err(SessionFault::Write));
-    assert_eq!(rt; port.calls, 5);
+    same(&rt, fed, Err(SessionFault::Write));
+    same(&rt, port.calls, 5);
     assert!(rt; port.is_last_close);
     assert!(rt; is_over(&mut session, rt.alloc(), &mut port));
-    assert_eq!(rt; port.calls, 5);
+    same(&rt, port.calls, 5);
 }
 
 #[test]
@@ -530,10 +510,10 @@ fn an_end_closes_a_raw_socket_alone(rt: HostRuntime) {
         let mut port = Counting::new();
         let mut session = Session::new(rt.alloc(), 256).expect(&rt, "memory");
         told(&mut session, rt.alloc(), piece, 0, &mut port).expect(&rt, "memory");
-        assert_eq!(rt; session.end(&mut port), Ok(()));
-        assert_eq!(rt; port.calls, calls);
-        assert_eq!(rt; port.closes, closes);
+        same(&rt, session.end(&mut port), Ok(()));
+        same(&rt, port.calls, calls);
+        same(&rt, port.closes, closes);
         assert!(rt; is_over(&mut session, rt.alloc(), &mut port));
-        assert_eq!(rt; port.calls, calls);
+        same(&rt, port.calls, calls);
     }
 }
