@@ -17,7 +17,14 @@ use std::sync::Wait;
 /// A [`PassPort`] for a few calls: sends and receives that follow one another are made in one hold of the station's
 /// lock. It takes the lock for the first of them, and frees it before any other call and when it is dropped.
 #[derive(Drop)]
-pub struct HeldPort<'p, 'a, N: RollName + MeterName, F: FaultSource + Drop, G: Gate + Drop, R: Wait> {
+pub struct HeldPort<
+    'p,
+    'a,
+    N: RollName + MeterName,
+    F: FaultSource + Drop,
+    G: Gate + Drop,
+    R: Wait,
+> {
     port: &'p mut PassPort<'a, N, F, G, R>,
     hold: Option<Hold<'a, N, F, G>>,
 }

@@ -1,8 +1,9 @@
 //! Stations for many clients: a hub of buses, and a session's way to the one that it opens.
 //!
 //! A [`Hub`] has a station for each bus, numbered by its place. A [`PassPort`] is the port of a session: it
-//! enters the station whose bus has the name that the session opens, and makes each call with that pass. At the
-//! end [`Hub::settle`] takes the passes back and hands out the record of each bus.
+//! enters the station whose bus has the name that the session opens, and makes each call with that pass; a
+//! [`HeldPort`] makes its sends and receives in one hold of the lock. At the end [`Hub::settle`] takes the passes
+//! back and hands out the record of each bus.
 #![tactic(auto)]
 
 pub mod benches;

@@ -158,7 +158,8 @@ impl<
         if goes_on { Heard::More } else { Heard::Over }
     }
 
-    /// Gives the client its items, until the session is over, its socket is closed or the record is full.
+    /// Gives the client its items, until the session is over, its socket is closed or the record is full. Where items
+    /// are refused for another reason, as want of memory, the session ends.
     fn deliver_all(
         &self,
         talk: &Mutex<Talk<'_, N, F, G, R>>,
@@ -173,6 +174,10 @@ impl<
             }
             if !talk.lock(self.rt).deliver(waiting, conn) {
                 self.tell_full(place.station);
+                if !place.station.is_full() {
+                    talk.lock(self.rt).end();
+                    conn.shutdown();
+                }
                 break;
             }
         }

@@ -12,7 +12,7 @@ use std::io::Write;
 use std::sync::Wait;
 
 /// The most bytes of items that go out in one write.
-const MOST_BYTES: usize = 4096;
+const MOST_BYTES: usize = 1024;
 
 /// The most bytes of an item's text.
 const LONGEST: usize = 256;

@@ -1,11 +1,11 @@
 /// Where a station asks its gate.
 #[derive(Debug, Clone, Copy, PartialEq, Eq)]
 pub enum Point {
-    /// In `step`, before the lock is taken.
+    /// In `step` and `hold_work`, before the lock is taken.
     BeforeStep,
-    /// In `step`, with the lock taken.
+    /// In each step, with the lock taken.
     InStep,
-    /// In each call of a pass, once the lock is free again.
+    /// In each call of a pass that takes the lock for itself, once it is free again.
     AfterReply,
 }
 

@@ -144,6 +144,11 @@ impl<N: RollName + MeterName, F: FaultSource + Drop, G: Gate + Drop> Station<N, 
             .is_ok()
     }
 
+    /// Whether a call was refused since the record is full. It waits for nobody.
+    pub fn is_full(&self) -> bool {
+        self.fullness.load(SeqCst) != ROOM
+    }
+
     /// Ends all waits, now and from now on. Calls are answered as before.
     pub fn stop<R: Wait>(&self, rt: &R) {
         self.state.lock(rt).stop();
