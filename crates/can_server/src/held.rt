@@ -9,7 +9,7 @@ use can_filter::FilterSet;
 use can_frame::{Frame, Iface, Moment};
 use can_meter::MeterName;
 use can_roll::RollName;
-use can_session::{Port, PortRefusal};
+use can_dialog::{Port, PortRefusal};
 use can_station::{Gate, Hold, Station};
 use std::marker::Model;
 use std::sync::Wait;
