@@ -96,7 +96,9 @@ fn bad_verdict_note(alloc: Global, line: &str) -> Result<String, AllocError> {
 fn has_number(line: &str) -> bool {
     match line.split_once(' ') {
         Some((number, _)) => {
-            !number.is_empty() && number.len() <= 8 && number.bytes().all(|byte| byte.is_ascii_digit())
+            !number.is_empty()
+                && number.len() <= 8
+                && number.bytes().all(|byte| byte.is_ascii_digit())
         }
         None => false,
     }

@@ -143,10 +143,7 @@ fn number_in(text: &str) -> Option<u32>
 }
 
 /// Adds the options that say what a bus is like.
-pub fn with_bus_options<'a>(
-    alloc: Global,
-    command: Command<'a>,
-) -> Result<Command<'a>, AllocError>
+pub fn with_bus_options<'a>(alloc: Global, command: Command<'a>) -> Result<Command<'a>, AllocError>
     ensures { IfOk result (λ c. app_of c ≡ with_bus_rules (app_of command.entry)) }
 {
     let tx_help = "Frames that an interface keeps to be sent, 1 to 1024";
