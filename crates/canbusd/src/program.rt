@@ -43,12 +43,7 @@ pub fn run_words<
 }
 
 // Carries out a job. The status is 0 only once it was done and all that it put out was written.
-fn carry_out<
-    H: ServerRuntime,
-    R: Read + Drop + Send + 'static,
-    W: Write + Drop,
-    E: Write + Send,
->(
+fn carry_out<H: ServerRuntime, R: Read + Drop + Send + 'static, W: Write + Drop, E: Write + Send>(
     rt: &H,
     alloc: Global,
     job: Job<'_>,

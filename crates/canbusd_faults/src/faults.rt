@@ -74,6 +74,14 @@ impl<'a> Failure<'a> {
         }
     }
 
+    /// The fault with a note more, where there is memory for it.
+    pub fn and(mut self, note: &str) -> Failure<'a>
+        ensures { result.fault ≡ self.entry.fault }
+    {
+        let _ = self.notes.push_str(note);
+        self
+    }
+
     /// Writes `canbusd: TEXT` and the notes.
     pub fn tell<E: Write>(&self, errors: &mut E) {
         let fault = self.fault;

@@ -20,8 +20,19 @@ pub fn read_script<'a, H: Files>(
 ) -> Result<Script, Failure<'a>>
     ensures { IfOk result (λ script. (text : List ℕ) × Spells names.now text (Ok script)) }
 {
-    let text = read_file(rt, alloc, path)?;
+    let text = read_file(rt, alloc, path).map_err(|failure| failure.and(path_note(path)))?;
     script_in(alloc, path, &text, bus, names)
+}
+
+// What may be wrong with the path of a script.
+fn path_note(path: &str) -> &'static str {
+    if path.is_empty() {
+        "  the path of a script stands behind @\n"
+    } else if path.contains('@') {
+        "  one script stands behind all names: its path begins behind the first @\n"
+    } else {
+        ""
+    }
 }
 
 // The script that the text of a file spells.
@@ -69,10 +80,28 @@ fn bad_verdict_note(alloc: Global, line: &str) -> Result<String, AllocError> {
     if line.ends_with('\r') {
         return fixed_note(alloc, WITH_CR);
     }
+    if !has_number(line) {
+        return fixed_note(
+            alloc,
+            "a line is NUMBER VERDICT, as 0 lastbit: NUMBER has 1 to 8 digits, and one space stands behind it",
+        );
+    }
     fixed_note(
         alloc,
-        "a line is NUMBER VERDICT, as 0 lastbit; see canbusd help bench",
+        "VERDICT is good, lastbit, global bit, global form, local stuff NAMES, local crc NAMES or local form NAMES",
     )
+}
+
+// Whether a line begins with a number that an attempt may have.
+fn has_number(line: &str) -> bool {
+    match line.split_once(' ') {
+        Some((number, _)) => {
+            !number.is_empty()
+                && number.len() <= 8
+                && number.bytes().all(|byte| byte.is_ascii_digit())
+        }
+        None => false,
+    }
 }
 
 // The first name behind the last space that the bus does not have.

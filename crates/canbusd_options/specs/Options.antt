@@ -1,6 +1,7 @@
-use Rattle.std.specs.Prelude.{◌≡◌, ◌↔◌, ℕ, ◌≤◌, map, true, false, List, [], codes, unwrap_or, Some}
+use Rattle.std.specs.Prelude.{◌≡◌, ℕ, ◌≤◌, map, true, false, List, [], ◌<◌, ◌^◌, codes, unwrap_or, Some}
 use Rattle.std.specs.Option.{option_map}
 use Rattle.std.specs.Str.Parse.{IsNumeral, digits_value}
+use Rattle.can_attempt.specs.declared.acks.AckMode.{AckMode}
 use Rattle.can_attempt.specs.declared.acks.AckMode.TheVariants as ack
 use Rattle.clap.specs.declared.parser.matches.ArgMatches.{ArgMatches}
 use Rattle.clap.specs.Words.{Row, all_of, first_of, found_of, one_of, rows_of}
@@ -24,13 +25,18 @@ given rows id = unwrap_or (first_of id rows) []
 abbrev pub IsNumberOf : ℕ → List ℕ → Type 0
 IsNumberOf n text = IsNumeral 10 text × (n ≡ digits_value 10 text)
 
--- acknowledging is left to the other interfaces
-abbrev pub IsPeers : List Row → Type 0
-IsPeers rows = first_of (codes "ack") rows ≡ Some (codes "peers")
+-- a text of decimal digits alone writes a number within limits, which 32 bits hold
+abbrev pub IsNumberWithin : ℕ → ℕ → List ℕ → Type 0
+IsNumberWithin least most text = IsNumeral 10 text × (least ≤ digits_value 10 text) × (digits_value 10 text ≤ most) × (digits_value 10 text < 2 ^ 32)
+
+-- the text of a mode of acknowledging
+abbrev pub mode_text : AckMode → List ℕ
+mode_text ack.Always = codes "always"
+mode_text ack.Peers = codes "peers"
 
 -- what is said of a bus is what the words give
 pub record AreSettings (rows : List Row) (s : BusSettings) : Type 0 where
-  pub ack : (s.ack ≡ ack.Peers) ↔ IsPeers rows
+  pub ack : given rows (codes "ack") ≡ mode_text s.ack
   pub reporting : one_of (codes "report") rows ≡ Some (codes "true") → s.is_reporting ≡ true
   pub silent : one_of (codes "report") rows ≡ Some (codes "false") → s.is_reporting ≡ false
   pub tx_capacity : IsNumberOf s.tx_capacity (given rows (codes "txqueue"))

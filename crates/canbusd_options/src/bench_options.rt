@@ -1,8 +1,8 @@
 //! The words of bench.
 ghost use Rattle.std.specs.Prelude.{◌≡◌, codes, false, IfOk};
-ghost use Rattle.clap.specs.Words.{rule_of};
+ghost use Rattle.clap.specs.Words.{app_of, rule_of};
 ghost use Rattle.canbusd_options.specs.Options.{AreBenchOptions, rows_in};
-ghost use Rattle.canbusd_options.specs.Program.{HasRules, bench_app, option_rule};
+ghost use Rattle.canbusd_options.specs.Program.{bench_app, option_rule};
 
 use crate::bus_options::{BUS, BusSettings, Verb, bus_argument, settings_given, with_bus_options};
 use crate::bus_word::BusWord;
@@ -33,7 +33,7 @@ pub fn bench_options<'a>(alloc: Global, bench: &ArgMatches<'a>) -> Result<BenchO
 }
 
 pub fn bench_command<'a>(alloc: Global) -> Result<Command<'a>, AllocError>
-    ensures { IfOk result (λ c. HasRules bench_app c) }
+    ensures { IfOk result (λ c. app_of c ≡ bench_app) }
 {
     let command = Command::new(alloc, "bench")
         .about("Carry out the lines of standard input on one bus")

@@ -1,8 +1,10 @@
 //! The words that say what a bus is like, which bench and serve share.
-ghost use Rattle.std.specs.Prelude.{◌≡◌, ◌≤◌, ◌↔◌, codes, false, IfOk, IfSome};
-ghost use Rattle.clap.specs.Words.{rule_of};
-ghost use Rattle.canbusd_options.specs.Options.{AreSettings, IsNumberOf, IsPeers, given, rows_in};
-ghost use Rattle.canbusd_options.specs.Program.{AddsBusRules, IsAckRule, default_rule, flag_rule, word_rule};
+ghost use Rattle.std.specs.Prelude.{◌≡◌, ◌≤◌, ◌^◌, codes, false, IfErr, IfNone, IfOk, IfSome};
+ghost use Rattle.std.specs.Str.Parse.{IsNumeral, digits_value};
+ghost use Rattle.clap.specs.Words.{app_of, kind_of, rule_of};
+ghost use Rattle.clap.specs.declared.error.kind.ErrorKind.TheVariants.{OutOfMemory};
+ghost use Rattle.canbusd_options.specs.Options.{AreSettings, IsNumberOf, IsNumberWithin, given, mode_text, rows_in};
+ghost use Rattle.canbusd_options.specs.Program.{default_rule, flag_rule, with_bus_rules, word_rule};
 
 use crate::bench_options::bench_command;
 use crate::serve_options::serve_command;
@@ -69,7 +71,7 @@ pub fn settings_given(
     ensures { IfOk result (λ settings. AreSettings (rows_in matches.now) settings) }
 {
     Ok(BusSettings {
-        ack: ack_mode(matches),
+        ack: ack_mode(alloc, verb, matches)?,
         is_reporting: matches.get_flag(REPORT),
         tx_capacity: number_given(alloc, verb, matches, TXQUEUE)?,
         rx_capacity: number_given(alloc, verb, matches, RXQUEUE)?,
@@ -77,15 +79,18 @@ pub fn settings_given(
     })
 }
 
-// The parser takes no other words than these two.
-#[tactic(auto, using(crate::proofs::Rules::text_in_rows))]
-fn ack_mode(matches: &ArgMatches<'_>) -> AckMode
-    ensures { (result ≡ AckMode.Peers) ↔ IsPeers (rows_in matches.now) }
+fn ack_mode(alloc: Global, verb: Verb, matches: &ArgMatches<'_>) -> Result<AckMode, Error>
+    ensures { IfOk result (λ mode. given (rows_in matches.now) (codes "ack") ≡ mode_text mode) }
 {
-    match matches.get_str(ACK) {
-        Some(word) if word == PEERS => AckMode::Peers,
-        _ => AckMode::Always,
+    let text = matches.get_str(ACK).unwrap_or("");
+    if text == ALWAYS {
+        return Ok(AckMode::Always);
     }
+    if text == PEERS {
+        return Ok(AckMode::Peers);
+    }
+    let message = format!(in alloc; "invalid value '{text}' for '--ack': always or peers")?;
+    Err(verb.error(alloc, &message)?)
 }
 
 fn number_given(
@@ -112,6 +117,7 @@ pub fn number_within(
     ensures number { IfOk result (λ n. IsNumberOf n (given (rows_in matches.now) option.now)) }
     ensures least { IfOk result (λ n. least ≤ n) }
     ensures most { IfOk result (λ n. n ≤ most) }
+    ensures taken { IfErr result (λ e. IsNumberWithin least most (given (rows_in matches.now) option.now) → kind_of e ≡ OutOfMemory) }
 {
     let text = matches.get_str(option).unwrap_or("");
     match number_in(text) {
@@ -127,20 +133,18 @@ pub fn number_within(
 
 // The number that a text of decimal digits alone writes.
 fn number_in(text: &str) -> Option<u32>
-    ensures { IfSome result (λ n. IsNumberOf n text.now) }
+    ensures some { IfSome result (λ n. IsNumberOf n text.now) }
+    ensures none { IfNone result (IsNumeral 10 text.now → 2 ^ 32 ≤ digits_value 10 text.now) }
 {
-    if !text.bytes().all(|byte| byte.is_ascii_digit()) {
+    if text.starts_with('+') {
         return None;
     }
     text.parse().ok()
 }
 
 /// Adds the options that say what a bus is like.
-pub fn with_bus_options<'a>(
-    alloc: Global,
-    command: Command<'a>,
-) -> Result<Command<'a>, AllocError>
-    ensures { IfOk result (λ c. AddsBusRules command.entry c) }
+pub fn with_bus_options<'a>(alloc: Global, command: Command<'a>) -> Result<Command<'a>, AllocError>
+    ensures { IfOk result (λ c. app_of c ≡ with_bus_rules (app_of command.entry)) }
 {
     let tx_help = "Frames that an interface keeps to be sent, 1 to 1024";
     let rx_help = "Frames that a socket keeps to be received, 1 to 65536";
@@ -154,15 +158,14 @@ pub fn with_bus_options<'a>(
 }
 
 fn ack_option<'a>(alloc: Global) -> Arg<'a>
-    ensures rule { IsAckRule (rule_of result) }
+    ensures rule { rule_of result ≡ default_rule (codes "ack") (codes "always") }
     ensures local { result.global ≡ false }
 {
     Arg::new(alloc, ACK)
         .long(ACK)
         .value_name("MODE")
-        .value_parser([ALWAYS, PEERS].as_slice())
         .default_value(ALWAYS)
-        .help("Who acknowledges: a silent node, or the other interfaces alone")
+        .help("Who acknowledges: always a silent node, or peers, the other interfaces alone")
 }
 
 fn report_option<'a>(alloc: Global) -> Arg<'a>

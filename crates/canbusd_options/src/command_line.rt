@@ -1,7 +1,7 @@
 //! What a command line asks for.
 ghost use Rattle.std.specs.Prelude.{◌≡◌, codes, false, map, string_bytes, IfOk};
 ghost use Rattle.clap.specs.Words.{app_of, rule_of};
-ghost use Rattle.canbusd_options.specs.Program.{IsAsked, IsProgram, audit_app, word_rule};
+ghost use Rattle.canbusd_options.specs.Program.{IsAsked, audit_app, program, word_rule};
 
 use crate::bench_options::{BenchOptions, bench_command, bench_options};
 use crate::bus_options::Verb;
@@ -42,7 +42,7 @@ pub fn read_options<'a>(alloc: Global, words: &'a [String]) -> Result<Job<'a>, E
 }
 
 fn program_command<'a>(alloc: Global) -> Result<Command<'a>, AllocError>
-    ensures { IfOk result (λ c. IsProgram c) }
+    ensures { IfOk result (λ c. app_of c ≡ program) }
 {
     Command::new(alloc, "canbusd")
         .version("0.1.0")

@@ -1,10 +1,10 @@
 //! The words of serve.
 ghost use Rattle.std.specs.Prelude.{◌≡◌, codes, false, map, IfOk};
 ghost use Rattle.std.specs.Option.{option_map};
-ghost use Rattle.clap.specs.Words.{rule_of};
+ghost use Rattle.clap.specs.Words.{app_of, rule_of};
 ghost use Rattle.canbusd_options.specs.BusWords.{names_part, script_part};
 ghost use Rattle.canbusd_options.specs.Options.{AreServeOptions, buses_given as buses_of, rows_in};
-ghost use Rattle.canbusd_options.specs.Program.{HasRules, default_rule, flag_rule, option_rule, serve_app, words_rule};
+ghost use Rattle.canbusd_options.specs.Program.{default_rule, flag_rule, option_rule, serve_app, words_rule};
 
 use crate::bus_options::{
     BUS, BusSettings, Verb, bus_argument, number_option, number_within, settings_given,
@@ -82,7 +82,7 @@ fn read_buses<'a>(alloc: Global, words: &[&'a str]) -> Result<Vec<BusWord<'a>>, 
 }
 
 pub fn serve_command<'a>(alloc: Global) -> Result<Command<'a>, AllocError>
-    ensures { IfOk result (λ c. HasRules serve_app c) }
+    ensures { IfOk result (λ c. app_of c ≡ serve_app) }
 {
     let sessions_help = "Sessions to serve before the end, 1 to 4000";
     let pace_help = "Milliseconds after each attempt of a bus, 0 to 60000";

@@ -14,9 +14,7 @@ use can_server::{Bench, Hub};
 use can_serving::{Door, serve};
 use can_station::{Blanks, Open, Pass, Settled};
 use canbusd_faults::{Failure, Fault, Telling, fixed_note};
-use canbusd_files::{
-    INPUT, OUTPUT, Source, bus_config, read_names, read_source, write_failure,
-};
+use canbusd_files::{INPUT, OUTPUT, Source, bus_config, read_names, read_source, write_failure};
 use canbusd_options::{BusWord, ServeOptions};
 use std::alloc::Global;
 use std::io::{ErrorKind, Read, Write};

@@ -127,7 +127,7 @@ fn tells_faults_of_scripts(rt: HostRuntime) -> Result<(), Fail> {
         (
             b"0 good\n5 local crc\n",
             "canbusd bench can0,can1@faulty.script",
-            "canbusd: script line 2: bad line\n  faulty.script:2: 5 local crc\n  a line is NUMBER VERDICT, as 0 lastbit; see canbusd help bench\n",
+            "canbusd: script line 2: bad line\n  faulty.script:2: 5 local crc\n  VERDICT is good, lastbit, global bit, global form, local stuff NAMES, local crc NAMES or local form NAMES\n",
         ),
         (
             b"0 good\r\n",
@@ -165,11 +165,11 @@ fn tells_why_scripts_are_not_opened(rt: HostRuntime) -> Result<(), Fail> {
         ),
         (
             "canbusd bench can0@",
-            "canbusd: cannot open \n  : No such file or directory (os error 2)\n",
+            "canbusd: cannot open \n  : No such file or directory (os error 2)\n  the path of a script stands behind @\n",
         ),
         (
             "canbusd bench can0@a@b",
-            "canbusd: cannot open a@b\n  a@b: No such file or directory (os error 2)\n",
+            "canbusd: cannot open a@b\n  a@b: No such file or directory (os error 2)\n  one script stands behind all names: its path begins behind the first @\n",
         ),
         (
             "canbusd bench can0@.",

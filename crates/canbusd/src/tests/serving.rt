@@ -92,7 +92,8 @@ fn ends_with_its_input(rt: HostRuntime) -> Result<(), Fail> {
     let _sockets: Sockets = None;
     let alloc = rt.alloc();
     let line = "canbusd serve --until-eof --listen ./short can0,can1 can2 can3@";
-    let told = "canbusd: cannot open \n  : No such file or directory (os error 2)\n";
+    let told =
+        "canbusd: cannot open \n  : No such file or directory (os error 2)\n  the path of a script stands behind @\n";
     runs(&rt, alloc, line, NOTHING, ("", told, 1))?;
     let line = "canbusd serve --until-eof --listen ./short can0,can1 can2";
     let wanted = (

@@ -1,9 +1,16 @@
-use Rattle.std.proofs.Common.{◌≡◌, codes, Some, refl, rules, sym, ◌∙◌}
+use Rattle.std.proofs.Common.{◌≡◌, List, ℕ, [], codes, unwrap_or, rules, ap, sym, ◌∙◌}
 use Rattle.clap.specs.Words.{first_value, found_of}
 use Rattle.canbusd_options.proofs.Rules.{text_in_rows}
 use Rattle.canbusd_options.proofs.bus_options.ack_mode.Goals as goal
 
-pub returns-in-Some : goal.returns-in-Some
-returns-in-Some c =
-    let found : first_value (found_of c.args.matches.now) (codes "ack") ≡ Some (codes "peers") = search rules in
-    (λ is. sym (text_in_rows c.args.matches.now (codes "ack")) ∙ found, λ found. refl)
+pub returns-then-eq : goal.returns-then-eq
+returns-then-eq c =
+    let given : c.unwrap_or-text.result.now ≡ unwrap_or (first_value (found_of c.args.matches.now) (codes "ack")) [] = search rules in
+    let same : c.unwrap_or-text.result.now ≡ codes "always" = search rules in
+    ap (λ o. unwrap_or o []) (sym (text_in_rows c.args.matches.now (codes "ack"))) ∙ sym given ∙ same
+
+pub returns-then-eq-2 : goal.returns-then-eq-2
+returns-then-eq-2 c =
+    let given : c.unwrap_or-text.result.now ≡ unwrap_or (first_value (found_of c.args.matches.now) (codes "ack")) [] = search rules in
+    let same : c.unwrap_or-text.result.now ≡ codes "peers" = search rules in
+    ap (λ o. unwrap_or o []) (sym (text_in_rows c.args.matches.now (codes "ack"))) ∙ sym given ∙ same

@@ -4,7 +4,7 @@ use Rattle.canbusd_options.proofs.bus_options.settings_given.Goals as goal
 
 pub returns : goal.returns
 returns c = record {
-  ack = c.ack_mode.ensures;
+  ack = c.in_ok-ack_mode.ensures;
   reporting = λ on. c.get_flag.ensures.value (flag_in_rows c.args.matches.now (codes "report") ∙ on);
   silent = λ off. c.get_flag.ensures.other (flag_in_rows c.args.matches.now (codes "report") ∙ off);
   tx_capacity = c.in_ok-number_given.ensures;

@@ -7,16 +7,8 @@ use Rattle.canbusd_options.proofs.command_line.program_command.Goals as goal
 
 pub returns : goal.returns
 returns c =
-    let bench = c.in_ok-bench_command.ensures in
-    let serve = c.in_ok-serve_command.ensures in
     let base : app_of c.subcommand_required.result ≡ with_commands (new_app (codes "canbusd")) =
-        rw (c.subcommand_required.ensures, c.after_help.ensures, c.about.ensures, c.version.ensures) (ap with_commands c.new.ensures.app) in
-    IfOk-weaker c.subcommand-3.result _ _ (λ whole adds. record {
-      bench_modes = bench.modes;
-      serve_modes = serve.modes;
-      of_bench = bench.are_modes;
-      of_serve = serve.are_modes;
-      shape = below _ _ _ _ audit_app adds c.in_ok-audit_command.ensures refl
-      (below _ _ _ _ (serve_app serve.modes) c.in_ok-subcommand-2.ensures serve.shape refl
-      (below _ _ _ _ (bench_app bench.modes) c.in_ok-subcommand.ensures bench.shape refl base));
-    }) c.subcommand-3.ensures
+    rw (c.subcommand_required.ensures, c.after_help.ensures, c.about.ensures, c.version.ensures) (ap with_commands c.new.ensures.app) in
+    IfOk-weaker c.subcommand-3.result _ _ (λ whole adds. below _ _ _ _ audit_app adds c.in_ok-audit_command.ensures refl
+    (below _ _ _ _ serve_app c.in_ok-subcommand-2.ensures c.in_ok-serve_command.ensures refl
+    (below _ _ _ _ bench_app c.in_ok-subcommand.ensures c.in_ok-bench_command.ensures refl base))) c.subcommand-3.ensures
