@@ -12,6 +12,3 @@ pub mod scan;
 
 pub use arbiter::Arbiter;
 pub use scan::ScanArbiter;
-
-#[cfg(test)]
-mod tests;

@@ -1,4 +1,5 @@
-use crate::{Arbiter, ScanArbiter};
+use super::same;
+use can_arbiter::{Arbiter, ScanArbiter};
 use can_frame::{CanId, Frame, Iface};
 
 // An identifier, and whether the frame is a remote one.
@@ -51,14 +52,14 @@ fn frames_go_in_the_order_of_their_bits(rt: HostRuntime) {
 #[test]
 fn cleared_interfaces_do_not_win(rt: HostRuntime) {
     let mut arbiter = ScanArbiter::new();
-    assert_eq!(rt; arbiter.winner(), None);
+    same(&rt, arbiter.winner(), None);
     let (low, high) = (Iface::new(3), Iface::new(15));
     let (low, high) = (low.expect(&rt, "below 16"), high.expect(&rt, "below 16"));
     arbiter.set(high, 7);
     arbiter.set(low, 8);
-    assert_eq!(rt; arbiter.winner(), Some(high));
+    same(&rt, arbiter.winner(), Some(high));
     arbiter.clear(high);
-    assert_eq!(rt; arbiter.winner(), Some(low));
+    same(&rt, arbiter.winner(), Some(low));
     arbiter.clear(low);
-    assert_eq!(rt; arbiter.winner(), None);
+    same(&rt, arbiter.winner(), None);
 }
