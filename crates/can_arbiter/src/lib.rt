@@ -14,6 +14,3 @@ pub mod scan;
 pub use arbiter::Arbiter;
 pub use index::IndexArbiter;
 pub use scan::ScanArbiter;
-
-#[cfg(test)]
-mod tests;

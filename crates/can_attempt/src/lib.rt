@@ -18,6 +18,3 @@ pub use classes::Class;
 pub use judgements::Judgement;
 pub use judging::judge;
 pub use nodes::Nodes;
-
-#[cfg(test)]
-mod tests;

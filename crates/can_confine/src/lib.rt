@@ -10,6 +10,3 @@ pub mod states;
 
 pub use counters::{Counters, MAX_REC, MAX_TEC};
 pub use states::State;
-
-#[cfg(test)]
-mod tests;

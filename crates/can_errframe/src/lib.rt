@@ -15,6 +15,3 @@ pub mod state_frames;
 pub use fault_frames::fault_frame;
 pub use roles::Role;
 pub use state_frames::{restart_frame, state_frame};
-
-#[cfg(test)]
-mod tests;

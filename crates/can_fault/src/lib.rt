@@ -13,6 +13,3 @@ pub mod verdicts;
 pub use scripts::{Script, ScriptError};
 pub use sources::{FaultSource, Perfect};
 pub use verdicts::{GlobalKind, LocalKind, Verdict};
-
-#[cfg(test)]
-mod tests;

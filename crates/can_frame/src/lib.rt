@@ -39,6 +39,3 @@ pub use moments::{Moment, MomentTooLarge};
 pub use names::{Names, NamesError, is_name};
 pub use numbers::{read_decimal, read_digit, read_hexadecimal};
 pub use texts::Text;
-
-#[cfg(test)]
-mod tests;

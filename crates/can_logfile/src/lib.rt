@@ -8,6 +8,3 @@ mod lines;
 pub mod tapes;
 
 pub use tapes::{LogFault, write_tape};
-
-#[cfg(test)]
-mod tests;

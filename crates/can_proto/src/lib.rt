@@ -33,6 +33,3 @@ pub use messages::{Incoming, Message};
 pub use spelling::{item_text, refusal_text, reply_text};
 pub use stream::Reader;
 pub use texts::{ItemText, Text};
-
-#[cfg(test)]
-mod tests;

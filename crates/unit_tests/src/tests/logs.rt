@@ -1,8 +1,9 @@
-use crate::{LogFault, write_tape};
+use super::{same, same_at};
 use can_attempt::AckMode;
 use can_bus::{BusConfig, ListBus, SocketId};
 use can_fault::{GlobalKind, Verdict};
 use can_frame::{CanId, Frame, Iface, IfaceSet, Moment, Names};
+use can_logfile::{LogFault, write_tape};
 use std::alloc::AllocGlobal;
 use std::process::Abort;
 use std::test::Fail;
@@ -58,7 +59,7 @@ fn log_into(
     let mut room = [0; 80];
     let mut writer = room.get_mut(..size).ok_or("too long")?;
     let outcome = write_tape(&names, bus.record(), &mut writer);
-    assert_eq!(rt; room.get(..size), text.get(..size));
+    same(rt, room.get(..size), text.get(..size));
     Ok(outcome)
 }
 
@@ -73,8 +74,8 @@ fn is_log(
     text: &[u8],
 ) -> Result<(), Fail> {
     let (lines, out) = log_of(rt, bus)?;
-    assert_eq!(rt; lines, count);
-    assert_eq!(rt; out.as_slice(), text);
+    same(rt, lines, count);
+    same(rt, out.as_slice(), text);
     Ok(())
 }
 
@@ -115,9 +116,9 @@ fn a_torn_line_is_not_counted(rt: HostRuntime) -> Result<(), Fail> {
     let text = b"(0000000000.000005) can0 00000123#R3\n(0000000000.000005) can0 00000123#R3\n";
     for (size, whole_lines) in [(0, 0), (5, 0), (36, 0), (37, 1), (73, 1)] {
         let outcome = log_into(&rt, &bus, size, text)?;
-        assert_eq!(rt; outcome, Err(LogFault { whole_lines }), "at {size}");
+        same_at(&rt, size, outcome, Err(LogFault { whole_lines }));
     }
-    assert_eq!(rt; log_into(&rt, &bus, 74, text)?, Ok(2));
+    same(&rt, log_into(&rt, &bus, 74, text)?, Ok(2));
     Ok(())
 }
 

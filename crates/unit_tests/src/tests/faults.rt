@@ -1,4 +1,5 @@
-use crate::{FaultSource, GlobalKind, LocalKind, Perfect, Script, ScriptError, Verdict};
+use super::{same, same_at};
+use can_fault::{FaultSource, GlobalKind, LocalKind, Perfect, Script, ScriptError, Verdict};
 use can_frame::{IfaceSet, Names};
 use std::fmt::Write;
 use std::test::Fail;
@@ -27,7 +28,7 @@ fn a_script_gives_the_verdicts_of_its_lines(rt: HostRuntime) -> Result<(), Fail>
         (0, Verdict::LastBit),
     ];
     for (attempt, verdict) in verdicts {
-        assert_eq!(rt; script.verdict(attempt), verdict, "at {attempt}");
+        same_at(&rt, attempt, script.verdict(attempt), verdict);
     }
     Ok(())
 }
@@ -37,8 +38,8 @@ fn the_empty_text_and_the_perfect_source_are_good_everywhere(rt: HostRuntime) ->
     let names = Names::read(rt.alloc(), "can0")?;
     let mut script = Script::read(rt.alloc(), "", &names)?;
     for attempt in [0, 1, u64::MAX] {
-        assert_eq!(rt; asked(&mut script, attempt), Verdict::Good, "at {attempt}");
-        assert_eq!(rt; asked(&mut Perfect, attempt), Verdict::Good, "at {attempt}");
+        same_at(&rt, attempt, asked(&mut script, attempt), Verdict::Good);
+        same_at(&rt, attempt, asked(&mut Perfect, attempt), Verdict::Good);
     }
     Ok(())
 }
@@ -74,7 +75,7 @@ fn the_first_fault_of_a_text_is_told(rt: HostRuntime) -> Result<(), Fail> {
     ];
     for (text, fault) in faults {
         let found = Script::read(rt.alloc(), text, &names).err();
-        assert_eq!(rt; found, Some(fault), "at {text}");
+        same_at(&rt, text, found, Some(fault));
     }
     Ok(())
 }
@@ -96,7 +97,7 @@ fn faults_are_told_in_words(rt: HostRuntime) -> Result<(), Fail> {
     for (fault, text) in words {
         let mut told = String::new(rt.alloc());
         write!(told, "{fault}")?;
-        assert_eq!(rt; told.as_str(), text);
+        same(&rt, told.as_str(), text);
     }
     Ok(())
 }
@@ -110,7 +111,7 @@ fn a_long_script_is_read_and_asked_quickly(rt: HostRuntime) -> Result<(), Fail> 
     }
     let mut script = Script::read(rt.alloc(), &text, &names)?;
     for attempt in 0..100_000u64 {
-        assert_eq!(rt; script.verdict(attempt), Verdict::LastBit);
+        same(&rt, script.verdict(attempt), Verdict::LastBit);
     }
     Ok(())
 }

@@ -1,20 +1,18 @@
-use crate::filter_sets::{FilterError, FilterSet};
-use crate::filters::{Filter, InvalidFilter};
-use crate::socket_options::Options;
-use crate::wanted::wants;
+use super::{same, same_at};
+use can_filter::{Filter, FilterError, FilterSet, InvalidFilter, Options, wants};
 use can_frame::{CanId, ErrorFrame, Frame, Item};
 use std::test::Fail;
 
 #[test]
 fn a_filter_compares_the_masked_bits(rt: HostRuntime) -> Result<(), Fail> {
     let filter = Filter::new(0x123, 0x7FF)?;
-    assert_eq!(rt; (filter.id(), filter.mask()), (0x123, 0x7FF));
+    same(&rt, (filter.id(), filter.mask()), (0x123, 0x7FF));
     let set = FilterSet::from_slice(rt.alloc(), &[filter])?;
-    assert_eq!(rt; set.filters().len(), 1);
+    same(&rt, set.filters().len(), 1);
     for (word, want) in [(0x123, true), (0x8000_0123, true), (0x124, false)] {
-        assert_eq!(rt; set.passes(word, false), want, "at {word}");
+        same_at(&rt, word, set.passes(word, false), want);
     }
-    assert_eq!(rt; Filter::new(0x123, 0x2000_0000), Err(InvalidFilter));
+    same(&rt, Filter::new(0x123, 0x2000_0000), Err(InvalidFilter));
     Ok(())
 }
 
@@ -23,11 +21,11 @@ fn inverted_filters_join_by_or_and_by_and(rt: HostRuntime) -> Result<(), Fail> {
     let one = Filter::new(0x2000_0123, 0x7FF)?;
     let other = Filter::new(0x2000_0124, 0x7FF)?;
     let set = FilterSet::from_slice(rt.alloc(), &[one, other])?;
-    assert_eq!(rt; set.passes(0x123, false), true);
-    assert_eq!(rt; set.passes(0x123, true), false);
+    same(&rt, set.passes(0x123, false), true);
+    same(&rt, set.passes(0x123, true), false);
     let none = FilterSet::none(rt.alloc());
-    assert_eq!(rt; none.passes(0x123, false), false);
-    assert_eq!(rt; none.passes(0x123, true), false);
+    same(&rt, none.passes(0x123, false), false);
+    same(&rt, none.passes(0x123, true), false);
     Ok(())
 }
 
@@ -39,8 +37,8 @@ fn each_of_many_filters_counts(rt: HostRuntime) -> Result<(), Fail> {
         let mut filters = vec![in rt.alloc(); filter; 11]?;
         filters[place] = other;
         let set = FilterSet::from_slice(rt.alloc(), &filters)?;
-        assert_eq!(rt; set.passes(0x124, false), true, "at {place}");
-        assert_eq!(rt; set.passes(0x123, true), false, "at {place}");
+        same_at(&rt, place, set.passes(0x124, false), true);
+        same_at(&rt, place, set.passes(0x123, true), false);
     }
     Ok(())
 }
@@ -64,12 +62,8 @@ fn filters_of_one_identifier_stand_beside_others(rt: HostRuntime) -> Result<(), 
         (0x4000_0200, false),
     ];
     for (word, want) in rows {
-        assert_eq!(rt;
-            (set.passes(word, false), set.passes(word, true)),
-            (want, false),
-            "at {word}"
-        );
-        assert_eq!(rt; copy.passes(word, false), want, "at {word}");
+        same_at(&rt, word, (set.passes(word, false), set.passes(word, true)), (want, false));
+        same_at(&rt, word, copy.passes(word, false), want);
     }
     Ok(())
 }
@@ -85,28 +79,11 @@ fn many_identifiers_are_each_found(rt: HostRuntime) -> Result<(), Fail> {
     let set = FilterSet::from_slice(rt.alloc(), &list)?;
     for place in 0..256u32 {
         let (standard, extended) = (0x7FF - 2 * place, 0x9FFF_FFFF - 2 * place);
-        assert_eq!(rt;
-            (set.passes(standard, false), set.passes(extended, false)),
-            (true, true),
-            "at {place}"
-        );
+        same_at(&rt, place, (set.passes(standard, false), set.passes(extended, false)), (true, true));
         // A remote frame, and an identifier between two of the list.
-        assert_eq!(rt;
-            (
-                set.passes(0x4000_0000 | standard, false),
-                set.passes(standard - 1, false)
-            ),
-            (false, false),
-            "at {place}"
-        );
-        assert_eq!(rt;
-            (
-                set.passes(0xC000_0000 | extended, false),
-                set.passes(extended - 1, false)
-            ),
-            (false, false),
-            "at {place}"
-        );
+        let remote = (set.passes(0x4000_0000 | standard, false), set.passes(0xC000_0000 | extended, false));
+        let between = (set.passes(standard - 1, false), set.passes(extended - 1, false));
+        same_at(&rt, place, (remote, between), ((false, false), (false, false)));
     }
     Ok(())
 }
@@ -116,10 +93,10 @@ fn a_set_has_at_most_512_filters(rt: HostRuntime) -> Result<(), Fail> {
     let filter = Filter::new(0x123, 0x7FF)?;
     let many = vec![in rt.alloc(); filter; 513]?;
     let most = FilterSet::from_slice(rt.alloc(), &many[..512])?;
-    assert_eq!(rt; most.filters().len(), 512);
-    assert_eq!(rt; most.try_copy(rt.alloc())?.filters().len(), 512);
+    same(&rt, most.filters().len(), 512);
+    same(&rt, most.try_copy(rt.alloc())?.filters().len(), 512);
     let over = FilterSet::from_slice(rt.alloc(), &many);
-    assert_eq!(rt; over.err(), Some(FilterError::TooManyFilters));
+    same(&rt, over.err(), Some(FilterError::TooManyFilters));
     Ok(())
 }
 
@@ -129,7 +106,7 @@ fn own_frames_and_error_masks(rt: HostRuntime) -> Result<(), Fail> {
     let frame = Item::Data(Frame::data(CanId::standard(0x123)?, &[])?);
     let error = Item::Error(ErrorFrame::new(0x204, [0; 8])?);
     let opened = Options::at_open();
-    assert_eq!(rt; opened, Options::default());
+    same(&rt, opened, Options::default());
     let own = Options {
         recv_own: true,
         ..opened
@@ -150,7 +127,7 @@ fn own_frames_and_error_masks(rt: HostRuntime) -> Result<(), Fail> {
         (marks, error, false, false),
         (counts, error, false, true),
     ] {
-        assert_eq!(rt; wants(&filters, &options, &item, is_own), want);
+        same(&rt, wants(&filters, &options, &item, is_own), want);
     }
     Ok(())
 }

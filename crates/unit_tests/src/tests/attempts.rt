@@ -1,4 +1,5 @@
-use crate::{AckMode, Class, Judgement, Nodes, judge};
+use super::same;
+use can_attempt::{AckMode, Class, Judgement, Nodes, judge};
 use can_confine::Counters;
 use can_fault::{GlobalKind, LocalKind, Verdict};
 use can_frame::{Iface, IfaceSet};
@@ -37,24 +38,24 @@ fn a_checksum_fault_at_one_receiver(rt: HostRuntime) {
     let verdict = Verdict::Local(IfaceSet(0b100), LocalKind::Crc);
     match attempt(&nodes(&[(0, 0), (0, 0), (0, 130)]), verdict, AckMode::Peers) {
         Some(passive) => {
-            assert_eq!(rt; passive.class, Class::Done);
-            assert_eq!(rt; passive.accepted, IfaceSet(0b010));
-            assert_eq!(rt; passive.hit, IfaceSet(0b100));
-            assert_eq!(rt; passive.off, IfaceSet(0));
-            assert_eq!(rt; counts(&passive, 0), (0, 0));
-            assert_eq!(rt; counts(&passive, 1), (0, 0));
-            assert_eq!(rt; counts(&passive, 2), (0, 131));
+            same(&rt, passive.class, Class::Done);
+            same(&rt, passive.accepted, IfaceSet(0b010));
+            same(&rt, passive.hit, IfaceSet(0b100));
+            same(&rt, passive.off, IfaceSet(0));
+            same(&rt, counts(&passive, 0), (0, 0));
+            same(&rt, counts(&passive, 1), (0, 0));
+            same(&rt, counts(&passive, 2), (0, 131));
         }
         None => assert!(rt; false),
     }
     match attempt(&nodes(&[(0, 0), (0, 0), (0, 100)]), verdict, AckMode::Peers) {
         Some(active) => {
-            assert_eq!(rt; active.class, Class::Destroyed);
-            assert_eq!(rt; active.accepted, IfaceSet(0));
-            assert_eq!(rt; active.hit, IfaceSet(0b100));
-            assert_eq!(rt; counts(&active, 0), (8, 0));
-            assert_eq!(rt; counts(&active, 1), (0, 1));
-            assert_eq!(rt; counts(&active, 2), (0, 101));
+            same(&rt, active.class, Class::Destroyed);
+            same(&rt, active.accepted, IfaceSet(0));
+            same(&rt, active.hit, IfaceSet(0b100));
+            same(&rt, counts(&active, 0), (8, 0));
+            same(&rt, counts(&active, 1), (0, 1));
+            same(&rt, counts(&active, 2), (0, 101));
         }
         None => assert!(rt; false),
     }
@@ -69,9 +70,9 @@ fn a_last_bit_fault_of_a_lone_transmitter(rt: HostRuntime) {
     for (ack, class) in rows {
         match attempt(&nodes(&[(0, 0)]), Verdict::LastBit, ack) {
             Some(judgement) => {
-                assert_eq!(rt; judgement.class, class);
-                assert_eq!(rt; judgement.accepted, IfaceSet(0));
-                assert_eq!(rt; counts(&judgement, 0), (8, 0));
+                same(&rt, judgement.class, class);
+                same(&rt, judgement.accepted, IfaceSet(0));
+                same(&rt, counts(&judgement, 0), (8, 0));
             }
             None => assert!(rt; false),
         }
@@ -87,9 +88,9 @@ fn a_lone_transmitter_stays_error_passive(rt: HostRuntime) {
     for tec in wanted {
         match attempt(&lone, Verdict::Good, AckMode::Peers) {
             Some(judgement) => {
-                assert_eq!(rt; judgement.class, Class::NoAck);
-                assert_eq!(rt; judgement.accepted, IfaceSet(0));
-                assert_eq!(rt; counts(&judgement, 0), (tec, 0));
+                same(&rt, judgement.class, Class::NoAck);
+                same(&rt, judgement.accepted, IfaceSet(0));
+                same(&rt, counts(&judgement, 0), (tec, 0));
                 lone.counters = judgement.counters;
             }
             None => assert!(rt; false),
@@ -103,10 +104,14 @@ fn thirty_two_destroyed_frames_take_the_winner_off(rt: HostRuntime) {
     for round in 1..33u16 {
         match attempt(&pair, Verdict::Global(GlobalKind::Bit), AckMode::Always) {
             Some(judgement) => {
-                assert_eq!(rt; judgement.class, Class::Destroyed);
-                assert_eq!(rt; counts(&judgement, 0), (8 * round, 0));
-                assert_eq!(rt; counts(&judgement, 1), (0, round));
-                assert_eq!(rt; judgement.off, IfaceSet(if round == 32 { 1 } else { 0 }));
+                same(&rt, judgement.class, Class::Destroyed);
+                same(&rt, counts(&judgement, 0), (8 * round, 0));
+                same(&rt, counts(&judgement, 1), (0, round));
+                same(
+                    &rt,
+                    judgement.off,
+                    IfaceSet(if round == 32 { 1 } else { 0 }),
+                );
                 pair.counters = judgement.counters;
             }
             None => assert!(rt; false),

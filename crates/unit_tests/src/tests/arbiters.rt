@@ -1,4 +1,5 @@
-use crate::{Arbiter, IndexArbiter, ScanArbiter};
+use super::{same, same_at};
+use can_arbiter::{Arbiter, IndexArbiter, ScanArbiter};
 use can_frame::{CanId, Frame, Iface};
 
 // An identifier, and whether the frame is a remote one.
@@ -40,14 +41,8 @@ fn frames_go_in_the_order_of_their_bits(rt: HostRuntime) {
         (Head::Data11(0x124), Head::Remote29(0x048C_0000), 1),
     ];
     for (can0, can1, first) in rows {
-        assert_eq!(rt;
-            (
-                first_of::<ScanArbiter>(can0, can1),
-                first_of::<IndexArbiter>(can0, can1)
-            ),
-            (Some(first), Some(first)),
-            "{can0:?} {can1:?}"
-        );
+        let firsts = (first_of::<ScanArbiter>(can0, can1), first_of::<IndexArbiter>(can0, can1));
+        same_at(&rt, (can0, can1), firsts, (Some(first), Some(first)));
     }
 }
 
@@ -92,6 +87,6 @@ fn a_change_of_keys_changes_who_is_first(rt: HostRuntime) {
         Some(15),
         None,
     ];
-    assert_eq!(rt; firsts_of::<ScanArbiter>(changes), firsts);
-    assert_eq!(rt; firsts_of::<IndexArbiter>(changes), firsts);
+    same(&rt, firsts_of::<ScanArbiter>(changes), firsts);
+    same(&rt, firsts_of::<IndexArbiter>(changes), firsts);
 }

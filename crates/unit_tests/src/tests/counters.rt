@@ -1,6 +1,7 @@
 ghost use Rattle.std.specs.Prelude.{◌≡◌, ◌≤◌};
 
-use crate::{Counters, State};
+use super::{same, same_at};
+use can_confine::{Counters, State};
 
 fn counters(tec: u16, rec: u16) -> Counters
     requires { (tec ≤ 263) × (rec ≤ 255) }
@@ -29,8 +30,8 @@ fn states_by_their_limits(rt: HostRuntime) {
     for (tec, rec, state) in rows {
         match Counters::new(tec, rec) {
             Some(made) => {
-                assert_eq!(rt; made.state(), state, "at {tec}/{rec}");
-                assert_eq!(rt; (made.tec(), made.rec()), (tec, rec));
+                same_at(&rt, (tec, rec), made.state(), state);
+                same(&rt, (made.tec(), made.rec()), (tec, rec));
             }
             None => assert!(rt; false, "at {tec}/{rec}"),
         }
@@ -42,17 +43,17 @@ fn states_by_their_limits(rt: HostRuntime) {
 
 #[test]
 fn steps_by_the_rules(rt: HostRuntime) {
-    assert_eq!(rt; Counters::zero().tx_error(), counters(8, 0));
-    assert_eq!(rt; counters(255, 3).tx_error(), counters(263, 3));
-    assert_eq!(rt; counters(120, 0).ack_error(), counters(128, 0));
-    assert_eq!(rt; counters(128, 0).ack_error(), counters(128, 0));
-    assert_eq!(rt; counters(0, 128).ack_error(), counters(0, 128));
-    assert_eq!(rt; counters(0, 254).rx_error(), counters(0, 255));
-    assert_eq!(rt; counters(0, 255).rx_error(), counters(0, 255));
-    assert_eq!(rt; counters(8, 1).tx_good(), counters(7, 1));
-    assert_eq!(rt; counters(0, 1).tx_good(), counters(0, 1));
-    assert_eq!(rt; counters(1, 0).rx_good(), counters(1, 0));
-    assert_eq!(rt; counters(1, 127).rx_good(), counters(1, 126));
-    assert_eq!(rt; counters(1, 255).rx_good(), counters(1, 127));
-    assert_eq!(rt; counters(256, 9).restart(), Counters::zero());
+    same(&rt, Counters::zero().tx_error(), counters(8, 0));
+    same(&rt, counters(255, 3).tx_error(), counters(263, 3));
+    same(&rt, counters(120, 0).ack_error(), counters(128, 0));
+    same(&rt, counters(128, 0).ack_error(), counters(128, 0));
+    same(&rt, counters(0, 128).ack_error(), counters(0, 128));
+    same(&rt, counters(0, 254).rx_error(), counters(0, 255));
+    same(&rt, counters(0, 255).rx_error(), counters(0, 255));
+    same(&rt, counters(8, 1).tx_good(), counters(7, 1));
+    same(&rt, counters(0, 1).tx_good(), counters(0, 1));
+    same(&rt, counters(1, 0).rx_good(), counters(1, 0));
+    same(&rt, counters(1, 127).rx_good(), counters(1, 126));
+    same(&rt, counters(1, 255).rx_good(), counters(1, 127));
+    same(&rt, counters(256, 9).restart(), Counters::zero());
 }

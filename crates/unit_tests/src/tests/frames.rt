@@ -1,4 +1,5 @@
-use crate::{
+use super::{same, same_at};
+use can_frame::{
     CanId, ErrorFrame, Frame, Iface, Item, Moment, Names, NamesError, Text, frame_text, guess_item,
     is_name, read_decimal, read_frame_text, read_hexadecimal,
 };
@@ -8,12 +9,12 @@ fn names_are_the_pieces_between_the_commas(rt: HostRuntime) {
     let Ok(names) = Names::read(rt.alloc(), "can0,vcan-1,x.y_Z") else {
         panic!(rt; "no names");
     };
-    assert_eq!(rt; names.count(), 3);
-    assert_eq!(rt; names.find("vcan-1"), Iface::new(1));
-    assert_eq!(rt; names.find("vcan"), None);
+    same(&rt, names.count(), 3);
+    same(&rt, names.find("vcan-1"), Iface::new(1));
+    same(&rt, names.find("vcan"), None);
     for (number, name) in [(0, Some("can0")), (2, Some("x.y_Z")), (3, None)] {
         let iface = Iface::new(number).expect(&rt, "below 16");
-        assert_eq!(rt; names.name(iface), name, "at {number}");
+        same_at(&rt, number, names.name(iface), name);
     }
 }
 
@@ -33,10 +34,10 @@ fn names_are_refused_by_their_rule(rt: HostRuntime) {
     ];
     for (text, good) in texts {
         let bad = matches!(Names::read(rt.alloc(), text), Err(NamesError::BadNames));
-        assert_eq!(rt; bad, !good, "at {text}");
+        same_at(&rt, text, bad, !good);
     }
     for (text, good) in [("can0", true), ("", false), ("can0,can1", false)] {
-        assert_eq!(rt; is_name(text), good, "at {text}");
+        same_at(&rt, text, is_name(text), good);
     }
 }
 
@@ -91,19 +92,19 @@ fn every_kind_of_item_goes_there_and_back(rt: HostRuntime) {
         ("3FFFFFFF#FFFFFFFFFFFFFFFF", error(0x1FFF_FFFF, [0xFF; 8])),
     ];
     for (text, item) in items {
-        assert_eq!(rt; item.is_some(), true, "at {text}");
-        assert_eq!(rt; is_read(text, item), true, "at {text}");
-        assert_eq!(rt; is_written(item, text), true, "at {text}");
+        same_at(&rt, text, item.is_some(), true);
+        same_at(&rt, text, is_read(text, item), true);
+        same_at(&rt, text, is_written(item, text), true);
     }
 }
 
 #[test]
 fn frame_text_is_read_in_either_case(rt: HostRuntime) {
-    assert_eq!(rt; is_read("7aB#fF0a", data(0x7AB, b"\xFF\x0A")), true);
-    assert_eq!(rt; is_read("123#r2", remote(0x123, 2)), true);
-    assert_eq!(rt; is_read("123#R0", remote(0x123, 0)), true);
-    assert_eq!(rt; is_read("123#r0", remote(0x123, 0)), true);
-    assert_eq!(rt; is_read("0000000a#r", extended_remote(0xA, 0)), true);
+    same(&rt, is_read("7aB#fF0a", data(0x7AB, b"\xFF\x0A")), true);
+    same(&rt, is_read("123#r2", remote(0x123, 2)), true);
+    same(&rt, is_read("123#R0", remote(0x123, 0)), true);
+    same(&rt, is_read("123#r0", remote(0x123, 0)), true);
+    same(&rt, is_read("0000000a#r", extended_remote(0xA, 0)), true);
 }
 
 #[test]
@@ -136,7 +137,7 @@ fn other_texts_are_bad(rt: HostRuntime) {
         "123#é",
     ];
     for text in texts {
-        assert_eq!(rt; read_frame_text(text).is_err(), true, "at {text}");
+        same_at(&rt, text, read_frame_text(text).is_err(), true);
     }
 }
 
@@ -150,19 +151,20 @@ fn is_hexadecimal(word: &str, number: Option<u32>) -> bool {
 
 #[test]
 fn words_are_read_as_numbers(rt: HostRuntime) {
-    assert_eq!(rt; is_decimal("0", Some(0)), true);
-    assert_eq!(rt; is_decimal("00123", Some(123)), true);
-    assert_eq!(rt;
+    same(&rt, is_decimal("0", Some(0)), true);
+    same(&rt, is_decimal("00123", Some(123)), true);
+    same(
+        &rt,
         is_decimal("9999999999999999999", Some(9_999_999_999_999_999_999)),
-        true
+        true,
     );
-    assert_eq!(rt; is_hexadecimal("fFfFfFfF", Some(0xFFFF_FFFF)), true);
-    assert_eq!(rt; is_hexadecimal("0a9", Some(0xA9)), true);
+    same(&rt, is_hexadecimal("fFfFfFfF", Some(0xFFFF_FFFF)), true);
+    same(&rt, is_hexadecimal("0a9", Some(0xA9)), true);
     for word in ["", "00000000000000000000", "1 ", "+1", "-1", "1a", ":", "/"] {
-        assert_eq!(rt; is_decimal(word, None), true, "at {word}");
+        same_at(&rt, word, is_decimal(word, None), true);
     }
     for word in ["", "000000000", "g", "0x1", "+1", "@", "G", "`"] {
-        assert_eq!(rt; is_hexadecimal(word, None), true, "at {word}");
+        same_at(&rt, word, is_hexadecimal(word, None), true);
     }
 }
 
@@ -176,12 +178,12 @@ fn parts_of_texts_are_written(rt: HostRuntime) {
     text.push_decimals(3, 98_765);
     text.push_moment(Moment::new(9_999_999_999_999_999).expect(&rt, "the last"));
     let bytes = b"00A1FFFFFFF23.0000422347659999999999.999999";
-    assert_eq!(rt; text.as_bytes(), bytes.as_slice());
+    same(&rt, text.as_bytes(), bytes.as_slice());
 }
 
 #[test]
 fn what_is_guessed_has_to_be_compared(rt: HostRuntime) {
-    assert_eq!(rt; guess_item(b"123#R4") == remote(0x123, 4), true);
-    assert_eq!(rt; guess_item(b"12a#") == data(0x12A, b""), true);
-    assert_eq!(rt; guess_item(b"123#R9").is_none(), true);
+    same(&rt, guess_item(b"123#R4") == remote(0x123, 4), true);
+    same(&rt, guess_item(b"12a#") == data(0x12A, b""), true);
+    same(&rt, guess_item(b"123#R9").is_none(), true);
 }

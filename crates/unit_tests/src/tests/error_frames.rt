@@ -1,6 +1,7 @@
-use crate::{Role, fault_frame, restart_frame, state_frame};
+use super::{same, same_at};
 use can_attempt::Class;
 use can_confine::Counters;
+use can_errframe::{Role, fault_frame, restart_frame, state_frame};
 use can_fault::{GlobalKind, LocalKind, Verdict};
 use can_frame::{ErrorFrame, IfaceSet};
 
@@ -35,9 +36,9 @@ fn changes_of_state(rt: HostRuntime) {
     ];
     for (old, new, class, bytes) in rows {
         let told = parts(state_frame(counters(old), counters(new)));
-        assert_eq!(rt; told, (class, bytes), "from {} to {}", old.0, new.0);
+        same_at(&rt, (old, new), told, (class, bytes));
     }
-    assert_eq!(rt; parts(Some(restart_frame())), (0x100, [0; 8]));
+    same(&rt, parts(Some(restart_frame())), (0x100, [0; 8]));
 }
 
 /// The class, the kind and the place that a fault frame tells.
@@ -137,9 +138,9 @@ fn faults_by_class_verdict_and_role(rt: HostRuntime) {
                     wanted = (winner, named, other);
                 }
             }
-            assert_eq!(rt; told(class, verdict, Role::Winner), Some(wanted.0));
-            assert_eq!(rt; told(class, verdict, Role::Named), Some(wanted.1));
-            assert_eq!(rt; told(class, verdict, Role::Other), Some(wanted.2));
+            same(&rt, told(class, verdict, Role::Winner), Some(wanted.0));
+            same(&rt, told(class, verdict, Role::Named), Some(wanted.1));
+            same(&rt, told(class, verdict, Role::Other), Some(wanted.2));
         }
     }
 }

@@ -1,7 +1,10 @@
-use crate::{Answer, Cause, Command, Incoming, Mode, ProtoFault, Reader, item_text, reply_text};
+use super::{same, same_at};
 use can_bus::{Closed, Opt};
 use can_confine::Counters;
 use can_frame::{CanId, ErrorFrame, Frame, Item, Moment, TooLong};
+use can_proto::{
+    Answer, Cause, Command, Incoming, Mode, ProtoFault, Reader, item_text, reply_text,
+};
 
 #[test]
 fn every_cut_gives_both_messages(rt: HostRuntime) {
@@ -17,12 +20,10 @@ fn every_cut_gives_both_messages(rt: HostRuntime) {
         for incoming in more {
             given.push(incoming).expect(&rt, "memory");
         }
-        assert_eq!(rt; given.len(), 2, "cut at {cut}");
+        same_at(&rt, cut, given.len(), 2);
         for incoming in given {
             match incoming {
-                Incoming::Message(message) => {
-                    assert_eq!(rt; message.inside(), b" echo ".as_slice())
-                }
+                Incoming::Message(message) => { same(&rt, message.inside(), b" echo ".as_slice()) }
                 Incoming::TooLong => panic!(rt; "too long"),
             }
         }
@@ -44,12 +45,12 @@ fn a_message_has_at_most_1024_bytes(rt: HostRuntime) {
         match &given[0] {
             Incoming::Message(message) => {
                 assert!(rt; passes);
-                assert_eq!(rt; message.inside().len(), len);
+                same(&rt, message.inside().len(), len);
             }
             Incoming::TooLong => assert!(rt; !passes),
         }
         match &given[1] {
-            Incoming::Message(message) => assert_eq!(rt; message.inside(), b" echo ".as_slice()),
+            Incoming::Message(message) => same(&rt, message.inside(), b" echo ".as_slice()),
             Incoming::TooLong => panic!(rt; "the next message was not read"),
         }
     }
@@ -98,7 +99,7 @@ fn faults_are_told_in_their_order(rt: HostRuntime) {
         };
         match Command::read(rt.alloc(), mode, message) {
             Ok(_) => panic!(rt; "read"),
-            Err(told) => assert_eq!(rt; told, fault, "at {text:?}"),
+            Err(told) => same_at(&rt, text, told, fault),
         }
     }
 }
@@ -125,7 +126,7 @@ fn frames_are_read(rt: HostRuntime) {
         let Command::Send(read) = &command else {
             panic!(rt; "no frame");
         };
-        assert_eq!(rt; Ok(*read), frame, "at {text:?}");
+        same_at(&rt, text, Ok(*read), frame);
     }
 }
 
@@ -165,7 +166,7 @@ fn commands_are_read(rt: HostRuntime) {
         assert!(rt; right, "at {read}");
         read += 1;
     }
-    assert_eq!(rt; read, 13);
+    same(&rt, read, 13);
 }
 
 #[test]
@@ -208,7 +209,7 @@ fn items_are_written(rt: HostRuntime) {
     ];
     for (item, micros, errdata, text) in cases {
         let moment = Moment::new(micros).expect(&rt, "a moment");
-        assert_eq!(rt; item_text(item, moment, errdata).as_bytes(), text);
+        same(&rt, item_text(item, moment, errdata).as_bytes(), text);
     }
 }
 
@@ -247,6 +248,6 @@ fn answers_are_written(rt: HostRuntime) {
         ),
     ];
     for (answer, text) in cases {
-        assert_eq!(rt; reply_text(answer).as_bytes(), text);
+        same(&rt, reply_text(answer).as_bytes(), text);
     }
 }

@@ -1,6 +1,5 @@
-use crate::bounded_queue::{BoundedQueue, QueueError};
-use crate::list_queue::ListQueue;
-use crate::ring_queue::RingQueue;
+use super::same;
+use can_queue::{BoundedQueue, ListQueue, QueueError, RingQueue};
 use std::alloc::Global;
 use std::process::Abort;
 use std::test::Fail;
@@ -8,17 +7,17 @@ use std::test::Fail;
 /// Goes through the calls of a queue with room for two.
 fn keeps_the_order<Q: BoundedQueue<u32>>(rt: &impl Abort, alloc: Global) -> Result<(), QueueError> {
     let mut queue = Q::with_capacity(alloc, 2)?;
-    assert_eq!(rt; queue.capacity(), 2);
-    assert_eq!(rt; queue.pop(), None);
-    assert_eq!(rt; queue.try_push(10), Ok(()));
-    assert_eq!(rt; queue.try_push(20), Ok(()));
-    assert_eq!(rt; queue.try_push(30), Err(30));
-    assert_eq!(rt; queue.len(), 2);
-    assert_eq!(rt; queue.front().copied(), Some(10));
-    assert_eq!(rt; queue.pop(), Some(10));
-    assert_eq!(rt; queue.try_push(40), Ok(()));
-    assert_eq!(rt; queue.clear(), 2);
-    assert_eq!(rt; queue.len(), 0);
+    same(rt, queue.capacity(), 2);
+    same(rt, queue.pop(), None);
+    same(rt, queue.try_push(10), Ok(()));
+    same(rt, queue.try_push(20), Ok(()));
+    same(rt, queue.try_push(30), Err(30));
+    same(rt, queue.len(), 2);
+    same(rt, queue.front().copied(), Some(10));
+    same(rt, queue.pop(), Some(10));
+    same(rt, queue.try_push(40), Ok(()));
+    same(rt, queue.clear(), 2);
+    same(rt, queue.len(), 0);
     Ok(())
 }
 
@@ -26,26 +25,27 @@ fn keeps_the_order<Q: BoundedQueue<u32>>(rt: &impl Abort, alloc: Global) -> Resu
 /// round often.
 fn goes_round<Q: BoundedQueue<u32>>(rt: &impl Abort, alloc: Global) -> Result<(), QueueError> {
     let mut queue = Q::with_capacity(alloc, 3)?;
-    assert_eq!(rt; queue.try_push(0), Ok(()));
-    assert_eq!(rt; queue.try_push(1), Ok(()));
+    same(rt, queue.try_push(0), Ok(()));
+    same(rt, queue.try_push(1), Ok(()));
     for oldest in 0..100 {
-        assert_eq!(rt; queue.try_push(oldest + 2), Ok(()));
-        assert_eq!(rt; queue.try_push(999), Err(999));
-        assert_eq!(rt; queue.len(), 3);
-        assert_eq!(rt; queue.front().copied(), Some(oldest));
-        assert_eq!(rt; queue.pop(), Some(oldest));
+        same(rt, queue.try_push(oldest + 2), Ok(()));
+        same(rt, queue.try_push(999), Err(999));
+        same(rt, queue.len(), 3);
+        same(rt, queue.front().copied(), Some(oldest));
+        same(rt, queue.pop(), Some(oldest));
     }
-    assert_eq!(rt; queue.pop(), Some(100));
-    assert_eq!(rt; queue.pop(), Some(101));
-    assert_eq!(rt; queue.pop(), None);
+    same(rt, queue.pop(), Some(100));
+    same(rt, queue.pop(), Some(101));
+    same(rt, queue.pop(), None);
     Ok(())
 }
 
 /// A queue for no items is refused.
 fn refuses_no_room<Q: BoundedQueue<u32>>(rt: &impl Abort, alloc: Global) {
-    assert_eq!(rt;
+    same(
+        rt,
         Q::with_capacity(alloc, 0).err(),
-        Some(QueueError::BadCapacity)
+        Some(QueueError::BadCapacity),
     );
 }
 
