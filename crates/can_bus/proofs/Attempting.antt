@@ -6,10 +6,8 @@ use Rattle.std.proofs.lemmas.List.{length_push, length-append, length-drop, drop
 use Rattle.std.proofs.lemmas.List.FromFn.{length-range_with_len}
 use Rattle.can_frame.specs.Frames.{CanFrame}
 use Rattle.can_frame.specs.Sets.{is_in}
-use Rattle.can_arbiter.specs.Keys.{IsWinner, IsIdle}
 use Rattle.can_confine.specs.Confinement.{ErrorCounts, at_start, state_of, is_off}
 use Rattle.can_fault.specs.declared.verdicts.Verdict.{Verdict}
-use Rattle.can_attempt.specs.declared.nodes.Nodes.{Nodes}
 use Rattle.can_attempt.specs.Attempts.{Transmission, attempt_between, counts_at, judged, set_of, is_among, off_after, counts_after, steps_at}
 use Rattle.can_attempt.proofs.Standing.{is_in-of}
 use Rattle.can_bus.specs.declared.events.BusConfig.{BusConfig}

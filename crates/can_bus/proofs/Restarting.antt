@@ -1,4 +1,4 @@
-use Rattle.std.proofs.Common.{◌≡◌, ◌≢◌, ℕ, ◌<◌, ◌≤◌, ◌==◌, nat_le, true, false, List, [], ◌∷◌, map, slice_set, Result, Ok, Err, refl, sym, ap, ◌∙◌, arith, subst}
+use Rattle.std.proofs.Common.{◌≡◌, ◌≢◌, ℕ, ◌<◌, ◌≤◌, ◌==◌, nat_le, true, false, List, [], ◌∷◌, map, slice_set, Result, Ok, Err, refl, sym, ap, ◌∙◌, arith}
 use Rattle.std.specs.List.{range_with_len}
 use Rattle.std.proofs.lemmas.Bool.{eq-eqb, ne_eqb, cond-true, cond-false, le-leb, lt-leb}
 use Rattle.can_confine.specs.Confinement.{ErrorCounts, Step, all_stepped, at_start, is_off}
@@ -8,12 +8,11 @@ use Rattle.can_bus.specs.declared.events.Entry.{Entry}
 use Rattle.can_bus.specs.declared.events.Event.TheVariants.{Restart}
 use Rattle.can_bus.specs.declared.events.Refusal.{Refusal}
 use Rattle.can_bus.specs.declared.events.Refusal.TheVariants as refusal
-use Rattle.can_bus.specs.declared.events.Reply.TheVariants as reply
 use Rattle.can_bus.specs.Answer.{told, done_reply}
 use Rattle.can_bus.specs.Counters.{counts_of, steps_of, state_at}
 use Rattle.can_bus.specs.Posts.{restart_posts}
-use Rattle.can_bus.specs.Legal.{legal_reply, IsLegal}
-use Rattle.can_bus.specs.State.{SocketState, Parts, kept_lines, kept_keys, kept_nodes, kept_sockets, kept_parts}
+use Rattle.can_bus.specs.Legal.{IsLegal}
+use Rattle.can_bus.specs.State.{Parts, kept_lines, kept_keys, kept_nodes, kept_sockets, kept_parts}
 use Rattle.can_bus.specs.Changes.{Restarts, after_restart}
 use Rattle.can_bus.proofs.Attempting.{sockets-told, count-kept}
 use Rattle.can_bus.proofs.Keeping.{Follows, follows_refused, parts-are}

@@ -11,7 +11,7 @@ use Rattle.can_bus.specs.declared.events.Refusal.TheVariants as refusal
 use Rattle.can_bus.specs.Sockets.{places, open_sockets, is_open}
 use Rattle.can_bus.specs.Transmit.{tape}
 use Rattle.can_bus.specs.Legal.{legal_reply}
-use Rattle.can_bus.specs.State.{SocketState, Parts, kept_socket, kept_sockets, kept_lines, kept_keys, kept_nodes, kept_parts}
+use Rattle.can_bus.specs.State.{SocketState, Parts, kept_socket, kept_sockets, kept_parts}
 use Rattle.can_bus.specs.Changes.{StandsAt, FindsNone}
 use Rattle.can_bus.proofs.Lists.{map_one}
 use Rattle.can_bus.proofs.Opened.{IsThere-stands, closed-nowhere}

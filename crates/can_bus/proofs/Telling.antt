@@ -16,7 +16,7 @@ use Rattle.can_bus.specs.Legal.{IsLegal}
 use Rattle.can_bus.specs.Queues.{queued_to, taken_from, dropped_at}
 use Rattle.can_bus.specs.Sockets.{is_open}
 use Rattle.can_bus.specs.Transmit.{sent_by, gone_count}
-use Rattle.can_bus.specs.State.{LineState, SocketState, kept_line, kept_lines, kept_nodes, kept_sockets}
+use Rattle.can_bus.specs.State.{SocketState, kept_line, kept_lines, kept_nodes, kept_sockets}
 use Rattle.can_bus.specs.Stats.{TellsSocket, socket_stats_of, told_line, iface_stats_of}
 use Rattle.can_bus.proofs.Lawful.{taken_from-le-queued}
 use Rattle.can_bus.proofs.LineFacts.{length-kept_lines}

@@ -1,11 +1,10 @@
-use Rattle.std.specs.Prelude.{◌≡◌, ℕ, ◌+◌, ◌<◌, ◌≤◌, ◌∷◌, length, Option, Some, None, Result, Ok, Err}
+use Rattle.std.specs.Prelude.{◌≡◌, ◌<◌, ◌≤◌, ◌∷◌, length, Option, Some, None, Result, Ok, Err}
 use Rattle.can_bus.specs.declared.events.Event.{Event}
 use Rattle.can_bus.specs.declared.events.Event.TheVariants.{Open, SetFilters}
 use Rattle.can_bus.specs.declared.events.Reply.{Reply}
 use Rattle.can_bus.specs.declared.events.Reply.TheVariants as reply
 use Rattle.can_bus.specs.declared.events.Refusal.{Refusal}
 use Rattle.can_bus.specs.declared.events.Refusal.TheVariants as refusal
-use Rattle.can_bus.specs.declared.events.SocketId.{SocketId}
 use Rattle.can_bus.specs.declared.events.Tried.{Tried}
 use Rattle.can_bus.specs.Journal.{Journal}
 use Rattle.can_bus.specs.Legal.{legal_reply}
