@@ -1,0 +1,113 @@
+use crate::stops::{Stop, demand};
+use can_attempt::AckMode;
+use can_bus::{BusConfig, Event, Received, Refusal, Reply, RingBus, RunFault, SocketId, run};
+use can_fault::Verdict;
+use can_filter::{Filter, FilterSet};
+use can_frame::{CanId, Frame, Iface, IfaceSet, Item, Moment};
+use std::alloc::Global;
+
+/// A bus of two interfaces.
+pub const TWO: BusConfig = BusConfig {
+    ifaces: 2,
+    ack: AckMode::Always,
+    reporting: IfaceSet(0),
+    tx_capacity: 10,
+    limit: 100,
+};
+
+fn iface(number: u8) -> Result<Iface, Stop> {
+    Iface::new(number).ok_or(Stop::Wrong)
+}
+
+/// Opens a socket, once more where memory was refused: nothing may have changed.
+fn opened(bus: &mut RingBus, alloc: Global, number: u8, capacity: u32) -> Result<SocketId, Stop> {
+    let iface = iface(number)?;
+    let before = bus.record().len();
+    match bus.open(alloc, iface, capacity) {
+        Err(Refusal::NoMemory) => {
+            demand(bus.record().len() == before)?;
+            Ok(bus.open(alloc, iface, capacity)?)
+        }
+        opened => Ok(opened?),
+    }
+}
+
+/// Sets the filters of a socket, once more where memory was refused: nothing may have changed.
+fn filtered(
+    bus: &mut RingBus,
+    alloc: Global,
+    socket: SocketId,
+    filters: &FilterSet,
+) -> Result<(), Stop> {
+    let before = bus.record().len();
+    match bus.set_filters(alloc, socket, filters) {
+        Err(Refusal::NoMemory) => {
+            demand(bus.record().len() == before)?;
+            Ok(bus.set_filters(alloc, socket, filters)?)
+        }
+        done => Ok(done?),
+    }
+}
+
+/// Sends a frame, which is done.
+fn cross(bus: &mut RingBus, sender: SocketId, id: u16) -> Result<(), Stop> {
+    let frame = Frame::data(CanId::standard(id)?, b"\x01\xFF")?;
+    let _ = bus.send(sender, frame)?;
+    let _ = bus.attempt(Moment::new(1)?, Verdict::Good)?;
+    Ok(())
+}
+
+/// The number of the frame that a socket receives.
+fn number(bus: &mut RingBus, socket: SocketId) -> Result<Option<u64>, Stop> {
+    // The checker has to meet the types inside an answer before a bus gives one.
+    let _types: Option<(Item, Received)> = None;
+    match bus.receive(socket)? {
+        Some(received) => Ok(Some(received.number)),
+        None => Ok(None),
+    }
+}
+
+pub fn calls(alloc: Global) -> Result<(), Stop> {
+    let mut bus = RingBus::new(alloc, TWO)?;
+    let filters = FilterSet::from_slice(alloc, &[Filter::new(0x124, 0x7FF)?])?;
+    let sender = opened(&mut bus, alloc, 0, 256)?;
+    let receiver = opened(&mut bus, alloc, 1, 65_536)?;
+    demand(sender == SocketId(0) && receiver == SocketId(1))?;
+    filtered(&mut bus, alloc, receiver, &filters)?;
+    cross(&mut bus, sender, 0x123)?;
+    cross(&mut bus, sender, 0x124)?;
+    demand(number(&mut bus, receiver)? == Some(1))?;
+    demand(number(&mut bus, receiver)? == None && bus.record().len() == 9)
+}
+
+/// What one event of a list is answered, once memory is not refused any more. Until then nothing may change.
+fn answered(bus: &mut RingBus, alloc: Global, event: &[Event; 1]) -> Result<Reply, Stop> {
+    let before = bus.record().len();
+    for _ in 0..2 {
+        match run(bus, alloc, event) {
+            Ok(replies) => match replies.first() {
+                Some(Reply::Refused(Refusal::NoMemory)) => demand(bus.record().len() == before)?,
+                Some(reply) => return Ok(*reply),
+                None => return Err(Stop::Wrong),
+            },
+            Err(RunFault::NoMemory) => demand(bus.record().len() == before)?,
+        }
+    }
+    Err(Stop::NoMemory)
+}
+
+pub fn runs(alloc: Global) -> Result<(), Stop> {
+    let _types: Option<(Item, Received)> = None;
+    let mut bus = RingBus::new(alloc, TWO)?;
+    let opening = [Event::Open(iface(1)?, 16)];
+    demand(answered(&mut bus, alloc, &opening)? == Reply::Opened(SocketId(0)))?;
+    let filters = FilterSet::from_slice(alloc, &[Filter::new(1, 2)?, Filter::new(3, 4)?])?;
+    let setting = Event::SetFilters(SocketId(0), filters);
+    let copy = [setting.try_copy(alloc)?];
+    demand(answered(&mut bus, alloc, &copy)? == Reply::Done)?;
+    demand(
+        answered(&mut bus, alloc, &[Event::Close(SocketId(1))])?
+            == Reply::Refused(Refusal::NoSocket),
+    )?;
+    demand(bus.record().len() == 3)
+}
