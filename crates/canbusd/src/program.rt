@@ -2,8 +2,9 @@ ghost use Rattle.std.specs.Prelude.{◌≡◌, ◌≤◌, [], IsOk};
 ghost use Rattle.std.specs.Io.Buffered.{writer_buffer, writer_contents};
 ghost use Rattle.std.specs.Io.KnownBytes.{Keeps};
 
+use can_session::Unheard;
 use canbusd_audit::audit_file;
-use canbusd_bench::run_bench;
+use canbusd_bench::{run_bench, tell_unheard};
 use canbusd_faults::{Failure, Fault};
 use canbusd_files::{OUTPUT, write_failure};
 use canbusd_options::{Job, read_options};
@@ -52,8 +53,9 @@ fn carry_out<H: ServerRuntime, R: Read + Drop + Send + 'static, W: Write + Drop,
 ) -> u8
     ensures { result ≤ 1 }
 {
+    let mut unheard = Unheard::none();
     let outcome = match job {
-        Job::Bench(options) => run_bench(rt, alloc, options, input, output),
+        Job::Bench(options) => run_bench(rt, alloc, options, input, output, &mut unheard),
         Job::Audit(path) => audit_file(rt, alloc, path, output),
         Job::Serve(options) => match run_serve(rt, alloc, &options, input, output, errors) {
             Ok(true) => Ok(()),
@@ -61,7 +63,11 @@ fn carry_out<H: ServerRuntime, R: Read + Drop + Send + 'static, W: Write + Drop,
             Err(failure) => Err(failure),
         },
     };
-    finish(alloc, outcome, output, errors)
+    let status = finish(alloc, outcome, output, errors);
+    if status == DONE {
+        tell_unheard(unheard, errors);
+    }
+    status
 }
 
 // Tells why the words ask for no job, or what help they ask for.

@@ -7,7 +7,7 @@ use crate::recent::Recent;
 use can_bus::Record;
 use can_fault::FaultSource;
 use can_frame::Names;
-use can_session::{BenchConfig, BenchFault, bench};
+use can_session::{BenchConfig, BenchFault, Unheard, bench_noting};
 use canbusd_faults::{Failure, Fault, fixed_note, reason_note};
 use canbusd_files::{
     INPUT, OUTPUT, bus_config, limits_note, read_names, read_source, save_record, write_failure,
@@ -19,18 +19,19 @@ use std::rt::Files;
 
 /// Runs the bench that the options describe, over the lines of an input. The names are looked at first, then the
 /// script, and then the limits of the bus. The record is written behind a run that came to its end, once all its
-/// output was written.
+/// output was written. What sessions were fed that is in no message is noted there.
 pub fn run_bench<'a, H: Files, R: Read + Drop, W: Write>(
     rt: &H,
     alloc: Global,
     options: BenchOptions<'a>,
     input: R,
     output: &mut W,
+    unheard: &mut Unheard,
 ) -> Result<(), Failure<'a>>
     ensures { OnOk result (IsBenched W.contents options.entry (R.remaining input) output.old output.new) }
 {
     let names = read_names(alloc, options.bus.names)?;
-    let record = run_scripted(rt, alloc, options, names, input, output)?;
+    let record = run_scripted(rt, alloc, options, names, input, output, unheard)?;
     output
         .flush()
         .map_err(|error| write_failure(alloc, OUTPUT, &error))?;
@@ -48,11 +49,12 @@ fn run_scripted<'a, H: Files, R: Read + Drop, W: Write>(
     names: Names,
     input: R,
     output: &mut W,
+    unheard: &mut Unheard,
 ) -> Result<Record, Failure<'a>>
     ensures { IfOk result (λ r. IsRun W.contents options.entry names (R.remaining input) output.old r output.new) }
 {
     let source = read_source(rt, alloc, options.bus, &names)?;
-    run_on(alloc, options, names, source, input, output)
+    run_on(alloc, options, names, source, input, output, unheard)
 }
 
 // Runs the bench of these names and faults.
@@ -63,6 +65,7 @@ fn run_on<'a, F: FaultSource + Drop, R: Read + Drop, W: Write>(
     script: F,
     input: R,
     output: &mut W,
+    unheard: &mut Unheard,
 ) -> Result<Record, Failure<'a>>
     ensures ends { IfOk result (λ r. EndsOver W.contents (F.verdicts script) (R.remaining input) (begun options.entry names) output.old (Ok r) output.new) }
     ensures legal { IfOk result (λ r. IsLegal r.config r.history) }
@@ -75,7 +78,7 @@ fn run_on<'a, F: FaultSource + Drop, R: Read + Drop, W: Write>(
         rx_capacity: options.settings.rx_capacity,
     };
     let mut input = Recent::new(alloc, input);
-    match bench(alloc, config, &mut input, output) {
+    match bench_noting(alloc, config, &mut input, output, unheard) {
         Ok(record) => Ok(record),
         Err(fault) => {
             let notes = bench_note(alloc, fault, &options, &input);

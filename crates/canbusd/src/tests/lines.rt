@@ -30,7 +30,7 @@ fn carries_out_lines(rt: HostRuntime) -> Result<(), Fail> {
         ),
         (
             "canbusd bench can0,can1",
-            "feed 2 x>< send< send 80000123 1 0A >y< send 1FFFFFFF\t8 1 2 3 4 5 6 7 8 >\nattempt\nattempt\nat 0000000007.000050\nattempt\ndrain 1\n",
+            "feed 2 < send 80000123 1 0A >< send 1FFFFFFF\t8 1 2 3 4 5 6 7 8 >\nattempt\nattempt\nat 0000000007.000050\nattempt\ndrain 1\n",
             "tried can1 0 done can0 -\ntried can1 1 done can0 -\nidle\n1 < frame 00000123 0.000000 0A >< frame 1FFFFFFF 0.000000 0102030405060708 >\n",
         ),
         (
@@ -76,6 +76,39 @@ fn carries_out_lines(rt: HostRuntime) -> Result<(), Fail> {
     Ok(())
 }
 
+const OUTSIDE: &str = "canbusd: session 2: bytes outside < and > were skipped\n";
+
+const BEGUN: &str = "canbusd: session 1: the last message has no >\n";
+
+#[test]
+fn tells_what_is_in_no_message(rt: HostRuntime) -> Result<(), Fail> {
+    let _sockets: Sockets = None;
+    let alloc = rt.alloc();
+    // What follows the two sessions, what they write then, and what is told behind the run.
+    let table = [
+        ("feed 1 < echo >  < echo >\t\nfeed 1 < ec\nfeed 1 ho >\n", "1 < echo >< echo >\n1 < echo >\n", ""),
+        ("feed 2 echo\n", "", OUTSIDE),
+        ("feed 2 echo >\nfeed 2 < echo >\n", "2 < echo >\n", OUTSIDE),
+        (
+            "feed 2 x>< send< send 80000123 1 0A >y< send 123 0 >\nattempt\ndrain 1\n",
+            "tried can1 0 done can0 -\n1 < frame 00000123 0.000000 0A >\n",
+            OUTSIDE,
+        ),
+        ("feed 2 < send 123 0 < echo >\n", "2 < echo >\n", OUTSIDE),
+        ("feed 1 < echo >< send 123 0\n", "1 < echo >\n", BEGUN),
+        ("feed 1 <", "", BEGUN),
+    ];
+    for (rest, wanted, told) in table {
+        let input = joined(alloc, &[TWO_SESSIONS, rest])?;
+        let output = joined(alloc, &[TWO_STARTED, wanted])?;
+        let line = "canbusd bench can0,can1";
+        runs_however_cut(&rt, alloc, line, &input, (&output, told, 0))?;
+    }
+    let input = joined(alloc, &[TWO_SESSIONS, "feed 1 <\nfeed 2 echo\n"])?;
+    let told = joined(alloc, &[BEGUN, OUTSIDE])?;
+    runs_however_cut(&rt, alloc, "canbusd bench can0,can1", &input, (TWO_STARTED, &told, 0))
+}
+
 #[test]
 fn nobody_acknowledges_without_a_receiver(rt: HostRuntime) -> Result<(), Fail> {
     let _sockets: Sockets = None;
@@ -91,9 +124,9 @@ fn nobody_acknowledges_without_a_receiver(rt: HostRuntime) -> Result<(), Fail> {
 
 const AT: &str = "  at SECONDS.MICROS: 1 to 10 digits, a point, 6 digits, as at 1.500000\n";
 
-const ATTEMPT: &str = "  nothing stands behind attempt\n";
+const ATTEMPT: &str = "  nothing may follow attempt: each line makes one attempt\n";
 
-const NUMBER: &str = "  one space stands before the session, which is 1 to 64\n";
+const NUMBER: &str = "  a session is 1 to 64 without leading zeros, behind one space\n";
 
 const MISSING: &str = "  no line before it starts session 3\n";
 
@@ -132,7 +165,7 @@ fn refuses_lines(rt: HostRuntime) -> Result<(), Fail> {
         (
             "feed 1",
             "feed 1",
-            "  feed S BYTES: S is 1 to 64, and one space stands before BYTES\n",
+            "  feed S BYTES: S is 1 to 64 without leading zeros, and one space stands before BYTES\n",
         ),
         ("end 3", "end 3", MISSING),
     ];
@@ -177,7 +210,11 @@ fn keeps_limits_of_lines(rt: HostRuntime) -> Result<(), Fail> {
         ),
         (
             ("feed 1 <rawmode", " ", 1017, "><"),
-            ("1 < error wrong state >\n", "", 0),
+            (
+                "1 < error wrong state >\n",
+                "canbusd: session 1: the last message has no >\n",
+                0,
+            ),
         ),
         (
             ("feed 1 <rawmode", " ", 1018, ">< echo >"),
