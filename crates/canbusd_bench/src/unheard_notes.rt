@@ -14,9 +14,15 @@ pub fn tell_unheard<E: Write>(unheard: Unheard, errors: &mut E) {
 fn tell_session<E: Write>(unheard: Unheard, session: SessionNumber, errors: &mut E) {
     let number = session.number();
     if unheard.has_outside(session) {
-        let _ = writeln!(errors, "canbusd: session {number}: bytes outside < and > were skipped");
+        let _ = writeln!(
+            errors,
+            "canbusd: session {number}: bytes outside < and > were skipped"
+        );
     }
     if unheard.has_begun(session) {
-        let _ = writeln!(errors, "canbusd: session {number}: the last message has no >");
+        let _ = writeln!(
+            errors,
+            "canbusd: session {number}: the last message has no >"
+        );
     }
 }

@@ -86,7 +86,11 @@ fn tells_what_is_in_no_message(rt: HostRuntime) -> Result<(), Fail> {
     let alloc = rt.alloc();
     // What follows the two sessions, what they write then, and what is told behind the run.
     let table = [
-        ("feed 1 < echo >  < echo >\t\nfeed 1 < ec\nfeed 1 ho >\n", "1 < echo >< echo >\n1 < echo >\n", ""),
+        (
+            "feed 1 < echo >  < echo >\t\nfeed 1 < ec\nfeed 1 ho >\n",
+            "1 < echo >< echo >\n1 < echo >\n",
+            "",
+        ),
         ("feed 2 echo\n", "", OUTSIDE),
         ("feed 2 echo >\nfeed 2 < echo >\n", "2 < echo >\n", OUTSIDE),
         (
@@ -106,7 +110,13 @@ fn tells_what_is_in_no_message(rt: HostRuntime) -> Result<(), Fail> {
     }
     let input = joined(alloc, &[TWO_SESSIONS, "feed 1 <\nfeed 2 echo\n"])?;
     let told = joined(alloc, &[BEGUN, OUTSIDE])?;
-    runs_however_cut(&rt, alloc, "canbusd bench can0,can1", &input, (TWO_STARTED, &told, 0))
+    runs_however_cut(
+        &rt,
+        alloc,
+        "canbusd bench can0,can1",
+        &input,
+        (TWO_STARTED, &told, 0),
+    )
 }
 
 #[test]

@@ -40,7 +40,7 @@ fn writes_and_audits_records(rt: HostRuntime) -> Result<(), Fail> {
     // A run that ends in a fault makes no file.
     let line = "canbusd bench --record written.rec can0";
     let told =
-        "canbusd: line 1: bad line\n  standard input:1: attempt 1\n  nothing stands behind attempt\n";
+        "canbusd: line 1: bad line\n  standard input:1: attempt 1\n  nothing may follow attempt: each line makes one attempt\n";
     let told = ("", told, 1);
     runs(&rt, alloc, line, b"attempt 1\n".as_slice(), told)?;
     let told =
