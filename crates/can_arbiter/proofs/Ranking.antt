@@ -77,8 +77,8 @@ left_out n rank ranks is = ap (λ (b : Bool). cond (not b) (rank ∷ filter (is_
 pub key_in-cleared : (n : ℕ) (ranks : List ℕ) → key_in (filter (is_others n) ranks) n ≡ None
 key_in-cleared n [] = refl
 key_in-cleared n (rank ∷ ranks) = elim (cases_eq (rank % 16) n) [
-  | inl same ↦ ap (λ (row : List ℕ). key_in row n) (left_out n rank ranks same) ∙ key_in-cleared n ranks
-  | inr other ↦ ap (λ (row : List ℕ). key_in row n) (kept n rank ranks other) ∙ key_in-behind rank (filter (is_others n) ranks) n other ∙ key_in-cleared n ranks
+  | inl same ↦ ap (λ (ranked : List ℕ). key_in ranked n) (left_out n rank ranks same) ∙ key_in-cleared n ranks
+  | inr other ↦ ap (λ (ranked : List ℕ). key_in ranked n) (kept n rank ranks other) ∙ key_in-behind rank (filter (is_others n) ranks) n other ∙ key_in-cleared n ranks
 ]
 
 pub key_in-others : (n : ℕ) (ranks : List ℕ) (i : ℕ) → i ≢ n → key_in (filter (is_others n) ranks) i ≡ key_in ranks i
@@ -86,9 +86,9 @@ key_in-others n [] i apart = refl
 key_in-others n (rank ∷ ranks) i apart = elim (cases_eq (rank % 16) n) [
   | inl same ↦
       let other : rank % 16 ≢ i = λ is. apart (sym is ∙ same) in
-      ap (λ (row : List ℕ). key_in row i) (left_out n rank ranks same) ∙ key_in-others n ranks i apart ∙ sym (key_in-behind rank ranks i other)
+      ap (λ (ranked : List ℕ). key_in ranked i) (left_out n rank ranks same) ∙ key_in-others n ranks i apart ∙ sym (key_in-behind rank ranks i other)
   | inr other ↦
-      ap (λ (row : List ℕ). key_in row i) (kept n rank ranks other) ∙ ap (cond (rank % 16 == i) (Some (rank / 16))) (key_in-others n ranks i apart)
+      ap (λ (ranked : List ℕ). key_in ranked i) (kept n rank ranks other) ∙ ap (cond (rank % 16 == i) (Some (rank / 16))) (key_in-others n ranks i apart)
 ]
 
 -- ---- a row with one rank more
@@ -105,12 +105,12 @@ put-others (first ∷ front) back rank i other = ap (cond (first % 16 == i) (Som
 
 pub key_in-put : (ranks : List ℕ) (place rank : ℕ) → key_in ranks (rank % 16) ≡ None → key_in (insert ranks place rank) (rank % 16) ≡ Some (rank / 16)
 key_in-put ranks place rank absent =
-    let whole : key_in (take place ranks ++ drop place ranks) (rank % 16) ≡ None = ap (λ (row : List ℕ). key_in row (rank % 16)) (take-append-drop place ranks) ∙ absent in
+    let whole : key_in (take place ranks ++ drop place ranks) (rank % 16) ≡ None = ap (λ (ranked : List ℕ). key_in ranked (rank % 16)) (take-append-drop place ranks) ∙ absent in
     put-here (take place ranks) (drop place ranks) rank (rank % 16) refl (absent_in_front (take place ranks) (drop place ranks) (rank % 16) whole)
 
 pub key_in-put_others : (ranks : List ℕ) (place rank i : ℕ) → rank % 16 ≢ i → key_in (insert ranks place rank) i ≡ key_in ranks i
 key_in-put_others ranks place rank i other =
-    put-others (take place ranks) (drop place ranks) rank i other ∙ ap (λ (row : List ℕ). key_in row i) (take-append-drop place ranks)
+    put-others (take place ranks) (drop place ranks) rank i other ∙ ap (λ (ranked : List ℕ). key_in ranked i) (take-append-drop place ranks)
 
 get_or-insert_beyond : (xs : List ℕ) (place y d j : ℕ) → place < j → place ≤ length xs → get_or (insert xs place y) j d ≡ get_or xs (j - 1) d
 get_or-insert_beyond xs place y d j beyond inside =
@@ -196,23 +196,23 @@ first_is_least rank ranks ordered (suc k) inside = omega (arith, (ordered 0 (suc
 pub first_wins : (rank : ℕ) (ranks : List ℕ) → AllPairs GoesBefore (rank ∷ ranks) → IsWinner (keys_in (rank ∷ ranks)) (rank % 16)
 first_wins rank ranks ordered = (rank / 16, record { holds = holds; least = least; lowest = lowest })
   where
-    row : List ℕ
-    row = rank ∷ ranks
+    ranked : List ℕ
+    ranked = rank ∷ ranks
 
     inside : rank % 16 < 16
     inside = omega arith
 
-    holds : slice_get (keys_in row) (rank % 16) ≡ Some (Some (rank / 16))
-    holds = slice_get-get_or (keys_in row) (rank % 16) None (omega (arith, length-keys_in row)) ∙ ap Some (get_or-keys_in row (rank % 16) None inside ∙ key_in-here rank ranks (rank % 16) refl)
+    holds : slice_get (keys_in ranked) (rank % 16) ≡ Some (Some (rank / 16))
+    holds = slice_get-get_or (keys_in ranked) (rank % 16) None (omega (arith, length-keys_in ranked)) ∙ ap Some (get_or-keys_in ranked (rank % 16) None inside ∙ key_in-here rank ranks (rank % 16) refl)
 
-    least : (i other : ℕ) → slice_get (keys_in row) i ≡ Some (Some other) → rank / 16 ≤ other
+    least : (i other : ℕ) → slice_get (keys_in ranked) i ≡ Some (Some other) → rank / 16 ≤ other
     least i other held =
-        let found = rank_of row i other (key_from_keys row i other held) in
+        let found = rank_of ranked i other (key_from_keys ranked i other held) in
         omega (arith, first_is_least rank ranks ordered found.0 found.1, found.3)
 
-    lowest : (i : ℕ) → i < rank % 16 → slice_get (keys_in row) i ≢ Some (Some (rank / 16))
+    lowest : (i : ℕ) → i < rank % 16 → slice_get (keys_in ranked) i ≢ Some (Some (rank / 16))
     lowest i below held =
-        let found = rank_of row i (rank / 16) (key_from_keys row i (rank / 16) held) in
+        let found = rank_of ranked i (rank / 16) (key_from_keys ranked i (rank / 16) held) in
         absurd (omega (arith, first_is_least rank ranks ordered found.0 found.1, found.2, found.3))
 
 pub idle_if_empty : IsIdle (keys_in [])
@@ -240,25 +240,25 @@ keeps_order old new n is ordered = subst (AllPairs GoesBefore) (sym is) (AllPair
 
 -- ---- what `winner` answers by the first place
 
-not_idle_at : (row : List ℕ) (first : ℕ) → slice_get row 0 ≡ Some first → IsIdle (keys_in row) → ⊥
+not_idle_at : (ranked : List ℕ) (first : ℕ) → slice_get ranked 0 ≡ Some first → IsIdle (keys_in ranked) → ⊥
 not_idle_at [] first is idle = absurd (cc)
 not_idle_at (rank ∷ ranks) first is idle = not_idle rank ranks idle
 
-wins_at : (row : List ℕ) (first : ℕ) → AllPairs GoesBefore row → slice_get row 0 ≡ Some first → IsWinner (keys_in row) (first % 16)
+wins_at : (ranked : List ℕ) (first : ℕ) → AllPairs GoesBefore ranked → slice_get ranked 0 ≡ Some first → IsWinner (keys_in ranked) (first % 16)
 wins_at [] first ordered is = absurd (cc)
 wins_at (rank ∷ ranks) first ordered is =
     let same : rank ≡ first = cc in
     subst (λ (r : ℕ). IsWinner (keys_in (rank ∷ ranks)) (r % 16)) same (first_wins rank ranks ordered)
 
-pub answers_first : (row : List ℕ) (first : ℕ) (answer : Option ℕ) → AllPairs GoesBefore row → slice_get row 0 ≡ Some first → SomeIff answer (first % 16 < 16) (first % 16) → IfSome answer (IsWinner (keys_in row))
-answers_first row first None ordered is says = tt
-answers_first row first (Some w) ordered is says = subst (IsWinner (keys_in row)) (sym says.1) (wins_at row first ordered is)
+pub answers_first : (ranked : List ℕ) (first : ℕ) (answer : Option ℕ) → AllPairs GoesBefore ranked → slice_get ranked 0 ≡ Some first → SomeIff answer (first % 16 < 16) (first % 16) → IfSome answer (IsWinner (keys_in ranked))
+answers_first ranked first None ordered is says = tt
+answers_first ranked first (Some w) ordered is says = subst (IsWinner (keys_in ranked)) (sym says.1) (wins_at ranked first ordered is)
 
-pub answers_some : (row : List ℕ) (first : ℕ) (answer : Option ℕ) → slice_get row 0 ≡ Some first → SomeIff answer (first % 16 < 16) (first % 16) → (IsNone answer ↔ IsIdle (keys_in row))
-answers_some row first None is says = absurd (says (omega arith))
-answers_some row first (Some w) is says = (λ none. absurd (true≢false none), λ idle. absurd (not_idle_at row first is idle))
+pub answers_some : (ranked : List ℕ) (first : ℕ) (answer : Option ℕ) → slice_get ranked 0 ≡ Some first → SomeIff answer (first % 16 < 16) (first % 16) → (IsNone answer ↔ IsIdle (keys_in ranked))
+answers_some ranked first None is says = absurd (says (omega arith))
+answers_some ranked first (Some w) is says = (λ none. absurd (true≢false none), λ idle. absurd (not_idle_at ranked first is idle))
 
-pub answers_none : (row : List ℕ) → slice_get row 0 ≡ None → IsIdle (keys_in row)
+pub answers_none : (ranked : List ℕ) → slice_get ranked 0 ≡ None → IsIdle (keys_in ranked)
 answers_none [] is = idle_if_empty
 answers_none (rank ∷ ranks) is = absurd (cc)
 
@@ -286,15 +286,15 @@ sets old cleared new n key place rank inside is without put =
     others : (i : ℕ) → i ≢ n → key_in (insert cleared place rank) i ≡ key_in cleared i
     others i apart = key_in-put_others cleared place rank i (λ same. apart (sym same ∙ number))
 
-non_decreasing : (row : List ℕ) → AllPairs GoesBefore row → IsNonDecreasing row
-non_decreasing row ordered i j d up inside = elim (cases_eq i j) [
+non_decreasing : (ranked : List ℕ) → AllPairs GoesBefore ranked → IsNonDecreasing ranked
+non_decreasing ranked ordered i j d up inside = elim (cases_eq i j) [
   | inl same ↦ rw same (omega arith)
   | inr apart ↦ omega (arith, (ordered i j d (omega arith) inside).0)
 ]
 
 -- what `partition_point` asks for
-pub parts : (row : List ℕ) (rank : ℕ) → AllPairs GoesBefore row → IsPartitionedBy (λ other. ltb other rank) row
-parts row rank ordered = IsPartitionedBy-ltb (λ other. other) row rank (non_decreasing row ordered)
+pub parts : (ranked : List ℕ) (rank : ℕ) → AllPairs GoesBefore ranked → IsPartitionedBy (λ other. ltb other rank) ranked
+parts ranked rank ordered = IsPartitionedBy-ltb (λ other. other) ranked rank (non_decreasing ranked ordered)
 
 -- the row with the rank put where `partition_point` said
 pub order_put : (old cleared new : List ℕ) (n key place rank : ℕ) → n < 16 → rank ≡ key * 16 + n → keys_in cleared ≡ slice_set (keys_in old) n None → new ≡ insert cleared place rank

@@ -1,10 +1,10 @@
 use crate::conns::{Conn, Out};
 use can_bus::SocketId;
+use can_dialog::{Session, Stage};
 use can_fault::FaultSource;
 use can_frame::Moment;
 use can_meter::MeterName;
 use can_roll::RollName;
-use can_dialog::{Session, Stage};
 use can_server::{HeldPort, Hub, PassPort};
 use can_station::{Gate, Pass, Station};
 use std::alloc::{AllocError, Global};

@@ -8,9 +8,9 @@ ghost use Rattle.canbusd_faults.specs.declared.faults.Fault.TheVariants as fault
 
 use crate::record_notes::record_note;
 use crate::wrong_entries::wrong_note;
+use can_bus::Record;
 use can_record::read_record;
 use can_replay::{AuditFault, audit};
-use can_bus::Record;
 use canbusd_faults::{Failure, Fault};
 use canbusd_files::{OUTPUT, read_file, write_failure};
 use std::alloc::Global;

@@ -2,8 +2,8 @@ ghost use Rattle.std.specs.Prelude.{reverse};
 ghost use Rattle.can_bus.specs.Spelled.{FitsReply};
 ghost use Rattle.can_replay.specs.Audits.{IsToldWrong};
 
-use can_record::line_text;
 use can_bus::{Event, Record, Reply};
+use can_record::line_text;
 use canbusd_faults::{Line, Shown};
 use std::alloc::{AllocError, Global};
 

@@ -5,10 +5,10 @@ ghost use Rattle.can_record.specs.Spelling.{record_spelling};
 ghost use Rattle.can_logfile.specs.Log.{joined, log_lines};
 
 use crate::files::write_failure;
-use can_record::write_record;
 use can_bus::Record;
 use can_frame::Names;
 use can_logfile::write_tape;
+use can_record::write_record;
 use canbusd_faults::{Failure, Fault, reason_note};
 use std::alloc::Global;
 use std::fs;

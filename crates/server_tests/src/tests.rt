@@ -14,12 +14,12 @@ mod statuses;
 
 use can_attempt::AckMode;
 use can_bus::BusConfig;
+use can_dialog::Port;
 use can_fault::{FaultSource, Perfect, Script};
 use can_frame::{Iface, IfaceSet, Moment, Names};
 use can_meter::{Gauge, MeterName, Status};
 use can_roll::RollName;
 use can_server::{Bench, Hub, PassPort};
-use can_dialog::Port;
 use can_station::{Blanks, Gate, Open, Pass};
 use std::alloc::Global;
 use std::process::Abort;

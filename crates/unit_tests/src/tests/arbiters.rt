@@ -41,7 +41,10 @@ fn frames_go_in_the_order_of_their_bits(rt: HostRuntime) {
         (Head::Data11(0x124), Head::Remote29(0x048C_0000), 1),
     ];
     for (can0, can1, first) in rows {
-        let firsts = (first_of::<ScanArbiter>(can0, can1), first_of::<IndexArbiter>(can0, can1));
+        let firsts = (
+            first_of::<ScanArbiter>(can0, can1),
+            first_of::<IndexArbiter>(can0, can1),
+        );
         same_at(&rt, (can0, can1), firsts, (Some(first), Some(first)));
     }
 }

@@ -62,7 +62,12 @@ fn filters_of_one_identifier_stand_beside_others(rt: HostRuntime) -> Result<(), 
         (0x4000_0200, false),
     ];
     for (word, want) in rows {
-        same_at(&rt, word, (set.passes(word, false), set.passes(word, true)), (want, false));
+        same_at(
+            &rt,
+            word,
+            (set.passes(word, false), set.passes(word, true)),
+            (want, false),
+        );
         same_at(&rt, word, copy.passes(word, false), want);
     }
     Ok(())
@@ -79,11 +84,27 @@ fn many_identifiers_are_each_found(rt: HostRuntime) -> Result<(), Fail> {
     let set = FilterSet::from_slice(rt.alloc(), &list)?;
     for place in 0..256u32 {
         let (standard, extended) = (0x7FF - 2 * place, 0x9FFF_FFFF - 2 * place);
-        same_at(&rt, place, (set.passes(standard, false), set.passes(extended, false)), (true, true));
+        same_at(
+            &rt,
+            place,
+            (set.passes(standard, false), set.passes(extended, false)),
+            (true, true),
+        );
         // A remote frame, and an identifier between two of the list.
-        let remote = (set.passes(0x4000_0000 | standard, false), set.passes(0xC000_0000 | extended, false));
-        let between = (set.passes(standard - 1, false), set.passes(extended - 1, false));
-        same_at(&rt, place, (remote, between), ((false, false), (false, false)));
+        let remote = (
+            set.passes(0x4000_0000 | standard, false),
+            set.passes(0xC000_0000 | extended, false),
+        );
+        let between = (
+            set.passes(standard - 1, false),
+            set.passes(extended - 1, false),
+        );
+        same_at(
+            &rt,
+            place,
+            (remote, between),
+            ((false, false), (false, false)),
+        );
     }
     Ok(())
 }

@@ -8,8 +8,8 @@ pub insert-requires : goal.insert-requires
 insert-requires c =
     let parted = subst (IsPartitionedBy (λ other. ltb other c.rank-rank.result)) (sym c.deref.ensures.0) (parts _ c.rank-rank.result c.clear.new.self.in_order) in
     let point = IsPartitionPoint-from_clause (λ other. ltb other c.rank-rank.result) _ _ c.partition_point-place.ensures.partitioned parted (λ a r f k. search rules) in
-    let there = subst (λ (row : List ℕ). IsPartitionPoint (λ other. ltb other c.rank-rank.result ≡ true) (λ other. ltb other c.rank-rank.result ≡ false) row c.partition_point-place.result) c.deref.ensures.0 point in
-    let within = subst (λ (row : List ℕ). c.partition_point-place.result ≤ length row) c.deref.ensures.0 c.partition_point-place.ensures.bound in
+    let there = subst (λ (ranked : List ℕ). IsPartitionPoint (λ other. ltb other c.rank-rank.result ≡ true) (λ other. ltb other c.rank-rank.result ≡ false) ranked c.partition_point-place.result) c.deref.ensures.0 point in
+    let within = subst (λ (ranked : List ℕ). c.partition_point-place.result ≤ length ranked) c.deref.ensures.0 c.partition_point-place.ensures.bound in
     let room = has_room c.args.self.now.row.items c.clear.new.self.row.items c.args.iface c.args.key c.partition_point-place.result c.rank-rank.result (search rules) c.rank-rank.ensures c.clear.ensures c.clear.new.self.in_order within there in
     search rules
 
@@ -17,8 +17,8 @@ pub invariant_of-self : goal.invariant_of-self
 invariant_of-self c =
     let parted = subst (IsPartitionedBy (λ other. ltb other c.rank-rank.result)) (sym c.deref.ensures.0) (parts _ c.rank-rank.result c.clear.new.self.in_order) in
     let point = IsPartitionPoint-from_clause (λ other. ltb other c.rank-rank.result) _ _ c.partition_point-place.ensures.partitioned parted (λ a r f k. search rules) in
-    let there = subst (λ (row : List ℕ). IsPartitionPoint (λ other. ltb other c.rank-rank.result ≡ true) (λ other. ltb other c.rank-rank.result ≡ false) row c.partition_point-place.result) c.deref.ensures.0 point in
-    let within = subst (λ (row : List ℕ). c.partition_point-place.result ≤ length row) c.deref.ensures.0 c.partition_point-place.ensures.bound in
+    let there = subst (λ (ranked : List ℕ). IsPartitionPoint (λ other. ltb other c.rank-rank.result ≡ true) (λ other. ltb other c.rank-rank.result ≡ false) ranked c.partition_point-place.result) c.deref.ensures.0 point in
+    let within = subst (λ (ranked : List ℕ). c.partition_point-place.result ≤ length ranked) c.deref.ensures.0 c.partition_point-place.ensures.bound in
     record { in_order = order_put c.args.self.now.row.items c.clear.new.self.row.items c.insert.new.self.items c.args.iface c.args.key c.partition_point-place.result c.rank-rank.result (search rules) c.rank-rank.ensures c.clear.ensures c.insert.ensures.items c.clear.new.self.in_order within there }
 
 pub returns : goal.returns
