@@ -1,14 +1,16 @@
 -- A line that was written is read again.
-use Rattle.std.proofs.Common.{◌≡◌, ℕ, ◌^◌, ◌<◌, ◌≤◌, Bool, true, false, List, [], ◌∷◌, ◌++◌, length, Option, Some, None, Err, append_assoc, refl, sym, ap, ◌∙◌, arith}
+use Rattle.std.proofs.Common.{◌≡◌, ℕ, ◌^◌, ◌<◌, ◌≤◌, ◌==◌, Bool, true, false, if◌then◌else◌, List, [], ◌∷◌, ◌++◌, length, Option, Some, None, Err, append_assoc, refl, sym, ap, ◌∙◌, arith}
 use Rattle.std.specs.Prelude.{All, codes, decimal}
-use Rattle.std.proofs.lemmas.Bool.{lt-ltb}
+use Rattle.std.proofs.lemmas.Bool.{lt-ltb, eqb-true, cond-true, cond-false}
 use Rattle.std.proofs.lemmas.List.{append-nil}
+use Rattle.std.proofs.Math.Seq.{drop-append_seam}
 use Rattle.std.proofs.lemmas.List.Elements.{All-head, All-tail}
 use Rattle.can_frame.specs.FrameText.{frame_spelling, IsItem}
 use Rattle.can_frame.specs.Frames.{CanFrame}
 use Rattle.can_frame.specs.declared.items.Item.{Item}
 use Rattle.can_frame.specs.declared.items.Item.TheVariants as item
 use Rattle.can_frame.specs.declared.ifaces.IfaceSet.{IfaceSet}
+use Rattle.can_frame.specs.Sets.{no_ifaces}
 use Rattle.can_filter.specs.Filters.{CanFilter}
 use Rattle.can_fault.specs.declared.verdicts.GlobalKind.TheVariants as global
 use Rattle.can_fault.specs.declared.verdicts.LocalKind.TheVariants as local
@@ -36,12 +38,14 @@ use Rattle.can_bus.specs.Spelled.{LeavesEntry, IsNumberOf, FitsReply}
 use Rattle.std.proofs.lemmas.Option.{none-some, same_Some}
 use Rattle.can_record.specs.declared.faults.Unread.{Unread}
 use Rattle.can_record.specs.declared.faults.Unread.TheVariants as unread
+use Rattle.can_record.specs.declared.versions.Version.{Version}
+use Rattle.can_record.specs.declared.versions.Version.TheVariants as version
 use Rattle.can_record.specs.inner.Words.{is_gap, is_word, word, after}
-use Rattle.can_record.specs.Spelling.{gap_before, spell, set_word, mask_word, moment_word, flag_word, verdict_word, option_words, filter_words, refusal_words, received_words, event_words, reply_words, entry_line, ack_word, bus_words, end_words}
+use Rattle.can_record.specs.Spelling.{gap_before, spell, set_word, mask_word, moment_word, flag_word, verdict_word, option_words, filter_words, refusal_words, received_words, event_words, restarted_words, reply_words, entry_line, ack_word, version_of, auto_restart_words, bus_words, end_words}
 use Rattle.can_frame.specs.Numbers.{number_in}
 use Rattle.can_record.specs.Values.{HoldsFilter, HoldsOption, HoldsVerdict, HoldsEvent, HoldsTried, HoldsReply, HasLine, HasBusLine}
 use Rattle.can_record.specs.inner.Reading.{Gives, number_at, long_at, mask_at, moment_at, socket_at, set_at, flag_at, item_at, frame_at, option_at, set_behind, verdict_at, class_at, refusal_in, closed_at, data_at, error_at, tried_at, fixed_in, reply_at, moment_of, with_reply}
-use Rattle.can_record.specs.inner.Reading.{filter_at, filters_at, set_filters_at, set_option_at, setting_at, plain_at, entry_at, ack_at, config_at}
+use Rattle.can_record.specs.inner.Reading.{behind_word, restarted_at, filter_at, filters_at, set_filters_at, set_option_at, setting_at, plain_at, entry_at, ack_at, auto_restart_at, config_at}
 use Rattle.can_frame.proofs.Numerals.{value-digits}
 use Rattle.can_record.proofs.Wording.{word-spelled, after-spelled}
 use Rattle.can_record.proofs.Digits.{number_again, long_again, is_word-decimal, is_word-digits, moment_again, is_word-moment}
@@ -176,16 +180,53 @@ error_again i from m rest good hi hm =
       moment_field m 10 rest hm refl,
     ) refl
 
-tried_again : (t : Tried) (rest : List ℕ) → HoldsTried t → tried_at t.moment (decimal t.winner ++ 32 ∷ (decimal t.number ++ 32 ∷ (frame_spelling (item.Data t.frame) ++ 32 ∷ (class_word t.class ++ 32 ∷ (set_word t.accepted ++ 32 ∷ (set_word t.off ++ 10 ∷ rest)))))) ≡ Some (reply.Tried t, rest)
+-- what stands behind a word
+behind-spelled : (w rest : List ℕ) (g : ℕ) → is_word w ≡ true → is_gap g ≡ true → behind_word (w ++ g ∷ rest) ≡ g ∷ rest
+behind-spelled w rest g plain gap = rw (word-spelled w rest g plain gap) (drop-append_seam w (g ∷ rest))
+
+none_restarted : (w rest : List ℕ) → is_word w ≡ true → restarted_at (w ++ 10 ∷ rest) ≡ Some (no_ifaces, rest)
+unfolding restarted_at
+none_restarted w rest plain = rw (behind-spelled w rest 10 plain refl, after-spelled w rest 10 plain refl) refl
+
+some_restarted : (w rest : List ℕ) (set : IfaceSet) → is_word w ≡ true → set.0 < 2 ^ 16 → restarted_at (w ++ 32 ∷ spell (codes "restarted" ∷ set_word set ∷ []) rest) ≡ Some (set, rest)
+unfolding restarted_at set_behind
+some_restarted w rest set plain small = rw (behind-spelled w (spell (codes "restarted" ∷ set_word set ∷ []) rest) 32 plain refl) (set_field set 10 rest small refl)
+
+-- the interfaces that were restarted, behind a word
+restarted_again : (w rest : List ℕ) (set : IfaceSet) → is_word w ≡ true → set.0 < 2 ^ 16 → restarted_at (w ++ gap_before (restarted_words set) ∷ spell (restarted_words set) rest) ≡ Some (set, rest)
+restarted_again w rest set plain small = when (set.0 == 0) refl
+  where
+    some : List (List ℕ)
+    some = codes "restarted" ∷ set_word set ∷ []
+    when : (b : Bool) → (set.0 == 0) ≡ b → restarted_at (w ++ gap_before (restarted_words set) ∷ spell (restarted_words set) rest) ≡ Some (set, rest)
+    when true is =
+        ap (λ (ws : List (List ℕ)). restarted_at (w ++ gap_before ws ∷ spell ws rest)) (cond-true (set.0 == 0) [] some is)
+        ∙ none_restarted w rest plain
+        ∙ ap (λ (n : ℕ). Some (record { 0 = n }, rest)) (sym (eqb-true set.0 0 is))
+    when false is = ap (λ (ws : List (List ℕ)). restarted_at (w ++ gap_before ws ∷ spell ws rest)) (cond-false (set.0 == 0) [] some is) ∙ some_restarted w rest set plain small
+
+idle_again : (moment : Option ℕ) (set : IfaceSet) (rest : List ℕ) → set.0 < 2 ^ 16 → reply_at moment (spell (codes "idle" ∷ restarted_words set) rest) ≡ Some (reply.Idle set, rest)
+unfolding reply_at
+idle_again moment set rest small =
+    let ws = restarted_words set in
+    rw (word-spelled (codes "idle") (spell ws rest) (gap_before ws) refl (gap_is ws), restarted_again (codes "idle") rest set refl small) refl
+
+-- the last words of a frame that was tried, and what follows them
+abbrev tried_end : Tried → List ℕ → List ℕ
+tried_end t rest = set_word t.off ++ gap_before (restarted_words t.restarted) ∷ spell (restarted_words t.restarted) rest
+
+tried_again : (t : Tried) (rest : List ℕ) → HoldsTried t → tried_at t.moment (decimal t.winner ++ 32 ∷ (decimal t.number ++ 32 ∷ (frame_spelling (item.Data t.frame) ++ 32 ∷ (class_word t.class ++ 32 ∷ (set_word t.accepted ++ 32 ∷ tried_end t rest))))) ≡ Some (reply.Tried t, rest)
 unfolding tried_at
 tried_again t rest h =
+    let ws = restarted_words t.restarted in
     rw (
-      number_field 16 t.winner 32 (decimal t.number ++ 32 ∷ (frame_spelling (item.Data t.frame) ++ 32 ∷ (class_word t.class ++ 32 ∷ (set_word t.accepted ++ 32 ∷ (set_word t.off ++ 10 ∷ rest))))) h.winner (omega arith) refl,
-      long_field t.number 32 (frame_spelling (item.Data t.frame) ++ 32 ∷ (class_word t.class ++ 32 ∷ (set_word t.accepted ++ 32 ∷ (set_word t.off ++ 10 ∷ rest)))) h.number refl,
-      frame_field t.frame 32 (class_word t.class ++ 32 ∷ (set_word t.accepted ++ 32 ∷ (set_word t.off ++ 10 ∷ rest))) h.frame refl,
-      class_field t.class (set_word t.accepted ++ 32 ∷ (set_word t.off ++ 10 ∷ rest)),
-      set_field t.accepted 32 (set_word t.off ++ 10 ∷ rest) h.accepted refl,
-      set_field t.off 10 rest h.off refl,
+      number_field 16 t.winner 32 (decimal t.number ++ 32 ∷ (frame_spelling (item.Data t.frame) ++ 32 ∷ (class_word t.class ++ 32 ∷ (set_word t.accepted ++ 32 ∷ tried_end t rest)))) h.winner (omega arith) refl,
+      long_field t.number 32 (frame_spelling (item.Data t.frame) ++ 32 ∷ (class_word t.class ++ 32 ∷ (set_word t.accepted ++ 32 ∷ tried_end t rest))) h.number refl,
+      frame_field t.frame 32 (class_word t.class ++ 32 ∷ (set_word t.accepted ++ 32 ∷ tried_end t rest)) h.frame refl,
+      class_field t.class (set_word t.accepted ++ 32 ∷ tried_end t rest),
+      set_field t.accepted 32 (tried_end t rest) h.accepted refl,
+      set_field t.off (gap_before ws) (spell ws rest) h.off (gap_is ws),
+      restarted_again (set_word t.off) rest t.restarted (set-plain t.off) h.restarted,
     ) refl
 
 -- an attempt's frame was tried at its moment
@@ -245,7 +286,7 @@ reply_again e reply.Done rest fits h = refl
 reply_again e (reply.Sent n) rest fits h = rw (long_field n 10 rest h refl) refl
 reply_again e (reply.Received None) rest fits h = refl
 reply_again e (reply.Received (Some r)) rest fits h = received_again r.item r.from r.number r.moment (moment_of e) rest (received_number e r fits) h.0 h.1 h.2 h.3
-reply_again e reply.Idle rest fits h = refl
+reply_again e (reply.Idle set) rest fits h = idle_again (moment_of e) set rest h
 reply_again e (reply.Tried t) rest fits h = rw (tried_moment e t fits) (tried_again t rest h)
 reply_again e (reply.Refused why) rest fits h = refused_again why (moment_of e) rest (leaves e why fits)
 
@@ -286,8 +327,8 @@ entry_kinds (Attempt m v) r rest fits holds h = rw (moment_field m 32 (verdict_w
 entry_kinds (Restart i m) r rest fits holds h = rw (number_field 16 i 32 (moment_word m ++ 32 ∷ spell (codes "=" ∷ reply_words r) rest) holds.0 (omega arith) refl, moment_field m 32 (spell (codes "=" ∷ reply_words r) rest) holds.1 refl) (with_reply_again (Restart i m) r rest fits h)
 
 -- the entry of a line
-pub entry_again : (e : Entry) (rest : List ℕ) → HasLine e → entry_at (entry_line e rest) ≡ Some e
-entry_again e rest h = entry_kinds e.event e.reply rest h.spelled h.event h.reply
+pub entry_again : (c : BusConfig) (e : Entry) (rest : List ℕ) → HasLine c e → entry_at (entry_line e rest) ≡ Some e
+entry_again c e rest h = entry_kinds e.event e.reply rest h.spelled.fits h.event h.reply
 
 -- ---- the bus and the end
 
@@ -296,19 +337,35 @@ unfolding ack_at word after
 ack_field ack.Always rest = refl
 ack_field ack.Peers rest = refl
 
+-- in version 1 no interface is restarted automatically
+never_restarted : (c : BusConfig) → version_of c ≡ version.One → c.auto_restart ≡ 0
+never_restarted c is = when (c.auto_restart == 0) refl is
+  where
+    when : (b : Bool) → (c.auto_restart == 0) ≡ b → (if b then version.One else version.Two) ≡ version.One → c.auto_restart ≡ 0
+    when true zero h = eqb-true c.auto_restart 0 zero
+    when false some h = absurd cc
+
+auto_restart_again : (v : Version) (c : BusConfig) (rest : List ℕ) → HasBusLine v c → auto_restart_at v (spell (auto_restart_words v c) rest) ≡ Some (c.auto_restart, rest)
+unfolding auto_restart_at
+auto_restart_again version.One c rest h = ap (λ (n : ℕ). Some (n, rest)) (sym (never_restarted c h.version))
+auto_restart_again version.Two c rest h = number_field (2 ^ 32) c.auto_restart 10 rest (omega (arith, h.proper.few_attempts)) (omega arith) refl
+
 -- the configuration of a bus's line
-pub config_again : (c : BusConfig) (rest : List ℕ) → HasBusLine c → config_at (spell (bus_words c) rest) ≡ Some c
+pub config_again : (v : Version) (c : BusConfig) (rest : List ℕ) → HasBusLine v c → config_at v (spell (bus_words v c) rest) ≡ Some c
 unfolding config_at word after
-config_again c rest h =
+config_again v c rest h =
     let few : c.ifaces < 256 = omega (arith, h.proper.few_ifaces) in
     let short : c.tx_capacity < 2 ^ 32 = omega (arith, h.proper.few_frames) in
     let small : c.limit < 2 ^ 32 = omega (arith, h.proper.few_entries) in
+    let ws = auto_restart_words v c in
+    let behind = decimal c.limit ++ gap_before ws ∷ spell ws rest in
     rw (
-      number_field 256 c.ifaces 32 (ack_word c.ack ++ 32 ∷ (set_word c.reporting ++ 32 ∷ (decimal c.tx_capacity ++ 32 ∷ (decimal c.limit ++ 10 ∷ rest)))) few (omega arith) refl,
-      ack_field c.ack (set_word c.reporting ++ 32 ∷ (decimal c.tx_capacity ++ 32 ∷ (decimal c.limit ++ 10 ∷ rest))),
-      set_field c.reporting 32 (decimal c.tx_capacity ++ 32 ∷ (decimal c.limit ++ 10 ∷ rest)) h.reporting refl,
-      number_field (2 ^ 32) c.tx_capacity 32 (decimal c.limit ++ 10 ∷ rest) short (omega arith) refl,
-      number_field (2 ^ 32) c.limit 10 rest small (omega arith) refl,
+      number_field 256 c.ifaces 32 (ack_word c.ack ++ 32 ∷ (set_word c.reporting ++ 32 ∷ (decimal c.tx_capacity ++ 32 ∷ behind))) few (omega arith) refl,
+      ack_field c.ack (set_word c.reporting ++ 32 ∷ (decimal c.tx_capacity ++ 32 ∷ behind)),
+      set_field c.reporting 32 (decimal c.tx_capacity ++ 32 ∷ behind) h.reporting refl,
+      number_field (2 ^ 32) c.tx_capacity 32 behind short (omega arith) refl,
+      number_field (2 ^ 32) c.limit (gap_before ws) (spell ws rest) small (omega arith) (gap_is ws),
+      auto_restart_again v c rest h,
     ) refl
 
 -- the end's line is no entry's
@@ -317,13 +374,13 @@ unfolding entry_at plain_at setting_at word after
 end_is_none count rest = refl
 
 -- where a line stands, nothing but want of memory keeps it from being read
-pub refused : (u : Unread) (text : List ℕ) → Gives (Err u) (entry_at text) → (e : Entry) (rest : List ℕ) → HasLine e → text ≡ entry_line e rest → u ≡ unread.NoMemory
-refused unread.NoMemory text h e rest spelled is = refl
-refused unread.Bad text h e rest spelled is = absurd (none-some e (sym h ∙ ap entry_at is ∙ entry_again e rest spelled))
+pub refused : (u : Unread) (text : List ℕ) → Gives (Err u) (entry_at text) → (c : BusConfig) (e : Entry) (rest : List ℕ) → HasLine c e → text ≡ entry_line e rest → u ≡ unread.NoMemory
+refused unread.NoMemory text h c e rest spelled is = refl
+refused unread.Bad text h c e rest spelled is = absurd (none-some e (sym h ∙ ap entry_at is ∙ entry_again c e rest spelled))
 
 -- one text begins with one line
-pub same_entry : (read : Entry) (text : List ℕ) → entry_at text ≡ Some read → (e : Entry) (rest : List ℕ) → HasLine e → text ≡ entry_line e rest → e ≡ read
-same_entry read text h e rest spelled is = same_Some e read (sym (ap entry_at is ∙ entry_again e rest spelled) ∙ h)
+pub same_entry : (read : Entry) (text : List ℕ) → entry_at text ≡ Some read → (c : BusConfig) (e : Entry) (rest : List ℕ) → HasLine c e → text ≡ entry_line e rest → e ≡ read
+same_entry read text h c e rest spelled is = same_Some e read (sym (ap entry_at is ∙ entry_again c e rest spelled) ∙ h)
 
 -- a line, and what follows it
 pub spell-rest : (ws : List (List ℕ)) (rest : List ℕ) → spell ws [] ++ rest ≡ spell ws rest
@@ -335,17 +392,17 @@ pub kept : (old new l : List ℕ) → old ≡ [] → new ≡ old ++ l → new �
 kept old new l nothing h = h ∙ ap (λ (x : List ℕ). x ++ l) nothing
 
 -- where a bus's line stands, it is read
-pub config_refused : (text : List ℕ) → None ≡ config_at text → (c : BusConfig) (rest : List ℕ) → HasBusLine c → text ≡ spell (bus_words c) rest → ⊥
-config_refused text h c rest good is = none-some c (h ∙ ap config_at is ∙ config_again c rest good)
+pub config_refused : (v : Version) (text : List ℕ) → None ≡ config_at v text → (c : BusConfig) (rest : List ℕ) → HasBusLine v c → text ≡ spell (bus_words v c) rest → ⊥
+config_refused v text h c rest good is = none-some c (h ∙ ap (config_at v) is ∙ config_again v c rest good)
 
 -- one text begins with one bus's line
-pub same_config : (read : BusConfig) (text : List ℕ) → Some read ≡ config_at text → (c : BusConfig) (rest : List ℕ) → HasBusLine c → text ≡ spell (bus_words c) rest → c ≡ read
-same_config read text h c rest good is = same_Some c read (sym (ap config_at is ∙ config_again c rest good) ∙ sym h)
+pub same_config : (v : Version) (read : BusConfig) (text : List ℕ) → Some read ≡ config_at v text → (c : BusConfig) (rest : List ℕ) → HasBusLine v c → text ≡ spell (bus_words v c) rest → c ≡ read
+same_config v read text h c rest good is = same_Some c read (sym (ap (config_at v) is ∙ config_again v c rest good) ∙ sym h)
 
 nothing_is_none : entry_at [] ≡ None
 unfolding entry_at plain_at setting_at word after
 nothing_is_none = refl
 
 -- a line is not empty
-pub line_some : (e : Entry) → HasLine e → entry_line e [] ≡ [] → ⊥
-line_some e h is = none-some e (sym (sym (entry_again e [] h) ∙ ap entry_at is ∙ nothing_is_none))
+pub line_some : (c : BusConfig) (e : Entry) → HasLine c e → entry_line e [] ≡ [] → ⊥
+line_some c e h is = none-some e (sym (sym (entry_again c e [] h) ∙ ap entry_at is ∙ nothing_is_none))

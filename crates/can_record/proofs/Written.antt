@@ -45,7 +45,7 @@ ended e (reply.Received (Some r)) h = received_ended r.item r
     received_ended : (i : Item) (r : Received) → (codes "=" ++ 32 ∷ []) ++ spell (received_words i r) [] ≡ spell (codes "=" ∷ received_words i r) []
     received_ended (item.Data f) r = refl
     received_ended (item.Error m) r = refl
-ended e reply.Idle h = refl
+ended e (reply.Idle set) h = refl
 ended e (reply.Tried t) h = refl
 ended e (reply.Refused why) h = refused_ended why (leaves e why h)
   where

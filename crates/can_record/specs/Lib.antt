@@ -1,4 +1,4 @@
-pub mod Values
 pub mod Spelling
+pub mod Values
 pub mod RecordFaults
 pub mod inner

@@ -4,7 +4,8 @@ use Rattle.can_bus.specs.declared.events.Entry.{Entry}
 use Rattle.can_bus.specs.Journal.{Kept}
 use Rattle.can_record.specs.declared.faults.ReadFault.{ReadFault}
 use Rattle.can_record.specs.declared.faults.ReadFault.TheVariants as fault
-use Rattle.can_record.specs.Spelling.{spell, first_line, bus_words, end_words, entry_line, entry_lines, record_spelling}
+use Rattle.can_record.specs.declared.versions.Version.{Version}
+use Rattle.can_record.specs.Spelling.{spell, first_line, bus_words, end_words, entry_line, entry_lines, front_lines, record_spelling}
 use Rattle.can_record.specs.Values.{HasLine, HasBusLine, HasText}
 
 -- What is wrong with a text that is no record's (own choice).
@@ -13,28 +14,29 @@ use Rattle.can_record.specs.Values.{HasLine, HasBusLine, HasText}
 abbrev pub IsTextOf : List ℕ → BusConfig → List Entry → Type 0
 IsTextOf text c entries = HasText c entries × (text ≡ record_spelling c entries)
 
--- the text does not begin with the first line
+-- the text begins with the first line of no version
 abbrev pub LacksFirst : List ℕ → Type 0
-LacksFirst text = (rest : List ℕ) → text ≢ first_line ++ rest
+LacksFirst text = (v : Version) (rest : List ℕ) → text ≢ first_line v ++ rest
 
--- no line of a bus stands here
-abbrev pub LacksBus : List ℕ → Type 0
-LacksBus rest = (c : BusConfig) (more : List ℕ) → HasBusLine c → rest ≢ spell (bus_words c) more
+-- no line of a bus stands here, in this version
+abbrev pub LacksBus : Version → List ℕ → Type 0
+LacksBus v rest = (c : BusConfig) (more : List ℕ) → HasBusLine v c → rest ≢ spell (bus_words v c) more
 
--- no line of an entry stands here
-abbrev pub LacksEntry : List ℕ → Type 0
-LacksEntry rest = (e : Entry) (more : List ℕ) → HasLine e → rest ≢ entry_line e more
+-- no line of an entry of this bus stands here
+abbrev pub LacksEntry : BusConfig → List ℕ → Type 0
+LacksEntry c rest = (e : Entry) (more : List ℕ) → HasLine c e → rest ≢ entry_line e more
 
 -- no end after so many entries stands here
 abbrev pub LacksEnd : ℕ → List ℕ → Type 0
 LacksEnd count rest = (more : List ℕ) → rest ≢ spell (end_words count) more
 
--- behind the first line no line of a bus stands
+-- behind the first line of a version no line of a bus stands
 pub record BusIsWrong (text : List ℕ) (n : ℕ) : Type 0 where
+  pub version : Version
   pub rest : List ℕ
   pub second : n ≡ 2
-  pub begins : text ≡ first_line ++ rest
-  pub wrong : LacksBus rest
+  pub begins : text ≡ first_line version ++ rest
+  pub wrong : LacksBus version rest
 
 -- behind the lines of a bus and of entries stands neither an entry's line nor the end
 pub record LineIsWrong (text : List ℕ) (n : ℕ) : Type 0 where
@@ -42,9 +44,9 @@ pub record LineIsWrong (text : List ℕ) (n : ℕ) : Type 0 where
   pub entries : List Entry
   pub rest : List ℕ
   pub whole : HasText config entries
-  pub begins : text ≡ first_line ++ spell (bus_words config) (entry_lines entries rest)
+  pub begins : text ≡ front_lines config (entry_lines entries rest)
   pub next : n ≡ length entries + 3
-  pub wrong : LacksEntry rest
+  pub wrong : LacksEntry config rest
   pub open_end : LacksEnd (length entries) rest
 
 -- the text is a record's, and goes on

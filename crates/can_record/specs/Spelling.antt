@@ -1,4 +1,4 @@
-use Rattle.std.specs.Prelude.{ℕ, Bool, true, false, List, [], ◌∷◌, ◌++◌, length, codes, decimal, Some, None}
+use Rattle.std.specs.Prelude.{ℕ, ◌==◌, Bool, true, false, List, [], ◌∷◌, ◌++◌, length, codes, decimal, Some, None, if◌then◌else◌}
 use Rattle.can_frame.specs.declared.ifaces.IfaceSet.{IfaceSet}
 use Rattle.can_frame.specs.declared.items.Item.{Item}
 use Rattle.can_frame.specs.declared.items.Item.TheVariants as item
@@ -24,6 +24,8 @@ use Rattle.can_bus.specs.declared.events.Received.{Received}
 use Rattle.can_bus.specs.declared.events.Reply.{Reply}
 use Rattle.can_bus.specs.declared.events.Reply.TheVariants as reply
 use Rattle.can_bus.specs.declared.events.Entry.{Entry}
+use Rattle.can_record.specs.declared.versions.Version.{Version}
+use Rattle.can_record.specs.declared.versions.Version.TheVariants as version
 
 -- How the lines of a record are written (own choice).
 
@@ -113,6 +115,10 @@ abbrev pub received_words : Item → Received → List (List ℕ)
 received_words (item.Data f) r = codes "data" ∷ decimal r.from ∷ decimal r.number ∷ frame_spelling r.item ∷ moment_word r.moment ∷ []
 received_words (item.Error e) r = codes "error" ∷ decimal r.from ∷ frame_spelling r.item ∷ moment_word r.moment ∷ []
 
+-- the interfaces that an attempt restarted, where there are any
+abbrev pub restarted_words : IfaceSet → List (List ℕ)
+restarted_words set = if set.0 == 0 then [] else codes "restarted" ∷ set_word set ∷ []
+
 -- a reply; a frame was tried at the moment of its attempt, which is not repeated
 abbrev pub reply_words : Reply → List (List ℕ)
 reply_words (reply.Opened s) = codes "socket" ∷ decimal s.0 ∷ []
@@ -121,8 +127,8 @@ reply_words reply.Done = codes "ok" ∷ []
 reply_words (reply.Sent n) = codes "number" ∷ decimal n ∷ []
 reply_words (reply.Received None) = codes "none" ∷ []
 reply_words (reply.Received (Some r)) = received_words r.item r
-reply_words reply.Idle = codes "idle" ∷ []
-reply_words (reply.Tried t) = codes "tried" ∷ decimal t.winner ∷ decimal t.number ∷ frame_spelling (item.Data t.frame) ∷ class_word t.class ∷ set_word t.accepted ∷ set_word t.off ∷ []
+reply_words (reply.Idle restarted) = codes "idle" ∷ restarted_words restarted
+reply_words (reply.Tried t) = codes "tried" ∷ decimal t.winner ∷ decimal t.number ∷ frame_spelling (item.Data t.frame) ∷ class_word t.class ∷ set_word t.accepted ∷ set_word t.off ∷ restarted_words t.restarted
 reply_words (reply.Refused why) = refusal_words why
 
 -- an entry: its event, `=`, and its reply
@@ -137,13 +143,27 @@ entry_line e rest = spell (entry_words e) rest
 abbrev pub answered_line : Event → Reply → List ℕ → List ℕ
 answered_line e r rest = entry_line (record { event = e; reply = r }) rest
 
--- the first line
-abbrev pub first_line : List ℕ
-first_line = codes "canbus record 1" ++ 10 ∷ []
+-- the version of a record's text: 2 exactly where interfaces are restarted automatically
+abbrev pub version_of : BusConfig → Version
+version_of c = if c.auto_restart == 0 then version.One else version.Two
+
+-- the first line: the version
+abbrev pub first_line : Version → List ℕ
+first_line version.One = codes "canbus record 1" ++ 10 ∷ []
+first_line version.Two = codes "canbus record 2" ++ 10 ∷ []
+
+-- from version 2 on: how many attempts after it went off an interface is restarted
+abbrev pub auto_restart_words : Version → BusConfig → List (List ℕ)
+auto_restart_words version.One c = []
+auto_restart_words version.Two c = decimal c.auto_restart ∷ []
 
 -- the bus: how many interfaces, who acknowledges, the interfaces with reporting on, the room of a transmit queue, the limit
-abbrev pub bus_words : BusConfig → List (List ℕ)
-bus_words c = codes "bus" ∷ decimal c.ifaces ∷ ack_word c.ack ∷ set_word c.reporting ∷ decimal c.tx_capacity ∷ decimal c.limit ∷ []
+abbrev pub bus_words : Version → BusConfig → List (List ℕ)
+bus_words v c = codes "bus" ∷ decimal c.ifaces ∷ ack_word c.ack ∷ set_word c.reporting ∷ decimal c.tx_capacity ∷ decimal c.limit ∷ auto_restart_words v c
+
+-- the first two lines, and what follows them
+abbrev pub front_lines : BusConfig → List ℕ → List ℕ
+front_lines c rest = first_line (version_of c) ++ spell (bus_words (version_of c) c) rest
 
 -- the end: how many entries there were
 abbrev pub end_words : ℕ → List (List ℕ)
@@ -154,6 +174,6 @@ unfoldable pub entry_lines : List Entry → List ℕ → List ℕ
 entry_lines [] rest = rest
 entry_lines (e ∷ es) rest = entry_line e (entry_lines es rest)
 
--- the text of a record: the first line, that of the bus, one for each entry, the oldest first, and that of the end
+-- the text of a record: its version, the line of the bus, one for each entry, the oldest first, and that of the end
 abbrev pub record_spelling : BusConfig → List Entry → List ℕ
-record_spelling c entries = first_line ++ spell (bus_words c) (entry_lines entries (spell (end_words (length entries)) []))
+record_spelling c entries = front_lines c (entry_lines entries (spell (end_words (length entries)) []))

@@ -15,6 +15,8 @@ use Rattle.can_bus.specs.declared.events.Entry.{Entry}
 use Rattle.can_frame.specs.FrameText.{IsItem}
 use Rattle.can_bus.specs.Journal.{IsConfig}
 use Rattle.can_bus.specs.Spelled.{IsSpelled}
+use Rattle.can_record.specs.declared.versions.Version.{Version}
+use Rattle.can_record.specs.Spelling.{version_of}
 
 -- The values that the types of an entry hold: a clause that ranges over all entries has to say so.
 
@@ -57,6 +59,7 @@ pub record HoldsTried (t : Tried) : Type 0 where
   pub frame : IsItem (item.Data t.frame)
   pub accepted : t.accepted.0 < 2 ^ 16
   pub off : t.off.0 < 2 ^ 16
+  pub restarted : t.restarted.0 < 2 ^ 16
 
 -- the parts of a reply
 abbrev pub HoldsReply : Reply → Type 0
@@ -66,22 +69,23 @@ HoldsReply reply.Done = Unit {0}
 HoldsReply (reply.Sent n) = n < 2 ^ 64
 HoldsReply (reply.Received None) = Unit {0}
 HoldsReply (reply.Received (Some r)) = IsItem r.item × (r.from < 16) × (r.number < 2 ^ 64) × (r.moment < 10 ^ 16)
-HoldsReply reply.Idle = Unit {0}
+HoldsReply (reply.Idle restarted) = restarted.0 < 2 ^ 16
 HoldsReply (reply.Tried t) = HoldsTried t
 HoldsReply (reply.Refused why) = Unit {0}
 
--- an entry that has a line, of such values
-pub record HasLine (e : Entry) : Type 0 where
-  pub spelled : IsSpelled e
+-- an entry that has a line in the record of this bus, of such values
+pub record HasLine (c : BusConfig) (e : Entry) : Type 0 where
+  pub spelled : IsSpelled c e
   pub event : HoldsEvent e.event
   pub reply : HoldsReply e.reply
 
--- a configuration that has a line
-pub record HasBusLine (c : BusConfig) : Type 0 where
+-- a configuration that has a line in this version
+pub record HasBusLine (v : Version) (c : BusConfig) : Type 0 where
   pub proper : IsConfig c
   pub reporting : c.reporting.0 < 2 ^ 16
+  pub version : version_of c ≡ v
 
 -- a configuration and entries that a text can spell
 pub record HasText (c : BusConfig) (entries : List Entry) : Type 0 where
-  pub bus : HasBusLine c
-  pub lines : All HasLine entries
+  pub bus : HasBusLine (version_of c) c
+  pub lines : All (HasLine c) entries

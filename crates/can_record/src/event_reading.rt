@@ -1,12 +1,12 @@
 ghost use Rattle.std.specs.Prelude.{IsTrue, IfOk, OnOk, ◌++◌, ◌∷◌, [], ◌+◌, ◌≡◌, ◌≤◌, ◌<◌, length};
 ghost use Rattle.std.specs.Option.{option_map};
 ghost use Rattle.std.specs.Result.{result_map_both};
-ghost use Rattle.can_record.specs.inner.Reading.{Gives, moment_of, GivesFilters, begins_with, set_behind, option_at, verdict_at, filter_at, filters_at, with_reply, set_filters_at, set_option_at, setting_at, plain_at, entry_at};
+ghost use Rattle.can_record.specs.inner.Reading.{Gives, moment_of, GivesFilters, option_at, verdict_at, filter_at, filters_at, with_reply, set_filters_at, set_option_at, setting_at, plain_at, entry_at};
 
 use crate::faults::Unread;
 use crate::fields::{
-    count_field, flag_field, frame_field, iface_field, mask_field, moment_field, set_field,
-    short_field, socket_field,
+    begins_with, count_field, flag_field, frame_field, iface_field, mask_field, moment_field,
+    set_behind, short_field, socket_field,
 };
 use crate::reply_reading::reply_field;
 use crate::words::{next_word, same_word};
@@ -248,21 +248,4 @@ fn verdict_field(text: &[u8]) -> Option<(Verdict, &[u8])>
         return Some((Verdict::Local(set, LocalKind::Form), rest));
     }
     None
-}
-
-/// A set of interfaces, behind so many bytes.
-#[tactic(auto, unfolding(crate::specs::inner::Reading::set_behind))]
-fn set_behind(front: usize, text: &[u8]) -> Option<(IfaceSet, &[u8])>
-    requires { front ≤ length text.now }
-    ensures { option_map (λ x. (x.0, x.1.now)) result ≡ set_behind front text.now }
-{
-    set_field(&text[front..])
-}
-
-/// Whether a text begins with these bytes.
-fn begins_with(front: &[u8], text: &[u8]) -> bool
-    ensures value { result ≡ begins_with front.now text.now }
-    ensures within { IsTrue result → length front.now ≤ length text.now }
-{
-    text.len() >= front.len() && &text[..front.len()] == front
 }

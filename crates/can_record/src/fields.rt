@@ -1,6 +1,6 @@
-ghost use Rattle.std.specs.Prelude.{IfSome, ◌≡◌, ◌^◌, ◌≤◌, ◌<◌};
+ghost use Rattle.std.specs.Prelude.{IfSome, IsTrue, ◌≡◌, ◌^◌, ◌≤◌, ◌<◌, length};
 ghost use Rattle.std.specs.Option.{option_map};
-ghost use Rattle.can_record.specs.inner.Reading.{number_at, long_at, mask_at, moment_at, socket_at, set_at, flag_at, item_at, frame_at};
+ghost use Rattle.can_record.specs.inner.Reading.{number_at, long_at, mask_at, moment_at, socket_at, set_at, set_behind, flag_at, item_at, frame_at, begins_with};
 
 use crate::numbers::{long_number, moment};
 use crate::words::{next_word, same_word};
@@ -130,4 +130,21 @@ pub fn frame_field(text: &[u8]) -> Option<(Frame, &[u8])>
         Item::Data(frame) => Some((*frame, rest)),
         Item::Error(_) => None,
     }
+}
+
+/// A set of interfaces, behind so many bytes.
+#[tactic(auto, unfolding(crate::specs::inner::Reading::set_behind))]
+pub fn set_behind(front: usize, text: &[u8]) -> Option<(IfaceSet, &[u8])>
+    requires { front ≤ length text.now }
+    ensures { option_map (λ x. (x.0, x.1.now)) result ≡ set_behind front text.now }
+{
+    set_field(&text[front..])
+}
+
+/// Whether a text begins with these bytes.
+pub fn begins_with(front: &[u8], text: &[u8]) -> bool
+    ensures value { result ≡ begins_with front.now text.now }
+    ensures within { IsTrue result → length front.now ≤ length text.now }
+{
+    text.len() >= front.len() && &text[..front.len()] == front
 }

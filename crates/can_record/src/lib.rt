@@ -1,5 +1,5 @@
 //! The text of a record, both ways: `record_text` writes a record as text and `read_record` reads it back. A record has
-//! one text, and a text is of one record at most.
+//! one text, in one version, and a text is of one record at most.
 #![tactic(auto)]
 
 mod event_reading;
@@ -14,6 +14,7 @@ mod reply_reading;
 mod reply_writing;
 pub mod text_laws;
 mod values;
+mod versions;
 mod words;
 mod writing;
 

@@ -1,12 +1,13 @@
-ghost use Rattle.std.specs.Prelude.{◌≡◌, ◌≤◌, ◌++◌, ◌∷◌, [], IfOk, IfErr, IsTrue, OnOk, decimal, drop, length, List, ℕ};
+ghost use Rattle.std.specs.Prelude.{◌≡◌, ◌≤◌, ◌++◌, ◌∷◌, [], IfOk, IfErr, IfSome, IsNone, IsTrue, OnOk, decimal, drop, length, List, ℕ};
 ghost use Rattle.std.specs.Option.{option_map};
 ghost use Rattle.can_bus.specs.declared.events.Entry.{Entry as AnEntry};
 ghost use Rattle.can_bus.specs.declared.events.BusConfig.{BusConfig as AConfig};
-ghost use Rattle.can_bus.specs.Spelled.{FitsReply, IsSpelled};
+ghost use Rattle.can_bus.specs.Spelled.{FitsReply};
 ghost use Rattle.can_record.specs.declared.faults.Unread.TheVariants as unread;
-ghost use Rattle.can_record.specs.Spelling.{spell, ack_word, answered_line, bus_words, end_words, entry_line};
+ghost use Rattle.can_record.specs.Spelling.{spell, ack_word, answered_line, bus_words, end_words, entry_line, first_line, version_of};
 ghost use Rattle.can_record.specs.Values.{HasLine, HasBusLine};
-ghost use Rattle.can_record.specs.inner.Reading.{ack_at, config_at};
+ghost use Rattle.can_record.specs.RecordFaults.{LacksFirst};
+ghost use Rattle.can_record.specs.inner.Reading.{ack_at, auto_restart_at, config_at};
 
 use crate::event_reading::guess_entry;
 use crate::event_writing::put_event;
@@ -14,18 +15,16 @@ use crate::faults::Unread;
 use crate::fields::{byte_field, set_field, short_field};
 use crate::reply_writing::put_reply;
 use crate::values::{hold_event, hold_reply};
+use crate::versions::Version;
 use crate::words::{next_word, same_word};
 use crate::writing::{put_count, put_set, put_word};
 use can_attempt::AckMode;
 use can_bus::{BusConfig, Entry, Event, Reply, is_spelled};
 use std::alloc::{AllocError, Global};
 
-/// The first line of each record text.
-pub const FIRST_LINE: &[u8] = b"canbus record 1\n";
-
 /// The line of an entry.
 pub fn put_line(out: &mut Vec<u8>, entry: &Entry) -> Result<(), AllocError>
-    requires { IsSpelled entry.now }
+    requires { FitsReply entry.now.event entry.now.reply }
     ensures { OnOk result (out.new.items ≡ out.old.items ++ entry_line entry.now []) }
 {
     put_answered(out, &entry.event, &entry.reply)
@@ -43,15 +42,25 @@ pub fn put_answered(out: &mut Vec<u8>, event: &Event, reply: &Reply) -> Result<(
 }
 
 /// The line of a bus.
-pub fn put_bus(out: &mut Vec<u8>, config: BusConfig) -> Result<(), AllocError>
-    ensures { OnOk result (out.new.items ≡ out.old.items ++ spell (bus_words config) []) }
+pub(crate) fn put_bus(
+    out: &mut Vec<u8>,
+    version: Version,
+    config: BusConfig,
+) -> Result<(), AllocError>
+    ensures { OnOk result (out.new.items ≡ out.old.items ++ spell (bus_words version config) []) }
 {
     put_word(out, b"bus", b' ')?;
     put_count(out, u64::from(config.ifaces), b' ')?;
     put_ack(out, config.ack)?;
     put_set(out, config.reporting, b' ')?;
     put_count(out, u64::from(config.tx_capacity), b' ')?;
-    put_count(out, u64::from(config.limit), b'\n')?;
+    match version {
+        Version::One => put_count(out, u64::from(config.limit), b'\n')?,
+        Version::Two => {
+            put_count(out, u64::from(config.limit), b' ')?;
+            put_count(out, u64::from(config.auto_restart), b'\n')?;
+        }
+    }
     Ok(())
 }
 
@@ -91,26 +100,45 @@ pub fn behind(text: &[u8], count: usize) -> &[u8]
     &text[count..]
 }
 
-/// Whether an entry has a line.
-fn has_line(entry: &Entry) -> bool
-    ensures yes { IsTrue result → HasLine entry.now }
-    ensures no { HasLine entry.now → IsTrue result }
+/// Whether an entry has a line in the record of this bus.
+fn has_line(config: BusConfig, entry: &Entry) -> bool
+    ensures yes { IsTrue result → HasLine config entry.now }
+    ensures no { HasLine config entry.now → IsTrue result }
 {
     hold_event(&entry.event);
     hold_reply(&entry.reply);
-    is_spelled(entry)
+    is_spelled(config, entry)
 }
 
-/// The entry whose line the text begins with. The line is left in the buffer.
-pub(crate) fn read_line(buffer: &mut Vec<u8>, alloc: Global, text: &[u8]) -> Result<Entry, Unread>
-    ensures found { IfOk result (λ e. HasLine e × (buffer.new.items ≡ entry_line e []) × (text.now ≡ entry_line e [] ++ drop (length (entry_line e [])) text.now)) }
-    ensures only { (e : AnEntry) (rest : List ℕ) → HasLine e → text.now ≡ entry_line e rest → IfErr result (λ u. u ≡ unread.NoMemory) }
+/// The version whose first line the text begins with.
+pub(crate) fn read_version(text: &[u8]) -> Option<Version>
+    ensures found { IfSome result (λ v. text.now ≡ first_line v ++ drop (length (first_line v)) text.now) }
+    ensures only { IsNone result → LacksFirst text.now }
+{
+    if begins(text, Version::One.first_line()) {
+        return Some(Version::One);
+    }
+    if begins(text, Version::Two.first_line()) {
+        return Some(Version::Two);
+    }
+    None
+}
+
+/// The entry of this bus's record whose line the text begins with. The line is left in the buffer.
+pub(crate) fn read_line(
+    buffer: &mut Vec<u8>,
+    alloc: Global,
+    config: BusConfig,
+    text: &[u8],
+) -> Result<Entry, Unread>
+    ensures found { IfOk result (λ e. HasLine config e × (buffer.new.items ≡ entry_line e []) × (text.now ≡ entry_line e [] ++ drop (length (entry_line e [])) text.now)) }
+    ensures only { (e : AnEntry) (rest : List ℕ) → HasLine config e → text.now ≡ entry_line e rest → IfErr result (λ u. u ≡ unread.NoMemory) }
 {
     let read = match guess_entry(alloc, text) {
         Ok(read) => read,
         Err(why) => return Err(why),
     };
-    if !has_line(&read) {
+    if !has_line(config, &read) {
         return Err(Unread::Bad);
     }
     buffer.clear();
@@ -124,19 +152,23 @@ pub(crate) fn read_line(buffer: &mut Vec<u8>, alloc: Global, text: &[u8]) -> Res
     Ok(read)
 }
 
-/// The configuration whose line the text begins with. The line is left in the buffer.
-pub(crate) fn read_bus(buffer: &mut Vec<u8>, text: &[u8]) -> Result<BusConfig, Unread>
-    ensures found { IfOk result (λ c. HasBusLine c × (buffer.new.items ≡ spell (bus_words c) []) × (text.now ≡ spell (bus_words c) [] ++ drop (length (spell (bus_words c) [])) text.now)) }
-    ensures only { (c : AConfig) (rest : List ℕ) → HasBusLine c → text.now ≡ spell (bus_words c) rest → IfErr result (λ u. u ≡ unread.NoMemory) }
+/// The configuration whose line in this version the text begins with. The line is left in the buffer.
+pub(crate) fn read_bus(
+    buffer: &mut Vec<u8>,
+    version: Version,
+    text: &[u8],
+) -> Result<BusConfig, Unread>
+    ensures found { IfOk result (λ c. HasBusLine version c × (buffer.new.items ≡ spell (bus_words version c) []) × (text.now ≡ spell (bus_words version c) [] ++ drop (length (spell (bus_words version c) [])) text.now)) }
+    ensures only { (c : AConfig) (rest : List ℕ) → HasBusLine version c → text.now ≡ spell (bus_words version c) rest → IfErr result (λ u. u ≡ unread.NoMemory) }
 {
-    let Some(config) = guess_config(text) else {
+    let Some(config) = guess_config(version, text) else {
         return Err(Unread::Bad);
     };
-    if !has_bus_line(config) {
+    if !has_bus_line(version, config) {
         return Err(Unread::Bad);
     }
     buffer.clear();
-    match put_bus(buffer, config) {
+    match put_bus(buffer, version, config) {
         Ok(()) => {}
         Err(_) => return Err(Unread::NoMemory),
     }
@@ -146,32 +178,45 @@ pub(crate) fn read_bus(buffer: &mut Vec<u8>, text: &[u8]) -> Result<BusConfig, U
     Ok(config)
 }
 
-/// Whether a configuration has a line.
-fn has_bus_line(config: BusConfig) -> bool
-    ensures yes { IsTrue result → HasBusLine config }
-    ensures no { HasBusLine config → IsTrue result }
+/// Whether a configuration has a line in this version.
+fn has_bus_line(version: Version, config: BusConfig) -> bool
+    ensures yes { IsTrue result → HasBusLine version config }
+    ensures no { HasBusLine version config → IsTrue result }
 {
-    config.is_proper()
+    config.is_proper() && Version::of(config) == version
 }
 
-/// A configuration as its line seems to spell it.
+/// A configuration as its line seems to spell it in this version.
 #[tactic(auto, unfolding(crate::specs::inner::Reading::config_at))]
-fn guess_config(text: &[u8]) -> Option<BusConfig>
-    ensures { result ≡ config_at text.now }
+fn guess_config(version: Version, text: &[u8]) -> Option<BusConfig>
+    ensures { result ≡ config_at version text.now }
 {
     let (_, rest) = next_word(text);
     let (ifaces, rest) = byte_field(rest)?;
     let (ack, rest) = ack_field(rest)?;
     let (reporting, rest) = set_field(rest)?;
     let (tx_capacity, rest) = short_field(rest)?;
-    let (limit, _) = short_field(rest)?;
+    let (limit, rest) = short_field(rest)?;
+    let (auto_restart, _) = auto_restart_field(version, rest)?;
     Some(BusConfig {
         ifaces,
         ack,
         reporting,
         tx_capacity,
         limit,
+        auto_restart,
     })
+}
+
+/// After how many attempts an interface is restarted: never in version 1.
+#[tactic(auto, unfolding(crate::specs::inner::Reading::auto_restart_at))]
+fn auto_restart_field(version: Version, text: &[u8]) -> Option<(u32, &[u8])>
+    ensures { option_map (λ x. (x.0, x.1.now)) result ≡ auto_restart_at version text.now }
+{
+    match version {
+        Version::One => Some((0, text)),
+        Version::Two => short_field(text),
+    }
 }
 
 /// Who acknowledges.

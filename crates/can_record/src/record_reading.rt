@@ -6,15 +6,15 @@ ghost use Rattle.can_record.specs.Spelling.{entry_lines, record_spelling};
 ghost use Rattle.can_record.specs.RecordFaults.{LacksEntry, Ends, Reads, ReadsBack};
 
 use crate::faults::{ReadFault, Unread};
-use crate::lines::{FIRST_LINE, begins, behind, put_end, read_bus, read_line};
-use can_bus::{Entry, Received, Record};
+use crate::lines::{begins, behind, put_end, read_bus, read_line, read_version};
+use can_bus::{BusConfig, Entry, Received, Record};
 use can_frame::Item;
 use std::alloc::{AllocError, Global};
 
 /// The record of a text, as `record_text` writes it: no other text is taken.
 ///
-/// `BadVersion` where the text does not begin with the first line, and otherwise `BadLine` with the first line
-/// that is wrong or missing, from 1; where the text goes on behind its end, that is the line behind the end.
+/// `BadVersion` where the text does not begin with the first line of a version, and otherwise `BadLine` with the first
+/// line that is wrong or missing, from 1; where the text goes on behind its end, that is the line behind the end.
 /// The time is linear in the text, and nothing is allocated for a line but the filters that it sets.
 pub fn read_record(alloc: Global, text: &str) -> Result<Record, ReadFault>
     ensures reads { Reads text.now result }
@@ -34,19 +34,19 @@ pub fn read_record_bytes(alloc: Global, text: &[u8]) -> Result<Record, ReadFault
 fn read_text(alloc: Global, text: &[u8]) -> Result<Record, ReadFault>
     ensures { Reads text.now result }
 {
-    if !begins(text, FIRST_LINE) {
+    let Some(version) = read_version(text) else {
         return Err(ReadFault::BadVersion);
-    }
-    let rest = behind(text, FIRST_LINE.len());
+    };
+    let rest = behind(text, version.first_line().len());
     let mut buffer = Vec::new(alloc);
-    let config = match read_bus(&mut buffer, rest) {
+    let config = match read_bus(&mut buffer, version, rest) {
         Ok(config) => config,
         Err(Unread::Bad) => return Err(ReadFault::BadLine(2)),
         Err(Unread::NoMemory) => return Err(ReadFault::NoMemory),
     };
     let rest = behind(rest, buffer.len());
     let mut entries = Vec::new(alloc);
-    let Ok(rest) = read_lines(alloc, &mut buffer, &mut entries, rest) else {
+    let Ok(rest) = read_lines(alloc, config, &mut buffer, &mut entries, rest) else {
         return Err(ReadFault::NoMemory);
     };
     match read_end(&mut buffer, entries.len(), rest) {
@@ -76,23 +76,25 @@ fn read_end(buffer: &mut Vec<u8>, count: usize, text: &[u8]) -> Result<(), ReadF
     Ok(())
 }
 
-/// The entries of the lines that stand here, up to the first place where none does, and what follows there.
+/// The entries of the lines that stand here in the record of this bus, up to the first place where none does, and what
+/// follows there.
 fn read_lines<'a>(
     alloc: Global,
+    config: BusConfig,
     buffer: &mut Vec<u8>,
     entries: &mut Vec<Entry>,
     text: &'a [u8],
 ) -> Result<&'a [u8], AllocError>
     requires { entries.old.items ≡ [] }
     ensures lines { IfOk result (λ rest. text.now ≡ entry_lines entries.new.items rest.now) }
-    ensures have { IfOk result (λ rest. All HasLine entries.new.items) }
-    ensures stops { IfOk result (λ rest. LacksEntry rest.now) }
+    ensures have { IfOk result (λ rest. All (HasLine config) entries.new.items) }
+    ensures stops { IfOk result (λ rest. LacksEntry config rest.now) }
 {
     // The checker has to meet the types inside an entry before a vector takes one.
     let _types: Option<(Item, Received)> = None;
     let mut rest = text;
     loop {
-        match read_line(buffer, alloc, rest) {
+        match read_line(buffer, alloc, config, rest) {
             Ok(entry) => entries.push(entry)?,
             Err(Unread::Bad) => return Ok(rest),
             Err(Unread::NoMemory) => return Err(AllocError),

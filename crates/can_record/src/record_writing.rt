@@ -1,16 +1,18 @@
-ghost use Rattle.std.specs.Prelude.{◌≡◌, ◌++◌, [], All, IfOk, OnOk, reverse};
+ghost use Rattle.std.specs.Prelude.{◌≡◌, ◌++◌, [], IfOk, OnOk, reverse};
 ghost use Rattle.std.specs.Io.KnownBytes.{Appends};
-ghost use Rattle.can_bus.specs.Spelled.{FitsReply, IsSpelled};
-ghost use Rattle.can_record.specs.Spelling.{answered_line, entry_line, entry_lines, record_spelling};
+ghost use Rattle.can_bus.specs.Spelled.{FitsReply};
+ghost use Rattle.can_record.specs.Spelling.{answered_line, entry_line, entry_lines, front_lines, record_spelling};
 
-use crate::lines::{FIRST_LINE, put_answered, put_bus, put_end, put_line};
-use can_bus::{Entry, Event, Record, Reply};
+use crate::lines::{put_answered, put_bus, put_end, put_line};
+use crate::versions::Version;
+use can_bus::{BusConfig, Entry, Event, Record, Reply};
 use std::alloc::{AllocError, Global};
 use std::io;
 use std::io::Write;
 
-/// The text of a record: a first line that names this version, a line of the bus, one for each entry, the
+/// The text of a record: a first line that names its version, a line of the bus, one for each entry, the
 /// oldest first, and one that says how many entries there were. Each ends with LF, and the bytes are ASCII.
+/// The version is 2 where interfaces are restarted automatically, and else 1.
 ///
 /// One record has one text, and one text has one record. The text takes some 40 bytes an entry; it grows in
 /// place, and the time is linear in it.
@@ -42,21 +44,29 @@ pub fn write_record<W: Write>(alloc: Global, record: &Record, writer: &mut W) ->
     ensures { OnOk result (Appends (W.contents writer.old) (W.contents writer.new) (record_spelling «record».now.config (reverse «record».now.history))) }
 {
     let mut line = Vec::new(alloc);
-    line.extend_from_slice(FIRST_LINE)?;
-    put_bus(&mut line, record.config())?;
+    put_front(&mut line, record.config())?;
     writer.write_all(&line)?;
-    write_lines(&mut line, record.entries(), writer)?;
+    write_lines(&mut line, record, writer)?;
     line.clear();
     put_end(&mut line, record.len() as u64)?;
     writer.write_all(&line)?;
     Ok(())
 }
 
-/// Writes the lines of entries.
-fn write_lines<W: Write>(line: &mut Vec<u8>, entries: &[Entry], writer: &mut W) -> io::Result<()>
-    requires { All IsSpelled entries.now }
-    ensures { OnOk result (Appends (W.contents writer.old) (W.contents writer.new) (entry_lines entries.now [])) }
+/// The first two lines.
+fn put_front(out: &mut Vec<u8>, config: BusConfig) -> Result<(), AllocError>
+    ensures { OnOk result (out.new.items ≡ out.old.items ++ front_lines config []) }
 {
+    let version = Version::of(config);
+    out.extend_from_slice(version.first_line())?;
+    put_bus(out, version, config)
+}
+
+/// Writes the lines of the entries.
+fn write_lines<W: Write>(line: &mut Vec<u8>, record: &Record, writer: &mut W) -> io::Result<()>
+    ensures { OnOk result (Appends (W.contents writer.old) (W.contents writer.new) (entry_lines (reverse «record».now.history) [])) }
+{
+    let entries = record.entries();
     for entry in entries {
         write_line(line, entry, writer)?;
     }
@@ -65,7 +75,7 @@ fn write_lines<W: Write>(line: &mut Vec<u8>, entries: &[Entry], writer: &mut W) 
 
 /// Writes the line of an entry.
 fn write_line<W: Write>(line: &mut Vec<u8>, entry: &Entry, writer: &mut W) -> io::Result<()>
-    requires { IsSpelled entry.now }
+    requires { FitsReply entry.now.event entry.now.reply }
     ensures { OnOk result (Appends (W.contents writer.old) (W.contents writer.new) (entry_line entry.now [])) }
 {
     line.clear();

@@ -1,14 +1,14 @@
 ghost use Rattle.std.specs.Prelude.{◌≡◌};
 ghost use Rattle.std.specs.Option.{option_map};
-ghost use Rattle.can_record.specs.inner.Reading.{class_at, refusal_in, closed_at, data_at, error_at, tried_at, fixed_in, reply_at};
+ghost use Rattle.can_record.specs.inner.Reading.{class_at, refusal_in, closed_at, data_at, error_at, restarted_at, tried_at, fixed_in, reply_at};
 
 use crate::fields::{
-    frame_field, iface_field, item_field, long_field, moment_field, set_field, socket_field,
+    begins_with, frame_field, iface_field, item_field, long_field, moment_field, set_behind, set_field, socket_field,
 };
 use crate::words::{next_word, same_word};
 use can_attempt::Class;
 use can_bus::{Closed, Received, Refusal, Reply, Tried};
-use can_frame::{Item, Moment};
+use can_frame::{IfaceSet, Item, Moment};
 
 /// A reply to an attempt of this moment, or to another event.
 #[tactic(auto, unfolding(crate::specs::inner::Reading::reply_at))]
@@ -25,6 +25,10 @@ pub fn reply_field(moment: Option<Moment>, text: &[u8]) -> Option<(Reply, &[u8])
     }
     if same_word(word, b"error") {
         return error_field(rest);
+    }
+    if same_word(word, b"idle") {
+        let (restarted, rest) = restarted_field(text)?;
+        return Some((Reply::Idle(restarted), rest));
     }
     if same_word(word, b"tried") {
         return tried_field(moment?, rest);
@@ -50,9 +54,6 @@ fn fixed_reply(word: &[u8]) -> Option<Reply>
     }
     if same_word(word, b"none") {
         return Some(Reply::Received(None));
-    }
-    if same_word(word, b"idle") {
-        return Some(Reply::Idle);
     }
     let why = refusal_of(word)?;
     Some(Reply::Refused(why))
@@ -129,7 +130,8 @@ fn tried_field(moment: Moment, text: &[u8]) -> Option<(Reply, &[u8])>
     };
     let (class, rest) = class_field(rest)?;
     let (accepted, rest) = set_field(rest)?;
-    let (off, rest) = set_field(rest)?;
+    let (off, _) = set_field(rest)?;
+    let (restarted, rest) = restarted_field(rest)?;
     let tried = Tried {
         moment,
         winner,
@@ -138,8 +140,22 @@ fn tried_field(moment: Moment, text: &[u8]) -> Option<(Reply, &[u8])>
         class,
         accepted,
         off,
+        restarted,
     };
     Some((Reply::Tried(tried), rest))
+}
+
+/// The interfaces that an attempt restarted, behind the first word of a text; none where the line ends there.
+#[tactic(auto, unfolding(crate::specs::inner::Reading::restarted_at))]
+fn restarted_field(text: &[u8]) -> Option<(IfaceSet, &[u8])>
+    ensures { option_map (λ x. (x.0, x.1.now)) result ≡ restarted_at text.now }
+{
+    let (word, rest) = next_word(text);
+    let behind = &text[word.len()..];
+    if begins_with(b" restarted ", behind) {
+        return set_behind(11, behind);
+    }
+    Some((IfaceSet::empty(), rest))
 }
 
 /// How an attempt ended.

@@ -1,10 +1,10 @@
 ghost use Rattle.std.specs.Prelude.{◌≡◌, ◌++◌, ◌∷◌, [], decimal, OnOk};
-ghost use Rattle.can_record.specs.Spelling.{spell, reply_words, received_words, refusal_words};
+ghost use Rattle.can_record.specs.Spelling.{gap_before, spell, reply_words, received_words, refusal_words, restarted_words};
 ghost use Rattle.can_bus.specs.declared.events.Reply.TheVariants as reply;
 
 use crate::writing::{put_count, put_item, put_moment, put_set, put_word};
 use can_bus::{Received, Refusal, Reply, Tried};
-use can_frame::Item;
+use can_frame::{IfaceSet, Item};
 use std::alloc::AllocError;
 
 /// The words of a reply, and the end of its line.
@@ -28,7 +28,10 @@ pub fn put_reply(out: &mut Vec<u8>, reply: &Reply) -> Result<(), AllocError>
         }
         Reply::Received(None) => put_word(out, b"none", b'\n')?,
         Reply::Received(Some(received)) => put_received(out, received)?,
-        Reply::Idle => put_word(out, b"idle", b'\n')?,
+        Reply::Idle(restarted) => {
+            put_word(out, b"idle", gap_before(*restarted))?;
+            put_restarted(out, *restarted)?;
+        }
         Reply::Tried(tried) => put_tried(out, tried)?,
         Reply::Refused(why) => put_refusal(out, *why)?,
     }
@@ -65,7 +68,26 @@ fn put_tried(out: &mut Vec<u8>, tried: &Tried) -> Result<(), AllocError>
     put_item(out, &Item::Data(tried.frame), b' ')?;
     put_word(out, tried.class.word(), b' ')?;
     put_set(out, tried.accepted, b' ')?;
-    put_set(out, tried.off, b'\n')
+    put_set(out, tried.off, gap_before(tried.restarted))?;
+    put_restarted(out, tried.restarted)
+}
+
+/// What ends the word before the interfaces that an attempt restarted: the line's end where there are none.
+fn gap_before(restarted: IfaceSet) -> u8
+    ensures { result ≡ gap_before (restarted_words restarted) }
+{
+    if restarted.0 == 0 { b'\n' } else { b' ' }
+}
+
+/// The interfaces that an attempt restarted, and the end of their line; nothing where there are none.
+fn put_restarted(out: &mut Vec<u8>, restarted: IfaceSet) -> Result<(), AllocError>
+    ensures { OnOk result (out.new.items ≡ out.old.items ++ spell (restarted_words restarted) []) }
+{
+    if restarted.0 == 0 {
+        return Ok(());
+    }
+    put_word(out, b"restarted", b' ')?;
+    put_set(out, restarted, b'\n')
 }
 
 /// The name of a refusal, and the end of its line; nothing where it has no line.

@@ -4,7 +4,7 @@ ghost use Rattle.can_bus.specs.declared.events.Entry.{Entry as AnEntry};
 ghost use Rattle.can_bus.specs.Journal.{IsConfig};
 ghost use Rattle.can_bus.specs.Spelled.{IsSpelled};
 ghost use Rattle.can_record.specs.Values.{HasBusLine, HasLine, HasText};
-ghost use Rattle.can_record.specs.Spelling.{record_spelling};
+ghost use Rattle.can_record.specs.Spelling.{record_spelling, version_of};
 ghost use Rattle.can_record.specs.RecordFaults.{IsTextOf, LacksFirst, IsFirstWrong};
 
 use crate::faults::ReadFault;
@@ -33,7 +33,7 @@ pub fn read_back(alloc: Global, kept: &Record) -> Result<Record, AllocError>
     ensures history { IfOk result (λ r. r.history ≡ kept.now.history) }
 {
     hold_config(kept.config());
-    hold_lines(kept.entries());
+    hold_lines(kept.config(), kept.entries());
     let text = record_text(alloc, kept)?;
     match read_record_bytes(alloc, &text) {
         Ok(read) => Ok(read),
@@ -44,24 +44,24 @@ pub fn read_back(alloc: Global, kept: &Record) -> Result<Record, AllocError>
 /// A configuration within the limits has a line.
 fn hold_config(config: BusConfig)
     requires { IsConfig config }
-    ensures { HasBusLine config }
+    ensures { HasBusLine (version_of config) config }
 {
     let _bits = config.reporting.0;
 }
 
 /// Entries that are spelled have lines.
-fn hold_lines(entries: &[Entry])
-    requires { All IsSpelled entries.now }
-    ensures { All HasLine entries.now }
+fn hold_lines(config: BusConfig, entries: &[Entry])
+    requires { All (IsSpelled config) entries.now }
+    ensures { All (HasLine config) entries.now }
 {
     for entry in entries {
-        hold_line(entry);
+        hold_line(config, entry);
     }
 }
 
-fn hold_line(entry: &Entry)
-    requires { IsSpelled entry.now }
-    ensures { HasLine entry.now }
+fn hold_line(config: BusConfig, entry: &Entry)
+    requires { IsSpelled config entry.now }
+    ensures { HasLine config entry.now }
 {
     hold_event(&entry.event);
     hold_reply(&entry.reply);

@@ -111,7 +111,10 @@ pub fn hold_reply(reply: &Reply)
         }
         Reply::Received(Some(received)) => hold_received(received),
         Reply::Tried(tried) => hold_tried(tried),
-        Reply::Done | Reply::Received(None) | Reply::Idle | Reply::Refused(_) => {}
+        Reply::Idle(restarted) => {
+            let _restarted = restarted.0;
+        }
+        Reply::Done | Reply::Received(None) | Reply::Refused(_) => {}
     }
 }
 
@@ -133,4 +136,5 @@ fn hold_tried(tried: &Tried)
     hold_frame(tried.frame);
     let _accepted = tried.accepted.0;
     let _off = tried.off.0;
+    let _restarted = tried.restarted.0;
 }

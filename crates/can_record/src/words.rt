@@ -1,4 +1,4 @@
-ghost use Rattle.std.specs.Prelude.{◌≡◌};
+ghost use Rattle.std.specs.Prelude.{◌≡◌, ◌≤◌, length};
 ghost use Rattle.std.specs.Str.{bytes_eq};
 ghost use Rattle.can_record.specs.inner.Words.{word, after};
 
@@ -6,6 +6,7 @@ ghost use Rattle.can_record.specs.inner.Words.{word, after};
 pub fn next_word(text: &[u8]) -> (&[u8], &[u8])
     ensures word { result.0.now ≡ word text.now }
     ensures after { result.1.now ≡ after text.now }
+    ensures within { length result.0.now ≤ length text.now }
 {
     for end in 0..text.len() {
         if text[end] <= 32 {

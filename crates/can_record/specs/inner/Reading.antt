@@ -6,6 +6,7 @@ use Rattle.can_frame.specs.FrameGuess.{item_in}
 use Rattle.can_frame.specs.declared.items.Item.{Item}
 use Rattle.can_frame.specs.declared.items.Item.TheVariants as item
 use Rattle.can_frame.specs.declared.ifaces.IfaceSet.{IfaceSet}
+use Rattle.can_frame.specs.Sets.{no_ifaces}
 use Rattle.can_filter.specs.Filters.{CanFilter}
 use Rattle.can_fault.specs.declared.verdicts.GlobalKind.TheVariants as global
 use Rattle.can_fault.specs.declared.verdicts.LocalKind.TheVariants as local
@@ -28,6 +29,8 @@ use Rattle.can_bus.specs.declared.events.Reply.TheVariants as reply
 use Rattle.can_bus.specs.declared.events.Entry.{Entry}
 use Rattle.can_record.specs.declared.faults.Unread.{Unread}
 use Rattle.can_record.specs.declared.faults.Unread.TheVariants as unread
+use Rattle.can_record.specs.declared.versions.Version.{Version}
+use Rattle.can_record.specs.declared.versions.Version.TheVariants as version
 use Rattle.can_record.specs.inner.Words.{word, after}
 use Rattle.can_record.specs.inner.Numerals.{long_in, moment_in}
 
@@ -167,6 +170,14 @@ error_at t = do
   m ← moment_at e.1
   Some (reply.Received (Some (record { item = e.0; from = i.0; number = 0; moment = m.0 })), m.1)
 
+-- what follows the first word, and the byte that ends it
+abbrev pub behind_word : List ℕ → List ℕ
+behind_word t = drop (length (word t)) t
+
+-- the interfaces that an attempt restarted, behind the reply's last word but these
+unfoldable pub restarted_at : List ℕ → Option (IfaceSet × List ℕ)
+restarted_at t = if begins_with (codes " restarted ") (behind_word t) then set_behind 11 (behind_word t) else Some (no_ifaces, after t)
+
 -- a frame that was tried at this moment
 unfoldable pub tried_at : ℕ → List ℕ → Option (Reply × List ℕ)
 tried_at moment t = do
@@ -176,14 +187,14 @@ tried_at moment t = do
   c ← class_at f.1
   a ← set_at c.1
   o ← set_at a.1
-  Some (reply.Tried (record { moment = moment; winner = w.0; number = n.0; frame = f.0; class = c.0; accepted = a.0; off = o.0 }), o.1)
+  r ← restarted_at a.1
+  Some (reply.Tried (record { moment = moment; winner = w.0; number = n.0; frame = f.0; class = c.0; accepted = a.0; off = o.0; restarted = r.0 }), r.1)
 
 -- the reply of this one word
 unfoldable pub fixed_in : List ℕ → Option Reply
 fixed_in w =
     if bytes_eq w (codes "ok") then Some reply.Done
     else if bytes_eq w (codes "none") then Some (reply.Received None)
-    else if bytes_eq w (codes "idle") then Some reply.Idle
     else (refusal_in w >>= λ why. Some (reply.Refused why))
 
 -- the reply to an attempt of this moment, or to another event
@@ -192,6 +203,7 @@ reply_at moment t =
     if bytes_eq (word t) (codes "number") then (long_at (after t) >>= λ n. Some (reply.Sent n.0, n.1))
     else if bytes_eq (word t) (codes "data") then data_at (after t)
     else if bytes_eq (word t) (codes "error") then error_at (after t)
+    else if bytes_eq (word t) (codes "idle") then (restarted_at t >>= λ r. Some (reply.Idle r.0, r.1))
     else if bytes_eq (word t) (codes "tried") then (moment >>= λ m. tried_at m (after t))
     else if bytes_eq (word t) (codes "socket") then (socket_at (after t) >>= λ s. Some (reply.Opened s.0, s.1))
     else if bytes_eq (word t) (codes "closed") then closed_at (after t)
@@ -267,12 +279,18 @@ ack_at t =
     else if bytes_eq (word t) (codes "peers") then Some (ack.Peers, after t)
     else None
 
+-- after how many attempts an interface is restarted: never in version 1
+unfoldable pub auto_restart_at : Version → List ℕ → Option (ℕ × List ℕ)
+auto_restart_at version.One t = Some (0, t)
+auto_restart_at version.Two t = number_at (2 ^ 32) t
+
 -- the configuration of a bus
-unfoldable pub config_at : List ℕ → Option BusConfig
-config_at t = do
+unfoldable pub config_at : Version → List ℕ → Option BusConfig
+config_at v t = do
   i ← number_at 256 (after t)
   a ← ack_at i.1
   r ← set_at a.1
   x ← number_at (2 ^ 32) r.1
   l ← number_at (2 ^ 32) x.1
-  Some (record { ifaces = i.0; ack = a.0; reporting = r.0; tx_capacity = x.0; limit = l.0 })
+  n ← auto_restart_at v l.1
+  Some (record { ifaces = i.0; ack = a.0; reporting = r.0; tx_capacity = x.0; limit = l.0; auto_restart = n.0 })

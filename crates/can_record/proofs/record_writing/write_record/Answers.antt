@@ -1,4 +1,4 @@
-use Rattle.std.proofs.Common.{◌≡◌, ◌++◌, ◌∙◌, [], refl, ap, subst}
+use Rattle.std.proofs.Common.{◌≡◌, ◌++◌, ◌∙◌, [], refl, ap, reverse, subst}
 use Rattle.std.specs.Io.KnownBytes.{Appends}
 use Rattle.can_record.specs.Spelling.{spell, end_words, entry_lines}
 use Rattle.can_record.proofs.Again.{kept}
@@ -13,11 +13,10 @@ returns g c =
     let w2 = g.W.Write.contents c.write_lines.new.writer in
     let w3 = g.W.Write.contents c.write_all-2.new.self in
     let front = c.deref.result.now in
-    let lines = entry_lines c.entries.result.now [] in
+    let lines = entry_lines (reverse c.args.record.now.history) [] in
     let last = c.deref-2.result.now in
     let end : last ≡ spell (end_words c.len.result) [] = c.deref-2.ensures.value ∙ kept c.clear.new.self.items c.put_end.new.out.items (spell (end_words c.len.result) []) c.clear.ensures.items c.in_ok-put_end.ensures in
     subst (Appends w0 w3)
-    (text_written c.new-line.result.items c.extend_from_slice.new.self.items front (front ++ lines) ((front ++ lines) ++ last) _ _ _ _ _ c.new-line.ensures.items
-    c.in_ok-extend_from_slice.ensures.items (c.deref.ensures.value ∙ c.in_ok-put_bus.ensures) refl (ap (λ x. (front ++ lines) ++ x) end)
-    c.config.ensures.config c.entries.ensures.entries c.len.ensures)
+    (text_written c.new-line.result.items front (front ++ lines) ((front ++ lines) ++ last) c.config.result c.args.record.now.config (reverse c.args.record.now.history) c.args.record.now.history c.len.result c.new-line.ensures.items
+    (c.deref.ensures.value ∙ c.in_ok-put_front.ensures) refl (ap (λ x. (front ++ lines) ++ x) end) c.config.ensures.config refl c.len.ensures)
     (Appends-then w0 w2 w3 (front ++ lines) last (Appends-then w0 w1 w2 front lines c.in_ok-write_all.ensures.bytes c.in_ok-write_lines.ensures) c.in_ok-write_all-2.ensures.bytes)

@@ -7,7 +7,7 @@ use Rattle.can_record.specs.Values.{HasLine}
 use Rattle.can_record.proofs.text_laws.hold_lines.Goals as goal
 
 pub loop-entry-preserved : goal.loop-entry-preserved
-loop-entry-preserved c = All-more HasLine c.args.entries.now c.loop-entry.entry-index c.entry-item.result c.loop-entry-test.true c.loop-entry.invariant (subst HasLine c.entry-item.is c.hold_line.ensures)
+loop-entry-preserved c = All-more (HasLine c.args.config) c.args.entries.now c.loop-entry.entry-index c.entry-item.result c.loop-entry-test.true c.loop-entry.invariant (subst (HasLine c.args.config) c.entry-item.is c.hold_line.ensures)
 
 pub returns : goal.returns
-returns c = subst (λ (xs : List Entry). All HasLine xs) (take_all c.loop-entry.entry-index c.args.entries.now c.loop-entry-test.false) c.loop-entry.invariant
+returns c = subst (λ (xs : List Entry). All (HasLine c.args.config) xs) (take_all c.loop-entry.entry-index c.args.entries.now c.loop-entry-test.false) c.loop-entry.invariant
