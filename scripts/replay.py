@@ -1,5 +1,6 @@
 """What an audit has to say of a record's text, by a replay that shares nothing with canbusd but docs/RECORD.md and the
-rules of the bus. It is written to be read, not to be fast."""
+rules of the bus, and nothing with contrib/canbusd_tools, which has a replay of its own. It is written to be read, not to
+be fast."""
 
 import re
 
@@ -19,7 +20,7 @@ LINES = {
     "send": (rf"({DECIMAL}) ({FRAME})", rf"number {DECIMAL}"),
     "receive": (rf"({DECIMAL})", rf"none|data {DECIMAL} {DECIMAL} {FRAME} {MOMENT}|error {DECIMAL} {ERROR_FRAME} {MOMENT}"),
     "attempt": (rf"({MOMENT}) ({VERDICT})",
-                rf"idle|tried {DECIMAL} {DECIMAL} {FRAME} (?:done|lastbit|destroyed|noack) {SET} {SET}"),
+                rf"(?:idle|tried {DECIMAL} {DECIMAL} {FRAME} (?:done|lastbit|destroyed|noack) {SET} {SET})(?: restarted {SET})?"),
     "restart": (rf"({DECIMAL}) ({MOMENT})", "ok"),
 }
 # The numbers of a line that are interfaces, sockets or capacities, with the least that is too large.
@@ -36,11 +37,14 @@ def verdict_on(data):
         text = data.decode()
     except UnicodeDecodeError:
         return "canbusd: read fault"
-    if not text.startswith("canbus record 1\n"):
+    if not text.startswith(("canbus record 1\n", "canbus record 2\n")):
         return "canbusd: bad version"
     lines = text.split("\n")
-    bus = re.fullmatch(rf"bus ({DECIMAL}) (always|peers) ({SET}) ({DECIMAL}) ({DECIMAL})", lines[1])
+    bus = re.fullmatch(rf"bus ({DECIMAL}) (always|peers) ({SET}) ({DECIMAL}) ({DECIMAL})(?: ({DECIMAL}))?", lines[1])
     if not bus or len(lines) < 3 or not (1 <= int(bus[1]) <= 16 and 1 <= int(bus[4]) <= 1024 and 1 <= int(bus[5]) <= 2**24):
+        return "canbusd: line 2: bad line"
+    # Version 2 has an N, of at least 1, and version 1 has none.
+    if not (1 <= int(bus[6] or 0) <= 1000000 if lines[0].endswith("2") else bus[6] is None):
         return "canbusd: line 2: bad line"
     entries = []
     for number, line in enumerate(lines[2:], 3):
@@ -51,7 +55,7 @@ def verdict_on(data):
                 return f"canbusd: line {number + 1}: bad line"
             return audit(Bus(*bus.groups()), entries, int(bus[5]))
         entry = read_entry(line) if is_whole else None
-        if entry is None:
+        if entry is None or " restarted " in entry[2] and (bus[6] is None or entry[2].endswith(" 0000")):
             return f"canbusd: line {number}: bad line"
         entries.append(entry)
     raise AssertionError("the last piece is no whole line")
@@ -122,6 +126,8 @@ def error_frame(error_class, **places):
 class Interface:
     def __init__(self):
         self.sent, self.gone, self.tec, self.rec = [], 0, 0, 0
+        # The number of the attempt in which it is restarted, where one is known.
+        self.back_in = None
 
     def state(self):
         if self.tec >= 256:
@@ -173,10 +179,11 @@ class Socket:
 class Bus:
     """Each event is a method, whose answer is the one legal reply."""
 
-    def __init__(self, interfaces, mode, reporting, capacity, _limit):
+    def __init__(self, interfaces, mode, reporting, capacity, _limit, restart_after):
         self.interfaces = [Interface() for _ in range(int(interfaces))]
         self.always, self.reporting, self.capacity = mode == "always", int(reporting, 16), int(capacity)
         self.sockets, self.opened = {}, 0
+        self.restart_after, self.attempts = int(restart_after or 0), 0
 
     def open(self, interface, capacity):
         if int(interface) >= len(self.interfaces):
@@ -230,11 +237,23 @@ class Bus:
         interface = self.interfaces[int(number)]
         if interface.is_live():
             return "not-bus-off"
-        interface.tec = interface.rec = 0
-        self.post_error(int(number), error_frame(0x100), moment)
+        self.bring_back(int(number), moment)
         return "ok"
 
+    def bring_back(self, number, moment):
+        interface = self.interfaces[number]
+        interface.tec, interface.rec, interface.back_in = 0, 0, None
+        self.post_error(number, error_frame(0x100), moment)
+
     def attempt(self, moment, verdict):
+        reply = self.try_head(moment, verdict)
+        back = [number for number, one in enumerate(self.interfaces) if one.back_in == self.attempts]
+        for number in back:
+            self.bring_back(number, moment)
+        self.attempts += 1
+        return f"{reply} restarted {names_of(back)}" if back else reply
+
+    def try_head(self, moment, verdict):
         heads = [(bits(one.sent[one.gone][0]), number) for number, one in enumerate(self.interfaces) if one.has_head()]
         if not heads:
             return "idle"
@@ -251,6 +270,7 @@ class Bus:
             sender.gone += 1
         if not sender.is_live():
             sender.gone = len(sender.sent)
+            sender.back_in = self.attempts + self.restart_after if self.restart_after else None
         for number in sorted(accepted + ([winner] if outcome == "done" and is_looped else [])):
             self.post_frame(number, f"data {winner} {place} {frame} {moment}", word_of(frame), socket)
         for number, one in enumerate(self.interfaces):

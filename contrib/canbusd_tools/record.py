@@ -6,7 +6,6 @@ import re
 from canbusd_tools.frames import ERROR_FRAME, FRAME
 from canbusd_tools.words import NAME, shown
 
-FIRST_LINE = "canbus record 1"
 IFACE = "(?:1[0-5]|[0-9])"
 NUMBER = "(?:0|[1-9][0-9]{0,19})"
 SET = "[0-9A-F]{4}"
@@ -17,25 +16,36 @@ MOMENT = r"(?:0|[1-9][0-9]{0,9})\.[0-9]{6}"
 VERDICT = f"(?:good|global-bit|global-form|lastbit|local-(?:stuff|crc|form):{SET})"
 REFUSAL = "no-interface|bad-capacity|too-many-sockets|no-socket|bus-off|no-buffers|not-bus-off"
 
-BUS = re.compile(f"bus ({NUMBER}) (always|peers) ({SET}) ({NUMBER}) ({NUMBER})")
+BUS = f"bus ({NUMBER}) (always|peers) ({SET}) ({NUMBER}) ({NUMBER})"
+RESTARTED = f"(?: restarted (?!0000){SET})?"
 END = re.compile(f"end ({NUMBER})")
-# For each kind of event its words, and its replies besides refusals.
-ENTRIES = {
-    kind: re.compile(f"{kind} {event} = (?:{reply}|{REFUSAL})")
-    for kind, event, reply in [
-        ("open", f"{IFACE} {NUMBER}", f"socket {NUMBER}"),
-        ("close", NUMBER, f"closed {NUMBER} {NUMBER}"),
-        ("filters", f"{NUMBER} {NUMBER}(?: {WORD} {MASK})*", "ok"),
-        ("option", f"{NUMBER} (?:(?:loopback|recvown|join) [01]|errmask {WORD})", "ok"),
-        ("send", f"{NUMBER} {FRAME}", f"number {NUMBER}"),
-        ("receive", NUMBER, f"none|data {IFACE} {NUMBER} {FRAME} {MOMENT}|error {IFACE} {ERROR_FRAME} {MOMENT}"),
-        (
-            "attempt",
-            f"{MOMENT} {VERDICT}",
-            f"idle|tried {IFACE} {NUMBER} {FRAME} (?:done|lastbit|destroyed|noack) {SET} {SET}",
-        ),
-        ("restart", f"{IFACE} {MOMENT}", "ok"),
-    ]
+
+
+class Version:
+    """A version of the text: the line of its bus, and for each kind of event its words and its replies."""
+
+    def __init__(self, bus, restarted):
+        attempted = f"(?:idle|tried {IFACE} {NUMBER} {FRAME} (?:done|lastbit|destroyed|noack) {SET} {SET}){restarted}"
+        self.bus = re.compile(bus)
+        self.entries = {
+            kind: re.compile(f"{kind} {event} = (?:{reply}|{REFUSAL})")
+            for kind, event, reply in [
+                ("open", f"{IFACE} {NUMBER}", f"socket {NUMBER}"),
+                ("close", NUMBER, f"closed {NUMBER} {NUMBER}"),
+                ("filters", f"{NUMBER} {NUMBER}(?: {WORD} {MASK})*", "ok"),
+                ("option", f"{NUMBER} (?:(?:loopback|recvown|join) [01]|errmask {WORD})", "ok"),
+                ("send", f"{NUMBER} {FRAME}", f"number {NUMBER}"),
+                ("receive", NUMBER, f"none|data {IFACE} {NUMBER} {FRAME} {MOMENT}|error {IFACE} {ERROR_FRAME} {MOMENT}"),
+                ("attempt", f"{MOMENT} {VERDICT}", attempted),
+                ("restart", f"{IFACE} {MOMENT}", "ok"),
+            ]
+        }
+
+
+# By the first line. From version 2 on a number behind the limit says after how many attempts interfaces are restarted.
+VERSIONS = {
+    "canbus record 1": Version(BUS, ""),
+    "canbus record 2": Version(f"{BUS} ([1-9][0-9]{{0,6}})", RESTARTED),
 }
 
 
@@ -46,12 +56,14 @@ class BadRecord(Exception):
 class Record:
     """A bus's configuration, and the lines of its entries."""
 
-    def __init__(self, ifaces, always, reporting, tx_capacity, limit, lines):
+    def __init__(self, ifaces, always, reporting, tx_capacity, limit, auto_restart, lines):
         self.ifaces = ifaces
         self.always = always
         self.reporting = reporting
         self.tx_capacity = tx_capacity
         self.limit = limit
+        # 0 where no interface is restarted automatically.
+        self.auto_restart = auto_restart
         self.lines = lines
 
     def entries(self):
@@ -65,8 +77,8 @@ def read_record(path):
     """The record in this file."""
     with open(path, "rb") as file:
         text = file.read()
-    if not text.startswith(f"{FIRST_LINE}\n".encode()):
-        raise BadRecord(f"no record: its first line is not `{FIRST_LINE}`")
+    if not any(text.startswith(f"{line}\n".encode()) for line in VERSIONS):
+        raise BadRecord(f"no record: its first line is not {' or '.join(f'`{line}`' for line in VERSIONS)}")
     lines = text.decode("ascii", "replace").split("\n")
     # What follows the last LF, which is nothing.
     tail = lines.pop()
@@ -79,9 +91,10 @@ def read_lines(lines):
     """The record that these lines spell."""
     if len(lines) < 2:
         raise BadRecord("cut off behind its first line")
-    bus = bus_of(lines[1])
+    version = VERSIONS[lines[0]]
+    bus = bus_of(version, lines[1])
     for number, line in enumerate(lines[2:], 3):
-        entry = ENTRIES.get(line.split(" ", 1)[0])
+        entry = version.entries.get(line.split(" ", 1)[0])
         if entry is None:
             break
         if not entry.fullmatch(line) or (line.startswith("filters ") and not has_its_filters(line)):
@@ -104,15 +117,15 @@ def has_its_filters(line):
     return len(words) == 3 + 2 * int(words[2])
 
 
-def bus_of(line):
+def bus_of(version, line):
     """What the line of the bus says."""
-    words = BUS.fullmatch(line)
+    words = version.bus.fullmatch(line)
     if not words:
         raise BadRecord(f"line 2: no bus: {shown(line)}")
-    ifaces, tx_capacity, limit = int(words[1]), int(words[4]), int(words[5])
-    if not (1 <= ifaces <= 16 and 1 <= tx_capacity <= 1024 and 1 <= limit <= 1 << 24):
+    ifaces, tx_capacity, limit, auto_restart = int(words[1]), *map(int, [*words.groups()[3:], 0][:3])
+    if not (1 <= ifaces <= 16 and 1 <= tx_capacity <= 1024 and 1 <= limit <= 1 << 24 and auto_restart <= 1000000):
         raise BadRecord(f"line 2: a number out of range: {shown(line)}")
-    return ifaces, words[2] == "always", int(words[3], 16), tx_capacity, limit
+    return ifaces, words[2] == "always", int(words[3], 16), tx_capacity, limit, auto_restart
 
 
 def log_beside(path):

@@ -1,6 +1,7 @@
 """Replays the events of a record by the rules of docs/DEFINITIONS.md, and keeps what there is to draw.
 
-The program is not asked. Each reply is compared with the one that the rules give.
+The program is not asked. Each reply is compared with the one that the rules give. scripts/replay.py, which the checks of
+the audit use, is another replay that shares nothing with this one: both are to stay.
 """
 
 from collections import deque
@@ -75,6 +76,8 @@ class Interface:
         self.tec = self.rec = 0
         self.waiting = deque()
         self.sent = self.done = self.lost = self.refused = 0
+        # How many attempts there were since it went bus off; None where it is not off.
+        self.attempts_off = None
 
     def is_off(self):
         return self.tec >= OFF
@@ -87,6 +90,7 @@ class Interface:
 
     def restart(self):
         self.tec = self.rec = 0
+        self.attempts_off = None
 
     def receive_error(self):
         self.rec = min(self.rec + 1, 255)
@@ -96,7 +100,10 @@ class Interface:
 
 
 class Step:
-    """A tried attempt or a restart: `kind` is done, lastbit, destroyed, noack or restart."""
+    """A tried attempt or a restart: `kind` is done, lastbit, destroyed, noack or restart.
+
+    An attempt that restarts interfaces is followed by a step for each, with the same entry.
+    """
 
     __slots__ = (
         "kind",
@@ -236,15 +243,35 @@ class Run:
             return ["no-interface"]
         if not self.ifaces[number].is_off():
             return ["not-bus-off"]
+        self.restart(entry, number, moment)
+        return ["ok"]
+
+    def restart(self, entry, number, moment):
         step = self.begin(Step("restart", entry, moment, number))
         self.ifaces[number].restart()
         self.post_error(number, 0x100, bytes(8))
         self.end(step)
-        return ["ok"]
 
     # Attempts.
 
     def on_attempt(self, entry, moment, verdict):
+        due = self.count_attempt()
+        reply = self.attempt(entry, moment, verdict)
+        for number in due:
+            self.restart(entry, number, moment)
+        return [*reply, "restarted", shown(due)] if due else reply
+
+    def count_attempt(self):
+        """One attempt more for each interface that is off; those that it restarts in the end."""
+        due = []
+        for number, iface in enumerate(self.ifaces):
+            if iface.attempts_off is not None:
+                iface.attempts_off += 1
+                if iface.attempts_off == self.record.auto_restart:
+                    due.append(number)
+        return due
+
+    def attempt(self, entry, moment, verdict):
         contenders = [
             (number, iface.waiting[0].frame)
             for number, iface in enumerate(self.ifaces)
@@ -302,6 +329,7 @@ class Run:
         if step.off:
             winner.lost += len(winner.waiting)
             winner.waiting.clear()
+            winner.attempts_off = 0
 
     def post_frame(self, step, sent):
         """Puts the frame to the sockets where it was accepted, and looped back."""

@@ -31,6 +31,10 @@ filters_of fs out mid new front back = back ∙ rw (front, filters_words fs) (ap
 pub two_words : (out mid new a b : List ℕ) → mid ≡ out ++ (a ++ 32 ∷ []) → new ≡ mid ++ (b ++ 32 ∷ []) → new ≡ out ++ spaced (a ∷ b ∷ [])
 two_words out mid new a b front back = back ∙ rw (front) (append_assoc out (a ++ 32 ∷ []) (b ++ 32 ∷ []) ∙ ap (λ (x : List ℕ). out ++ ((a ++ 32 ∷ []) ++ x)) (sym (append-nil (b ++ 32 ∷ []))))
 
+-- a word, the byte that ends it, and what follows
+pub last_word : (out mid new w rest : List ℕ) (g h : ℕ) → mid ≡ out ++ (w ++ g ∷ []) → g ≡ h → new ≡ mid ++ rest → new ≡ out ++ (w ++ h ∷ rest)
+last_word out mid new w rest g h front gap back = back ∙ rw (front, gap) (append_assoc out (w ++ h ∷ []) rest ∙ ap (λ (x : List ℕ). out ++ x) (append_assoc w (h ∷ []) rest))
+
 -- ---- a line's parts
 
 -- a reply has words

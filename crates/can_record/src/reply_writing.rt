@@ -1,5 +1,5 @@
 ghost use Rattle.std.specs.Prelude.{◌≡◌, ◌++◌, ◌∷◌, [], decimal, OnOk};
-ghost use Rattle.can_record.specs.Spelling.{gap_before, spell, reply_words, received_words, refusal_words, restarted_words};
+ghost use Rattle.can_record.specs.Spelling.{gap_before, spell, reply_words, received_words, refusal_words, restarted_words, set_word};
 ghost use Rattle.can_bus.specs.declared.events.Reply.TheVariants as reply;
 
 use crate::writing::{put_count, put_item, put_moment, put_set, put_word};
@@ -28,10 +28,7 @@ pub fn put_reply(out: &mut Vec<u8>, reply: &Reply) -> Result<(), AllocError>
         }
         Reply::Received(None) => put_word(out, b"none", b'\n')?,
         Reply::Received(Some(received)) => put_received(out, received)?,
-        Reply::Idle(restarted) => {
-            put_word(out, b"idle", gap_before(*restarted))?;
-            put_restarted(out, *restarted)?;
-        }
+        Reply::Idle(restarted) => put_idle(out, *restarted)?,
         Reply::Tried(tried) => put_tried(out, tried)?,
         Reply::Refused(why) => put_refusal(out, *why)?,
     }
@@ -68,8 +65,25 @@ fn put_tried(out: &mut Vec<u8>, tried: &Tried) -> Result<(), AllocError>
     put_item(out, &Item::Data(tried.frame), b' ')?;
     put_word(out, tried.class.word(), b' ')?;
     put_set(out, tried.accepted, b' ')?;
-    put_set(out, tried.off, gap_before(tried.restarted))?;
-    put_restarted(out, tried.restarted)
+    put_off(out, tried.off, tried.restarted)
+}
+
+/// The end of the line of an attempt that tried nothing.
+#[tactic(auto, using(crate::proofs::Written::last_word))]
+fn put_idle(out: &mut Vec<u8>, restarted: IfaceSet) -> Result<(), AllocError>
+    ensures { OnOk result (out.new.items ≡ out.old.items ++ spell (reply_words (reply.Idle restarted)) []) }
+{
+    put_word(out, b"idle", gap_before(restarted))?;
+    put_restarted(out, restarted)
+}
+
+/// The interfaces that went off and those that were restarted, and the end of the line.
+#[tactic(auto, using(crate::proofs::Written::last_word))]
+fn put_off(out: &mut Vec<u8>, off: IfaceSet, restarted: IfaceSet) -> Result<(), AllocError>
+    ensures { OnOk result (out.new.items ≡ out.old.items ++ spell (set_word off ∷ restarted_words restarted) []) }
+{
+    put_set(out, off, gap_before(restarted))?;
+    put_restarted(out, restarted)
 }
 
 /// What ends the word before the interfaces that an attempt restarted: the line's end where there are none.

@@ -40,7 +40,7 @@ answers c past e (reply.Closed k) h memory = noted c past e _ h.0 h.1 refl
 answers c past e reply.Done h memory = noted c past e _ h.0 h.1 refl
 answers c past e (reply.Sent n) h memory = noted c past e _ h.0 h.1 refl
 answers c past e (reply.Received x) h memory = noted c past e _ h.0 h.1 refl
-answers c past e reply.Idle h memory = noted c past e _ h.0 h.1 refl
+answers c past e (reply.Idle set) h memory = noted c past e _ h.0 h.1 refl
 answers c past e (reply.Tried t) h memory = noted c past e _ h.0 h.1 refl
 
 pub answers_all : (c : BusConfig) (past : List Entry) (es : List Event) (rs : List Reply) → AreAnswers c past es rs → All (λ r. r ≢ reply.Refused refusal.NoMemory) rs → rs ≡ replies_after c past es

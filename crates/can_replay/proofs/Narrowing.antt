@@ -18,8 +18,9 @@ use Rattle.can_bus.specs.declared.events.Refusal.TheVariants as refusal
 use Rattle.can_bus.specs.Sockets.{is_open, iface_of, capacity_of, filters_of, options_of}
 use Rattle.can_bus.specs.Transmit.{sent_by, gone_count, head_of}
 use Rattle.can_bus.specs.Counters.{sending, steps_after, steps_of, counts_of}
+use Rattle.can_bus.specs.AutoRestart.{restarted_next}
 use Rattle.can_bus.specs.Attempts.{beats, winner, attempt_reply, tried_head}
-use Rattle.can_bus.specs.Posts.{Post, posts_of, attempt_posts}
+use Rattle.can_bus.specs.Posts.{Post, posts_of, attempt_posts, auto_restart_posts}
 use Rattle.can_bus.specs.Queues.{passing, candidates_of, queued_to, dropped_at, taken_from}
 use Rattle.can_bus.specs.Legal.{legal_reply, if_open, IsLegal}
 use Rattle.can_replay.specs.Audits.{IsFirstWrong, IsToldWrong, allowed}
@@ -35,6 +36,7 @@ narrow c n = record c { limit = n }
 
 steps_after-narrow : (c : BusConfig) (n : ℕ) (e : Event) (r : Reply) (k : ℕ → ErrorCounts) (i : ℕ) (ss : List Step) → steps_after (narrow c n) e r k i ss ≡ steps_after c e r k i ss
 steps_after-narrow c n (Attempt m v) (reply.Tried t) k i ss = refl
+steps_after-narrow c n (Attempt m v) (reply.Idle restarted) k i ss = refl
 steps_after-narrow c n (Restart j m) reply.Done k i ss = refl
 steps_after-narrow c n _ _ k i ss = refl
 
@@ -50,7 +52,8 @@ counts-narrow c n past = fun_ext (λ i. ap (λ (f : ℕ → List Step). all_step
 -- ---- receive queues
 
 posts-narrow : (c : BusConfig) (n : ℕ) (past : List Entry) (i : ℕ) (e : Event) (r : Reply) → posts_of (narrow c n) past i e r ≡ posts_of c past i e r
-posts-narrow c n past i (Attempt m v) (reply.Tried t) = ap (λ (k : ℕ → ErrorCounts). attempt_posts c.reporting (sending c k t.winner v) t (slice_get (sent_by past t.winner) t.number) i) (counts-narrow c n past)
+posts-narrow c n past i (Attempt m v) (reply.Tried t) = ap (λ (k : ℕ → ErrorCounts). attempt_posts c.reporting (sending c k t.winner v) t (slice_get (sent_by past t.winner) t.number) i ++ auto_restart_posts t.restarted m i) (counts-narrow c n past)
+posts-narrow c n past i (Attempt m v) (reply.Idle restarted) = refl
 posts-narrow c n past i (Restart k m) reply.Done = refl
 posts-narrow c n past i _ _ = refl
 
@@ -93,6 +96,7 @@ tried_by c past m v w p k =
       class = class_of t;
       accepted = set_of (accepted_in (class_of t) t);
       off = set_of (off_after t);
+      restarted = restarted_next c past;
     })
 
 tried-narrow : (c : BusConfig) (n : ℕ) (past : List Entry) (m : ℕ) (v : Verdict) (w : ℕ) (p : Option Pending) → tried_head (narrow c n) past m v w p ≡ tried_head c past m v w p

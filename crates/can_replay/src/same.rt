@@ -57,6 +57,7 @@ fn same_tried(one: &Tried, other: &Tried) -> bool
         && one.class == other.class
         && one.accepted.0 == other.accepted.0
         && one.off.0 == other.off.0
+        && one.restarted.0 == other.restarted.0
 }
 
 fn same_closed(one: &Closed, other: &Closed) -> bool
@@ -87,7 +88,10 @@ pub(crate) fn same_reply(one: &Reply, other: &Reply) -> bool
             Reply::Received(more) => same_taken(taken, more),
             _ => false,
         },
-        Reply::Idle => matches!(other, Reply::Idle),
+        Reply::Idle(restarted) => match other {
+            Reply::Idle(more) => restarted.0 == more.0,
+            _ => false,
+        },
         Reply::Tried(tried) => match other {
             Reply::Tried(more) => same_tried(tried, more),
             _ => false,
