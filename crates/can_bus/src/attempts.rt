@@ -36,7 +36,7 @@ fn tried_as(
 }
 
 /// The error counters, of which those of these interfaces begin anew.
-fn begun_anew(nodes: &Nodes, restarted: IfaceSet) -> [Counters; 16]
+pub fn begun_anew(nodes: &Nodes, restarted: IfaceSet) -> [Counters; 16]
     ensures { result ≡ (begun_anew restarted nodes.now).counters }
 {
     let mut counters = nodes.counters;

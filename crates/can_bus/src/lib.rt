@@ -24,6 +24,7 @@ pub mod spelled;
 mod state;
 pub mod stats;
 
+pub use attempts::begun_anew;
 pub use buses::{Bus, BusFault, ListBus, RingBus};
 pub use events::{
     Attempt, BusConfig, Closed, Entry, Event, Opt, Pending, Received, Refusal, Reply, SocketId, Tried,

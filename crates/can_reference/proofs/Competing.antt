@@ -12,6 +12,8 @@ use Rattle.can_bus.specs.declared.events.Entry.{Entry}
 use Rattle.can_bus.specs.declared.events.Pending.{Pending}
 use Rattle.can_bus.specs.declared.events.Reply.{Reply}
 use Rattle.can_bus.specs.declared.events.Reply.TheVariants as reply
+use Rattle.can_frame.specs.declared.ifaces.IfaceSet.{IfaceSet}
+use Rattle.can_bus.specs.AutoRestart.{restarted_next}
 use Rattle.can_bus.specs.Attempts.{winner, attempt_reply, tried_head}
 use Rattle.can_bus.specs.State.{key_in, kept_keys, kept_nodes}
 use Rattle.can_bus.specs.Transmit.{head_of, gone_count}
@@ -46,15 +48,16 @@ pub winner-of : (c : BusConfig) (past : List Entry) (w : Option ℕ) → IsHisto
 winner-of c past None h first none = sym (idle-is c past h.proper.few_ifaces (none refl))
 winner-of c past (Some i) h first none = sym (winner-is c past h.legal h.proper.few_ifaces i first)
 
-abbrev tried_by : ℕ → ℕ → ℕ → Pending → Judgement → Reply
-tried_by m w n p j = reply.Tried (record { moment = m; winner = w; number = n; frame = p.frame; class = j.class; accepted = j.accepted; off = j.off })
+abbrev tried_by : ℕ → ℕ → ℕ → Pending → IfaceSet → Judgement → Reply
+tried_by m w n p set j = reply.Tried (record { moment = m; winner = w; number = n; frame = p.frame; class = j.class; accepted = j.accepted; off = j.off; restarted = set })
 
-pub tried-is : (c : BusConfig) (past : List Entry) (m : ℕ) (v : Verdict) (w : ℕ) (p : Pending) (n : ℕ) (nodes : Nodes) (j : Judgement) → IsHistory c past
+pub tried-is : (c : BusConfig) (past : List Entry) (m : ℕ) (v : Verdict) (w : ℕ) (p : Pending) (n : ℕ) (nodes : Nodes) (j : Judgement) (set : IfaceSet) → IsHistory c past → set ≡ restarted_next c past
     → winner c past ≡ Some w → head_of past w ≡ Some p → n ≡ gone_count past w → nodes ≡ kept_nodes c past → j ≡ judged (attempt_between nodes w v c.ack)
-    → tried_by m w n p j ≡ attempt_reply c past m v (winner c past)
-tried-is c past m v w p n nodes j h won head number are judges =
-    ap (λ (k : ℕ). tried_by m w k p j) number
-    ∙ ap (λ (k : Judgement). tried_by m w (gone_count past w) p k) (judges ∙ ap (λ (q : Nodes). judged (attempt_between q w v c.ack)) are ∙ ap judged (between-is c past w v h.legal h.proper.few_ifaces))
+    → tried_by m w n p set j ≡ attempt_reply c past m v (winner c past)
+tried-is c past m v w p n nodes j set h restarts won head number are judges =
+    ap (λ (k : ℕ). tried_by m w k p set j) number
+    ∙ ap (λ (s : IfaceSet). tried_by m w (gone_count past w) p s j) restarts
+    ∙ ap (λ (k : Judgement). tried_by m w (gone_count past w) p (restarted_next c past) k) (judges ∙ ap (λ (q : Nodes). judged (attempt_between q w v c.ack)) are ∙ ap judged (between-is c past w v h.legal h.proper.few_ifaces))
     ∙ ap (tried_head c past m v w) (sym head)
     ∙ ap (attempt_reply c past m v) (sym won)
 

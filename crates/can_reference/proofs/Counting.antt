@@ -14,6 +14,9 @@ use Rattle.can_bus.specs.declared.events.Reply.{Reply}
 use Rattle.can_bus.specs.declared.events.Reply.TheVariants as reply
 use Rattle.can_bus.specs.declared.events.Refusal.TheVariants as refusal
 use Rattle.can_bus.specs.declared.events.Tried.{Tried}
+use Rattle.can_frame.specs.declared.ifaces.IfaceSet.{IfaceSet}
+use Rattle.can_frame.specs.Sets.{is_in}
+use Rattle.can_bus.specs.Changes.{begun_anew}
 use Rattle.can_bus.specs.Counters.{counts_of, steps_of, state_at, transmission}
 use Rattle.can_bus.specs.Legal.{legal_reply}
 use Rattle.can_bus.specs.State.{kept_nodes}
@@ -54,21 +57,50 @@ earlier c e past h = record { proper = h.proper; legal = h.legal.2 }
 
 -- ---- what an entry leaves
 
-counts-tried : (c : BusConfig) (past : List Entry) (m : ℕ) (v : Verdict) (t : Tried) (i : ℕ) → counts_of c (record { event = Attempt m v; reply = reply.Tried t } ∷ past) i ≡ counts_after (transmission c past t.winner v) i
-counts-tried c past m v t i = all_stepped-append at_start (steps_of c past i) (steps_at i (transmission c past t.winner v))
+counts-tried : (c : BusConfig) (past : List Entry) (m : ℕ) (v : Verdict) (t : Tried) (i : ℕ)
+    → counts_of c (record { event = Attempt m v; reply = reply.Tried t } ∷ past) i ≡ (if is_in i t.restarted then at_start else counts_after (transmission c past t.winner v) i)
+counts-tried c past m v t i = when (is_in i t.restarted)
+  where
+    when : (b : Bool) → all_stepped at_start (if b then [] else steps_of c past i ++ steps_at i (transmission c past t.winner v)) ≡ (if b then at_start else counts_after (transmission c past t.winner v) i)
+    when true = refl
+    when false = all_stepped-append at_start (steps_of c past i) (steps_at i (transmission c past t.winner v))
+
+counts-idle : (c : BusConfig) (past : List Entry) (m : ℕ) (v : Verdict) (set : IfaceSet) (i : ℕ)
+    → counts_of c (record { event = Attempt m v; reply = reply.Idle set } ∷ past) i ≡ (if is_in i set then at_start else counts_of c past i)
+counts-idle c past m v set i = when (is_in i set)
+  where
+    when : (b : Bool) → all_stepped at_start (if b then [] else steps_of c past i) ≡ (if b then at_start else counts_of c past i)
+    when true = refl
+    when false = refl
+
+-- the counts of some interfaces begin anew
+anew : (n : ℕ) (set : IfaceSet) (f : ℕ → ErrorCounts)
+    → begun_anew set (record { count = n; counters = map f (range_with_len 0 16) }) ≡ record { count = n; counters = map (λ i. if is_in i set then at_start else f i) (range_with_len 0 16) }
+anew n set f = refl
 
 map_all : (f g : ℕ → ErrorCounts) (xs : List ℕ) → ((i : ℕ) → f i ≡ g i) → map f xs ≡ map g xs
 map_all f g xs same = ap (λ (h : ℕ → ErrorCounts). map h xs) (fun_ext same)
 
 nodes-tried : (c : BusConfig) (past : List Entry) (m : ℕ) (v : Verdict) (t : Tried) (old new : Nodes) → IsHistory c past → old ≡ kept_nodes c past
-    → new ≡ record old { counters = (judged (attempt_between old t.winner v c.ack)).counters }
+    → new ≡ begun_anew t.restarted (record old { counters = (judged (attempt_between old t.winner v c.ack)).counters })
     → new ≡ kept_nodes c (record { event = Attempt m v; reply = reply.Tried t } ∷ past)
 unfolding kept_nodes
 nodes-tried c past m v t old new h are after =
     after
-    ∙ ap (λ (n : Nodes). record n { counters = (judged (attempt_between n t.winner v c.ack)).counters }) are
-    ∙ ap (λ (tr : Transmission). record { count = c.ifaces; counters = (judged tr).counters }) (between-is c past t.winner v h.legal h.proper.few_ifaces)
-    ∙ ap (λ (cs : List ErrorCounts). record { count = c.ifaces; counters = cs }) (map_all (counts_after (transmission c past t.winner v)) (counts_of c (record { event = Attempt m v; reply = reply.Tried t } ∷ past)) (range_with_len 0 16) (λ i. sym (counts-tried c past m v t i)))
+    ∙ ap (λ (n : Nodes). begun_anew t.restarted (record n { counters = (judged (attempt_between n t.winner v c.ack)).counters })) are
+    ∙ ap (λ (tr : Transmission). begun_anew t.restarted (record { count = c.ifaces; counters = (judged tr).counters })) (between-is c past t.winner v h.legal h.proper.few_ifaces)
+    ∙ anew c.ifaces t.restarted (counts_after (transmission c past t.winner v))
+    ∙ ap (λ (cs : List ErrorCounts). record { count = c.ifaces; counters = cs })
+    (map_all (λ i. if is_in i t.restarted then at_start else counts_after (transmission c past t.winner v) i) (counts_of c (record { event = Attempt m v; reply = reply.Tried t } ∷ past)) (range_with_len 0 16) (λ i. sym (counts-tried c past m v t i)))
+
+nodes-idle : (c : BusConfig) (past : List Entry) (m : ℕ) (v : Verdict) (set : IfaceSet) (old new : Nodes) → old ≡ kept_nodes c past → new ≡ begun_anew set old → new ≡ kept_nodes c (record { event = Attempt m v; reply = reply.Idle set } ∷ past)
+unfolding kept_nodes
+nodes-idle c past m v set old new are after =
+    after
+    ∙ ap (begun_anew set) are
+    ∙ anew c.ifaces set (counts_of c past)
+    ∙ ap (λ (cs : List ErrorCounts). record { count = c.ifaces; counters = cs })
+    (map_all (λ i. if is_in i set then at_start else counts_of c past i) (counts_of c (record { event = Attempt m v; reply = reply.Idle set } ∷ past)) (range_with_len 0 16) (λ i. sym (counts-idle c past m v set i)))
 
 counts-restarted : (c : BusConfig) (past : List Entry) (i m : ℕ) → counts_of c (record { event = Restart i m; reply = reply.Done } ∷ past) i ≡ at_start
 counts-restarted c past i m = ap (λ (ss : List Step). all_stepped at_start ss) (cond-true (i == i) [] (steps_of c past i) (eq-eqb i i refl))
@@ -103,6 +135,7 @@ pub counted-kept : (c : BusConfig) (past : List Entry) (e : Event) (r : Reply) (
 unfolding kept_nodes
 counted-kept c past e (reply.Tried t) old new h law are counted = tried-law c past e t old new h law are counted
 counted-kept c past (Restart i m) reply.Done old new h law are counted = nodes-restarted c past i m old new (omega (arith, restart-below c past i m law, h.proper.few_ifaces)) are counted
+counted-kept c past (Attempt m v) (reply.Idle set) old new h law are counted = nodes-idle c past m v set old new are counted
 counted-kept c past (Open i n) _ old new h law are counted = counted ∙ are
 counted-kept c past (Close s) _ old new h law are counted = counted ∙ are
 counted-kept c past (SetFilters s f) _ old new h law are counted = counted ∙ are

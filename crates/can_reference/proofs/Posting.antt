@@ -10,7 +10,7 @@ use Rattle.can_bus.specs.declared.events.Pending.{Pending}
 use Rattle.can_bus.specs.declared.events.Reply.TheVariants as reply
 use Rattle.can_bus.specs.declared.events.Tried.{Tried}
 use Rattle.can_bus.specs.Counters.{transmission}
-use Rattle.can_bus.specs.Posts.{attempt_posts, posts_of}
+use Rattle.can_bus.specs.Posts.{attempt_posts}
 use Rattle.can_bus.specs.State.{kept_nodes}
 use Rattle.can_bus.specs.Transmit.{sent_by}
 use Rattle.can_bus.proofs.Attempting.{between-is}
@@ -24,7 +24,7 @@ tried_entry m v t = record { event = Attempt m v; reply = reply.Tried t }
 -- what an attempt of the record puts to the sockets, from the interfaces and the frame as they were
 pub tried-posts : (c : BusConfig) (past : List Entry) (m : ℕ) (v : Verdict) (t : Tried) (i : ℕ) (nodes : Nodes) (p : Option Pending)
     → IsHistory c (tried_entry m v t ∷ past) → nodes ≡ kept_nodes c past → p ≡ slice_get (sent_by past t.winner) t.number
-    → attempt_posts c.reporting (attempt_between nodes t.winner v c.ack) t p i ≡ posts_of c past i (Attempt m v) (reply.Tried t)
+    → attempt_posts c.reporting (attempt_between nodes t.winner v c.ack) t p i ≡ attempt_posts c.reporting (transmission c past t.winner v) t (slice_get (sent_by past t.winner) t.number) i
 tried-posts c past m v t i nodes p h are frame =
     ap (λ (n : Nodes). attempt_posts c.reporting (attempt_between n t.winner v c.ack) t p i) are
     ∙ ap (λ (tr : Transmission). attempt_posts c.reporting tr t p i) (between-is c past t.winner v h.legal.2 h.proper.few_ifaces)

@@ -7,13 +7,14 @@ ghost use Rattle.can_bus.specs.declared.events.Reply.TheVariants as reply;
 ghost use Rattle.can_replay.specs.Histories.{IsHistory};
 
 use crate::counters::{judgement_of, nodes_of};
+use crate::restarts::restarted_next;
 use crate::sockets::iface_at;
 use crate::transmit::{gone_count, head_of};
 use can_arbiter::{Arbiter, ScanArbiter};
 use can_attempt::Judgement;
 use can_bus::{BusConfig, Entry, Pending, Reply, Tried};
 use can_fault::Verdict;
-use can_frame::{Iface, Moment};
+use can_frame::{Iface, IfaceSet, Moment};
 use std::alloc::{AllocError, Global};
 
 // What an attempt answers, by the entries before it.
@@ -57,8 +58,9 @@ fn tried_as(
     number: usize,
     pending: &Pending,
     judgement: &Judgement,
+    restarted: IfaceSet,
 ) -> Reply
-    ensures { result ≡ reply.Tried (record { moment = moment; winner = winner; number = number; frame = pending.now.frame; class = judgement.now.class; accepted = judgement.now.accepted; off = judgement.now.off }) }
+    ensures { result ≡ reply.Tried (record { moment = moment; winner = winner; number = number; frame = pending.now.frame; class = judgement.now.class; accepted = judgement.now.accepted; off = judgement.now.off; restarted = restarted }) }
 {
     Reply::Tried(Tried {
         moment,
@@ -68,6 +70,7 @@ fn tried_as(
         class: judgement.class,
         accepted: judgement.accepted,
         off: judgement.off,
+        restarted,
     })
 }
 
@@ -81,16 +84,17 @@ pub fn attempt_reply(
 ) -> Result<Reply, AllocError>
     ensures { IsHistory config (reverse past.now) → IfOk result (λ r. r ≡ attempt_reply config (reverse past.now) moment verdict (winner config (reverse past.now))) }
 {
+    let restarted = restarted_next(config, past);
     let Some(winner) = winner(alloc, past)? else {
-        return Ok(Reply::Idle);
+        return Ok(Reply::Idle(restarted));
     };
     let Some(pending) = head_of(alloc, past, winner)? else {
-        return Ok(Reply::Idle);
+        return Ok(Reply::Idle(restarted));
     };
     let number = gone_count(alloc, past, winner)?;
     let nodes = nodes_of(config, past);
     Ok(match judgement_of(&nodes, winner, verdict, config.ack) {
-        Some(judgement) => tried_as(moment, winner, number, &pending, &judgement),
-        None => Reply::Idle,
+        Some(judgement) => tried_as(moment, winner, number, &pending, &judgement, restarted),
+        None => Reply::Idle(restarted),
     })
 }

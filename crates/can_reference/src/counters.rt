@@ -1,15 +1,16 @@
 ghost use Rattle.std.specs.Prelude.{◌≡◌, ◌<◌, ◌≤◌, reverse, slice_set, false, Some, IfSome};
 ghost use Rattle.can_confine.specs.Confinement.{is_off, state_of, at_start};
 ghost use Rattle.can_attempt.specs.Attempts.{counts_at, attempt_between, judged};
+ghost use Rattle.can_bus.specs.Changes.{begun_anew};
 ghost use Rattle.can_bus.specs.State.{kept_nodes};
-ghost use Rattle.can_reference.specs.inner.Counted.{Counts};
+ghost use Rattle.can_reference.specs.inner.Counted.{Counts, CountsTried};
 ghost use Rattle.can_replay.specs.Histories.{IsHistory};
 
 use can_attempt::{AckMode, Judgement, Nodes, judge};
-use can_bus::{BusConfig, Entry, Event, Reply};
+use can_bus::{BusConfig, Entry, Event, Reply, Tried, begun_anew};
 use can_confine::Counters;
 use can_fault::Verdict;
-use can_frame::Iface;
+use can_frame::{Iface, IfaceSet};
 
 // The error counters of a bus's interfaces, by its entries.
 
@@ -36,13 +37,28 @@ fn count(nodes: &mut Nodes, judgement: &Judgement)
     nodes.counters = judgement.counters;
 }
 
-/// What an attempt does to the error counters.
-fn note_attempt(config: BusConfig, nodes: &mut Nodes, winner: Iface, verdict: Verdict)
+/// What an attempt that restarts these interfaces in the end does to the error counters.
+fn note_restarts(nodes: &mut Nodes, restarted: IfaceSet)
+    ensures { nodes.new ≡ begun_anew restarted nodes.old }
+{
+    nodes.counters = begun_anew(nodes, restarted);
+}
+
+/// What a frame that was tried does to them.
+fn note_frame(config: BusConfig, nodes: &mut Nodes, winner: Iface, verdict: Verdict)
     ensures { nodes.old.count ≤ 16 → winner < nodes.old.count → is_off (state_of (counts_at nodes.old winner)) ≡ false → nodes.new ≡ record nodes.old { counters = (judged (attempt_between nodes.old winner verdict config.ack)).counters } }
 {
     if let Some(judgement) = judgement_of(nodes, winner, verdict, config.ack) {
         count(nodes, &judgement);
     }
+}
+
+/// What an attempt that tried a frame does to them.
+fn note_attempt(config: BusConfig, nodes: &mut Nodes, tried: &Tried, verdict: Verdict)
+    ensures { CountsTried config tried.now verdict nodes.old nodes.new }
+{
+    note_frame(config, nodes, tried.winner, verdict);
+    note_restarts(nodes, tried.restarted);
 }
 
 /// What a restart does to them.
@@ -57,11 +73,11 @@ fn note(config: BusConfig, entry: &Entry, nodes: &mut Nodes)
     ensures { Counts config entry.now.event entry.now.reply nodes.old nodes.new }
 {
     match &entry.event {
-        Event::Attempt(_, verdict) => {
-            if let Reply::Tried(tried) = &entry.reply {
-                note_attempt(config, nodes, tried.winner, *verdict);
-            }
-        }
+        Event::Attempt(_, verdict) => match &entry.reply {
+            Reply::Tried(tried) => note_attempt(config, nodes, tried, *verdict),
+            Reply::Idle(restarted) => note_restarts(nodes, *restarted),
+            _ => {}
+        },
         Event::Restart(iface, _) => {
             if matches!(&entry.reply, Reply::Done) {
                 note_restart(nodes, *iface);

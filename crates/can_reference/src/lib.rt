@@ -10,6 +10,7 @@ mod counters;
 mod posts;
 pub mod queues;
 pub mod replies;
+mod restarts;
 mod sockets;
 mod transmit;
 

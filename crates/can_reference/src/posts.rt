@@ -1,6 +1,6 @@
 ghost use Rattle.std.specs.Prelude.{◌≡◌, ℕ, ◌++◌, ◌∷◌, reverse, IfOk};
 ghost use Rattle.can_filter.specs.Passing.{wants};
-ghost use Rattle.can_bus.specs.Posts.{sender_in, data_posts, error_posts, attempt_posts, restart_posts, posts_of, is_own};
+ghost use Rattle.can_bus.specs.Posts.{sender_in, data_posts, error_posts, attempt_posts, restart_posts, auto_restart_posts, posts_of, is_own};
 ghost use Rattle.can_bus.specs.Queues.{passing};
 ghost use Rattle.can_bus.specs.declared.events.Event.TheVariants as event;
 ghost use Rattle.can_bus.specs.declared.events.Reply.TheVariants as reply;
@@ -113,16 +113,46 @@ fn attempt_posts(
     Ok(posts)
 }
 
-/// What an entry with a frame that was tried puts to the sockets of an interface.
+/// Adds what an attempt that restarted these interfaces tells at an interface.
+fn put_restarted(
+    posts: &mut Vec<Post>,
+    restarted: IfaceSet,
+    moment: Moment,
+    iface: Iface,
+) -> Result<(), AllocError>
+    ensures { IfOk result (λ u. posts.new.items ≡ posts.old.items ++ auto_restart_posts restarted moment iface) }
+{
+    if restarted.contains(iface) {
+        put_error(posts, iface, moment, Some(restart_frame()))?;
+    }
+    Ok(())
+}
+
+/// What an idle attempt puts to the sockets of an interface.
+fn idle_posts(
+    alloc: Global,
+    restarted: IfaceSet,
+    moment: Moment,
+    iface: Iface,
+) -> Result<Vec<Post>, AllocError>
+    ensures { IfOk result (λ ps. ps.items ≡ auto_restart_posts restarted moment iface) }
+{
+    let mut posts = Vec::new(alloc);
+    put_restarted(&mut posts, restarted, moment, iface)?;
+    Ok(posts)
+}
+
+/// What an attempt at this moment that tried a frame puts to the sockets of an interface.
 fn tried_posts(
     alloc: Global,
     config: BusConfig,
     past: &[Entry],
     iface: Iface,
+    moment: Moment,
     verdict: Verdict,
     tried: &Tried,
 ) -> Result<Vec<Post>, AllocError>
-    ensures { (m : ℕ) → IsHistory config (record { event = event.Attempt m verdict; reply = reply.Tried tried.now } ∷ reverse past.now) → IfOk result (λ ps. ps.items ≡ posts_of config (reverse past.now) iface (event.Attempt m verdict) (reply.Tried tried.now)) }
+    ensures { IsHistory config (record { event = event.Attempt moment verdict; reply = reply.Tried tried.now } ∷ reverse past.now) → IfOk result (λ ps. ps.items ≡ posts_of config (reverse past.now) iface (event.Attempt moment verdict) (reply.Tried tried.now)) }
 {
     let nodes = nodes_of(config, past);
     let judgement = match judgement_of(&nodes, tried.winner, verdict, config.ack) {
@@ -132,7 +162,9 @@ fn tried_posts(
     let sent = sent_by(alloc, past, tried.winner)?;
     let pending = frame_at(&sent, tried.number as usize);
     let attempted = Attempted::new(*tried, verdict, config.ack, nodes, judgement);
-    attempt_posts(alloc, config.reporting, &attempted, pending, iface)
+    let mut posts = attempt_posts(alloc, config.reporting, &attempted, pending, iface)?;
+    put_restarted(&mut posts, tried.restarted, moment, iface)?;
+    Ok(posts)
 }
 
 /// What a restart puts to the sockets of an interface.
@@ -162,8 +194,11 @@ pub fn posts_of(
     ensures { IsHistory config (entry.now ∷ reverse past.now) → IfOk result (λ ps. ps.items ≡ posts_of config (reverse past.now) iface entry.now.event entry.now.reply) }
 {
     match &entry.event {
-        Event::Attempt(_, verdict) => match &entry.reply {
-            Reply::Tried(tried) => tried_posts(alloc, config, past, iface, *verdict, tried),
+        Event::Attempt(moment, verdict) => match &entry.reply {
+            Reply::Tried(tried) => {
+                tried_posts(alloc, config, past, iface, *moment, *verdict, tried)
+            }
+            Reply::Idle(restarted) => idle_posts(alloc, *restarted, *moment, iface),
             _ => Ok(Vec::new(alloc)),
         },
         Event::Restart(restarted, moment) => match &entry.reply {

@@ -2,15 +2,25 @@ use Rattle.std.specs.Prelude.{◌≡◌, ◌<◌, ◌≤◌, false, slice_set}
 use Rattle.can_confine.specs.Confinement.{at_start, state_of, is_off}
 use Rattle.can_attempt.specs.declared.nodes.Nodes.{Nodes}
 use Rattle.can_attempt.specs.Attempts.{attempt_between, counts_at, judged}
+use Rattle.can_fault.specs.declared.verdicts.Verdict.{Verdict}
+use Rattle.can_bus.specs.Changes.{begun_anew}
 use Rattle.can_bus.specs.declared.events.BusConfig.{BusConfig}
 use Rattle.can_bus.specs.declared.events.Event.{Event}
 use Rattle.can_bus.specs.declared.events.Event.TheVariants.{Attempt, Restart}
 use Rattle.can_bus.specs.declared.events.Reply.{Reply}
 use Rattle.can_bus.specs.declared.events.Reply.TheVariants as reply
+use Rattle.can_bus.specs.declared.events.Tried.{Tried}
 
 -- What an entry does to the error counts of all interfaces (Bosch CAN Specification 2.0, fault confinement): an
--- attempt of a live interface counts as its faults have it, and a restart sets one interface's counts to 0.
+-- attempt of a live interface counts as its faults have it, a restart sets one interface's counts to 0, and an attempt
+-- those of the interfaces that it restarts.
+
+-- an attempt that tried a frame, where its winner is there and live
+abbrev pub CountsTried : BusConfig → Tried → Verdict → Nodes → Nodes → Type 0
+CountsTried c t v old new = old.count ≤ 16 → t.winner < old.count → is_off (state_of (counts_at old t.winner)) ≡ false → new ≡ begun_anew t.restarted (record old { counters = (judged (attempt_between old t.winner v c.ack)).counters })
+
 abbrev pub Counts : BusConfig → Event → Reply → Nodes → Nodes → Type 0
-Counts c (Attempt m v) (reply.Tried t) old new = old.count ≤ 16 → t.winner < old.count → is_off (state_of (counts_at old t.winner)) ≡ false → new ≡ record old { counters = (judged (attempt_between old t.winner v c.ack)).counters }
+Counts c (Attempt m v) (reply.Tried t) old new = CountsTried c t v old new
+Counts c (Attempt m v) (reply.Idle restarted) old new = new ≡ begun_anew restarted old
 Counts c (Restart i m) reply.Done old new = new ≡ record old { counters = slice_set old.counters i at_start }
 Counts c _ _ old new = new ≡ old
