@@ -2,6 +2,7 @@ mod auditing;
 mod events;
 mod reaching;
 mod replying;
+mod restarting;
 mod texts;
 
 use can_attempt::AckMode;
@@ -17,6 +18,7 @@ fn config(ifaces: u8, limit: u32) -> BusConfig {
         reporting: IfaceSet(0b101),
         tx_capacity: 4,
         limit,
+        auto_restart: 0,
     }
 }
 

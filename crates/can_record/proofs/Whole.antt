@@ -81,7 +81,7 @@ end_is_wrong A (fault.BadLine n) text rest c es whole begins wrong (inr h) = inr
 -- ---- no text is read in two ways
 
 -- the digit of a first line
-version_digit : Version → ℕ
+abbrev version_digit : Version → ℕ
 version_digit version.One = 49
 version_digit version.Two = 50
 

@@ -94,14 +94,14 @@ fn gap_before(restarted: IfaceSet) -> u8
 }
 
 /// The interfaces that an attempt restarted, and the end of their line; nothing where there are none.
-fn put_restarted(out: &mut Vec<u8>, restarted: IfaceSet) -> Result<(), AllocError>
-    ensures { OnOk result (out.new.items ≡ out.old.items ++ spell (restarted_words restarted) []) }
+fn put_restarted(out: &mut Vec<u8>, set: IfaceSet) -> Result<(), AllocError>
+    ensures { OnOk result (out.new.items ≡ out.old.items ++ spell (restarted_words set) []) }
 {
-    if restarted.0 == 0 {
+    if set.0 == 0 {
         return Ok(());
     }
     put_word(out, b"restarted", b' ')?;
-    put_set(out, restarted, b'\n')
+    put_set(out, set, b'\n')
 }
 
 /// The name of a refusal, and the end of its line; nothing where it has no line.

@@ -13,6 +13,7 @@ pub const TWO: BusConfig = BusConfig {
     reporting: IfaceSet(0),
     tx_capacity: 10,
     limit: 100,
+    auto_restart: 0,
 };
 
 fn iface(number: u8) -> Result<Iface, Stop> {

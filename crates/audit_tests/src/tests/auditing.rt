@@ -27,6 +27,7 @@ fn tried(accepted: u16) -> Result<Reply, Fail> {
         class: Class::Done,
         accepted: IfaceSet(accepted),
         off: IfaceSet(0),
+        restarted: IfaceSet(0),
     }))
 }
 
@@ -82,7 +83,7 @@ fn recorded(
 }
 
 // The call, without its clauses.
-fn audited(rt: &impl AllocGlobal, record: &Record) -> Result<(), AuditFault> {
+pub fn audited(rt: &impl AllocGlobal, record: &Record) -> Result<(), AuditFault> {
     audit(rt.alloc(), record)
 }
 

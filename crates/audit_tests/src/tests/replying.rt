@@ -43,6 +43,7 @@ fn compared(
 #[derive(Clone, Copy)]
 enum Kind {
     Idle,
+    Restarts,
     Tried(Class),
     GoesOff,
     Refused(Refusal),
@@ -56,9 +57,19 @@ fn is_error(received: &Received) -> bool {
     matches!(&received.item, Item::Error(_))
 }
 
+/// Whether an attempt restarted an interface.
+fn is_restarting(reply: &Reply) -> bool {
+    match reply {
+        Reply::Idle(restarted) => *restarted != IfaceSet(0),
+        Reply::Tried(tried) => tried.restarted != IfaceSet(0),
+        _ => false,
+    }
+}
+
 fn is_of(reply: &Reply, kind: Kind) -> bool {
     match kind {
-        Kind::Idle => matches!(reply, Reply::Idle),
+        Kind::Idle => matches!(reply, Reply::Idle(_)),
+        Kind::Restarts => is_restarting(reply),
         Kind::Tried(class) => matches!(reply, Reply::Tried(tried) if tried.class == class),
         Kind::GoesOff => matches!(reply, Reply::Tried(tried) if tried.off != IfaceSet(0)),
         Kind::Refused(why) => matches!(reply, Reply::Refused(refusal) if *refusal == why),
@@ -120,6 +131,18 @@ fn compare_mixed(rt: &(impl Abort + AllocGlobal)) -> Result<(), Fail> {
     Ok(())
 }
 
+/// The same with interfaces that are restarted in so many attempts.
+fn compare_restarts(rt: &(impl Abort + AllocGlobal), auto_restart: u32) -> Result<(), Fail> {
+    let events = events::mixed(rt, 4, 300)?;
+    let config = BusConfig {
+        auto_restart,
+        ..config(3, 300)
+    };
+    let replies = compared(rt, &events, config)?;
+    has(rt, &replies, Kind::Restarts, 1);
+    Ok(())
+}
+
 /// One socket more than may be open.
 fn compare_opens(rt: &(impl Abort + AllocGlobal)) -> Result<(), Fail> {
     let mut events = Vec::new(rt.alloc());
@@ -134,6 +157,8 @@ fn compare_opens(rt: &(impl Abort + AllocGlobal)) -> Result<(), Fail> {
 #[test]
 fn a_bus_answers_as_the_entries_say(rt: HostRuntime) -> Result<(), Fail> {
     compare_mixed(&rt)?;
+    compare_restarts(&rt, 1)?;
+    compare_restarts(&rt, 5)?;
     compare_opens(&rt)
 }
 
@@ -162,6 +187,7 @@ fn first_attempt() -> Result<Tried, Fail> {
         class: Class::Done,
         accepted: IfaceSet(0x0002),
         off: IfaceSet(0x0000),
+        restarted: IfaceSet(0x0000),
     })
 }
 

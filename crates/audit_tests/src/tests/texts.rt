@@ -32,7 +32,7 @@ const BACK: &str = "\nend 1\n";
 
 // The calls, without their clauses: a test runs them, and its proof has nothing to say of them.
 
-fn read(rt: &impl AllocGlobal, text: &str) -> Result<Record, ReadFault> {
+pub fn read(rt: &impl AllocGlobal, text: &str) -> Result<Record, ReadFault> {
     read_record(rt.alloc(), text)
 }
 
@@ -70,11 +70,11 @@ fn read_again(rt: &impl AllocGlobal, record: &Record) -> Result<Record, Fail> {
 }
 
 /// The text of what was read.
-fn again(rt: &impl AllocGlobal, text: &str) -> Result<Vec<u8>, Fail> {
+pub fn again(rt: &impl AllocGlobal, text: &str) -> Result<Vec<u8>, Fail> {
     written(rt, &read(rt, text)?)
 }
 
-fn fault(rt: &impl AllocGlobal, text: &str) -> Option<ReadFault> {
+pub fn fault(rt: &impl AllocGlobal, text: &str) -> Option<ReadFault> {
     read(rt, text).err()
 }
 
@@ -104,6 +104,7 @@ fn a_buss_record_has_this_text(rt: HostRuntime) -> Result<(), Fail> {
         reporting: IfaceSet::empty(),
         tx_capacity: 10,
         limit: 100,
+        auto_restart: 0,
     };
     let mut bus = made(&rt, config)?;
     carried_out(&rt, &mut bus, &one_frame(&rt)?)?;
@@ -181,7 +182,7 @@ fn changed(rt: &impl AllocGlobal, from: &str, to: &str) -> Result<String, Fail> 
     Ok(ONE_FRAME.replacen(rt.alloc(), from, to, 1)?)
 }
 
-fn bad_line(rt: &impl AllocGlobal, text: &str) -> Option<u64> {
+pub fn bad_line(rt: &impl AllocGlobal, text: &str) -> Option<u64> {
     match fault(rt, text) {
         Some(ReadFault::BadLine(line)) => Some(line),
         _ => None,
