@@ -122,7 +122,9 @@ def bus_of(version, line):
     words = version.bus.fullmatch(line)
     if not words:
         raise BadRecord(f"line 2: no bus: {shown(line)}")
-    ifaces, tx_capacity, limit, auto_restart = int(words[1]), *map(int, [*words.groups()[3:], 0][:3])
+    ifaces = int(words[1])
+    # Version 1 has no third number.
+    tx_capacity, limit, auto_restart = map(int, [*words.groups()[3:], "0"][:3])
     if not (1 <= ifaces <= 16 and 1 <= tx_capacity <= 1024 and 1 <= limit <= 1 << 24 and auto_restart <= 1000000):
         raise BadRecord(f"line 2: a number out of range: {shown(line)}")
     return ifaces, words[2] == "always", int(words[3], 16), tx_capacity, limit, auto_restart

@@ -6,7 +6,7 @@ ghost use Rattle.can_record.specs.Values.{HoldsFilter, HoldsOption, HoldsVerdict
 use can_bus::{Closed, Event, Opt, Received, Reply, SocketId, Tried};
 use can_fault::Verdict;
 use can_filter::Filter;
-use can_frame::{ErrorFrame, Frame, Item};
+use can_frame::{ErrorFrame, Frame, IfaceSet, Item};
 
 // What the types of a value say of it. These functions do nothing when they run: the checker knows the ranges
 // of a parameter, and of a number that is read.
@@ -46,6 +46,10 @@ pub fn hold_event(event: &Event)
 
 fn hold_socket(id: SocketId)
     ensures { id.0 < 2 ^ 32 }
+{}
+
+fn hold_set(set: IfaceSet)
+    ensures { set.0 < 2 ^ 16 }
 {}
 
 fn hold_counts(counts: Closed)
@@ -111,9 +115,7 @@ pub fn hold_reply(reply: &Reply)
         }
         Reply::Received(Some(received)) => hold_received(received),
         Reply::Tried(tried) => hold_tried(tried),
-        Reply::Idle(restarted) => {
-            let _restarted = restarted.0;
-        }
+        Reply::Idle(restarted) => hold_set(*restarted),
         Reply::Done | Reply::Received(None) | Reply::Refused(_) => {}
     }
 }

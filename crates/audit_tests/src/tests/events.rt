@@ -112,6 +112,27 @@ pub fn mixed(rt: &impl AllocGlobal, seed: u64, count: u64) -> Result<Vec<Event>,
     Ok(events)
 }
 
+/// Interface 0 goes bus off in the 32nd attempt, while a frame of interface 1 waits; then it sends again.
+pub fn going_off(rt: &impl AllocGlobal) -> Result<Vec<Event>, Fail> {
+    let mut events = opened(rt.alloc())?;
+    events.push(Event::Send(SocketId(0), frame(0x123, &[])?))?;
+    events.push(Event::Send(SocketId(1), frame(0x124, &[])?))?;
+    for micros in 0..33u64 {
+        let verdict = Verdict::Global(GlobalKind::Bit);
+        events.push(Event::Attempt(moment(micros)?, verdict))?;
+    }
+    for micros in 33..39u64 {
+        events.push(Event::Attempt(moment(micros)?, Verdict::Good))?;
+    }
+    events.push(Event::Send(SocketId(3), frame(0x125, &[])?))?;
+    events.push(Event::Attempt(moment(39)?, Verdict::Good))?;
+    for _ in 0..4u8 {
+        events.push(receive(0))?;
+        events.push(receive(3))?;
+    }
+    Ok(events)
+}
+
 /// A frame reaches socket 1, which has room for one item and takes it before its close.
 pub fn first_frame(rt: &impl AllocGlobal) -> Result<Vec<Event>, Fail> {
     let mut events = Vec::new(rt.alloc());
