@@ -1,44 +1,52 @@
-use Rattle.std.proofs.Common.{◌≡◌, ◌≢◌, ℕ, zero, suc, ◌+◌, ◌-◌, ◌<◌, ◌≤◌, ◌==◌, nat_lt, Bool, true, false, ◌||◌, ◌&&◌, List, [], ◌∷◌, ◌++◌, length, map, take, drop, slice_get, slice_set, slice_index_or, Option, Some, None, is_some, if◌then◌else◌, inl, inr, refl, sym, ap, ◌∙◌, arith, subst}
+use Rattle.std.proofs.Common.{◌≡◌, ◌≢◌, ℕ, zero, suc, ◌+◌, ◌-◌, ◌<◌, ◌≤◌, ◌==◌, nat_lt, Bool, true, false, ◌||◌, ◌&&◌, List, [], ◌∷◌, ◌++◌, length, map, replicate, take, drop, slice_get, slice_set, slice_index_or, Option, Some, None, is_some, if◌then◌else◌, inl, inr, refl, sym, ap, ◌∙◌, arith, subst}
 use Rattle.std.specs.List.{range_with_len}
+use Rattle.std.specs.Option.{option_map}
 use mathlib.Core.Path.{fun_ext}
-use Rattle.std.proofs.lemmas.Bool.{eq-eqb, ne_eqb, cond-true, cond-false, and_right, cases_lt}
+use Rattle.std.proofs.lemmas.Bool.{eq-eqb, ne_eqb, cond-true, cond-false, and_right, cases_lt, cases_eq}
 use Rattle.std.proofs.lemmas.List.{length_push, length-append, length-drop, drop-append-le, drop-drop, get_or_past, length-map}
 use Rattle.std.proofs.lemmas.List.FromFn.{length-range_with_len}
 use Rattle.can_frame.specs.Frames.{CanFrame}
 use Rattle.can_frame.specs.Sets.{is_in}
-use Rattle.can_confine.specs.Confinement.{ErrorCounts, at_start, state_of, is_off}
+use Rattle.can_frame.specs.declared.ifaces.IfaceSet.{IfaceSet}
+use Rattle.can_confine.specs.Confinement.{ErrorCounts, Step, all_stepped, at_start, state_of, is_off}
 use Rattle.can_fault.specs.declared.verdicts.Verdict.{Verdict}
 use Rattle.can_attempt.specs.Attempts.{Transmission, attempt_between, counts_at, judged, set_of, is_among, off_after, counts_after, steps_at}
 use Rattle.can_attempt.proofs.Standing.{is_in-of}
 use Rattle.can_bus.specs.declared.events.BusConfig.{BusConfig}
 use Rattle.can_bus.specs.declared.events.Entry.{Entry}
-use Rattle.can_bus.specs.declared.events.Event.TheVariants.{Attempt}
+use Rattle.can_bus.specs.declared.events.Attempt.{Attempt}
+use Rattle.can_bus.specs.declared.events.Attempt.TheVariants as attempt
+use Rattle.can_bus.specs.declared.events.Event.TheVariants as event
 use Rattle.can_bus.specs.declared.events.Pending.{Pending}
 use Rattle.can_bus.specs.declared.events.Received.{Received}
 use Rattle.can_bus.specs.declared.events.Reply.TheVariants as reply
 use Rattle.can_bus.specs.declared.events.Tried.{Tried}
 use Rattle.can_bus.specs.Answer.{told_attempt}
+use Rattle.can_bus.specs.AutoRestart.{attempts_off, restarted_next}
 use Rattle.can_bus.specs.Journal.{Kept}
 use Rattle.can_bus.specs.Sockets.{places, open_sockets, is_open, iface_of, capacity_of, filters_of, options_of}
 use Rattle.can_bus.specs.Transmit.{sent_by, gone_count, done_count, head_of, tape, is_done}
 use Rattle.can_bus.specs.Counters.{counts_of, steps_of, state_at, transmission}
 use Rattle.can_bus.specs.Attempts.{winner, tried_with, attempt_reply, tried_head}
-use Rattle.can_bus.specs.Posts.{Post, attempt_posts, posts_of}
+use Rattle.can_bus.specs.Posts.{Post, attempt_posts, auto_restart_posts, posts_of}
 use Rattle.can_bus.specs.Queues.{passing, candidates_of, queued_to, dropped_at, taken_from}
 use Rattle.can_bus.specs.Legal.{legal_reply, IsLegal}
-use Rattle.can_bus.specs.State.{LineState, SocketState, Parts, filled, reached, key_in, kept_line, kept_lines, kept_socket, kept_sockets, kept_keys, kept_nodes, kept_parts, IsKept}
-use Rattle.can_bus.specs.Changes.{Carries, Tries, settled, tried_in, after_try, AreReady}
-use Rattle.can_bus.proofs.Keeping.{Follows, IsQuiet, kept_sockets-quiet, parts-are}
+use Rattle.can_bus.specs.State.{LineState, SocketState, Parts, filled, reached, key_in, kept_line, kept_lines, kept_socket, kept_sockets, kept_keys, kept_nodes, kept_left, kept_parts, IsKept}
+use Rattle.can_bus.specs.Changes.{Carries, Tries, Attempts, came_to, settled, tried_in, after_try, after_auto_restart, begun_anew, counting_down, due_in, ticked, AreReady}
+use Rattle.can_bus.proofs.CountingFacts.{live-restarted-not}
+use Rattle.can_bus.proofs.Filling.{filled-both}
+use Rattle.can_bus.proofs.Keeping.{Follows, parts-are}
 use Rattle.can_bus.proofs.KeyFacts.{kept_keys-one}
 use Rattle.can_bus.proofs.LineFacts.{IsLine, IsLine-at, kept_lines-one, length-kept_lines}
 use Rattle.can_bus.proofs.Lists.{slice_get-drop, list_any_there}
 use Rattle.can_bus.proofs.Lawful.{taken_from-le-queued}
-use Rattle.can_bus.proofs.NodeFacts.{counts_at-kept, is_off_at-kept}
-use Rattle.can_bus.proofs.OffFacts.{all_stepped-append, head-below, counts-beyond, off-no-head}
+use Rattle.can_bus.proofs.LeftFacts.{CountsOn, due-kept, left-counted, left-never, left-off}
+use Rattle.can_bus.proofs.NodeFacts.{counts_at-kept, is_off_at-kept, index-map}
+use Rattle.can_bus.proofs.OffFacts.{all_stepped-append, head-below, counts-beyond, off-no-head, winner-contends}
 use Rattle.can_bus.proofs.Winning.{winner-is, idle-is, holds_key}
 
-abbrev pub entry : ℕ → Verdict → Option Tried → Entry
-entry m v r = record { event = Attempt m v; reply = told_attempt r }
+abbrev pub entry : ℕ → Verdict → Attempt → Entry
+entry m v r = record { event = event.Attempt m v; reply = told_attempt r }
 
 -- ---- the attempt as the kept parts have it, and as the history has it
 
@@ -70,6 +78,10 @@ between-is c past w v legal few =
 
 -- ---- what the attempt was
 
+-- what is kept, with one attempt less before each restart
+abbrev counted : BusConfig → List Entry → Parts
+counted c past = record (kept_parts c past) { left = ticked (kept_left c past) }
+
 -- the winner's line and frame, by the history
 record IsCarried (c : BusConfig) (past : List Entry) (m : ℕ) (v : Verdict) (t : Tried) (w : ℕ) (l : LineState) (p : Pending) : Type 0 where
   is_line : IsLine c past w l
@@ -77,7 +89,7 @@ record IsCarried (c : BusConfig) (past : List Entry) (m : ℕ) (v : Verdict) (t 
   head_is : head_of past w ≡ Some p
   tried_is : t ≡ tried_with c past m v w p.frame
 
-the_winner : (c : BusConfig) (past : List Entry) (m : ℕ) (v : Verdict) (t : Tried) (new : Parts) → IsLegal c past → c.ifaces ≤ 16 → (k : Carries (kept_parts c past) c m v t new) → IsCarried c past m v t k.place k.line k.pending
+the_winner : (c : BusConfig) (past : List Entry) (m : ℕ) (v : Verdict) (t : Tried) (new : Parts) → IsLegal c past → c.ifaces ≤ 16 → (k : Carries (counted c past) c m v (due_in (kept_left c past)) t new) → IsCarried c past m v t k.place k.line k.pending
 the_winner c past m v t new legal few k =
     let w = k.place in
     let line = IsLine-at c past (kept_lines c past) w k.line refl k.there in
@@ -87,11 +99,12 @@ the_winner c past m v t new legal few k =
       won = winner-is c past legal few w k.wins;
       head_is = sym (slice_get-drop (gone_count past w) (sent_by past w)) ∙ ap (λ (l : LineState). slice_get l.waiting 0) (sym line.left) ∙ k.oldest;
       tried_is = k.tried
-          ∙ ap (λ (n : ℕ). tried_in (attempt_between (kept_nodes c past) w v c.ack) m n k.pending) number
-          ∙ ap (λ (tr : Transmission). tried_in tr m (gone_count past w) k.pending) (between-is c past w v legal few);
+          ∙ ap (λ (n : ℕ). tried_in (attempt_between (kept_nodes c past) w v c.ack) m n (due_in (kept_left c past)) k.pending) number
+          ∙ ap (λ (tr : Transmission). tried_in tr m (gone_count past w) (due_in (kept_left c past)) k.pending) (between-is c past w v legal few)
+          ∙ ap (λ (rs : IfaceSet). tried_in (transmission c past w v) m (gone_count past w) rs k.pending) (due-kept c past legal);
     }
 
-reply-tried : (c : BusConfig) (past : List Entry) (m : ℕ) (v : Verdict) (t : Tried) (w : ℕ) (l : LineState) (p : Pending) → IsCarried c past m v t w l p → reply.Tried t ≡ legal_reply c past (Attempt m v)
+reply-tried : (c : BusConfig) (past : List Entry) (m : ℕ) (v : Verdict) (t : Tried) (w : ℕ) (l : LineState) (p : Pending) → IsCarried c past m v t w l p → reply.Tried t ≡ legal_reply c past (event.Attempt m v)
 reply-tried c past m v t w l p is =
     ap (λ (u : Tried). reply.Tried u) is.tried_is
     ∙ ap (tried_head c past m v w) (sym is.head_is)
@@ -112,15 +125,15 @@ not-off c past m v t w j f is ne = ap (λ (u : Tried). is_in j u.off) is ∙ off
 other-winner : (c : BusConfig) (past : List Entry) (m : ℕ) (v : Verdict) (t : Tried) (w j : ℕ) (f : CanFrame) → t ≡ tried_with c past m v w f → j ≢ w → ((t.winner == j) && is_done t.class) ≡ false
 other-winner c past m v t w j f is ne = ap (λ (b : Bool). b && is_done t.class) (ap (λ (u : Tried). u.winner == j) is ∙ ne_eqb w j (λ e. ne (sym e)))
 
-gone-other : (c : BusConfig) (past : List Entry) (m : ℕ) (v : Verdict) (t : Tried) (w j : ℕ) (f : CanFrame) → t ≡ tried_with c past m v w f → j ≢ w → gone_count (entry m v (Some t) ∷ past) j ≡ gone_count past j
+gone-other : (c : BusConfig) (past : List Entry) (m : ℕ) (v : Verdict) (t : Tried) (w j : ℕ) (f : CanFrame) → t ≡ tried_with c past m v w f → j ≢ w → gone_count (entry m v (attempt.Tried t) ∷ past) j ≡ gone_count past j
 gone-other c past m v t w j f is ne =
     cond-false (is_in j t.off) (length (sent_by past j)) (if (t.winner == j) && is_done t.class then gone_count past j + 1 else gone_count past j) (not-off c past m v t w j f is ne)
     ∙ cond-false ((t.winner == j) && is_done t.class) (gone_count past j + 1) (gone_count past j) (other-winner c past m v t w j f is ne)
 
-done-other : (c : BusConfig) (past : List Entry) (m : ℕ) (v : Verdict) (t : Tried) (w j : ℕ) (f : CanFrame) → t ≡ tried_with c past m v w f → j ≢ w → done_count (entry m v (Some t) ∷ past) j ≡ done_count past j
+done-other : (c : BusConfig) (past : List Entry) (m : ℕ) (v : Verdict) (t : Tried) (w j : ℕ) (f : CanFrame) → t ≡ tried_with c past m v w f → j ≢ w → done_count (entry m v (attempt.Tried t) ∷ past) j ≡ done_count past j
 done-other c past m v t w j f is ne = cond-false ((t.winner == j) && is_done t.class) (done_count past j + 1) (done_count past j) (other-winner c past m v t w j f is ne)
 
-line-other : (c : BusConfig) (past : List Entry) (m : ℕ) (v : Verdict) (t : Tried) (w j : ℕ) (f : CanFrame) → t ≡ tried_with c past m v w f → j ≢ w → kept_line c (entry m v (Some t) ∷ past) j ≡ kept_line c past j
+line-other : (c : BusConfig) (past : List Entry) (m : ℕ) (v : Verdict) (t : Tried) (w j : ℕ) (f : CanFrame) → t ≡ tried_with c past m v w f → j ≢ w → kept_line c (entry m v (attempt.Tried t) ∷ past) j ≡ kept_line c past j
 line-other c past m v t w j f is ne =
     let g = gone-other c past m v t w j f is ne in
     let d = done-other c past m v t w j f is ne in
@@ -148,7 +161,7 @@ line-by c past w off here = record {
   refused = (kept_line c past w).refused;
 }
 
-line-tried : (c : BusConfig) (past : List Entry) (m : ℕ) (v : Verdict) (t : Tried) (w : ℕ) (l : LineState) (p : Pending) → IsCarried c past m v t w l p → settled t.class (is_in w t.off) l ≡ kept_line c (entry m v (Some t) ∷ past) w
+line-tried : (c : BusConfig) (past : List Entry) (m : ℕ) (v : Verdict) (t : Tried) (w : ℕ) (l : LineState) (p : Pending) → IsCarried c past m v t w l p → settled t.class (is_in w t.off) l ≡ kept_line c (entry m v (attempt.Tried t) ∷ past) w
 line-tried c past m v t w l p is =
     let who : (t.winner == w) ≡ true = eq-eqb t.winner w (ap (λ (u : Tried). u.winner) is.tried_is) in
     let won : ((t.winner == w) && is_done t.class) ≡ is_done t.class = ap (λ (b : Bool). b && is_done t.class) who in
@@ -156,18 +169,18 @@ line-tried c past m v t w l p is =
     ∙ settle-kept c.tx_capacity (kept_line c past w).refused (gone_count past w) (done_count past w) (sent_by past w) (is_in w t.off) (is_done t.class)
     ∙ ap (line-by c past w (is_in w t.off)) (sym won)
 
-lines-tried : (c : BusConfig) (past : List Entry) (m : ℕ) (v : Verdict) (t : Tried) (w : ℕ) (l : LineState) (p : Pending) → IsCarried c past m v t w l p → slice_set (kept_lines c past) w (settled t.class (is_in w t.off) l) ≡ kept_lines c (entry m v (Some t) ∷ past)
+lines-tried : (c : BusConfig) (past : List Entry) (m : ℕ) (v : Verdict) (t : Tried) (w : ℕ) (l : LineState) (p : Pending) → IsCarried c past m v t w l p → slice_set (kept_lines c past) w (settled t.class (is_in w t.off) l) ≡ kept_lines c (entry m v (attempt.Tried t) ∷ past)
 lines-tried c past m v t w l p is =
     ap (slice_set (kept_lines c past) w) (line-tried c past m v t w l p is)
-    ∙ sym (kept_lines-one c past (entry m v (Some t)) w is.is_line.below (λ j ne. line-other c past m v t w j p.frame is.tried_is ne))
+    ∙ sym (kept_lines-one c past (entry m v (attempt.Tried t)) w is.is_line.below (λ j ne. line-other c past m v t w j p.frame is.tried_is ne))
 
 -- ---- the keys
 
 keys-tried : (c : BusConfig) (past : List Entry) (m : ℕ) (v : Verdict) (t : Tried) (w : ℕ) (l : LineState) (p : Pending) → c.ifaces ≤ 16
     → IsCarried c past m v t w l p
-    → slice_set (kept_keys past) w (key_in (slice_get (settled t.class (is_in w t.off) l).waiting 0)) ≡ kept_keys (entry m v (Some t) ∷ past)
+    → slice_set (kept_keys past) w (key_in (slice_get (settled t.class (is_in w t.off) l).waiting 0)) ≡ kept_keys (entry m v (attempt.Tried t) ∷ past)
 keys-tried c past m v t w l p few is =
-    let e = entry m v (Some t) in
+    let e = entry m v (attempt.Tried t) in
     let below : w < 16 = omega (arith, is.is_line.below) in
     let front : slice_get (settled t.class (is_in w t.off) l).waiting 0 ≡ head_of (e ∷ past) w = ap (λ (k : LineState). slice_get k.waiting 0) (line-tried c past m v t w l p is) ∙ slice_get-drop (gone_count (e ∷ past) w) (sent_by past w) in
     ap (λ (q : Option Pending). slice_set (kept_keys past) w (key_in q)) front
@@ -175,21 +188,79 @@ keys-tried c past m v t w l p few is =
 
 -- ---- the error counts
 
-counts-tried : (c : BusConfig) (past : List Entry) (m : ℕ) (v : Verdict) (t : Tried) (i : ℕ) → counts_of c (entry m v (Some t) ∷ past) i ≡ counts_after (transmission c past t.winner v) i
-counts-tried c past m v t i = all_stepped-append at_start (steps_of c past i) (steps_at i (transmission c past t.winner v))
+-- error counts of the first n places, each the same
+map_below : (f g : ℕ → ErrorCounts) (a n : ℕ) → ((i : ℕ) → i < a + n → f i ≡ g i) → map f (range_with_len a n) ≡ map g (range_with_len a n)
+map_below f g a zero same = refl
+map_below f g a (suc n) same =
+    let here = same a (omega arith) in
+    let rest = map_below f g (a + 1) n (λ i lt. same i (omega (arith, lt))) in
+    cc
 
-map_all : (f g : ℕ → ErrorCounts) (xs : List ℕ) → ((i : ℕ) → f i ≡ g i) → map f xs ≡ map g xs
-map_all f g xs same = ap (λ (h : ℕ → ErrorCounts). map h xs) (fun_ext same)
+-- the counts of an interface that an attempt restarts begin anew
+counts-anew : (restarted : Bool) (before more : List Step) → all_stepped at_start (if restarted then [] else before ++ more) ≡ (if restarted then at_start else all_stepped (all_stepped at_start before) more)
+counts-anew true before more = refl
+counts-anew false before more = all_stepped-append at_start before more
+
+counts-kept : (restarted : Bool) (before : List Step) → all_stepped at_start (if restarted then [] else before) ≡ (if restarted then at_start else all_stepped at_start before)
+counts-kept true before = refl
+counts-kept false before = refl
 
 nodes-tried : (c : BusConfig) (past : List Entry) (m : ℕ) (v : Verdict) (t : Tried) (w : ℕ) (l : LineState) (p : Pending) → IsLegal c past
     → c.ifaces ≤ 16 → IsCarried c past m v t w l p
-    → record (kept_nodes c past) { counters = (judged (attempt_between (kept_nodes c past) w v c.ack)).counters } ≡ kept_nodes c (entry m v (Some t) ∷ past)
+    → begun_anew t.restarted (record (kept_nodes c past) { counters = (judged (attempt_between (kept_nodes c past) w v c.ack)).counters }) ≡ kept_nodes c (entry m v (attempt.Tried t) ∷ past)
 unfolding kept_nodes
 nodes-tried c past m v t w l p legal few is =
     let who : t.winner ≡ w = ap (λ (u : Tried). u.winner) is.tried_is in
-    let now : (i : ℕ) → counts_after (transmission c past w v) i ≡ counts_of c (entry m v (Some t) ∷ past) i = λ i. ap (λ (k : ℕ). counts_after (transmission c past k v) i) (sym who) ∙ sym (counts-tried c past m v t i) in
-    ap (λ (tr : Transmission). record { count = c.ifaces; counters = (judged tr).counters }) (between-is c past w v legal few)
-    ∙ ap (λ (cs : List ErrorCounts). record { count = c.ifaces; counters = cs }) (map_all (counts_after (transmission c past w v)) (counts_of c (entry m v (Some t) ∷ past)) (range_with_len 0 16) now)
+    let now : (i : ℕ) → i < 16 → (if is_in i t.restarted then at_start else slice_index_or (map (counts_after (transmission c past w v)) (range_with_len 0 16)) i at_start) ≡ counts_of c (entry m v (attempt.Tried t) ∷ past) i =
+    λ i lt.
+    ap (λ (x : ErrorCounts). if is_in i t.restarted then at_start else x) (index-map (counts_after (transmission c past w v)) 0 16 i at_start lt ∙ ap (counts_after (transmission c past w v)) (omega arith))
+    ∙ ap (λ (k : ℕ). if is_in i t.restarted then at_start else counts_after (transmission c past k v) i) (sym who)
+    ∙ sym (counts-anew (is_in i t.restarted) (steps_of c past i) (steps_at i (transmission c past t.winner v))) in
+    ap (λ (tr : Transmission). begun_anew t.restarted (record { count = c.ifaces; counters = (judged tr).counters })) (between-is c past w v legal few)
+    ∙ ap (λ (cs : List ErrorCounts). record { count = c.ifaces; counters = cs })
+    (map_below (λ i. if is_in i t.restarted then at_start else slice_index_or (map (counts_after (transmission c past w v)) (range_with_len 0 16)) i at_start) (counts_of c (entry m v (attempt.Tried t) ∷ past)) 0 16 (λ i lt. now i (omega (arith, lt))))
+
+nodes-idle : (c : BusConfig) (past : List Entry) (m : ℕ) (v : Verdict) (rs : IfaceSet) → begun_anew rs (kept_nodes c past) ≡ kept_nodes c (entry m v (attempt.Idle rs) ∷ past)
+unfolding kept_nodes
+nodes-idle c past m v rs =
+    ap (λ (cs : List ErrorCounts). record { count = c.ifaces; counters = cs })
+    (map_below (λ i. if is_in i rs then at_start else slice_index_or (map (counts_of c past) (range_with_len 0 16)) i at_start) (counts_of c (entry m v (attempt.Idle rs) ∷ past)) 0 16
+    (λ i lt.
+    ap (λ (x : ErrorCounts). if is_in i rs then at_start else x) (index-map (counts_of c past) 0 16 i at_start (omega (arith, lt)) ∙ ap (counts_of c past) (omega arith))
+    ∙ sym (counts-kept (is_in i rs) (steps_of c past i))))
+
+-- ---- the attempts left
+
+on-tried : (c : BusConfig) (past : List Entry) (m : ℕ) (v : Verdict) (t : Tried) (i : ℕ) → t.restarted ≡ restarted_next c past → is_in i t.off ≡ false → CountsOn c past (entry m v (attempt.Tried t)) i
+on-tried c past m v t i named live =
+    ap (λ (rs : IfaceSet). if is_in i rs then None else if is_in i t.off then Some 0 else option_map suc (attempts_off past i)) named
+    ∙ ap (λ (b : Bool). if is_in i (restarted_next c past) then None else if b then Some 0 else option_map suc (attempts_off past i)) live
+
+left-tried : (c : BusConfig) (past : List Entry) (m : ℕ) (v : Verdict) (t : Tried) (w : ℕ) (l : LineState) (p : Pending) → IsLegal c past → c.ifaces ≤ 16 → IsCarried c past m v t w l p
+    → counting_down c.auto_restart w (is_in w t.off) (ticked (kept_left c past)) ≡ kept_left c (entry m v (attempt.Tried t) ∷ past)
+left-tried c past m v t w l p legal few is = when (is_in w t.off) refl
+  where
+    named : t.restarted ≡ restarted_next c past
+    named = ap (λ (u : Tried). u.restarted) is.tried_is
+
+    stays : is_in w t.restarted ≡ false
+    stays = ap (is_in w) named ∙ live-restarted-not c past legal w (winner-contends c past w is.won).live
+
+    others : (i : ℕ) → i ≢ w → CountsOn c past (entry m v (attempt.Tried t)) i
+    others i ne = on-tried c past m v t i named (not-off c past m v t w i p.frame is.tried_is ne)
+
+    all : is_in w t.off ≡ false → (i : ℕ) → CountsOn c past (entry m v (attempt.Tried t)) i
+    all live i = elim (cases_eq i w) [
+      | inl same ↦ on-tried c past m v t i named (ap (λ (k : ℕ). is_in k t.off) same ∙ live)
+      | inr ne ↦ others i ne
+    ]
+
+    when : (b : Bool) → is_in w t.off ≡ b → counting_down c.auto_restart w b (ticked (kept_left c past)) ≡ kept_left c (entry m v (attempt.Tried t) ∷ past)
+    when false live = left-counted c past (entry m v (attempt.Tried t)) (all live)
+    when true off =
+        left-off c past (entry m v (attempt.Tried t)) w (omega (arith, is.is_line.below, few))
+        (ap (λ (b : Bool). if b then None else if is_in w t.off then Some 0 else option_map suc (attempts_off past w)) stays ∙ ap (λ (b : Bool). if b then Some 0 else option_map suc (attempts_off past w)) off)
+        others
 
 -- ---- what the sockets become
 
@@ -236,48 +307,77 @@ sockets-told c past e posts old after legal are posts_are same_places same_open 
 
 posts-tried : (c : BusConfig) (past : List Entry) (m : ℕ) (v : Verdict) (t : Tried) (w : ℕ) (l : LineState) (p : Pending) → IsLegal c past
     → c.ifaces ≤ 16 → IsCarried c past m v t w l p → (i : ℕ)
-    → attempt_posts c.reporting (attempt_between (kept_nodes c past) w v c.ack) t (Some p) i ≡ posts_of c past i (Attempt m v) (reply.Tried t)
+    → attempt_posts c.reporting (attempt_between (kept_nodes c past) w v c.ack) t (Some p) i ++ auto_restart_posts t.restarted m i ≡ posts_of c past i (event.Attempt m v) (reply.Tried t)
 posts-tried c past m v t w l p legal few is i =
     let who : w ≡ t.winner = sym (ap (λ (u : Tried). u.winner) is.tried_is) in
     let frame : Some p ≡ slice_get (sent_by past t.winner) t.number = sym is.head_is ∙ ap (λ (u : Tried). slice_get (sent_by past u.winner) u.number) (sym is.tried_is) in
-    ap (λ (tr : Transmission). attempt_posts c.reporting tr t (Some p) i) (between-is c past w v legal few)
+    ap (λ (ps : List Post). ps ++ auto_restart_posts t.restarted m i)
+    (ap (λ (tr : Transmission). attempt_posts c.reporting tr t (Some p) i) (between-is c past w v legal few)
     ∙ ap (λ (k : ℕ). attempt_posts c.reporting (transmission c past k v) t (Some p) i) who
-    ∙ ap (λ (q : Option Pending). attempt_posts c.reporting (transmission c past t.winner v) t q i) frame
+    ∙ ap (λ (q : Option Pending). attempt_posts c.reporting (transmission c past t.winner v) t q i) frame)
+
+-- sockets that are told two lots of posts, one after the other
+reached-both : (p q : ℕ → List Post) (vs : List SocketState) → map (reached q) (map (reached p) vs) ≡ map (reached (λ i. p i ++ q i)) vs
+reached-both p q [] = refl
+reached-both p q (v ∷ vs) =
+    let here : reached q (reached p v) ≡ reached (λ i. p i ++ q i) v = filled-both v (reached p v) (reached q (reached p v)) (p v.iface) (q v.iface) refl refl in
+    let rest = reached-both p q vs in
+    cc
 
 -- ---- the call
 
-idle-quiet : (c : BusConfig) (past : List Entry) (m : ℕ) (v : Verdict) → IsQuiet c past (entry m v None)
-idle-quiet c past m v = record { of_places = refl; of_open = refl; of_filters = λ o. refl; of_options = λ o. refl; of_taken = λ o. refl; of_posts = λ o. refl }
+idle-same : (c : BusConfig) (past : List Entry) (m : ℕ) (v : Verdict) (rs : IfaceSet) → (kept_lines c (entry m v (attempt.Idle rs) ∷ past) ≡ kept_lines c past) × (kept_keys (entry m v (attempt.Idle rs) ∷ past) ≡ kept_keys past)
+unfolding kept_lines kept_keys
+idle-same c past m v rs = (refl, refl)
 
-idle-same : (c : BusConfig) (past : List Entry) (m : ℕ) (v : Verdict) → (kept_lines c (entry m v None ∷ past) ≡ kept_lines c past) × (kept_keys (entry m v None ∷ past) ≡ kept_keys past) × (kept_nodes c (entry m v None ∷ past) ≡ kept_nodes c past)
-unfolding kept_lines kept_keys kept_nodes
-idle-same c past m v = (refl, refl, refl)
-
--- a frame that was tried, or none, leaves what its entry leaves
-pub tried_follows : (c : BusConfig) (past : List Entry) (m : ℕ) (v : Verdict) (r : Option Tried) (new : Parts) → IsLegal c past → c.ifaces ≤ 16 → Tries (kept_parts c past) c m v r new → Follows c past (entry m v r) new
-tried_follows c past m v None new legal few tries =
-    let e = entry m v None in
-    let same = idle-same c past m v in
+-- an attempt, in which a frame was tried or none, leaves what its entry leaves
+came_follows : (c : BusConfig) (past : List Entry) (m : ℕ) (v : Verdict) (o : Option Tried) (between new : Parts) → IsLegal c past → c.ifaces ≤ 16
+    → Tries (counted c past) c m v (due_in (kept_left c past)) o between → new ≡ after_auto_restart between (due_in (kept_left c past)) m
+    → Follows c past (entry m v (came_to (due_in (kept_left c past)) o)) new
+came_follows c past m v None between new legal few tries after =
+    let rs = due_in (kept_left c past) in
+    let e = entry m v (attempt.Idle rs) in
+    let due : rs ≡ restarted_next c past = due-kept c past legal in
+    let same = idle-same c past m v rs in
     record {
-      lawful = ap (attempt_reply c past m v) (sym (idle-is c past few tries.0));
-      after = tries.1 ∙ parts-are (kept_parts c past) (kept_parts c (e ∷ past)) (sym same.0) (sym same.1) (sym same.2) (sym (kept_sockets-quiet c past e (idle-quiet c past m v))) refl refl;
+      lawful = ap (λ (s : IfaceSet). reply.Idle s) due ∙ ap (attempt_reply c past m v) (sym (idle-is c past few tries.0));
+      after = after
+          ∙ ap (λ (p : Parts). after_auto_restart p rs m) tries.1
+          ∙ parts-are (after_auto_restart (counted c past) rs m) (kept_parts c (e ∷ past)) (sym same.0) (sym same.1)
+          (nodes-idle c past m v rs)
+          (left-counted c past e (λ i. ap (λ (s : IfaceSet). if is_in i s then None else option_map suc (attempts_off past i)) due))
+          (sockets-told c past e (auto_restart_posts rs m) (kept_sockets c past) _ legal refl (λ i. refl) refl refl (λ o. refl) (λ o. refl) (λ o. refl) refl)
+          refl refl;
     }
-tried_follows c past m v (Some t) new legal few k =
-    let e = entry m v (Some t) in
+came_follows c past m v (Some t) between new legal few k after =
+    let e = entry m v (attempt.Tried t) in
     let w = k.place in
     let l = k.line in
     let p = k.pending in
+    let rs = due_in (kept_left c past) in
+    let named : rs ≡ t.restarted = sym (ap (λ (u : Tried). u.restarted) k.tried) in
     let tr = attempt_between (kept_nodes c past) w v c.ack in
-    let is = the_winner c past m v t new legal few k in
+    let is = the_winner c past m v t between legal few k in
     record {
       lawful = reply-tried c past m v t w l p is;
-      after = k.after ∙ parts-are (after_try (kept_parts c past) c tr l p t) (kept_parts c (e ∷ past))
+      after = after
+          ∙ ap (λ (q : Parts). after_auto_restart q rs m) k.after
+          ∙ ap (λ (s : IfaceSet). after_auto_restart (after_try (counted c past) c tr l p t) s m) named
+          ∙ parts-are (after_auto_restart (after_try (counted c past) c tr l p t) t.restarted m) (kept_parts c (e ∷ past))
           (lines-tried c past m v t w l p is)
           (keys-tried c past m v t w l p few is)
           (nodes-tried c past m v t w l p legal few is)
-          (sockets-told c past e (attempt_posts c.reporting tr t (Some p)) (kept_sockets c past) _ legal refl (posts-tried c past m v t w l p legal few is) refl refl (λ o. refl) (λ o. refl) (λ o. refl) refl)
+          (left-tried c past m v t w l p legal few is)
+          (sockets-told c past e (λ i. attempt_posts c.reporting tr t (Some p) i ++ auto_restart_posts t.restarted m i) (kept_sockets c past) _ legal refl (posts-tried c past m v t w l p legal few is) refl refl (λ o. refl) (λ o. refl) (λ o. refl)
+          (reached-both (attempt_posts c.reporting tr t (Some p)) (auto_restart_posts t.restarted m) (kept_sockets c past)))
           refl (sym (length_push (tape past) t));
     }
+
+pub attempt_follows : (c : BusConfig) (past : List Entry) (m : ℕ) (v : Verdict) (r : Attempt) (new : Parts) → IsLegal c past → c.ifaces ≤ 16 → Attempts (kept_parts c past) c m v r new → Follows c past (entry m v r) new
+attempt_follows c past m v r new legal few at = subst (λ (a : Attempt). Follows c past (entry m v a) new) (sym at.came) (came_follows c past m v at.tried at.between new legal few at.tries at.after)
+
+pub sixteen_nodes : (j : Kept) (parts : Parts) → IsKept j parts → length parts.nodes.counters ≡ 16
+sixteen_nodes j parts kept = ap (λ (q : Parts). length q.nodes.counters) kept.of_parts ∙ length-counters j.config j.history
 
 pub few_nodes : (j : Kept) (parts : Parts) → IsKept j parts → parts.nodes.count ≤ 16
 few_nodes j parts kept = omega (arith, ap (λ (q : Parts). q.nodes.count) kept.of_parts ∙ count-kept j.config j.history, kept.proper.few_ifaces)
@@ -305,3 +405,7 @@ kept-ready c past legal few w k at =
 -- each interface with a key is there, is live, and has a frame to send
 pub ready : (j : Kept) (parts : Parts) → IsKept j parts → AreReady parts
 ready j parts kept = subst AreReady (sym kept.of_parts) (kept-ready j.config j.history kept.legal kept.proper.few_ifaces)
+
+-- where no interface restarts by itself none counts
+pub never_left : (j : Kept) (parts : Parts) (c : BusConfig) → IsKept j parts → c ≡ j.config → c.auto_restart ≡ 0 → parts.left ≡ replicate 16 0
+never_left j parts c kept same never = ap (λ (q : Parts). q.left) kept.of_parts ∙ left-never j.config j.history (ap (λ (k : BusConfig). k.auto_restart) (sym same) ∙ never)

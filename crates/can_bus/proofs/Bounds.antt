@@ -69,8 +69,8 @@ pub small_queued : (j : Kept) (parts : Parts) → IsKept j parts → All (λ (v 
 small_queued j parts kept =
     all_sockets (λ (v : SocketState). v.taken + length v.waiting < 2 ^ 64) j parts kept (λ k s at. omega (arith, length-drop (length (taken_from j.history s)) (queued_to j.config j.history s), taken_from-le-queued j.config j.history kept.legal s, queued-le j.config j.history s, short j parts kept))
 
-pub small_dropped : (j : Kept) (parts : Parts) → IsKept j parts → All (λ (v : SocketState). v.dropped + 3 < 2 ^ 64) parts.sockets
-small_dropped j parts kept = all_sockets (λ (v : SocketState). v.dropped + 3 < 2 ^ 64) j parts kept (λ k s at. omega (arith, dropped-le j.config j.history s, short j parts kept))
+pub small_dropped : (j : Kept) (parts : Parts) → IsKept j parts → All (λ (v : SocketState). v.dropped + 4 < 2 ^ 64) parts.sockets
+small_dropped j parts kept = all_sockets (λ (v : SocketState). v.dropped + 4 < 2 ^ 64) j parts kept (λ k s at. omega (arith, dropped-le j.config j.history s, short j parts kept))
 
 pub small_dropped_one : (j : Kept) (parts : Parts) → IsKept j parts → All (λ (v : SocketState). v.dropped + 1 < 2 ^ 64) parts.sockets
 small_dropped_one j parts kept = all_sockets (λ (v : SocketState). v.dropped + 1 < 2 ^ 64) j parts kept (λ k s at. omega (arith, dropped-le j.config j.history s, short j parts kept))

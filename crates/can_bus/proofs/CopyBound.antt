@@ -25,6 +25,7 @@ use Rattle.can_bus.specs.Counters.{counts_of, steps_of, steps_after, state_at, t
 use Rattle.can_bus.specs.Copies.{copying, copying_after, is_copied, went_over}
 use Rattle.can_bus.specs.Repeats.{AtMost32Copies, transmit_count, RisesAtTheHead, LastBitAdds8}
 use Rattle.can_bus.specs.Legal.{legal_reply, IsLegal}
+use Rattle.can_bus.proofs.CountingFacts.{live-restarted-not, idle-restarts}
 use Rattle.can_bus.proofs.Lawful.{WasTried, by_attempt, tried_by, sent_by-step, gone-le-sent}
 use Rattle.can_bus.proofs.OffFacts.{all_stepped-append, winner-contends, off-all-gone}
 use Rattle.can_bus.proofs.TurnFacts.{Facts, facts, here, copied, comes-over, gone-grows-if, count-numbers}
@@ -71,24 +72,32 @@ last_bit-step t failed =
 below-off : (x : ErrorCounts) → is_off (state_of x) ≡ false → x.tec < 256
 below-off x live = grind (arith, live)
 
-count-tried : (c : BusConfig) (past : List Entry) (i m : ℕ) (v : Verdict) (t : Tried) → count_after c past i (Attempt m v) (reply.Tried t) ≡ (counts_after (transmission c past t.winner v) i).tec
-count-tried c past i m v t = ap (λ (x : ErrorCounts). x.tec) (all_stepped-append at_start (steps_of c past i) (steps_at i (transmission c past t.winner v)))
+count-tried : (c : BusConfig) (past : List Entry) (i m : ℕ) (v : Verdict) (t : Tried) → is_in i t.restarted ≡ false → count_after c past i (Attempt m v) (reply.Tried t) ≡ (counts_after (transmission c past t.winner v) i).tec
+count-tried c past i m v t stays =
+    ap (λ b. (all_stepped at_start (if b then [] else steps_of c past i ++ steps_at i (transmission c past t.winner v))).tec) stays
+    ∙ ap (λ (x : ErrorCounts). x.tec) (all_stepped-append at_start (steps_of c past i) (steps_at i (transmission c past t.winner v)))
 
 pub class-is : (c : BusConfig) (past : List Entry) (m : ℕ) (v : Verdict) (t : Tried) → WasTried c past m v t → t.class ≡ class_of (transmission c past t.winner v)
 class-is c past m v t w = subst (λ (u : Tried). u.class ≡ class_of (transmission c past u.winner v)) (sym w.is) refl
 
+-- an attempt restarts no interface that is live before it
+not-restarted : (c : BusConfig) (past : List Entry) (m : ℕ) (v : Verdict) (t : Tried) (i : ℕ) → IsLegal c past → WasTried c past m v t → is_off (state_at c past i) ≡ false → is_in i t.restarted ≡ false
+not-restarted c past m v t i legal w live = ap (λ (u : Tried). is_in i u.restarted) w.is ∙ live-restarted-not c past legal i live
+
 -- ---- each fault in the last bit adds 8
 
-last_bit-step-of : (c : BusConfig) (past : List Entry) (e : Event) (t : Tried) → reply.Tried t ≡ legal_reply c past e → t.class ≡ class.LastBit → count_after c past t.winner e (reply.Tried t) ≡ transmit_count c past t.winner + 8
-last_bit-step-of c past e t law failed =
+last_bit-step-of : (c : BusConfig) (past : List Entry) (e : Event) (t : Tried) → IsLegal c past → reply.Tried t ≡ legal_reply c past e → t.class ≡ class.LastBit → count_after c past t.winner e (reply.Tried t) ≡ transmit_count c past t.winner + 8
+last_bit-step-of c past e t legal law failed =
     by_attempt (λ k. count_after c past t.winner k (reply.Tried t) ≡ transmit_count c past t.winner + 8) c past e t law
-    (λ m v w. count-tried c past t.winner m v t ∙ last_bit-step (transmission c past t.winner v) (sym (class-is c past m v t w) ∙ failed))
+    (λ m v w.
+    let live = subst (λ k. is_off (state_at c past k) ≡ false) (sym (ap (λ (u : Tried). u.winner) w.is)) (winner-contends c past w.place w.won).live in
+    count-tried c past t.winner m v t (not-restarted c past m v t t.winner legal w live) ∙ last_bit-step (transmission c past t.winner v) (sym (class-is c past m v t w) ∙ failed))
 
-last_bit-adds-at : (c : BusConfig) (past : List Entry) (e : Event) (r : Reply) → r ≡ legal_reply c past e → (t : Tried) → r ≡ reply.Tried t → t.class ≡ class.LastBit → count_after c past t.winner e r ≡ transmit_count c past t.winner + 8
-last_bit-adds-at c past e r law t is failed = subst (λ q. count_after c past t.winner e q ≡ transmit_count c past t.winner + 8) (sym is) (last_bit-step-of c past e t (sym is ∙ law) failed)
+last_bit-adds-at : (c : BusConfig) (past : List Entry) (e : Event) (r : Reply) → IsLegal c past → r ≡ legal_reply c past e → (t : Tried) → r ≡ reply.Tried t → t.class ≡ class.LastBit → count_after c past t.winner e r ≡ transmit_count c past t.winner + 8
+last_bit-adds-at c past e r legal law t is failed = subst (λ q. count_after c past t.winner e q ≡ transmit_count c past t.winner + 8) (sym is) (last_bit-step-of c past e t legal (sym is ∙ law) failed)
 
 pub last_bit-adds : (c : BusConfig) (past : List Entry) (e : Entry) → IsLegal c (e ∷ past) → LastBitAdds8 c e past
-last_bit-adds c past e legal t is failed = last_bit-adds-at c past e.event e.reply legal.1 t is failed
+last_bit-adds c past e legal t is failed = last_bit-adds-at c past e.event e.reply legal.2 legal.1 t is failed
 
 -- ---- while a frame is at the head, the count never falls
 
@@ -100,13 +109,21 @@ not-gone sent gone false false waits same = refl
 same-other : (i j : ℕ) → (i == j) ≡ (j == i)
 same-other i j = grind arith
 
-rises-tried : (c : BusConfig) (past : List Entry) (i m : ℕ) (v : Verdict) (t : Tried) → WasTried c past m v t → gone_count past i < sent_count past i → gone_then past i (reply.Tried t) ≡ gone_count past i → transmit_count c past i ≤ count_after c past i (Attempt m v) (reply.Tried t)
-rises-tried c past i m v t w waits same =
+-- an interface with a frame that waits is live
+waits-live : (c : BusConfig) (past : List Entry) (i : ℕ) → IsLegal c past → c.ifaces ≤ 16 → gone_count past i < sent_count past i → is_off (state_at c past i) ≡ false
+waits-live c past i legal few waits = when (is_off (state_at c past i)) refl
+  where
+    when : (b : Bool) → is_off (state_at c past i) ≡ b → b ≡ false
+    when false is = refl
+    when true is = let gone = off-all-gone c past legal few i is in absurd (omega (arith, gone, waits))
+
+rises-tried : (c : BusConfig) (past : List Entry) (i m : ℕ) (v : Verdict) (t : Tried) → IsLegal c past → c.ifaces ≤ 16 → WasTried c past m v t → gone_count past i < sent_count past i → gone_then past i (reply.Tried t) ≡ gone_count past i → transmit_count c past i ≤ count_after c past i (Attempt m v) (reply.Tried t)
+rises-tried c past i m v t legal few w waits same =
     let tr = transmission c past t.winner v in
     let stays : ((t.winner == i) && is_done t.class) ≡ false = not-gone (sent_count past i) (gone_count past i) (is_in i t.off) ((t.winner == i) && is_done t.class) waits same in
     let stays' : ((i == t.winner) && is_done (class_of tr)) ≡ false = ap (λ b. b && is_done (class_of tr)) (same-other i t.winner) ∙ ap (λ k. (t.winner == i) && is_done k) (sym (class-is c past m v t w)) ∙ stays in
     let le : transmit_count c past i ≤ (counts_after tr i).tec = not-lowered (i == t.winner) (is_among i (receivers tr)) (is_named tr.verdict i) (class_of tr) (attempts.state_at tr i) (counts_of c past i) stays' in
-    subst (λ n. transmit_count c past i ≤ n) (sym (count-tried c past i m v t)) le
+    subst (λ n. transmit_count c past i ≤ n) (sym (count-tried c past i m v t (not-restarted c past m v t i legal w (waits-live c past i legal few waits)))) le
 
 was-off : (b off : Bool) → reply.Done ≡ (if b then reply.Refused refusal.NoInterface else if off then reply.Done else reply.Refused refusal.NotBusOff) → off ≡ true
 was-off true off law = cc
@@ -115,7 +132,7 @@ was-off false false law = cc
 
 rises-step : (c : BusConfig) (past : List Entry) (i : ℕ) (e : Event) (r : Reply) → IsLegal c past → c.ifaces ≤ 16 → r ≡ legal_reply c past e → gone_count past i < sent_count past i → gone_then past i r ≡ gone_count past i → transmit_count c past i ≤ count_after c past i e r
 rises-step c past i e (reply.Tried t) legal few law waits same =
-    by_attempt (λ k. transmit_count c past i ≤ count_after c past i k (reply.Tried t)) c past e t law (λ m v w. rises-tried c past i m v t w waits same)
+    by_attempt (λ k. transmit_count c past i ≤ count_after c past i k (reply.Tried t)) c past e t law (λ m v w. rises-tried c past i m v t legal few w waits same)
 rises-step c past i (Restart k m) reply.Done legal few law waits same = when (k == i) refl
   where
     off : is_off (state_at c past k) ≡ true
@@ -126,6 +143,9 @@ rises-step c past i (Restart k m) reply.Done legal few law waits same = when (k 
         let gone : gone_count past i ≡ sent_count past i = off-all-gone c past legal few i (subst (λ j. is_off (state_at c past j) ≡ true) (eqb-true k i is) off) in
         absurd (omega (arith, gone, waits))
     when false is = omega arith
+rises-step c past i (Attempt m v) (reply.Idle restarted) legal few law waits same =
+    let stays : is_in i restarted ≡ false = ap (is_in i) (idle-restarts c past m v restarted law) ∙ live-restarted-not c past legal i (waits-live c past i legal few waits) in
+    subst (λ b. transmit_count c past i ≤ (all_stepped at_start (if b then [] else steps_of c past i)).tec) (sym stays) (omega arith)
 rises-step c past i (Open j n) _ legal few law waits same = omega arith
 rises-step c past i (Close s) _ legal few law waits same = omega arith
 rises-step c past i (SetFilters s f) _ legal few law waits same = omega arith
@@ -228,8 +248,8 @@ record IsCopy (c : BusConfig) (past : List Entry) (i : ℕ) (e : Event) (t : Tri
   pub live : transmit_count c past i < 256
   pub adds : gone_then past i (reply.Tried t) ≡ gone_count past i → transmit_count c past i + 8 ≤ count_after c past i e (reply.Tried t)
 
-is_copy : (c : BusConfig) (past : List Entry) (i s : ℕ) (e : Event) (t : Tried) → reply.Tried t ≡ legal_reply c past e → here c past i s t ≡ true → IsCopy c past i e t
-is_copy c past i s e t law is = tried_by c past e t law (λ m v w.
+is_copy : (c : BusConfig) (past : List Entry) (i s : ℕ) (e : Event) (t : Tried) → IsLegal c past → reply.Tried t ≡ legal_reply c past e → here c past i s t ≡ true → IsCopy c past i e t
+is_copy c past i s e t legal law is = tried_by c past e t law (λ m v w.
     let f : Facts past i t = facts c past m v t i w mine in
     let who : w.place ≡ i = sym (ap (λ (u : Tried). u.winner) w.is) ∙ mine in
     let over : went_over t.class ≡ true = comes-over c past m v t (iface_of past s) (slice_get (sent_by past t.winner) t.number) w (copied c past s t both.0).comes in
@@ -250,7 +270,7 @@ is_copy c past i s e t law is = tried_by c past e t law (λ m v w.
     eight over stays =
         let undone : is_done t.class ≡ false = ap (λ b. b && is_done t.class) (sym both.1) ∙ stays in
         let failed : t.class ≡ class.LastBit = was-last_bit t.class over undone in
-        let up : count_after c past i e (reply.Tried t) ≡ transmit_count c past i + 8 = subst (λ k. count_after c past k e (reply.Tried t) ≡ transmit_count c past k + 8) mine (last_bit-step-of c past e t law failed) in
+        let up : count_after c past i e (reply.Tried t) ≡ transmit_count c past i + 8 = subst (λ k. count_after c past k e (reply.Tried t) ≡ transmit_count c past k + 8) mine (last_bit-step-of c past e t legal law failed) in
         omega (arith, up)
 
 -- an entry that copies no frame of the interface to the socket
@@ -270,7 +290,7 @@ fits-step : (c : BusConfig) (past : List Entry) (i s : ℕ) (e : Event) (r : Rep
 fits-step c past i s e (reply.Tried t) legal few law before = when (here c past i s t) refl
   where
     when : (b : Bool) → here c past i s t ≡ b → FitsThen c past i e (reply.Tried t) (if b then copying c past i s ++ t ∷ [] else copying c past i s)
-    when true is = fits-copied c past i e t (copying c past i s) legal (is_copy c past i s e t law is) before
+    when true is = fits-copied c past i e t (copying c past i s) legal (is_copy c past i s e t legal law is) before
     when false is = fits-unchanged c past i e (reply.Tried t) (copying c past i s) legal few law before
 fits-step c past i s e r legal few law before = fits-unchanged c past i e r (copying c past i s) legal few law before
 

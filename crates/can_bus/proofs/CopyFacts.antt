@@ -22,7 +22,7 @@ use Rattle.can_bus.specs.declared.events.Pending.{Pending}
 use Rattle.can_bus.specs.Sockets.{is_open, iface_of, capacity_of, filters_of, options_of}
 use Rattle.can_bus.specs.Transmit.{sent_by}
 use Rattle.can_bus.specs.Counters.{transmission}
-use Rattle.can_bus.specs.Posts.{Post, is_own, sender_in, posts_of, data_posts, error_posts, attempt_posts, restart_posts, fault_message_for, role_at}
+use Rattle.can_bus.specs.Posts.{Post, is_own, sender_in, posts_of, data_posts, error_posts, attempt_posts, restart_posts, auto_restart_posts, fault_message_for, role_at}
 use Rattle.can_bus.specs.Queues.{taken_from, queued_to, candidates_of, passing}
 use Rattle.can_bus.specs.Legal.{legal_reply, IsLegal}
 use Rattle.can_bus.specs.Copies.{is_data, is_from, received_from, comes_to, has_room, is_copied, copying, copying_after, copy_of}
@@ -93,20 +93,26 @@ room-fits : (a q : ℕ) → nat_lt 0 (a - q) ≡ nat_lt q a
 room-fits a q = grind arith
 
 -- an attempt's data frame comes first among what it puts to the sockets of an interface
-abbrev errors_at : IfaceSet → Transmission → Tried → ℕ → List Post
-errors_at reporting tr t i =
-    (if is_in i reporting then error_posts i t.moment (fault_message_for t.class tr.verdict (role_at tr i)) else [])
-    ++ error_posts i t.moment (state_message (tr.counts i) (counts_after tr i))
+abbrev errors_at : IfaceSet → Transmission → Tried → ℕ → ℕ → List Post
+errors_at reporting tr t m i =
+    ((if is_in i reporting then error_posts i t.moment (fault_message_for t.class tr.verdict (role_at tr i)) else [])
+    ++ error_posts i t.moment (state_message (tr.counts i) (counts_after tr i)))
+    ++ auto_restart_posts t.restarted m i
 
 append-first : (xs ys zs : List Post) → (xs ++ ys) ++ zs ≡ xs ++ (ys ++ zs)
 append-first [] ys zs = refl
 append-first (x ∷ xs) ys zs = ap (λ ps. x ∷ ps) (append-first xs ys zs)
 
-AreErrors-at : (reporting : IfaceSet) (tr : Transmission) (t : Tried) (i : ℕ) → AreErrors (errors_at reporting tr t i)
-AreErrors-at reporting tr t i =
-    AreErrors-append (if is_in i reporting then error_posts i t.moment (fault_message_for t.class tr.verdict (role_at tr i)) else []) (error_posts i t.moment (state_message (tr.counts i) (counts_after tr i)))
+errors-auto_restart : (restarted : IfaceSet) (m i : ℕ) → AreErrors (auto_restart_posts restarted m i)
+errors-auto_restart restarted m i = AreErrors-if (is_in i restarted) (error_posts i m (Some restart_message)) (AreErrors-posts i m (Some restart_message))
+
+AreErrors-at : (reporting : IfaceSet) (tr : Transmission) (t : Tried) (m i : ℕ) → AreErrors (errors_at reporting tr t m i)
+AreErrors-at reporting tr t m i =
+    AreErrors-append _ (auto_restart_posts t.restarted m i)
+    (AreErrors-append (if is_in i reporting then error_posts i t.moment (fault_message_for t.class tr.verdict (role_at tr i)) else []) (error_posts i t.moment (state_message (tr.counts i) (counts_after tr i)))
     (AreErrors-if (is_in i reporting) (error_posts i t.moment (fault_message_for t.class tr.verdict (role_at tr i))) (AreErrors-posts i t.moment (fault_message_for t.class tr.verdict (role_at tr i))))
-    (AreErrors-posts i t.moment (state_message (tr.counts i) (counts_after tr i)))
+    (AreErrors-posts i t.moment (state_message (tr.counts i) (counts_after tr i))))
+    (errors-auto_restart t.restarted m i)
 
 -- what an entry adds to socket s of the data frames of interface i
 abbrev added : BusConfig → List Entry → ℕ → ℕ → Event → Reply → List Received
@@ -124,13 +130,14 @@ added-tried c past i s m v t = when (is_open past s)
     tr : Transmission
     tr = transmission c past t.winner v
 
-    inside : filter (is_from i) (take (room_at c past s) (passing (filters_of past s) (options_of past s) s (attempt_posts c.reporting tr t p j))) ≡ (if (comes_to j t p && (wants (filters_of past s) (options_of past s) (item.Data t.frame) (is_own (sender_in p) s) && has_room c past s)) && (t.winner == i) then copy_of t ∷ [] else [])
+    inside : filter (is_from i) (take (room_at c past s) (passing (filters_of past s) (options_of past s) s (attempt_posts c.reporting tr t p j ++ auto_restart_posts t.restarted m j))) ≡ (if (comes_to j t p && (wants (filters_of past s) (options_of past s) (item.Data t.frame) (is_own (sender_in p) s) && has_room c past s)) && (t.winner == i) then copy_of t ∷ [] else [])
     inside =
         ap (λ ps. filter (is_from i) (take (room_at c past s) (passing (filters_of past s) (options_of past s) s ps)))
-        (append-first (data_posts j t p) (if is_in j c.reporting then error_posts j t.moment (fault_message_for t.class tr.verdict (role_at tr j)) else []) (error_posts j t.moment (state_message (tr.counts j) (counts_after tr j))))
-        ∙ offered (filters_of past s) (options_of past s) s i (room_at c past s) (record { received = copy_of t; sender = sender_in p }) (errors_at c.reporting tr t j) (comes_to j t p) _ (has_room c past s) refl (AreErrors-at c.reporting tr t j) refl (room-fits (capacity_of past s + length (taken_from past s)) (length (queued_to c past s)))
+        (ap (λ ps. ps ++ auto_restart_posts t.restarted m j) (append-first (data_posts j t p) (if is_in j c.reporting then error_posts j t.moment (fault_message_for t.class tr.verdict (role_at tr j)) else []) (error_posts j t.moment (state_message (tr.counts j) (counts_after tr j))))
+        ∙ append-first (data_posts j t p) _ (auto_restart_posts t.restarted m j))
+        ∙ offered (filters_of past s) (options_of past s) s i (room_at c past s) (record { received = copy_of t; sender = sender_in p }) (errors_at c.reporting tr t m j) (comes_to j t p) _ (has_room c past s) refl (AreErrors-at c.reporting tr t m j) refl (room-fits (capacity_of past s + length (taken_from past s)) (length (queued_to c past s)))
 
-    when : (b : Bool) → filter (is_from i) (take (room_at c past s) (if b then passing (filters_of past s) (options_of past s) s (attempt_posts c.reporting tr t p j) else [])) ≡ (if (b && (comes_to j t p && (wants (filters_of past s) (options_of past s) (item.Data t.frame) (is_own (sender_in p) s) && has_room c past s))) && (t.winner == i) then copy_of t ∷ [] else [])
+    when : (b : Bool) → filter (is_from i) (take (room_at c past s) (if b then passing (filters_of past s) (options_of past s) s (attempt_posts c.reporting tr t p j ++ auto_restart_posts t.restarted m j) else [])) ≡ (if (b && (comes_to j t p && (wants (filters_of past s) (options_of past s) (item.Data t.frame) (is_own (sender_in p) s) && has_room c past s))) && (t.winner == i) then copy_of t ∷ [] else [])
     when true = inside
     when false = ap (filter (is_from i)) (take_nil (room_at c past s))
 
@@ -164,6 +171,7 @@ errors-restart k m i = AreErrors-if (i == k) (error_posts i m (Some restart_mess
 adds : (c : BusConfig) (past : List Entry) (i s : ℕ) (e : Event) (r : Reply) → r ≡ legal_reply c past e → Adds c past i s e r
 adds c past i s e (reply.Tried t) law = by_attempt (λ k. Adds c past i s k (reply.Tried t)) c past e t law (λ m v w. adds-tried c past i s m v t)
 adds c past i s (Restart k m) reply.Done law = adds-none c past i s (Restart k m) reply.Done (added-errors c past i s (Restart k m) reply.Done (errors-restart k m (iface_of past s)))
+adds c past i s (Attempt m v) (reply.Idle restarted) law = adds-none c past i s (Attempt m v) (reply.Idle restarted) (added-errors c past i s (Attempt m v) (reply.Idle restarted) (errors-auto_restart restarted m (iface_of past s)))
 adds c past i s (Open x1 x2) r law = adds-none c past i s (Open x1 x2) r (added-errors c past i s (Open x1 x2) r tt)
 adds c past i s (Close x1) r law = adds-none c past i s (Close x1) r (added-errors c past i s (Close x1) r tt)
 adds c past i s (SetFilters x1 x2) r law = adds-none c past i s (SetFilters x1 x2) r (added-errors c past i s (SetFilters x1 x2) r tt)

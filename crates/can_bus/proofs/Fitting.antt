@@ -1,14 +1,16 @@
-use Rattle.std.proofs.Common.{refl, ◌≡◌, ℕ, zero, suc, ◌+◌, ◌-◌, ◌==◌, nat_le, Bool, true, false, not, ◌&&◌, ◌||◌, List, [], ◌∷◌, ◌++◌, length, slice_get, Option, Some, None, All, if◌then◌else◌, sym, subst}
+use Rattle.std.proofs.Common.{refl, ◌≡◌, ℕ, zero, suc, ◌+◌, ◌-◌, ◌==◌, nat_le, Bool, true, false, not, ◌&&◌, ◌||◌, List, [], ◌∷◌, ◌++◌, length, slice_get, Option, Some, None, All, if◌then◌else◌, filter, arith, ap, sym, subst}
+use Rattle.std.specs.List.{range_with_len}
+use Rattle.std.proofs.lemmas.Bool.{ne_eqb}
 use Rattle.std.proofs.lemmas.List.Elements.{All-nil, All-cons, All-head, All-tail, All-append, All-take}
 use Rattle.can_frame.specs.Frames.{ErrorMessage}
-use Rattle.can_frame.specs.Sets.{is_in}
+use Rattle.can_frame.specs.Sets.{is_in, no_ifaces}
 use Rattle.can_frame.specs.declared.ifaces.IfaceSet.{IfaceSet}
 use Rattle.can_filter.specs.Filters.{CanFilter}
 use Rattle.can_filter.specs.Passing.{wants}
 use Rattle.can_filter.specs.declared.socket_options.Options.{Options}
 use Rattle.can_confine.specs.Confinement.{is_off}
 use Rattle.can_fault.specs.declared.verdicts.Verdict.{Verdict}
-use Rattle.can_attempt.specs.Attempts.{Transmission, counts_after}
+use Rattle.can_attempt.specs.Attempts.{Transmission, counts_after, set_of}
 use Rattle.can_errframe.specs.ErrorMessages.{state_message, restart_message}
 use Rattle.can_bus.specs.declared.events.BusConfig.{BusConfig}
 use Rattle.can_bus.specs.declared.events.Entry.{Entry}
@@ -23,10 +25,11 @@ use Rattle.can_bus.specs.Sockets.{open_sockets, is_open, iface_of, capacity_of, 
 use Rattle.can_bus.specs.Transmit.{sent_by, gone_count, head_of}
 use Rattle.can_bus.specs.Counters.{state_at, transmission}
 use Rattle.can_bus.specs.Attempts.{winner, attempt_reply, tried_head}
-use Rattle.can_bus.specs.Posts.{Post, is_looped_back, is_own, data_posts, error_posts, attempt_posts, posts_of, fault_message_for, role_at}
+use Rattle.can_bus.specs.Posts.{Post, is_looped_back, is_own, data_posts, error_posts, attempt_posts, auto_restart_posts, posts_of, fault_message_for, role_at}
 use Rattle.can_bus.specs.Queues.{passing, candidates_of, queued_to, taken_from}
 use Rattle.can_bus.specs.Legal.{legal_reply, IsLegal}
-use Rattle.can_bus.specs.Spelled.{IsNumbered, AreNumbered, FitsReply, IsSpelled}
+use Rattle.can_bus.specs.AutoRestart.{attempts_off, is_nth_after, is_due, restarted_in, restarted_next}
+use Rattle.can_bus.specs.Spelled.{IsNumbered, AreNumbered, FitsReply, MayRestart, IsSpelled}
 
 -- Each legal reply fits its event, so that each entry of a legal history has a line.
 
@@ -64,8 +67,15 @@ attempt-posts reporting sending t p i =
     (All-append IsPost (data_posts i t p) faults (data-posts i t p) (if-holds ArePosts (is_in i reporting) (error_posts i t.moment fault) [] (error-posts i t.moment fault) no-posts))
     (error-posts i t.moment change)
 
+auto_restart-posts : (restarted : IfaceSet) (m i : ℕ) → ArePosts (auto_restart_posts restarted m i)
+auto_restart-posts restarted m i = if-holds ArePosts (is_in i restarted) _ _ (error-posts i m (Some restart_message)) no-posts
+
 posts-numbered : (c : BusConfig) (past : List Entry) (i : ℕ) (e : Event) (r : Reply) → ArePosts (posts_of c past i e r)
-posts-numbered c past i (Attempt m v) (reply.Tried t) = attempt-posts c.reporting (transmission c past t.winner v) t (slice_get (sent_by past t.winner) t.number) i
+posts-numbered c past i (Attempt m v) (reply.Tried t) =
+    let p = slice_get (sent_by past t.winner) t.number in
+    let tr = transmission c past t.winner v in
+    All-append IsPost (attempt_posts c.reporting tr t p i) (auto_restart_posts t.restarted m i) (attempt-posts c.reporting tr t p i) (auto_restart-posts t.restarted m i)
+posts-numbered c past i (Attempt m v) (reply.Idle restarted) = auto_restart-posts restarted m i
 posts-numbered c past i (Restart k m) reply.Done = if-holds ArePosts (i == k) _ _ (error-posts i m (Some restart_message)) no-posts
 posts-numbered c past i _ _ = no-posts
 
@@ -111,7 +121,50 @@ legal-fits c past (Restart i m) = if-holds (FitsReply (Restart i m)) (nat_le c.i
 pub legal_is_spelled : (c : BusConfig) (past : List Entry) (e : Event) (r : Reply) → r ≡ legal_reply c past e → FitsReply e r
 legal_is_spelled c past e r law = subst (FitsReply e) (sym law) (legal-fits c past e)
 
+-- ---- restarts
+
+-- a reply that is no attempt's names no interface as restarted
+none-if : (b : Bool) (x y : Reply) → restarted_in x ≡ no_ifaces → restarted_in y ≡ no_ifaces → restarted_in (if b then x else y) ≡ no_ifaces
+none-if b x y hx hy = if-holds (λ r. restarted_in r ≡ no_ifaces) b x y hx hy
+
+-- on a bus that never restarts an interface by itself none is due
+never-due : (n : ℕ) (past : List Entry) (i : ℕ) → n ≡ 0 → is_nth_after n (attempts_off past i) ≡ false
+never-due n past i never = when (attempts_off past i)
+  where
+    when : (k : Option ℕ) → is_nth_after n k ≡ false
+    when None = refl
+    when (Some k) = ne_eqb (suc k) n (λ same. absurd (omega (arith, same, never)))
+
+nobody : (c : BusConfig) (past : List Entry) (is : List ℕ) → c.auto_restart ≡ 0 → filter (is_due c past) is ≡ []
+nobody c past [] never = refl
+nobody c past (i ∷ is) never = let here = never-due c.auto_restart past i never in rw here (nobody c past is never)
+
+pub never-restarted : (c : BusConfig) (past : List Entry) → c.auto_restart ≡ 0 → restarted_next c past ≡ no_ifaces
+never-restarted c past never = ap set_of (nobody c past (range_with_len 0 c.ifaces) never)
+
+head-restarts : (c : BusConfig) (past : List Entry) (m : ℕ) (v : Verdict) (w : ℕ) (p : Option Pending) → MayRestart c (tried_head c past m v w p)
+head-restarts c past m v w None never = never-restarted c past never
+head-restarts c past m v w (Some p) never = never-restarted c past never
+
+attempt-restarts : (c : BusConfig) (past : List Entry) (m : ℕ) (v : Verdict) (w : Option ℕ) → MayRestart c (attempt_reply c past m v w)
+attempt-restarts c past m v None never = never-restarted c past never
+attempt-restarts c past m v (Some w) never = head-restarts c past m v w (head_of past w) never
+
+legal-restarts : (c : BusConfig) (past : List Entry) (e : Event) → MayRestart c (legal_reply c past e)
+legal-restarts c past (Open i n) never = none-if (nat_le c.ifaces i) _ _ refl (none-if (not (nat_le 1 n && nat_le n 65536)) _ _ refl (none-if (nat_le 64 (length (open_sockets past))) _ _ refl refl))
+legal-restarts c past (Close s) never = none-if (is_open past s.0) _ _ refl refl
+legal-restarts c past (SetFilters s f) never = none-if (is_open past s.0) _ _ refl refl
+legal-restarts c past (SetOption s o) never = none-if (is_open past s.0) _ _ refl refl
+legal-restarts c past (Send s f) never = none-if (is_open past s.0) _ _ (none-if (is_off (state_at c past (iface_of past s.0))) _ _ refl (none-if (length (sent_by past (iface_of past s.0)) - gone_count past (iface_of past s.0) == c.tx_capacity) _ _ refl refl)) refl
+legal-restarts c past (Receive s) never = none-if (is_open past s.0) _ _ refl refl
+legal-restarts c past (Attempt m v) never = attempt-restarts c past m v (winner c past) never
+legal-restarts c past (Restart i m) never = none-if (nat_le c.ifaces i) _ _ refl (none-if (is_off (state_at c past i)) _ _ refl refl)
+
+-- an entry with the legal reply has a line in the text of a record of its configuration
+pub legal_has_line : (c : BusConfig) (past : List Entry) (e : Event) (r : Reply) → r ≡ legal_reply c past e → IsSpelled c (record { event = e; reply = r })
+legal_has_line c past e r law = record { fits = legal_is_spelled c past e r law; restarts = subst (MayRestart c) (sym law) (legal-restarts c past e) }
+
 -- each entry of a legal history has a line
-pub legal-spelled : (c : BusConfig) (past : List Entry) → IsLegal c past → All IsSpelled past
-legal-spelled c [] legal = All-nil IsSpelled
-legal-spelled c (e ∷ past) legal = All-cons IsSpelled e past (legal_is_spelled c past e.event e.reply legal.1) (legal-spelled c past legal.2)
+pub legal-spelled : (c : BusConfig) (past : List Entry) → IsLegal c past → All (IsSpelled c) past
+legal-spelled c [] legal = All-nil (IsSpelled c)
+legal-spelled c (e ∷ past) legal = All-cons (IsSpelled c) e past (legal_has_line c past e.event e.reply legal.1) (legal-spelled c past legal.2)

@@ -26,7 +26,7 @@ use Rattle.can_bus.specs.Sockets.{Place, places, places_after, open_sockets, is_
 use Rattle.can_bus.specs.Transmit.{sent_by, sent_after, gone_count, gone_after, done_count, done_after, refused_count, refused_after, head_of, is_done}
 use Rattle.can_bus.specs.Counters.{state_at, transmission}
 use Rattle.can_bus.specs.Attempts.{winner, attempt_reply, tried_head, tried_with}
-use Rattle.can_bus.specs.Posts.{Post, is_looped_back, is_own, posts_of, data_posts, error_posts, attempt_posts, restart_posts, fault_message_for, role_at}
+use Rattle.can_bus.specs.Posts.{Post, is_looped_back, is_own, posts_of, data_posts, error_posts, attempt_posts, restart_posts, auto_restart_posts, fault_message_for, role_at}
 use Rattle.can_bus.specs.Queues.{taken_from, taken_after, queued_to, dropped_at, candidates_of, passing}
 use Rattle.can_bus.specs.Legal.{legal_reply, IsLegal}
 use Rattle.can_bus.proofs.Lists.{Rises}
@@ -250,22 +250,29 @@ restart_posts-le k m i = either (i == k) (error_posts i m (Some restart_message)
     either true xs le = omega arith
     either false xs le = omega arith
 
-posts_of-le : (c : BusConfig) (past : List Entry) (i : ℕ) (e : Event) (r : Reply) → length (posts_of c past i e r) ≤ 3
-posts_of-le c past i (Attempt m v) (reply.Tried t) = attempt_posts-le c.reporting (transmission c past t.winner v) t (slice_get (sent_by past t.winner) t.number) i
-posts_of-le c past i (Restart k m) reply.Done = restart_posts-le k m i
+auto_restart_posts-le : (restarted : IfaceSet) (m i : ℕ) → length (auto_restart_posts restarted m i) ≤ 1
+auto_restart_posts-le restarted m i = either-le (is_in i restarted) (error_posts i m (Some restart_message)) (error_posts-le i m (Some restart_message))
+
+posts_of-le : (c : BusConfig) (past : List Entry) (i : ℕ) (e : Event) (r : Reply) → length (posts_of c past i e r) ≤ 4
+posts_of-le c past i (Attempt m v) (reply.Tried t) =
+    let p = slice_get (sent_by past t.winner) t.number in
+    let tr = transmission c past t.winner v in
+    omega (arith, length-append (attempt_posts c.reporting tr t p i) (auto_restart_posts t.restarted m i), attempt_posts-le c.reporting tr t p i, auto_restart_posts-le t.restarted m i)
+posts_of-le c past i (Attempt m v) (reply.Idle restarted) = omega (arith, auto_restart_posts-le restarted m i)
+posts_of-le c past i (Restart k m) reply.Done = omega (arith, restart_posts-le k m i)
 posts_of-le c past i _ _ = omega arith
 
-candidates_of-le : (c : BusConfig) (past : List Entry) (s : ℕ) (e : Event) (r : Reply) → length (candidates_of c past s e r) ≤ 3
+candidates_of-le : (c : BusConfig) (past : List Entry) (s : ℕ) (e : Event) (r : Reply) → length (candidates_of c past s e r) ≤ 4
 candidates_of-le c past s e r =
-    elim (is_open past s) as (λ b. length (if b then passing (filters_of past s) (options_of past s) s (posts_of c past (iface_of past s) e r) else []) ≤ 3)
+    elim (is_open past s) as (λ b. length (if b then passing (filters_of past s) (options_of past s) s (posts_of c past (iface_of past s) e r) else []) ≤ 4)
     [ true ↦ omega (arith, passing-le (filters_of past s) (options_of past s) s (posts_of c past (iface_of past s) e r), posts_of-le c past (iface_of past s) e r) | false ↦ omega arith ]
 
--- no entry drops more than three items at a socket
-pub dropped-le : (c : BusConfig) (past : List Entry) (s : ℕ) → length (dropped_at c past s) ≤ 3 * length past
+-- no entry drops more than four items at a socket
+pub dropped-le : (c : BusConfig) (past : List Entry) (s : ℕ) → length (dropped_at c past s) ≤ 4 * length past
 dropped-le c [] s = omega arith
 dropped-le c (e ∷ past) s = omega (arith, candidates_of-le c past s e.event e.reply, dropped-le c past s, length-append {A = Received}, length-drop {A = Received})
 
 -- nor does it queue more
-pub queued-le : (c : BusConfig) (past : List Entry) (s : ℕ) → length (queued_to c past s) ≤ 3 * length past
+pub queued-le : (c : BusConfig) (past : List Entry) (s : ℕ) → length (queued_to c past s) ≤ 4 * length past
 queued-le c [] s = omega arith
 queued-le c (e ∷ past) s = omega (arith, candidates_of-le c past s e.event e.reply, queued-le c past s, length-append {A = Received}, length-take {A = Received})

@@ -32,6 +32,8 @@ pub mod LifeFacts
 pub mod OwnFacts
 pub mod FateFacts
 pub mod SilentFacts
+pub mod CountingFacts
+pub mod LeftFacts
 pub mod QueueFacts
 pub mod LostFacts
 pub mod CopyBound

@@ -9,7 +9,7 @@ use Rattle.can_bus.specs.State.{kept_nodes}
 use Rattle.can_bus.specs.Stats.{all_counts}
 use Rattle.can_bus.specs.Changes.{is_off_at}
 
-index-map : {X : Type 0} (f : ℕ → X) (a n k : ℕ) (d : X) → k < n → slice_index_or (map f (range_with_len a n)) k d ≡ f (a + k)
+pub index-map : {X : Type 0} (f : ℕ → X) (a n k : ℕ) (d : X) → k < n → slice_index_or (map f (range_with_len a n)) k d ≡ f (a + k)
 index-map f a zero k d lt = absurd (omega arith)
 index-map f a (suc n) zero d lt = ap f (omega arith)
 index-map f a (suc n) (suc k) d lt = index-map f (a + 1) n k d (omega arith) ∙ ap f (omega arith)

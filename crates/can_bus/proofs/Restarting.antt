@@ -1,4 +1,4 @@
-use Rattle.std.proofs.Common.{◌≡◌, ◌≢◌, ℕ, ◌<◌, ◌≤◌, ◌==◌, nat_le, true, false, List, [], ◌∷◌, map, slice_set, Result, Ok, Err, refl, sym, ap, ◌∙◌, arith}
+use Rattle.std.proofs.Common.{◌≡◌, ◌≢◌, ℕ, ◌<◌, ◌≤◌, ◌==◌, nat_le, true, false, List, [], ◌∷◌, map, slice_set, None, Result, Ok, Err, refl, sym, ap, ◌∙◌, arith}
 use Rattle.std.specs.List.{range_with_len}
 use Rattle.std.proofs.lemmas.Bool.{eq-eqb, ne_eqb, cond-true, cond-false, le-leb, lt-leb}
 use Rattle.can_confine.specs.Confinement.{ErrorCounts, Step, all_stepped, at_start, is_off}
@@ -10,9 +10,10 @@ use Rattle.can_bus.specs.declared.events.Refusal.{Refusal}
 use Rattle.can_bus.specs.declared.events.Refusal.TheVariants as refusal
 use Rattle.can_bus.specs.Answer.{told, done_reply}
 use Rattle.can_bus.specs.Counters.{counts_of, steps_of, state_at}
+use Rattle.can_bus.specs.AutoRestart.{attempts_off, attempts_left, left_after}
 use Rattle.can_bus.specs.Posts.{restart_posts}
 use Rattle.can_bus.specs.Legal.{IsLegal}
-use Rattle.can_bus.specs.State.{Parts, kept_lines, kept_keys, kept_nodes, kept_sockets, kept_parts}
+use Rattle.can_bus.specs.State.{Parts, kept_lines, kept_keys, kept_nodes, kept_left, kept_sockets, kept_parts}
 use Rattle.can_bus.specs.Changes.{Restarts, after_restart}
 use Rattle.can_bus.proofs.Attempting.{sockets-told, count-kept}
 use Rattle.can_bus.proofs.Keeping.{Follows, follows_refused, parts-are}
@@ -40,6 +41,16 @@ nodes-restarted c past i m old new lt are after =
     ∙ ap (λ (k : ErrorCounts). record { count = c.ifaces; counters = slice_set (map (counts_of c past) (range_with_len 0 16)) i k }) (sym (counts-restarted c past i m))
     ∙ ap (λ (ks : List ErrorCounts). record { count = c.ifaces; counters = ks }) (sym (sixteen-one (counts_of c past) (counts_of c (entry i m (Ok tt) ∷ past)) i 16 lt (counts-other c past i m)))
 
+left-restarted : (c : BusConfig) (past : List Entry) (i m : ℕ) → i < 16 → slice_set (kept_left c past) i 0 ≡ kept_left c (entry i m (Ok tt) ∷ past)
+unfolding kept_left
+left-restarted c past i m lt =
+    let e = entry i m (Ok tt) in
+    let here : attempts_left c (e ∷ past) i ≡ 0 = ap (left_after c.auto_restart) (cond-true (i == i) None (attempts_off past i) (eq-eqb i i refl)) in
+    let others : (j : ℕ) → j ≢ i → attempts_left c (e ∷ past) j ≡ attempts_left c past j =
+    λ j ne. ap (left_after c.auto_restart) (cond-false (i == j) None (attempts_off past j) (ne_eqb i j (λ e. ne (sym e)))) in
+    ap (slice_set (map (attempts_left c past) (range_with_len 0 16)) i) (sym here)
+    ∙ sym (sixteen-one (attempts_left c past) (attempts_left c (e ∷ past)) i 16 lt others)
+
 -- a restart, or its refusal, leaves what its entry leaves
 pub restarted_follows : (c : BusConfig) (past : List Entry) (i m : ℕ) (r : Result (Unit {0}) Refusal) (new : Parts) → IsLegal c past → c.ifaces ≤ 16 → Restarts (kept_parts c past) i m r new → Follows c past (entry i m r) new
 restarted_follows c past i m (Ok done) new legal few restarts =
@@ -53,6 +64,7 @@ restarted_follows c past i m (Ok done) new legal few restarts =
       lawful = sym (cond-false (nat_le c.ifaces i) _ _ (lt-leb c.ifaces i below) ∙ cond-true (is_off (state_at c past i)) _ _ off);
       after = restarts.2 ∙ parts-are (after_restart old i m) (kept_parts c (e ∷ past)) (sym same.0) (sym same.1)
           (nodes-restarted c past i m (kept_nodes c past) _ few_i refl refl)
+          (left-restarted c past i m few_i)
           (sockets-told c past e (restart_posts i m) (kept_sockets c past) _ legal refl (λ j. refl) refl refl (λ o. refl) (λ o. refl) (λ o. refl) refl)
           refl refl;
     }

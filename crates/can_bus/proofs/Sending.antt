@@ -17,7 +17,7 @@ use Rattle.can_bus.specs.Journal.{IsConfig}
 use Rattle.can_bus.specs.Legal.{legal_reply, IsLegal}
 use Rattle.can_bus.specs.Sockets.{iface_of, is_open}
 use Rattle.can_bus.specs.Transmit.{sent_by, gone_count, head_of}
-use Rattle.can_bus.specs.State.{LineState, SocketState, Parts, key_in, kept_line, kept_lines, kept_keys, kept_nodes, kept_socket, kept_sockets, kept_parts}
+use Rattle.can_bus.specs.State.{LineState, SocketState, Parts, key_in, kept_line, kept_lines, kept_keys, kept_nodes, kept_left, kept_socket, kept_sockets, kept_parts}
 use Rattle.can_bus.specs.Changes.{IsLineOf, Takes, FindsFull, IsOffFor, Sends, with_line, is_off_at}
 use Rattle.can_bus.proofs.Keeping.{Follows, IsQuiet, kept_sockets-quiet, refused-quiet, follows_refused, parts-are}
 use Rattle.can_bus.proofs.KeyFacts.{kept_keys-one}
@@ -142,6 +142,10 @@ nodes-sent : (c : BusConfig) (past : List Entry) (s : SocketId) (f : CanFrame) (
 unfolding kept_nodes
 nodes-sent c past s f n = refl
 
+left-sent : (c : BusConfig) (past : List Entry) (s : SocketId) (f : CanFrame) (n : ℕ) → kept_left c (entry s f (Ok n) ∷ past) ≡ kept_left c past
+unfolding kept_left
+left-sent c past s f n = refl
+
 taken_follows : (c : BusConfig) (past : List Entry) (s : SocketId) (f : CanFrame) (n : ℕ) (new : Parts) → IsConfig c → IsLegal c past → Takes (kept_parts c past) s.0 n (of_frame f s) new → Follows c past (entry s f (Ok n)) new
 taken_follows c past s f n new proper legal takes =
     let e = entry s f (Ok n) in
@@ -156,6 +160,7 @@ taken_follows c past s f n new proper legal takes =
           (lines-sent c past s f n v l legal is)
           (keys-sent c past s f n v l legal few is)
           (sym (nodes-sent c past s f n))
+          (sym (left-sent c past s f n))
           (sym (kept_sockets-quiet c past e (sent-quiet c past s f n)))
           refl refl;
     }
@@ -181,6 +186,10 @@ nodes-full : (c : BusConfig) (past : List Entry) (s : SocketId) (f : CanFrame) �
 unfolding kept_nodes
 nodes-full c past s f = refl
 
+left-full : (c : BusConfig) (past : List Entry) (s : SocketId) (f : CanFrame) → kept_left c (full_entry s f ∷ past) ≡ kept_left c past
+unfolding kept_left
+left-full c past s f = refl
+
 keys-full : (past : List Entry) (s : SocketId) (f : CanFrame) → kept_keys (full_entry s f ∷ past) ≡ kept_keys past
 unfolding kept_keys
 keys-full past s f = refl
@@ -199,6 +208,7 @@ full_follows c past s f new proper full =
           (lines-full c past s f v l is)
           (sym (keys-full past s f))
           (sym (nodes-full c past s f))
+          (sym (left-full c past s f))
           (sym (kept_sockets-quiet c past e (refused-quiet c past (Send s f) refusal.NoBuffers)))
           refl refl;
     }

@@ -70,12 +70,15 @@ off-accepts-nothing c past m v t i law off =
 steps-none : (t : Transmission) (i : ℕ) → (i == t.winner) ≡ false → is_among i (receivers t) ≡ false → steps_at i t ≡ []
 steps-none t i other among = rw (other, among) refl
 
-steps-stay : (c : BusConfig) (past : List Entry) (i : ℕ) (e : Event) (r : Reply) → r ≡ legal_reply c past e → is_off (state_at c past i) ≡ true → is_restart_of i e ≡ false → steps_after c e r (counts_of c past) i (steps_of c past i) ≡ steps_of c past i
+pub steps-stay : (c : BusConfig) (past : List Entry) (i : ℕ) (e : Event) (r : Reply) → r ≡ legal_reply c past e → is_off (state_at c past i) ≡ true → is_restart_of i e r ≡ false → steps_after c e r (counts_of c past) i (steps_of c past i) ≡ steps_of c past i
 steps-stay c past i e (reply.Tried t) law off other =
     by_attempt (λ k. steps_after c k (reply.Tried t) (counts_of c past) i (steps_of c past i) ≡ steps_of c past i) c past e t law
     (λ m v w.
     let apart : (i == t.winner) ≡ false = ne_eqb i t.winner (λ same. silent-at c past m v t i w off (sym same)) in
-    ap (λ ss. steps_of c past i ++ ss) (steps-none (transmission c past t.winner v) i apart (no_receiver (transmission c past t.winner v) i off)) ∙ append-nil (steps_of c past i))
+    ap (λ b. if b then [] else steps_of c past i ++ steps_at i (transmission c past t.winner v)) other
+    ∙ ap (λ ss. steps_of c past i ++ ss) (steps-none (transmission c past t.winner v) i apart (no_receiver (transmission c past t.winner v) i off))
+    ∙ append-nil (steps_of c past i))
+steps-stay c past i (Attempt m v) (reply.Idle restarted) law off other = ap (λ b. if b then [] else steps_of c past i) other
 steps-stay c past i (Restart k m) reply.Done law off other = ap (λ b. if b then [] else steps_of c past i) other
 steps-stay c past i (Open j n) _ law off other = refl
 steps-stay c past i (Close s) _ law off other = refl
@@ -86,7 +89,7 @@ steps-stay c past i (Receive s) _ law off other = refl
 steps-stay c past i (Attempt m v) _ law off other = refl
 steps-stay c past i (Restart k m) _ law off other = refl
 
-pub off-counts-stay : (c : BusConfig) (past : List Entry) (e : Entry) (i : ℕ) → IsLegal c (e ∷ past) → is_off (state_at c past i) ≡ true → is_restart_of i e.event ≡ false → counts_of c (e ∷ past) i ≡ counts_of c past i
+pub off-counts-stay : (c : BusConfig) (past : List Entry) (e : Entry) (i : ℕ) → IsLegal c (e ∷ past) → is_off (state_at c past i) ≡ true → is_restart_of i e.event e.reply ≡ false → counts_of c (e ∷ past) i ≡ counts_of c past i
 off-counts-stay c past e i legal off other = ap (all_stepped at_start) (steps-stay c past i e.event e.reply legal.1 off other)
 
 -- ---- a frame is refused there

@@ -6,7 +6,7 @@ use Rattle.can_attempt.specs.declared.nodes.Nodes.{Nodes}
 use Rattle.can_bus.specs.declared.events.Entry.{Entry}
 use Rattle.can_bus.specs.declared.events.BusConfig.{BusConfig}
 use Rattle.can_bus.specs.Journal.{Kept, IsConfig}
-use Rattle.can_bus.specs.State.{LineState, SocketState, Parts, kept_line, kept_lines, kept_sockets, kept_keys, kept_nodes, kept_parts, IsKept}
+use Rattle.can_bus.specs.State.{LineState, SocketState, Parts, kept_line, kept_lines, kept_sockets, kept_keys, kept_nodes, kept_left, kept_parts, IsKept}
 use Rattle.can_bus.proofs.Keeping.{parts-are}
 
 abbrev fresh : BusConfig → LineState
@@ -35,12 +35,16 @@ first_nodes : (c : BusConfig) → all_at c at_start ≡ kept_nodes c []
 unfolding kept_nodes
 first_nodes c = refl
 
+first_left : (c : BusConfig) → replicate 16 0 ≡ kept_left c []
+unfolding kept_left
+first_left c = refl
+
 -- the state of a bus on which nothing was done
-pub started : (c : BusConfig) (lines : List LineState) (keys : List (Option ℕ)) (z : ErrorCounts) (sockets : List SocketState)
-    → lines ≡ replicate c.ifaces (fresh c) → keys ≡ no_keys → z ≡ at_start → sockets ≡ []
-    → record { lines = lines; keys = keys; nodes = all_at c z; sockets = sockets; opened = 0; tried = 0 } ≡ kept_parts c []
-started c lines keys z sockets lines_are keys_are zero_is sockets_are =
-    parts-are (record { lines = lines; keys = keys; nodes = all_at c z; sockets = sockets; opened = 0; tried = 0 }) (kept_parts c []) (lines_are ∙ first_lines c) (keys_are ∙ first_keys) (ap (all_at c) zero_is ∙ first_nodes c) (sockets_are ∙ none_open c) refl refl
+pub started : (c : BusConfig) (lines : List LineState) (keys : List (Option ℕ)) (z : ErrorCounts) (left : List ℕ) (sockets : List SocketState)
+    → lines ≡ replicate c.ifaces (fresh c) → keys ≡ no_keys → z ≡ at_start → left ≡ replicate 16 0 → sockets ≡ []
+    → record { lines = lines; keys = keys; nodes = all_at c z; left = left; sockets = sockets; opened = 0; tried = 0 } ≡ kept_parts c []
+started c lines keys z left sockets lines_are keys_are zero_is left_is sockets_are =
+    parts-are (record { lines = lines; keys = keys; nodes = all_at c z; left = left; sockets = sockets; opened = 0; tried = 0 }) (kept_parts c []) (lines_are ∙ first_lines c) (keys_are ∙ first_keys) (ap (all_at c) zero_is ∙ first_nodes c) (left_is ∙ first_left c) (sockets_are ∙ none_open c) refl refl
 
 -- an empty record, and what it leaves
 pub made : (j : Kept) (parts : Parts) (c : BusConfig) → j.config ≡ c → j.history ≡ [] → c.limit ≤ j.room → IsConfig c → parts ≡ kept_parts c [] → IsKept j parts

@@ -1,4 +1,4 @@
-use Rattle.std.specs.Prelude.{ℕ, suc, ◌-◌, ◌==◌, Bool, false, ◌&&◌, not, List, [], ◌∷◌, filter, Option, Some, None, is_some, if◌then◌else◌}
+use Rattle.std.specs.Prelude.{ℕ, suc, ◌-◌, ◌==◌, Bool, false, not, List, [], ◌∷◌, filter, Option, Some, None, if◌then◌else◌}
 use Rattle.std.specs.List.{list_any, range_with_len}
 use Rattle.std.specs.Option.{option_map}
 use Rattle.can_frame.specs.Sets.{is_in, no_ifaces}
@@ -45,10 +45,6 @@ is_due c past i = is_nth_after c.auto_restart (attempts_off past i)
 abbrev pub restarted_next : BusConfig → List Entry → IfaceSet
 restarted_next c past = set_of (filter (is_due c past) (range_with_len 0 c.ifaces))
 
--- some interface counts towards its restart: it went bus off, and was not restarted since
-abbrev pub is_counting : BusConfig → List Entry → Bool
-is_counting c past = not (c.auto_restart == 0) && list_any (λ i. is_some (attempts_off past i)) (range_with_len 0 c.ifaces)
-
 abbrev pub left_after : ℕ → Option ℕ → ℕ
 left_after n None = 0
 left_after n (Some k) = n - k
@@ -56,3 +52,7 @@ left_after n (Some k) = n - k
 -- how many attempts are left until interface i is restarted; 0 where it does not count
 abbrev pub attempts_left : BusConfig → List Entry → ℕ → ℕ
 attempts_left c past i = left_after c.auto_restart (attempts_off past i)
+
+-- some interface counts the attempts until its restart
+abbrev pub is_counting : BusConfig → List Entry → Bool
+is_counting c past = list_any (λ i. not (attempts_left c past i == 0)) (range_with_len 0 c.ifaces)

@@ -176,9 +176,9 @@ pub record Carries (old : Parts) (c : BusConfig) (m : ℕ) (v : Verdict) (restar
   pub after : new ≡ after_try old c (attempt_between old.nodes place v c.ack) line pending t
 
 -- a frame is tried, if a live interface has one, in an attempt that then restarts these interfaces
-abbrev pub Tries : Parts → BusConfig → ℕ → Verdict → IfaceSet → Attempt → Parts → Type 0
-Tries old c m v restarted (attempt.Idle set) new = IsIdle old.keys × (set ≡ restarted) × (new ≡ old)
-Tries old c m v restarted (attempt.Tried t) new = Carries old c m v restarted t new
+abbrev pub Tries : Parts → BusConfig → ℕ → Verdict → IfaceSet → Option Tried → Parts → Type 0
+Tries old c m v restarted None new = IsIdle old.keys × (new ≡ old)
+Tries old c m v restarted (Some t) new = Carries old c m v restarted t new
 
 -- the interfaces that wait for one attempt more
 abbrev pub due_in : List ℕ → IfaceSet
@@ -196,10 +196,17 @@ begun_anew restarted nodes = record nodes { counters = map (λ i. if is_in i res
 abbrev pub after_auto_restart : Parts → IfaceSet → ℕ → Parts
 after_auto_restart old restarted m = record old { nodes = begun_anew restarted old.nodes; sockets = map (reached (auto_restart_posts restarted m)) old.sockets }
 
+-- what an attempt came to, by the frame that was tried, if one was
+abbrev pub came_to : IfaceSet → Option Tried → Attempt
+came_to restarted None = attempt.Idle restarted
+came_to restarted (Some t) = attempt.Tried t
+
 -- an attempt: one attempt less is left before each restart, a frame is tried, and interfaces are restarted
 pub record Attempts (old : Parts) (c : BusConfig) (m : ℕ) (v : Verdict) (a : Attempt) (new : Parts) : Type 0 where
+  pub tried : Option Tried
   pub between : Parts
-  pub tries : Tries (record old { left = ticked old.left }) c m v (due_in old.left) a between
+  pub tries : Tries (record old { left = ticked old.left }) c m v (due_in old.left) tried between
+  pub came : a ≡ came_to (due_in old.left) tried
   pub after : new ≡ after_auto_restart between (due_in old.left) m
 
 -- an interface with a key is there, is live, and has a frame to send

@@ -1,4 +1,7 @@
-ghost use Rattle.std.specs.Prelude.{◌≡◌, ◌+◌, ◌<◌, ◌≤◌, ◌^◌, All, replicate};
+ghost use Rattle.std.specs.Prelude.{◌≡◌, ◌+◌, ◌<◌, ◌≤◌, ◌^◌, All, length, replicate, if◌then◌else◌};
+ghost use Rattle.can_frame.specs.Sets.{is_in};
+ghost use Rattle.can_confine.specs.Confinement.{at_start};
+ghost use Rattle.can_attempt.specs.Attempts.{counts_at};
 ghost use Rattle.can_bus.specs.Changes.{AreReady, Attempts, Restarts, Tries, after_auto_restart, begun_anew};
 
 use crate::events::{Attempt, BusConfig, Pending, Received, Refusal, Tried};
@@ -35,29 +38,39 @@ fn tried_as(
     }
 }
 
+/// The error counters at this place, which begin anew where its interface is one of these.
+fn anew_at(nodes: &Nodes, restarted: IfaceSet, place: u8) -> Counters
+    requires { place < 16 }
+    ensures { result ≡ (if is_in place restarted then at_start else counts_at nodes.now place) }
+{
+    if (restarted.0 >> place) & 1 == 1 {
+        Counters::zero()
+    } else {
+        nodes.counters[place as usize]
+    }
+}
+
 /// The error counters, of which those of these interfaces begin anew.
 pub fn begun_anew(nodes: &Nodes, restarted: IfaceSet) -> [Counters; 16]
     ensures { result ≡ (begun_anew restarted nodes.now).counters }
 {
     let mut counters = nodes.counters;
     for place in 0..16u8 {
-        if (restarted.0 >> place) & 1 == 1 {
-            counters[place as usize] = Counters::zero();
-        }
+        counters[place as usize] = anew_at(nodes, restarted, place);
     }
     counters
 }
 
 impl<T: BoundedQueue<Pending>, R: BoundedQueue<Received>, A: Arbiter> State<T, R, A> {
-    /// Tries the frame that wins the bus, in an attempt that restarts these interfaces in the end, and tells the
-    /// sockets.
+    /// Tries the frame that wins the bus, if there is one, in an attempt that then restarts these interfaces, and
+    /// tells the sockets.
     fn try_head(
         &mut self,
         config: BusConfig,
         moment: Moment,
         verdict: Verdict,
         restarted: IfaceSet,
-    ) -> Attempt
+    ) -> Option<Tried>
         requires few { self.old.nodes.count ≤ 16 }
         requires ready { AreReady self.old }
         requires gone { All (λ l. l.gone + 1 < 2 ^ 64) self.old.lines }
@@ -66,13 +79,9 @@ impl<T: BoundedQueue<Pending>, R: BoundedQueue<Received>, A: Arbiter> State<T, R
         requires tried { self.old.tried + 1 < 2 ^ 64 }
         ensures { Tries self.old config moment verdict restarted result self.new }
     {
-        let Some(winner) = self.arbiter.winner() else {
-            return Attempt::Idle(restarted);
-        };
+        let winner = self.arbiter.winner()?;
         let line = &self.lines[winner.number() as usize];
-        let Some(pending) = line.head() else {
-            return Attempt::Idle(restarted);
-        };
+        let pending = line.head()?;
         let judgement = judge(&self.nodes, winner, verdict, config.ack);
         let tried = tried_as(moment, winner, line.gone(), &pending, &judgement, restarted);
         let is_off = tried.off.contains(winner);
@@ -83,21 +92,23 @@ impl<T: BoundedQueue<Pending>, R: BoundedQueue<Received>, A: Arbiter> State<T, R
             tried.class,
             is_off,
         );
-        if is_off {
-            self.countdown.set(winner, config.auto_restart);
-        }
+        self.countdown.start(winner, config.auto_restart, is_off);
         let news = News::new(tried, pending, verdict, config, self.nodes, judgement);
         posting::tell_all(&mut self.sockets, &news);
         self.nodes.counters = judgement.counters;
         self.tried += 1;
-        Attempt::Tried(news.attempted.tried())
+        Some(news.attempted.tried())
     }
 
-    /// Restarts these interfaces at the end of an attempt, and tells the sockets.
+    /// Restarts these interfaces at the end of an attempt, if any, and tells the sockets.
     fn restart_all(&mut self, restarted: IfaceSet, moment: Moment)
-        requires { All (λ v. v.dropped + 1 < 2 ^ 64) self.old.sockets }
+        requires sixteen { length self.old.nodes.counters ≡ 16 }
+        requires dropped { All (λ v. v.dropped + 1 < 2 ^ 64) self.old.sockets }
         ensures { self.new ≡ after_auto_restart self.old restarted moment }
     {
+        if restarted.0 == 0 {
+            return;
+        }
         self.nodes.counters = begun_anew(&self.nodes, restarted);
         posting::tell_restarts(&mut self.sockets, restarted, moment);
     }
@@ -106,6 +117,7 @@ impl<T: BoundedQueue<Pending>, R: BoundedQueue<Received>, A: Arbiter> State<T, R
     /// tells the sockets.
     pub fn attempt(&mut self, config: BusConfig, moment: Moment, verdict: Verdict) -> Attempt
         requires few { self.old.nodes.count ≤ 16 }
+        requires sixteen { length self.old.nodes.counters ≡ 16 }
         requires ready { AreReady self.old }
         requires gone { All (λ l. l.gone + 1 < 2 ^ 64) self.old.lines }
         requires done { All (λ l. l.done + 1 < 2 ^ 64) self.old.lines }
@@ -114,16 +126,13 @@ impl<T: BoundedQueue<Pending>, R: BoundedQueue<Received>, A: Arbiter> State<T, R
         requires never { config.auto_restart ≡ 0 → self.old.left ≡ replicate 16 0 }
         ensures { Attempts self.old config moment verdict result self.new }
     {
-        if config.auto_restart == 0 {
-            return self.try_head(config, moment, verdict, IfaceSet::empty());
+        let restarted = self.countdown.count(config.auto_restart);
+        let tried = self.try_head(config, moment, verdict, restarted);
+        self.restart_all(restarted, moment);
+        match tried {
+            Some(tried) => Attempt::Tried(tried),
+            None => Attempt::Idle(restarted),
         }
-        let restarted = self.countdown.due();
-        self.countdown.tick();
-        let attempt = self.try_head(config, moment, verdict, restarted);
-        if restarted != IfaceSet::empty() {
-            self.restart_all(restarted, moment);
-        }
-        attempt
     }
 
     /// Restarts an interface that is bus off, and tells the sockets.
@@ -139,7 +148,7 @@ impl<T: BoundedQueue<Pending>, R: BoundedQueue<Received>, A: Arbiter> State<T, R
             return Err(Refusal::NotBusOff);
         }
         self.nodes.counters[place as usize] = Counters::zero();
-        self.countdown.set(iface, 0);
+        self.countdown.stop(iface);
         posting::tell_restart(&mut self.sockets, iface, moment);
         Ok(())
     }

@@ -1,9 +1,17 @@
-ghost use Rattle.std.specs.Prelude.{◌≡◌, ◌==◌, not, map, replicate, slice_set};
+ghost use Rattle.std.specs.Prelude.{◌≡◌, ◌==◌, ◌<◌, ◌^◌, bit_or, not, map, replicate, slice_set};
 ghost use Rattle.std.specs.List.{list_any};
-ghost use Rattle.can_bus.specs.Changes.{due_in, ticked};
+ghost use Rattle.can_bus.specs.Changes.{counting_down, due_in, ticked};
 
 use can_frame::{Iface, IfaceSet};
 use std::marker::Model;
+
+/// The set with the interface at this place too.
+fn with_place(set: IfaceSet, place: u8) -> IfaceSet
+    requires { place < 16 }
+    ensures { result.0 ≡ bit_or set.0 (2 ^ place) }
+{
+    IfaceSet(set.0 | (1 << place))
+}
 
 /// How many attempts are left until each interface is restarted: 0 where it does not count.
 #[derive(Drop)]
@@ -27,11 +35,20 @@ impl Countdown {
         Countdown { left: [0; 16] }
     }
 
-    /// An interface is restarted in this attempt from now on, or counts no longer, for 0.
-    pub fn set(&mut self, iface: Iface, attempts: u32)
-        ensures { self.new ≡ slice_set self.old iface attempts }
+    /// An interface that went bus off is restarted in so many attempts from now on, 0 for never.
+    pub fn start(&mut self, iface: Iface, attempts: u32, is_off: bool)
+        ensures { self.new ≡ counting_down attempts iface is_off self.old }
     {
-        self.left[iface.number() as usize] = attempts;
+        if is_off {
+            self.left[iface.number() as usize] = attempts;
+        }
+    }
+
+    /// An interface counts no longer.
+    pub fn stop(&mut self, iface: Iface)
+        ensures { self.new ≡ slice_set self.old iface 0 }
+    {
+        self.left[iface.number() as usize] = 0;
     }
 
     /// Whether an interface counts.
@@ -42,24 +59,39 @@ impl Countdown {
     }
 
     /// The interfaces that the next attempt restarts.
-    pub fn due(&self) -> IfaceSet
+    fn due(&self) -> IfaceSet
         ensures { result ≡ due_in self.now }
     {
         let mut due = IfaceSet::empty();
         for place in 0..16u8 {
             if self.left[place as usize] == 1 {
-                due = IfaceSet(due.0 | (1 << place));
+                due = with_place(due, place);
             }
         }
         due
     }
 
     /// One attempt less is left.
-    pub fn tick(&mut self)
+    fn tick(&mut self)
         ensures { self.new ≡ ticked self.old }
     {
         for left in self.left.iter_mut() {
             *left = left.saturating_sub(1);
         }
+    }
+
+    /// Counts an attempt, and answers the interfaces that it restarts. Where the bus is made to restart none, for
+    /// 0, nothing is looked at.
+    pub fn count(&mut self, attempts: u32) -> IfaceSet
+        requires { attempts ≡ 0 → self.old ≡ replicate 16 0 }
+        ensures due { result ≡ due_in self.old }
+        ensures rest { self.new ≡ ticked self.old }
+    {
+        if attempts == 0 {
+            return IfaceSet::empty();
+        }
+        let due = self.due();
+        self.tick();
+        due
     }
 }

@@ -3,13 +3,13 @@ use Rattle.can_attempt.specs.Attempts.{attempt_between, judged}
 use Rattle.can_attempt.specs.declared.judgements.Judgement.{Judgement}
 use Rattle.can_bus.specs.declared.events.Tried.{Tried}
 use Rattle.can_bus.specs.declared.posting.News.{News}
-use Rattle.can_bus.specs.Changes.{Carries, settled, after_try}
+use Rattle.can_bus.specs.Changes.{Carries, settled, after_try, counting_down}
 use Rattle.can_bus.specs.News.{told_news}
 use Rattle.can_bus.specs.Posts.{attempt_posts}
 use Rattle.can_bus.specs.State.{LineState, SocketState, Parts, key_in, reached}
 use Rattle.can_bus.proofs.Keeping.{parts-are}
 use Rattle.can_bus.proofs.Reading.{winner-ready, line-at, heads-there, written_back}
-use Rattle.can_bus.proofs.state.State.attempt.Goals as goal
+use Rattle.can_bus.proofs.state.State.try_head.Goals as goal
 
 pub index-line-requires : goal.index-line-requires
 index-line-requires g c = omega (arith, (winner-ready _ _ _ c.self.view_is c.requires.ready c.in_ok-winner.ensures.first).there, c.number.ensures.number)
@@ -47,9 +47,9 @@ tell_all-requires g c =
 
 pub returns : goal.returns
 returns g c =
-    let p : Parts = record { lines = c.self.inside.lines.items; keys = g.A.Arbiter.keys_of c.self.inside.arbiter; nodes = c.self.inside.nodes; sockets = c.self.inside.sockets.items; opened = c.self.inside.opened; tried = c.self.inside.tried } in
+    let p : Parts = record { lines = c.self.inside.lines.items; keys = g.A.Arbiter.keys_of c.self.inside.arbiter; nodes = c.self.inside.nodes; left = c.self.inside.countdown; sockets = c.self.inside.sockets.items; opened = c.self.inside.opened; tried = c.self.inside.tried } in
     let told = take c.self.inside.sockets.len (c.tell_all.new.sockets ++ drop (length c.tell_all.new.sockets) p.sockets) in
-    let new : Parts = record { lines = c.settle.new.lines.items; keys = g.A.Arbiter.keys_of c.settle.new.arbiter; nodes = record p.nodes { counters = c.judge-judgement.result.counters }; sockets = told; opened = p.opened; tried = p.tried + 1 } in
+    let new : Parts = record { lines = c.settle.new.lines.items; keys = g.A.Arbiter.keys_of c.settle.new.arbiter; nodes = record p.nodes { counters = c.judge-judgement.result.counters }; left = c.start.new.self; sockets = told; opened = p.opened; tried = p.tried + 1 } in
     let w = c.in_ok-winner.winner in
     let line = c.index-line.result.now in
     let pending = c.in_ok-pending.pending in
@@ -59,8 +59,8 @@ returns g c =
     let ready = winner-ready _ _ _ c.self.view_is c.requires.ready c.in_ok-winner.ensures.first in
     let there : slice_get p.lines w ≡ Some line = line-at _ _ _ _ c.number.ensures.number ready c.index-line.ensures in
     let answer : c.tried.result ≡ t = c.tried.ensures ∙ ap (λ (n : News). n.attempted.tried) c.new-news.ensures in
-    subst (λ (u : Tried). Carries c.args.self.now c.args.config c.args.moment c.args.verdict u new) (sym answer)
-    (subst (λ (o : Parts). Carries o c.args.config c.args.moment c.args.verdict t new) c.self.view_is
+    subst (λ (u : Tried). Carries c.args.self.now c.args.config c.args.moment c.args.verdict c.args.restarted u new) (sym answer)
+    (subst (λ (o : Parts). Carries o c.args.config c.args.moment c.args.verdict c.args.restarted t new) c.self.view_is
     (record {
       place = w;
       line = line;
@@ -69,12 +69,13 @@ returns g c =
       there = there;
       oldest = sym c.in_ok-pending.ensures;
       tried = c.tried_as-tried.ensures
-          ∙ ap (λ (n : ℕ). record { moment = c.args.moment; winner = w; number = n; frame = pending.frame; class = c.judge-judgement.result.class; accepted = c.judge-judgement.result.accepted; off = c.judge-judgement.result.off }) c.gone.ensures
-          ∙ ap (λ (j : Judgement). record { moment = c.args.moment; winner = w; number = line.gone; frame = pending.frame; class = j.class; accepted = j.accepted; off = j.off }) c.judge-judgement.ensures;
+          ∙ ap (λ (n : ℕ). record { moment = c.args.moment; winner = w; number = n; frame = pending.frame; class = c.judge-judgement.result.class; accepted = c.judge-judgement.result.accepted; off = c.judge-judgement.result.off; restarted = c.args.restarted }) c.gone.ensures
+          ∙ ap (λ (j : Judgement). record { moment = c.args.moment; winner = w; number = line.gone; frame = pending.frame; class = j.class; accepted = j.accepted; off = j.off; restarted = c.args.restarted }) c.judge-judgement.ensures;
       after = parts-are new (after_try p c.args.config tr line pending t)
           (c.settle.ensures.lines line there ∙ ap (λ (b : Bool). slice_set p.lines w (settled t.class b line)) c.contains-is_off.ensures)
           (c.settle.ensures.keys line there ∙ ap (λ (b : Bool). slice_set p.keys w (key_in (slice_get (settled t.class b line).waiting 0))) c.contains-is_off.ensures)
           (ap (λ (j : Judgement). record p.nodes { counters = j.counters }) c.judge-judgement.ensures)
+          (c.start.ensures ∙ ap (λ (b : Bool). counting_down c.args.config.auto_restart w b p.left) c.contains-is_off.ensures)
           (written_back _ _ _ _ _ _ c.tell_all.ensures c.deref_mut.ensures.value c.deref_mut.ensures.len
           ∙ ap (λ (n : News). map (reached (told_news n)) p.sockets) c.new-news.ensures
           ∙ ap (λ (k : ℕ). map (reached (attempt_posts c.args.config.reporting (attempt_between p.nodes k c.args.verdict c.args.config.ack) t (Some pending))) p.sockets) who)
