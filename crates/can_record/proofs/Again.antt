@@ -198,6 +198,7 @@ restarted_again w rest set plain small = when (set.0 == 0) refl
   where
     some : List (List ℕ)
     some = codes "restarted" ∷ set_word set ∷ []
+
     when : (b : Bool) → (set.0 == 0) ≡ b → restarted_at (w ++ gap_before (restarted_words set) ∷ spell (restarted_words set) rest) ≡ Some (set, rest)
     when true is =
         ap (λ (ws : List (List ℕ)). restarted_at (w ++ gap_before ws ∷ spell ws rest)) (cond-true (set.0 == 0) [] some is)

@@ -3,7 +3,8 @@ ghost use Rattle.std.specs.Option.{option_map};
 ghost use Rattle.can_record.specs.inner.Reading.{class_at, refusal_in, closed_at, data_at, error_at, restarted_at, tried_at, fixed_in, reply_at};
 
 use crate::fields::{
-    begins_with, frame_field, iface_field, item_field, long_field, moment_field, set_behind, set_field, socket_field,
+    begins_with, frame_field, iface_field, item_field, long_field, moment_field, set_behind,
+    set_field, socket_field,
 };
 use crate::words::{next_word, same_word};
 use can_attempt::Class;

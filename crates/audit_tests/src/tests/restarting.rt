@@ -94,7 +94,11 @@ fn a_restart_that_is_left_out_is_wrong(rt: HostRuntime) -> Result<(), Fail> {
     assert!(rt; wrong(&rt, &left_out)? == Some((37, Some(restarted))));
     let both = changed(&rt, "restarted 0001", "restarted 0003")?;
     assert!(rt; wrong(&rt, &both)? == Some((37, Some(restarted))));
-    let early = changed(&rt, "000033 good = idle", "000033 good = idle restarted 0001")?;
+    let early = changed(
+        &rt,
+        "000033 good = idle",
+        "000033 good = idle restarted 0001",
+    )?;
     assert!(rt; wrong(&rt, &early)? == Some((36, Some(Reply::Idle(IfaceSet(0))))));
     // Attempts are counted from the one behind that which took the interface off.
     let sooner = changed(&rt, "10 100 2\n", "10 100 1\n")?;
@@ -178,7 +182,10 @@ fn each_line_of_version_2_is_read_and_written(rt: HostRuntime) -> Result<(), Fai
     ];
     for line in lines {
         let text = one_line(&rt, line)?;
-        assert!(rt; again(&rt, &text)?.as_slice() == text.as_bytes(), "at {line}");
+        assert!(rt;
+            again(&rt, &text)?.as_slice() == text.as_bytes(),
+            "at {line}"
+        );
     }
     Ok(())
 }
