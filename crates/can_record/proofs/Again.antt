@@ -216,7 +216,8 @@ idle_again moment set rest small =
 abbrev tried_end : Tried → List ℕ → List ℕ
 tried_end t rest = set_word t.off ++ gap_before (restarted_words t.restarted) ∷ spell (restarted_words t.restarted) rest
 
-tried_again : (t : Tried) (rest : List ℕ) → HoldsTried t → tried_at t.moment (decimal t.winner ++ 32 ∷ (decimal t.number ++ 32 ∷ (frame_spelling (item.Data t.frame) ++ 32 ∷ (class_word t.class ++ 32 ∷ (set_word t.accepted ++ 32 ∷ tried_end t rest))))) ≡ Some (reply.Tried t, rest)
+tried_again : (t : Tried) (rest : List ℕ) → HoldsTried t
+    → tried_at t.moment (decimal t.winner ++ 32 ∷ (decimal t.number ++ 32 ∷ (frame_spelling (item.Data t.frame) ++ 32 ∷ (class_word t.class ++ 32 ∷ (set_word t.accepted ++ 32 ∷ tried_end t rest))))) ≡ Some (reply.Tried t, rest)
 unfolding tried_at
 tried_again t rest h =
     let ws = restarted_words t.restarted in

@@ -31,10 +31,12 @@ lines-then (e ∷ es) rest more = spell-then (entry_words e) (entry_lines es res
 
 -- the first two lines, and what follows them
 front-then : (c : BusConfig) (rest more : List ℕ) → front_lines c rest ++ more ≡ front_lines c (rest ++ more)
-front-then c rest more = append_assoc (first_line (version_of c)) (spell (bus_words (version_of c) c) rest) more ∙ ap (λ (x : List ℕ). first_line (version_of c) ++ x) (spell-then (bus_words (version_of c) c) rest more)
+front-then c rest more = append_assoc (first_line (version_of c)) (spell (bus_words (version_of c) c) rest) more
+    ∙ ap (λ (x : List ℕ). first_line (version_of c) ++ x) (spell-then (bus_words (version_of c) c) rest more)
 
 record-then : (c : BusConfig) (es : List Entry) (more : List ℕ) → record_spelling c es ++ more ≡ front_lines c (entry_lines es (spell (end_words (length es)) more))
-record-then c es more = front-then c (entry_lines es (spell (end_words (length es)) [])) more ∙ ap (front_lines c) (lines-then es (spell (end_words (length es)) []) more ∙ ap (entry_lines es) (spell-rest (end_words (length es)) more))
+record-then c es more = front-then c (entry_lines es (spell (end_words (length es)) [])) more
+    ∙ ap (front_lines c) (lines-then es (spell (end_words (length es)) []) more ∙ ap (entry_lines es) (spell-rest (end_words (length es)) more))
 
 cons-cancel : (a : ℕ) (xs ys : List ℕ) → a ∷ xs ≡ a ∷ ys → xs ≡ ys
 cons-cancel a xs ys e = ap (drop 1) e

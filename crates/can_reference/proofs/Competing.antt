@@ -57,7 +57,8 @@ pub tried-is : (c : BusConfig) (past : List Entry) (m : ℕ) (v : Verdict) (w : 
 tried-is c past m v w p n nodes j set h restarts won head number are judges =
     ap (λ (k : ℕ). tried_by m w k p set j) number
     ∙ ap (λ (s : IfaceSet). tried_by m w (gone_count past w) p s j) restarts
-    ∙ ap (λ (k : Judgement). tried_by m w (gone_count past w) p (restarted_next c past) k) (judges ∙ ap (λ (q : Nodes). judged (attempt_between q w v c.ack)) are ∙ ap judged (between-is c past w v h.legal h.proper.few_ifaces))
+    ∙ ap (λ (k : Judgement). tried_by m w (gone_count past w) p (restarted_next c past) k)
+    (judges ∙ ap (λ (q : Nodes). judged (attempt_between q w v c.ack)) are ∙ ap judged (between-is c past w v h.legal h.proper.few_ifaces))
     ∙ ap (tried_head c past m v w) (sym head)
     ∙ ap (attempt_reply c past m v) (sym won)
 

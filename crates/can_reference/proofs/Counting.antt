@@ -91,16 +91,19 @@ nodes-tried c past m v t old new h are after =
     ∙ ap (λ (tr : Transmission). begun_anew t.restarted (record { count = c.ifaces; counters = (judged tr).counters })) (between-is c past t.winner v h.legal h.proper.few_ifaces)
     ∙ anew c.ifaces t.restarted (counts_after (transmission c past t.winner v))
     ∙ ap (λ (cs : List ErrorCounts). record { count = c.ifaces; counters = cs })
-    (map_all (λ i. if is_in i t.restarted then at_start else counts_after (transmission c past t.winner v) i) (counts_of c (record { event = Attempt m v; reply = reply.Tried t } ∷ past)) (range_with_len 0 16) (λ i. sym (counts-tried c past m v t i)))
+    (map_all (λ i. if is_in i t.restarted then at_start else counts_after (transmission c past t.winner v) i) (counts_of c (record { event = Attempt m v; reply = reply.Tried t } ∷ past)) (range_with_len 0 16)
+    (λ i. sym (counts-tried c past m v t i)))
 
-nodes-idle : (c : BusConfig) (past : List Entry) (m : ℕ) (v : Verdict) (set : IfaceSet) (old new : Nodes) → old ≡ kept_nodes c past → new ≡ begun_anew set old → new ≡ kept_nodes c (record { event = Attempt m v; reply = reply.Idle set } ∷ past)
+nodes-idle : (c : BusConfig) (past : List Entry) (m : ℕ) (v : Verdict) (set : IfaceSet) (old new : Nodes)
+    → old ≡ kept_nodes c past → new ≡ begun_anew set old → new ≡ kept_nodes c (record { event = Attempt m v; reply = reply.Idle set } ∷ past)
 unfolding kept_nodes
 nodes-idle c past m v set old new are after =
     after
     ∙ ap (begun_anew set) are
     ∙ anew c.ifaces set (counts_of c past)
     ∙ ap (λ (cs : List ErrorCounts). record { count = c.ifaces; counters = cs })
-    (map_all (λ i. if is_in i set then at_start else counts_of c past i) (counts_of c (record { event = Attempt m v; reply = reply.Idle set } ∷ past)) (range_with_len 0 16) (λ i. sym (counts-idle c past m v set i)))
+    (map_all (λ i. if is_in i set then at_start else counts_of c past i) (counts_of c (record { event = Attempt m v; reply = reply.Idle set } ∷ past)) (range_with_len 0 16)
+    (λ i. sym (counts-idle c past m v set i)))
 
 counts-restarted : (c : BusConfig) (past : List Entry) (i m : ℕ) → counts_of c (record { event = Restart i m; reply = reply.Done } ∷ past) i ≡ at_start
 counts-restarted c past i m = ap (λ (ss : List Step). all_stepped at_start ss) (cond-true (i == i) [] (steps_of c past i) (eq-eqb i i refl))

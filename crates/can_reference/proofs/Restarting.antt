@@ -22,7 +22,8 @@ abbrev pub is_due_at : BusConfig → List Entry → ℕ → Bool
 is_due_at c past i = nat_lt i c.ifaces && is_due c past i
 
 among-due : (c : BusConfig) (past : List Entry) (i : ℕ) → is_due_at c past i ≡ is_among i (filter (is_due c past) (range_with_len 0 c.ifaces))
-among-due c past i = swap (nat_lt i c.ifaces) (is_due c past i) ∙ sym (is_among-filter (is_due c past) i (range_with_len 0 c.ifaces) ∙ ap (λ b. is_due c past i && b) (is_among-range i 0 c.ifaces ∙ below i c.ifaces))
+among-due c past i = swap (nat_lt i c.ifaces) (is_due c past i)
+    ∙ sym (is_among-filter (is_due c past) i (range_with_len 0 c.ifaces) ∙ ap (λ b. is_due c past i && b) (is_among-range i 0 c.ifaces ∙ below i c.ifaces))
   where
     swap : (a b : Bool) → (a && b) ≡ (b && a)
     swap true true = refl
@@ -38,7 +39,8 @@ due-all c past set is = ap (λ (n : ℕ). record { 0 = n }) (is ∙ bits_where_s
 
 -- ---- attempts since an interface went bus off, one entry after another
 
-pub off-more : (es : List Entry) (k : ℕ) (e : Entry) (i : ℕ) (old new : Option ℕ) → k < length es → e ≡ get_or es k e → old ≡ attempts_off (before es k) i → new ≡ attempts_off_after e.event e.reply i old → new ≡ attempts_off (before es (k + 1)) i
+pub off-more : (es : List Entry) (k : ℕ) (e : Entry) (i : ℕ) (old new : Option ℕ) → k < length es → e ≡ get_or es k e
+    → old ≡ attempts_off (before es k) i → new ≡ attempts_off_after e.event e.reply i old → new ≡ attempts_off (before es (k + 1)) i
 off-more es k e i old new lt read so_far after = after ∙ ap (attempts_off_after e.event e.reply i) so_far ∙ ap (λ (h : List Entry). attempts_off h i) (sym (before_more es k e lt read))
 
 one-more : (old : Option ℕ) (k : ℕ) → IfSome old (λ n. n ≤ k) → IfSome (option_map suc old) (λ n. n ≤ k + 1)

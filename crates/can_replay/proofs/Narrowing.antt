@@ -52,7 +52,8 @@ counts-narrow c n past = fun_ext (λ i. ap (λ (f : ℕ → List Step). all_step
 -- ---- receive queues
 
 posts-narrow : (c : BusConfig) (n : ℕ) (past : List Entry) (i : ℕ) (e : Event) (r : Reply) → posts_of (narrow c n) past i e r ≡ posts_of c past i e r
-posts-narrow c n past i (Attempt m v) (reply.Tried t) = ap (λ (k : ℕ → ErrorCounts). attempt_posts c.reporting (sending c k t.winner v) t (slice_get (sent_by past t.winner) t.number) i ++ auto_restart_posts t.restarted m i) (counts-narrow c n past)
+posts-narrow c n past i (Attempt m v) (reply.Tried t) =
+    ap (λ (k : ℕ → ErrorCounts). attempt_posts c.reporting (sending c k t.winner v) t (slice_get (sent_by past t.winner) t.number) i ++ auto_restart_posts t.restarted m i) (counts-narrow c n past)
 posts-narrow c n past i (Attempt m v) (reply.Idle restarted) = refl
 posts-narrow c n past i (Restart k m) reply.Done = refl
 posts-narrow c n past i _ _ = refl

@@ -17,7 +17,9 @@ use Rattle.can_bus.specs.declared.events.Tried.{Tried}
 
 -- an attempt that tried a frame, where its winner is there and live
 abbrev pub CountsTried : BusConfig → Tried → Verdict → Nodes → Nodes → Type 0
-CountsTried c t v old new = old.count ≤ 16 → t.winner < old.count → is_off (state_of (counts_at old t.winner)) ≡ false → new ≡ begun_anew t.restarted (record old { counters = (judged (attempt_between old t.winner v c.ack)).counters })
+CountsTried c t v old new =
+    old.count ≤ 16 → t.winner < old.count → is_off (state_of (counts_at old t.winner)) ≡ false
+    → new ≡ begun_anew t.restarted (record old { counters = (judged (attempt_between old t.winner v c.ack)).counters })
 
 abbrev pub Counts : BusConfig → Event → Reply → Nodes → Nodes → Type 0
 Counts c (Attempt m v) (reply.Tried t) old new = CountsTried c t v old new
