@@ -24,7 +24,7 @@ const TOLD: u8 = 2;
 /// Why a wait ended.
 #[derive(Debug, Clone, Copy, PartialEq, Eq)]
 pub enum Wake {
-    /// There is something to do: an item waits, or a frame.
+    /// There is something to do: an item waits, or a frame, or an interface counts towards its restart.
     Ready,
     /// The socket is not open.
     Closed,

@@ -23,11 +23,25 @@ const SCRIPT: &str = "\
 struct Run {
     /// How many attempts after it went bus off an interface is restarted.
     auto_restart: u32,
-    /// Whether it is restarted by a call as well, which comes one attempt after that.
+    /// Whether a call restarts it, one attempt after it went off.
     by_call: bool,
     /// Whether the station was stopped before its first call.
     is_stopped: bool,
 }
+
+/// Interfaces are restarted by calls alone.
+const PLAIN: Run = Run {
+    auto_restart: 0,
+    by_call: true,
+    is_stopped: false,
+};
+
+/// Interfaces are restarted by the third attempt after they went off.
+const RESTARTING: Run = Run {
+    auto_restart: 3,
+    by_call: false,
+    is_stopped: false,
+};
 
 /// A bus of three interfaces with short transmit queues, which reports each fault at can1.
 fn busy(run: Run) -> BusConfig {
@@ -217,8 +231,8 @@ fn run_both<N: RollName + MeterName, R: Wait + Abort>(
     are_answered_alike(&caller, &bus, run);
 }
 
-/// Each call had the same answer on both. Attempts 41 to 43 are idle; the third of them after can0 went bus off restarts
-/// it, where it has to and no call did.
+/// Each call had the same answer on both. Call 39 takes can0 off. Where no call restarts it, calls 41 to 43 are idle
+/// attempts, the third of which does.
 fn are_answered_alike<N: RollName + MeterName, R: Wait + Abort>(
     caller: &Caller<'_, N, Script, Open, R>,
     bus: &RingBus,
@@ -237,12 +251,7 @@ fn are_answered_alike<N: RollName + MeterName, R: Wait + Abort>(
 #[test]
 fn a_station_tells_what_its_bus_tells(rt: HostRuntime) -> Result<(), Fail> {
     let blanks = Blanks::new(rt.alloc(), 3)?;
-    let run = Run {
-        auto_restart: 0,
-        by_call: true,
-        is_stopped: false,
-    };
-    run_both::<Brand, _>(&rt, rt.alloc(), blanks, run);
+    run_both::<Brand, _>(&rt, rt.alloc(), blanks, PLAIN);
     Ok(())
 }
 
@@ -250,9 +259,8 @@ fn a_station_tells_what_its_bus_tells(rt: HostRuntime) -> Result<(), Fail> {
 fn a_stopped_station_tells_what_its_bus_tells(rt: HostRuntime) -> Result<(), Fail> {
     let blanks = Blanks::new(rt.alloc(), 3)?;
     let run = Run {
-        auto_restart: 0,
-        by_call: true,
         is_stopped: true,
+        ..PLAIN
     };
     run_both::<Brand, _>(&rt, rt.alloc(), blanks, run);
     Ok(())
@@ -261,12 +269,7 @@ fn a_stopped_station_tells_what_its_bus_tells(rt: HostRuntime) -> Result<(), Fai
 #[test]
 fn a_station_restarts_as_its_bus_does(rt: HostRuntime) -> Result<(), Fail> {
     let blanks = Blanks::new(rt.alloc(), 3)?;
-    let run = Run {
-        auto_restart: 3,
-        by_call: false,
-        is_stopped: false,
-    };
-    run_both::<Brand, _>(&rt, rt.alloc(), blanks, run);
+    run_both::<Brand, _>(&rt, rt.alloc(), blanks, RESTARTING);
     Ok(())
 }
 
@@ -274,9 +277,8 @@ fn a_station_restarts_as_its_bus_does(rt: HostRuntime) -> Result<(), Fail> {
 fn a_stopped_station_restarts_as_its_bus_does(rt: HostRuntime) -> Result<(), Fail> {
     let blanks = Blanks::new(rt.alloc(), 3)?;
     let run = Run {
-        auto_restart: 3,
-        by_call: false,
         is_stopped: true,
+        ..RESTARTING
     };
     run_both::<Brand, _>(&rt, rt.alloc(), blanks, run);
     Ok(())
@@ -286,9 +288,8 @@ fn a_stopped_station_restarts_as_its_bus_does(rt: HostRuntime) -> Result<(), Fai
 fn a_call_restarts_before_the_attempt_that_would(rt: HostRuntime) -> Result<(), Fail> {
     let blanks = Blanks::new(rt.alloc(), 3)?;
     let run = Run {
-        auto_restart: 3,
         by_call: true,
-        is_stopped: true,
+        ..RESTARTING
     };
     run_both::<Brand, _>(&rt, rt.alloc(), blanks, run);
     Ok(())
