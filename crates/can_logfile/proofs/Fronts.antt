@@ -40,7 +40,7 @@ grows (reply.Closed s) base all h = h
 grows reply.Done base all h = h
 grows (reply.Sent s) base all h = h
 grows (reply.Received s) base all h = h
-grows reply.Idle base all h = h
+grows (reply.Idle restarted) base all h = h
 grows (reply.Refused s) base all h = h
 
 tape-grows : (later past : List Entry) → Grows (tape past) (tape (later ++ past))
@@ -102,7 +102,7 @@ stays (reply.Closed s) before never = refl
 stays reply.Done before never = refl
 stays (reply.Sent s) before never = refl
 stays (reply.Received s) before never = refl
-stays reply.Idle before never = refl
+stays (reply.Idle restarted) before never = refl
 stays (reply.Refused s) before never = refl
 
 -- one entry more that was no attempt

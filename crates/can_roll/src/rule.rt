@@ -90,7 +90,7 @@ pub trait Says {
 
 impl Says for Brand {
     ghost use Rattle.can_bus.specs.declared.events.Event.TheVariants.{Receive};
-    ghost use Rattle.can_bus.specs.declared.events.Reply.TheVariants.{Idle};
+    ghost use Rattle.can_bus.specs.declared.events.Reply.TheVariants.{Done};
 
-    ghost said = { record { event = Receive (record { 0 = 0 }); reply = Idle } };
+    ghost said = { record { event = Receive (record { 0 = 0 }); reply = Done } };
 }

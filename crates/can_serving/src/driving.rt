@@ -20,7 +20,8 @@ impl<
     C: Clock + Watch,
     R: Wait + time::Clock,
 > Server<'a, N, F, G, C, R> {
-    /// Steps a bus while an interface has a frame to send, until its station is stopped, and hands the pass back.
+    /// Steps a bus while an interface has a frame to send or counts towards its restart, until its station is stopped,
+    /// and hands the pass back.
     pub fn drive(&self, bus: usize) {
         if bus >= self.hub.count() {
             return;
@@ -52,8 +53,8 @@ impl<
         }
     }
 
-    /// Steps a bus up to so many times in one hold of its lock, while an interface has a frame to send: whether no step
-    /// was refused.
+    /// Steps a bus up to so many times in one hold of its lock, while an interface has a frame to send or counts towards
+    /// its restart: whether no step was refused.
     fn step_some(&self, mut hold: Hold<'_, N, F, G>, most: u32, pass: &mut Pass<N>) -> bool {
         for _ in 0..most {
             if !hold.has_work() {

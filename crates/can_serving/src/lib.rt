@@ -2,7 +2,8 @@
 //!
 //! [`serve`] takes connections in at its doors. Each is a session of two threads, one that reads what the client says
 //! and one that delivers its items, over a pass of the bus that it opens. Each bus has a driver, which steps it while
-//! an interface has a frame to send. At the end all passes are handed back, for the hub to settle.
+//! an interface has a frame to send or counts towards its restart. At the end all passes are handed back, for the hub to
+//! settle.
 //!
 //! What is proved here: the sessions are can_dialog's, each with a pass of its own, and one list of passes is handed
 //! back for each bus. Not promised: that a peer gets anything, how long anybody waits, that no two wait for each other.

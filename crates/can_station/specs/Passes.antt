@@ -5,7 +5,7 @@ use Rattle.can_bus.specs.declared.events.Event.TheVariants as event
 use Rattle.can_bus.specs.declared.events.Reply.{Reply}
 use Rattle.can_bus.specs.declared.events.Reply.TheVariants as reply
 use Rattle.can_bus.specs.declared.events.Refusal.TheVariants as refusal
-use Rattle.can_bus.specs.declared.events.Tried.{Tried}
+use Rattle.can_bus.specs.declared.events.Attempt.{Attempt}
 use Rattle.can_bus.specs.declared.events.BusConfig.{BusConfig}
 use Rattle.can_fault.specs.declared.verdicts.Verdict.{Verdict}
 use Rattle.can_bus.specs.Answer.{told_attempt}
@@ -43,7 +43,7 @@ Called told number old e (Err (station.Bus why)) new = ((why ≡ refusal.NoMemor
 Called told number old e (Err station.WrongStation) new = ¬ (old.number ≡ number) × (new ≡ old)
 
 -- a step: an attempt at the moment, with a verdict
-abbrev pub Stepped : ℕ → PassSeen → ℕ → Result (Option Tried) StationRefusal → PassSeen → Type 0
+abbrev pub Stepped : ℕ → PassSeen → ℕ → Result Attempt StationRefusal → PassSeen → Type 0
 Stepped number old moment outcome new = (verdict : Verdict) × Called told_attempt number old (event.Attempt moment verdict) outcome new
 
 -- the same, as slip and list of calls

@@ -1,8 +1,9 @@
-use Rattle.std.specs.Prelude.{ℕ, ◌-◌, nat_lt, Bool, Option, Some, None, if◌then◌else◌}
+use Rattle.std.specs.Prelude.{ℕ, ◌-◌, ◌||◌, nat_lt, Bool, Option, Some, None, is_some, if◌then◌else◌}
 use Rattle.can_bus.specs.declared.stats.SocketStats.{SocketStats}
 use Rattle.can_bus.specs.Journal.{Journal}
 use Rattle.can_bus.specs.Stats.{socket_stats_of}
 use Rattle.can_bus.specs.Attempts.{winner}
+use Rattle.can_bus.specs.AutoRestart.{is_counting}
 use Rattle.can_station.specs.Held.{Held}
 use Rattle.can_station.specs.declared.waits.Wake.{Wake}
 use Rattle.can_station.specs.declared.waits.Wake.TheVariants as wake
@@ -22,14 +23,13 @@ item_wake (Some counts) stopped = if nat_lt counts.taken counts.queued then Some
 abbrev pub frame_wake : {F : Type 0} → Held F → ℕ → Option Wake
 frame_wake h s = item_wake (socket_stats_of h.journal.config h.journal.history s) h.stopped
 
--- a wait for a frame to send: some interface wins the bus, or the station was stopped
-abbrev pub winner_wake : Option ℕ → Bool → Option Wake
-winner_wake (Some i) stopped = Some wake.Ready
-winner_wake None stopped = stopped_wake stopped
+-- a bus has work for its driver: some interface wins it, or counts towards its restart
+abbrev pub has_work : Journal → Bool
+has_work j = is_some (winner j.config j.history) || is_counting j.config j.history
 
--- the same, of a station
+-- a wait for work: there is some, or the station was stopped
 abbrev pub work_wake : {F : Type 0} → Held F → Option Wake
-work_wake h = winner_wake (winner h.journal.config h.journal.history) h.stopped
+work_wake h = if has_work h.journal then Some wake.Ready else stopped_wake h.stopped
 
 -- the items that were queued and not taken
 abbrev pub left_of : Option SocketStats → ℕ

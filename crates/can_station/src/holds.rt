@@ -11,7 +11,7 @@ use crate::refusals::StationRefusal;
 use crate::state::StationState;
 use crate::stations::{Station, places_for};
 use crate::waits::News;
-use can_bus::{Entry, Event, Received, Refusal, Reply, SocketId, Tried};
+use can_bus::{Attempt, Entry, Event, Received, Refusal, Reply, SocketId};
 use can_fault::FaultSource;
 use can_frame::{Frame, Moment};
 use can_meter::MeterName;
@@ -48,7 +48,7 @@ impl<'s, N: RollName + MeterName, F: FaultSource + Drop, G: Gate + Drop> Hold<'s
         self.state.number()
     }
 
-    /// Whether a live interface has a frame to send.
+    /// Whether a live interface has a frame to send, or an interface counts towards its restart.
     pub fn has_work(&self) -> bool {
         self.state.has_work()
     }
@@ -136,7 +136,7 @@ impl<'s, N: RollName + MeterName, F: FaultSource + Drop, G: Gate + Drop> Hold<'s
         alloc: Global,
         pass: &mut Pass<N>,
         moment: Moment,
-    ) -> Result<Option<Tried>, StationRefusal>
+    ) -> Result<Attempt, StationRefusal>
         ensures number { self.new ≡ self.old }
         ensures stepped { Stepped self.old pass.old moment result pass.new }
     {
@@ -147,8 +147,8 @@ impl<'s, N: RollName + MeterName, F: FaultSource + Drop, G: Gate + Drop> Hold<'s
             return Err(StationRefusal::WrongStation);
         }
         match self.attempt(alloc, &mut pass.slip, &mut pass.calls, moment) {
-            Reply::Tried(tried) => Ok(Some(tried)),
-            Reply::Idle => Ok(None),
+            Reply::Tried(tried) => Ok(Attempt::Tried(tried)),
+            Reply::Idle(restarted) => Ok(Attempt::Idle(restarted)),
             Reply::Refused(why) => Err(StationRefusal::Bus(why)),
             _ => unreachable!(),
         }

@@ -11,7 +11,7 @@ ghost use Rattle.can_station.specs.Held.{enters, held_after, lists_after, marks_
 ghost use Rattle.can_station.specs.Marks.{IsMarked};
 ghost use Rattle.can_station.specs.Passes.{AllOf, SomeOther, Settles, Suits};
 ghost use Rattle.can_station.specs.Published.{AllTrue, GaugesOf, SomeOtherGauge, IsPublished};
-ghost use Rattle.can_station.specs.Waits.{frame_wake, work_wake, stopped_wake, waiting_at};
+ghost use Rattle.can_station.specs.Waits.{frame_wake, has_work, work_wake, stopped_wake, waiting_at};
 
 use crate::gauges::{absorb_all, are_gauges_of};
 use crate::passes::{Pass, Settled, are_all_of, enters, recall_all};
@@ -197,18 +197,21 @@ impl<N: RollName + MeterName, F: FaultSource + Drop> StationState<N, F> {
         }
     }
 
-    /// Whether a live interface has a frame to send.
-    pub(crate) fn has_work(&self) -> bool {
-        self.bus.next_winner().is_some()
+    /// Whether a live interface has a frame to send, or an interface counts towards its restart.
+    pub(crate) fn has_work(&self) -> bool
+        ensures { result ≡ has_work self.now.journal }
+    {
+        self.bus.next_winner().is_some() || self.bus.is_counting()
     }
 
-    /// Why a wait for a frame to send ends, if it does.
+    /// Why a wait for work ends, if it does.
     pub(crate) fn work_wake(&self) -> Option<Wake>
         ensures { result ≡ work_wake self.now }
     {
-        match self.bus.next_winner() {
-            Some(_) => Some(Wake::Ready),
-            None => self.stopped_wake(),
+        if self.has_work() {
+            Some(Wake::Ready)
+        } else {
+            self.stopped_wake()
         }
     }
 

@@ -12,7 +12,7 @@ use crate::passes::{Pass, Settled, keep};
 use crate::refusals::{StationRefusal, TooManyPasses, WrongStation};
 use crate::state::StationState;
 use crate::waits::{News, ROOM};
-use can_bus::{BusConfig, BusFault, Entry, Event, Refusal, Reply, RingBus, Tried};
+use can_bus::{Attempt, BusConfig, BusFault, Entry, Event, Refusal, Reply, RingBus};
 use can_fault::FaultSource;
 use can_frame::Moment;
 use can_meter::{Gauge, MeterBlank, MeterName, meter, meter_blank};
@@ -49,7 +49,7 @@ impl Blanks {
 #[derive(Drop)]
 pub struct Station<N: RollName + MeterName, F: FaultSource + Drop, G: Gate + Drop> {
     pub(crate) state: Mutex<StationState<N, F>>,
-    /// Where drivers wait for frames to send.
+    /// Where drivers wait for frames to send and interfaces to restart.
     pub(crate) work: Condvar,
     /// Where receivers wait for items.
     pub(crate) items: Condvar,
@@ -195,8 +195,8 @@ impl<N: RollName + MeterName, F: FaultSource + Drop, G: Gate + Drop> Station<N, 
         Ok(reply)
     }
 
-    /// Tries the frame that wins the bus, with the verdict that the source has for the next attempt: `None` where no
-    /// live interface has a frame to send.
+    /// Tries the frame that wins the bus, with the verdict that the source has for the next attempt: `Idle` where no
+    /// live interface has a frame to send. Interfaces whose count has run out are restarted.
     ///
     /// Refusals, in this order: `NoMemory` where the pass's list of calls can't grow, `WrongStation`, `RecordFull`.
     pub fn step<R: Wait>(
@@ -205,7 +205,7 @@ impl<N: RollName + MeterName, F: FaultSource + Drop, G: Gate + Drop> Station<N, 
         alloc: Global,
         pass: &mut Pass<N>,
         moment: Moment,
-    ) -> Result<Option<Tried>, StationRefusal>
+    ) -> Result<Attempt, StationRefusal>
         ensures { Stepped self.now pass.old moment result pass.new }
     {
         if pass.calls.reserve(1).is_err() {
@@ -217,8 +217,8 @@ impl<N: RollName + MeterName, F: FaultSource + Drop, G: Gate + Drop> Station<N, 
         self.gate.at(Point::BeforeStep);
         let mut hold = self.lock(rt);
         match hold.attempt(alloc, &mut pass.slip, &mut pass.calls, moment) {
-            Reply::Tried(tried) => Ok(Some(tried)),
-            Reply::Idle => Ok(None),
+            Reply::Tried(tried) => Ok(Attempt::Tried(tried)),
+            Reply::Idle(restarted) => Ok(Attempt::Idle(restarted)),
             Reply::Refused(why) => Err(StationRefusal::Bus(why)),
             _ => unreachable!(),
         }

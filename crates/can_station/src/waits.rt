@@ -5,7 +5,7 @@ use crate::holds::Hold;
 use crate::stations::Station;
 use can_bus::{Event, IfaceStats, Refusal, Reply, SocketId, SocketStats};
 use can_fault::FaultSource;
-use can_frame::Iface;
+use can_frame::{Iface, IfaceSet};
 use can_meter::MeterName;
 use can_roll::RollName;
 use std::sync::Wait;
@@ -24,7 +24,7 @@ const TOLD: u8 = 2;
 /// Why a wait ended.
 #[derive(Debug, Clone, Copy, PartialEq, Eq)]
 pub enum Wake {
-    /// There is something to do: an item waits, or a frame.
+    /// There is something to do: an item waits, or a frame, or an interface counts towards its restart.
     Ready,
     /// The socket is not open.
     Closed,
@@ -54,11 +54,13 @@ impl News {
     }
 
     /// Adds what a call can have changed. A frame to send comes of `send` alone; items come of attempts and restarts,
-    /// and a socket closes by `close`.
+    /// and a socket closes by `close`. An interface begins to count towards its restart where a frame was tried, whose
+    /// `send` has woken who waits for work.
     pub(crate) fn add(&mut self, event: &Event, reply: &Reply) {
         match (event, reply) {
             (_, Reply::Refused(Refusal::RecordFull)) => self.is_full = true,
-            (_, Reply::Refused(_) | Reply::Idle) => {}
+            (_, Reply::Refused(_)) => {}
+            (_, Reply::Idle(restarted)) if *restarted == IfaceSet::empty() => {}
             (Event::Send(_, _), _) => self.has_work = true,
             (Event::Close(_) | Event::Attempt(_, _) | Event::Restart(_, _), _) => {
                 self.has_items = true;
@@ -97,8 +99,8 @@ impl<N: RollName + MeterName, F: FaultSource + Drop, G: Gate + Drop> Station<N, 
         (wake, state.waiting(socket))
     }
 
-    /// Waits until a live interface has a frame to send. `Ready` where one has, else `Stopped` after `stop`; else it
-    /// sleeps until a call changes that.
+    /// Waits until a live interface has a frame to send, or an interface counts towards its restart. `Ready` where one
+    /// does, else `Stopped` after `stop`; else it sleeps until a call changes that.
     pub fn wait_work<R: Wait>(&self, rt: &R) -> Wake {
         let state = self.work.wait_while(rt, self.state.lock(rt), |state| {
             state.work_wake().is_none()

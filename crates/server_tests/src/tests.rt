@@ -9,6 +9,7 @@ mod hubs;
 mod limits;
 mod peers;
 mod ports;
+mod restarts;
 mod rows;
 mod statuses;
 
@@ -36,6 +37,7 @@ fn config() -> BusConfig {
         reporting: IfaceSet(0),
         tx_capacity: 10,
         limit: 100,
+        auto_restart: 0,
     }
 }
 

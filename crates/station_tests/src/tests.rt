@@ -4,13 +4,14 @@ mod full_records;
 mod gates;
 mod gauges;
 mod passes;
+mod restarts;
 mod rests;
 mod threads;
 mod twins;
 mod waits;
 
 use can_attempt::AckMode;
-use can_bus::{BusConfig, Closed, Opt, Received, SocketId, Tried};
+use can_bus::{Attempt, BusConfig, Closed, Opt, Received, SocketId};
 use can_fault::{FaultSource, Script};
 use can_frame::{CanId, Frame, Iface, IfaceSet, Moment, Names};
 use can_meter::{Gauge, MeterName, Status};
@@ -26,6 +27,14 @@ use std::time::{Clock, Duration};
 /// How many looks are made before a test gives up.
 const TURNS: u32 = 10_000;
 
+/// The first 32 attempts are destroyed, which takes an interface off that makes them all.
+const DESTROYED: &str = "\
+0 global bit\n1 global bit\n2 global bit\n3 global bit\n4 global bit\n5 global bit\n6 global bit\n7 global bit\n\
+8 global bit\n9 global bit\n10 global bit\n11 global bit\n12 global bit\n13 global bit\n14 global bit\n\
+15 global bit\n16 global bit\n17 global bit\n18 global bit\n19 global bit\n20 global bit\n21 global bit\n\
+22 global bit\n23 global bit\n24 global bit\n25 global bit\n26 global bit\n27 global bit\n28 global bit\n\
+29 global bit\n30 global bit\n31 global bit\n";
+
 /// A bus as it is by default, of two interfaces.
 fn config() -> BusConfig {
     BusConfig {
@@ -34,6 +43,7 @@ fn config() -> BusConfig {
         reporting: IfaceSet::empty(),
         tx_capacity: 10,
         limit: 1000,
+        auto_restart: 0,
     }
 }
 
@@ -158,7 +168,7 @@ impl<N: RollName + MeterName, F: FaultSource + Drop, G: Gate + Drop, R: Wait + A
             .receive(self.rt, self.alloc, &mut self.pass, socket)
     }
 
-    fn step(&mut self, micros: u64) -> Result<Option<Tried>, StationRefusal> {
+    fn step(&mut self, micros: u64) -> Result<Attempt, StationRefusal> {
         let moment = moment(self.rt, micros);
         self.station
             .step(self.rt, self.alloc, &mut self.pass, moment)

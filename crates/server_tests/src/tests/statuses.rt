@@ -4,6 +4,7 @@ ghost use Rattle.std.specs.Prelude.{◌≡◌};
 ghost use Rattle.can_server.specs.Benches.{NamedFrom};
 
 use super::*;
+use can_bus::Attempt;
 use can_dialog::Session;
 use can_station::Station;
 use std::marker::Brand;
@@ -52,7 +53,8 @@ fn attempt<N: RollName + MeterName, R: Wait + Abort>(
     driver: &mut Pass<N>,
 ) {
     let moment = moment(rt, 0);
-    assert!(rt; matches!(station.step(rt, alloc, driver, moment), Ok(Some(_))));
+    let tried = station.step(rt, alloc, driver, moment);
+    assert!(rt; matches!(tried, Ok(Attempt::Tried(_))));
 }
 
 /// A fault in the last bit and the good attempt after it, as two sessions are told of them.

@@ -37,7 +37,7 @@ fn one_caller<N: RollName + MeterName, R: Wait + Abort>(rt: &R, alloc: Global, b
     let mut caller = entered(rt, alloc, &station);
     let socket = caller.open(0, 4);
     assert!(rt; caller.send(socket, 0x123) == Ok(0));
-    assert!(rt; matches!(caller.step(1), Ok(Some(_))));
+    assert!(rt; matches!(caller.step(1), Ok(Attempt::Tried(_))));
     let before = counts(&caller);
     assert!(rt; caller.receive(socket) == Err(FULL));
     assert!(rt; counts(&caller) == before);

@@ -45,7 +45,7 @@ where
     R: Wait + Abort,
 {
     for micros in 1..=2 {
-        assert!(caller.rt; matches!(caller.step(micros), Ok(Some(_))));
+        assert!(caller.rt; matches!(caller.step(micros), Ok(Attempt::Tried(_))));
     }
     caller.leave()
 }

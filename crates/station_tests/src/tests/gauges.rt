@@ -21,9 +21,9 @@ fn last_bit<N: RollName + MeterName, R: Wait + Abort>(rt: &R, alloc: Global, bla
     let socket = caller.open(0, 4);
     assert!(rt; caller.send(socket, 0x123) == Ok(0));
     assert!(rt; reading(rt, &mut gauge, 0) == (0, 0, 0));
-    assert!(rt; matches!(caller.step(1), Ok(Some(_))));
+    assert!(rt; matches!(caller.step(1), Ok(Attempt::Tried(_))));
     assert!(rt; reading(rt, &mut gauge, 0) == (3, 8, 0));
-    assert!(rt; matches!(caller.step(2), Ok(Some(_))));
+    assert!(rt; matches!(caller.step(2), Ok(Attempt::Tried(_))));
     assert!(rt; reading(rt, &mut gauge, 0) == (4, 7, 0));
     assert!(rt; reading(rt, &mut gauge, 1) == (0, 0, 0));
     let passes = one(rt, alloc, caller.leave());
@@ -47,7 +47,7 @@ fn fails_17_times<N: RollName + MeterName, R: Wait + Abort>(
     let socket = caller.open(0, 4);
     assert!(caller.rt; caller.send(socket, 0x123) == Ok(0));
     for micros in 1..=17 {
-        assert!(caller.rt; matches!(caller.step(micros), Ok(Some(_))));
+        assert!(caller.rt; matches!(caller.step(micros), Ok(Attempt::Tried(_))));
     }
     caller.leave()
 }

@@ -3,7 +3,7 @@
 ghost use Rattle.std.specs.Prelude.{◌≡◌};
 
 use super::*;
-use can_bus::{Event, RingBus, answer};
+use can_bus::{Event, Reply, RingBus, answer};
 use can_fault::Verdict;
 use can_filter::{Filter, FilterSet};
 use can_station::{Open, Wake};
@@ -18,18 +18,44 @@ const SCRIPT: &str = "\
 22 global bit\n23 global bit\n24 global bit\n25 global bit\n26 global bit\n27 global bit\n28 global bit\n\
 29 global bit\n30 global bit\n31 global bit\n36 lastbit\n40 local crc can1\n44 global form\n";
 
+/// How the calls are made.
+#[derive(Clone, Copy)]
+struct Run {
+    /// How many attempts after it went bus off an interface is restarted.
+    auto_restart: u32,
+    /// Whether a call restarts it, one attempt after it went off.
+    by_call: bool,
+    /// Whether the station was stopped before its first call.
+    is_stopped: bool,
+}
+
+/// Interfaces are restarted by calls alone.
+const PLAIN: Run = Run {
+    auto_restart: 0,
+    by_call: true,
+    is_stopped: false,
+};
+
+/// Interfaces are restarted by the third attempt after they went off.
+const RESTARTING: Run = Run {
+    auto_restart: 3,
+    by_call: false,
+    is_stopped: false,
+};
+
 /// A bus of three interfaces with short transmit queues, which reports each fault at can1.
-fn busy() -> BusConfig {
+fn busy(run: Run) -> BusConfig {
     BusConfig {
         ifaces: 3,
         reporting: IfaceSet(2),
         tx_capacity: 4,
+        auto_restart: run.auto_restart,
         ..config()
     }
 }
 
 /// The call of this turn, of 200. The verdict of an attempt is the script's, and not this one.
-fn event_at<R: Abort>(rt: &R, alloc: Global, turn: u64) -> Event {
+fn event_at<R: Abort>(rt: &R, alloc: Global, turn: u64, run: Run) -> Event {
     match turn {
         0 | 2 => Event::Open(iface(rt, 0), 2),
         1 => Event::Open(iface(rt, 1), 2),
@@ -37,7 +63,7 @@ fn event_at<R: Abort>(rt: &R, alloc: Global, turn: u64) -> Event {
         4 => Event::SetFilters(SocketId(2), filters(rt, alloc)),
         5..=7 | 40 => Event::Send(SocketId(0), frame(rt, 0x123)),
         8..=39 | 41 => attempt(rt, turn),
-        42 | 43 => Event::Restart(iface(rt, 0), moment(rt, turn)),
+        42 | 43 if run.by_call => Event::Restart(iface(rt, 0), moment(rt, turn)),
         150 | 151 => Event::Close(SocketId(1)),
         152 => Event::Open(iface(rt, 1), 70_000),
         153 => Event::Open(iface(rt, 5), 2),
@@ -128,16 +154,18 @@ fn frame_wake(bus: &RingBus, socket: SocketId, is_stopped: bool) -> Option<Wake>
     }
 }
 
-/// The same of a wait for frames to send. An interface that is bus off has none waiting.
-fn work_wake<R: Abort>(rt: &R, bus: &RingBus, is_stopped: bool) -> Option<Wake> {
+/// The same of a wait for work: for frames to send, of which an interface that is bus off has none, and for interfaces
+/// that are bus off, where they are restarted by attempts.
+fn work_wake<R: Abort>(rt: &R, bus: &RingBus, run: Run) -> Option<Wake> {
     for number in 0..3 {
         if let Some(counts) = bus.iface_stats(iface(rt, number)) {
-            if counts.waiting > 0 {
+            let comes_back = run.auto_restart > 0 && counts.counters.tec() >= 256;
+            if counts.waiting > 0 || comes_back {
                 return Some(Wake::Ready);
             }
         }
     }
-    if is_stopped {
+    if run.is_stopped {
         Some(Wake::Stopped)
     } else {
         None
@@ -157,19 +185,19 @@ fn agree<N: RollName + MeterName, R: Wait + Abort>(
     rt: &R,
     station: &Station<N, Script, Open>,
     bus: &RingBus,
-    is_stopped: bool,
+    run: Run,
 ) {
     for number in 0..4 {
         let (socket, iface) = (SocketId(u32::from(number)), iface(rt, number));
         let (items, frames) = station.stats(rt, socket, iface);
         assert!(rt; items == bus.socket_stats(socket));
         assert!(rt; frames == bus.iface_stats(iface));
-        if let Some(wake) = frame_wake(bus, socket, is_stopped) {
+        if let Some(wake) = frame_wake(bus, socket, run.is_stopped) {
             assert!(rt; station.wait_frame(rt, socket) == wake);
             assert!(rt; station.wait_items(rt, socket) == (wake, waiting(bus, socket)));
         }
     }
-    if let Some(wake) = work_wake(rt, bus, is_stopped) {
+    if let Some(wake) = work_wake(rt, bus, run) {
         assert!(rt; station.wait_work(rt) == wake);
     }
 }
@@ -179,39 +207,90 @@ fn run_both<N: RollName + MeterName, R: Wait + Abort>(
     rt: &R,
     alloc: Global,
     blanks: Blanks,
-    is_stopped: bool,
+    run: Run,
 )
     requires { (blanks.roll ≡ N.roll 0) × (blanks.meter ≡ N.meter 0) }
 {
     let faults = script(rt, alloc, SCRIPT);
-    let station = made::<N, _, _, _>(rt, alloc, blanks, 0, busy(), faults, Open);
-    let Ok(mut bus) = RingBus::new(alloc, busy()) else {
+    let station = made::<N, _, _, _>(rt, alloc, blanks, 0, busy(run), faults, Open);
+    let Ok(mut bus) = RingBus::new(alloc, busy(run)) else {
         panic!(rt; "no bus");
     };
     let mut source = script(rt, alloc, SCRIPT);
-    if is_stopped {
+    if run.is_stopped {
         station.stop(rt);
     }
     let mut caller = entered(rt, alloc, &station);
     for turn in 0..200 {
-        let event = event_at(rt, alloc, turn);
+        let event = event_at(rt, alloc, turn, run);
         call(&mut caller, &event);
         call_bus(&mut bus, &mut source, alloc, event);
-        agree(rt, &station, &bus, is_stopped);
+        agree(rt, &station, &bus, run);
     }
     assert!(rt; bus.record().len() == 200 && caller.calls() == 200);
+    are_answered_alike(&caller, &bus, run);
+}
+
+/// Each call had the same answer on both. Call 39 takes can0 off. Where no call restarts it, calls 41 to 43 are idle
+/// attempts, the third of which does.
+fn are_answered_alike<N: RollName + MeterName, R: Wait + Abort>(
+    caller: &Caller<'_, N, Script, Open, R>,
+    bus: &RingBus,
+    run: Run,
+) {
+    let rt = caller.rt;
+    let (calls, entries) = (caller.pass.calls(), bus.record().entries());
+    assert!(rt; calls.len() == 200 && entries.len() == 200);
+    for place in 0..200 {
+        assert!(rt; calls[place].reply == entries[place].reply);
+    }
+    let is_restarted = calls[43].reply == Reply::Idle(IfaceSet(1));
+    assert!(rt; is_restarted == (run.auto_restart == 3 && !run.by_call));
 }
 
 #[test]
 fn a_station_tells_what_its_bus_tells(rt: HostRuntime) -> Result<(), Fail> {
     let blanks = Blanks::new(rt.alloc(), 3)?;
-    run_both::<Brand, _>(&rt, rt.alloc(), blanks, false);
+    run_both::<Brand, _>(&rt, rt.alloc(), blanks, PLAIN);
     Ok(())
 }
 
 #[test]
 fn a_stopped_station_tells_what_its_bus_tells(rt: HostRuntime) -> Result<(), Fail> {
     let blanks = Blanks::new(rt.alloc(), 3)?;
-    run_both::<Brand, _>(&rt, rt.alloc(), blanks, true);
+    let run = Run {
+        is_stopped: true,
+        ..PLAIN
+    };
+    run_both::<Brand, _>(&rt, rt.alloc(), blanks, run);
+    Ok(())
+}
+
+#[test]
+fn a_station_restarts_as_its_bus_does(rt: HostRuntime) -> Result<(), Fail> {
+    let blanks = Blanks::new(rt.alloc(), 3)?;
+    run_both::<Brand, _>(&rt, rt.alloc(), blanks, RESTARTING);
+    Ok(())
+}
+
+#[test]
+fn a_stopped_station_restarts_as_its_bus_does(rt: HostRuntime) -> Result<(), Fail> {
+    let blanks = Blanks::new(rt.alloc(), 3)?;
+    let run = Run {
+        is_stopped: true,
+        ..RESTARTING
+    };
+    run_both::<Brand, _>(&rt, rt.alloc(), blanks, run);
+    Ok(())
+}
+
+#[test]
+fn a_call_restarts_before_the_attempt_that_would(rt: HostRuntime) -> Result<(), Fail> {
+    let blanks = Blanks::new(rt.alloc(), 3)?;
+    let run = Run {
+        by_call: true,
+        ..RESTARTING
+    };
+    run_both::<Brand, _>(&rt, rt.alloc(), blanks, run);
     Ok(())
 }

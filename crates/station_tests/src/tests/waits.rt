@@ -18,14 +18,14 @@ const SCRIPT: &str = "\
 
 /// What a thread waits for.
 #[derive(Clone, Copy)]
-enum Awaited {
+pub enum Awaited {
     Work,
     Frame(SocketId),
 }
 
 /// What ends its wait.
 #[derive(Clone, Copy)]
-enum Act {
+pub enum Act {
     Send(SocketId),
     Step,
     Restart,
@@ -33,7 +33,7 @@ enum Act {
     Stop,
 }
 
-type Party<'s, N, R> = Caller<'s, N, Script, Open, R>;
+pub type Party<'s, N, R> = Caller<'s, N, Script, Open, R>;
 
 fn make_call<N: RollName + MeterName, R: Wait + Abort>(caller: &mut Party<'_, N, R>, act: Act) {
     let rt = caller.rt;
@@ -85,7 +85,7 @@ fn wake_up<N: RollName + MeterName, R: Wait + Abort + Clock>(
 }
 
 /// How a thread's wait ends, where another thread acts.
-fn woken<N: RollName + MeterName + Send + Sync, R: Threads + Wait + Abort + Clock + Sync>(
+pub fn woken<N: RollName + MeterName + Send + Sync, R: Threads + Wait + Abort + Clock + Sync>(
     rt: &R,
     caller: &mut Party<'_, N, R>,
     awaited: Awaited,
@@ -133,7 +133,7 @@ fn goes_off<N: RollName + MeterName, R: Wait + Abort>(
     assert!(caller.rt; caller.set_option(sender, Opt::ErrMask(0x100)).is_ok());
     assert!(caller.rt; caller.send(sender, 0x123).is_ok());
     for micros in 1..=32 {
-        assert!(caller.rt; matches!(caller.step(micros), Ok(Some(_))));
+        assert!(caller.rt; matches!(caller.step(micros), Ok(Attempt::Tried(_))));
     }
 }
 

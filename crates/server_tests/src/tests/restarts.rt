@@ -1,0 +1,88 @@
+// An interface that went bus off comes back by itself, as the two clients of its bus see it.
+
+ghost use Rattle.std.specs.Prelude.{◌≡◌};
+ghost use Rattle.can_server.specs.Benches.{NamedFrom};
+
+use super::clients::*;
+use super::*;
+use can_attempt::Class;
+use can_bus::{Record, Reply};
+use std::marker::Brand;
+use std::thread::join;
+
+/// The first 32 attempts are destroyed.
+const SCRIPT: &str = "\
+0 global bit\n1 global bit\n2 global bit\n3 global bit\n4 global bit\n5 global bit\n6 global bit\n7 global bit\n\
+8 global bit\n9 global bit\n10 global bit\n11 global bit\n12 global bit\n13 global bit\n14 global bit\n\
+15 global bit\n16 global bit\n17 global bit\n18 global bit\n19 global bit\n20 global bit\n21 global bit\n\
+22 global bit\n23 global bit\n24 global bit\n25 global bit\n26 global bit\n27 global bit\n28 global bit\n\
+29 global bit\n30 global bit\n31 global bit\n";
+
+/// The first client is told that its interface went off and came back, and sends once more.
+fn talk<R: Abort>(mut first: Client<'_, R>, mut second: Client<'_, R>) {
+    second.ask("< open can1 >< rawmode >", "< hi >< ok >< ok >");
+    let raw = "< open can0 >< rawmode >< errmask 140 >";
+    first.ask(raw, "< hi >< ok >< ok >< ok >");
+    let told = "< error 040 23.424242 >< error 100 23.424242 >";
+    first.ask("< send 123 0 >", told);
+    first.say("< send 123 0 >");
+    second.hear("< frame 123 23.424242  >");
+}
+
+/// The record of a bus of can0 and can1 whose two clients talk.
+fn record<N: RollName + MeterName + Send + Sync, R: Machine>(
+    rt: &R,
+    alloc: Global,
+    benches: Vec<Bench<Script, Open>>,
+    entrance: Entrance,
+) -> Record
+    requires { NamedFrom N.roll N.meter 0 benches.items }
+{
+    let hub = made::<N, _, _, _>(rt, alloc, benches);
+    let host = Host::new(rt);
+    let (first, second) = (entrance.admit(rt, alloc), entrance.admit(rt, alloc));
+    let doors = entrance.into_doors(rt, alloc);
+    let (passes, ()) = join(
+        rt,
+        || serves(rt, alloc, &hub, &doors, &host, None),
+        || talk(first, second),
+    );
+    let Some(bus) = settled(rt, alloc, hub, passes).pop() else {
+        panic!(rt; "no bus");
+    };
+    bus.history
+}
+
+/// The reply of the attempt with this place, of 35: 32 are destroyed, the last of which takes can0 off; then one is idle,
+/// one is idle and restarts can0, and one is done.
+fn is_wanted(place: u32, reply: &Reply) -> bool {
+    match reply {
+        Reply::Tried(tried) if place < 32 => {
+            tried.class == Class::Destroyed && tried.off == IfaceSet(u16::from(place == 31))
+        }
+        Reply::Idle(restarted) => {
+            matches!((place, *restarted), (32, IfaceSet(0)) | (33, IfaceSet(1)))
+        }
+        Reply::Tried(tried) => place == 34 && tried.class == Class::Done && tried.number == 1,
+        _ => false,
+    }
+}
+
+/// The driver steps until nobody counts, and then waits: there is no attempt but these.
+#[test]
+fn a_driver_steps_until_an_interface_is_back(rt: HostRuntime) {
+    let alloc = rt.alloc();
+    let names = names(&rt, alloc, "can0,can1");
+    let mut bench = held_bench(&rt, alloc, names, script(&rt, alloc, SCRIPT), Open);
+    bench.config.auto_restart = 2;
+    let benches = one(&rt, alloc, bench);
+    let record = record::<Brand, _>(&rt, alloc, benches, Entrance::new(&rt, 2));
+    let mut attempts = 0_u32;
+    for entry in record.entries() {
+        if matches!(entry.reply, Reply::Tried(_) | Reply::Idle(_)) {
+            assert!(&rt; is_wanted(attempts, &entry.reply));
+            attempts = attempts.wrapping_add(1);
+        }
+    }
+    assert!(&rt; attempts == 35);
+}
