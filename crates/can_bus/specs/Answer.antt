@@ -1,11 +1,12 @@
-use Rattle.std.specs.Prelude.{◌≡◌, ◌<◌, ◌≤◌, ◌∷◌, length, Option, Some, None, Result, Ok, Err}
+use Rattle.std.specs.Prelude.{◌≡◌, ◌<◌, ◌≤◌, ◌∷◌, length, Result, Ok, Err}
+use Rattle.can_bus.specs.declared.events.Attempt.{Attempt}
+use Rattle.can_bus.specs.declared.events.Attempt.TheVariants as attempt
 use Rattle.can_bus.specs.declared.events.Event.{Event}
 use Rattle.can_bus.specs.declared.events.Event.TheVariants.{Open, SetFilters}
 use Rattle.can_bus.specs.declared.events.Reply.{Reply}
 use Rattle.can_bus.specs.declared.events.Reply.TheVariants as reply
 use Rattle.can_bus.specs.declared.events.Refusal.{Refusal}
 use Rattle.can_bus.specs.declared.events.Refusal.TheVariants as refusal
-use Rattle.can_bus.specs.declared.events.Tried.{Tried}
 use Rattle.can_bus.specs.Journal.{Journal}
 use Rattle.can_bus.specs.Legal.{legal_reply}
 
@@ -32,9 +33,9 @@ abbrev pub Answers : {A : Type 0} → (A → Reply) → Journal → Event → Re
 Answers told old event (Ok a) new = Noted old event (told a) new
 Answers told old event (Err why) new = Refuses old event why new
 
-abbrev pub told_attempt : Option Tried → Reply
-told_attempt None = reply.Idle
-told_attempt (Some t) = reply.Tried t
+abbrev pub told_attempt : Attempt → Reply
+told_attempt (attempt.Idle restarted) = reply.Idle restarted
+told_attempt (attempt.Tried t) = reply.Tried t
 
 abbrev pub told : {A : Type 0} → (A → Reply) → Result A Refusal → Reply
 told f (Ok a) = f a

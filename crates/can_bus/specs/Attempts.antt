@@ -13,6 +13,7 @@ use Rattle.can_bus.specs.declared.events.Reply.TheVariants as reply
 use Rattle.can_bus.specs.declared.events.Tried.{Tried}
 use Rattle.can_bus.specs.Transmit.{gone_count, head_of}
 use Rattle.can_bus.specs.Counters.{state_at, transmission}
+use Rattle.can_bus.specs.AutoRestart.{restarted_next}
 
 -- What an attempt answers: whose frame is tried, and what becomes of it.
 
@@ -33,17 +34,18 @@ beats past j i = goes_before (bits_in (head_of past j)) (bits_in (head_of past i
 abbrev pub winner : BusConfig → List Entry → Option ℕ
 winner c past = find (λ i. not (list_any (λ j. beats past j i) (contenders c past))) (contenders c past)
 
--- the winner sends its frame, and the attempt goes as its faults and the error counts have it
+-- the winner sends its frame, and the attempt goes as its faults and the error counts have it; then interfaces are
+-- restarted
 abbrev pub tried_with : BusConfig → List Entry → ℕ → Verdict → ℕ → CanFrame → Tried
 tried_with c past m v w frame =
     let t = transmission c past w v in
-    record { moment = m; winner = w; number = gone_count past w; frame = frame; class = class_of t; accepted = set_of (accepted_in (class_of t) t); off = set_of (off_after t) }
+    record { moment = m; winner = w; number = gone_count past w; frame = frame; class = class_of t; accepted = set_of (accepted_in (class_of t) t); off = set_of (off_after t); restarted = restarted_next c past }
 
 abbrev pub tried_head : BusConfig → List Entry → ℕ → Verdict → ℕ → Option Pending → Reply
-tried_head c past m v w None = reply.Idle
+tried_head c past m v w None = reply.Idle (restarted_next c past)
 tried_head c past m v w (Some p) = reply.Tried (tried_with c past m v w p.frame)
 
 -- idle exactly where no live interface has a frame to send
 abbrev pub attempt_reply : BusConfig → List Entry → ℕ → Verdict → Option ℕ → Reply
-attempt_reply c past m v None = reply.Idle
+attempt_reply c past m v None = reply.Idle (restarted_next c past)
 attempt_reply c past m v (Some w) = tried_head c past m v w (head_of past w)

@@ -1,13 +1,16 @@
-use Rattle.std.specs.Prelude.{◌≡◌, ℕ, ◌+◌, ◌==◌, ◌<◌, ◌≤◌, Bool, true, false, List, [], ◌∷◌, ◌++◌, length, map, drop, remove, slice_get, slice_set, is_some, Option, Some, None, Result, Ok, Err, if◌then◌else◌}
-use Rattle.std.specs.List.{list_any}
+use Rattle.std.specs.Prelude.{◌≡◌, ℕ, ◌+◌, ◌-◌, ◌==◌, ◌<◌, ◌≤◌, Bool, true, false, List, [], ◌∷◌, ◌++◌, length, map, drop, remove, slice_get, slice_set, slice_index_or, is_some, Option, Some, None, Result, Ok, Err, if◌then◌else◌}
+use Rattle.std.specs.List.{list_any, range_with_len}
 use Rattle.can_filter.specs.Passing.{receives_all, default_options}
-use Rattle.can_frame.specs.Sets.{is_in}
+use Rattle.can_frame.specs.Sets.{is_in, set_where}
+use Rattle.can_frame.specs.declared.ifaces.IfaceSet.{IfaceSet}
 use Rattle.can_arbiter.specs.Keys.{IsWinner, IsIdle}
 use Rattle.can_confine.specs.Confinement.{at_start, state_of, is_off}
 use Rattle.can_fault.specs.declared.verdicts.Verdict.{Verdict}
 use Rattle.can_attempt.specs.declared.classes.Class.{Class}
 use Rattle.can_attempt.specs.declared.nodes.Nodes.{Nodes}
 use Rattle.can_attempt.specs.Attempts.{Transmission, attempt_between, counts_at, judged}
+use Rattle.can_bus.specs.declared.events.Attempt.{Attempt}
+use Rattle.can_bus.specs.declared.events.Attempt.TheVariants as attempt
 use Rattle.can_bus.specs.declared.events.BusConfig.{BusConfig}
 use Rattle.can_bus.specs.declared.events.Received.{Received}
 use Rattle.can_bus.specs.declared.events.Closed.{Closed}
@@ -17,7 +20,7 @@ use Rattle.can_bus.specs.declared.events.Pending.{Pending}
 use Rattle.can_bus.specs.declared.events.Refusal.{Refusal}
 use Rattle.can_bus.specs.declared.events.Refusal.TheVariants as refusal
 use Rattle.can_bus.specs.Transmit.{is_done}
-use Rattle.can_bus.specs.Posts.{attempt_posts, restart_posts}
+use Rattle.can_bus.specs.Posts.{attempt_posts, restart_posts, auto_restart_posts}
 use Rattle.can_bus.specs.State.{LineState, SocketState, Parts, reached, key_in}
 
 -- What each call does to what is kept: the parts before it, and the parts after it.
@@ -151,27 +154,53 @@ abbrev pub settled : Class → Bool → LineState → LineState
 settled k off l = record l { waiting = if off then [] else if is_done k then drop 1 l.waiting else l.waiting; gone = if off then l.sent else if is_done k then l.gone + 1 else l.gone; done = if is_done k then l.done + 1 else l.done }
 
 -- what an attempt answers of the frame that it tried, the n-th of the winner
-abbrev pub tried_in : Transmission → ℕ → ℕ → Pending → Tried
-tried_in tr m n pending = record { moment = m; winner = tr.winner; number = n; frame = pending.frame; class = (judged tr).class; accepted = (judged tr).accepted; off = (judged tr).off }
+abbrev pub tried_in : Transmission → ℕ → ℕ → IfaceSet → Pending → Tried
+tried_in tr m n restarted pending = record { moment = m; winner = tr.winner; number = n; frame = pending.frame; class = (judged tr).class; accepted = (judged tr).accepted; off = (judged tr).off; restarted = restarted }
+
+-- the winner counts the attempts until its restart from now on, if it went off
+abbrev pub counting_down : ℕ → ℕ → Bool → List ℕ → List ℕ
+counting_down n w off left = if off then slice_set left w n else left
 
 -- what an attempt leaves, of which the winner's line was this
 abbrev pub after_try : Parts → BusConfig → Transmission → LineState → Pending → Tried → Parts
-after_try old c tr line pending t = record (with_line old tr.winner (settled t.class (is_in tr.winner t.off) line)) { nodes = record old.nodes { counters = (judged tr).counters }; sockets = map (reached (attempt_posts c.reporting tr t (Some pending))) old.sockets; tried = old.tried + 1 }
+after_try old c tr line pending t = record (with_line old tr.winner (settled t.class (is_in tr.winner t.off) line)) { nodes = record old.nodes { counters = (judged tr).counters }; left = counting_down c.auto_restart tr.winner (is_in tr.winner t.off) old.left; sockets = map (reached (attempt_posts c.reporting tr t (Some pending))) old.sockets; tried = old.tried + 1 }
 
-pub record Carries (old : Parts) (c : BusConfig) (m : ℕ) (v : Verdict) (t : Tried) (new : Parts) : Type 0 where
+pub record Carries (old : Parts) (c : BusConfig) (m : ℕ) (v : Verdict) (restarted : IfaceSet) (t : Tried) (new : Parts) : Type 0 where
   pub place : ℕ
   pub line : LineState
   pub pending : Pending
   pub wins : IsWinner old.keys place
   pub there : slice_get old.lines place ≡ Some line
   pub oldest : slice_get line.waiting 0 ≡ Some pending
-  pub tried : t ≡ tried_in (attempt_between old.nodes place v c.ack) m line.gone pending
+  pub tried : t ≡ tried_in (attempt_between old.nodes place v c.ack) m line.gone restarted pending
   pub after : new ≡ after_try old c (attempt_between old.nodes place v c.ack) line pending t
 
--- a frame is tried, if a live interface has one
-abbrev pub Tries : Parts → BusConfig → ℕ → Verdict → Option Tried → Parts → Type 0
-Tries old c m v None new = IsIdle old.keys × (new ≡ old)
-Tries old c m v (Some t) new = Carries old c m v t new
+-- a frame is tried, if a live interface has one, in an attempt that then restarts these interfaces
+abbrev pub Tries : Parts → BusConfig → ℕ → Verdict → IfaceSet → Attempt → Parts → Type 0
+Tries old c m v restarted (attempt.Idle set) new = IsIdle old.keys × (set ≡ restarted) × (new ≡ old)
+Tries old c m v restarted (attempt.Tried t) new = Carries old c m v restarted t new
+
+-- the interfaces that wait for one attempt more
+abbrev pub due_in : List ℕ → IfaceSet
+due_in left = set_where (λ i. slice_index_or left i 0 == 1) 16
+
+-- each interface that counts has one attempt less before it
+abbrev pub ticked : List ℕ → List ℕ
+ticked left = map (λ n. n - 1) left
+
+-- the error counts, of which those of these interfaces begin anew
+abbrev pub begun_anew : IfaceSet → Nodes → Nodes
+begun_anew restarted nodes = record nodes { counters = map (λ i. if is_in i restarted then at_start else counts_at nodes i) (range_with_len 0 16) }
+
+-- these interfaces are restarted by an attempt
+abbrev pub after_auto_restart : Parts → IfaceSet → ℕ → Parts
+after_auto_restart old restarted m = record old { nodes = begun_anew restarted old.nodes; sockets = map (reached (auto_restart_posts restarted m)) old.sockets }
+
+-- an attempt: one attempt less is left before each restart, a frame is tried, and interfaces are restarted
+pub record Attempts (old : Parts) (c : BusConfig) (m : ℕ) (v : Verdict) (a : Attempt) (new : Parts) : Type 0 where
+  pub between : Parts
+  pub tries : Tries (record old { left = ticked old.left }) c m v (due_in old.left) a between
+  pub after : new ≡ after_auto_restart between (due_in old.left) m
 
 -- an interface with a key is there, is live, and has a frame to send
 pub record IsReady (parts : Parts) (w : ℕ) : Type 0 where
@@ -187,7 +216,7 @@ AreReady parts = (w k : ℕ) → slice_get parts.keys w ≡ Some (Some k) → Is
 
 -- what a restart leaves
 abbrev pub after_restart : Parts → ℕ → ℕ → Parts
-after_restart old i m = record old { nodes = record old.nodes { counters = slice_set old.nodes.counters i at_start }; sockets = map (reached (restart_posts i m)) old.sockets }
+after_restart old i m = record old { nodes = record old.nodes { counters = slice_set old.nodes.counters i at_start }; left = slice_set old.left i 0; sockets = map (reached (restart_posts i m)) old.sockets }
 
 -- an interface is restarted
 abbrev pub Restarts : Parts → ℕ → ℕ → Result (Unit {0}) Refusal → Parts → Type 0

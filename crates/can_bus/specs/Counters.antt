@@ -1,4 +1,5 @@
 use Rattle.std.specs.Prelude.{ℕ, ◌==◌, List, [], ◌++◌, ◌∷◌, if◌then◌else◌}
+use Rattle.can_frame.specs.Sets.{is_in}
 use Rattle.can_confine.specs.Confinement.{ErrorCounts, Step, all_stepped, at_start, state_of}
 use Rattle.can_confine.specs.declared.states.State.{State}
 use Rattle.can_fault.specs.declared.verdicts.Verdict.{Verdict}
@@ -17,11 +18,12 @@ abbrev pub sending : BusConfig → (ℕ → ErrorCounts) → ℕ → Verdict →
 sending c counts w v = record { count = c.ifaces; counts = counts; winner = w; verdict = v; ack = c.ack }
 
 abbrev pub steps_after : BusConfig → Event → Reply → (ℕ → ErrorCounts) → ℕ → List Step → List Step
-steps_after c (Attempt m v) (reply.Tried t) counts i before = before ++ steps_at i (sending c counts t.winner v)
+steps_after c (Attempt m v) (reply.Tried t) counts i before = if is_in i t.restarted then [] else before ++ steps_at i (sending c counts t.winner v)
+steps_after c (Attempt m v) (reply.Idle restarted) counts i before = if is_in i restarted then [] else before
 steps_after c (Restart k m) reply.Done counts i before = if k == i then [] else before
 steps_after c _ _ counts i before = before
 
--- the steps of interface i's error counters since its last restart
+-- the steps of interface i's error counters since its last restart, by hand or by an attempt
 abbrev pub steps_of : BusConfig → List Entry → ℕ → List Step
 steps_of c [] i = []
 steps_of c (e ∷ past) i = steps_after c e.event e.reply (λ j. all_stepped at_start (steps_of c past j)) i (steps_of c past i)

@@ -59,7 +59,9 @@ opening i capacity s = record { event = Open i capacity; reply = reply.Opened s 
 abbrev pub closing : SocketId → Closed → Entry
 closing s counts = record { event = Close s; reply = reply.Closed counts }
 
--- a restart of interface i
-abbrev pub is_restart_of : ℕ → Event → Bool
-is_restart_of i (Restart k m) = k == i
-is_restart_of i _ = false
+-- interface i is restarted, by hand or by an attempt
+abbrev pub is_restart_of : ℕ → Event → Reply → Bool
+is_restart_of i e (reply.Idle restarted) = is_in i restarted
+is_restart_of i e (reply.Tried t) = is_in i t.restarted
+is_restart_of i (Restart k m) r = k == i
+is_restart_of i _ _ = false

@@ -2,6 +2,7 @@ pub mod Journal
 pub mod Sockets
 pub mod Transmit
 pub mod Counters
+pub mod AutoRestart
 pub mod Attempts
 pub mod Posts
 pub mod Queues

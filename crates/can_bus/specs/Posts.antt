@@ -71,9 +71,14 @@ attempt_posts reporting tr t p i =
 abbrev pub restart_posts : ℕ → ℕ → ℕ → List Post
 restart_posts k m i = if i == k then error_posts i m (Some restart_message) else []
 
+-- an attempt tells its restarts in the same way
+abbrev pub auto_restart_posts : IfaceSet → ℕ → ℕ → List Post
+auto_restart_posts restarted m i = if is_in i restarted then error_posts i m (Some restart_message) else []
+
 -- what an entry puts to the sockets of interface i, in order
 abbrev pub posts_of : BusConfig → List Entry → ℕ → Event → Reply → List Post
-posts_of c past i (Attempt m v) (reply.Tried t) = attempt_posts c.reporting (transmission c past t.winner v) t (slice_get (sent_by past t.winner) t.number) i
+posts_of c past i (Attempt m v) (reply.Tried t) = attempt_posts c.reporting (transmission c past t.winner v) t (slice_get (sent_by past t.winner) t.number) i ++ auto_restart_posts t.restarted m i
+posts_of c past i (Attempt m v) (reply.Idle restarted) = auto_restart_posts restarted m i
 posts_of c past i (Restart k m) reply.Done = restart_posts k m i
 posts_of c past i _ _ = []
 

@@ -1,4 +1,5 @@
 use Rattle.std.specs.Prelude.{◌≡◌, ℕ, List, Option, Some, None, All}
+use Rattle.can_frame.specs.Sets.{no_ifaces}
 use Rattle.can_frame.specs.declared.items.Item.{Item}
 use Rattle.can_frame.specs.declared.items.Item.TheVariants as item
 use Rattle.can_bus.specs.declared.events.BusConfig.{BusConfig}
@@ -11,6 +12,7 @@ use Rattle.can_bus.specs.declared.events.Refusal.TheVariants as refusal
 use Rattle.can_bus.specs.declared.events.Reply.{Reply}
 use Rattle.can_bus.specs.declared.events.Reply.TheVariants as reply
 use Rattle.can_bus.specs.Journal.{IsConfig}
+use Rattle.can_bus.specs.AutoRestart.{restarted_in}
 
 -- Which entries the text of a record has a line for.
 
@@ -43,16 +45,21 @@ FitsReply (SetFilters s filters) reply.Done = Unit {0}
 FitsReply (SetOption s option) reply.Done = Unit {0}
 FitsReply (Send s frame) (reply.Sent n) = Unit {0}
 FitsReply (Receive s) (reply.Received item) = AreNumbered item
-FitsReply (Attempt m v) reply.Idle = Unit {0}
+FitsReply (Attempt m v) (reply.Idle restarted) = Unit {0}
 FitsReply (Attempt m v) (reply.Tried t) = t.moment ≡ m
 FitsReply (Restart i m) reply.Done = Unit {0}
 FitsReply _ _ = ⊥
 
--- an entry that has a line: its reply fits its event
-abbrev pub IsSpelled : Entry → Type 0
-IsSpelled e = FitsReply e.event e.reply
+-- attempts restart interfaces only on a bus that is made for it (own choice)
+abbrev pub MayRestart : BusConfig → Reply → Type 0
+MayRestart c r = c.auto_restart ≡ 0 → restarted_in r ≡ no_ifaces
+
+-- an entry that has a line: its reply fits its event, and restarts nothing where the bus never does
+pub record IsSpelled (c : BusConfig) (e : Entry) : Type 0 where
+  pub fits : FitsReply e.event e.reply
+  pub restarts : MayRestart c e.reply
 
 -- what a record is made of: a configuration within the limits of a bus, and entries that each have a line
 pub record IsRecord (c : BusConfig) (entries : List Entry) : Type 0 where
   pub proper : IsConfig c
-  pub spelled : All IsSpelled entries
+  pub spelled : All (IsSpelled c) entries

@@ -13,6 +13,7 @@ use Rattle.can_bus.specs.Journal.{Kept, IsConfig}
 use Rattle.can_bus.specs.Sockets.{places, open_sockets, iface_of, capacity_of, filters_of, options_of}
 use Rattle.can_bus.specs.Transmit.{sent_by, gone_count, done_count, refused_count, head_of, tape}
 use Rattle.can_bus.specs.Counters.{counts_of}
+use Rattle.can_bus.specs.AutoRestart.{attempts_left}
 use Rattle.can_bus.specs.Posts.{Post}
 use Rattle.can_bus.specs.Queues.{queued_to, taken_from, dropped_at, passing}
 use Rattle.can_bus.specs.Legal.{IsLegal}
@@ -73,18 +74,23 @@ kept_keys past = map (λ i. key_in (head_of past i)) (range_with_len 0 16)
 unfoldable pub kept_nodes : BusConfig → List Entry → Nodes
 kept_nodes c past = record { count = c.ifaces; counters = map (counts_of c past) (range_with_len 0 16) }
 
+-- how many attempts are left until each interface is restarted
+unfoldable pub kept_left : BusConfig → List Entry → List ℕ
+kept_left c past = map (attempts_left c past) (range_with_len 0 16)
+
 -- the parts of a bus beside its record
 pub record Parts : Type 0 where
   pub lines : List LineState
   pub keys : List (Option ℕ)
   pub nodes : Nodes
+  pub left : List ℕ
   pub sockets : List SocketState
   pub opened : ℕ
   pub tried : ℕ
 
 -- what a history leaves
 abbrev pub kept_parts : BusConfig → List Entry → Parts
-kept_parts c past = record { lines = kept_lines c past; keys = kept_keys past; nodes = kept_nodes c past; sockets = kept_sockets c past; opened = length (places past); tried = length (tape past) }
+kept_parts c past = record { lines = kept_lines c past; keys = kept_keys past; nodes = kept_nodes c past; left = kept_left c past; sockets = kept_sockets c past; opened = length (places past); tried = length (tape past) }
 
 -- a record with one entry more
 pub record IsLonger (j : Kept) (e : Entry) (new : Kept) : Type 0 where

@@ -1,6 +1,7 @@
 ghost use Rattle.std.specs.Prelude.{◌≡◌, [], length, IfOk, OnOk, ◌↔◌};
 ghost use Rattle.can_bus.specs.Answer.{Answers, done_reply, told_attempt};
 ghost use Rattle.can_bus.specs.Attempts.{winner};
+ghost use Rattle.can_bus.specs.AutoRestart.{is_counting};
 ghost use Rattle.can_bus.specs.Headline.{Headline};
 ghost use Rattle.can_bus.specs.Journal.{IsConfig};
 ghost use Rattle.can_bus.specs.Legal.{IsLegal};
@@ -9,7 +10,9 @@ ghost use Rattle.can_bus.specs.Transmit.{tape};
 ghost use Rattle.can_bus.specs.declared.events.Event.TheVariants as event;
 ghost use Rattle.can_bus.specs.declared.events.Reply.TheVariants as reply;
 
-use crate::events::{BusConfig, Closed, Event, Opt, Pending, Received, Refusal, SocketId, Tried};
+use crate::events::{
+    Attempt, BusConfig, Closed, Event, Opt, Pending, Received, Refusal, SocketId,
+};
 use crate::records::Record;
 use crate::replies::{
     attempt_reply, closed_reply, done_reply, is_no_memory, opened_reply, received_reply, sent_reply,
@@ -220,21 +223,22 @@ impl<T: BoundedQueue<Pending>, R: BoundedQueue<Received>, A: Arbiter> Bus<T, R, 
         outcome
     }
 
-    /// Tries the frame that wins the bus, under these faults: `None` where no live interface has one to
-    /// send.
+    /// Tries the frame that wins the bus, under these faults: `Idle` where no live interface has one to
+    /// send. Then it restarts each interface that was off for as many attempts as `auto_restart` says, this
+    /// one included.
     ///
     /// It costs a look at each interface and at each open socket. Refusal: `RecordFull`.
-    pub fn attempt(&mut self, moment: Moment, verdict: Verdict) -> Result<Option<Tried>, Refusal>
+    pub fn attempt(&mut self, moment: Moment, verdict: Verdict) -> Result<Attempt, Refusal>
         ensures { Answers told_attempt self.old (event.Attempt moment verdict) result self.new }
     {
         if self.record.is_full() {
             return Err(Refusal::RecordFull);
         }
         let config = self.record.config();
-        let outcome = self.state.attempt(config, moment, verdict);
+        let attempt = self.state.attempt(config, moment, verdict);
         self.record
-            .push(Event::Attempt(moment, verdict), attempt_reply(&outcome));
-        Ok(outcome)
+            .push(Event::Attempt(moment, verdict), attempt_reply(&attempt));
+        Ok(attempt)
     }
 
     /// Brings an interface that is bus off back, with both its error counts 0.
@@ -272,6 +276,13 @@ impl<T: BoundedQueue<Pending>, R: BoundedQueue<Received>, A: Arbiter> Bus<T, R, 
         ensures { result ≡ winner self.now.config self.now.history }
     {
         self.state.winner()
+    }
+
+    /// Whether an interface that is bus off counts the attempts until it is restarted. No event.
+    pub fn is_counting(&self) -> bool
+        ensures { result ≡ is_counting self.now.config self.now.history }
+    {
+        self.state.is_counting()
     }
 
     /// The error counters of all 16 places, by interface; where there is no interface they are 0. No event.

@@ -23,6 +23,8 @@ pub struct BusConfig {
     pub tx_capacity: u32,
     /// How many events the bus is made for, 1 to 16,777,216.
     pub limit: u32,
+    /// In which attempt after it went bus off an interface is restarted, 1 to 1,000,000; 0 for never.
+    pub auto_restart: u32,
 }
 
 impl BusConfig {
@@ -34,6 +36,7 @@ impl BusConfig {
             ifaces,
             tx_capacity,
             limit,
+            auto_restart,
             ..
         } = self;
         ifaces >= 1
@@ -42,6 +45,7 @@ impl BusConfig {
             && tx_capacity <= 1024
             && limit >= 1
             && limit <= 16_777_216
+            && auto_restart <= 1_000_000
     }
 }
 
@@ -176,7 +180,7 @@ pub struct Closed {
 }
 
 /// A frame that was tried: when, whose, its number at that interface, how it ended, the interfaces that
-/// accepted it, and those that went bus off.
+/// accepted it, those that went bus off, and those that were restarted.
 #[derive(Debug, Clone, Copy, PartialEq, Eq)]
 pub struct Tried {
     pub moment: Moment,
@@ -186,6 +190,7 @@ pub struct Tried {
     pub class: Class,
     pub accepted: IfaceSet,
     pub off: IfaceSet,
+    pub restarted: IfaceSet,
 }
 
 impl Tried {
@@ -202,6 +207,15 @@ impl Tried {
     }
 }
 
+/// What an attempt came to.
+#[derive(Debug, Clone, Copy, PartialEq, Eq)]
+pub enum Attempt {
+    /// No live interface had a frame to send. These were restarted.
+    Idle(IfaceSet),
+    /// A frame was tried.
+    Tried(Tried),
+}
+
 /// What a call answered.
 #[derive(Debug, Clone, Copy, PartialEq, Eq)]
 pub enum Reply {
@@ -215,8 +229,8 @@ pub enum Reply {
     Sent(u64),
     /// The oldest item, or none.
     Received(Option<Received>),
-    /// No live interface had a frame to send.
-    Idle,
+    /// No live interface had a frame to send. These were restarted.
+    Idle(IfaceSet),
     /// A frame was tried.
     Tried(Tried),
     /// The call was refused.

@@ -169,7 +169,7 @@ pub fn off_interfaces_take_no_part(config: BusConfig)
     ensures wins { (past : List Entry) → (m : ℕ) → (v : Verdict) → (t : Tried) → reply.Tried t ≡ legal_reply config past (event.Attempt m v) → (i : ℕ) → is_off (state_at config past i) ≡ true → t.winner ≢ i }
     ensures accepts { (past : List Entry) → (m : ℕ) → (v : Verdict) → (t : Tried) → reply.Tried t ≡ legal_reply config past (event.Attempt m v) → (i : ℕ) → is_off (state_at config past i) ≡ true → is_in i t.accepted ≡ false }
     ensures sends { (past : List Entry) → (s : SocketId) → (f : CanFrame) → is_open past s.0 ≡ true → is_off (state_at config past (iface_of past s.0)) ≡ true → legal_reply config past (event.Send s f) ≡ reply.Refused refusal.BusOff }
-    ensures counts { (past : List Entry) → (e : Entry) → IsLegal config (e ∷ past) → (i : ℕ) → is_off (state_at config past i) ≡ true → is_restart_of i e.event ≡ false → counts_of config (e ∷ past) i ≡ counts_of config past i }
+    ensures counts { (past : List Entry) → (e : Entry) → IsLegal config (e ∷ past) → (i : ℕ) → is_off (state_at config past i) ≡ true → is_restart_of i e.event e.reply ≡ false → counts_of config (e ∷ past) i ≡ counts_of config past i }
 {}
 
 /// Nothing is sent on an interface that is not there, and its error counts stay 0/0.
@@ -182,5 +182,5 @@ pub fn no_interface_beyond_the_last(config: BusConfig)
 
 /// Each entry of a legal history has a line in the text of a record.
 pub fn legal_entries_have_lines(config: BusConfig)
-    ensures { (past : List Entry) → IsLegal config past → All IsSpelled past }
+    ensures { (past : List Entry) → IsLegal config past → All (IsSpelled config) past }
 {}

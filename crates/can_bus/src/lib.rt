@@ -8,6 +8,7 @@
 
 mod attempts;
 pub mod buses;
+mod countdowns;
 pub mod events;
 pub mod laws;
 mod line;
@@ -25,7 +26,7 @@ pub mod stats;
 
 pub use buses::{Bus, BusFault, ListBus, RingBus};
 pub use events::{
-    BusConfig, Closed, Entry, Event, Opt, Pending, Received, Refusal, Reply, SocketId, Tried,
+    Attempt, BusConfig, Closed, Entry, Event, Opt, Pending, Received, Refusal, Reply, SocketId, Tried,
 };
 pub use outcomes::Attempted;
 pub use records::Record;

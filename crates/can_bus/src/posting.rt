@@ -1,6 +1,6 @@
 ghost use Rattle.std.specs.Prelude.{◌≡◌, ◌<◌, ◌+◌, ◌^◌, All, Some, map};
 ghost use Rattle.can_bus.specs.News.{told_news};
-ghost use Rattle.can_bus.specs.Posts.{restart_posts, data_posts, error_posts, tried_item};
+ghost use Rattle.can_bus.specs.Posts.{restart_posts, auto_restart_posts, data_posts, error_posts, tried_item};
 ghost use Rattle.can_bus.specs.Queues.{passing};
 ghost use Rattle.can_bus.specs.State.{filled, reached};
 
@@ -126,5 +126,33 @@ pub fn tell_restart<R: BoundedQueue<Received>>(
 {
     for socket in sockets.iter_mut() {
         tell_restart_to(socket, iface, moment);
+    }
+}
+
+/// Tells a socket that its interface was restarted, if it is among these.
+fn tell_restarts_to<R: BoundedQueue<Received>>(
+    socket: &mut Socket<R>,
+    restarted: IfaceSet,
+    moment: Moment,
+)
+    requires { socket.old.dropped + 1 < 2 ^ 64 }
+    ensures { socket.new ≡ reached (auto_restart_posts restarted moment) socket.old }
+{
+    if restarted.contains(socket.iface()) {
+        post_error(socket, moment, Some(restart_frame()));
+    }
+}
+
+/// Tells every socket that an attempt restarted these interfaces.
+pub fn tell_restarts<R: BoundedQueue<Received>>(
+    sockets: &mut [Socket<R>],
+    restarted: IfaceSet,
+    moment: Moment,
+)
+    requires { All (λ v. v.dropped + 1 < 2 ^ 64) sockets.old }
+    ensures { sockets.new ≡ map (reached (auto_restart_posts restarted moment)) sockets.old }
+{
+    for socket in sockets.iter_mut() {
+        tell_restarts_to(socket, restarted, moment);
     }
 }

@@ -58,7 +58,7 @@ impl Record {
         if !config.is_proper() {
             return None;
         }
-        if !are_spelled(&entries) {
+        if !are_spelled(config, &entries) {
             return None;
         }
         Some(Record::from_spelled(config, entries))
@@ -84,7 +84,7 @@ impl Record {
     /// The entries, the oldest first.
     pub fn entries(&self) -> &[Entry]
         ensures entries { result.now ≡ reverse self.now.history }
-        ensures spelled { All IsSpelled result.now }
+        ensures spelled { All (IsSpelled self.now.config) result.now }
     {
         &self.entries
     }
@@ -113,7 +113,7 @@ impl Record {
     /// Adds an entry. No memory is taken.
     pub(crate) fn push(&mut self, event: Event, reply: Reply)
         requires room { length self.old.history < self.old.room }
-        requires spelled { IsSpelled (record { event = event; reply = reply }) }
+        requires spelled { IsSpelled self.old.config (record { event = event; reply = reply }) }
         ensures { IsLonger self.old (record { event = event; reply = reply }) self.new }
     {
         // The checker has to meet the types inside a reply before a vector takes one.
@@ -123,8 +123,8 @@ impl Record {
 }
 
 /// Whether the text of a record has a line for each of these entries.
-fn are_spelled(entries: &[Entry]) -> bool
-    ensures { IsTrue result ↔ All IsSpelled entries.now }
+fn are_spelled(config: BusConfig, entries: &[Entry]) -> bool
+    ensures { IsTrue result ↔ All (IsSpelled config) entries.now }
 {
-    entries.iter().all(|entry| is_spelled(entry))
+    entries.iter().all(|entry| is_spelled(config, entry))
 }

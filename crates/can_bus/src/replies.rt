@@ -2,7 +2,7 @@ ghost use Rattle.std.specs.Prelude.{◌≡◌, ◌↔◌, IsTrue};
 ghost use Rattle.can_bus.specs.Answer.{told, done_reply, told_attempt};
 ghost use Rattle.can_bus.specs.declared.events.Reply.TheVariants as reply;
 
-use crate::events::{Closed, Received, Refusal, Reply, SocketId, Tried};
+use crate::events::{Attempt, Closed, Received, Refusal, Reply, SocketId};
 
 // The reply that the record keeps of each call's answer.
 
@@ -51,12 +51,12 @@ pub fn done_reply(outcome: &Result<(), Refusal>) -> Reply
     }
 }
 
-pub fn attempt_reply(outcome: &Option<Tried>) -> Reply
-    ensures { result ≡ told_attempt outcome.now }
+pub fn attempt_reply(attempt: &Attempt) -> Reply
+    ensures { result ≡ told_attempt attempt.now }
 {
-    match outcome {
-        Some(tried) => Reply::Tried(*tried),
-        None => Reply::Idle,
+    match attempt {
+        Attempt::Idle(restarted) => Reply::Idle(*restarted),
+        Attempt::Tried(tried) => Reply::Tried(*tried),
     }
 }
 

@@ -42,7 +42,7 @@ pub fn answer<T: BoundedQueue<Pending>, R: BoundedQueue<Received>, A: Arbiter>(
         Event::Send(id, frame) => sent_reply(&bus.send(*id, *frame)),
         Event::Receive(id) => received_reply(&bus.receive(*id)),
         Event::Attempt(moment, verdict) => match bus.attempt(*moment, *verdict) {
-            Ok(outcome) => attempt_reply(&outcome),
+            Ok(attempt) => attempt_reply(&attempt),
             Err(why) => Reply::Refused(why),
         },
         Event::Restart(iface, moment) => done_reply(&bus.restart(*iface, *moment)),

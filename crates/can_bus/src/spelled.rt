@@ -1,17 +1,30 @@
 ghost use Rattle.std.specs.Prelude.{IsTrue, ◌↔◌};
-ghost use Rattle.can_bus.specs.Spelled.{LeavesEntry, IsNumbered, AreNumbered, FitsReply, IsSpelled};
+ghost use Rattle.can_bus.specs.Spelled.{LeavesEntry, IsNumbered, AreNumbered, FitsReply, MayRestart, IsSpelled};
 ghost use Rattle.can_bus.specs.declared.events.Reply.TheVariants as reply;
 
-use crate::events::{Entry, Event, Received, Refusal, Reply, Tried};
-use can_frame::Item;
+use crate::events::{BusConfig, Entry, Event, Received, Refusal, Reply, Tried};
+use can_frame::{IfaceSet, Item};
 
 /// Whether the text of a record has a line for an entry: its reply is of the event's own kind, or a
 /// refusal other than of a full record or of memory; a frame was tried at the moment of its attempt; and
-/// an error message frame that was received has the number 0.
-pub fn is_spelled(entry: &Entry) -> bool
-    ensures { IsTrue result ↔ IsSpelled entry.now }
+/// an error message frame that was received has the number 0. Where the bus is made to restart no
+/// interface by itself, no attempt names one as restarted.
+pub fn is_spelled(config: BusConfig, entry: &Entry) -> bool
+    ensures { IsTrue result ↔ IsSpelled config entry.now }
 {
-    fits_reply(&entry.event, &entry.reply)
+    fits_reply(&entry.event, &entry.reply) && may_restart(config, &entry.reply)
+}
+
+/// Whether attempts on this bus may restart the interfaces that a reply names.
+fn may_restart(config: BusConfig, reply: &Reply) -> bool
+    ensures { IsTrue result ↔ MayRestart config reply.now }
+{
+    let restarted = match reply {
+        Reply::Idle(restarted) => *restarted,
+        Reply::Tried(tried) => tried.restarted,
+        _ => IfaceSet::empty(),
+    };
+    config.auto_restart != 0 || restarted == IfaceSet::empty()
 }
 
 /// Whether this reply may stand with this event.
@@ -25,7 +38,7 @@ fn fits_reply(event: &Event, reply: &Reply) -> bool
         Reply::Done => is_setting(event),
         Reply::Sent(_) => matches!(event, Event::Send(_, _)),
         Reply::Received(item) => matches!(event, Event::Receive(_)) && are_numbered(item),
-        Reply::Idle => matches!(event, Event::Attempt(_, _)),
+        Reply::Idle(_) => matches!(event, Event::Attempt(_, _)),
         Reply::Tried(tried) => is_attempt_of(event, tried),
     }
 }

@@ -1,7 +1,9 @@
-ghost use Rattle.std.specs.Prelude.{◌≡◌, [], IfOk, IfSome, IsNone, ◌↔◌};
+ghost use Rattle.std.specs.Prelude.{◌≡◌, [], IfOk, IfSome, IsNone, ◌↔◌, ◌==◌, not};
 ghost use Rattle.can_arbiter.specs.Keys.{IsWinner, IsIdle};
+ghost use Rattle.std.specs.List.{list_any};
 ghost use Rattle.can_bus.specs.State.{kept_parts};
 
+use crate::countdowns::Countdown;
 use crate::events::{BusConfig, Pending, Received};
 use crate::line::Line;
 use crate::lines;
@@ -25,6 +27,8 @@ pub struct State<T: BoundedQueue<Pending>, R: BoundedQueue<Received>, A: Arbiter
     pub(crate) arbiter: A,
     /// Their error counters.
     pub(crate) nodes: Nodes,
+    /// How many attempts are left until each of them is restarted.
+    pub(crate) countdown: Countdown,
     /// The open sockets, by rising number.
     pub(crate) sockets: Vec<Socket<R>>,
     /// How many sockets were ever opened: the number of the next one.
@@ -39,7 +43,7 @@ impl<T: BoundedQueue<Pending>, R: BoundedQueue<Received>, A: Arbiter> Model for 
 
     ghost Value = { Parts };
 
-    ghost view = { λ s. record { lines = s.lines.items; keys = A.keys_of s.arbiter; nodes = s.nodes; sockets = s.sockets.items; opened = s.opened; tried = s.tried } };
+    ghost view = { λ s. record { lines = s.lines.items; keys = A.keys_of s.arbiter; nodes = s.nodes; left = s.countdown; sockets = s.sockets.items; opened = s.opened; tried = s.tried } };
 
     ghost invariant = { λ s. 64 ≤ vec_capacity s.sockets };
 }
@@ -60,6 +64,7 @@ impl<T: BoundedQueue<Pending>, R: BoundedQueue<Received>, A: Arbiter> State<T, R
                 count: config.ifaces,
                 counters: [Counters::zero(); 16],
             },
+            countdown: Countdown::new(),
             sockets,
             opened: 0,
             tried: 0,
@@ -79,6 +84,13 @@ impl<T: BoundedQueue<Pending>, R: BoundedQueue<Received>, A: Arbiter> State<T, R
         ensures none { IsNone result ↔ IsIdle self.now.keys }
     {
         self.arbiter.winner()
+    }
+
+    /// Whether an interface counts the attempts until it is restarted.
+    pub fn is_counting(&self) -> bool
+        ensures { result ≡ list_any (λ n. not (n == 0)) self.now.left }
+    {
+        self.countdown.is_running()
     }
 
     /// The error counters of all 16 places.

@@ -83,7 +83,7 @@ fn bus_off_and_restart(rt: &(impl Abort + AllocGlobal)) -> Result<(), Fail> {
     same(
         rt,
         try_attempt(&mut bus, Moment::new(33)?, Verdict::Good)?,
-        None,
+        Attempt::Idle(IfaceSet(0)),
     );
     restart(&mut bus, 0, 40)?;
     gets_error(rt, &mut bus, 0, 40, 0x100, [0; 8])?;

@@ -27,6 +27,7 @@ fn tried_at(micros: u64) -> Result<Tried, Fail> {
         class: Class::Done,
         accepted: IfaceSet(2),
         off: IfaceSet(0),
+        restarted: IfaceSet(0),
     })
 }
 
@@ -119,7 +120,7 @@ fn same_replies(left: &Record, right: &Record) -> bool {
 }
 
 fn has_line(entry: &Entry) -> bool {
-    is_spelled(entry)
+    is_spelled(config(2), entry)
 }
 
 /// A bus answers each event as its entry says, and the record made of the entries is the bus's.

@@ -1,0 +1,58 @@
+use Rattle.std.specs.Prelude.{ℕ, suc, ◌-◌, ◌==◌, Bool, false, ◌&&◌, not, List, [], ◌∷◌, filter, Option, Some, None, is_some, if◌then◌else◌}
+use Rattle.std.specs.List.{list_any, range_with_len}
+use Rattle.std.specs.Option.{option_map}
+use Rattle.can_frame.specs.Sets.{is_in, no_ifaces}
+use Rattle.can_frame.specs.declared.ifaces.IfaceSet.{IfaceSet}
+use Rattle.can_attempt.specs.Attempts.{set_of}
+use Rattle.can_bus.specs.declared.events.BusConfig.{BusConfig}
+use Rattle.can_bus.specs.declared.events.Entry.{Entry}
+use Rattle.can_bus.specs.declared.events.Event.{Event}
+use Rattle.can_bus.specs.declared.events.Event.TheVariants.{Restart}
+use Rattle.can_bus.specs.declared.events.Reply.{Reply}
+use Rattle.can_bus.specs.declared.events.Reply.TheVariants as reply
+
+-- Automatic restart: an interface that went bus off comes back by itself in the n-th attempt after that, where
+-- the bus is made with the number n (own choice; 0 for never).
+
+-- the interfaces that a reply names as restarted by its attempt
+abbrev pub restarted_in : Reply → IfaceSet
+restarted_in (reply.Idle restarted) = restarted
+restarted_in (reply.Tried t) = t.restarted
+restarted_in _ = no_ifaces
+
+abbrev pub attempts_off_after : Event → Reply → ℕ → Option ℕ → Option ℕ
+attempts_off_after e (reply.Idle restarted) i before = if is_in i restarted then None else option_map suc before
+attempts_off_after e (reply.Tried t) i before = if is_in i t.restarted then None else if is_in i t.off then Some 0 else option_map suc before
+attempts_off_after (Restart k m) reply.Done i before = if k == i then None else before
+attempts_off_after _ _ i before = before
+
+-- how many attempts there were, idle ones included, since interface i went bus off; none where it did not, or
+-- was restarted since
+abbrev pub attempts_off : List Entry → ℕ → Option ℕ
+attempts_off [] i = None
+attempts_off (e ∷ past) i = attempts_off_after e.event e.reply i (attempts_off past i)
+
+-- the attempt after so many is the n-th
+abbrev pub is_nth_after : ℕ → Option ℕ → Bool
+is_nth_after n None = false
+is_nth_after n (Some k) = suc k == n
+
+-- the next attempt restarts interface i: it is the n-th since the interface went bus off
+abbrev pub is_due : BusConfig → List Entry → ℕ → Bool
+is_due c past i = is_nth_after c.auto_restart (attempts_off past i)
+
+-- the interfaces that the next attempt restarts
+abbrev pub restarted_next : BusConfig → List Entry → IfaceSet
+restarted_next c past = set_of (filter (is_due c past) (range_with_len 0 c.ifaces))
+
+-- some interface counts towards its restart: it went bus off, and was not restarted since
+abbrev pub is_counting : BusConfig → List Entry → Bool
+is_counting c past = not (c.auto_restart == 0) && list_any (λ i. is_some (attempts_off past i)) (range_with_len 0 c.ifaces)
+
+abbrev pub left_after : ℕ → Option ℕ → ℕ
+left_after n None = 0
+left_after n (Some k) = n - k
+
+-- how many attempts are left until interface i is restarted; 0 where it does not count
+abbrev pub attempts_left : BusConfig → List Entry → ℕ → ℕ
+attempts_left c past i = left_after c.auto_restart (attempts_off past i)
