@@ -16,7 +16,7 @@ pub fn record_note(
         ),
         ReadFault::BadLine(2) => (
             2,
-            "the second line is bus IFACES ACK REPORTING TXCAPACITY LIMIT, with AUTORESTART behind it in version 2",
+            "the second line is bus IFACES ACK REPORTING TXCAPACITY LIMIT, with RESTART behind it in version 2",
         ),
         ReadFault::BadLine(number) => (
             number,
