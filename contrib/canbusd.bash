@@ -5,7 +5,7 @@ _canbusd() {
     # The value of an option stands behind a blank or behind `=`, where bash parts words unless COMP_WORDBREAKS lacks it.
     [ "$before" != = ] || before=${COMP_WORDS[COMP_CWORD - 2]}
     case $text in --*=*) before=${text%%=*} ;; esac
-    local options="--ack --report --txqueue --rxqueue --limit --help"
+    local options="--ack --report --txqueue --rxqueue --limit --auto-restart --help"
     case $COMP_CWORD,$before,${COMP_WORDS[1]} in
     # Behind a redirection stands a file.
     *,*[\<\>]*,*) compopt -o default ;;
@@ -23,7 +23,7 @@ _canbusd_word() {
     --ack,*) _canbusd_offer "always peers" ;;
     --record,* | --listen,* | *@*) _canbusd_files -f default ;;
     --out,*) _canbusd_files -d dirnames ;;
-    --txqueue,* | --rxqueue,* | --limit,* | --sessions,* | --pace,*) ;;
+    --txqueue,* | --rxqueue,* | --limit,* | --auto-restart,* | --sessions,* | --pace,*) ;;
     *) _canbusd_offer "$1" ;;
     esac
 }

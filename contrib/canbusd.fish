@@ -28,6 +28,7 @@ complete -c canbusd -n $runs -l report -d "Make error message frames for each fa
 complete -c canbusd -n $runs -x -l txqueue -d "Capacity of a transmit queue"
 complete -c canbusd -n $runs -x -l rxqueue -d "Capacity of a receive queue"
 complete -c canbusd -n $runs -x -l limit -d "Most events of a bus"
+complete -c canbusd -n $runs -x -l auto-restart -d "Attempts from bus off to an automatic restart"
 complete -c canbusd -n "__fish_seen_subcommand_from bench" -r -F -l record -d "Write the record of the run"
 set -l serves "__fish_seen_subcommand_from serve"
 complete -c canbusd -n $serves -r -F -l listen -d "Where clients connect"

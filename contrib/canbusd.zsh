@@ -21,6 +21,7 @@ _canbusd() {
         '--txqueue=[capacity of a transmit queue]:frames:'
         '--rxqueue=[capacity of a receive queue]:items:'
         '--limit=[most events of a bus]:events:'
+        '--auto-restart=[attempts from bus off to an automatic restart]:attempts:'
         '(- *)--help[show the help]'
     )
     case $line[1] in

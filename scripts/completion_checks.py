@@ -29,6 +29,7 @@ TYPED = [
     ("canbusd serve --out=lo", "gs/"),
     ("canbusd serve --out lo", "gs/"),
     ("canbusd serve --until", "-eof "),
+    ("canbusd serve --auto-restart 5 --until", "-eof "),
     ("canbusd bench can0,can1@fau", "lts.script "),
     ("canbusd bench can0@logs/", "kept.rec "),
     ("canbusd serve can0@faults.script can1@my", "\\ faults.script "),

@@ -8,7 +8,7 @@ ghost use Rattle.can_dialog.specs.BusSteps.{passed_on};
 use crate::port::{Port, PortRefusal};
 use can_arbiter::Arbiter;
 use can_bus::{
-    Bus, Closed, IfaceStats, Opt, Pending, Received, Refusal, SocketId, SocketStats, Tried,
+    Attempt, Bus, Closed, IfaceStats, Opt, Pending, Received, Refusal, SocketId, SocketStats,
 };
 use can_confine::Counters;
 use can_fault::Verdict;
@@ -65,9 +65,9 @@ impl<T: BoundedQueue<Pending>, R: BoundedQueue<Received>, A: Arbiter> BusPort<T,
         self.bus.next_attempt()
     }
 
-    /// Tries the frame that wins the bus, under these faults: `None` where no live interface has one to
-    /// send. Refusal: `RecordFull`.
-    pub fn attempt(&mut self, moment: Moment, verdict: Verdict) -> Result<Option<Tried>, Refusal>
+    /// Tries the frame that wins the bus, under these faults, if a live interface has one to send, and
+    /// restarts the interfaces whose time it is. Refusal: `RecordFull`.
+    pub fn attempt(&mut self, moment: Moment, verdict: Verdict) -> Result<Attempt, Refusal>
         ensures answer { Answers told_attempt self.old.journal (event.Attempt moment verdict) result self.new.journal }
         ensures names { self.new.names ≡ self.old.names }
     {

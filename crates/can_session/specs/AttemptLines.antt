@@ -1,8 +1,10 @@
-use Rattle.std.specs.Prelude.{ℕ, ◌+◌, Bool, true, false, if◌then◌else◌, List, [], ◌∷◌, ◌++◌, slice_get, codes, Option, Some, None, Result, Ok, Err}
+use Rattle.std.specs.Prelude.{ℕ, ◌+◌, ◌==◌, Bool, true, false, if◌then◌else◌, List, [], ◌∷◌, ◌++◌, slice_get, codes, Option, Some, None, Result, Ok, Err}
 use Rattle.std.specs.Fmt.{decimal}
 use Rattle.can_frame.specs.Sets.{is_in}
 use Rattle.can_frame.specs.declared.ifaces.IfaceSet.{IfaceSet}
 use Rattle.can_attempt.specs.Words.{class_word}
+use Rattle.can_bus.specs.declared.events.Attempt.{Attempt}
+use Rattle.can_bus.specs.declared.events.Attempt.TheVariants as attempt
 use Rattle.can_bus.specs.declared.events.Refusal.{Refusal}
 use Rattle.can_bus.specs.declared.events.Tried.{Tried}
 
@@ -45,12 +47,20 @@ whose_text names t = codes "tried " ++ name_text (slice_get names t.winner) ++ c
 abbrev pub ending_text : List (List ℕ) → Tried → List ℕ
 ending_text names t = codes " " ++ class_word t.class ++ codes " " ++ set_text names t.accepted ++ codes " " ++ set_text names t.off
 
+-- who was restarted, if anybody was
+abbrev pub restarted_text : List (List ℕ) → IfaceSet → List ℕ
+restarted_text names set = if set.0 == 0 then [] else codes " restarted " ++ set_text names set
+
 -- a frame that was tried
 abbrev pub tried_line : List (List ℕ) → Tried → List ℕ
-tried_line names t = whose_text names t ++ ending_text names t ++ codes "\n"
+tried_line names t = whose_text names t ++ ending_text names t ++ restarted_text names t.restarted ++ codes "\n"
+
+-- no frame was tried
+abbrev pub idle_line : List (List ℕ) → IfaceSet → List ℕ
+idle_line names restarted = codes "idle" ++ restarted_text names restarted ++ codes "\n"
 
 -- the line of an attempt; the only refusal that there is says that the record is full
-abbrev pub attempt_line : List (List ℕ) → Result (Option Tried) Refusal → List ℕ
-attempt_line names (Ok (Some t)) = tried_line names t
-attempt_line names (Ok None) = codes "idle\n"
+abbrev pub attempt_line : List (List ℕ) → Result Attempt Refusal → List ℕ
+attempt_line names (Ok (attempt.Tried t)) = tried_line names t
+attempt_line names (Ok (attempt.Idle restarted)) = idle_line names restarted
 attempt_line names (Err why) = codes "record full\n"

@@ -3,7 +3,7 @@ use Rattle.std.specs.Fmt.{decimal}
 use Rattle.can_fault.specs.Sources.{VerdictMap, verdict_in}
 use Rattle.can_bus.specs.declared.events.Event.TheVariants as event
 use Rattle.can_bus.specs.declared.events.Refusal.{Refusal}
-use Rattle.can_bus.specs.declared.events.Tried.{Tried}
+use Rattle.can_bus.specs.declared.events.Attempt.{Attempt}
 use Rattle.can_bus.specs.Journal.{Journal}
 use Rattle.can_bus.specs.Transmit.{tape}
 use Rattle.can_bus.specs.Answer.{Answers, told_attempt}
@@ -89,7 +89,7 @@ pub record Speaks (does : SessionState → NamedBus → List ℕ → SessionStat
 
 -- an attempt at the moment set, with the verdict that the next attempt's number has
 pub record IsTried (verdicts : VerdictMap) (b : BenchState) (text : List ℕ) (after : BenchState) : Type 0 where
-  pub outcome : Result (Option Tried) Refusal
+  pub outcome : Result Attempt Refusal
   pub journal : Journal
   pub answers : Answers told_attempt b.bus.journal (event.Attempt b.moment (verdict_in verdicts (length (tape b.bus.journal.history)))) outcome journal
   pub text_is : text ≡ attempt_line b.bus.names outcome

@@ -1,8 +1,9 @@
 ghost use Rattle.std.specs.Prelude.{◌≡◌, ◌++◌, OnOk, slice_get};
-ghost use Rattle.can_session.specs.AttemptLines.{set_text, name_text, member_text, whose_text, ending_text, tried_line, attempt_line};
+ghost use Rattle.can_session.specs.AttemptLines.{set_text, name_text, member_text, whose_text, ending_text, restarted_text};
+ghost use Rattle.can_session.specs.AttemptLines.{attempt_line, idle_line, tried_line};
 
 use crate::numbers::put_number;
-use can_bus::{Refusal, Tried};
+use can_bus::{Attempt, Refusal, Tried};
 use can_frame::{Iface, IfaceSet, Names};
 use std::alloc::AllocError;
 
@@ -10,13 +11,13 @@ use std::alloc::AllocError;
 pub fn put_attempt(
     said: &mut Vec<u8>,
     names: &Names,
-    outcome: &Result<Option<Tried>, Refusal>,
+    outcome: &Result<Attempt, Refusal>,
 ) -> Result<(), AllocError>
     ensures { OnOk result (said.new.items ≡ said.old.items ++ attempt_line names.now outcome.now) }
 {
     match outcome {
-        Ok(Some(tried)) => put_tried(said, names, tried),
-        Ok(None) => said.extend_from_slice(b"idle\n"),
+        Ok(Attempt::Tried(tried)) => put_tried(said, names, tried),
+        Ok(Attempt::Idle(restarted)) => put_idle(said, names, *restarted),
         Err(_) => said.extend_from_slice(b"record full\n"),
     }
 }
@@ -26,6 +27,15 @@ fn put_tried(said: &mut Vec<u8>, names: &Names, tried: &Tried) -> Result<(), All
 {
     put_whose(said, names, tried)?;
     put_ending(said, names, tried)?;
+    put_restarted(said, names, tried.restarted)?;
+    said.extend_from_slice(b"\n")
+}
+
+fn put_idle(said: &mut Vec<u8>, names: &Names, restarted: IfaceSet) -> Result<(), AllocError>
+    ensures { OnOk result (said.new.items ≡ said.old.items ++ idle_line names.now restarted) }
+{
+    said.extend_from_slice(b"idle")?;
+    put_restarted(said, names, restarted)?;
     said.extend_from_slice(b"\n")
 }
 
@@ -47,6 +57,17 @@ fn put_ending(said: &mut Vec<u8>, names: &Names, tried: &Tried) -> Result<(), Al
     put_set(said, names, tried.accepted)?;
     said.extend_from_slice(b" ")?;
     put_set(said, names, tried.off)
+}
+
+// The names of the interfaces that came back, if any did.
+fn put_restarted(said: &mut Vec<u8>, names: &Names, restarted: IfaceSet) -> Result<(), AllocError>
+    ensures { OnOk result (said.new.items ≡ said.old.items ++ restarted_text names.now restarted) }
+{
+    if restarted == IfaceSet::empty() {
+        return Ok(());
+    }
+    said.extend_from_slice(b" restarted ")?;
+    put_set(said, names, restarted)
 }
 
 fn put_name(said: &mut Vec<u8>, names: &Names, iface: Iface) -> Result<(), AllocError>

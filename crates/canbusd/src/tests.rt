@@ -3,6 +3,7 @@ mod command_lines;
 mod limits;
 mod lines;
 mod records;
+mod restarts;
 mod scripts;
 mod serving;
 mod streams;

@@ -10,10 +10,13 @@ pub fn record_note(
     fault: ReadFault,
 ) -> Result<String, AllocError> {
     let (number, form) = match fault {
-        ReadFault::BadVersion => (1, "the first line of a record is canbus record 1"),
+        ReadFault::BadVersion => (
+            1,
+            "the first line of a record is canbus record 1 or canbus record 2",
+        ),
         ReadFault::BadLine(2) => (
             2,
-            "the second line is bus IFACES ACK REPORTING TXCAPACITY LIMIT",
+            "the second line is bus IFACES ACK REPORTING TXCAPACITY LIMIT, with RESTART behind it in version 2",
         ),
         ReadFault::BadLine(number) => (
             number,

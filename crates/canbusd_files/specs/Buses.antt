@@ -16,7 +16,7 @@ first_ifaces n = record { 0 = 2 ^ n - 1 }
 
 -- the bus that settings describe, of n interfaces; all of them report faults, or none does
 abbrev pub config_of : BusSettings → ℕ → BusConfig
-config_of s n = record { ifaces = n; ack = s.ack; reporting = if s.is_reporting then first_ifaces n else no_ifaces; tx_capacity = s.tx_capacity; limit = s.limit }
+config_of s n = record { ifaces = n; ack = s.ack; reporting = if s.is_reporting then first_ifaces n else no_ifaces; tx_capacity = s.tx_capacity; limit = s.limit; auto_restart = s.auto_restart }
 
 -- the verdicts of a source
 abbrev pub verdicts_of : Source → VerdictMap

@@ -63,6 +63,7 @@ pub fn bus_config(settings: BusSettings, names: &Names) -> BusConfig
         },
         tx_capacity: settings.tx_capacity,
         limit: settings.limit,
+        auto_restart: settings.auto_restart,
     }
 }
 
@@ -77,13 +78,14 @@ fn first_ifaces(count: u8) -> IfaceSet
 /// Which option is past its limits.
 pub fn limits_note(alloc: Global, settings: &BusSettings) -> Result<String, AllocError> {
     let limits = [
-        ("txqueue", settings.tx_capacity, 1024),
-        ("rxqueue", settings.rx_capacity, 65_536),
-        ("limit", settings.limit, 16_777_216),
+        ("txqueue", settings.tx_capacity, 1, 1024),
+        ("rxqueue", settings.rx_capacity, 1, 65_536),
+        ("limit", settings.limit, 1, 16_777_216),
+        ("auto-restart", settings.auto_restart, 0, 1_000_000),
     ];
-    for (option, number, most) in limits {
-        if number < 1 || number > most {
-            return format!(in alloc; "  --{option} {number}: from 1 to {most}\n");
+    for (option, number, least, most) in limits {
+        if number < least || number > most {
+            return format!(in alloc; "  --{option} {number}: from {least} to {most}\n");
         }
     }
     Ok(String::new(alloc))

@@ -42,6 +42,7 @@ pub record AreSettings (rows : List Row) (s : BusSettings) : Type 0 where
   pub tx_capacity : IsNumberOf s.tx_capacity (given rows (codes "txqueue"))
   pub rx_capacity : IsNumberOf s.rx_capacity (given rows (codes "rxqueue"))
   pub limit : IsNumberOf s.limit (given rows (codes "limit"))
+  pub auto_restart : IsNumberOf s.auto_restart (given rows (codes "auto-restart"))
 
 -- the options of a bench are those that its words give
 pub record AreBenchOptions (rows : List Row) (o : BenchOptions) : Type 0 where

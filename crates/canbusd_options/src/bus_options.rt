@@ -27,6 +27,8 @@ const RXQUEUE: &str = "rxqueue";
 
 const LIMIT: &str = "limit";
 
+const AUTO_RESTART: &str = "auto-restart";
+
 pub const BUS: &str = "BUS";
 
 /// What the options say of a bus, and of its sockets.
@@ -42,6 +44,8 @@ pub struct BusSettings {
     pub rx_capacity: u32,
     /// How many events the run has at most.
     pub limit: u32,
+    /// How many attempts after an interface went bus off it is restarted; 0: never.
+    pub auto_restart: u32,
 }
 
 /// The command whose words are read.
@@ -76,6 +80,7 @@ pub fn settings_given(
         tx_capacity: number_given(alloc, verb, matches, TXQUEUE)?,
         rx_capacity: number_given(alloc, verb, matches, RXQUEUE)?,
         limit: number_given(alloc, verb, matches, LIMIT)?,
+        auto_restart: number_given(alloc, verb, matches, AUTO_RESTART)?,
     })
 }
 
@@ -149,12 +154,15 @@ pub fn with_bus_options<'a>(alloc: Global, command: Command<'a>) -> Result<Comma
     let tx_help = "Frames that an interface keeps to be sent, 1 to 1024";
     let rx_help = "Frames that a socket keeps to be received, 1 to 65536";
     let limit_help = "Calls and attempts of the run, 1 to 16777216, of 104 bytes of memory each";
+    let restart_help =
+        "Restart an interface in the Nth attempt after it went bus off, 1 to 1000000, or never (0)";
     command
         .arg(ack_option(alloc))?
         .arg(report_option(alloc))?
         .arg(number_option(alloc, TXQUEUE, "N", "10", tx_help))?
         .arg(number_option(alloc, RXQUEUE, "N", "256", rx_help))?
-        .arg(number_option(alloc, LIMIT, "N", "1000000", limit_help))
+        .arg(number_option(alloc, LIMIT, "N", "1000000", limit_help))?
+        .arg(number_option(alloc, AUTO_RESTART, "N", "0", restart_help))
 }
 
 fn ack_option<'a>(alloc: Global) -> Arg<'a>

@@ -34,14 +34,15 @@ Messages of a session (socketcand's raw mode), in the order of a first run:
   < errdata 0|1 >            Write error message frames with their data (0)
   < stats >                  Write < stats QUEUED DROPPED TAKEN SENT DONE WAITING LOST REFUSED >
   < status >                 Write < status STATE TEC REC >, from the error counters of the interface
-  < restart >                Bring the interface back that is bus off
+  < restart >                Bring the interface back that is bus off, before --auto-restart does
   < close >                  Close the socket, and write < closed UNREAD DROPPED >
 What is done is answered < ok >, a send nothing, what is refused < error TEXT >. < echo > is answered at any time.
 
 What is received: < frame ID MOMENT DATA >, < remote ID MOMENT LEN >, < error CLASS MOMENT > or with DATA.
 What an attempt writes: tried NAME NUMBER CLASS ACCEPTED OFF, or idle, or record full. NUMBER counts the frames of
 NAME from 0; CLASS is done, or lastbit, destroyed or noack, and then the frame is sent again; ACCEPTED and OFF are
-the interfaces that accepted it and that went bus off, or -.
+the interfaces that accepted it and that went bus off, or -. Where --auto-restart brought interfaces back, the line ends
+in restarted and their names.
 
 Lines of a script: NUMBER VERDICT, for the attempt of that number, from 0. VERDICT is good, lastbit,
 global bit, global form, local stuff NAMES, local crc NAMES or local form NAMES. Other attempts are good.
@@ -68,7 +69,8 @@ writes DIR/NAME.log, which candump's readers take, and DIR/NAME.rec, which `canb
 --limit is for each bus, and it is how long a run can be. Each send, each attempt and each receive of a session is an
 entry. It takes 104 bytes in the record, and up to twice that in the list of the session that made it: 1000 frames a
 second to 4 sessions fill 1000000 entries in less than 3 minutes. When a bus is full each of its calls answers
-`record full`, and standard error says so once.
+`record full`, and standard error says so once. With --auto-restart attempts go on, MS milliseconds apart, while an
+interface waits for its restart, and each is an entry.
 
 Example, with a client in Python (package python3-can):
   $ canbusd serve --out . can0,can1@faults.script &

@@ -1,6 +1,7 @@
 mod bench;
 mod dialogue;
 mod lines;
+mod restarts;
 mod sessions;
 mod unheard;
 

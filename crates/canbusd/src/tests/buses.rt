@@ -60,6 +60,10 @@ fn refuses_buses(rt: HostRuntime) -> Result<(), Fail> {
             "canbusd bench --limit 16777217 can0",
             "canbusd: bad bus\n  --limit 16777217: from 1 to 16777216\n",
         ),
+        (
+            "canbusd bench --auto-restart 1000001 can0",
+            "canbusd: bad bus\n  --auto-restart 1000001: from 0 to 1000000\n",
+        ),
     ];
     for (line, errors) in table {
         runs(&rt, alloc, line, b"".as_slice(), ("", errors, 1))?;

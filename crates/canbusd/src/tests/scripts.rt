@@ -1,5 +1,5 @@
 //! Scripts that are followed, and those that are refused.
-use super::support::{Sockets, carries_out, joined, runs, times};
+use super::support::{Sockets, carries_out, ever, joined, runs, times};
 use canbusd_serve::ServerRuntime;
 use std::alloc::Global;
 use std::fs;
@@ -7,19 +7,6 @@ use std::process::Abort;
 use std::test::Fail;
 
 const SCRIPT: &str = "followed.script";
-
-const NUMBERS: &str =
-    "0 1 2 3 4 5 6 7 8 9 10 11 12 13 14 15 16 17 18 19 20 21 22 23 24 25 26 27 28 29 30 31";
-
-/// The script that gives the attempts 0 to 31 this verdict.
-fn ever(alloc: Global, verdict: &str) -> Result<String, Fail> {
-    let mut script = String::new(alloc);
-    for number in NUMBERS.split(' ') {
-        let line = joined(alloc, &[number, " ", verdict, "\n"])?;
-        script.push_str(&line)?;
-    }
-    Ok(script)
-}
 
 /// A frame of session 1 that goes out under this verdict until can0 is bus off: what each attempt but the
 /// last of them tells, what that one tells, and what session 2 has received then.

@@ -147,7 +147,7 @@ canbusd: cannot open none/can1.rec
 }
 
 /// Connects to a server that is to listen here, within 10,000 looks. A read waits for at most ten seconds.
-fn connect<R: Abort + ServerRuntime>(rt: &R, path: &str) -> UnixStream {
+pub fn connect<R: Abort + ServerRuntime>(rt: &R, path: &str) -> UnixStream {
     for _ in 0..10_000 {
         if let Ok(stream) = UnixStream::connect(rt, path) {
             assert!(rt;
@@ -162,13 +162,13 @@ fn connect<R: Abort + ServerRuntime>(rt: &R, path: &str) -> UnixStream {
     panic!(rt; "nobody listens")
 }
 
-fn say<R: Abort>(rt: &R, client: &UnixStream, text: &str) {
+pub fn say<R: Abort>(rt: &R, client: &UnixStream, text: &str) {
     let mut stream = client;
     assert!(rt; stream.write_all(text.as_bytes()).is_ok());
 }
 
 /// Reads as many bytes as this text has, and compares.
-fn hears<R: Abort>(rt: &R, client: &UnixStream, text: &str) {
+pub fn hears<R: Abort>(rt: &R, client: &UnixStream, text: &str) {
     let mut stream = client;
     let mut heard = [0; 64];
     let heard = &mut heard[..text.len().min(64)];
@@ -177,7 +177,7 @@ fn hears<R: Abort>(rt: &R, client: &UnixStream, text: &str) {
 }
 
 /// Whether a text has the shape of another, where `0` stands for any digit.
-fn has_shape(text: &[u8], shape: &str) -> bool {
+pub fn has_shape(text: &[u8], shape: &str) -> bool {
     text.len() == shape.len()
         && text.iter().zip(shape.as_bytes()).all(|(byte, wanted)| {
             byte == wanted || (*wanted == b'0' && byte.is_ascii_digit())

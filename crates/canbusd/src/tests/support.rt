@@ -117,6 +117,19 @@ pub fn times(alloc: Global, text: &str, count: usize) -> Result<String, Fail> {
     Ok(all)
 }
 
+const NUMBERS: &str =
+    "0 1 2 3 4 5 6 7 8 9 10 11 12 13 14 15 16 17 18 19 20 21 22 23 24 25 26 27 28 29 30 31";
+
+/// The script that gives the attempts 0 to 31 this verdict.
+pub fn ever(alloc: Global, verdict: &str) -> Result<String, Fail> {
+    let mut script = String::new(alloc);
+    for number in NUMBERS.split(' ') {
+        let line = joined(alloc, &[number, " ", verdict, "\n"])?;
+        script.push_str(&line)?;
+    }
+    Ok(script)
+}
+
 pub const TWO_SESSIONS: &str =
     "session 1\nsession 2\nfeed 1 < open can0 >< rawmode >\nfeed 2 < open can1 >< rawmode >\n";
 

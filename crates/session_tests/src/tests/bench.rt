@@ -9,24 +9,27 @@ use std::process::Abort;
 use std::test::Fail;
 use test_streams::{Closed, Pieces};
 
-/// A bench of a test: its names, who acknowledges, its script, and how many events it has.
+/// A bench of a test: its names, who acknowledges, how many events it has, and which attempt after bus off restarts.
 #[derive(Clone, Copy)]
 pub struct Made {
-    names: &'static str,
-    ack: AckMode,
-    limit: u32,
+    pub names: &'static str,
+    pub ack: AckMode,
+    pub limit: u32,
+    pub auto_restart: u32,
 }
 
 pub const TWO: Made = Made {
     names: "can0,can1",
     ack: AckMode::Always,
     limit: 1000,
+    auto_restart: 0,
 };
 
 const ALONE: Made = Made {
     names: "can0",
     ack: AckMode::Peers,
     limit: 1000,
+    auto_restart: 0,
 };
 
 /// What a run of the bench wrote, and the fault that ended it, if there was one.
@@ -47,6 +50,7 @@ pub fn config_of(alloc: Global, made: Made, script: &str) -> Result<BenchConfig<
             reporting: IfaceSet::empty(),
             tx_capacity: 10,
             limit: made.limit,
+            auto_restart: made.auto_restart,
         },
         names,
         script,
@@ -109,7 +113,7 @@ fn stops(
 }
 
 /// The pieces, one behind the other.
-fn joined(alloc: Global, pieces: &[&str]) -> Result<String, Fail> {
+pub fn joined(alloc: Global, pieces: &[&str]) -> Result<String, Fail> {
     let mut text = String::new(alloc);
     for piece in pieces {
         text.push_str(piece)?;
@@ -118,7 +122,7 @@ fn joined(alloc: Global, pieces: &[&str]) -> Result<String, Fail> {
 }
 
 /// A text so many times.
-fn times(alloc: Global, text: &str, count: usize) -> Result<String, Fail> {
+pub fn times(alloc: Global, text: &str, count: usize) -> Result<String, Fail> {
     let mut all = String::new(alloc);
     for _ in 0..count {
         all.push_str(text)?;
@@ -127,7 +131,7 @@ fn times(alloc: Global, text: &str, count: usize) -> Result<String, Fail> {
 }
 
 /// The lines of so many attempts, a microsecond after one another, from 0.000001 on: at most 99 of them.
-fn attempts(alloc: Global, count: u8) -> Result<String, Fail> {
+pub fn attempts(alloc: Global, count: u8) -> Result<String, Fail> {
     let mut lines = String::new(alloc);
     for number in 1..count.saturating_add(1) {
         lines.push_str("at 0.0000")?;
@@ -139,7 +143,7 @@ fn attempts(alloc: Global, count: u8) -> Result<String, Fail> {
 }
 
 /// A script that gives so many attempts this verdict, at most 99 of them.
-fn ever(alloc: Global, verdict: &str, count: u8) -> Result<String, Fail> {
+pub fn ever(alloc: Global, verdict: &str, count: u8) -> Result<String, Fail> {
     let mut script = String::new(alloc);
     for number in 0..count {
         script.push(char::from(b'0' + number / 10 % 10))?;
@@ -163,9 +167,20 @@ fn two_write(
     rest: &str,
     wanted: &str,
 ) -> Result<(), Fail> {
+    two_write_on(rt, TWO, script, rest, wanted)
+}
+
+/// As `two_write`, on another bench than `TWO`.
+pub fn two_write_on(
+    rt: &(impl Abort + AllocGlobal),
+    made: Made,
+    script: &str,
+    rest: &str,
+    wanted: &str,
+) -> Result<(), Fail> {
     let input = joined(rt.alloc(), &[STARTED, rest])?;
     let output = joined(rt.alloc(), &[GREETED, wanted])?;
-    writes(rt, TWO, script, &input, &output)
+    writes(rt, made, script, &input, &output)
 }
 
 #[test]
@@ -390,9 +405,17 @@ fn faults_end_a_run(rt: HostRuntime) -> Result<(), Fail> {
 #[test]
 fn bad_benches_are_refused(rt: HostRuntime) -> Result<(), Fail> {
     let alloc = rt.alloc();
-    for (limit, rx_capacity, ifaces) in [(0, 256, 2), (9, 0, 2), (9, 65_537, 2), (9, 256, 1)] {
+    let table = [
+        (0, 0, 256, 2),
+        (9, 0, 0, 2),
+        (9, 0, 65_537, 2),
+        (9, 0, 256, 1),
+        (9, 1_000_001, 256, 2),
+    ];
+    for (limit, auto_restart, rx_capacity, ifaces) in table {
         let mut config = config_of(alloc, TWO, "")?;
         config.config.limit = limit;
+        config.config.auto_restart = auto_restart;
         config.config.ifaces = ifaces;
         config.rx_capacity = rx_capacity;
         let ended = bench(alloc, config, b"session 1\n".as_slice(), &mut Closed);

@@ -2,7 +2,8 @@ use super::same;
 use can_arbiter::ScanArbiter;
 use can_attempt::AckMode;
 use can_bus::{
-    Bus, BusConfig, Closed, IfaceStats, Opt, Pending, Received, Refusal, SocketId, SocketStats,
+    Attempt, Bus, BusConfig, Closed, IfaceStats, Opt, Pending, Received, Refusal, SocketId,
+    SocketStats,
 };
 use can_confine::Counters;
 use can_fault::{GlobalKind, Verdict};
@@ -120,6 +121,7 @@ fn bus_of(alloc: Global, names: &str, ack: AckMode) -> Option<ListPort> {
         reporting: IfaceSet::empty(),
         tx_capacity: 16,
         limit: 200,
+        auto_restart: 0,
     };
     let bus = Bus::new(alloc, config).ok()?;
     Some(BusPort::new(alloc, names, bus))
@@ -313,7 +315,7 @@ fn faults_and_refusals_are_told(rt: HostRuntime) {
 /// One attempt at a moment in microseconds.
 fn attempt(port: &mut ListPort, micros: u64, verdict: Verdict) -> bool {
     match Moment::new(micros) {
-        Ok(moment) => matches!(port.attempt(moment, verdict), Ok(Some(_))),
+        Ok(moment) => matches!(port.attempt(moment, verdict), Ok(Attempt::Tried(_))),
         Err(_) => false,
     }
 }

@@ -22,6 +22,7 @@ fn bus(rt: &impl AllocGlobal, ifaces: u8, ack: AckMode) -> Result<ListBus, Fail>
         reporting: IfaceSet::empty(),
         tx_capacity: 10,
         limit: 1000,
+        auto_restart: 0,
     };
     let mut bus = ListBus::new(rt.alloc(), config)?;
     for number in 0..ifaces {

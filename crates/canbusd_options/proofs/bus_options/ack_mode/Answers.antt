@@ -1,4 +1,4 @@
-use Rattle.std.proofs.Common.{◌≡◌, List, ℕ, [], codes, unwrap_or, rules, ap, sym, ◌∙◌}
+use Rattle.std.proofs.Common.{◌≡◌, [], codes, unwrap_or, rules, ap, sym, ◌∙◌}
 use Rattle.clap.specs.Words.{first_value, found_of}
 use Rattle.canbusd_options.proofs.Rules.{text_in_rows}
 use Rattle.canbusd_options.proofs.bus_options.ack_mode.Goals as goal

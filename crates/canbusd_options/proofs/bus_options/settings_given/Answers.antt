@@ -10,4 +10,5 @@ returns c = record {
   tx_capacity = c.in_ok-number_given.ensures;
   rx_capacity = c.in_ok-number_given-2.ensures;
   limit = c.in_ok-number_given-3.ensures;
+  auto_restart = c.in_ok-number_given-4.ensures;
 }

@@ -1,6 +1,5 @@
 use Rattle.std.proofs.Common.{◌≡◌, ℕ, List, [], map, Option, Some, None, unwrap_or, codes, IfOk, sym, subst, ap, ◌∙◌}
 use Rattle.std.specs.Option.{option_map}
-use Rattle.canbusd_options.specs.Options.{buses_given as buses_of}
 use Rattle.canbusd_options.specs.BusWords.{names_part, script_part}
 use Rattle.canbusd_options.proofs.Rules.{texts_in_rows}
 use Rattle.canbusd_options.proofs.serve_options.buses_given.Goals as goal

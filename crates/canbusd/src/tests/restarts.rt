@@ -1,0 +1,107 @@
+//! Interfaces that come back by themselves, and the records of such runs.
+use super::serving::{connect, has_shape, hears, say};
+use super::support::{Sockets, carries_out, ever, joined, run, runs, times};
+use canbusd_serve::ServerRuntime;
+use std::alloc::Global;
+use std::io::Read;
+use std::process::Abort;
+use std::test::Fail;
+use std::{fs, thread};
+
+const NOTHING: &[u8] = b"";
+
+/// Session 1 asks for the frames of bus off and of restarts, and sends a frame.
+const ONE_SENT: &str = "feed 1 < errmask 140 >< send 123 0 >\n";
+
+/// The attempts at 0.000001 to 0.000034.
+fn attempts(alloc: Global) -> Result<String, Fail> {
+    let mut lines = String::new(alloc);
+    for number in 1..35_u32 {
+        let line = format!(in alloc; "at 0.{number:06}\nattempt\n")?;
+        lines.push_str(&line)?;
+    }
+    Ok(lines)
+}
+
+/// What is written from the 32nd attempt on.
+const BACK_AGAIN: &str = "tried can0 0 destroyed - can0
+idle
+idle restarted can0
+1 < error 040 0.000032 >< error 100 0.000034 >
+tried can0 1 done can1 -
+";
+
+const AUDITED: &str = "canbusd audit restarted.rec";
+
+const LEFT_OUT: &str = "canbusd: entry 37: wrong
+  restarted.rec:40: attempt 0.000034 good = idle
+  legal is: attempt 0.000034 good = idle restarted 0001
+";
+
+#[test]
+fn the_record_of_a_restart_is_audited(rt: HostRuntime) -> Result<(), Fail> {
+    let _sockets: Sockets = None;
+    let alloc = rt.alloc();
+    let script = ever(alloc, "global bit")?;
+    fs::write(&rt, "restarted.script", script.as_bytes())?;
+    let tried = attempts(alloc)?;
+    let then = "drain 1\nfeed 1 < send 123 0 >\nattempt\n";
+    let rest = joined(alloc, &[ONE_SENT, &tried, then])?;
+    let told = times(alloc, "tried can0 0 destroyed - -\n", 31)?;
+    let wanted = joined(alloc, &["1 < ok >\n", &told, BACK_AGAIN])?;
+    let line = "canbusd bench --auto-restart 2 --record restarted.rec can0,can1@restarted.script";
+    carries_out(&rt, alloc, line, &rest, &wanted)?;
+    let record = fs::read_to_string(&rt, "restarted.rec")?;
+    let start = b"canbus record 2\nbus 2 always 0000 10 1000000 2\nopen 0 256 = socket 0\n";
+    assert!(rt; record.as_bytes().starts_with(start));
+    // Two sockets, an option, a frame, 34 attempts, what is received and that there is no more, a frame and an attempt.
+    runs(&rt, alloc, AUDITED, NOTHING, ("ok 43 entries\n", "", 0))?;
+    let damaged = record.replace(alloc, " restarted 0001", "")?;
+    fs::write(&rt, "restarted.rec", damaged.as_bytes())?;
+    runs(&rt, alloc, AUDITED, NOTHING, ("", LEFT_OUT, 1))?;
+    fs::remove_file(&rt, "restarted.rec")?;
+    fs::remove_file(&rt, "restarted.script")?;
+    Ok(())
+}
+
+/// The interface of this name goes bus off, and comes back by itself.
+fn comes_back<R: Abort + ServerRuntime>(rt: &R, opens: &str) {
+    let client = connect(rt, "./back");
+    say(rt, &client, opens);
+    hears(rt, &client, "< hi >< ok >< ok >< ok >");
+    say(rt, &client, "< send 123 0 >");
+    let mut told = [0; 62];
+    let mut stream = &client;
+    assert!(rt; stream.read_exact(&mut told).is_ok());
+    let wanted = "< error 040 0000000000.000000 >< error 100 0000000000.000000 >";
+    assert!(rt; has_shape(&told, wanted));
+    say(rt, &client, "< status >< close >");
+    hears(rt, &client, "< status active 0 0 >< closed 0 0 >");
+}
+
+#[test]
+fn each_bus_of_a_server_restarts(rt: HostRuntime) -> Result<(), Fail> {
+    let _sockets: Sockets = None;
+    let alloc = rt.alloc();
+    let script = ever(alloc, "global bit")?;
+    fs::write(&rt, "back.script", script.as_bytes())?;
+    let line =
+        "canbusd serve --auto-restart 5 --sessions 2 --listen ./back can0@back.script can1@back.script";
+    let (ended, ()) = thread::join(
+        &rt,
+        || {
+            let _sockets: Sockets = None;
+            run(&rt, alloc, line, NOTHING)
+        },
+        || {
+            let _sockets: Sockets = None;
+            comes_back(&rt, "< open can0 >< rawmode >< errmask 140 >");
+            comes_back(&rt, "< open can1 >< rawmode >< errmask 140 >");
+        },
+    );
+    let ended = ended?;
+    assert!(&rt; ended.begins("listening ./back\nbus can0 entries ", ""));
+    assert_eq!(&rt; ended.status, 0);
+    fs::remove_file(&rt, "back.script")?;
+    Ok(())
+}
