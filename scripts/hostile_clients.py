@@ -283,6 +283,6 @@ def too_few_descriptors():
         with contextlib.suppress(OSError):
             while comes_in(server):
                 served += 1
-        # A connection that can't be accepted counts as a session, at most ten times a second.
-        demand(served >= 200 - 2 - 60 - 60, f"{served} of 138 sessions are left")
+        # A connection that can't be accepted is no session, so none but the pair and the crowd were.
+        demand(served == 200 - 2 - 60, f"{served} of 138 sessions are left")
     return f"{served} of 138 sessions were left"

@@ -14,15 +14,17 @@ use std::thread::Threads;
 use std::time::Duration;
 use std::{thread, time};
 
-/// How long a door rests after a connection that could not be accepted, so that a lack of file descriptors does not use
-/// all of its sessions up.
+/// How long a door rests after a connection that could not be accepted, as for want of file descriptors.
 const AFTER_A_FAULT_MS: u64 = 100;
+
+/// How often a door tries before this counts as a session: for some 6 seconds.
+const TRIES: u32 = 64;
 
 /// Who comes in at a door.
 #[derive(Drop)]
 enum Next {
     Guest(Guest),
-    /// The connection could not be accepted, or nobody else is let in now.
+    /// Nobody could be accepted for all tries, or nobody else is let in now.
     Nobody,
     /// The server is closed.
     Closed,
@@ -65,20 +67,20 @@ impl<
     C: Clock + Watch,
     R: Wait + time::Clock,
 > Server<'a, N, F, G, C, R> {
-    /// Waits at a door for the next connection, and takes it in.
+    /// Waits at a door for the next connection, and takes it in. After one that could not be accepted the door rests, and
+    /// tries again.
     fn next_guest(&self, door: &Door) -> Next {
-        let accepted = door.accept();
-        if self.guests.lock(self.rt).is_closed() {
-            return Next::Closed;
+        for _ in 0..TRIES {
+            let accepted = door.accept();
+            if self.guests.lock(self.rt).is_closed() {
+                return Next::Closed;
+            }
+            match accepted {
+                Ok(conn) => return self.admit(conn).map_or(Next::Nobody, Next::Guest),
+                Err(_) => thread::sleep(self.rt, Duration::from_millis(AFTER_A_FAULT_MS)),
+            }
         }
-        let Ok(conn) = accepted else {
-            thread::sleep(self.rt, Duration::from_millis(AFTER_A_FAULT_MS));
-            return Next::Nobody;
-        };
-        match self.admit(conn) {
-            Some(guest) => Next::Guest(guest),
-            None => Next::Nobody,
-        }
+        Next::Nobody
     }
 
     /// Frees the place of a guest whose thread could not be started.

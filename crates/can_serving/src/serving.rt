@@ -37,7 +37,8 @@ pub trait Watch {
 /// thread that accepts; each session one that reads and, in raw mode, one that delivers. It returns once as many
 /// sessions as the doors have were accepted and all are over, or after the end of `until`: then nobody comes in any
 /// more, and the sessions at work are shut down. The 65th session at once is told so and counts as one that was
-/// accepted, as does a connection that could not be accepted.
+/// accepted. Where no connection can be accepted, as for want of file descriptors, a door tries again each 100 ms; 64
+/// tries in vain count as one session.
 ///
 /// A fault of a session's connection, or memory refused to it, ends that session alone. `AllocError` where memory was
 /// refused to the server's own start; then the threads that were started are over too, and the stations are stopped.

@@ -50,6 +50,7 @@ pub record AreBenchOptions (rows : List Row) (o : BenchOptions) : Type 0 where
   pub names : o.bus.names.now ≡ names_part (given rows (codes "BUS"))
   pub script : option_map (λ path. path.now) o.bus.script ≡ script_part (given rows (codes "BUS"))
   pub kept : option_map (λ path. path.now) o.record ≡ first_of (codes "record") rows
+  pub logged : option_map (λ path. path.now) o.log ≡ first_of (codes "log") rows
 
 -- the buses that a server was given
 abbrev pub buses_given : List Row → List (List ℕ)

@@ -12,6 +12,8 @@ use std::alloc::{AllocError, Global};
 
 const RECORD: &str = "record";
 
+const LOG: &str = "log";
+
 /// The words of `canbusd bench`.
 #[derive(Debug, Clone, Copy)]
 pub struct BenchOptions<'a> {
@@ -19,6 +21,8 @@ pub struct BenchOptions<'a> {
     pub bus: BusWord<'a>,
     /// The path of the file that gets the record, if it is wanted.
     pub record: Option<&'a str>,
+    /// The path of the file that gets the log, if it is wanted.
+    pub log: Option<&'a str>,
 }
 
 #[tactic(auto, using(crate::proofs::Rules::text_in_rows))]
@@ -29,6 +33,7 @@ pub fn bench_options<'a>(alloc: Global, bench: &ArgMatches<'a>) -> Result<BenchO
         settings: settings_given(alloc, Verb::Bench, bench)?,
         bus: BusWord::read(bench.get_str(BUS).unwrap_or("")),
         record: bench.get_str(RECORD),
+        log: bench.get_str(LOG),
     })
 }
 
@@ -40,6 +45,7 @@ pub fn bench_command<'a>(alloc: Global) -> Result<Command<'a>, AllocError>
         .after_help(BENCH_HELP);
     with_bus_options(alloc, command)?
         .arg(record_option(alloc))?
+        .arg(log_option(alloc))?
         .arg(bus_argument(alloc))
 }
 
@@ -49,5 +55,14 @@ fn record_option<'a>(alloc: Global) -> Arg<'a>
 {
     Arg::new(alloc, RECORD).long(RECORD).value_name("FILE").help(
         "Write the record of the run to FILE once the input has ended; audit checks it",
+    )
+}
+
+fn log_option<'a>(alloc: Global) -> Arg<'a>
+    ensures rule { rule_of result ≡ option_rule (codes "log") }
+    ensures local { result.global ≡ false }
+{
+    Arg::new(alloc, LOG).long(LOG).value_name("FILE").help(
+        "Write the frames of the run to FILE once the input has ended, as candump logs them",
     )
 }
