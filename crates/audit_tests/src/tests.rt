@@ -8,7 +8,24 @@ mod texts;
 use can_attempt::AckMode;
 use can_bus::{BusConfig, Event, SocketId};
 use can_frame::{CanId, Frame, Iface, IfaceSet, Moment};
+use std::fmt::Debug;
+use std::process::Abort;
 use std::test::Fail;
+
+/// Both are alike. Where they are not, the test ends and says what differs.
+fn same<T: PartialEq + Debug + Drop>(rt: &impl Abort, got: T, expected: T) {
+    assert_eq!(rt; got, expected);
+}
+
+/// Both are alike, in one case of many. Where they are not, the test says what differs in which.
+fn same_at<T: PartialEq + Debug + Drop, C: Debug + Drop>(
+    rt: &impl Abort,
+    case: C,
+    got: T,
+    expected: T,
+) {
+    assert_eq!(rt; got, expected, "at {case:?}");
+}
 
 /// A bus of so many interfaces, made for so many events.
 fn config(ifaces: u8, limit: u32) -> BusConfig {

@@ -1,3 +1,4 @@
 pub mod BusWords
+pub mod Help
 pub mod Options
 pub mod Program

@@ -1,6 +1,7 @@
 //! The words of bench.
-ghost use Rattle.std.specs.Prelude.{◌≡◌, codes, false, IfOk};
+ghost use Rattle.std.specs.Prelude.{◌≡◌, codes, false, IfErr, IfOk};
 ghost use Rattle.clap.specs.Words.{app_of, rule_of};
+ghost use Rattle.canbusd_options.specs.Help.{RefusesValue};
 ghost use Rattle.canbusd_options.specs.Options.{AreBenchOptions, rows_in};
 ghost use Rattle.canbusd_options.specs.Program.{bench_app, option_rule};
 
@@ -27,7 +28,8 @@ pub struct BenchOptions<'a> {
 
 #[tactic(auto, using(crate::proofs::Rules::text_in_rows))]
 pub fn bench_options<'a>(alloc: Global, bench: &ArgMatches<'a>) -> Result<BenchOptions<'a>, Error>
-    ensures { IfOk result (λ options. AreBenchOptions (rows_in bench.now) options) }
+    ensures given { IfOk result (λ options. AreBenchOptions (rows_in bench.now) options) }
+    ensures refused { IfErr result RefusesValue }
 {
     Ok(BenchOptions {
         settings: settings_given(alloc, Verb::Bench, bench)?,

@@ -2,7 +2,8 @@
 ghost use Rattle.std.specs.Prelude.{◌≡◌, ◌≤◌, ◌^◌, codes, false, IfErr, IfNone, IfOk, IfSome};
 ghost use Rattle.std.specs.Str.Parse.{IsNumeral, digits_value};
 ghost use Rattle.clap.specs.Words.{app_of, kind_of, rule_of};
-ghost use Rattle.clap.specs.declared.error.kind.ErrorKind.TheVariants.{OutOfMemory};
+ghost use Rattle.clap.specs.declared.error.kind.ErrorKind.TheVariants.{OutOfMemory, ValueValidation};
+ghost use Rattle.canbusd_options.specs.Help.{RefusesValue};
 ghost use Rattle.canbusd_options.specs.Options.{AreSettings, IsNumberOf, IsNumberWithin, given, mode_text, rows_in};
 ghost use Rattle.canbusd_options.specs.Program.{default_rule, flag_rule, with_bus_rules, word_rule};
 
@@ -57,7 +58,9 @@ pub enum Verb {
 
 impl Verb {
     /// A fault of the words of this command, with its usage.
-    pub fn error(self, alloc: Global, message: &str) -> Result<Error, AllocError> {
+    pub fn error(self, alloc: Global, message: &str) -> Result<Error, AllocError>
+        ensures { IfOk result (λ e. kind_of e ≡ ValueValidation) }
+    {
         let mut command = match self {
             Verb::Bench => bench_command(alloc)?.bin_name("canbusd bench")?,
             Verb::Serve => serve_command(alloc)?.bin_name("canbusd serve")?,
@@ -72,7 +75,8 @@ pub fn settings_given(
     verb: Verb,
     matches: &ArgMatches<'_>,
 ) -> Result<BusSettings, Error>
-    ensures { IfOk result (λ settings. AreSettings (rows_in matches.now) settings) }
+    ensures given { IfOk result (λ settings. AreSettings (rows_in matches.now) settings) }
+    ensures refused { IfErr result RefusesValue }
 {
     Ok(BusSettings {
         ack: ack_mode(alloc, verb, matches)?,
@@ -85,7 +89,8 @@ pub fn settings_given(
 }
 
 fn ack_mode(alloc: Global, verb: Verb, matches: &ArgMatches<'_>) -> Result<AckMode, Error>
-    ensures { IfOk result (λ mode. given (rows_in matches.now) (codes "ack") ≡ mode_text mode) }
+    ensures given { IfOk result (λ mode. given (rows_in matches.now) (codes "ack") ≡ mode_text mode) }
+    ensures refused { IfErr result RefusesValue }
 {
     let text = matches.get_str(ACK).unwrap_or("");
     if text == ALWAYS {
@@ -104,7 +109,8 @@ fn number_given(
     matches: &ArgMatches<'_>,
     option: &str,
 ) -> Result<u32, Error>
-    ensures { IfOk result (λ n. IsNumberOf n (given (rows_in matches.now) option.now)) }
+    ensures given { IfOk result (λ n. IsNumberOf n (given (rows_in matches.now) option.now)) }
+    ensures refused { IfErr result RefusesValue }
 {
     number_within(alloc, verb, matches, option, 0, u32::MAX)
 }
@@ -123,6 +129,7 @@ pub fn number_within(
     ensures least { IfOk result (λ n. least ≤ n) }
     ensures most { IfOk result (λ n. n ≤ most) }
     ensures taken { IfErr result (λ e. IsNumberWithin least most (given (rows_in matches.now) option.now) → kind_of e ≡ OutOfMemory) }
+    ensures refused { IfErr result RefusesValue }
 {
     let text = matches.get_str(option).unwrap_or("");
     match number_in(text) {

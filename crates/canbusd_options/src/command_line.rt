@@ -1,6 +1,7 @@
 //! What a command line asks for.
-ghost use Rattle.std.specs.Prelude.{◌≡◌, codes, false, map, string_bytes, IfOk};
+ghost use Rattle.std.specs.Prelude.{◌≡◌, codes, false, map, string_bytes, IfErr, IfOk};
 ghost use Rattle.clap.specs.Words.{app_of, rule_of};
+ghost use Rattle.canbusd_options.specs.Help.{AskHelp, ShowsHelp};
 ghost use Rattle.canbusd_options.specs.Program.{IsAsked, audit_app, program, word_rule};
 
 use crate::bench_options::{BenchOptions, bench_command, bench_options};
@@ -26,7 +27,8 @@ pub enum Job<'a> {
 /// What the words of a command line ask for, the program's name among them. An error is a fault of the
 /// words, a request for help or the version, or no memory.
 pub fn read_options<'a>(alloc: Global, words: &'a [String]) -> Result<Job<'a>, Error>
-    ensures { IfOk result (λ job. IsAsked (map string_bytes words.now) job) }
+    ensures asked { IfOk result (λ job. IsAsked (map string_bytes words.now) job) }
+    ensures help { IfErr result (λ e. ShowsHelp e → AskHelp (map string_bytes words.now)) }
 {
     let matches = program_command(alloc)?.try_get_matches_from(words)?;
     if let Some(bench) = matches.subcommand_matches("bench") {

@@ -1,8 +1,9 @@
 //! The words of serve.
-ghost use Rattle.std.specs.Prelude.{◌≡◌, codes, false, map, IfOk};
+ghost use Rattle.std.specs.Prelude.{◌≡◌, codes, false, map, IfErr, IfOk};
 ghost use Rattle.std.specs.Option.{option_map};
 ghost use Rattle.clap.specs.Words.{app_of, rule_of};
 ghost use Rattle.canbusd_options.specs.BusWords.{names_part, script_part};
+ghost use Rattle.canbusd_options.specs.Help.{RefusesValue};
 ghost use Rattle.canbusd_options.specs.Options.{AreServeOptions, buses_given as buses_of, rows_in};
 ghost use Rattle.canbusd_options.specs.Program.{default_rule, flag_rule, option_rule, serve_app, words_rule};
 
@@ -47,7 +48,8 @@ pub struct ServeOptions<'a> {
 }
 
 pub fn serve_options<'a>(alloc: Global, serve: &ArgMatches<'a>) -> Result<ServeOptions<'a>, Error>
-    ensures { IfOk result (λ options. AreServeOptions (rows_in serve.now) options) }
+    ensures given { IfOk result (λ options. AreServeOptions (rows_in serve.now) options) }
+    ensures refused { IfErr result RefusesValue }
 {
     Ok(ServeOptions {
         settings: settings_given(alloc, Verb::Serve, serve)?,

@@ -100,21 +100,23 @@ fn one_frame(
 
 #[test]
 fn the_first_wrong_entry_is_found(rt: HostRuntime) -> Result<(), Fail> {
-    assert_eq!(rt; one_frame(&rt, 100, 0b10)?, Ok(()));
-    assert_eq!(rt; one_frame(&rt, 7, 0b10)?, Ok(()));
-    assert_eq!(rt;
+    same(&rt, one_frame(&rt, 100, 0b10)?, Ok(()));
+    same(&rt, one_frame(&rt, 7, 0b10)?, Ok(()));
+    same(
+        &rt,
         one_frame(&rt, 100, 0)?,
         Err(AuditFault::Wrong {
             entry: 3,
             legal: Some(tried(0b10)?),
-        })
+        }),
     );
-    assert_eq!(rt;
+    same(
+        &rt,
         one_frame(&rt, 6, 0b10)?,
         Err(AuditFault::Wrong {
             entry: 6,
             legal: None,
-        })
+        }),
     );
     Ok(())
 }
@@ -128,9 +130,9 @@ fn carried_out(rt: &impl AllocGlobal, events: &[Event]) -> Result<Record, Fail> 
 
 fn audits_what_a_bus_did(rt: &(impl Abort + AllocGlobal)) -> Result<(), Fail> {
     let record = carried_out(rt, &events::mixed(rt, 4, 300)?)?;
-    assert_eq!(rt; audited(rt, &record), Ok(()));
+    same(rt, audited(rt, &record), Ok(()));
     let nothing = carried_out(rt, &[])?;
-    assert_eq!(rt; audited(rt, &nothing), Ok(()));
+    same(rt, audited(rt, &nothing), Ok(()));
     Ok(())
 }
 

@@ -60,7 +60,7 @@ fn is_frame(received: Option<&Received>, number: u64) -> Result<bool, Fail> {
 }
 
 fn one_frame(rt: &impl Abort, items: &[Received]) -> Result<(), Fail> {
-    assert_eq!(rt; items.len(), 1);
+    same(rt, items.len(), 1);
     assert!(rt; is_frame(items.get(0), 0)?);
     Ok(())
 }
@@ -80,7 +80,7 @@ fn some_frames_found_no_room(rt: HostRuntime) -> Result<(), Fail> {
     let bus = bus_after(&rt, &more_frames(&rt)?)?;
     one_frame(&rt, &queued_at(&rt, &bus, 1)?)?;
     let offered = offered_to(&rt, &bus, 1)?;
-    assert_eq!(rt; offered.len(), 2);
+    same(&rt, offered.len(), 2);
     assert!(rt; is_frame(offered.get(1), 1)?);
     one_frame(&rt, &from(&rt, &bus, 0)?)
 }

@@ -31,8 +31,8 @@ fn compared(
 ) -> Result<Vec<Reply>, Fail> {
     let fast = carried_out(rt, events, config)?;
     let slow = counted(rt, events, config)?;
-    assert_eq!(rt; fast.len(), events.len());
-    assert_eq!(rt; slow.len(), events.len());
+    same(rt, fast.len(), events.len());
+    same(rt, slow.len(), events.len());
     for k in 0..fast.len() {
         assert!(rt; fast.get(k) == slow.get(k));
     }
@@ -225,7 +225,7 @@ fn first_replies() -> Result<[Reply; 7], Fail> {
 fn a_first_frame_is_answered(rt: HostRuntime) -> Result<(), Fail> {
     let replies = counted(&rt, &events::first_frame(&rt)?, config(2, 100))?;
     let wanted = first_replies()?;
-    assert_eq!(rt; replies.len(), 7);
+    same(&rt, replies.len(), 7);
     for k in 0..7 {
         assert!(rt; replies.get(k) == wanted.get(k));
     }

@@ -1,5 +1,6 @@
 // Record texts, written and read.
 
+use super::{same, same_at};
 use can_attempt::AckMode;
 use can_audit::{ReadFault, read_record, read_record_bytes, record_text, write_record};
 use can_bus::{Bus, BusConfig, Event, ListBus, Record, SocketId, run};
@@ -116,8 +117,8 @@ fn a_buss_record_has_this_text(rt: HostRuntime) -> Result<(), Fail> {
 fn the_text_is_read_and_written_again(rt: HostRuntime) -> Result<(), Fail> {
     assert!(rt; again(&rt, ONE_FRAME)?.as_slice() == ONE_FRAME.as_bytes());
     let record = read(&rt, ONE_FRAME)?;
-    assert_eq!(rt; count(&record), 7);
-    assert_eq!(rt; limit(&record), 100);
+    same(&rt, count(&record), 7);
+    same(&rt, limit(&record), 100);
     Ok(())
 }
 
@@ -164,7 +165,7 @@ fn a_writer_that_fails_is_told(rt: HostRuntime) -> Result<(), Fail> {
     ] {
         let mut writer = Short { left };
         let result = written_in_pieces(&rt, &record, &mut writer);
-        assert_eq!(rt; result.is_ok(), fits, "at {left}");
+        same_at(&rt, left, result.is_ok(), fits);
     }
     Ok(())
 }
@@ -211,14 +212,14 @@ fn the_first_wrong_line_is_told(rt: HostRuntime) -> Result<(), Fail> {
     ];
     for (from, to, line) in changes {
         let text = changed(&rt, from, to)?;
-        assert_eq!(rt; bad_line(&rt, &text), Some(line), "at {to}");
+        same_at(&rt, to, bad_line(&rt, &text), Some(line));
     }
     let cut = changed(
         &rt,
         "attempt 0.000001 good = tried 0 0 123#01FF done 0002 0000\nreceive 1 = data 0 0 123#01FF 0.000001\nreceive 1 = none\nclose 1 = closed 0 0\nend 7\n",
         "",
     )?;
-    assert_eq!(rt; bad_line(&rt, &cut), Some(6));
+    same(&rt, bad_line(&rt, &cut), Some(6));
     Ok(())
 }
 
@@ -230,7 +231,7 @@ fn another_first_line_is_another_version(rt: HostRuntime) -> Result<(), Fail> {
         (ONE_FRAME, ""),
     ] {
         let text = changed(&rt, from, to)?;
-        assert_eq!(rt; fault(&rt, &text), Some(ReadFault::BadVersion), "at {to}");
+        same_at(&rt, to, fault(&rt, &text), Some(ReadFault::BadVersion));
     }
     Ok(())
 }
@@ -316,7 +317,7 @@ fn what_no_line_spells_is_refused(rt: HostRuntime) -> Result<(), Fail> {
     ];
     for line in lines {
         let text = one_line(&rt, line)?;
-        assert_eq!(rt; bad_line(&rt, &text), Some(3), "at {line}");
+        same_at(&rt, line, bad_line(&rt, &text), Some(3));
     }
     Ok(())
 }

@@ -3,12 +3,12 @@ use Rattle.clap.specs.Words.{first_value, found_of}
 use Rattle.canbusd_options.proofs.Rules.{flag_in_rows, text_in_rows}
 use Rattle.canbusd_options.proofs.serve_options.serve_options.Goals as goal
 
-pub returns : goal.returns
-returns c =
+pub returns-clause-given : goal.returns-clause-given
+returns-clause-given c =
     let m = c.args.serve.now in
     let address : c.unwrap_or.result.now ≡ unwrap_or (first_value (found_of m) (codes "listen")) [] = search rules in
     record {
-      settings = c.in_ok-settings_given.ensures;
+      settings = c.in_ok-settings_given.ensures.given;
       names = c.in_ok-buses_given.ensures.names;
       scripts = c.in_ok-buses_given.ensures.scripts;
       address = address ∙ ap (λ o. unwrap_or o []) (text_in_rows m (codes "listen"));
