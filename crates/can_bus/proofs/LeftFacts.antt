@@ -111,8 +111,8 @@ none-from p a zero none = refl
 none-from p a (suc n) none = let here = none a (omega arith) in rw here (none-from p (a + 1) n (λ i le. none i (omega (arith, le))))
 
 any-short : (p : ℕ → Bool) (a n k : ℕ) → ((i : ℕ) → a + n ≤ i → p i ≡ false) → list_any p (range_with_len a (n + k)) ≡ list_any p (range_with_len a n)
-any-short p a zero k none = none-from p a k (λ i le. none i (omega (arith, le)))
-any-short p a (suc n) k none = ap (λ b. p a || b) (any-short p (a + 1) n k (λ i le. none i (omega (arith, le))))
+any-short p a zero k none = let sum : 0 + k ≡ k = omega arith in ap (λ m. list_any p (range_with_len a m)) sum ∙ none-from p a k (λ i le. none i (omega (arith, le)))
+any-short p a (suc n) k none = let sum : suc n + k ≡ suc (n + k) = omega arith in ap (λ m. list_any p (range_with_len a m)) sum ∙ ap (λ b. p a || b) (any-short p (a + 1) n k (λ i le. none i (omega (arith, le))))
 
 -- some of what is kept is not 0 exactly where an interface counts
 pub counting-kept : (c : BusConfig) (past : List Entry) → IsLegal c past → c.ifaces ≤ 16 → list_any (λ n. not (n == 0)) (kept_left c past) ≡ is_counting c past
