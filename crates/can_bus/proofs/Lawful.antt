@@ -237,7 +237,7 @@ either-le : (b : Bool) (xs : List Post) → length xs ≤ 1 → length (if b the
 either-le true xs le = le
 either-le false xs le = omega arith
 
-attempt_posts-le : (reporting : IfaceSet) (tr : Transmission) (t : Tried) (p : Option Pending) (i : ℕ) → length (attempt_posts reporting tr t p i) ≤ 3
+pub attempt_posts-le : (reporting : IfaceSet) (tr : Transmission) (t : Tried) (p : Option Pending) (i : ℕ) → length (attempt_posts reporting tr t p i) ≤ 3
 attempt_posts-le reporting tr t p i =
     let fault = if is_in i reporting then error_posts i t.moment (fault_message_for t.class tr.verdict (role_at tr i)) else [] in
     let state = error_posts i t.moment (state_message (tr.counts i) (counts_after tr i)) in

@@ -26,6 +26,7 @@ pub mod CopyFacts
 pub mod TurnFacts
 pub mod Winning
 pub mod Attempting
+pub mod Between
 pub mod Restarting
 pub mod Telling
 pub mod LifeFacts

@@ -54,7 +54,7 @@ fn anew_at(nodes: &Nodes, restarted: IfaceSet, place: u8) -> Counters
 pub fn begun_anew(nodes: &Nodes, restarted: IfaceSet) -> [Counters; 16]
     ensures { result ≡ (begun_anew restarted nodes.now).counters }
 {
-    let mut counters = nodes.counters;
+    let mut counters = [Counters::zero(); 16];
     for place in 0..16u8 {
         counters[place as usize] = anew_at(nodes, restarted, place);
     }

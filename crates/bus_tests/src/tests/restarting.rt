@@ -4,6 +4,7 @@ use super::*;
 use can_attempt::Class;
 
 const NONE: IfaceSet = IfaceSet(0);
+
 const FIRST: IfaceSet = IfaceSet(1);
 
 /// What an attempt came to, without faults.
@@ -41,7 +42,11 @@ fn comes_back(rt: &(impl Abort + AllocGlobal)) -> Result<(), Fail> {
     let mut bus = off(rt, 2)?;
     assert!(rt; counts_down(&bus));
     same(rt, next(&mut bus, 33)?, Attempt::Idle(NONE));
-    same(rt, try_send(&mut bus, 0, frame(0x123)?), Err(Refusal::BusOff));
+    same(
+        rt,
+        try_send(&mut bus, 0, frame(0x123)?),
+        Err(Refusal::BusOff),
+    );
     assert!(rt; counts_down(&bus));
     same(rt, next(&mut bus, 34)?, Attempt::Idle(FIRST));
     assert!(rt; !counts_down(&bus));
@@ -50,7 +55,11 @@ fn comes_back(rt: &(impl Abort + AllocGlobal)) -> Result<(), Fail> {
     gets_nothing(rt, &mut bus, 0)?;
     same(rt, send(&mut bus, 0, 0x123)?, 1);
     let tried = attempt(&mut bus, 35, Verdict::Good)?;
-    same(rt, (tried.class, tried.accepted), (Class::Done, IfaceSet(2)));
+    same(
+        rt,
+        (tried.class, tried.accepted),
+        (Class::Done, IfaceSet(2)),
+    );
     same(rt, tried.restarted, NONE);
     Ok(())
 }

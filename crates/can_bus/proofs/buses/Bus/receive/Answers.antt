@@ -4,7 +4,7 @@ use Rattle.can_bus.specs.declared.events.Reply.TheVariants as reply
 use Rattle.can_bus.specs.State.{Parts}
 use Rattle.can_bus.specs.Changes.{Receives}
 use Rattle.can_bus.proofs.Bounds.{small_taken}
-use Rattle.can_bus.proofs.Fitting.{legal_is_spelled}
+use Rattle.can_bus.proofs.Fitting.{legal_has_line}
 use Rattle.can_bus.proofs.Keeping.{IsDone, done}
 use Rattle.can_bus.proofs.Receiving.{received_follows}
 use Rattle.can_bus.proofs.buses.Bus.receive.Given as given
@@ -16,7 +16,7 @@ receive-outcome-requires g c = small_taken _ _ c.self.invariant
 pub push-requires-clause-spelled : goal.push-requires-clause-spelled
 push-requires-clause-spelled g c =
     let receives = subst (λ (p : Parts). Receives p c.args.id.0 c.receive-outcome.result c.receive-outcome.new.self) c.self.invariant.of_parts c.receive-outcome.ensures in
-    legal_is_spelled c.self.inside.record.config c.self.inside.record.history (event.Receive c.args.id) _ (c.received_reply.ensures ∙ (received_follows _ _ c.args.id _ _ receives).lawful)
+    legal_has_line c.self.inside.record.config c.self.inside.record.history (event.Receive c.args.id) _ (c.received_reply.ensures ∙ (received_follows _ _ c.args.id _ _ receives).lawful)
 
 is_done : (g : given.Over) (c : goal.After-push g) → IsDone reply.Received c.args.self.now (event.Receive c.args.id) c.receive-outcome.result c.push.new.self c.receive-outcome.new.self
 is_done g c =

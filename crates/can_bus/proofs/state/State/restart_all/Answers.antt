@@ -1,0 +1,12 @@
+use Rattle.std.proofs.Common.{ℕ, ◌+◌, ◌^◌, ◌<◌, All, sym, subst}
+use Rattle.can_bus.specs.State.{SocketState, Parts}
+use Rattle.can_bus.proofs.Between.{none-restarted}
+use Rattle.can_bus.proofs.state.State.restart_all.Goals as goal
+
+pub returns-then-restarted-eq0 : goal.returns-then-restarted-eq0
+returns-then-restarted-eq0 g c = none-restarted c.args.self.now c.args.restarted c.args.moment c.if-restarted-eq0.true c.requires.sixteen
+
+pub tell_restarts-requires : goal.tell_restarts-requires
+tell_restarts-requires g c =
+    let dropped = subst (λ (p : Parts). All (λ (v : SocketState). v.dropped + 1 < 2 ^ 64) p.sockets) (sym c.self.view_is) c.requires.dropped in
+    subst (All (λ (v : SocketState). v.dropped + 1 < 2 ^ 64)) (sym c.deref_mut.ensures.value) dropped
