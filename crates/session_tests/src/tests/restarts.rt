@@ -37,10 +37,12 @@ fn goes_off(
 
 /// The lines of attempts 1 to `count`, with these lines behind attempt `place`.
 fn with_lines(alloc: Global, count: u8, place: u8, lines: &str) -> Result<String, Fail> {
-    let before = attempts(alloc, place)?;
-    let all = attempts(alloc, count)?;
-    let after = all.get(before.len()..).unwrap_or("");
-    joined(alloc, &[&before, lines, after])
+    let mut all = attempts(alloc, place)?;
+    let tried = attempts(alloc, count)?;
+    let rest = tried.get(all.len()..).unwrap_or("");
+    all.push_str(lines)?;
+    all.push_str(rest)?;
+    Ok(all)
 }
 
 const BACK_AGAIN: &str =
