@@ -1,3 +1,4 @@
 pub mod Scanning
 pub mod Heading
+pub mod Moving
 pub mod Ranking

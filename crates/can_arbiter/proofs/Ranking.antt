@@ -41,7 +41,7 @@ keys_in-set old new n held inside at others =
 key_in-here : (rank : ℕ) (ranks : List ℕ) (i : ℕ) → rank % 16 ≡ i → key_in (rank ∷ ranks) i ≡ Some (rank / 16)
 key_in-here rank ranks i is = ap (λ (b : Bool). cond b (Some (rank / 16)) (key_in ranks i)) (eq-eqb (rank % 16) i is)
 
-key_in-behind : (rank : ℕ) (ranks : List ℕ) (i : ℕ) → rank % 16 ≢ i → key_in (rank ∷ ranks) i ≡ key_in ranks i
+pub key_in-behind : (rank : ℕ) (ranks : List ℕ) (i : ℕ) → rank % 16 ≢ i → key_in (rank ∷ ranks) i ≡ key_in ranks i
 key_in-behind rank ranks i other = ap (λ (b : Bool). cond b (Some (rank / 16)) (key_in ranks i)) (ne_eqb (rank % 16) i other)
 
 -- ---- an interface that holds no key
@@ -68,10 +68,10 @@ absent_in_front (rank ∷ front) back n absent =
 abbrev pub is_others : ℕ → ℕ → Bool
 is_others n rank = not (rank % 16 == n)
 
-kept : (n rank : ℕ) (ranks : List ℕ) → rank % 16 ≢ n → filter (is_others n) (rank ∷ ranks) ≡ rank ∷ filter (is_others n) ranks
+pub kept : (n rank : ℕ) (ranks : List ℕ) → rank % 16 ≢ n → filter (is_others n) (rank ∷ ranks) ≡ rank ∷ filter (is_others n) ranks
 kept n rank ranks other = ap (λ (b : Bool). cond (not b) (rank ∷ filter (is_others n) ranks) (filter (is_others n) ranks)) (ne_eqb (rank % 16) n other)
 
-left_out : (n rank : ℕ) (ranks : List ℕ) → rank % 16 ≡ n → filter (is_others n) (rank ∷ ranks) ≡ filter (is_others n) ranks
+pub left_out : (n rank : ℕ) (ranks : List ℕ) → rank % 16 ≡ n → filter (is_others n) (rank ∷ ranks) ≡ filter (is_others n) ranks
 left_out n rank ranks is = ap (λ (b : Bool). cond (not b) (rank ∷ filter (is_others n) ranks) (filter (is_others n) ranks)) (eq-eqb (rank % 16) n is)
 
 pub key_in-cleared : (n : ℕ) (ranks : List ℕ) → key_in (filter (is_others n) ranks) n ≡ None
@@ -286,7 +286,7 @@ sets old cleared new n key place rank inside is without put =
     others : (i : ℕ) → i ≢ n → key_in (insert cleared place rank) i ≡ key_in cleared i
     others i apart = key_in-put_others cleared place rank i (λ same. apart (sym same ∙ number))
 
-non_decreasing : (ranked : List ℕ) → AllPairs GoesBefore ranked → IsNonDecreasing ranked
+pub non_decreasing : (ranked : List ℕ) → AllPairs GoesBefore ranked → IsNonDecreasing ranked
 non_decreasing ranked ordered i j d up inside = elim (cases_eq i j) [
   | inl same ↦ rw same (omega arith)
   | inr apart ↦ omega (arith, (ordered i j d (omega arith) inside).0)

@@ -1,5 +1,5 @@
-use Rattle.std.specs.Prelude.{◌≢◌, ◌==◌, ◌<◌, ◌≡◌, ◌%◌, ◌/◌, ℕ, List, [], ◌∷◌, Option, Some, None, cond, map, length}
-use Rattle.std.specs.List.{range_with_len}
+use Rattle.std.specs.Prelude.{◌≢◌, ◌==◌, ◌<◌, ◌≡◌, ◌%◌, ◌/◌, ℕ, List, [], ◌∷◌, Option, Some, None, cond, map, length, slice_index_or, ◌≤◌}
+use Rattle.std.specs.List.{range_with_len, insert}
 use mathlib.Core.Path.{refl}
 
 -- The ranks of the interfaces that hold a key: a rank is the key times 16 plus the interface's number. What a
@@ -18,6 +18,11 @@ keys_in ranks = map (key_in ranks) (range_with_len 0 16)
 pub length-keys_in : (ranks : List ℕ) → length (keys_in ranks) ≡ 16
 unfolding keys_in
 length-keys_in ranks = refl
+
+-- these are the others with this rank put among them, behind those that are less and before those that are not
+abbrev pub IsPutAmong : List ℕ → ℕ → List ℕ → Type 0
+IsPutAmong others rank ranks = (place : ℕ) × (place ≤ length others) × (ranks ≡ insert others place rank)
+    × ((k d : ℕ) → k < place → slice_index_or others k d < rank) × ((k d : ℕ) → place ≤ k → k < length others → rank ≤ slice_index_or others k d)
 
 -- this rank goes before that one, which is another interface's
 abbrev pub GoesBefore : ℕ → ℕ → Type 0

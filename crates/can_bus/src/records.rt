@@ -111,6 +111,7 @@ impl Record {
     }
 
     /// Adds an entry. No memory is taken.
+    #[inline(always)]
     pub(crate) fn push(&mut self, event: Event, reply: Reply)
         requires room { length self.old.history < self.old.room }
         requires spelled { IsSpelled self.old.config (record { event = event; reply = reply }) }

@@ -1,11 +1,12 @@
-use Rattle.std.proofs.Common.{nat_cmp, ◌≢◌, inl, inr, ◌≡◌, ◌==◌, ℕ, ◌<◌, ◌||◌, Bool, true, false, List, [], ◌∷◌, ◌++◌, length, get_or, replicate, Result, refl, sym, ap, ◌∙◌, bit_and, arith, zero, suc, eq-eqb, ne_eqb, is_ok, Ok, Err}
+use Rattle.std.proofs.Common.{nat_cmp, All, IsTrue, true≢false, ◌≢◌, inl, inr, ◌≡◌, ◌==◌, ℕ, ◌<◌, ◌||◌, Bool, true, false, List, [], ◌∷◌, ◌++◌, length, get_or, replicate, Result, refl, sym, ap, ◌∙◌, bit_and, arith, zero, suc, eq-eqb, ne_eqb, is_ok, Ok, Err}
 use Rattle.std.specs.List.{list_any}
 use Rattle.std.specs.List.Sorted.{IsBinarySearchResult, IsNonDecreasing, IsPermutation}
 use Rattle.std.proofs.lemmas.List.Folds.{list_any-append}
 use Rattle.std.proofs.lemmas.List.Sorted.{searched, list_any-IsPermutation}
 use Rattle.std.proofs.lemmas.Bool.{cases_order}
+use Rattle.std.proofs.lemmas.Nat.{and_assoc}
 use Rattle.can_filter.specs.Filters.{CanFilter, matches}
-use Rattle.can_filter.specs.Lookups.{extended_mask, is_marked, is_listed, is_matched, is_found}
+use Rattle.can_filter.specs.Lookups.{extended_mask, is_extended, is_marked, is_listed, is_matched, is_found}
 
 -- Filters parted by how a word is looked up, and put together again.
 
@@ -72,6 +73,17 @@ found-none marks ids masked inverted e f g h word =
 pub found-sorted : (marks : List Bool) (old new : List ℕ) (masked inverted : List CanFilter) → IsPermutation old new → (word : ℕ) → is_found marks new masked inverted word ≡ is_found marks old masked inverted word
 found-sorted marks old new masked inverted moved word =
     ap (λ (b : Bool). is_marked marks word || (b || (is_matched masked word || is_matched inverted word))) (sym (list_any-IsPermutation (λ i. bit_and word extended_mask == i) old new moved))
+
+-- ---- words of another kind than those listed
+
+tag_left : (word : ℕ) → bit_and (bit_and word extended_mask) 3221225472 ≡ bit_and word 3221225472
+tag_left word = and_assoc 3221225472 word extended_mask
+
+pub unlisted : (ids : List ℕ) (word : ℕ) → All (λ id. IsTrue (is_extended id)) ids → is_extended word ≡ false → is_listed ids word ≡ false
+unlisted [] word tagged other = refl
+unlisted (id ∷ ids) word tagged other =
+    let apart : bit_and word extended_mask ≢ id = λ same. true≢false (sym (tagged 0 0 (omega arith)) ∙ (ap is_extended (sym same) ∙ (ap (λ (tag : ℕ). tag == 2147483648) (tag_left word) ∙ other))) in
+    ap (λ (b : Bool). b || is_listed ids word) (ne_eqb (bit_and word extended_mask) id apart) ∙ unlisted ids word (λ k d inside. tagged (suc k) d (omega arith)) other
 
 -- ---- a search by halves
 

@@ -1,4 +1,4 @@
-use Rattle.std.specs.Prelude.{◌≡◌, ◌==◌, ◌<◌, ⊤, ℕ, Bool, false, ◌||◌, List, slice_index_or, bit_and}
+use Rattle.std.specs.Prelude.{◌≡◌, ◌==◌, ◌<◌, ⊤, ℕ, Bool, false, ◌||◌, List, slice_index_or, bit_and, IsTrue}
 use Rattle.std.specs.List.{list_any}
 use Rattle.can_filter.specs.Filters.{CanFilter, matches}
 use Rattle.can_filter.specs.declared.lookups.Lookup.{Lookup}
@@ -13,6 +13,10 @@ standard_mask = 3221227519
 
 abbrev pub extended_mask : ℕ
 extended_mask = 3758096383
+
+-- a word of a 29-bit identifier, and of no remote frame
+abbrev pub is_extended : ℕ → Bool
+is_extended word = bit_and word 3221225472 == 2147483648
 
 -- the word's 11-bit data identifier is marked
 abbrev pub is_marked : List Bool → ℕ → Bool
@@ -33,6 +37,6 @@ is_found marks ids masked inverted word = is_marked marks word || (is_listed ids
 -- the look-up tells which words the filter matches
 abbrev pub IsLookedUpAs : CanFilter → Lookup → Type 0
 IsLookedUpAs f (Standard id) = (id < 2048) × ((word : ℕ) → matches f word ≡ (bit_and word standard_mask == id))
-IsLookedUpAs f (Extended id) = (word : ℕ) → matches f word ≡ (bit_and word extended_mask == id)
+IsLookedUpAs f (Extended id) = IsTrue (is_extended id) × ((word : ℕ) → matches f word ≡ (bit_and word extended_mask == id))
 IsLookedUpAs f Masked = ⊤
 IsLookedUpAs f Inverted = ⊤

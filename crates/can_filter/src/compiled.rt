@@ -6,7 +6,7 @@ ghost use Rattle.can_filter.specs.Lookups.{is_found, is_listed, is_marked, is_ma
 use crate::filters::Filter;
 use crate::gates::gate_of;
 use crate::joining::some_match;
-use crate::lookups::{EXTENDED, Parts, STANDARD};
+use crate::lookups::{EXTENDED, Parts, STANDARD, is_extended};
 use std::alloc::{AllocError, Global};
 
 /// A list of filters compiled for frames that have to match some filter.
@@ -32,15 +32,16 @@ impl Compiled {
         Ok(Compiled { parts, gate })
     }
 
-    /// Whether some filter matches the word. The time grows with the filters that are neither marked nor
-    /// listed, and with the logarithm of those that are listed.
+    /// Whether some filter matches the word, asked in the order of what it costs. The time grows with the
+    /// filters that are neither marked nor listed, and with the logarithm of those that are listed.
+    #[inline]
     pub fn finds(&self, word: u32) -> bool
         ensures { result ≡ is_found self.now.parts.standard self.now.parts.extended.items self.now.parts.masked.items self.now.parts.inverted.items word }
     {
-        self.is_marked(word)
+        self.is_masked(word)
+            || self.is_marked(word)
             || self.is_listed(word)
-            || self.is_masked(word)
-            || some_match(&self.parts.inverted, word)
+            || self.is_inverted(word)
     }
 
     fn is_marked(&self, word: u32) -> bool
@@ -55,13 +56,28 @@ impl Compiled {
     fn is_listed(&self, word: u32) -> bool
         ensures { result ≡ is_listed self.now.parts.extended.items word }
     {
-        let id = word & EXTENDED;
-        self.parts.extended.binary_search(&id).is_ok()
+        is_extended(word) && self.finds_listed(word)
     }
 
     fn is_masked(&self, word: u32) -> bool
         ensures { result ≡ is_matched self.now.parts.masked.items word }
     {
-        self.gate.agrees(word) && some_match(&self.parts.masked, word)
+        !self.parts.masked.is_empty()
+            && self.gate.agrees(word)
+            && some_match(&self.parts.masked, word)
+    }
+
+    fn is_inverted(&self, word: u32) -> bool
+        ensures { result ≡ is_matched self.now.parts.inverted.items word }
+    {
+        !self.parts.inverted.is_empty() && some_match(&self.parts.inverted, word)
+    }
+
+    #[inline(never)]
+    fn finds_listed(&self, word: u32) -> bool
+        ensures { result ≡ is_listed self.now.parts.extended.items word }
+    {
+        let id = word & EXTENDED;
+        self.parts.extended.binary_search(&id).is_ok()
     }
 }

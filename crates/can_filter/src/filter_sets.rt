@@ -97,6 +97,7 @@ impl FilterSet {
     /// Whether a data frame with this identifier word passes the filters, which are joined by AND where
     /// `join` says so and else by OR. Joined by OR, filters that single out one data identifier each are looked
     /// up all at once; else the time grows with the number of filters.
+    #[inline]
     pub fn passes(&self, word: u32, join: bool) -> bool
         ensures { result ≡ passes self.now join word }
     {

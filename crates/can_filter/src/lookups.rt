@@ -1,6 +1,6 @@
-ghost use Rattle.std.specs.Prelude.{◌≡◌, ◌<◌, ◌||◌, ℕ, OnOk, false, length};
+ghost use Rattle.std.specs.Prelude.{◌≡◌, ◌<◌, ◌||◌, ℕ, OnOk, false, length, All, IsTrue};
 ghost use Rattle.can_filter.specs.Filters.{matches};
-ghost use Rattle.can_filter.specs.Lookups.{IsLookedUpAs, is_found};
+ghost use Rattle.can_filter.specs.Lookups.{IsLookedUpAs, is_extended, is_found};
 
 use crate::filters::Filter;
 use std::alloc::{AllocError, Global};
@@ -34,9 +34,16 @@ pub fn lookup_of(filter: Filter) -> Lookup
     let id = filter.id() & filter.mask();
     match filter.mask() {
         STANDARD if id < 0x800 => Lookup::Standard(id),
-        EXTENDED if id & 0xC000_0000 == 0x8000_0000 => Lookup::Extended(id),
+        EXTENDED if is_extended(id) => Lookup::Extended(id),
         _ => Lookup::Masked,
     }
+}
+
+/// Whether a word is that of a 29-bit identifier, and of no remote frame.
+pub fn is_extended(word: u32) -> bool
+    ensures { result ≡ is_extended word }
+{
+    word & 0xC000_0000 == 0x8000_0000
 }
 
 /// Filters, parted by how a word is looked up among them.
@@ -47,6 +54,7 @@ pub struct Parts {
     pub masked: Vec<Filter>,
     pub inverted: Vec<Filter>,
     ghost marks: { length standard ≡ 2048 },
+    ghost tagged: { All (λ id. IsTrue (is_extended id)) extended.items },
 }
 
 impl Parts {

@@ -7,7 +7,7 @@ use Rattle.can_filter.proofs.lookups.Parts.add.Goals as goal
 pub returns-in_ok-push-in-Extended : goal.returns-in_ok-push-in-Extended
 returns-in_ok-push-in-Extended c = λ word.
     ap (λ (ids : List ℕ). is_found c.args.self.now.standard ids c.args.self.now.masked.items c.args.self.now.inverted.items word) c.in_ok-push-in-Extended.ensures.items
-    ∙ found-extended c.args.self.now.standard c.args.self.now.extended.items c.args.self.now.masked.items c.args.self.now.inverted.items word c.in-Extended.id (matches c.args.filter word) (c.in-Extended.ensures word)
+    ∙ found-extended c.args.self.now.standard c.args.self.now.extended.items c.args.self.now.masked.items c.args.self.now.inverted.items word c.in-Extended.id (matches c.args.filter word) (c.in-Extended.ensures.1 word)
 
 pub returns-in_ok-push-in-Masked : goal.returns-in_ok-push-in-Masked
 returns-in_ok-push-in-Masked c = λ word.
