@@ -12,7 +12,7 @@ _canbusd() {
     1,*) _canbusd_offer "bench serve audit help --help --version" ;;
     *,audit) compopt -o default ;;
     *,help) _canbusd_offer "bench serve audit" ;;
-    *,bench) _canbusd_word "$options --record" ;;
+    *,bench) _canbusd_word "$options --record --log" ;;
     *,serve) _canbusd_word "$options --listen --sessions --pace --out --until-eof" ;;
     esac
 }
@@ -21,7 +21,7 @@ _canbusd() {
 _canbusd_word() {
     case $before,$text in
     --ack,*) _canbusd_offer "always peers" ;;
-    --record,* | --listen,* | *@*) _canbusd_files -f default ;;
+    --record,* | --log,* | --listen,* | *@*) _canbusd_files -f default ;;
     --out,*) _canbusd_files -d dirnames ;;
     --txqueue,* | --rxqueue,* | --limit,* | --auto-restart,* | --sessions,* | --pace,*) ;;
     *) _canbusd_offer "$1" ;;

@@ -28,6 +28,7 @@ _canbusd() {
     bench)
         _arguments $shared \
             '--record=[write the record of the run]:file:_files' \
+            '--log=[write the frames of the run as candump logs them]:file:_files' \
             '1:bus:_canbusd_bus'
         ;;
     serve)

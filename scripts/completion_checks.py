@@ -26,6 +26,8 @@ TYPED = [
     ("canbusd bench --ack=always --rep", "ort "),
     ("canbusd bench --record ru", "n.rec "),
     ("canbusd bench --record=ru", "n.rec "),
+    ("canbusd bench --log ou", "t.txt "),
+    ("canbusd bench --log=ou", "t.txt "),
     ("canbusd serve --out=lo", "gs/"),
     ("canbusd serve --out lo", "gs/"),
     ("canbusd serve --until", "-eof "),

@@ -10,7 +10,8 @@ use can_frame::Names;
 use can_session::{BenchConfig, BenchFault, Unheard, bench_noting};
 use canbusd_faults::{Failure, Fault, fixed_note, reason_note};
 use canbusd_files::{
-    INPUT, OUTPUT, bus_config, limits_note, read_names, read_source, save_record, write_failure,
+    INPUT, OUTPUT, bus_config, limits_note, read_names, read_source, save_log, save_record,
+    without, write_failure,
 };
 use canbusd_options::BenchOptions;
 use std::alloc::{AllocError, Global};
@@ -18,8 +19,9 @@ use std::io::{Read, Write};
 use std::rt::Files;
 
 /// Runs the bench that the options describe, over the lines of an input. The names are looked at first, then the
-/// script, and then the limits of the bus. The record is written behind a run that came to its end, once all its
-/// output was written. What sessions were fed that is in no message is noted there.
+/// script, and then the limits of the bus. The record and the log are written behind a run that came to its end, once all
+/// its output was written: each also where the other fails, and a fault of the record comes first. What sessions were fed
+/// that is in no message is noted there.
 pub fn run_bench<'a, H: Files, R: Read + Drop, W: Write>(
     rt: &H,
     alloc: Global,
@@ -30,15 +32,52 @@ pub fn run_bench<'a, H: Files, R: Read + Drop, W: Write>(
 ) -> Result<(), Failure<'a>>
     ensures { OnOk result (IsBenched W.contents options.entry (R.remaining input) output.old output.new) }
 {
+    match run_out(rt, alloc, options, input, output, unheard) {
+        Ok(record) => save_run(rt, alloc, &options, &record),
+        Err(failure) => {
+            let failure = without(rt, alloc, failure, "record", options.record);
+            Err(without(rt, alloc, failure, "log", options.log))
+        }
+    }
+}
+
+// Runs the bench that the options describe, and writes all its output: also before a fault, which comes behind one of the
+// output.
+fn run_out<'a, H: Files, R: Read + Drop, W: Write>(
+    rt: &H,
+    alloc: Global,
+    options: BenchOptions<'a>,
+    input: R,
+    output: &mut W,
+    unheard: &mut Unheard,
+) -> Result<Record, Failure<'a>>
+    ensures { OnOk result (IsBenched W.contents options.entry (R.remaining input) output.old output.new) }
+{
     let names = read_names(alloc, options.bus.names)?;
-    let record = run_scripted(rt, alloc, options, names, input, output, unheard)?;
+    let ran = run_scripted(rt, alloc, options, names, input, output, unheard);
     output
         .flush()
         .map_err(|error| write_failure(alloc, OUTPUT, &error))?;
-    match options.record {
-        Some(path) => save_record(rt, alloc, path, &record),
+    ran
+}
+
+// Writes the record and the log of a run, where they are asked for.
+fn save_run<'a, H: Files>(
+    rt: &H,
+    alloc: Global,
+    options: &BenchOptions<'a>,
+    record: &Record,
+) -> Result<(), Failure<'a>> {
+    let recorded = match options.record {
+        Some(path) => save_record(rt, alloc, path, record),
         None => Ok(()),
-    }
+    };
+    let logged = match options.log {
+        Some(path) => save_log(rt, alloc, path, options.bus, record),
+        None => Ok(()),
+    };
+    recorded?;
+    logged
 }
 
 // Runs the bench of these names, with the faults of the script that the options name.

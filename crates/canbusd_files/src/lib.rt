@@ -14,4 +14,4 @@ mod scripts;
 pub use buses::{Source, bus_config, limits_note, read_source};
 pub use files::{INPUT, OUTPUT, read_file, read_text, write_failure};
 pub use names::{has_name, read_names};
-pub use saved::{save_log, save_record};
+pub use saved::{save_log, save_record, without};

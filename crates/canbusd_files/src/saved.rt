@@ -1,16 +1,18 @@
-//! The files that a run leaves: the record of a bus, and its log.
+//! The files that a run leaves: the record of a bus, and its log. Where it leaves none, a note says so.
 ghost use Rattle.std.specs.Prelude.{◌≡◌, reverse, OnOk};
 ghost use Rattle.std.specs.Io.KnownBytes.{Appends};
 ghost use Rattle.can_record.specs.Spelling.{record_spelling};
 ghost use Rattle.can_logfile.specs.Log.{joined, log_lines};
 
 use crate::files::write_failure;
+use crate::names::read_names;
 use can_bus::Record;
 use can_frame::Names;
 use can_logfile::write_tape;
 use can_record::write_record;
-use canbusd_faults::{Failure, Fault, reason_note};
-use std::alloc::Global;
+use canbusd_faults::{Failure, Fault, Shown, reason_note};
+use canbusd_options::BusWord;
+use std::alloc::{AllocError, Global};
 use std::fs;
 use std::io::{BufWriter, Error, ErrorKind, Write};
 use std::rt::Files;
@@ -27,18 +29,52 @@ pub fn save_record<'a, H: Files>(
     put_record(alloc, path, record, &mut file)
 }
 
-/// Writes the log of a record to the file with this path, in one write a line, so that a fault tells how many whole
-/// lines the file has. The log is called by this name.
+/// Writes the log of a bus's record to the file with this path, in one write a line, so that a fault tells how many
+/// whole lines the file has. It calls the log by the first name of the bus.
 pub fn save_log<'a, H: Files>(
     rt: &H,
     alloc: Global,
     path: &'a str,
-    name: &'a str,
-    names: &Names,
+    bus: BusWord<'a>,
     record: &Record,
 ) -> Result<(), Failure<'a>> {
+    let names = read_names(alloc, bus.names)?;
     let mut file = create(rt, alloc, path)?;
-    put_log(alloc, name, names, record, &mut file)
+    put_log(alloc, bus.first_name(), &names, record, &mut file)
+}
+
+/// A fault of a run that ended before it wrote this file of its own, the record or the log, if it was to write one: with
+/// a note that says so.
+pub fn without<'a, H: Files>(
+    rt: &H,
+    alloc: Global,
+    failure: Failure<'a>,
+    kind: &str,
+    path: Option<&str>,
+) -> Failure<'a>
+    ensures { result.fault ≡ failure.entry.fault }
+{
+    let Some(path) = path else {
+        return failure;
+    };
+    match unwritten_note(rt, alloc, kind, path) {
+        Ok(note) => failure.and(&note),
+        Err(_) => failure,
+    }
+}
+
+fn unwritten_note<H: Files>(
+    rt: &H,
+    alloc: Global,
+    kind: &str,
+    path: &str,
+) -> Result<String, AllocError> {
+    let file = Shown::whole(path);
+    let old = match fs::exists(rt, path) {
+        Ok(true) => ": the old file of this name stays as it is",
+        _ => "",
+    };
+    format!(in alloc; "  no {kind} was written to {file}{old}\n")
 }
 
 fn create<'a, H: Files>(rt: &H, alloc: Global, path: &'a str) -> Result<H::File, Failure<'a>> {

@@ -4,7 +4,7 @@ ghost use Rattle.std.specs.Prelude.{IsTrue};
 use can_bus::Record;
 use can_station::Settled;
 use canbusd_faults::{Failure, Fault, Telling};
-use canbusd_files::{read_names, save_log, save_record};
+use canbusd_files::{save_log, save_record};
 use canbusd_options::BusWord;
 use std::alloc::{AllocError, Global};
 use std::io::Write;
@@ -42,22 +42,11 @@ fn save_bus<H: Files, E: Write>(
         path_in(alloc, folder, name, "rec"),
     ) {
         (Ok(log), Ok(rec)) => {
-            telling.pass_on(save_log_of(rt, alloc, &log, bus, record));
+            telling.pass_on(save_log(rt, alloc, &log, *bus, record));
             telling.pass_on(save_record(rt, alloc, &rec, record));
         }
         _ => telling.pass_on(Err(Failure::new(alloc, Fault::NoMemory))),
     }
-}
-
-fn save_log_of<'a, H: Files>(
-    rt: &H,
-    alloc: Global,
-    path: &'a str,
-    bus: &'a BusWord<'_>,
-    record: &Record,
-) -> Result<(), Failure<'a>> {
-    let names = read_names(alloc, bus.names)?;
-    save_log(rt, alloc, path, bus.first_name(), &names, record)
 }
 
 fn path_in(alloc: Global, folder: &str, name: &str, kind: &str) -> Result<String, AllocError> {

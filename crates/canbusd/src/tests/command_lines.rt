@@ -40,6 +40,7 @@ fn reads_command_lines(rt: HostRuntime) -> Result<(), Fail> {
         "canbusd bench --ack",
         "canbusd bench --report=1 can0",
         "canbusd bench --record",
+        "canbusd bench --log",
         "canbusd serve --sessions 0 can0",
         "canbusd serve --sessions 4001 can0",
         "canbusd serve --sessions +5 can0",
@@ -57,6 +58,7 @@ fn reads_command_lines(rt: HostRuntime) -> Result<(), Fail> {
         "canbusd serve --listen",
         "canbusd serve --out",
         "canbusd serve --record run.rec can0",
+        "canbusd serve --log run.log can0",
         "canbusd audit",
         "canbusd audit a b",
     ];

@@ -37,27 +37,70 @@ fn writes_and_audits_records(rt: HostRuntime) -> Result<(), Fail> {
         audited,
     )?;
     fs::remove_file(&rt, RECORD)?;
-    // A run that ends in a fault makes no file.
-    let line = "canbusd bench --record written.rec can0";
-    let told =
-        "canbusd: line 1: bad line\n  standard input:1: attempt 1\n  nothing may follow attempt: each line makes one attempt\n";
-    let told = ("", told, 1);
-    runs(&rt, alloc, line, b"attempt 1\n".as_slice(), told)?;
-    let told =
-        "canbusd: cannot open written.rec\n  written.rec: No such file or directory (os error 2)\n";
-    let told = ("", told, 1);
-    runs(
-        &rt,
-        alloc,
-        "canbusd audit written.rec",
-        b"".as_slice(),
-        told,
-    )?;
     let told =
         "canbusd: cannot open none/written.rec\n  none/written.rec: No such file or directory (os error 2)\n";
     let told = ("", told, 1);
     let line = "canbusd bench --record none/written.rec can0";
     runs(&rt, alloc, line, b"".as_slice(), told)
+}
+
+#[test]
+fn makes_no_files_where_a_run_ends_in_a_fault(rt: HostRuntime) -> Result<(), Fail> {
+    let _sockets: Sockets = None;
+    let alloc = rt.alloc();
+    let line = "canbusd bench --record fault.rec --log fault.log can0";
+    let lines = b"attempt 1\n".as_slice();
+    let told = "canbusd: line 1: bad line
+  standard input:1: attempt 1
+  nothing may follow attempt: each line makes one attempt
+  no record was written to fault.rec
+  no log was written to fault.log
+";
+    runs(&rt, alloc, line, lines, ("", told, 1))?;
+    assert!(rt; !fs::exists(&rt, "fault.rec")? && !fs::exists(&rt, "fault.log")?);
+    fs::write(&rt, "fault.rec", b"old")?;
+    let told = "canbusd: cannot open none
+  none: No such file or directory (os error 2)
+  no record was written to fault.rec: the old file of this name stays as it is
+";
+    let line = "canbusd bench --record fault.rec can0@none";
+    runs(&rt, alloc, line, lines, ("", told, 1))?;
+    let old = fs::read_to_string(&rt, "fault.rec")?;
+    assert_eq!(rt; old.as_str(), "old");
+    fs::remove_file(&rt, "fault.rec")?;
+    Ok(())
+}
+
+#[test]
+fn writes_logs(rt: HostRuntime) -> Result<(), Fail> {
+    let _sockets: Sockets = None;
+    let alloc = rt.alloc();
+    let rest =
+        "feed 2 < send 12345678 0 >\nat 1436509052.249713\nattempt\nfeed 1 < send 123 2 1 ff >\nattempt\nattempt\n";
+    let wanted = "tried can1 0 done can0 -\ntried can0 0 done can1 -\nidle\n";
+    let logged = "(1436509052.249713) can1 12345678#\n(1436509052.249713) can0 123#01FF\n";
+    carries_out(
+        &rt,
+        alloc,
+        "canbusd bench --log run.log can0,can1",
+        rest,
+        wanted,
+    )?;
+    let log = fs::read_to_string(&rt, "run.log")?;
+    assert_eq!(rt; log.as_str(), logged);
+    // The log is written also where the record cannot be, whose fault is told.
+    fs::remove_file(&rt, "run.log")?;
+    let line = "canbusd bench --record none/run.rec --log run.log can0";
+    let told =
+        "canbusd: cannot open none/run.rec\n  none/run.rec: No such file or directory (os error 2)\n";
+    runs(&rt, alloc, line, b"".as_slice(), ("", told, 1))?;
+    let log = fs::read_to_string(&rt, "run.log")?;
+    assert!(rt; log.is_empty());
+    fs::remove_file(&rt, "run.log")?;
+    let line = "canbusd bench --log none/run.log can0";
+    let told =
+        "canbusd: cannot open none/run.log\n  none/run.log: No such file or directory (os error 2)\n";
+    runs(&rt, alloc, line, b"".as_slice(), ("", told, 1))
 }
 
 #[test]
