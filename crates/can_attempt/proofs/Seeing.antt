@@ -53,7 +53,8 @@ some_one false xs i = let same : length (xs ++ []) ≡ length xs + 0 = length-ap
 some_more : (h n : ℕ → Bool) (i : ℕ) → not (length (heard h n (suc i)) == 0) ≡ (not (length (heard h n i) == 0) || (h i && n i))
 some_more h n i = ap (λ ks. not (length ks == 0)) (heard_more h n i) ∙ some_one (h i && n i) (heard h n i) i
 
-pub seen_more : (h n a : ℕ → Bool) (i hit unhurt : ℕ) (x y : Bool) → Seen h n a i hit unhurt x y → (hit' unhurt' : ℕ) (x' y' : Bool) → hit' ≡ (if h i && n i then bit_or hit (2 ^ i) else hit) → unhurt' ≡ (if h i && not (n i) then bit_or unhurt (2 ^ i) else unhurt) → x' ≡ (x || (h i && n i && a i)) → y' ≡ (y || (h i && not (n i))) → Seen h n a (i + 1) hit' unhurt' x' y'
+pub seen_more : (h n a : ℕ → Bool) (i hit unhurt : ℕ) (x y : Bool) → Seen h n a i hit unhurt x y → (hit' unhurt' : ℕ) (x' y' : Bool) → hit' ≡ (if h i && n i then bit_or hit (2 ^ i) else hit)
+    → unhurt' ≡ (if h i && not (n i) then bit_or unhurt (2 ^ i) else unhurt) → x' ≡ (x || (h i && n i && a i)) → y' ≡ (y || (h i && not (n i))) → Seen h n a (i + 1) hit' unhurt' x' y'
 seen_more h n a i hit unhurt x y s hit' unhurt' x' y' eh eu ex ey =
     rw add-one (record {
       hit_bits = eh ∙ ap (λ b. if h i && n i then bit_or b (2 ^ i) else b) s.hit_bits;

@@ -15,7 +15,8 @@ use Rattle.can_errframe.specs.declared.sides.Side.{Side}
 use Rattle.can_errframe.specs.declared.sides.Side.TheVariants as side
 use Rattle.can_errframe.specs.declared.roles.Role.{Role}
 use Rattle.can_errframe.specs.declared.roles.Role.TheVariants.{Winner, Named, Other}
-use Rattle.can_errframe.specs.ErrorCodes.{err_crtl, err_prot, err_ack, err_busoff, err_buserror, err_restarted, err_cnt, crtl_rx_warning, crtl_tx_warning, crtl_rx_passive, crtl_tx_passive, crtl_active, prot_unspec, prot_bit, prot_form, prot_stuff, prot_tx, loc_unspec, loc_crc_seq, loc_data, loc_ack, loc_eof, loc_ack_del}
+use Rattle.can_errframe.specs.ErrorCodes.{err_crtl, err_prot, err_ack, err_busoff, err_buserror, err_restarted, err_cnt, crtl_rx_warning, crtl_tx_warning, crtl_rx_passive, crtl_tx_passive}
+use Rattle.can_errframe.specs.ErrorCodes.{crtl_active, prot_unspec, prot_bit, prot_form, prot_stuff, prot_tx, loc_unspec, loc_crc_seq, loc_data, loc_ack, loc_eof, loc_ack_del}
 
 -- Which error message frames tell of what. The numbers are those of linux/can/error.h, the choice of frames is
 -- an own one.

@@ -71,7 +71,10 @@ unfolding verdict_spelling local_spelling
 verdict-spelled names text v e =
     choice _ _ _ _ _ (local_spelling names (after text)) e (bytes_eq-Decides text (codes "good")).0 (bytes_eq-Decides text (codes "lastbit")).0 (bytes_eq-Decides text (codes "global bit")).0 (bytes_eq-Decides text (codes "global form")).0 behind
   where
-    choice : (a b c d f : Bool) (r : Result Verdict LineFault) → (if a then Ok Good else if b then Ok LastBit else if c then Ok (Global global.Bit) else if d then Ok (Global global.Form) else if f then r else Err line.BadLine) ≡ Ok v → (a ≡ true → text ≡ codes "good") → (b ≡ true → text ≡ codes "lastbit") → (c ≡ true → text ≡ codes "global bit") → (d ≡ true → text ≡ codes "global form") → (f ≡ true → r ≡ Ok v → SpellsVerdict names text v) → SpellsVerdict names text v
+    choice : (a b c d f : Bool) (r : Result Verdict LineFault)
+        → (if a then Ok Good else if b then Ok LastBit else if c then Ok (Global global.Bit) else if d then Ok (Global global.Form) else if f then r else Err line.BadLine) ≡ Ok v
+        → (a ≡ true → text ≡ codes "good") → (b ≡ true → text ≡ codes "lastbit") → (c ≡ true → text ≡ codes "global bit") → (d ≡ true → text ≡ codes "global form")
+        → (f ≡ true → r ≡ Ok v → SpellsVerdict names text v) → SpellsVerdict names text v
     choice true b c d f r e g h i j k = subst (SpellsVerdict names text) (let same : Good ≡ v = cc in same) (g refl)
     choice false true c d f r e g h i j k = subst (SpellsVerdict names text) (let same : LastBit ≡ v = cc in same) (h refl)
     choice false false true d f r e g h i j k = subst (SpellsVerdict names text) (let same : Global global.Bit ≡ v = cc in same) (i refl)
@@ -211,7 +214,10 @@ verdict-lacks : (names : List (List ℕ)) (text : List ℕ) → verdict_spelling
 unfolding verdict_spelling local_spelling
 verdict-lacks names text e = choice _ _ _ _ _ (local_spelling names (after text)) e behind
   where
-    choice : (a b c d f : Bool) (r : Result Verdict LineFault) → (if a then Ok Good else if b then Ok LastBit else if c then Ok (Global global.Bit) else if d then Ok (Global global.Form) else if f then r else Err line.BadLine) ≡ Err line.UnknownInterface → (f ≡ true → r ≡ Err line.UnknownInterface → (rest : List ℕ) × (text ≡ codes "local " ++ rest) × LacksAfter names rest) → (rest : List ℕ) × (text ≡ codes "local " ++ rest) × LacksAfter names rest
+    choice : (a b c d f : Bool) (r : Result Verdict LineFault)
+        → (if a then Ok Good else if b then Ok LastBit else if c then Ok (Global global.Bit) else if d then Ok (Global global.Form) else if f then r else Err line.BadLine) ≡ Err line.UnknownInterface
+        → (f ≡ true → r ≡ Err line.UnknownInterface → (rest : List ℕ) × (text ≡ codes "local " ++ rest) × LacksAfter names rest)
+        → (rest : List ℕ) × (text ≡ codes "local " ++ rest) × LacksAfter names rest
     choice true b c d f r e k = cc
     choice false true c d f r e k = cc
     choice false false true d f r e k = cc

@@ -35,7 +35,8 @@ added names set [] = Ok set
 added names set (piece ∷ pieces) = option_map_or (λ i. added names (with_iface set i) pieces) (place_of names piece) (Err UnknownInterface)
 
 -- one name more
-pub added-turn : (names pieces : List (List ℕ)) (set : IfaceSet) (n : ℕ) (piece : List ℕ) → (n < length pieces) × (piece ≡ get_or pieces n piece) → added names set (drop n pieces) ≡ option_map_or (λ i. added names (with_iface set i) (drop (n + 1) pieces)) (place_of names piece) (Err UnknownInterface)
+pub added-turn : (names pieces : List (List ℕ)) (set : IfaceSet) (n : ℕ) (piece : List ℕ) → (n < length pieces) × (piece ≡ get_or pieces n piece)
+    → added names set (drop n pieces) ≡ option_map_or (λ i. added names (with_iface set i) (drop (n + 1) pieces)) (place_of names piece) (Err UnknownInterface)
 added-turn names pieces set n piece h =
     at_drop_more (added names set) pieces n piece h.0
     ∙ ap (λ (p : List ℕ). option_map_or (λ i. added names (with_iface set i) (drop (n + 1) pieces)) (place_of names p) (Err UnknownInterface)) (sym h.1)
@@ -128,7 +129,8 @@ unfolding set_named
 added-named names set [] = ap (λ (n : ℕ). Ok (record { 0 = n })) (sym (ap (bit_or set.0) (bits_where-none (length names)) ∙ or-none set.0))
 added-named names set (piece ∷ pieces) =
     let named : ℕ → Bool = λ i. list_any (λ piece. option_eq nat_eq (place_of names piece) (Some i)) pieces in
-    elim (place_of names piece) as (λ o. place_of names piece ≡ o → option_map_or (λ i. added names (with_iface set i) pieces) o (Err UnknownInterface) ≡ (if is_some o && list_all (is_known names) pieces then Ok (joined set (set_where (λ i. option_eq nat_eq o (Some i) || named i) (length names))) else Err UnknownInterface)) [
+    elim (place_of names piece) as (λ o. place_of names piece ≡ o
+        → option_map_or (λ i. added names (with_iface set i) pieces) o (Err UnknownInterface) ≡ (if is_some o && list_all (is_known names) pieces then Ok (joined set (set_where (λ i. option_eq nat_eq o (Some i) || named i) (length names))) else Err UnknownInterface)) [
       | None ↦ λ _. refl
       | Some i ↦ λ e.
           let inside : i < length names = (position-Some (λ other. bytes_eq other piece) names i [] e).0 in

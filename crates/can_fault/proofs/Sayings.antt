@@ -14,7 +14,8 @@ use Rattle.can_fault.proofs.VerdictMaps.{contains_key-from_tree, from_tree-inser
 -- The lines of a script, one after another.
 
 -- the lines from place n on begin with what line n says
-pub said-turn : {Y : Type 0} (f : List Saying → Y) (names lines : List (List ℕ)) (n : ℕ) (line : List ℕ) (saying : Saying) → (n < length lines) × (line ≡ get_or lines n line) → saying ≡ line_spelling names line → f (map (line_spelling names) (drop n lines)) ≡ f (saying ∷ map (line_spelling names) (drop (n + 1) lines))
+pub said-turn : {Y : Type 0} (f : List Saying → Y) (names lines : List (List ℕ)) (n : ℕ) (line : List ℕ) (saying : Saying) → (n < length lines) × (line ≡ get_or lines n line)
+    → saying ≡ line_spelling names line → f (map (line_spelling names) (drop n lines)) ≡ f (saying ∷ map (line_spelling names) (drop (n + 1) lines))
 said-turn f names lines n line saying h said =
     let rest : List Saying = map (line_spelling names) (drop (n + 1) lines) in
     at_drop_more (λ ls. f (map (line_spelling names) ls)) lines n line h.0
@@ -22,7 +23,9 @@ said-turn f names lines n line saying h said =
     ∙ ap (λ (s : Saying). f (s ∷ rest)) (sym said)
 
 -- a verdict for an attempt that has none
-pub spelled_after-kept : (old new : BTreeMap ℕ Verdict) (n attempt : ℕ) (verdict : Verdict) (more : List Saying) → None ≡ tree.get nat_cmp old attempt → tree.Updates nat_cmp old new attempt (Some verdict) → spelled_after (from_entries {R = nat_cmp} old.entries) n (Ok (Some (attempt, verdict)) ∷ more) ≡ spelled_after (from_entries {R = nat_cmp} new.entries) (n + 1) more
+pub spelled_after-kept : (old new : BTreeMap ℕ Verdict) (n attempt : ℕ) (verdict : Verdict) (more : List Saying) → None ≡ tree.get nat_cmp old attempt
+    → tree.Updates nat_cmp old new attempt (Some verdict)
+    → spelled_after (from_entries {R = nat_cmp} old.entries) n (Ok (Some (attempt, verdict)) ∷ more) ≡ spelled_after (from_entries {R = nat_cmp} new.entries) (n + 1) more
 spelled_after-kept old new n attempt verdict more absent updates =
     ap (λ b. if b then Err (RepeatedAttempt n) else spelled_after (insert (from_entries old.entries) attempt verdict) (n + 1) more) (contains_key-from_tree old attempt ∙ ap is_some (sym absent))
     ∙ ap (λ known. spelled_after known (n + 1) more) (sym (from_tree-insert old new attempt verdict updates))

@@ -128,7 +128,9 @@ past_silent known n more place (script.RepeatedAttempt m) (number, (attempt, now
     (omega (arith, number), (attempt, now, there, ⊎_elim inl (λ (before, given). inr (before, (suc given.0, given.1))) had))
 past_silent known n more place script.NoMemory h = h
 
-had_before : (known : VerdictMap) (a : ℕ) (w : Verdict) (more : List Saying) (place attempt : ℕ) → (contains_key (insert known a w) attempt ≡ true) ⊎ ((before : Verdict) × Gives (take place more) attempt before) → (contains_key known attempt ≡ true) ⊎ ((before : Verdict) × Gives (take (suc place) (Ok (Some (a, w)) ∷ more)) attempt before)
+had_before : (known : VerdictMap) (a : ℕ) (w : Verdict) (more : List Saying) (place attempt : ℕ)
+    → (contains_key (insert known a w) attempt ≡ true) ⊎ ((before : Verdict) × Gives (take place more) attempt before)
+    → (contains_key known attempt ≡ true) ⊎ ((before : Verdict) × Gives (take (suc place) (Ok (Some (a, w)) ∷ more)) attempt before)
 had_before known a w more place attempt (inr (before, given)) = inr (before, (suc given.0, given.1))
 had_before known a w more place attempt (inl has) =
     ⊎_elim (λ same. inr (w, (zero, ap (λ (k : ℕ). Some (Ok (Some (k, w)))) (sym same)))) (λ apart. inl (ap is_some (sym (get-apart known a w attempt apart)) ∙ has)) (cases_eq attempt a)
@@ -150,7 +152,9 @@ first_fault known n (Ok None ∷ more) fault e =
     let rest = first_fault known (n + 1) more fault e in
     (suc rest.0, rest.1, past_silent known n more rest.0 fault rest.2)
 first_fault known n (Ok (Some (a, w)) ∷ more) fault e =
-    elim (contains_key known a) as (λ b. contains_key known a ≡ b → (if b then Err (script.RepeatedAttempt n) else spelled_after (insert known a w) (n + 1) more) ≡ Err fault → (place : ℕ) × IsOk (spelled_after known n (take place (Ok (Some (a, w)) ∷ more))) × HasFaultAfter known n (Ok (Some (a, w)) ∷ more) place fault) [
+    elim (contains_key known a) as (λ b. contains_key known a ≡ b
+        → (if b then Err (script.RepeatedAttempt n) else spelled_after (insert known a w) (n + 1) more) ≡ Err fault
+        → (place : ℕ) × IsOk (spelled_after known n (take place (Ok (Some (a, w)) ∷ more))) × HasFaultAfter known n (Ok (Some (a, w)) ∷ more) place fault) [
       | true ↦ λ there r.
           let same : script.RepeatedAttempt n ≡ fault = cc in
           (zero, refl, subst (HasFaultAfter known n (Ok (Some (a, w)) ∷ more) zero) same (omega arith, (a, w, refl, inl there)))
@@ -184,7 +188,8 @@ before_entry known n a w more place (script.UnknownInterface m) h = (omega (arit
 before_entry known n a w more place (script.RepeatedAttempt m) (number, (attempt, now, there, inl has)) =
     (omega (arith, number), (attempt, now, there, inl (⊎_elim (λ same. ap (contains_key (insert known a w)) same ∙ contains-here known a w) (λ apart. ap is_some (get-apart known a w attempt apart) ∙ has) (cases_eq attempt a))))
 before_entry known n a w more place (script.RepeatedAttempt m) (number, (attempt, now, there, inr (before, given))) =
-    (omega (arith, number), (attempt, now, there, ⊎_elim (λ same. inl (ap (λ (x : ℕ × Verdict). contains_key (insert known a w) x.0) (sym (same_entry (a, w) (attempt, before) same)) ∙ contains-here known a w)) (λ later. inr (before, later)) (Gives-cons (Ok (Some (a, w))) (take place more) attempt before given)))
+    (omega (arith, number), (attempt, now, there, ⊎_elim (λ same. inl (ap (λ (x : ℕ × Verdict). contains_key (insert known a w) x.0) (sym (same_entry (a, w) (attempt, before) same)) ∙ contains-here known a w))
+        (λ later. inr (before, later)) (Gives-cons (Ok (Some (a, w))) (take place more) attempt before given)))
 before_entry known n a w more place script.NoMemory h = h
 
 own_fault : (known : VerdictMap) (n : ℕ) (own : LineFault) (more : List Saying) (fault : ScriptError) → HasFaultAfter known n (Err own ∷ more) zero fault → at_line n own ≡ fault

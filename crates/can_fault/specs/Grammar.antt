@@ -37,4 +37,5 @@ SpellsEntry names text attempt verdict = (digits : List ℕ) × (rest : List ℕ
 
 -- a line that is a number and a local fault for well-formed names, of which the bus lacks some
 abbrev pub LacksInterface : List (List ℕ) → List ℕ → Type 0
-LacksInterface names text = (digits : List ℕ) × (kind : LocalKind) × (list : List ℕ) × (text ≡ digits ++ 32 ∷ (codes "local " ++ (kind_word kind ++ 32 ∷ list))) × IsTrue (is_number digits) × IsTrue (list_all is_name (names_in list)) × (list_all (λ piece. is_some (place_of names piece)) (names_in list) ≡ false)
+LacksInterface names text = (digits : List ℕ) × (kind : LocalKind) × (list : List ℕ)
+    × (text ≡ digits ++ 32 ∷ (codes "local " ++ (kind_word kind ++ 32 ∷ list))) × IsTrue (is_number digits) × IsTrue (list_all is_name (names_in list)) × (list_all (λ piece. is_some (place_of names piece)) (names_in list) ≡ false)

@@ -30,7 +30,8 @@ both_parts (Some (n, r)) name rows first second =
 both_parts None name rows first second = absurd (search rules)
 
 -- a command was met, with these rows, and the job is what it asks for
-pub asked_by : (c : Command) (words : List Text) (m : ArgMatches) (j : Job) (name : Text) (rows : List Row) → app_of c ≡ program → HasMatchesOf (app_of c) words m → subcommand_name_of m ≡ Some name → option_map (λ (p : Text × List Row). p.1) (subcommand_rows_of m) ≡ Some rows → Asks (Some (name, rows)) j → IsAsked words j
+pub asked_by : (c : Command) (words : List Text) (m : ArgMatches) (j : Job) (name : Text) (rows : List Row) → app_of c ≡ program → HasMatchesOf (app_of c) words m
+    → subcommand_name_of m ≡ Some name → option_map (λ (p : Text × List Row). p.1) (subcommand_rows_of m) ≡ Some rows → Asks (Some (name, rows)) j → IsAsked words j
 asked_by c words m j name rows is has met found asks =
     let ours : subcommand_rows_of m ≡ Some (name, rows) = both_parts _ name rows (named m ∙ met) found in
     subst (λ o. Asks o j) (sym ours ∙ (has (ap is_simple is ∙ simple)).1 ∙ ap (λ (a : App). subcommand_of a words) is) asks

@@ -17,7 +17,9 @@ all : (n : ℕ) (ds : List ℕ) → number_after 10 (Some n) ds ≡ cond (list_a
 all n [] = refl
 all n (d ∷ ds) = by_digit (is_ascii_digit d) refl (all (n * 10 + digit_value d) ds)
   where
-    by_digit : (b : Bool) → is_ascii_digit d ≡ b → number_after 10 (Some (n * 10 + digit_value d)) ds ≡ cond (list_all is_ascii_digit ds) (Some (digits_value_after 10 (n * 10 + digit_value d) ds)) None → number_after 10 (Some n) (d ∷ ds) ≡ cond (b && list_all is_ascii_digit ds) (Some (digits_value_after 10 n (d ∷ ds))) None
+    by_digit : (b : Bool) → is_ascii_digit d ≡ b
+        → number_after 10 (Some (n * 10 + digit_value d)) ds ≡ cond (list_all is_ascii_digit ds) (Some (digits_value_after 10 (n * 10 + digit_value d) ds)) None
+        → number_after 10 (Some n) (d ∷ ds) ≡ cond (b && list_all is_ascii_digit ds) (Some (digits_value_after 10 n (d ∷ ds))) None
     by_digit true is rest = ap (λ (o : Option ℕ). number_after 10 o ds) (digit n d is) ∙ rest
     by_digit false not rest = ap (λ (o : Option ℕ). number_after 10 o ds) (other n d not)
 
