@@ -35,8 +35,8 @@ same_class t u s =
     let active : list_any (λ i. not (is_passive (state_at t i))) (hit t) ≡ list_any (λ i. not (is_passive (state_at u i))) (hit t) =
     any_same (λ i. not (is_passive (state_at t i))) (λ i. not (is_passive (state_at u i))) (hit t)
     (λ i among. ap (λ (k : ErrorCounts). not (is_passive (state_of k)))
-        (let struck_there : (is_named t.verdict i && (can_hear t i && nat_lt i t.count)) ≡ true = sym (is_among-hit t i) ∙ among in
-        s.live i (hit_below (is_named t.verdict i) (can_hear t i) i t.count struck_there) (live_hit (is_named t.verdict i) (is_off (state_at t i)) (not (i == t.winner)) (nat_lt i t.count) struck_there))) in
+    (let struck_there : (is_named t.verdict i && (can_hear t i && nat_lt i t.count)) ≡ true = sym (is_among-hit t i) ∙ among in
+    s.live i (hit_below (is_named t.verdict i) (can_hear t i) i t.count struck_there) (live_hit (is_named t.verdict i) (is_off (state_at t i)) (not (i == t.winner)) (nat_lt i t.count) struck_there))) in
     let destroyed : is_destroyed t ≡ is_destroyed u =
     ap (λ (b : Bool). is_global t.verdict || b) (active ∙ ap (list_any (λ i. not (is_passive (state_at u i)))) struck)
     ∙ ap (λ (v : Verdict). is_global v || list_any (λ i. not (is_passive (state_at u i))) (hit u)) s.verdict in

@@ -130,7 +130,7 @@ added-named names set [] = ap (λ (n : ℕ). Ok (record { 0 = n })) (sym (ap (bi
 added-named names set (piece ∷ pieces) =
     let named : ℕ → Bool = λ i. list_any (λ piece. option_eq nat_eq (place_of names piece) (Some i)) pieces in
     elim (place_of names piece) as (λ o. place_of names piece ≡ o
-        → option_map_or (λ i. added names (with_iface set i) pieces) o (Err UnknownInterface) ≡ (if is_some o && list_all (is_known names) pieces then Ok (joined set (set_where (λ i. option_eq nat_eq o (Some i) || named i) (length names))) else Err UnknownInterface)) [
+    → option_map_or (λ i. added names (with_iface set i) pieces) o (Err UnknownInterface) ≡ (if is_some o && list_all (is_known names) pieces then Ok (joined set (set_where (λ i. option_eq nat_eq o (Some i) || named i) (length names))) else Err UnknownInterface)) [
       | None ↦ λ _. refl
       | Some i ↦ λ e.
           let inside : i < length names = (position-Some (λ other. bytes_eq other piece) names i [] e).0 in

@@ -153,8 +153,8 @@ first_fault known n (Ok None ∷ more) fault e =
     (suc rest.0, rest.1, past_silent known n more rest.0 fault rest.2)
 first_fault known n (Ok (Some (a, w)) ∷ more) fault e =
     elim (contains_key known a) as (λ b. contains_key known a ≡ b
-        → (if b then Err (script.RepeatedAttempt n) else spelled_after (insert known a w) (n + 1) more) ≡ Err fault
-        → (place : ℕ) × IsOk (spelled_after known n (take place (Ok (Some (a, w)) ∷ more))) × HasFaultAfter known n (Ok (Some (a, w)) ∷ more) place fault) [
+    → (if b then Err (script.RepeatedAttempt n) else spelled_after (insert known a w) (n + 1) more) ≡ Err fault
+    → (place : ℕ) × IsOk (spelled_after known n (take place (Ok (Some (a, w)) ∷ more))) × HasFaultAfter known n (Ok (Some (a, w)) ∷ more) place fault) [
       | true ↦ λ there r.
           let same : script.RepeatedAttempt n ≡ fault = cc in
           (zero, refl, subst (HasFaultAfter known n (Ok (Some (a, w)) ∷ more) zero) same (omega arith, (a, w, refl, inl there)))
@@ -187,9 +187,16 @@ before_entry known n a w more place (script.BadLine m) h = (omega (arith, h.0), 
 before_entry known n a w more place (script.UnknownInterface m) h = (omega (arith, h.0), h.1)
 before_entry known n a w more place (script.RepeatedAttempt m) (number, (attempt, now, there, inl has)) =
     (omega (arith, number), (attempt, now, there, inl (⊎_elim (λ same. ap (contains_key (insert known a w)) same ∙ contains-here known a w) (λ apart. ap is_some (get-apart known a w attempt apart) ∙ has) (cases_eq attempt a))))
-before_entry known n a w more place (script.RepeatedAttempt m) (number, (attempt, now, there, inr (before, given))) =
-    (omega (arith, number), (attempt, now, there, ⊎_elim (λ same. inl (ap (λ (x : ℕ × Verdict). contains_key (insert known a w) x.0) (sym (same_entry (a, w) (attempt, before) same)) ∙ contains-here known a w))
-        (λ later. inr (before, later)) (Gives-cons (Ok (Some (a, w))) (take place more) attempt before given)))
+before_entry known n a w more place (script.RepeatedAttempt m) (number, (attempt, now, there, inr (before, given))) = (
+  omega (arith, number),
+  (
+    attempt,
+    now,
+    there,
+    ⊎_elim (λ same. inl (ap (λ (x : ℕ × Verdict). contains_key (insert known a w) x.0) (sym (same_entry (a, w) (attempt, before) same)) ∙ contains-here known a w))
+        (λ later. inr (before, later)) (Gives-cons (Ok (Some (a, w))) (take place more) attempt before given),
+  ),
+)
 before_entry known n a w more place script.NoMemory h = h
 
 own_fault : (known : VerdictMap) (n : ℕ) (own : LineFault) (more : List Saying) (fault : ScriptError) → HasFaultAfter known n (Err own ∷ more) zero fault → at_line n own ≡ fault
