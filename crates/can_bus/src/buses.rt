@@ -10,9 +10,7 @@ ghost use Rattle.can_bus.specs.Transmit.{tape};
 ghost use Rattle.can_bus.specs.declared.events.Event.TheVariants as event;
 ghost use Rattle.can_bus.specs.declared.events.Reply.TheVariants as reply;
 
-use crate::events::{
-    Attempt, BusConfig, Closed, Event, Opt, Pending, Received, Refusal, SocketId,
-};
+use crate::events::{Attempt, BusConfig, Closed, Event, Opt, Pending, Received, Refusal, SocketId};
 use crate::records::Record;
 use crate::replies::{
     attempt_reply, closed_reply, done_reply, is_no_memory, opened_reply, received_reply, sent_reply,

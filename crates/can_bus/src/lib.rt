@@ -27,7 +27,8 @@ pub mod stats;
 pub use attempts::begun_anew;
 pub use buses::{Bus, BusFault, ListBus, RingBus};
 pub use events::{
-    Attempt, BusConfig, Closed, Entry, Event, Opt, Pending, Received, Refusal, Reply, SocketId, Tried,
+    Attempt, BusConfig, Closed, Entry, Event, Opt, Pending, Received, Refusal, Reply, SocketId,
+    Tried,
 };
 pub use outcomes::Attempted;
 pub use records::Record;
