@@ -1,7 +1,7 @@
 ghost use Rattle.std.specs.Prelude.{◌≡◌, ◌+◌, ◌<◌, ◌≤◌, ◌^◌, All, replicate};
 ghost use Rattle.can_bus.specs.Changes.{AreReady, Attempts, Restarts, Tries, after_auto_restart, begun_anew};
 
-use crate::events::{Attempt, BusConfig, Pending, Received, Refusal, Tried};
+use can_event::{Attempt, BusConfig, Pending, Received, Refusal, Tried};
 use crate::lines;
 use crate::posting::{self, News};
 use crate::state::State;

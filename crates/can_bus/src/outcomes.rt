@@ -1,7 +1,7 @@
 ghost use Rattle.std.specs.Prelude.{◌≡◌};
 ghost use Rattle.can_bus.specs.Attempted.{IsJudged};
 
-use crate::events::{Pending, Tried};
+use can_event::{Pending, Tried};
 use can_attempt::{AckMode, Class, Judgement, Nodes};
 use can_errframe::{Role, fault_frame, state_frame};
 use can_fault::Verdict;

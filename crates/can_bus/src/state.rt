@@ -4,7 +4,7 @@ ghost use Rattle.std.specs.List.{list_any};
 ghost use Rattle.can_bus.specs.State.{kept_parts};
 
 use crate::countdowns::Countdown;
-use crate::events::{BusConfig, Pending, Received};
+use can_event::{BusConfig, Pending, Received};
 use crate::line::Line;
 use crate::lines;
 use crate::socket::Socket;

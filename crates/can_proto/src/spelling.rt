@@ -5,7 +5,7 @@ ghost use Rattle.can_proto.specs.declared.answers.Answer.TheVariants.{Refused};
 
 use crate::answers::{Answer, Cause};
 use crate::texts::{ItemText, Text, push_next};
-use can_bus::{IfaceStats, SocketStats};
+use can_event::{IfaceStats, SocketStats};
 use can_confine::{Counters, State};
 use can_frame::{ErrorFrame, Frame, Item, Moment};
 

@@ -1,6 +1,6 @@
 ghost use Rattle.std.specs.Prelude.{◌≡◌, ◌++◌, [], All, IfOk, OnOk, reverse};
 ghost use Rattle.std.specs.Io.KnownBytes.{Appends};
-ghost use Rattle.can_bus.specs.Spelled.{FitsReply, IsSpelled};
+ghost use Rattle.can_event.specs.Spelled.{FitsReply, IsSpelled};
 ghost use Rattle.can_record.specs.Spelling.{answered_line, entry_line, entry_lines, record_spelling};
 
 use crate::lines::{FIRST_LINE, put_answered, put_bus, put_end, put_line};

@@ -1,6 +1,6 @@
 ghost use Rattle.std.specs.Prelude.{IsTrue, ◌↔◌};
-ghost use Rattle.can_bus.specs.Spelled.{LeavesEntry, IsNumbered, AreNumbered, FitsReply, MayRestart, IsSpelled};
-ghost use Rattle.can_bus.specs.declared.events.Reply.TheVariants as reply;
+ghost use Rattle.can_event.specs.Spelled.{LeavesEntry, IsNumbered, AreNumbered, FitsReply, MayRestart, IsSpelled};
+ghost use Rattle.can_event.specs.declared.events.Reply.TheVariants as reply;
 
 use crate::events::{BusConfig, Entry, Event, Received, Refusal, Reply, Tried};
 use can_frame::{IfaceSet, Item};

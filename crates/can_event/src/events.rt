@@ -1,7 +1,5 @@
 ghost use Rattle.std.specs.Prelude.{◌≡◌, ◌↔◌, IsTrue, IfOk};
-ghost use Rattle.can_bus.specs.Journal.{IsConfig};
-ghost use Rattle.can_bus.specs.Posts.{tried_item};
-ghost use Rattle.can_bus.specs.Sockets.{with_option};
+ghost use Rattle.can_event.specs.Events.{IsConfig, tried_item, with_option};
 
 use can_attempt::{AckMode, Class};
 use can_fault::Verdict;
