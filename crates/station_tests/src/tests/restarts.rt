@@ -56,8 +56,17 @@ fn comes_back<N: RollName + MeterName + Send + Sync, R: Threads + Wait + Abort +
     assert!(rt; woken(rt, &mut caller, Awaited::Work, Act::Send(sender)) == Wake::Ready);
     assert!(rt; matches!(caller.step(34), Ok(Attempt::Tried(_))));
     assert!(rt; woken(rt, &mut caller, Awaited::Work, Act::Stop) == Wake::Stopped);
-    let settled = settled(rt, station, Vec::new(alloc), one(rt, alloc, gauge));
+    let passes = one(rt, alloc, caller.leave());
+    let settled = settled(rt, station, passes, one(rt, alloc, gauge));
     assert!(rt; settled.history.len() == 41);
+}
+
+/// The class of an error message frame; 0 of any other frame.
+fn class_of(item: &Item) -> u32 {
+    match item {
+        Item::Error(message) => message.class(),
+        Item::Data(_) => 0,
+    }
 }
 
 /// The socket is told of a restart, once.
@@ -69,10 +78,7 @@ fn is_told<N: RollName + MeterName, R: Wait + Abort>(
     let Ok(Some(received)) = caller.receive(sender) else {
         panic!(rt; "no item");
     };
-    let Item::Error(message) = received.item else {
-        panic!(rt; "no error message frame");
-    };
-    assert!(rt; message.class() == 0x100);
+    assert!(rt; class_of(&received.item) == 0x100);
     assert!(rt; caller.receive(sender) == Ok(None));
 }
 
