@@ -68,21 +68,40 @@ fn is_wanted(place: u32, reply: &Reply) -> bool {
     }
 }
 
-/// The driver steps until nobody counts, and then waits: there is no attempt but these.
-#[test]
-fn a_driver_steps_until_an_interface_is_back(rt: HostRuntime) {
-    let alloc = rt.alloc();
-    let names = names(&rt, alloc, "can0,can1");
-    let mut bench = held_bench(&rt, alloc, names, script(&rt, alloc, SCRIPT), Open);
-    bench.config.auto_restart = 2;
-    let benches = one(&rt, alloc, bench);
-    let record = record::<Brand, _>(&rt, alloc, benches, Entrance::new(&rt, 2));
+/// There is no attempt but these.
+fn comes_back<N: RollName + MeterName + Send + Sync, R: Machine>(
+    rt: &R,
+    alloc: Global,
+    benches: Vec<Bench<Script, Open>>,
+)
+    requires { NamedFrom N.roll N.meter 0 benches.items }
+{
+    let entrance = Entrance::new(rt, 2);
+    let kept = record::<N, _>(rt, alloc, benches, entrance);
     let mut attempts = 0_u32;
-    for entry in record.entries() {
+    for entry in kept.entries() {
         if matches!(entry.reply, Reply::Tried(_) | Reply::Idle(_)) {
-            assert!(&rt; is_wanted(attempts, &entry.reply));
+            assert!(rt; is_wanted(attempts, &entry.reply));
             attempts = attempts.wrapping_add(1);
         }
     }
-    assert!(&rt; attempts == 35);
+    assert!(rt; attempts == 35);
+}
+
+/// The same bus, whose interfaces are restarted in the second attempt after they went off.
+fn restarting(mut bench: Bench<Script, Open>) -> Bench<Script, Open> {
+    bench.config.auto_restart = 2;
+    bench
+}
+
+/// The driver steps until nobody counts, and then waits.
+#[test]
+fn a_driver_steps_until_an_interface_is_back(rt: HostRuntime) {
+    // The checker has to meet the types of the run before its call.
+    let _types: Option<(Record, Entrance)> = None;
+    let alloc = rt.alloc();
+    let (names, faults) = (names(&rt, alloc, "can0,can1"), script(&rt, alloc, SCRIPT));
+    let bench = restarting(held_bench(&rt, alloc, names, faults, Open));
+    let benches = one(&rt, alloc, bench);
+    comes_back::<Brand, _>(&rt, alloc, benches);
 }
