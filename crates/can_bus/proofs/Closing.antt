@@ -1,13 +1,13 @@
 use Rattle.std.proofs.Common.{◌≡◌, ℕ, ◌==◌, not, List, ◌∷◌, length, map, filter, drop, remove, Result, Ok, Err, refl, sym, ap, ◌∙◌}
 use Rattle.std.proofs.lemmas.Bool.{cond-true}
 use Rattle.std.proofs.lemmas.List.{length-drop}
-use Rattle.can_bus.specs.declared.events.Entry.{Entry}
-use Rattle.can_bus.specs.declared.events.BusConfig.{BusConfig}
-use Rattle.can_bus.specs.declared.events.Closed.{Closed}
-use Rattle.can_bus.specs.declared.events.Refusal.{Refusal}
-use Rattle.can_bus.specs.declared.events.SocketId.{SocketId}
-use Rattle.can_bus.specs.declared.events.Event.TheVariants.{Close}
-use Rattle.can_bus.specs.declared.events.Reply.TheVariants as reply
+use Rattle.can_event.specs.declared.events.Entry.{Entry}
+use Rattle.can_event.specs.declared.events.BusConfig.{BusConfig}
+use Rattle.can_event.specs.declared.events.Closed.{Closed}
+use Rattle.can_event.specs.declared.events.Refusal.{Refusal}
+use Rattle.can_event.specs.declared.events.SocketId.{SocketId}
+use Rattle.can_event.specs.declared.events.Event.TheVariants.{Close}
+use Rattle.can_event.specs.declared.events.Reply.TheVariants as reply
 use Rattle.can_bus.specs.Answer.{told}
 use Rattle.can_bus.specs.Sockets.{places, open_sockets, is_open}
 use Rattle.can_bus.specs.Queues.{queued_to, taken_from, dropped_at}

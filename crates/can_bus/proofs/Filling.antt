@@ -7,7 +7,7 @@ use Rattle.can_frame.specs.Frames.{ErrorMessage}
 use Rattle.can_frame.specs.Sets.{is_in}
 use Rattle.can_attempt.specs.Attempts.{counts_at, counts_after}
 use Rattle.can_errframe.specs.ErrorMessages.{state_message}
-use Rattle.can_bus.specs.declared.events.Received.{Received}
+use Rattle.can_event.specs.declared.events.Received.{Received}
 use Rattle.can_bus.specs.declared.posting.News.{News}
 use Rattle.can_bus.specs.Attempted.{transmission_of}
 use Rattle.can_bus.specs.News.{told_news}

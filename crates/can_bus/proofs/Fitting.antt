@@ -12,15 +12,15 @@ use Rattle.can_confine.specs.Confinement.{is_off}
 use Rattle.can_fault.specs.declared.verdicts.Verdict.{Verdict}
 use Rattle.can_attempt.specs.Attempts.{Transmission, counts_after, set_of}
 use Rattle.can_errframe.specs.ErrorMessages.{state_message, restart_message}
-use Rattle.can_bus.specs.declared.events.BusConfig.{BusConfig}
-use Rattle.can_bus.specs.declared.events.Entry.{Entry}
-use Rattle.can_bus.specs.declared.events.Event.{Event}
-use Rattle.can_bus.specs.declared.events.Event.TheVariants.{Open, Close, SetFilters, SetOption, Send, Receive, Attempt, Restart}
-use Rattle.can_bus.specs.declared.events.Pending.{Pending}
-use Rattle.can_bus.specs.declared.events.Received.{Received}
-use Rattle.can_bus.specs.declared.events.Reply.{Reply}
-use Rattle.can_bus.specs.declared.events.Reply.TheVariants as reply
-use Rattle.can_bus.specs.declared.events.Tried.{Tried}
+use Rattle.can_event.specs.declared.events.BusConfig.{BusConfig}
+use Rattle.can_event.specs.declared.events.Entry.{Entry}
+use Rattle.can_event.specs.declared.events.Event.{Event}
+use Rattle.can_event.specs.declared.events.Event.TheVariants.{Open, Close, SetFilters, SetOption, Send, Receive, Attempt, Restart}
+use Rattle.can_event.specs.declared.events.Pending.{Pending}
+use Rattle.can_event.specs.declared.events.Received.{Received}
+use Rattle.can_event.specs.declared.events.Reply.{Reply}
+use Rattle.can_event.specs.declared.events.Reply.TheVariants as reply
+use Rattle.can_event.specs.declared.events.Tried.{Tried}
 use Rattle.can_bus.specs.Sockets.{open_sockets, is_open, iface_of, capacity_of, filters_of, options_of}
 use Rattle.can_bus.specs.Transmit.{sent_by, gone_count, head_of}
 use Rattle.can_bus.specs.Counters.{state_at, transmission}
@@ -28,8 +28,9 @@ use Rattle.can_bus.specs.Attempts.{winner, attempt_reply, tried_head}
 use Rattle.can_bus.specs.Posts.{Post, is_looped_back, is_own, data_posts, error_posts, attempt_posts, auto_restart_posts, posts_of, fault_message_for, role_at}
 use Rattle.can_bus.specs.Queues.{passing, candidates_of, queued_to, taken_from}
 use Rattle.can_bus.specs.Legal.{legal_reply, IsLegal}
-use Rattle.can_bus.specs.AutoRestart.{attempts_off, is_nth_after, is_due, restarted_in, restarted_next}
-use Rattle.can_bus.specs.Spelled.{IsNumbered, AreNumbered, FitsReply, MayRestart, IsSpelled}
+use Rattle.can_bus.specs.AutoRestart.{attempts_off, is_nth_after, is_due, restarted_next}
+use Rattle.can_event.specs.Events.{restarted_in}
+use Rattle.can_event.specs.Spelled.{IsNumbered, AreNumbered, FitsReply, MayRestart, IsSpelled}
 
 -- Each legal reply fits its event, so that each entry of a legal history has a line.
 

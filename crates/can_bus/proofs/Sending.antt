@@ -3,17 +3,17 @@ use Rattle.std.proofs.lemmas.Bool.{eq-eqb, ne_eqb, cond-true, cond-false}
 use Rattle.std.proofs.lemmas.List.{length_push, length-drop, drop-append-le}
 use Rattle.can_frame.specs.Frames.{CanFrame}
 use Rattle.can_confine.specs.Confinement.{is_off}
-use Rattle.can_bus.specs.declared.events.Entry.{Entry}
-use Rattle.can_bus.specs.declared.events.BusConfig.{BusConfig}
-use Rattle.can_bus.specs.declared.events.Pending.{Pending}
-use Rattle.can_bus.specs.declared.events.Refusal.{Refusal}
-use Rattle.can_bus.specs.declared.events.Refusal.TheVariants as refusal
-use Rattle.can_bus.specs.declared.events.SocketId.{SocketId}
-use Rattle.can_bus.specs.declared.events.Event.TheVariants.{Send}
-use Rattle.can_bus.specs.declared.events.Reply.TheVariants as reply
+use Rattle.can_event.specs.declared.events.Entry.{Entry}
+use Rattle.can_event.specs.declared.events.BusConfig.{BusConfig}
+use Rattle.can_event.specs.declared.events.Pending.{Pending}
+use Rattle.can_event.specs.declared.events.Refusal.{Refusal}
+use Rattle.can_event.specs.declared.events.Refusal.TheVariants as refusal
+use Rattle.can_event.specs.declared.events.SocketId.{SocketId}
+use Rattle.can_event.specs.declared.events.Event.TheVariants.{Send}
+use Rattle.can_event.specs.declared.events.Reply.TheVariants as reply
 use Rattle.can_bus.specs.Answer.{told}
 use Rattle.can_bus.specs.Counters.{state_at}
-use Rattle.can_bus.specs.Journal.{IsConfig}
+use Rattle.can_event.specs.Events.{IsConfig}
 use Rattle.can_bus.specs.Legal.{legal_reply, IsLegal}
 use Rattle.can_bus.specs.Sockets.{iface_of, is_open}
 use Rattle.can_bus.specs.Transmit.{sent_by, gone_count, head_of}

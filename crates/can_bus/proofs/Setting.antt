@@ -1,17 +1,18 @@
 use Rattle.std.proofs.Common.{◌≡◌, ◌≢◌, ℕ, ◌==◌, List, ◌∷◌, length, Result, Ok, Err, if◌then◌else◌, refl, sym, ap, ◌∙◌}
 use Rattle.std.proofs.lemmas.Bool.{eq-eqb, ne_eqb, cond-true, cond-false}
 use Rattle.can_filter.specs.Filters.{CanFilter}
-use Rattle.can_bus.specs.declared.events.Entry.{Entry}
-use Rattle.can_bus.specs.declared.events.BusConfig.{BusConfig}
-use Rattle.can_bus.specs.declared.events.Event.{Event}
-use Rattle.can_bus.specs.declared.events.Event.TheVariants.{SetFilters, SetOption}
-use Rattle.can_bus.specs.declared.events.Opt.{Opt}
-use Rattle.can_bus.specs.declared.events.Refusal.{Refusal}
-use Rattle.can_bus.specs.declared.events.Reply.TheVariants as reply
-use Rattle.can_bus.specs.declared.events.Refusal.TheVariants as refusal
-use Rattle.can_bus.specs.declared.events.SocketId.{SocketId}
+use Rattle.can_event.specs.declared.events.Entry.{Entry}
+use Rattle.can_event.specs.declared.events.BusConfig.{BusConfig}
+use Rattle.can_event.specs.declared.events.Event.{Event}
+use Rattle.can_event.specs.declared.events.Event.TheVariants.{SetFilters, SetOption}
+use Rattle.can_event.specs.declared.events.Opt.{Opt}
+use Rattle.can_event.specs.declared.events.Refusal.{Refusal}
+use Rattle.can_event.specs.declared.events.Reply.TheVariants as reply
+use Rattle.can_event.specs.declared.events.Refusal.TheVariants as refusal
+use Rattle.can_event.specs.declared.events.SocketId.{SocketId}
 use Rattle.can_bus.specs.Answer.{told, done_reply}
-use Rattle.can_bus.specs.Sockets.{places, open_sockets, is_open, filters_of, options_of, with_option}
+use Rattle.can_bus.specs.Sockets.{places, open_sockets, is_open, filters_of, options_of}
+use Rattle.can_event.specs.Events.{with_option}
 use Rattle.can_bus.specs.Legal.{legal_reply}
 use Rattle.can_bus.specs.State.{SocketState, Parts, kept_socket, kept_sockets, kept_lines, kept_keys, kept_nodes, kept_left, kept_parts}
 use Rattle.can_bus.specs.Changes.{Sets}

@@ -1,12 +1,12 @@
 use Rattle.std.specs.Prelude.{◌≡◌, ◌<◌, ◌≤◌, ◌∷◌, length, Result, Ok, Err}
-use Rattle.can_bus.specs.declared.events.Attempt.{Attempt}
-use Rattle.can_bus.specs.declared.events.Attempt.TheVariants as attempt
-use Rattle.can_bus.specs.declared.events.Event.{Event}
-use Rattle.can_bus.specs.declared.events.Event.TheVariants.{Open, SetFilters}
-use Rattle.can_bus.specs.declared.events.Reply.{Reply}
-use Rattle.can_bus.specs.declared.events.Reply.TheVariants as reply
-use Rattle.can_bus.specs.declared.events.Refusal.{Refusal}
-use Rattle.can_bus.specs.declared.events.Refusal.TheVariants as refusal
+use Rattle.can_event.specs.declared.events.Attempt.{Attempt}
+use Rattle.can_event.specs.declared.events.Attempt.TheVariants as attempt
+use Rattle.can_event.specs.declared.events.Event.{Event}
+use Rattle.can_event.specs.declared.events.Event.TheVariants.{Open, SetFilters}
+use Rattle.can_event.specs.declared.events.Reply.{Reply}
+use Rattle.can_event.specs.declared.events.Reply.TheVariants as reply
+use Rattle.can_event.specs.declared.events.Refusal.{Refusal}
+use Rattle.can_event.specs.declared.events.Refusal.TheVariants as refusal
 use Rattle.can_bus.specs.Journal.{Journal}
 use Rattle.can_bus.specs.Legal.{legal_reply}
 

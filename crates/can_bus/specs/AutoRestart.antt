@@ -1,24 +1,18 @@
 use Rattle.std.specs.Prelude.{ℕ, suc, ◌-◌, ◌==◌, Bool, false, not, List, [], ◌∷◌, filter, Option, Some, None, if◌then◌else◌}
 use Rattle.std.specs.List.{list_any, range_with_len}
 use Rattle.std.specs.Option.{option_map}
-use Rattle.can_frame.specs.Sets.{is_in, no_ifaces}
+use Rattle.can_frame.specs.Sets.{is_in}
 use Rattle.can_frame.specs.declared.ifaces.IfaceSet.{IfaceSet}
 use Rattle.can_attempt.specs.Attempts.{set_of}
-use Rattle.can_bus.specs.declared.events.BusConfig.{BusConfig}
-use Rattle.can_bus.specs.declared.events.Entry.{Entry}
-use Rattle.can_bus.specs.declared.events.Event.{Event}
-use Rattle.can_bus.specs.declared.events.Event.TheVariants.{Restart}
-use Rattle.can_bus.specs.declared.events.Reply.{Reply}
-use Rattle.can_bus.specs.declared.events.Reply.TheVariants as reply
+use Rattle.can_event.specs.declared.events.BusConfig.{BusConfig}
+use Rattle.can_event.specs.declared.events.Entry.{Entry}
+use Rattle.can_event.specs.declared.events.Event.{Event}
+use Rattle.can_event.specs.declared.events.Event.TheVariants.{Restart}
+use Rattle.can_event.specs.declared.events.Reply.{Reply}
+use Rattle.can_event.specs.declared.events.Reply.TheVariants as reply
 
 -- Automatic restart: an interface that went bus off comes back by itself in the n-th attempt after that, where
 -- the bus is made with the number n (own choice; 0 for never).
-
--- the interfaces that a reply names as restarted by its attempt
-abbrev pub restarted_in : Reply → IfaceSet
-restarted_in (reply.Idle restarted) = restarted
-restarted_in (reply.Tried t) = t.restarted
-restarted_in _ = no_ifaces
 
 abbrev pub attempts_off_after : Event → Reply → ℕ → Option ℕ → Option ℕ
 attempts_off_after e (reply.Idle restarted) i before = if is_in i restarted then None else option_map suc before

@@ -8,7 +8,6 @@ pub mod Posts
 pub mod Queues
 pub mod Offers
 pub mod Legal
-pub mod Spelled
 pub mod Copies
 pub mod Repeats
 pub mod Fates
@@ -23,3 +22,5 @@ pub mod Stats
 pub use Rattle.can_frame.specs.Frames
 pub use Rattle.can_frame.specs.Sets
 pub use Rattle.can_filter.specs.Passing
+pub use Rattle.can_event.specs.Events
+pub use Rattle.can_event.specs.Spelled

@@ -9,17 +9,18 @@ use Rattle.can_attempt.specs.Attempts.{Transmission, is_among, receivers, hit, c
 use Rattle.can_errframe.specs.ErrorMessages.{fault_message, state_message, restart_message}
 use Rattle.can_errframe.specs.declared.roles.Role.{Role}
 use Rattle.can_errframe.specs.declared.roles.Role.TheVariants as role
-use Rattle.can_bus.specs.declared.events.BusConfig.{BusConfig}
-use Rattle.can_bus.specs.declared.events.Entry.{Entry}
-use Rattle.can_bus.specs.declared.events.Event.{Event}
-use Rattle.can_bus.specs.declared.events.Event.TheVariants.{Attempt, Restart}
-use Rattle.can_bus.specs.declared.events.Pending.{Pending}
-use Rattle.can_bus.specs.declared.events.Received.{Received}
-use Rattle.can_bus.specs.declared.events.Reply.{Reply}
-use Rattle.can_bus.specs.declared.events.Reply.TheVariants as reply
-use Rattle.can_bus.specs.declared.events.Tried.{Tried}
+use Rattle.can_event.specs.declared.events.BusConfig.{BusConfig}
+use Rattle.can_event.specs.declared.events.Entry.{Entry}
+use Rattle.can_event.specs.declared.events.Event.{Event}
+use Rattle.can_event.specs.declared.events.Event.TheVariants.{Attempt, Restart}
+use Rattle.can_event.specs.declared.events.Pending.{Pending}
+use Rattle.can_event.specs.declared.events.Received.{Received}
+use Rattle.can_event.specs.declared.events.Reply.{Reply}
+use Rattle.can_event.specs.declared.events.Reply.TheVariants as reply
+use Rattle.can_event.specs.declared.events.Tried.{Tried}
 use Rattle.can_bus.specs.Transmit.{sent_by, is_done}
 use Rattle.can_bus.specs.Counters.{transmission}
+use Rattle.can_event.specs.Events.{tried_item}
 
 -- What an entry puts to the sockets of an interface.
 
@@ -37,10 +38,6 @@ is_looped_back k (Some p) = is_done k && p.loopback
 abbrev pub sender_in : Option Pending → Option ℕ
 sender_in None = None
 sender_in (Some p) = Some p.socket.0
-
--- a frame that was tried, as a socket receives it
-abbrev pub tried_item : Tried → Received
-tried_item t = record { item = item.Data t.frame; from = t.winner; number = t.number; moment = t.moment }
 
 -- a frame that was tried is put to the interfaces that accepted it, and looped back to the winner's
 abbrev pub data_posts : ℕ → Tried → Option Pending → List Post

@@ -1,12 +1,12 @@
 use Rattle.std.specs.Prelude.{◌≡◌, ℕ, ◌+◌, ◌≤◌, ◌==◌, List, ◌∷◌, count_by, Some}
 use Rattle.can_attempt.specs.declared.classes.Class.TheVariants as class
 use Rattle.can_fault.specs.declared.verdicts.Verdict.TheVariants as verdict
-use Rattle.can_bus.specs.declared.events.BusConfig.{BusConfig}
-use Rattle.can_bus.specs.declared.events.Entry.{Entry}
-use Rattle.can_bus.specs.declared.events.Event.TheVariants.{Attempt}
-use Rattle.can_bus.specs.declared.events.Pending.{Pending}
-use Rattle.can_bus.specs.declared.events.Reply.TheVariants as reply
-use Rattle.can_bus.specs.declared.events.Tried.{Tried}
+use Rattle.can_event.specs.declared.events.BusConfig.{BusConfig}
+use Rattle.can_event.specs.declared.events.Entry.{Entry}
+use Rattle.can_event.specs.declared.events.Event.TheVariants.{Attempt}
+use Rattle.can_event.specs.declared.events.Pending.{Pending}
+use Rattle.can_event.specs.declared.events.Reply.TheVariants as reply
+use Rattle.can_event.specs.declared.events.Tried.{Tried}
 use Rattle.can_bus.specs.Transmit.{gone_count, head_of}
 use Rattle.can_bus.specs.Counters.{counts_of}
 use Rattle.can_bus.specs.Queues.{queued_to}

@@ -3,13 +3,12 @@ use Rattle.std.specs.List.{list_any}
 use Rattle.can_filter.specs.Filters.{CanFilter}
 use Rattle.can_filter.specs.declared.socket_options.Options.{Options}
 use Rattle.can_filter.specs.Passing.{receives_all, default_options}
-use Rattle.can_bus.specs.declared.events.Event.{Event}
-use Rattle.can_bus.specs.declared.events.Event.TheVariants.{Open, Close, SetFilters, SetOption}
-use Rattle.can_bus.specs.declared.events.Opt.{Opt}
-use Rattle.can_bus.specs.declared.events.Opt.TheVariants as opt
-use Rattle.can_bus.specs.declared.events.Reply.{Reply}
-use Rattle.can_bus.specs.declared.events.Reply.TheVariants as reply
-use Rattle.can_bus.specs.declared.events.Entry.{Entry}
+use Rattle.can_event.specs.declared.events.Event.{Event}
+use Rattle.can_event.specs.declared.events.Event.TheVariants.{Open, Close, SetFilters, SetOption}
+use Rattle.can_event.specs.declared.events.Reply.{Reply}
+use Rattle.can_event.specs.declared.events.Reply.TheVariants as reply
+use Rattle.can_event.specs.declared.events.Entry.{Entry}
+use Rattle.can_event.specs.Events.{with_option}
 
 -- The sockets of a bus, by its history. A history is the list of a bus's entries so far, the newest
 -- first: before an entry stands what came before it.
@@ -57,12 +56,6 @@ iface_of past s = iface_in (slice_get (places past) s)
 -- how many items may wait on socket s
 abbrev pub capacity_of : List Entry → ℕ → ℕ
 capacity_of past s = capacity_in (slice_get (places past) s)
-
-abbrev pub with_option : Opt → Options → Options
-with_option (opt.Loopback on) o = record o { loopback = on }
-with_option (opt.RecvOwn on) o = record o { recv_own = on }
-with_option (opt.Join on) o = record o { join = on }
-with_option (opt.ErrMask mask) o = record o { err_mask = mask }
 
 abbrev pub options_after : Event → Reply → ℕ → Options → Options
 options_after (SetOption s option) reply.Done k before = if k == s.0 then with_option option before else before

@@ -5,11 +5,12 @@ use Rattle.can_filter.specs.Filters.{CanFilter}
 use Rattle.can_filter.specs.declared.socket_options.Options.{Options}
 use Rattle.can_frame.specs.Arbitration.{key_of}
 use Rattle.can_attempt.specs.declared.nodes.Nodes.{Nodes}
-use Rattle.can_bus.specs.declared.events.Entry.{Entry}
-use Rattle.can_bus.specs.declared.events.Received.{Received}
-use Rattle.can_bus.specs.declared.events.Pending.{Pending}
-use Rattle.can_bus.specs.declared.events.BusConfig.{BusConfig}
-use Rattle.can_bus.specs.Journal.{Kept, IsConfig}
+use Rattle.can_event.specs.declared.events.Entry.{Entry}
+use Rattle.can_event.specs.declared.events.Received.{Received}
+use Rattle.can_event.specs.declared.events.Pending.{Pending}
+use Rattle.can_event.specs.declared.events.BusConfig.{BusConfig}
+use Rattle.can_bus.specs.Journal.{Kept}
+use Rattle.can_event.specs.Events.{IsConfig}
 use Rattle.can_bus.specs.Sockets.{places, open_sockets, iface_of, capacity_of, filters_of, options_of}
 use Rattle.can_bus.specs.Transmit.{sent_by, gone_count, done_count, refused_count, head_of, tape}
 use Rattle.can_bus.specs.Counters.{counts_of}

@@ -4,13 +4,13 @@ ghost use Rattle.can_confine.specs.Confinement.{at_start};
 ghost use Rattle.can_attempt.specs.Attempts.{counts_at};
 ghost use Rattle.can_bus.specs.Changes.{AreReady, Attempts, Restarts, Tries, after_auto_restart, begun_anew};
 
-use crate::events::{Attempt, BusConfig, Pending, Received, Refusal, Tried};
 use crate::lines;
 use crate::posting::{self, News};
 use crate::state::State;
 use can_arbiter::Arbiter;
 use can_attempt::{Judgement, Nodes, judge};
 use can_confine::Counters;
+use can_event::{Attempt, BusConfig, Pending, Received, Refusal, Tried};
 use can_fault::Verdict;
 use can_frame::{Iface, IfaceSet, Moment};
 use can_queue::BoundedQueue;

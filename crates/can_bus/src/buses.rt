@@ -3,22 +3,24 @@ ghost use Rattle.can_bus.specs.Answer.{Answers, done_reply, told_attempt};
 ghost use Rattle.can_bus.specs.Attempts.{winner};
 ghost use Rattle.can_bus.specs.AutoRestart.{is_counting};
 ghost use Rattle.can_bus.specs.Headline.{Headline};
-ghost use Rattle.can_bus.specs.Journal.{IsConfig};
+ghost use Rattle.can_event.specs.Events.{IsConfig};
 ghost use Rattle.can_bus.specs.Legal.{IsLegal};
 ghost use Rattle.can_bus.specs.Stats.{socket_stats_of, iface_stats_of, all_counts};
 ghost use Rattle.can_bus.specs.Transmit.{tape};
-ghost use Rattle.can_bus.specs.declared.events.Event.TheVariants as event;
-ghost use Rattle.can_bus.specs.declared.events.Reply.TheVariants as reply;
+ghost use Rattle.can_event.specs.declared.events.Event.TheVariants as event;
+ghost use Rattle.can_event.specs.declared.events.Reply.TheVariants as reply;
 
-use crate::events::{Attempt, BusConfig, Closed, Event, Opt, Pending, Received, Refusal, SocketId};
 use crate::records::Record;
 use crate::replies::{
     attempt_reply, closed_reply, done_reply, is_no_memory, opened_reply, received_reply, sent_reply,
 };
 use crate::state::State;
-use crate::stats::{IfaceStats, SocketStats};
 use can_arbiter::{Arbiter, IndexArbiter, ScanArbiter};
 use can_confine::Counters;
+use can_event::{
+    Attempt, BusConfig, Closed, Event, IfaceStats, Opt, Pending, Received, Refusal, SocketId,
+    SocketStats,
+};
 use can_fault::Verdict;
 use can_filter::FilterSet;
 use can_frame::{Frame, Iface, Moment};

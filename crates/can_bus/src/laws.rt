@@ -5,7 +5,7 @@ ghost use Rattle.can_frame.specs.Sets.{is_in};
 ghost use Rattle.can_confine.specs.Confinement.{is_off, at_start};
 ghost use Rattle.can_fault.specs.declared.verdicts.Verdict.{Verdict};
 ghost use Rattle.can_attempt.specs.declared.classes.Class.TheVariants as class;
-ghost use Rattle.can_bus.specs.Journal.{IsConfig};
+ghost use Rattle.can_event.specs.Events.{IsConfig};
 ghost use Rattle.can_bus.specs.Transmit.{sent_by, gone_count, done_count, lost_count, head_of};
 ghost use Rattle.can_bus.specs.Counters.{state_at, counts_of};
 ghost use Rattle.can_bus.specs.Copies.{received_from, copying, copy_of, numbers_from, NeverFall, went_over, InTurn, IsOfSent};
@@ -16,17 +16,17 @@ ghost use Rattle.can_bus.specs.Offers.{Offer, offers_to, with_room, without_room
 ghost use Rattle.can_bus.specs.Sockets.{places, open_sockets, is_open, iface_of, capacity_of};
 ghost use Rattle.can_bus.specs.Fates.{numbers_given, opening, closing, is_restart_of, frames_with, goes_off};
 ghost use Rattle.can_bus.specs.Fates.Fate.{Waiting, Done, Lost};
-ghost use Rattle.can_bus.specs.declared.events.Closed.{Closed};
-ghost use Rattle.can_bus.specs.declared.events.SocketId.{SocketId};
+ghost use Rattle.can_event.specs.declared.events.Closed.{Closed};
+ghost use Rattle.can_event.specs.declared.events.SocketId.{SocketId};
 ghost use Rattle.can_bus.specs.Legal.{legal_reply, IsLegal};
-ghost use Rattle.can_bus.specs.Spelled.{IsSpelled};
-ghost use Rattle.can_bus.specs.declared.events.Event.TheVariants as event;
-ghost use Rattle.can_bus.specs.declared.events.Reply.TheVariants as reply;
-ghost use Rattle.can_bus.specs.declared.events.Refusal.TheVariants as refusal;
-ghost use Rattle.can_bus.specs.declared.events.Entry.{Entry};
-ghost use Rattle.can_bus.specs.declared.events.Tried.{Tried};
+ghost use Rattle.can_event.specs.Spelled.{IsSpelled};
+ghost use Rattle.can_event.specs.declared.events.Event.TheVariants as event;
+ghost use Rattle.can_event.specs.declared.events.Reply.TheVariants as reply;
+ghost use Rattle.can_event.specs.declared.events.Refusal.TheVariants as refusal;
+ghost use Rattle.can_event.specs.declared.events.Entry.{Entry};
+ghost use Rattle.can_event.specs.declared.events.Tried.{Tried};
 
-use crate::events::BusConfig;
+use can_event::BusConfig;
 
 // What holds of every legal history, in the words of the field. Each body is empty: the clause is the law.
 

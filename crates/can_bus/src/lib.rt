@@ -9,7 +9,6 @@
 mod attempts;
 pub mod buses;
 mod countdowns;
-pub mod events;
 pub mod laws;
 mod line;
 mod lines;
@@ -20,18 +19,14 @@ mod replies;
 pub mod runs;
 mod socket;
 mod sockets;
-pub mod spelled;
 mod state;
-pub mod stats;
 
 pub use attempts::begun_anew;
 pub use buses::{Bus, BusFault, ListBus, RingBus};
-pub use events::{
-    Attempt, BusConfig, Closed, Entry, Event, Opt, Pending, Received, Refusal, Reply, SocketId,
-    Tried,
+pub use can_event::{
+    Attempt, BusConfig, Closed, Entry, Event, IfaceStats, Opt, Pending, Received, Refusal, Reply,
+    SocketId, SocketStats, Tried, is_spelled,
 };
 pub use outcomes::Attempted;
 pub use records::Record;
 pub use runs::{RunFault, answer, run};
-pub use spelled::is_spelled;
-pub use stats::{IfaceStats, SocketStats};

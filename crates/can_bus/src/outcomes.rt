@@ -1,9 +1,9 @@
 ghost use Rattle.std.specs.Prelude.{◌≡◌};
 ghost use Rattle.can_bus.specs.Attempted.{IsJudged};
 
-use crate::events::{Pending, Tried};
 use can_attempt::{AckMode, Class, Judgement, Nodes};
 use can_errframe::{Role, fault_frame, state_frame};
+use can_event::{Pending, Tried};
 use can_fault::Verdict;
 use can_frame::{ErrorFrame, Iface};
 use std::marker::Model;

@@ -1,14 +1,15 @@
 ghost use Rattle.std.specs.Prelude.{◌≡◌, ◌<◌, ◌+◌, ◌^◌, All, Some, map};
 ghost use Rattle.can_bus.specs.News.{told_news};
-ghost use Rattle.can_bus.specs.Posts.{restart_posts, auto_restart_posts, data_posts, error_posts, tried_item};
+ghost use Rattle.can_bus.specs.Posts.{restart_posts, auto_restart_posts, data_posts, error_posts};
+ghost use Rattle.can_event.specs.Events.{tried_item};
 ghost use Rattle.can_bus.specs.Queues.{passing};
 ghost use Rattle.can_bus.specs.State.{filled, reached};
 
-use crate::events::{BusConfig, Pending, Received, Tried};
 use crate::outcomes::Attempted;
 use crate::socket::Socket;
 use can_attempt::{Judgement, Nodes};
 use can_errframe::restart_frame;
+use can_event::{BusConfig, Pending, Received, Tried};
 use can_fault::Verdict;
 use can_frame::{ErrorFrame, Iface, IfaceSet, Item, Moment};
 use can_queue::BoundedQueue;

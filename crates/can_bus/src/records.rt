@@ -1,9 +1,8 @@
 ghost use Rattle.std.specs.Prelude.{◌≡◌, ◌<◌, ◌≤◌, ◌^◌, ◌==◌, [], length, All, IfOk, IsSome, IfSome, IsTrue, ◌↔◌};
-ghost use Rattle.can_bus.specs.Journal.{IsConfig};
-ghost use Rattle.can_bus.specs.Spelled.{IsSpelled, IsRecord};
+ghost use Rattle.can_event.specs.Events.{IsConfig};
+ghost use Rattle.can_event.specs.Spelled.{IsSpelled, IsRecord};
 
-use crate::events::{BusConfig, Entry, Event, Received, Reply};
-use crate::spelled::is_spelled;
+use can_event::{BusConfig, Entry, Event, Received, Reply, is_spelled};
 use can_frame::Item;
 use std::alloc::{AllocError, Global};
 use std::marker::Model;
@@ -21,7 +20,7 @@ pub struct Record {
 impl Model for Record {
     ghost use Rattle.std.specs.Prelude.{reverse, vec_capacity};
     ghost use Rattle.can_bus.specs.Journal.{Kept};
-    ghost use Rattle.can_bus.specs.Spelled.{IsRecord};
+    ghost use Rattle.can_event.specs.Spelled.{IsRecord};
 
     ghost Value = { Kept };
 

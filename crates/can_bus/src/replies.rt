@@ -1,8 +1,8 @@
 ghost use Rattle.std.specs.Prelude.{◌≡◌, ◌↔◌, IsTrue};
 ghost use Rattle.can_bus.specs.Answer.{told, done_reply, told_attempt};
-ghost use Rattle.can_bus.specs.declared.events.Reply.TheVariants as reply;
+ghost use Rattle.can_event.specs.declared.events.Reply.TheVariants as reply;
 
-use crate::events::{Attempt, Closed, Received, Refusal, Reply, SocketId};
+use can_event::{Attempt, Closed, Received, Refusal, Reply, SocketId};
 
 // The reply that the record keeps of each call's answer.
 

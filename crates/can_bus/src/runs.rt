@@ -4,11 +4,11 @@ ghost use Rattle.can_bus.specs.Run.{IsAnswer, AreAnswers, history_after, history
 ghost use Rattle.can_bus.specs.Legal.{IsLegal};
 
 use crate::buses::Bus;
-use crate::events::{Event, Pending, Received, Reply};
 use crate::replies::{
     attempt_reply, closed_reply, done_reply, opened_reply, received_reply, sent_reply,
 };
 use can_arbiter::Arbiter;
+use can_event::{Event, Pending, Received, Reply};
 use can_frame::Item;
 use can_queue::BoundedQueue;
 use std::alloc::Global;

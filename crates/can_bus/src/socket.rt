@@ -1,12 +1,12 @@
 ghost use Rattle.std.specs.Prelude.{◌≡◌, ◌+◌, ◌<◌, ◌^◌, ◌≤◌, [], ◌∷◌, ◌++◌, length, slice_get, IfOk, Some, None, Err, ◌≢◌};
 ghost use Rattle.can_bus.specs.Changes.{fresh, relieved};
 ghost use Rattle.can_bus.specs.Queues.{passing};
-ghost use Rattle.can_bus.specs.Sockets.{with_option};
+ghost use Rattle.can_event.specs.Events.{with_option};
 ghost use Rattle.can_bus.specs.State.{filled};
 ghost use Rattle.std.specs.Option.{option_map};
-ghost use Rattle.can_bus.specs.declared.events.SocketId.{SocketId};
+ghost use Rattle.can_event.specs.declared.events.SocketId.{SocketId};
 
-use crate::events::{Closed, Opt, Received, SocketId};
+use can_event::{Closed, Opt, Received, SocketId};
 use can_filter::{FilterSet, Options, wants};
 use can_frame::Iface;
 use can_queue::{BoundedQueue, QueueError};

@@ -1,14 +1,13 @@
 ghost use Rattle.std.specs.Prelude.{◌≡◌, ◌+◌, ◌<◌, ◌^◌, ◌==◌, All, IfSome, IfNone, IsSomeAnd, slice_get, length, false};
 ghost use Rattle.std.specs.List.{list_any};
 ghost use Rattle.can_bus.specs.Changes.{Receives, Sets, Closes, Opens};
-ghost use Rattle.can_bus.specs.Sockets.{with_option};
+ghost use Rattle.can_event.specs.Events.{with_option};
 ghost use Rattle.can_bus.specs.Stats.{TellsSocket};
 
-use crate::events::{Closed, Opt, Pending, Received, Refusal, SocketId};
 use crate::socket::Socket;
 use crate::state::State;
-use crate::stats::SocketStats;
 use can_arbiter::Arbiter;
+use can_event::{Closed, Opt, Pending, Received, Refusal, SocketId, SocketStats};
 use can_filter::FilterSet;
 use can_frame::Iface;
 use can_queue::BoundedQueue;

@@ -4,13 +4,13 @@ ghost use Rattle.std.specs.List.{list_any};
 ghost use Rattle.can_bus.specs.State.{kept_parts};
 
 use crate::countdowns::Countdown;
-use crate::events::{BusConfig, Pending, Received};
 use crate::line::Line;
 use crate::lines;
 use crate::socket::Socket;
 use can_arbiter::Arbiter;
 use can_attempt::Nodes;
 use can_confine::Counters;
+use can_event::{BusConfig, Pending, Received};
 use can_frame::Iface;
 use can_queue::{BoundedQueue, QueueError};
 use std::alloc::Global;

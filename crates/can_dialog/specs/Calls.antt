@@ -2,12 +2,12 @@ use Rattle.std.specs.Prelude.{ℕ, List, Option, Result}
 use Rattle.can_frame.specs.Frames.{CanFrame}
 use Rattle.can_filter.specs.Filters.{CanFilter}
 use Rattle.can_confine.specs.Confinement.{ErrorCounts}
-use Rattle.can_bus.specs.declared.events.SocketId.{SocketId}
-use Rattle.can_bus.specs.declared.events.Opt.{Opt}
-use Rattle.can_bus.specs.declared.events.Closed.{Closed}
-use Rattle.can_bus.specs.declared.events.Received.{Received}
-use Rattle.can_bus.specs.declared.stats.SocketStats.{SocketStats}
-use Rattle.can_bus.specs.declared.stats.IfaceStats.{IfaceStats}
+use Rattle.can_event.specs.declared.events.SocketId.{SocketId}
+use Rattle.can_event.specs.declared.events.Opt.{Opt}
+use Rattle.can_event.specs.declared.events.Closed.{Closed}
+use Rattle.can_event.specs.declared.events.Received.{Received}
+use Rattle.can_event.specs.declared.stats.SocketStats.{SocketStats}
+use Rattle.can_event.specs.declared.stats.IfaceStats.{IfaceStats}
 use Rattle.can_proto.specs.declared.answers.Cause.{Cause}
 use Rattle.can_proto.specs.declared.answers.Cause.TheVariants as cause
 use Rattle.can_proto.specs.Causes.{cause_of_refusal}

@@ -7,8 +7,8 @@ use Rattle.can_frame.specs.FrameText.{digits, frame_spelling}
 use Rattle.can_frame.specs.declared.items.Item.TheVariants as item
 use Rattle.can_attempt.specs.declared.classes.Class.{Class}
 use Rattle.can_attempt.specs.declared.classes.Class.TheVariants as class
-use Rattle.can_bus.specs.declared.events.Entry.{Entry}
-use Rattle.can_bus.specs.declared.events.Tried.{Tried}
+use Rattle.can_event.specs.declared.events.Entry.{Entry}
+use Rattle.can_event.specs.declared.events.Tried.{Tried}
 use Rattle.can_bus.specs.Transmit.{tape}
 use Rattle.can_logfile.specs.declared.tapes.LogFault.{LogFault}
 

@@ -2,7 +2,7 @@ use Rattle.std.specs.Prelude.{◌≡◌, ◌⊎◌, ℕ, ◌-◌, ◌*◌, ◌^�
 use Rattle.can_frame.specs.Frames.{Identifier}
 use Rattle.can_frame.specs.Frames.Payload.{Data, Remote}
 use Rattle.can_filter.specs.Filters.{CanFilter}
-use Rattle.can_bus.specs.declared.events.Opt.TheVariants as opt
+use Rattle.can_event.specs.declared.events.Opt.TheVariants as opt
 use Rattle.can_proto.specs.declared.commands.Mode.{Mode}
 use Rattle.can_proto.specs.declared.commands.Command.{Command}
 use Rattle.can_proto.specs.declared.commands.Command.TheVariants.{Echo, Open, Rawmode, Send, SetFilters, SetOption, ErrData, Stats, Status, Restart, Close}

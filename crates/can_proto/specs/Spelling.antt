@@ -9,8 +9,8 @@ use Rattle.can_frame.specs.declared.items.Item.TheVariants as item
 use Rattle.can_confine.specs.Confinement.{ErrorCounts, state_of}
 use Rattle.can_confine.specs.declared.states.State.{State}
 use Rattle.can_confine.specs.declared.states.State.TheVariants.{Active, Warning, Passive, Off}
-use Rattle.can_bus.specs.declared.stats.SocketStats.{SocketStats}
-use Rattle.can_bus.specs.declared.stats.IfaceStats.{IfaceStats}
+use Rattle.can_event.specs.declared.stats.SocketStats.{SocketStats}
+use Rattle.can_event.specs.declared.stats.IfaceStats.{IfaceStats}
 use Rattle.can_proto.specs.declared.answers.Answer.{Answer}
 use Rattle.can_proto.specs.declared.answers.Answer.TheVariants.{Greeting, Done, Echo, Stats, Status, Closing, Refused}
 use Rattle.can_proto.specs.Causes.{cause_text}

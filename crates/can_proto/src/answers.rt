@@ -2,8 +2,8 @@ ghost use Rattle.std.specs.Prelude.{◌≡◌, ◌≤◌, length};
 ghost use Rattle.can_proto.specs.Causes.{cause_text};
 
 use crate::faults::ProtoFault;
-use can_bus::{Closed, IfaceStats, Refusal, SocketStats};
 use can_confine::Counters;
+use can_event::{Closed, IfaceStats, Refusal, SocketStats};
 
 /// What a client is answered.
 #[derive(Debug, Clone, Copy, PartialEq, Eq)]

@@ -8,7 +8,7 @@ use crate::filtering::read_set;
 use crate::sending::{read_remote, read_send};
 use crate::verbs::Verb;
 use crate::words::next_word;
-use can_bus::Opt;
+use can_event::Opt;
 use can_frame::read_hexadecimal;
 use std::alloc::Global;
 

@@ -7,7 +7,7 @@ use crate::faults::ProtoFault;
 use crate::messages::Message;
 use crate::verbs::{Verb, after_send, may_stand, verb_of};
 use crate::words::next_word;
-use can_bus::Opt;
+use can_event::Opt;
 use can_filter::FilterSet;
 use can_frame::Frame;
 use std::alloc::{AllocError, Global};

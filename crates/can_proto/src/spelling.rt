@@ -5,8 +5,8 @@ ghost use Rattle.can_proto.specs.declared.answers.Answer.TheVariants.{Refused};
 
 use crate::answers::{Answer, Cause};
 use crate::texts::{ItemText, Text, push_next};
-use can_bus::{IfaceStats, SocketStats};
 use can_confine::{Counters, State};
+use can_event::{IfaceStats, SocketStats};
 use can_frame::{ErrorFrame, Frame, Item, Moment};
 
 /// What a client is told of an item that its socket received, with the data of error message frames

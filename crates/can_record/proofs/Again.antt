@@ -21,20 +21,20 @@ use Rattle.can_attempt.specs.declared.classes.Class.TheVariants as class
 use Rattle.can_attempt.specs.Words.{class_word}
 use Rattle.can_attempt.specs.declared.acks.AckMode.{AckMode}
 use Rattle.can_attempt.specs.declared.acks.AckMode.TheVariants as ack
-use Rattle.can_bus.specs.declared.events.BusConfig.{BusConfig}
-use Rattle.can_bus.specs.declared.events.SocketId.{SocketId}
-use Rattle.can_bus.specs.declared.events.Opt.{Opt}
-use Rattle.can_bus.specs.declared.events.Opt.TheVariants as opt
-use Rattle.can_bus.specs.declared.events.Event.{Event}
-use Rattle.can_bus.specs.declared.events.Event.TheVariants.{Open, Close, SetFilters, SetOption, Send, Receive, Attempt, Restart}
-use Rattle.can_bus.specs.declared.events.Refusal.{Refusal}
-use Rattle.can_bus.specs.declared.events.Refusal.TheVariants as refusal
-use Rattle.can_bus.specs.declared.events.Received.{Received}
-use Rattle.can_bus.specs.declared.events.Tried.{Tried}
-use Rattle.can_bus.specs.declared.events.Reply.{Reply}
-use Rattle.can_bus.specs.declared.events.Reply.TheVariants as reply
-use Rattle.can_bus.specs.declared.events.Entry.{Entry}
-use Rattle.can_bus.specs.Spelled.{LeavesEntry, IsNumberOf, FitsReply}
+use Rattle.can_event.specs.declared.events.BusConfig.{BusConfig}
+use Rattle.can_event.specs.declared.events.SocketId.{SocketId}
+use Rattle.can_event.specs.declared.events.Opt.{Opt}
+use Rattle.can_event.specs.declared.events.Opt.TheVariants as opt
+use Rattle.can_event.specs.declared.events.Event.{Event}
+use Rattle.can_event.specs.declared.events.Event.TheVariants.{Open, Close, SetFilters, SetOption, Send, Receive, Attempt, Restart}
+use Rattle.can_event.specs.declared.events.Refusal.{Refusal}
+use Rattle.can_event.specs.declared.events.Refusal.TheVariants as refusal
+use Rattle.can_event.specs.declared.events.Received.{Received}
+use Rattle.can_event.specs.declared.events.Tried.{Tried}
+use Rattle.can_event.specs.declared.events.Reply.{Reply}
+use Rattle.can_event.specs.declared.events.Reply.TheVariants as reply
+use Rattle.can_event.specs.declared.events.Entry.{Entry}
+use Rattle.can_event.specs.Spelled.{LeavesEntry, IsNumberOf, FitsReply}
 use Rattle.std.proofs.lemmas.Option.{none-some, same_Some}
 use Rattle.can_record.specs.declared.faults.Unread.{Unread}
 use Rattle.can_record.specs.declared.faults.Unread.TheVariants as unread

@@ -1,6 +1,6 @@
 use Rattle.std.specs.Prelude.{◌≡◌, ◌≢◌, ℕ, ◌+◌, ◌⊎◌, List, [], ◌++◌, length, reverse, Result, Ok, Err}
-use Rattle.can_bus.specs.declared.events.BusConfig.{BusConfig}
-use Rattle.can_bus.specs.declared.events.Entry.{Entry}
+use Rattle.can_event.specs.declared.events.BusConfig.{BusConfig}
+use Rattle.can_event.specs.declared.events.Entry.{Entry}
 use Rattle.can_bus.specs.Journal.{Kept}
 use Rattle.can_record.specs.declared.faults.ReadFault.{ReadFault}
 use Rattle.can_record.specs.declared.faults.ReadFault.TheVariants as fault

@@ -3,18 +3,18 @@ use Rattle.can_frame.specs.declared.items.Item.TheVariants as item
 use Rattle.can_filter.specs.Filters.{CanFilter}
 use Rattle.can_fault.specs.declared.verdicts.Verdict.{Verdict}
 use Rattle.can_fault.specs.declared.verdicts.Verdict.TheVariants as verdict
-use Rattle.can_bus.specs.declared.events.BusConfig.{BusConfig}
-use Rattle.can_bus.specs.declared.events.Opt.{Opt}
-use Rattle.can_bus.specs.declared.events.Opt.TheVariants as opt
-use Rattle.can_bus.specs.declared.events.Event.{Event}
-use Rattle.can_bus.specs.declared.events.Event.TheVariants.{Open, Close, SetFilters, SetOption, Send, Receive, Attempt, Restart}
-use Rattle.can_bus.specs.declared.events.Tried.{Tried}
-use Rattle.can_bus.specs.declared.events.Reply.{Reply}
-use Rattle.can_bus.specs.declared.events.Reply.TheVariants as reply
-use Rattle.can_bus.specs.declared.events.Entry.{Entry}
+use Rattle.can_event.specs.declared.events.BusConfig.{BusConfig}
+use Rattle.can_event.specs.declared.events.Opt.{Opt}
+use Rattle.can_event.specs.declared.events.Opt.TheVariants as opt
+use Rattle.can_event.specs.declared.events.Event.{Event}
+use Rattle.can_event.specs.declared.events.Event.TheVariants.{Open, Close, SetFilters, SetOption, Send, Receive, Attempt, Restart}
+use Rattle.can_event.specs.declared.events.Tried.{Tried}
+use Rattle.can_event.specs.declared.events.Reply.{Reply}
+use Rattle.can_event.specs.declared.events.Reply.TheVariants as reply
+use Rattle.can_event.specs.declared.events.Entry.{Entry}
 use Rattle.can_frame.specs.FrameText.{IsItem}
-use Rattle.can_bus.specs.Journal.{IsConfig}
-use Rattle.can_bus.specs.Spelled.{IsSpelled}
+use Rattle.can_event.specs.Events.{IsConfig}
+use Rattle.can_event.specs.Spelled.{IsSpelled}
 use Rattle.can_record.specs.declared.versions.Version.{Version}
 use Rattle.can_record.specs.Spelling.{version_of}
 

@@ -1,8 +1,8 @@
 ghost use Rattle.std.specs.Prelude.{◌≡◌, ◌≤◌, ◌++◌, ◌∷◌, [], IfOk, IfErr, IfSome, IsNone, IsTrue, OnOk, decimal, drop, length, List, ℕ};
 ghost use Rattle.std.specs.Option.{option_map};
-ghost use Rattle.can_bus.specs.declared.events.Entry.{Entry as AnEntry};
-ghost use Rattle.can_bus.specs.declared.events.BusConfig.{BusConfig as AConfig};
-ghost use Rattle.can_bus.specs.Spelled.{FitsReply};
+ghost use Rattle.can_event.specs.declared.events.Entry.{Entry as AnEntry};
+ghost use Rattle.can_event.specs.declared.events.BusConfig.{BusConfig as AConfig};
+ghost use Rattle.can_event.specs.Spelled.{FitsReply};
 ghost use Rattle.can_record.specs.declared.faults.Unread.TheVariants as unread;
 ghost use Rattle.can_record.specs.Spelling.{spell, ack_word, answered_line, bus_words, end_words, entry_line, first_line, version_of};
 ghost use Rattle.can_record.specs.Values.{HasLine, HasBusLine};

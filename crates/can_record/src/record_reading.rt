@@ -1,6 +1,6 @@
 ghost use Rattle.std.specs.Prelude.{◌≡◌, ◌++◌, [], All, IfOk, ◌<◌, ◌^◌, List, ℕ, length};
-ghost use Rattle.can_bus.specs.declared.events.BusConfig.{BusConfig as AConfig};
-ghost use Rattle.can_bus.specs.declared.events.Entry.{Entry as AnEntry};
+ghost use Rattle.can_event.specs.declared.events.BusConfig.{BusConfig as AConfig};
+ghost use Rattle.can_event.specs.declared.events.Entry.{Entry as AnEntry};
 ghost use Rattle.can_record.specs.Values.{HasLine, HasText};
 ghost use Rattle.can_record.specs.Spelling.{entry_lines, record_spelling};
 ghost use Rattle.can_record.specs.RecordFaults.{LacksEntry, Ends, Reads, ReadsBack};

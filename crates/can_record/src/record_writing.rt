@@ -1,6 +1,6 @@
 ghost use Rattle.std.specs.Prelude.{◌≡◌, ◌++◌, [], IfOk, OnOk, reverse};
 ghost use Rattle.std.specs.Io.KnownBytes.{Appends};
-ghost use Rattle.can_bus.specs.Spelled.{FitsReply};
+ghost use Rattle.can_event.specs.Spelled.{FitsReply};
 ghost use Rattle.can_record.specs.Spelling.{answered_line, entry_line, entry_lines, front_lines, record_spelling};
 
 use crate::lines::{put_answered, put_bus, put_end, put_line};

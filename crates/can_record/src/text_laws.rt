@@ -1,8 +1,8 @@
 ghost use Rattle.std.specs.Prelude.{◌≡◌, List, ℕ, All, IfOk};
-ghost use Rattle.can_bus.specs.declared.events.BusConfig.{BusConfig as AConfig};
-ghost use Rattle.can_bus.specs.declared.events.Entry.{Entry as AnEntry};
-ghost use Rattle.can_bus.specs.Journal.{IsConfig};
-ghost use Rattle.can_bus.specs.Spelled.{IsSpelled};
+ghost use Rattle.can_event.specs.declared.events.BusConfig.{BusConfig as AConfig};
+ghost use Rattle.can_event.specs.declared.events.Entry.{Entry as AnEntry};
+ghost use Rattle.can_event.specs.Events.{IsConfig};
+ghost use Rattle.can_event.specs.Spelled.{IsSpelled};
 ghost use Rattle.can_record.specs.Values.{HasBusLine, HasLine, HasText};
 ghost use Rattle.can_record.specs.Spelling.{record_spelling, version_of};
 ghost use Rattle.can_record.specs.RecordFaults.{IsTextOf, LacksFirst, IsFirstWrong};

@@ -7,11 +7,11 @@ use Rattle.can_fault.specs.declared.verdicts.Verdict.{Verdict}
 use Rattle.can_attempt.specs.declared.judgements.Judgement.{Judgement}
 use Rattle.can_attempt.specs.declared.nodes.Nodes.{Nodes}
 use Rattle.can_attempt.specs.Attempts.{attempt_between, judged}
-use Rattle.can_bus.specs.declared.events.BusConfig.{BusConfig}
-use Rattle.can_bus.specs.declared.events.Entry.{Entry}
-use Rattle.can_bus.specs.declared.events.Pending.{Pending}
-use Rattle.can_bus.specs.declared.events.Reply.{Reply}
-use Rattle.can_bus.specs.declared.events.Reply.TheVariants as reply
+use Rattle.can_event.specs.declared.events.BusConfig.{BusConfig}
+use Rattle.can_event.specs.declared.events.Entry.{Entry}
+use Rattle.can_event.specs.declared.events.Pending.{Pending}
+use Rattle.can_event.specs.declared.events.Reply.{Reply}
+use Rattle.can_event.specs.declared.events.Reply.TheVariants as reply
 use Rattle.can_frame.specs.declared.ifaces.IfaceSet.{IfaceSet}
 use Rattle.can_bus.specs.AutoRestart.{restarted_next}
 use Rattle.can_bus.specs.Attempts.{winner, attempt_reply, tried_head}

@@ -2,8 +2,8 @@ ghost use Rattle.std.specs.Prelude.{◌≡◌, reverse, slice_set, IfOk, IfSome,
 ghost use Rattle.can_arbiter.specs.Keys.{IsWinner, IsIdle};
 ghost use Rattle.can_bus.specs.State.{key_in, kept_keys};
 ghost use Rattle.can_bus.specs.Attempts.{winner, attempt_reply};
-ghost use Rattle.can_bus.specs.declared.events.BusConfig.{BusConfig};
-ghost use Rattle.can_bus.specs.declared.events.Reply.TheVariants as reply;
+ghost use Rattle.can_event.specs.declared.events.BusConfig.{BusConfig};
+ghost use Rattle.can_event.specs.declared.events.Reply.TheVariants as reply;
 ghost use Rattle.can_replay.specs.Histories.{IsHistory};
 
 use crate::counters::{judgement_of, nodes_of};

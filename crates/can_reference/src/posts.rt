@@ -2,8 +2,8 @@ ghost use Rattle.std.specs.Prelude.{◌≡◌, ℕ, ◌++◌, ◌∷◌, reverse
 ghost use Rattle.can_filter.specs.Passing.{wants};
 ghost use Rattle.can_bus.specs.Posts.{sender_in, data_posts, error_posts, attempt_posts, restart_posts, auto_restart_posts, posts_of, is_own};
 ghost use Rattle.can_bus.specs.Queues.{passing};
-ghost use Rattle.can_bus.specs.declared.events.Event.TheVariants as event;
-ghost use Rattle.can_bus.specs.declared.events.Reply.TheVariants as reply;
+ghost use Rattle.can_event.specs.declared.events.Event.TheVariants as event;
+ghost use Rattle.can_event.specs.declared.events.Reply.TheVariants as reply;
 ghost use Rattle.can_bus.specs.Attempted.{transmission_of};
 ghost use Rattle.can_replay.specs.Histories.{IsHistory};
 

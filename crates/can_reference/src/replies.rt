@@ -1,9 +1,9 @@
 ghost use Rattle.std.specs.Prelude.{◌≡◌, ℕ, ◌≤◌, ◌<◌, ◌↔◌, [], ◌∷◌, ◌++◌, reverse, length, IfOk, OnOk, Err};
 ghost use Rattle.can_frame.specs.Frames.{CanFrame};
-ghost use Rattle.can_bus.specs.Journal.{IsConfig};
+ghost use Rattle.can_event.specs.Events.{IsConfig};
 ghost use Rattle.can_bus.specs.Legal.{legal_reply, if_open};
-ghost use Rattle.can_bus.specs.declared.events.Event.TheVariants as event;
-ghost use Rattle.can_bus.specs.declared.events.Reply.TheVariants as reply;
+ghost use Rattle.can_event.specs.declared.events.Event.TheVariants as event;
+ghost use Rattle.can_event.specs.declared.events.Reply.TheVariants as reply;
 ghost use Rattle.can_replay.specs.Histories.{IsHistory};
 ghost use Rattle.can_replay.specs.Replies.{replies_after, reply_after, entries_after};
 

@@ -1,8 +1,8 @@
 use Rattle.std.specs.Prelude.{◌≡◌, ◌≢◌, ℕ, ◌≤◌, nat_le, ◌⊎◌, List, slice_get, Option, Some, None, if◌then◌else◌}
-use Rattle.can_bus.specs.declared.events.BusConfig.{BusConfig}
-use Rattle.can_bus.specs.declared.events.Entry.{Entry}
-use Rattle.can_bus.specs.declared.events.Event.{Event}
-use Rattle.can_bus.specs.declared.events.Reply.{Reply}
+use Rattle.can_event.specs.declared.events.BusConfig.{BusConfig}
+use Rattle.can_event.specs.declared.events.Entry.{Entry}
+use Rattle.can_event.specs.declared.events.Event.{Event}
+use Rattle.can_event.specs.declared.events.Reply.{Reply}
 use Rattle.can_bus.specs.Legal.{legal_reply, IsLegal}
 use Rattle.can_replay.specs.declared.audits.AuditFault.{AuditFault}
 use Rattle.can_replay.specs.declared.audits.AuditFault.TheVariants as fault

@@ -1,7 +1,7 @@
 use Rattle.std.specs.Prelude.{ℕ, List, take, reverse}
-use Rattle.can_bus.specs.declared.events.BusConfig.{BusConfig}
-use Rattle.can_bus.specs.declared.events.Entry.{Entry}
-use Rattle.can_bus.specs.Journal.{IsConfig}
+use Rattle.can_event.specs.declared.events.BusConfig.{BusConfig}
+use Rattle.can_event.specs.declared.events.Entry.{Entry}
+use Rattle.can_event.specs.Events.{IsConfig}
 use Rattle.can_bus.specs.Legal.{IsLegal}
 
 -- Lists of entries, the oldest first, read as histories, the newest first.

@@ -1,6 +1,6 @@
 ghost use Rattle.std.specs.Prelude.{◌≡◌, ◌↔◌, IsTrue, length, min, reverse, OnOk, IfErr};
 ghost use Rattle.can_bus.specs.Headline.{Headline};
-ghost use Rattle.can_bus.specs.Journal.{IsConfig};
+ghost use Rattle.can_event.specs.Events.{IsConfig};
 ghost use Rattle.can_bus.specs.Legal.{IsLegal};
 ghost use Rattle.can_replay.specs.Audits.{Blames};
 

@@ -1,12 +1,12 @@
 ghost use Rattle.std.specs.Prelude.{◌≡◌, ◌≢◌, ℕ, List, All, reverse};
-ghost use Rattle.can_bus.specs.Journal.{IsConfig};
+ghost use Rattle.can_event.specs.Events.{IsConfig};
 ghost use Rattle.can_bus.specs.Legal.{IsLegal};
 ghost use Rattle.can_bus.specs.Run.{AreAnswers};
-ghost use Rattle.can_bus.specs.declared.events.Entry.{Entry};
-ghost use Rattle.can_bus.specs.declared.events.Event.{Event};
-ghost use Rattle.can_bus.specs.declared.events.Reply.{Reply};
-ghost use Rattle.can_bus.specs.declared.events.Reply.TheVariants as reply;
-ghost use Rattle.can_bus.specs.declared.events.Refusal.TheVariants as refusal;
+ghost use Rattle.can_event.specs.declared.events.Entry.{Entry};
+ghost use Rattle.can_event.specs.declared.events.Event.{Event};
+ghost use Rattle.can_event.specs.declared.events.Reply.{Reply};
+ghost use Rattle.can_event.specs.declared.events.Reply.TheVariants as reply;
+ghost use Rattle.can_event.specs.declared.events.Refusal.TheVariants as refusal;
 ghost use Rattle.can_replay.specs.Audits.{IsFirstWrong};
 ghost use Rattle.can_replay.specs.Replies.{replies_after};
 

@@ -7,7 +7,7 @@ use crate::names::RollName;
 use crate::rule::{CallsIn, Enters, Law, Note, Says, Sends, Tell, View};
 use crate::slips::Slip;
 use atomic_table::{Badge, Seat, Table};
-use can_bus::{Event, Reply};
+use can_event::{Event, Reply};
 use std::alloc::{AllocError, Global};
 use std::marker::{Brand, Model, PhantomData};
 use std::mem;

@@ -1,5 +1,5 @@
 use atomic_table::{Join, Play, Split, TableRule};
-use can_bus::Entry;
+use can_event::Entry;
 use std::collections::LinkedList;
 use std::marker::{Brand, PhantomData};
 
@@ -83,14 +83,14 @@ impl Split<View> for Sends {
 
 /// Names a call with its reply, for contracts alone.
 pub trait Says {
-    ghost use Rattle.can_bus.specs.declared.events.Entry.{Entry};
+    ghost use Rattle.can_event.specs.declared.events.Entry.{Entry};
 
     ghost said: { Entry };
 }
 
 impl Says for Brand {
-    ghost use Rattle.can_bus.specs.declared.events.Event.TheVariants.{Receive};
-    ghost use Rattle.can_bus.specs.declared.events.Reply.TheVariants.{Done};
+    ghost use Rattle.can_event.specs.declared.events.Event.TheVariants.{Receive};
+    ghost use Rattle.can_event.specs.declared.events.Reply.TheVariants.{Done};
 
     ghost said = { record { event = Receive (record { 0 = 0 }); reply = Done } };
 }

@@ -1,7 +1,7 @@
 ghost use Rattle.std.specs.Prelude.{◌≡◌};
 
 use crate::{Roll, RollBlank, RollName, roll_blank};
-use can_bus::{Event, Reply, SocketId};
+use can_event::{Event, Reply, SocketId};
 use std::marker::Brand;
 use std::process::Abort;
 use std::test::Fail;

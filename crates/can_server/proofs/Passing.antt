@@ -1,11 +1,11 @@
 use Rattle.std.proofs.Common.{◌≡◌, ℕ, List, [], Option, Some, Result, Ok, refl, sym, subst, ap, ◌∙◌}
 use Rattle.can_confine.specs.Confinement.{ErrorCounts}
 use Rattle.can_meter.specs.Readings.{Readings}
-use Rattle.can_bus.specs.declared.events.Event.{Event}
-use Rattle.can_bus.specs.declared.events.Event.TheVariants as event
-use Rattle.can_bus.specs.declared.events.Reply.{Reply}
-use Rattle.can_bus.specs.declared.events.SocketId.{SocketId}
-use Rattle.can_bus.specs.declared.events.Reply.TheVariants as reply
+use Rattle.can_event.specs.declared.events.Event.{Event}
+use Rattle.can_event.specs.declared.events.Event.TheVariants as event
+use Rattle.can_event.specs.declared.events.Reply.{Reply}
+use Rattle.can_event.specs.declared.events.SocketId.{SocketId}
+use Rattle.can_event.specs.declared.events.Reply.TheVariants as reply
 use Rattle.std.specs.Prelude.{slice_get}
 use Rattle.can_dialog.specs.declared.port.PortRefusal.{PortRefusal}
 use Rattle.can_station.specs.Passes.{PassSeen, Called}

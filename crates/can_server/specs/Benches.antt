@@ -1,7 +1,7 @@
 use Rattle.std.specs.Prelude.{◌≡◌, ◌≤◌, ℕ, suc, List, [], ◌∷◌, length, map, All}
 use Rattle.atomic_table.specs.Seated.{TableId}
 use Rattle.can_frame.specs.Names.{AreNames}
-use Rattle.can_bus.specs.Journal.{IsConfig}
+use Rattle.can_event.specs.Events.{IsConfig}
 use Rattle.can_server.specs.Buses.{BusSeen, AllApart}
 use Rattle.can_server.specs.declared.benches.Bench.{Bench}
 

@@ -2,8 +2,9 @@ use Rattle.std.specs.Prelude.{◌≡◌, ◌⊎◌, ℕ, ◌+◌, ◌≤◌, Lis
 use Rattle.std.specs.List.{All}
 use Rattle.std.specs.Io.KnownBytes.{Appends}
 use Rattle.can_fault.specs.Sources.{VerdictMap}
-use Rattle.can_bus.specs.declared.events.BusConfig.{BusConfig}
-use Rattle.can_bus.specs.Journal.{Kept, IsConfig}
+use Rattle.can_event.specs.declared.events.BusConfig.{BusConfig}
+use Rattle.can_bus.specs.Journal.{Kept}
+use Rattle.can_event.specs.Events.{IsConfig}
 use Rattle.can_session.specs.declared.lines.LineFault.{LineFault}
 use Rattle.can_session.specs.declared.lines.LineFault.TheVariants as line
 use Rattle.can_session.specs.declared.bench_run.BenchFault.{BenchFault}

@@ -1,6 +1,6 @@
 //! What a bench begins with.
 ghost use Rattle.std.specs.Prelude.{◌≡◌, [], ◌⊎◌, ◌↔◌, None, Err, replicate, OnOk, IfOk, IfErr};
-ghost use Rattle.can_bus.specs.Journal.{IsConfig};
+ghost use Rattle.can_event.specs.Events.{IsConfig};
 
 use crate::bench_run::BenchFault;
 use can_bus::{BusConfig, BusFault, RingBus};

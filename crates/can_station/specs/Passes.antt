@@ -1,17 +1,17 @@
 use Rattle.std.specs.Prelude.{◌≡◌, ℕ, ◌⊎◌, List, length, map, All, Result, Ok, Err, Option}
-use Rattle.can_bus.specs.declared.events.Entry.{Entry}
-use Rattle.can_bus.specs.declared.events.Event.{Event}
-use Rattle.can_bus.specs.declared.events.Event.TheVariants as event
-use Rattle.can_bus.specs.declared.events.Reply.{Reply}
-use Rattle.can_bus.specs.declared.events.Reply.TheVariants as reply
-use Rattle.can_bus.specs.declared.events.Refusal.TheVariants as refusal
-use Rattle.can_bus.specs.declared.events.Attempt.{Attempt}
-use Rattle.can_bus.specs.declared.events.BusConfig.{BusConfig}
+use Rattle.can_event.specs.declared.events.Entry.{Entry}
+use Rattle.can_event.specs.declared.events.Event.{Event}
+use Rattle.can_event.specs.declared.events.Event.TheVariants as event
+use Rattle.can_event.specs.declared.events.Reply.{Reply}
+use Rattle.can_event.specs.declared.events.Reply.TheVariants as reply
+use Rattle.can_event.specs.declared.events.Refusal.TheVariants as refusal
+use Rattle.can_event.specs.declared.events.Attempt.{Attempt}
+use Rattle.can_event.specs.declared.events.BusConfig.{BusConfig}
 use Rattle.can_fault.specs.declared.verdicts.Verdict.{Verdict}
 use Rattle.can_bus.specs.Answer.{told_attempt}
 use Rattle.can_bus.specs.Legal.{IsLegal}
 use Rattle.can_bus.specs.Run.{history_after}
-use Rattle.can_bus.specs.Spelled.{FitsReply}
+use Rattle.can_event.specs.Spelled.{FitsReply}
 use Rattle.can_roll.specs.Lists.{row, Distinct, AllBelow}
 use Rattle.can_roll.specs.Seen.{SlipSeen}
 use Rattle.can_station.specs.Held.{slip_after}

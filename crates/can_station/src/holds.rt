@@ -1,6 +1,6 @@
 ghost use Rattle.std.specs.Prelude.{◌≡◌, ◌<◌, reverse, vec_len, vec_capacity, IfOk};
-ghost use Rattle.can_bus.specs.declared.events.Event.TheVariants as event;
-ghost use Rattle.can_bus.specs.declared.events.Reply.TheVariants as reply;
+ghost use Rattle.can_event.specs.declared.events.Event.TheVariants as event;
+ghost use Rattle.can_event.specs.declared.events.Reply.TheVariants as reply;
 ghost use Rattle.can_bus.specs.Run.{history_after};
 ghost use Rattle.can_station.specs.Held.{slip_after};
 ghost use Rattle.can_station.specs.Passes.{Attempted, Suits, Called, Stepped, same};

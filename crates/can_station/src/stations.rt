@@ -1,6 +1,6 @@
 ghost use Rattle.std.specs.Prelude.{◌≡◌, ◌<◌, ◌≤◌, ◌⊎◌, [], reverse, vec_len, vec_capacity, IfOk, MatchResult, ◌↔◌};
 ghost use Rattle.std.specs.Sync.Mutex.{mutex_guard_value};
-ghost use Rattle.can_bus.specs.Journal.{IsConfig};
+ghost use Rattle.can_event.specs.Events.{IsConfig};
 ghost use Rattle.can_bus.specs.Run.{history_after};
 ghost use Rattle.can_station.specs.Held.{slip_after};
 ghost use Rattle.can_station.specs.Passes.{Attempted, AllOf, SomeOther, Settles, Suits, Called, Stepped, same};

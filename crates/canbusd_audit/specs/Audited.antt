@@ -1,7 +1,7 @@
 use Rattle.std.specs.Prelude.{ℕ, List, [], ◌∷◌, ◌++◌, length, reverse, codes, decimal, Option, Err}
 use Rattle.std.specs.Io.KnownBytes.{Appends}
-use Rattle.can_bus.specs.declared.events.BusConfig.{BusConfig}
-use Rattle.can_bus.specs.declared.events.Entry.{Entry}
+use Rattle.can_event.specs.declared.events.BusConfig.{BusConfig}
+use Rattle.can_event.specs.declared.events.Entry.{Entry}
 use Rattle.can_bus.specs.Legal.{IsLegal}
 use Rattle.can_record.specs.RecordFaults.{IsTextOf, Reads}
 use Rattle.can_replay.specs.Audits.{IsFirstWrong}

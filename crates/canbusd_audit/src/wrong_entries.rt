@@ -1,5 +1,5 @@
 ghost use Rattle.std.specs.Prelude.{reverse};
-ghost use Rattle.can_bus.specs.Spelled.{FitsReply};
+ghost use Rattle.can_event.specs.Spelled.{FitsReply};
 ghost use Rattle.can_replay.specs.Audits.{IsToldWrong};
 
 use can_bus::{Event, Record, Reply};

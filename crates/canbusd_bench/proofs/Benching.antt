@@ -1,6 +1,6 @@
 use Rattle.std.proofs.Common.{◌≡◌, ◌≢◌, ◌↔◌, ℕ, List, length, Option, Result, Ok, Err, IfOk, rules, refl, sym, subst}
 use Rattle.can_fault.specs.Sources.{VerdictMap}
-use Rattle.can_bus.specs.declared.events.BusConfig.{BusConfig}
+use Rattle.can_event.specs.declared.events.BusConfig.{BusConfig}
 use Rattle.can_bus.specs.Journal.{Kept}
 use Rattle.can_bus.specs.Legal.{IsLegal}
 use Rattle.can_session.specs.declared.bench_run.BenchFault.{BenchFault}

@@ -4,7 +4,7 @@ use crate::program::run_words;
 use canbusd_faults::Fault;
 use canbusd_files::read_text;
 use std::test::Fail;
-use test_streams::{Closed, Pieces};
+use can_test_streams::{Closed, Pieces};
 
 #[test]
 fn tells_faults(rt: HostRuntime) -> Result<(), Fail> {

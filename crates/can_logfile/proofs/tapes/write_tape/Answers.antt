@@ -1,7 +1,7 @@
 use Rattle.std.proofs.Common.{◌+◌, List, ℕ, length, sym, ap, subst, ◌∙◌, arith}
 use Rattle.std.specs.Prelude.{map}
 use Rattle.std.specs.Io.KnownBytes.{Appends}
-use Rattle.can_bus.specs.declared.events.Tried.{Tried}
+use Rattle.can_event.specs.declared.events.Tried.{Tried}
 use Rattle.can_logfile.specs.Log.{log_line, joined}
 use Rattle.can_logfile.proofs.Fronts.{torn, count-more, line-more, same-tape, within}
 use Rattle.can_logfile.proofs.tapes.write_tape.Goals.{in-Tried+else-not-write_line, in_default}

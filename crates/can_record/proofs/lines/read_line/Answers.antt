@@ -1,5 +1,5 @@
 use Rattle.std.proofs.Common.{◌≡◌, ◌++◌, ◌∙◌, IsTrue, [], ap, sym, subst, arith, List, ℕ}
-use Rattle.can_bus.specs.declared.events.Entry.{Entry}
+use Rattle.can_event.specs.declared.events.Entry.{Entry}
 use Rattle.can_record.specs.Values.{HasLine}
 use Rattle.can_record.specs.Spelling.{entry_words, entry_line}
 use Rattle.can_record.proofs.Again.{refused, same_entry, spell-rest, kept}

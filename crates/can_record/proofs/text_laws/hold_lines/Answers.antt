@@ -2,7 +2,7 @@ use Rattle.std.proofs.Common.{List, subst}
 use Rattle.std.specs.Prelude.{All}
 use Rattle.std.proofs.lemmas.List.{take_all}
 use Rattle.std.proofs.lemmas.List.Elements.{All-more}
-use Rattle.can_bus.specs.declared.events.Entry.{Entry}
+use Rattle.can_event.specs.declared.events.Entry.{Entry}
 use Rattle.can_record.specs.Values.{HasLine}
 use Rattle.can_record.proofs.text_laws.hold_lines.Goals as goal
 

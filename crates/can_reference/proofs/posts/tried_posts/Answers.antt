@@ -1,5 +1,5 @@
 use Rattle.std.proofs.Common.{◌≡◌, ◌++◌, List, slice_get, reverse, sym, ap, ◌∙◌}
-use Rattle.can_bus.specs.declared.events.Pending.{Pending}
+use Rattle.can_event.specs.declared.events.Pending.{Pending}
 use Rattle.can_bus.specs.Attempted.{Outcome, transmission_of}
 use Rattle.can_bus.specs.Posts.{Post, attempt_posts, auto_restart_posts}
 use Rattle.can_bus.specs.Transmit.{sent_by}

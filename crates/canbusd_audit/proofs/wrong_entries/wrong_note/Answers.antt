@@ -1,10 +1,10 @@
 use Rattle.std.proofs.Common.{◌≡◌, ℕ, Bool, true, false, nat_le, List, get_or, Option, Some, None, if◌then◌else◌, rules, sym, ◌∙◌, subst}
 use Rattle.std.proofs.lemmas.Option.{get_or_from_slice_get}
-use Rattle.can_bus.specs.declared.events.BusConfig.{BusConfig}
-use Rattle.can_bus.specs.declared.events.Entry.{Entry}
-use Rattle.can_bus.specs.declared.events.Reply.{Reply}
+use Rattle.can_event.specs.declared.events.BusConfig.{BusConfig}
+use Rattle.can_event.specs.declared.events.Entry.{Entry}
+use Rattle.can_event.specs.declared.events.Reply.{Reply}
 use Rattle.can_bus.specs.Legal.{legal_reply}
-use Rattle.can_bus.specs.Spelled.{FitsReply}
+use Rattle.can_event.specs.Spelled.{FitsReply}
 use Rattle.can_bus.proofs.Fitting.{legal_is_spelled}
 use Rattle.can_replay.specs.Audits.{IsToldWrong}
 use Rattle.can_replay.specs.Histories.{before}

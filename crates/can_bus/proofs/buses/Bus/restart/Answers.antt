@@ -1,5 +1,5 @@
 use Rattle.can_bus.specs.Answer.{done_reply}
-use Rattle.can_bus.specs.declared.events.Event.TheVariants as event
+use Rattle.can_event.specs.declared.events.Event.TheVariants as event
 use Rattle.can_bus.specs.State.{Parts}
 use Rattle.can_bus.specs.Changes.{Restarts}
 use Rattle.can_bus.proofs.Bounds.{small_dropped_one}

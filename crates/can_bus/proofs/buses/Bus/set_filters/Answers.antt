@@ -2,7 +2,7 @@ use Rattle.std.proofs.Common.{List, subst}
 use Rattle.can_filter.specs.Filters.{CanFilter}
 use Rattle.can_bus.specs.Answer.{done_reply}
 use Rattle.can_bus.specs.Changes.{Sets}
-use Rattle.can_bus.specs.declared.events.Event.TheVariants as event
+use Rattle.can_event.specs.declared.events.Event.TheVariants as event
 use Rattle.can_bus.specs.State.{Parts, IsLonger}
 use Rattle.can_bus.proofs.Keeping.{IsDone, done}
 use Rattle.can_bus.proofs.Setting.{filters_follow}

@@ -1,8 +1,8 @@
 use Rattle.can_bus.specs.Answer.{done_reply}
-use Rattle.can_bus.specs.declared.events.Event.TheVariants as event
+use Rattle.can_event.specs.declared.events.Event.TheVariants as event
 use Rattle.can_bus.specs.State.{Parts}
 use Rattle.can_bus.specs.Changes.{Sets}
-use Rattle.can_bus.specs.Sockets.{with_option}
+use Rattle.can_event.specs.Events.{with_option}
 use Rattle.can_bus.proofs.Keeping.{IsDone, done}
 use Rattle.can_bus.proofs.Setting.{option_follows}
 use Rattle.can_bus.proofs.buses.Bus.set_option.Given as given

@@ -1,9 +1,9 @@
 use Rattle.std.proofs.Common.{Bool, true, false, List, [], ◌∷◌, ◌++◌, All, if◌then◌else◌, sym, subst}
 use Rattle.std.proofs.lemmas.List.Elements.{All-push}
-use Rattle.can_bus.specs.declared.events.BusConfig.{BusConfig}
-use Rattle.can_bus.specs.declared.events.Entry.{Entry}
+use Rattle.can_event.specs.declared.events.BusConfig.{BusConfig}
+use Rattle.can_event.specs.declared.events.Entry.{Entry}
 use Rattle.can_bus.specs.Journal.{Kept}
-use Rattle.can_bus.specs.Spelled.{IsSpelled}
+use Rattle.can_event.specs.Spelled.{IsSpelled}
 use Rattle.can_bus.proofs.records.Record.push.Goals as goal
 
 -- whether the entry found room or not

@@ -1,6 +1,6 @@
 use Rattle.std.proofs.Common.{Some, sym, ap, ◌∙◌}
-use Rattle.can_bus.specs.declared.events.Event.TheVariants as event
-use Rattle.can_bus.specs.declared.events.Reply.TheVariants as reply
+use Rattle.can_event.specs.declared.events.Event.TheVariants as event
+use Rattle.can_event.specs.declared.events.Reply.TheVariants as reply
 use Rattle.can_server.specs.PassSteps.{EnteredSeen}
 use Rattle.can_server.proofs.Passing.{on_pass}
 use Rattle.can_server.proofs.ports.PassPortPort.receive.Goals as goal

@@ -1,5 +1,5 @@
 use Rattle.std.proofs.Common.{Some, sym, ap, ◌∙◌}
-use Rattle.can_bus.specs.declared.events.Event.TheVariants as event
+use Rattle.can_event.specs.declared.events.Event.TheVariants as event
 use Rattle.can_bus.specs.Answer.{done_reply}
 use Rattle.can_server.specs.PassSteps.{EnteredSeen}
 use Rattle.can_server.proofs.Passing.{on_pass}

@@ -1,0 +1,64 @@
+use Rattle.std.specs.Prelude.{◌≡◌, ℕ, List, Option, Some, None, All}
+use Rattle.can_frame.specs.Sets.{no_ifaces}
+use Rattle.can_frame.specs.declared.items.Item.{Item}
+use Rattle.can_frame.specs.declared.items.Item.TheVariants as item
+use Rattle.can_event.specs.declared.events.BusConfig.{BusConfig}
+use Rattle.can_event.specs.declared.events.Entry.{Entry}
+use Rattle.can_event.specs.declared.events.Event.{Event}
+use Rattle.can_event.specs.declared.events.Event.TheVariants.{Open, Close, SetFilters, SetOption, Send, Receive, Attempt, Restart}
+use Rattle.can_event.specs.declared.events.Received.{Received}
+use Rattle.can_event.specs.declared.events.Refusal.{Refusal}
+use Rattle.can_event.specs.declared.events.Refusal.TheVariants as refusal
+use Rattle.can_event.specs.declared.events.Reply.{Reply}
+use Rattle.can_event.specs.declared.events.Reply.TheVariants as reply
+use Rattle.can_event.specs.Events.{IsConfig, restarted_in}
+
+-- Which entries the text of a record has a line for.
+
+-- a refusal that leaves an entry: all but that of a full record and that of want of memory (own choice)
+abbrev pub LeavesEntry : Refusal → Type 0
+LeavesEntry refusal.RecordFull = ⊥
+LeavesEntry refusal.NoMemory = ⊥
+LeavesEntry _ = Unit {0}
+
+-- the number of an item that a socket received: an error message frame has the number 0 (own choice)
+abbrev pub IsNumberOf : Item → ℕ → Type 0
+IsNumberOf (item.Data frame) n = Unit {0}
+IsNumberOf (item.Error message) n = n ≡ 0
+
+-- an item that a socket received has a number that it may have
+abbrev pub IsNumbered : Received → Type 0
+IsNumbered r = IsNumberOf r.item r.number
+
+-- the same of what receive gave, if it gave an item
+abbrev pub AreNumbered : Option Received → Type 0
+AreNumbered None = Unit {0}
+AreNumbered (Some r) = IsNumbered r
+
+-- a reply of the event's own kind, or a refusal; a frame was tried at the moment of its attempt (own choice)
+abbrev pub FitsReply : Event → Reply → Type 0
+FitsReply event (reply.Refused why) = LeavesEntry why
+FitsReply (Open i capacity) (reply.Opened s) = Unit {0}
+FitsReply (Close s) (reply.Closed counts) = Unit {0}
+FitsReply (SetFilters s filters) reply.Done = Unit {0}
+FitsReply (SetOption s option) reply.Done = Unit {0}
+FitsReply (Send s frame) (reply.Sent n) = Unit {0}
+FitsReply (Receive s) (reply.Received item) = AreNumbered item
+FitsReply (Attempt m v) (reply.Idle restarted) = Unit {0}
+FitsReply (Attempt m v) (reply.Tried t) = t.moment ≡ m
+FitsReply (Restart i m) reply.Done = Unit {0}
+FitsReply _ _ = ⊥
+
+-- attempts restart interfaces only on a bus that is made for it (own choice)
+abbrev pub MayRestart : BusConfig → Reply → Type 0
+MayRestart c r = c.auto_restart ≡ 0 → restarted_in r ≡ no_ifaces
+
+-- an entry that has a line: its reply fits its event, and restarts nothing where the bus never does
+pub record IsSpelled (c : BusConfig) (e : Entry) : Type 0 where
+  pub fits : FitsReply e.event e.reply
+  pub restarts : MayRestart c e.reply
+
+-- what a record is made of: a configuration within the limits of a bus, and entries that each have a line
+pub record IsRecord (c : BusConfig) (entries : List Entry) : Type 0 where
+  pub proper : IsConfig c
+  pub spelled : All (IsSpelled c) entries

@@ -1,0 +1,252 @@
+ghost use Rattle.std.specs.Prelude.{◌≡◌, ◌↔◌, IsTrue, IfOk};
+ghost use Rattle.can_event.specs.Events.{IsConfig, tried_item, with_option};
+
+use can_attempt::{AckMode, Class};
+use can_fault::Verdict;
+use can_filter::{FilterSet, Options};
+use can_frame::{Frame, Iface, IfaceSet, Item, Moment};
+use std::alloc::{AllocError, Global};
+use thiserror::Error;
+
+/// What a bus is made with.
+#[derive(Debug, Clone, Copy, PartialEq, Eq)]
+pub struct BusConfig {
+    /// How many interfaces there are, 1 to 16.
+    pub ifaces: u8,
+    /// Whether every frame is acknowledged, or only where a receiver has it whole.
+    pub ack: AckMode,
+    /// The interfaces whose sockets are told of each fault. Bits that name no interface have no effect.
+    pub reporting: IfaceSet,
+    /// How many frames wait at most in each transmit queue, 1 to 1,024.
+    pub tx_capacity: u32,
+    /// How many events the bus is made for, 1 to 16,777,216.
+    pub limit: u32,
+    /// In which attempt after it went bus off an interface is restarted, 1 to 1,000,000; 0 for never.
+    pub auto_restart: u32,
+}
+
+impl BusConfig {
+    /// Whether a bus may be made with it: each number is within its limits.
+    pub fn is_proper(self) -> bool
+        ensures { IsTrue result ↔ IsConfig self }
+    {
+        let BusConfig {
+            ifaces,
+            tx_capacity,
+            limit,
+            auto_restart,
+            ..
+        } = self;
+        ifaces >= 1
+            && ifaces <= 16
+            && tx_capacity >= 1
+            && tx_capacity <= 1024
+            && limit >= 1
+            && limit <= 16_777_216
+            && auto_restart <= 1_000_000
+    }
+}
+
+/// A socket's number. The sockets of a bus are numbered from 0 as they are opened, and no number is
+/// used again.
+#[derive(Debug, Clone, Copy, PartialEq, Eq)]
+pub struct SocketId(pub u32);
+
+/// One option of a socket, and what it is set to (linux/can/raw.h).
+#[derive(Debug, Clone, Copy, PartialEq, Eq)]
+pub enum Opt {
+    /// Whether frames sent from then on are looped back (CAN_RAW_LOOPBACK).
+    Loopback(bool),
+    /// Whether the socket gets its own frames (CAN_RAW_RECV_OWN_MSGS).
+    RecvOwn(bool),
+    /// Whether a frame has to match each filter (CAN_RAW_JOIN_FILTERS).
+    Join(bool),
+    /// The error classes whose message frames the socket gets (CAN_RAW_ERR_FILTER).
+    ErrMask(u32),
+}
+
+impl Opt {
+    /// These options with this one set.
+    pub fn set_in(self, options: Options) -> Options
+        ensures { result ≡ with_option self options }
+    {
+        match self {
+            Opt::Loopback(loopback) => Options {
+                loopback,
+                ..options
+            },
+            Opt::RecvOwn(recv_own) => Options {
+                recv_own,
+                ..options
+            },
+            Opt::Join(join) => Options { join, ..options },
+            Opt::ErrMask(err_mask) => Options {
+                err_mask,
+                ..options
+            },
+        }
+    }
+}
+
+/// One call on a bus.
+#[derive(Debug, Drop)]
+pub enum Event {
+    /// Open a socket on an interface, where so many items may wait, 1 to 65,536.
+    Open(Iface, u32),
+    /// Close a socket.
+    Close(SocketId),
+    /// Set the filters of a socket.
+    SetFilters(SocketId, FilterSet),
+    /// Set an option of a socket.
+    SetOption(SocketId, Opt),
+    /// Send a frame on a socket.
+    Send(SocketId, Frame),
+    /// Take the oldest item of a socket.
+    Receive(SocketId),
+    /// Try the frame that wins the bus, at a moment, with these faults.
+    Attempt(Moment, Verdict),
+    /// Restart an interface that is bus off, at a moment.
+    Restart(Iface, Moment),
+}
+
+impl Event {
+    /// Another event that asks for the same. Only a set of filters takes memory, and time by its length.
+    pub fn try_copy(&self, alloc: Global) -> Result<Event, AllocError>
+        ensures { IfOk result (λ event. event ≡ self.now) }
+    {
+        Ok(match self {
+            Event::Open(iface, capacity) => Event::Open(*iface, *capacity),
+            Event::Close(id) => Event::Close(*id),
+            Event::SetFilters(id, filters) => Event::SetFilters(*id, filters.try_copy(alloc)?),
+            Event::SetOption(id, option) => Event::SetOption(*id, *option),
+            Event::Send(id, frame) => Event::Send(*id, *frame),
+            Event::Receive(id) => Event::Receive(*id),
+            Event::Attempt(moment, verdict) => Event::Attempt(*moment, *verdict),
+            Event::Restart(iface, moment) => Event::Restart(*iface, *moment),
+        })
+    }
+}
+
+/// Why a call was refused.
+#[derive(Debug, Clone, Copy, PartialEq, Eq, Error)]
+pub enum Refusal {
+    /// The record has as many entries as the bus was made for.
+    #[error("record full")]
+    RecordFull,
+    /// The bus has no such interface.
+    #[error("no such interface")]
+    NoInterface,
+    /// No socket holds so many items.
+    #[error("bad capacity")]
+    BadCapacity,
+    /// As many sockets are open as may be.
+    #[error("too many sockets")]
+    TooManySockets,
+    /// No such socket is open.
+    #[error("no socket")]
+    NoSocket,
+    /// The interface is bus off.
+    #[error("bus off")]
+    BusOff,
+    /// The transmit queue is full.
+    #[error("no buffers")]
+    NoBuffers,
+    /// The interface is not bus off.
+    #[error("not bus off")]
+    NotBusOff,
+    /// Memory was refused.
+    #[error("no memory")]
+    NoMemory,
+}
+
+/// An item that a socket received: the item, the interface that it comes from, its number there, and
+/// when it was put to the socket. An error message frame comes from the socket's own interface, with
+/// number 0.
+#[derive(Debug, Clone, Copy, PartialEq, Eq)]
+pub struct Received {
+    pub item: Item,
+    pub from: Iface,
+    pub number: u64,
+    pub moment: Moment,
+}
+
+/// What a closed socket leaves behind: items that nobody took, and items that found no room.
+#[derive(Debug, Clone, Copy, PartialEq, Eq)]
+pub struct Closed {
+    pub unread: u64,
+    pub dropped: u64,
+}
+
+/// A frame that was tried: when, whose, its number at that interface, how it ended, the interfaces that
+/// accepted it, those that went bus off, and those that were restarted.
+#[derive(Debug, Clone, Copy, PartialEq, Eq)]
+pub struct Tried {
+    pub moment: Moment,
+    pub winner: Iface,
+    pub number: u64,
+    pub frame: Frame,
+    pub class: Class,
+    pub accepted: IfaceSet,
+    pub off: IfaceSet,
+    pub restarted: IfaceSet,
+}
+
+impl Tried {
+    /// The frame as a socket receives it.
+    pub fn received(&self) -> Received
+        ensures { result ≡ tried_item self.now }
+    {
+        Received {
+            item: Item::Data(self.frame),
+            from: self.winner,
+            number: self.number,
+            moment: self.moment,
+        }
+    }
+}
+
+/// What an attempt came to.
+#[derive(Debug, Clone, Copy, PartialEq, Eq)]
+pub enum Attempt {
+    /// No live interface had a frame to send. These were restarted.
+    Idle(IfaceSet),
+    /// A frame was tried.
+    Tried(Tried),
+}
+
+/// What a call answered.
+#[derive(Debug, Clone, Copy, PartialEq, Eq)]
+pub enum Reply {
+    /// A socket was opened.
+    Opened(SocketId),
+    /// A socket was closed.
+    Closed(Closed),
+    /// Filters or an option were set, or an interface was restarted.
+    Done,
+    /// A frame was accepted for sending, and has this number at its interface.
+    Sent(u64),
+    /// The oldest item, or none.
+    Received(Option<Received>),
+    /// No live interface had a frame to send. These were restarted.
+    Idle(IfaceSet),
+    /// A frame was tried.
+    Tried(Tried),
+    /// The call was refused.
+    Refused(Refusal),
+}
+
+/// A call with its answer. It takes 104 bytes: the event is as wide as `SetFilters` with its filters, and
+/// the reply as wide as `Tried`.
+#[derive(Debug, Drop)]
+pub struct Entry {
+    pub event: Event,
+    pub reply: Reply,
+}
+
+/// A frame that waits to be tried: the socket that sent it, and whether it is looped back.
+#[derive(Debug, Clone, Copy, PartialEq, Eq)]
+pub struct Pending {
+    pub frame: Frame,
+    pub socket: SocketId,
+    pub loopback: bool,
+}

@@ -1,0 +1,93 @@
+ghost use Rattle.std.specs.Prelude.{IsTrue, ◌↔◌};
+ghost use Rattle.can_event.specs.Spelled.{LeavesEntry, IsNumbered, AreNumbered, FitsReply, MayRestart, IsSpelled};
+ghost use Rattle.can_event.specs.declared.events.Reply.TheVariants as reply;
+
+use crate::events::{BusConfig, Entry, Event, Received, Refusal, Reply, Tried};
+use can_frame::{IfaceSet, Item};
+
+/// Whether the text of a record has a line for an entry: its reply is of the event's own kind, or a
+/// refusal other than of a full record or of memory; a frame was tried at the moment of its attempt; and
+/// an error message frame that was received has the number 0. Where the bus is made to restart no
+/// interface by itself, no attempt names one as restarted.
+pub fn is_spelled(config: BusConfig, entry: &Entry) -> bool
+    ensures { IsTrue result ↔ IsSpelled config entry.now }
+{
+    fits_reply(&entry.event, &entry.reply) && may_restart(config, &entry.reply)
+}
+
+/// Whether attempts on this bus may restart the interfaces that a reply names.
+fn may_restart(config: BusConfig, reply: &Reply) -> bool
+    ensures { IsTrue result ↔ MayRestart config reply.now }
+{
+    let restarted = match reply {
+        Reply::Idle(restarted) => *restarted,
+        Reply::Tried(tried) => tried.restarted,
+        _ => IfaceSet::empty(),
+    };
+    config.auto_restart != 0 || restarted == IfaceSet::empty()
+}
+
+/// Whether this reply may stand with this event.
+fn fits_reply(event: &Event, reply: &Reply) -> bool
+    ensures { IsTrue result ↔ FitsReply event.now reply.now }
+{
+    match reply {
+        Reply::Refused(why) => leaves_entry(*why),
+        Reply::Opened(_) => matches!(event, Event::Open(_, _)),
+        Reply::Closed(_) => matches!(event, Event::Close(_)),
+        Reply::Done => is_setting(event),
+        Reply::Sent(_) => matches!(event, Event::Send(_, _)),
+        Reply::Received(item) => matches!(event, Event::Receive(_)) && are_numbered(item),
+        Reply::Idle(_) => matches!(event, Event::Attempt(_, _)),
+        Reply::Tried(tried) => is_attempt_of(event, tried),
+    }
+}
+
+/// Whether this event is answered `Done`.
+fn is_setting(event: &Event) -> bool
+    ensures { IsTrue result ↔ FitsReply event.now reply.Done }
+{
+    match event {
+        Event::SetFilters(_, _) => true,
+        Event::SetOption(_, _) => true,
+        Event::Restart(_, _) => true,
+        _ => false,
+    }
+}
+
+/// Whether this event is an attempt, at the moment at which the frame was tried.
+fn is_attempt_of(event: &Event, tried: &Tried) -> bool
+    ensures { IsTrue result ↔ FitsReply event.now (reply.Tried tried.now) }
+{
+    match event {
+        Event::Attempt(moment, _) => tried.moment == *moment,
+        _ => false,
+    }
+}
+
+/// Whether the item, if there is one, has a number that it may have.
+fn are_numbered(item: &Option<Received>) -> bool
+    ensures { IsTrue result ↔ AreNumbered item.now }
+{
+    match item {
+        Some(received) => is_numbered(received),
+        None => true,
+    }
+}
+
+/// Whether an item has a number that it may have: 0 for an error message frame.
+fn is_numbered(received: &Received) -> bool
+    ensures { IsTrue result ↔ IsNumbered received.now }
+{
+    match &received.item {
+        Item::Data(_) => true,
+        Item::Error(_) => received.number == 0,
+    }
+}
+
+/// Whether a call that is refused so leaves an entry.
+fn leaves_entry(why: Refusal) -> bool
+    ensures { IsTrue result ↔ LeavesEntry why }
+{
+    !matches!(why, Refusal::RecordFull | Refusal::NoMemory)
+}

@@ -1,0 +1,75 @@
+// A frame from one client of a server to another.
+
+ghost use Rattle.std.specs.Prelude.{◌≡◌};
+ghost use Rattle.can_server.specs.Benches.{NamedFrom};
+
+use super::clients::*;
+use super::*;
+use can_bus::Record;
+use can_logfile::write_tape;
+use std::marker::Brand;
+use std::thread::join;
+use std::{env, fs, io, process};
+use can_test_streams::Output;
+
+/// The first client sends once the second listens.
+fn talk<R: Abort>(mut first: Client<'_, R>, mut second: Client<'_, R>) {
+    second.ask("< open can1 >< rawmode >", "< hi >< ok >< ok >");
+    first.ask("< open can0 >< rawmode >", "< hi >< ok >< ok >");
+    first.say("< send 123 4 11 22 33 44 >");
+    second.hear("< frame 123 23.424242 11223344 >");
+}
+
+/// The record of a bus of can0 and can1 whose two clients talk.
+fn record<N: RollName + MeterName + Send + Sync, R: Machine>(
+    rt: &R,
+    alloc: Global,
+    benches: Vec<Bench<Perfect, Open>>,
+    entrance: Entrance,
+) -> Record
+    requires { NamedFrom N.roll N.meter 0 benches.items }
+{
+    let hub = made::<N, _, _, _>(rt, alloc, benches);
+    let host = Host::new(rt);
+    let (first, second) = (entrance.admit(rt, alloc), entrance.admit(rt, alloc));
+    let doors = entrance.into_doors(rt, alloc);
+    let (passes, ()) = join(
+        rt,
+        || serves(rt, alloc, &hub, &doors, &host, None),
+        || talk(first, second),
+    );
+    let Some(bus) = settled(rt, alloc, hub, passes).pop() else {
+        panic!(rt; "no bus");
+    };
+    bus.history
+}
+
+/// The log of a record of can0 and can1.
+fn log<R: Abort>(rt: &R, alloc: Global, record: &Record) -> Vec<u8> {
+    let mut log = Output::new(alloc, 1_000);
+    let lines = write_tape(&names(rt, alloc, "can0,can1"), record, &mut log);
+    assert!(rt; lines == Ok(1));
+    log.text
+}
+
+#[test]
+fn a_frame_crosses_a_server_over_tcp(rt: HostRuntime) {
+    let alloc = rt.alloc();
+    let benches = one_bus(&rt, alloc);
+    let record = record::<Brand, _>(&rt, alloc, benches, Entrance::new(&rt, 2));
+    let wanted = "(0000000023.424242) can0 123#11223344\n";
+    assert!(&rt; log(&rt, alloc, &record).as_slice() == wanted.as_bytes());
+}
+
+#[test]
+fn a_frame_crosses_a_server_over_a_unix_path(rt: HostRuntime) -> io::Result<()> {
+    let alloc = rt.alloc();
+    let path = socket_path(&rt, "rows", process::id(rt.process()))?;
+    let entrance = Entrance::at_path(&rt, &path, 2)?;
+    let benches = one_bus(&rt, alloc);
+    let record = record::<Brand, _>(&rt, alloc, benches, entrance);
+    fs::remove_file(&rt, &path)?;
+    let wanted = "(0000000023.424242) can0 123#11223344\n";
+    assert!(&rt; log(&rt, alloc, &record).as_slice() == wanted.as_bytes());
+    Ok(())
+}

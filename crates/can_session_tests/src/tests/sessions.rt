@@ -1,0 +1,521 @@
+use super::same;
+use can_arbiter::ScanArbiter;
+use can_attempt::AckMode;
+use can_bus::{
+    Attempt, Bus, BusConfig, Closed, IfaceStats, Opt, Pending, Received, Refusal, SocketId,
+    SocketStats,
+};
+use can_confine::Counters;
+use can_fault::{GlobalKind, Verdict};
+use can_filter::FilterSet;
+use can_frame::{CanId, Frame, Iface, IfaceSet, Item, Moment, Names};
+use can_queue::ListQueue;
+use can_session::{BusPort, Port, PortRefusal, Session, SessionFault, Stage};
+use std::alloc::{AllocGlobal, Global};
+use std::process::Abort;
+use can_test_streams::Output;
+
+/// A port that gives one item at each receive, and counts its calls.
+#[derive(Drop)]
+struct Counting {
+    calls: u32,
+    closes: u32,
+    is_last_close: bool,
+}
+
+impl Counting {
+    fn new() -> Counting {
+        Counting {
+            calls: 0,
+            closes: 0,
+            is_last_close: false,
+        }
+    }
+
+    fn count(&mut self, is_close: bool) {
+        self.calls = self.calls.saturating_add(1);
+        if is_close {
+            self.closes = self.closes.saturating_add(1);
+        }
+        self.is_last_close = is_close;
+    }
+}
+
+impl Port for Counting {
+    ghost step = { λ old call reply new. Unit {0} };
+
+    fn attach(&mut self, _name: &[u8]) -> Result<Iface, PortRefusal> {
+        self.count(false);
+        Iface::new(0).ok_or(PortRefusal::TooManyPasses)
+    }
+
+    fn open(&mut self, _iface: Iface, _capacity: u32) -> Result<SocketId, PortRefusal> {
+        self.count(false);
+        Ok(SocketId(7))
+    }
+
+    fn close(&mut self, _socket: SocketId) -> Result<Closed, PortRefusal> {
+        self.count(true);
+        Err(PortRefusal::Bus(Refusal::RecordFull))
+    }
+
+    fn set_filters(&mut self, _socket: SocketId, _filters: &FilterSet) -> Result<(), PortRefusal> {
+        self.count(false);
+        Ok(())
+    }
+
+    fn set_option(&mut self, _socket: SocketId, _option: Opt) -> Result<(), PortRefusal> {
+        self.count(false);
+        Ok(())
+    }
+
+    fn send(&mut self, _socket: SocketId, _frame: Frame) -> Result<u64, PortRefusal> {
+        self.count(false);
+        Err(PortRefusal::WrongStation)
+    }
+
+    fn receive(&mut self, _socket: SocketId) -> Result<Option<Received>, PortRefusal> {
+        self.count(false);
+        Ok(received())
+    }
+
+    fn restart(&mut self, _iface: Iface, _moment: Moment) -> Result<(), PortRefusal> {
+        self.count(false);
+        Ok(())
+    }
+
+    fn socket_stats(&mut self, _socket: SocketId) -> Option<SocketStats> {
+        self.count(false);
+        None
+    }
+
+    fn iface_stats(&mut self, _iface: Iface) -> Option<IfaceStats> {
+        self.count(false);
+        None
+    }
+
+    fn status(&mut self, _iface: Iface) -> Counters {
+        self.count(false);
+        Counters::zero()
+    }
+}
+
+type ListPort = BusPort<ListQueue<Pending>, ListQueue<Received>, ScanArbiter>;
+
+/// A frame as it is received: 123 with the data 01FF, from interface 0 at microsecond 5.
+fn received() -> Option<Received> {
+    let frame = Frame::data(CanId::standard(0x123).ok()?, b"\x01\xFF").ok()?;
+    Some(Received {
+        item: Item::Data(frame),
+        from: Iface::new(0)?,
+        number: 0,
+        moment: Moment::new(5).ok()?,
+    })
+}
+
+fn bus_of(alloc: Global, names: &str, ack: AckMode) -> Option<ListPort> {
+    let names = Names::read(alloc, names).ok()?;
+    let config = BusConfig {
+        ifaces: names.count(),
+        ack,
+        reporting: IfaceSet::empty(),
+        tx_capacity: 16,
+        limit: 200,
+        auto_restart: 0,
+    };
+    let bus = Bus::new(alloc, config).ok()?;
+    Some(BusPort::new(alloc, names, bus))
+}
+
+/// What a session writes for a piece, at a moment in microseconds.
+fn told<P: Port>(
+    session: &mut Session,
+    alloc: Global,
+    piece: &[u8],
+    micros: u64,
+    port: &mut P,
+) -> Option<Vec<u8>> {
+    let mut out = Output::new(alloc, 10_000);
+    let moment = Moment::new(micros).ok()?;
+    session.feed(alloc, piece, moment, port, &mut out).ok()?;
+    if out.writes > 1 {
+        return None;
+    }
+    Some(out.text)
+}
+
+/// What a session writes until there is no item more.
+fn drained<P: Port>(session: &mut Session, alloc: Global, port: &mut P) -> Option<Vec<u8>> {
+    let mut out = Output::new(alloc, 10_000);
+    for _ in 0..100 {
+        if !session.deliver(port, &mut out).ok()? {
+            return Some(out.text);
+        }
+    }
+    None
+}
+
+/// A session writes this for a piece.
+fn says<P: Port>(
+    rt: &(impl Abort + AllocGlobal),
+    session: &mut Session,
+    piece: &[u8],
+    micros: u64,
+    port: &mut P,
+    want: &[u8],
+) {
+    let text = told(session, rt.alloc(), piece, micros, port).expect(rt, "a text");
+    assert_eq!(rt; text.as_slice(), want, "after {piece:?}");
+}
+
+/// A session writes this until there is no item more.
+fn drains<P: Port>(
+    rt: &(impl Abort + AllocGlobal),
+    session: &mut Session,
+    port: &mut P,
+    want: &[u8],
+) {
+    let text = drained(session, rt.alloc(), port).expect(rt, "a text");
+    same(rt, text.as_slice(), want);
+}
+
+/// What a new session writes for its greeting and the pieces.
+fn told_in_pieces<P: Port>(
+    alloc: Global,
+    stream: &[u8],
+    cut: usize,
+    port: &mut P,
+) -> Option<Vec<u8>> {
+    let mut session = Session::new(alloc, 256).ok()?;
+    let mut out = Output::new(alloc, 10_000);
+    let moment = Moment::new(0).ok()?;
+    session.greet(&mut out).ok()?;
+    session
+        .feed(
+            alloc,
+            &stream[..cut.min(stream.len())],
+            moment,
+            port,
+            &mut out,
+        )
+        .ok()?;
+    session
+        .feed(
+            alloc,
+            &stream[cut.min(stream.len())..],
+            moment,
+            port,
+            &mut out,
+        )
+        .ok()?;
+    Some(out.text)
+}
+
+/// A session in raw mode on an interface.
+fn raw_on<P: Port>(alloc: Global, open: &[u8], port: &mut P) -> Option<Session> {
+    let mut session = Session::new(alloc, 256).ok()?;
+    let text = told(&mut session, alloc, open, 0, port)?;
+    if text.as_slice() == b"< ok >< ok >".as_slice() {
+        Some(session)
+    } else {
+        None
+    }
+}
+
+#[test]
+fn every_cut_is_answered_alike(rt: HostRuntime) {
+    let stream = b"x< echo >< < echo >";
+    for cut in 0..stream.len() + 1 {
+        let mut port = Counting::new();
+        let text = told_in_pieces(rt.alloc(), stream, cut, &mut port).expect(&rt, "memory");
+        assert_eq!(rt;
+            text.as_slice(),
+            b"< hi >< echo >< echo >".as_slice(),
+            "cut at {cut}"
+        );
+        same(&rt, port.calls, 0);
+    }
+}
+
+#[test]
+fn one_byte_at_a_time_is_answered_as_all_at_once(rt: HostRuntime) {
+    let stream = b"< open can0 >< rawmode >< loopback 0 >< send 123 1 1 >< stats >< echo >";
+    let mut port = bus_of(rt.alloc(), "can0", AckMode::Always).expect(&rt, "a bus");
+    let mut session = Session::new(rt.alloc(), 256).expect(&rt, "memory");
+    let mut text = Vec::new(rt.alloc());
+    for byte in stream {
+        let more = told(&mut session, rt.alloc(), &[*byte], 0, &mut port).expect(&rt, "memory");
+        text.extend_from_slice(&more).expect(&rt, "memory");
+    }
+    let want = b"< ok >< ok >< ok >< stats 0 0 0 1 0 1 0 0 >< echo >";
+    same(&rt, text.as_slice(), want.as_slice());
+}
+
+#[test]
+fn a_long_message_is_told_and_the_next_is_read(rt: HostRuntime) {
+    let cases: [(usize, &[u8]); 2] = [
+        (1024, b"< error unknown command >< echo >"),
+        (1025, b"< error message too long >< echo >"),
+    ];
+    for (len, want) in cases {
+        let mut stream = Vec::new(rt.alloc());
+        stream.push(b'<').expect(&rt, "memory");
+        for _ in 0..len {
+            stream.push(b'a').expect(&rt, "memory");
+        }
+        stream.extend_from_slice(b">< echo >").expect(&rt, "memory");
+        let mut session = Session::new(rt.alloc(), 256).expect(&rt, "memory");
+        let mut port = Counting::new();
+        says(&rt, &mut session, &stream, 0, &mut port, want);
+    }
+}
+
+#[test]
+fn faults_and_refusals_are_told(rt: HostRuntime) {
+    let mut port = bus_of(rt.alloc(), "can0,can1", AckMode::Always).expect(&rt, "a bus");
+    let mut session = raw_on(rt.alloc(), b"< open can0 >< rawmode >", &mut port).expect(
+        &rt, "raw mode",
+    );
+    let cases: [(&[u8], &[u8]); 12] = [
+        (b"< send 1234 0 >", b"< error bad id >"),
+        (b"< send 800 0 >", b"< error bad id >"),
+        (b"< send 123 9 >", b"< error bad length >"),
+        (b"< send 123 1 >", b"< error bad word count >"),
+        (b"< filter 1 123 20000000 >", b"< error invalid filter >"),
+        (b"< >", b"< error empty message >"),
+        (b"< bcmmode >", b"< error mode not supported >"),
+        (b"< open can0 >", b"< error wrong state >"),
+        (b"< send A0000123 0 >", b"< error bad id >"),
+        (b"< restart >", b"< error not bus off >"),
+        (b"< rawmode >", b"< ok >"),
+        (b"< filter 1 123 C00007FF >", b"< ok >"),
+    ];
+    for (piece, want) in cases {
+        says(&rt, &mut session, piece, 0, &mut port, want);
+    }
+    let mut other = Session::new(rt.alloc(), 256).expect(&rt, "memory");
+    says(
+        &rt,
+        &mut other,
+        b"< open can2 >",
+        0,
+        &mut port,
+        b"< error no such interface >",
+    );
+    says(
+        &rt,
+        &mut other,
+        b"<open \xFF>",
+        0,
+        &mut port,
+        b"< error no such interface >",
+    );
+}
+
+/// One attempt at a moment in microseconds.
+fn attempt(port: &mut ListPort, micros: u64, verdict: Verdict) -> bool {
+    match Moment::new(micros) {
+        Ok(moment) => matches!(port.attempt(moment, verdict), Ok(Attempt::Tried(_))),
+        Err(_) => false,
+    }
+}
+
+#[test]
+fn a_frame_goes_from_one_session_to_another(rt: HostRuntime) {
+    let mut port = bus_of(rt.alloc(), "can0,can1", AckMode::Always).expect(&rt, "a bus");
+    let mut one = raw_on(rt.alloc(), b"< open can0 >< rawmode >", &mut port).expect(&rt, "raw");
+    let mut two = raw_on(rt.alloc(), b"< open can1 >< rawmode >", &mut port).expect(&rt, "raw");
+    let send = b"< send 123 4 11 22 33 44 >";
+    says(&rt, &mut one, send, 0, &mut port, b"");
+    assert!(rt; attempt(&mut port, 23_424_242, Verdict::Good));
+    drains(
+        &rt,
+        &mut two,
+        &mut port,
+        b"< frame 123 23.424242 11223344 >",
+    );
+    drains(&rt, &mut one, &mut port, b"");
+    says(
+        &rt,
+        &mut two,
+        b"< stats >",
+        0,
+        &mut port,
+        b"< stats 1 0 1 0 0 0 0 0 >",
+    );
+}
+
+#[test]
+fn nothing_follows_a_close(rt: HostRuntime) {
+    let mut port = bus_of(rt.alloc(), "can0,can1", AckMode::Always).expect(&rt, "a bus");
+    let mut one = raw_on(rt.alloc(), b"< open can0 >< rawmode >", &mut port).expect(&rt, "raw");
+    let mut two = raw_on(rt.alloc(), b"< open can1 >< rawmode >", &mut port).expect(&rt, "raw");
+    let send = b"< send 123 4 11 22 33 44 >";
+    told(&mut one, rt.alloc(), send, 0, &mut port).expect(&rt, "memory");
+    assert!(rt; attempt(&mut port, 23_424_242, Verdict::Good));
+    let close = b"< close >< echo >";
+    says(&rt, &mut two, close, 0, &mut port, b"< closed 1 0 >");
+    same(&rt, two.stage(), Stage::Ended);
+    assert!(rt; drained(&mut two, rt.alloc(), &mut port).is_none());
+    assert!(rt; told(&mut two, rt.alloc(), b"< echo >", 0, &mut port).is_none());
+}
+
+#[test]
+fn error_message_frames_are_told_with_their_data(rt: HostRuntime) {
+    let mut port = bus_of(rt.alloc(), "can0", AckMode::Peers).expect(&rt, "a bus");
+    let mut one = raw_on(rt.alloc(), b"< open can0 >< rawmode >", &mut port).expect(&rt, "raw");
+    let piece = b"< errmask 204 >< errdata 1 >< send 123 0 >";
+    says(&rt, &mut one, piece, 0, &mut port, b"< ok >< ok >");
+    for micros in 1..18 {
+        assert!(rt; attempt(&mut port, micros, Verdict::Good));
+    }
+    let want = b"< error 204 0.000012 0008000000006000 >< error 204 0.000016 0020000000008000 >";
+    drains(&rt, &mut one, &mut port, want);
+    let status = b"< status passive 128 0 >";
+    says(&rt, &mut one, b"< status >", 17, &mut port, status);
+}
+
+/// The error counters that a port tells of the interface of a number, its transmit count first.
+fn counts<P: Port>(port: &mut P, number: u8) -> Option<(u16, u16)> {
+    let counters = port.status(Iface::new(number)?);
+    Some((counters.tec(), counters.rec()))
+}
+
+#[test]
+fn a_bus_tells_the_error_counters_of_each_interface(rt: HostRuntime) {
+    let mut port = bus_of(rt.alloc(), "can0,can1", AckMode::Always).expect(&rt, "a bus");
+    let mut one = raw_on(rt.alloc(), b"< open can1 >< rawmode >", &mut port).expect(&rt, "raw");
+    says(&rt, &mut one, b"< send 123 0 >", 0, &mut port, b"");
+    assert!(rt; attempt(&mut port, 1, Verdict::Global(GlobalKind::Bit)));
+    same(&rt, counts(&mut port, 1), Some((8, 0)));
+    same(&rt, counts(&mut port, 0), Some((0, 1)));
+    same(&rt, counts(&mut port, 2), Some((0, 0)));
+    same(&rt, counts(&mut port, 15), Some((0, 0)));
+}
+
+#[test]
+fn a_restart_has_the_moment_of_its_piece(rt: HostRuntime) {
+    let mut port = bus_of(rt.alloc(), "can0,can1", AckMode::Always).expect(&rt, "a bus");
+    let mut one = raw_on(rt.alloc(), b"< open can0 >< rawmode >", &mut port).expect(&rt, "raw");
+    let piece = b"< errmask 140 >< send 123 0 >< send 123 0 >< send 123 0 >";
+    told(&mut one, rt.alloc(), piece, 0, &mut port).expect(&rt, "memory");
+    for micros in 1..33 {
+        assert!(rt; attempt(&mut port, micros, Verdict::Global(GlobalKind::Bit)));
+    }
+    drains(&rt, &mut one, &mut port, b"< error 040 0.000032 >");
+    says(
+        &rt,
+        &mut one,
+        b"< send 123 0 >",
+        32,
+        &mut port,
+        b"< error bus off >",
+    );
+    says(&rt, &mut one, b"< restart >", 40, &mut port, b"< ok >");
+    drains(&rt, &mut one, &mut port, b"< error 100 0.000040 >");
+    says(
+        &rt,
+        &mut one,
+        b"< stats >",
+        40,
+        &mut port,
+        b"< stats 2 0 2 3 0 0 3 0 >",
+    );
+}
+
+/// What a feed, a delivery and an end of a session that is over answer: three times `Ended`.
+fn is_over<P: Port>(session: &mut Session, alloc: Global, port: &mut P) -> bool {
+    let mut out = Output::new(alloc, 100);
+    let Ok(moment) = Moment::new(0) else {
+        return false;
+    };
+    let fed = session.feed(alloc, b"< echo >", moment, port, &mut out);
+    let delivered = session.deliver(port, &mut out);
+    let ended = session.end(port);
+    let greeted = session.greet(&mut out);
+    matches!(fed, Err(SessionFault::Ended))
+        && matches!(delivered, Err(SessionFault::Ended))
+        && matches!(ended, Err(SessionFault::Ended))
+        && matches!(greeted, Err(SessionFault::Ended))
+        && out.writes == 0
+}
+
+/// What a delivery answers where the writer has so much room.
+fn deliver<P: Port>(
+    session: &mut Session,
+    alloc: Global,
+    room: usize,
+    port: &mut P,
+) -> Result<bool, SessionFault> {
+    session.deliver(port, &mut Output::new(alloc, room))
+}
+
+#[test]
+fn a_writer_that_fails_ends_the_session(rt: HostRuntime) {
+    let mut port = Counting::new();
+    let mut session = raw_on(rt.alloc(), b"< open can0 >< rawmode >", &mut port).expect(&rt, "raw");
+    same(&rt, port.calls, 2);
+    same(
+        &rt,
+        deliver(&mut session, rt.alloc(), 100, &mut port),
+        Ok(true),
+    );
+    same(
+        &rt,
+        deliver(&mut session, rt.alloc(), 12, &mut port),
+        Err(SessionFault::Write),
+    );
+    same(&rt, port.calls, 5);
+    assert!(rt; port.is_last_close);
+    assert!(rt; is_over(&mut session, rt.alloc(), &mut port));
+    same(&rt, port.calls, 5);
+}
+
+#[test]
+fn a_piece_whose_text_is_not_taken_ends_the_session(rt: HostRuntime) {
+    let mut port = Counting::new();
+    let mut session = raw_on(rt.alloc(), b"< open can0 >< rawmode >", &mut port).expect(&rt, "raw");
+    says(
+        &rt,
+        &mut session,
+        b"< send 1 0 >",
+        0,
+        &mut port,
+        b"< error wrong station >",
+    );
+    says(
+        &rt,
+        &mut session,
+        b"< stats >",
+        0,
+        &mut port,
+        b"< error no socket >",
+    );
+    let mut out = Output::new(rt.alloc(), 3);
+    let moment = Moment::new(0).expect(&rt, "a moment");
+    let fed = session.feed(rt.alloc(), b"< echo >", moment, &mut port, &mut out);
+    same(&rt, fed, Err(SessionFault::Write));
+    same(&rt, port.calls, 5);
+    assert!(rt; port.is_last_close);
+    assert!(rt; is_over(&mut session, rt.alloc(), &mut port));
+    same(&rt, port.calls, 5);
+}
+
+#[test]
+fn an_end_closes_a_raw_socket_alone(rt: HostRuntime) {
+    let cases: [(&[u8], u32, u32); 3] = [
+        (b"", 0, 0),
+        (b"< open can0 >", 1, 0),
+        (b"< open can0 >< rawmode >", 3, 1),
+    ];
+    for (piece, calls, closes) in cases {
+        let mut port = Counting::new();
+        let mut session = Session::new(rt.alloc(), 256).expect(&rt, "memory");
+        told(&mut session, rt.alloc(), piece, 0, &mut port).expect(&rt, "memory");
+        same(&rt, session.end(&mut port), Ok(()));
+        same(&rt, port.calls, calls);
+        same(&rt, port.closes, closes);
+        assert!(rt; is_over(&mut session, rt.alloc(), &mut port));
+        same(&rt, port.calls, calls);
+    }
+}

@@ -1,5 +1,0 @@
-use Rattle.can_server.proofs.Naming.{named}
-use Rattle.server_tests.proofs.tests.limits.a_full_record_refuses_calls_alone.Goals as goal
-
-pub is_full-requires-after_bounds : goal.is_full-requires-after_bounds
-is_full-requires-after_bounds g c κs = named c.one-benches.result.items
