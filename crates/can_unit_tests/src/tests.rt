@@ -7,6 +7,7 @@ mod filters;
 mod frames;
 mod logs;
 mod messages;
+mod packed;
 mod queues;
 
 use std::fmt::Debug;

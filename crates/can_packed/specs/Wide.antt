@@ -1,0 +1,38 @@
+use Rattle.std.specs.Prelude.{ℕ, ◌^◌, ◌==◌, nat_le, Bool, true, false, not, ◌||◌, ◌&&◌, Some, None}
+use Rattle.can_frame.specs.Sets.{no_ifaces}
+use Rattle.can_frame.specs.declared.ifaces.IfaceSet.{IfaceSet}
+use Rattle.can_event.specs.declared.events.Event.{Event}
+use Rattle.can_event.specs.declared.events.Event.TheVariants.{Open, Close, SetFilters, SetOption, Send, Receive, Attempt, Restart}
+use Rattle.can_event.specs.declared.events.Reply.{Reply}
+use Rattle.can_event.specs.declared.events.Reply.TheVariants as reply
+
+-- Which entries are wide: they do not fit in 32 bytes, and take memory of their own (own choice).
+
+-- the number of a frame does not fit 32 bits; no frame of a legal record has such a number
+abbrev pub is_large : ℕ → Bool
+is_large number = nat_le (2 ^ 32) number
+
+-- of the interfaces, at most the winner went bus off
+abbrev pub is_off_alone : ℕ → IfaceSet → Bool
+is_off_alone winner off = (off.0 == 0) || (off.0 == 2 ^ winner)
+
+-- the filters of a socket are wide, and so is what no bus answers: another kind of reply than the event has, an attempt at
+-- another moment, in which others than the winner went off, or numbers that no record reaches
+abbrev pub is_wide : Event → Reply → Bool
+is_wide (Open i capacity) (reply.Opened s) = false
+is_wide (Open i capacity) (reply.Refused why) = false
+is_wide (Close s) (reply.Closed counts) = false
+is_wide (Close s) (reply.Refused why) = false
+is_wide (SetOption s option) reply.Done = false
+is_wide (SetOption s option) (reply.Refused why) = false
+is_wide (Send s frame) (reply.Sent number) = is_large number
+is_wide (Send s frame) (reply.Refused why) = false
+is_wide (Receive s) (reply.Received None) = false
+is_wide (Receive s) (reply.Received (Some r)) = is_large r.number
+is_wide (Receive s) (reply.Refused why) = false
+is_wide (Attempt m v) (reply.Idle restarted) = false
+is_wide (Attempt m v) (reply.Tried t) = is_large t.number || not (t.moment == m) || not (is_off_alone t.winner t.off)
+is_wide (Attempt m v) (reply.Refused why) = false
+is_wide (Restart i m) reply.Done = false
+is_wide (Restart i m) (reply.Refused why) = false
+is_wide _ _ = true

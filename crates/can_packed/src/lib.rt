@@ -1,0 +1,17 @@
+//! Entries of a record in 32 bytes each, where `Entry` takes 104.
+//!
+//! What is kept gives back the very entry: its model is that entry. An entry that a bus answers fits, but for the filters
+//! of a socket, which take memory of their own, as they do anyhow. `PackedRecord` is a list of them with the memory for all
+//! taken at once, so that an entry that fits takes none when it comes.
+#![tactic(auto)]
+
+mod frame_words;
+mod kept;
+pub mod packed;
+mod packing;
+pub mod records;
+mod unpacking;
+mod verdicts;
+
+pub use packed::Packed;
+pub use records::PackedRecord;
