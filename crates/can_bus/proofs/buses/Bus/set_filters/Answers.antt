@@ -10,13 +10,13 @@ use Rattle.can_bus.proofs.buses.Bus.set_filters.Given as given
 use Rattle.can_bus.proofs.buses.Bus.set_filters.Goals as goal
 
 -- both copies are the filters that were given
-longer : (g : given.Over) (c : goal.After-push g) → IsLonger c.self.inside.record (record { event = event.SetFilters c.args.id c.args.filters.now; reply = c.done_reply.result }) c.push.new.self
-longer g c = subst (λ (fs : List CanFilter). IsLonger c.self.inside.record (record { event = event.SetFilters c.args.id fs; reply = c.done_reply.result }) c.push.new.self) c.in-Ok-try_copy.ensures c.push.ensures
+longer : (g : given.Over) (c : goal.After-push_boxed g) → IsLonger c.self.inside.record (record { event = event.SetFilters c.args.id c.args.filters.now; reply = c.done_reply.result }) c.push_boxed.new.self
+longer g c = subst (λ (fs : List CanFilter). IsLonger c.self.inside.record (record { event = event.SetFilters c.args.id fs; reply = c.done_reply.result }) c.push_boxed.new.self) c.in-Ok-try_copy.ensures c.push_boxed.ensures
 
-sets : (g : given.Over) (c : goal.After-push g) → Sets c.self.inside.state c.args.id.0 (λ v. record v { filters = c.args.filters.now }) c.set_filters-outcome.result c.set_filters-outcome.new.self
+sets : (g : given.Over) (c : goal.After-push_boxed g) → Sets c.self.inside.state c.args.id.0 (λ v. record v { filters = c.args.filters.now }) c.set_filters-outcome.result c.set_filters-outcome.new.self
 sets g c = subst (λ (fs : List CanFilter). Sets c.self.inside.state c.args.id.0 (λ v. record v { filters = fs }) c.set_filters-outcome.result c.set_filters-outcome.new.self) c.in-Ok.ensures c.set_filters-outcome.ensures
 
-is_done : (g : given.Over) (c : goal.After-push g) → IsDone done_reply c.args.self.now (event.SetFilters c.args.id c.args.filters.now) c.set_filters-outcome.result c.push.new.self c.set_filters-outcome.new.self
+is_done : (g : given.Over) (c : goal.After-push_boxed g) → IsDone done_reply c.args.self.now (event.SetFilters c.args.id c.args.filters.now) c.set_filters-outcome.result c.push_boxed.new.self c.set_filters-outcome.new.self
 is_done g c =
     done done_reply (λ (p : Parts). Sets p c.args.id.0 (λ v. record v { filters = c.args.filters.now }) c.set_filters-outcome.result c.set_filters-outcome.new.self)
     c.self.view_is c.self.invariant c.is_full.ensures c.if-is_full.false (sets g c) c.done_reply.ensures (longer g c)
