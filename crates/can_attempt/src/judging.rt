@@ -9,7 +9,7 @@ ghost use Rattle.can_fault.specs.declared.verdicts.Verdict.TheVariants.{Good};
 use crate::acks::AckMode;
 use crate::classes::Class;
 use crate::judgements::Judgement;
-use crate::nodes::{Nodes, counters_at};
+use crate::nodes::Nodes;
 use crate::surveys::{Survey, can_hear, is_named, survey_of};
 use can_confine::Counters;
 use can_fault::Verdict;
@@ -55,24 +55,23 @@ fn receiver_after(class: Class, is_hit: bool, counters: Counters) -> Counters
     }
 }
 
-/// The counters of the interface at this place after an attempt of this class.
+/// The counters of the interface after an attempt of this class.
 fn counters_after(
     nodes: &Nodes,
     winner: Iface,
     verdict: Verdict,
     class: Class,
-    place: u8,
+    iface: Iface,
 ) -> Counters
-    requires count { nodes.now.count ≤ 16 }
-    requires place { place < nodes.now.count }
+    requires there { iface < nodes.now.count }
     requires live { (counts_at nodes.now winner).tec < 256 }
-    ensures { (a : AckMode) → result ≡ counts_in class (attempt_between nodes.now winner verdict a) place }
+    ensures { (a : AckMode) → result ≡ counts_in class (attempt_between nodes.now winner verdict a) iface }
 {
-    let counters = counters_at(nodes, place);
-    if place == winner.number() {
+    let counters = nodes.counters_of(iface);
+    if iface == winner {
         winner_after(class, counters)
-    } else if can_hear(nodes, winner, place) {
-        receiver_after(class, is_named(verdict, place), counters)
+    } else if can_hear(nodes, winner, iface) {
+        receiver_after(class, is_named(verdict, iface), counters)
     } else {
         counters
     }
@@ -104,7 +103,8 @@ fn each_counters_after(
 {
     let mut counters = nodes.counters;
     for place in 0..nodes.count {
-        counters[place as usize] = counters_after(nodes, winner, verdict, class, place);
+        let iface = Iface::new(place).unwrap();
+        counters[place as usize] = counters_after(nodes, winner, verdict, class, iface);
     }
     counters
 }
@@ -163,7 +163,7 @@ fn off_of(winner: Iface, counters: Counters) -> IfaceSet
 
 /// Judges an attempt of the winner to send a frame: what becomes of it, who accepts it and who was hit, the
 /// error counters after it, and whether the winner went off the bus. The winner is below `count`, which is
-/// 1 to 16, and is not bus off. It looks at each interface twice and takes no memory.
+/// 1 to 16, and is not bus off. It looks at each interface three times at most and takes no memory.
 pub fn judge(nodes: &Nodes, winner: Iface, verdict: Verdict, ack: AckMode) -> Judgement
     requires count { nodes.now.count ≤ 16 }
     requires there { winner < nodes.now.count }

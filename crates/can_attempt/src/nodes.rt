@@ -1,6 +1,3 @@
-ghost use Rattle.std.specs.Prelude.{◌≡◌, ◌<◌};
-ghost use Rattle.can_attempt.specs.Attempts.{counts_at};
-
 use can_confine::Counters;
 use can_frame::Iface;
 
@@ -14,14 +11,6 @@ pub struct Nodes {
     pub counters: [Counters; 16],
 }
 
-/// The counters at this place.
-pub(crate) fn counters_at(nodes: &Nodes, place: u8) -> Counters
-    requires { place < 16 }
-    ensures { result ≡ counts_at nodes.now place }
-{
-    nodes.counters[place as usize]
-}
-
 impl Nodes {
     ghost use Rattle.std.specs.Prelude.{◌≡◌};
     ghost use Rattle.can_confine.specs.Confinement.{is_off, state_of};
@@ -31,7 +20,7 @@ impl Nodes {
     pub fn counters_of(&self, iface: Iface) -> Counters
         ensures { result ≡ counts_at self.now iface }
     {
-        counters_at(self, iface.number())
+        self.counters[iface.number() as usize]
     }
 
     /// Whether an interface is bus off.

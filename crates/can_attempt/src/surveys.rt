@@ -1,10 +1,10 @@
-ghost use Rattle.std.specs.Prelude.{◌≡◌, ◌<◌, ◌≤◌, ◌^◌, ◌==◌, length, not, bit_or};
+ghost use Rattle.std.specs.Prelude.{◌≡◌, ◌≤◌, ◌==◌, length, not};
 ghost use Rattle.std.specs.List.{list_any};
 ghost use Rattle.can_confine.specs.Confinement.{is_passive};
 ghost use Rattle.can_attempt.specs.Attempts.{attempt_between, can_hear, hit, unhurt, is_named, set_of, state_at};
 ghost use Rattle.can_attempt.specs.declared.acks.AckMode.{AckMode};
 
-use crate::nodes::{Nodes, counters_at};
+use crate::nodes::Nodes;
 use can_fault::Verdict;
 use can_frame::{Iface, IfaceSet};
 
@@ -21,31 +21,21 @@ pub(crate) struct Survey {
     pub is_heard: bool,
 }
 
-/// Whether the interface at this place is a receiver: not the winner, and not bus off.
-pub(crate) fn can_hear(nodes: &Nodes, winner: Iface, place: u8) -> bool
-    requires { place < 16 }
-    ensures { (v : _) → (a : AckMode) → result ≡ can_hear (attempt_between nodes.now winner v a) place }
+/// Whether the interface is a receiver: not the winner, and not bus off.
+pub(crate) fn can_hear(nodes: &Nodes, winner: Iface, iface: Iface) -> bool
+    ensures { (v : _) → (a : AckMode) → result ≡ can_hear (attempt_between nodes.now winner v a) iface }
 {
-    place != winner.number() && !counters_at(nodes, place).state().is_off()
+    iface != winner && !nodes.is_off(iface)
 }
 
-/// Whether a local fault of the verdict strikes the interface at this place.
-pub(crate) fn is_named(verdict: Verdict, place: u8) -> bool
-    requires { place < 16 }
-    ensures { result ≡ is_named verdict place }
+/// Whether a local fault of the verdict strikes the interface.
+pub(crate) fn is_named(verdict: Verdict, iface: Iface) -> bool
+    ensures { result ≡ is_named verdict iface }
 {
     match verdict {
-        Verdict::Local(named, _) => (named.0 >> place) & 1 == 1,
+        Verdict::Local(named, _) => named.contains(iface),
         Verdict::Good | Verdict::Global(_) | Verdict::LastBit => false,
     }
-}
-
-/// The set with the interface at this place too.
-fn with_place(set: IfaceSet, place: u8) -> IfaceSet
-    requires { place < 16 }
-    ensures { result.0 ≡ bit_or set.0 (2 ^ place) }
-{
-    IfaceSet(set.0 | (1 << place))
 }
 
 /// Asks each interface below `count` what it sees.
@@ -61,16 +51,17 @@ pub(crate) fn survey_of(nodes: &Nodes, winner: Iface, verdict: Verdict) -> Surve
     let mut is_hit_active = false;
     let mut is_heard = false;
     for place in 0..nodes.count {
-        if !can_hear(nodes, winner, place) {
+        let iface = Iface::new(place).unwrap();
+        if !can_hear(nodes, winner, iface) {
             continue;
         }
-        if is_named(verdict, place) {
-            hit = with_place(hit, place);
-            if !counters_at(nodes, place).state().is_passive() {
+        if is_named(verdict, iface) {
+            hit = hit.with(iface);
+            if !nodes.counters_of(iface).state().is_passive() {
                 is_hit_active = true;
             }
         } else {
-            unhurt = with_place(unhurt, place);
+            unhurt = unhurt.with(iface);
             is_heard = true;
         }
     }

@@ -1,5 +1,5 @@
-use Rattle.std.proofs.Common.{◌≡◌, ◌⊎◌, ℕ, zero, suc, ◌+◌, ◌-◌, ◌<◌, ◌≤◌, ◌==◌, nat_le, nat_lt, Bool, true, false, not, ◌&&◌, ◌||◌, List, [], ◌∷◌, ◌++◌, filter, Option, Some, None, is_some, if◌then◌else◌, refl, sym, ap, ◌∙◌, subst, arith}
-use Rattle.std.specs.List.{list_any, range_with_len}
+use Rattle.std.proofs.Common.{◌≡◌, ℕ, suc, ◌≤◌, ◌==◌, nat_lt, Bool, true, false, ◌||◌, List, [], ◌∷◌, ◌++◌, filter, Option, Some, None, is_some, if◌then◌else◌, refl, sym, ap, ◌∙◌, subst}
+use Rattle.std.specs.List.{range_with_len}
 use Rattle.std.specs.Option.{option_map}
 use Rattle.std.proofs.lemmas.Bool.{eqb-true, and_parts}
 use Rattle.can_frame.specs.Sets.{is_in}
@@ -7,7 +7,7 @@ use Rattle.can_frame.specs.declared.ifaces.IfaceSet.{IfaceSet}
 use Rattle.can_confine.specs.Confinement.{ErrorCounts, all_stepped, at_start, state_of, is_off}
 use Rattle.can_fault.specs.declared.verdicts.Verdict.{Verdict}
 use Rattle.can_attempt.specs.Attempts.{Transmission, is_among, set_of, steps_at, counts_after, off_after}
-use Rattle.can_attempt.proofs.Places.{is_among-filter, is_among-range}
+use Rattle.can_attempt.proofs.Places.{is_among-filter}
 use Rattle.can_attempt.proofs.Standing.{is_in-of}
 use Rattle.can_event.specs.declared.events.BusConfig.{BusConfig}
 use Rattle.can_event.specs.declared.events.Entry.{Entry}
@@ -23,7 +23,7 @@ use Rattle.can_bus.specs.AutoRestart.{attempts_off, attempts_off_after, is_nth_a
 use Rattle.can_bus.specs.Counters.{counts_of, steps_of, steps_after, state_at, transmission}
 use Rattle.can_bus.specs.Legal.{legal_reply, IsLegal}
 use Rattle.can_bus.proofs.Lawful.{WasTried, by_attempt}
-use Rattle.can_bus.proofs.OffFacts.{all_stepped-append, counts-beyond, winner-contends}
+use Rattle.can_bus.proofs.OffFacts.{all_stepped-append, counts-beyond}
 use Rattle.can_bus.proofs.SilentFacts.{steps-stay}
 
 -- An interface that counts the attempts until its restart is bus off.

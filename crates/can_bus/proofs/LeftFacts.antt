@@ -1,8 +1,8 @@
 use Rattle.std.proofs.Common.{◌≡◌, ◌≢◌, ℕ, zero, suc, ◌+◌, ◌-◌, ◌<◌, ◌≤◌, ◌==◌, nat_le, nat_lt, Bool, true, false, not, ◌&&◌, ◌||◌, List, [], ◌∷◌, map, replicate, filter, slice_set, slice_index_or, Option, Some, None, if◌then◌else◌, inl, inr, refl, sym, ap, ◌∙◌, arith}
 use Rattle.std.specs.List.{list_any, range_with_len}
 use Rattle.std.specs.Option.{option_map}
-use Rattle.std.proofs.lemmas.Bool.{eqb-true, cases_lt, and_right}
-use Rattle.can_frame.specs.Sets.{is_in, bits_where}
+use Rattle.std.proofs.lemmas.Bool.{eqb-true, cases_lt}
+use Rattle.can_frame.specs.Sets.{is_in}
 use Rattle.can_frame.specs.declared.ifaces.IfaceSet.{IfaceSet}
 use Rattle.can_attempt.specs.Attempts.{is_among}
 use Rattle.can_attempt.proofs.Places.{is_among-filter, is_among-range, bits_where_same}
@@ -11,7 +11,7 @@ use Rattle.can_event.specs.declared.events.Entry.{Entry}
 use Rattle.can_bus.specs.AutoRestart.{attempts_off, is_nth_after, is_due, restarted_next, is_counting, attempts_left, left_after}
 use Rattle.can_bus.specs.Legal.{IsLegal}
 use Rattle.can_bus.specs.State.{kept_left}
-use Rattle.can_bus.specs.Changes.{due_in, ticked, counting_down}
+use Rattle.can_bus.specs.Changes.{due_in, ticked}
 use Rattle.can_bus.proofs.CountingFacts.{beyond-counts-not, restarted-due}
 use Rattle.can_bus.proofs.KeyFacts.{sixteen-one}
 use Rattle.can_bus.proofs.NodeFacts.{index-map}

@@ -38,15 +38,14 @@ fn tried_as(
     }
 }
 
-/// The error counters at this place, which begin anew where its interface is one of these.
-fn anew_at(nodes: &Nodes, restarted: IfaceSet, place: u8) -> Counters
-    requires { place < 16 }
-    ensures { result ≡ (if is_in place restarted then at_start else counts_at nodes.now place) }
+/// The error counters of an interface, which begin anew where it is one of these.
+fn anew_at(nodes: &Nodes, restarted: IfaceSet, iface: Iface) -> Counters
+    ensures { result ≡ (if is_in iface restarted then at_start else counts_at nodes.now iface) }
 {
-    if (restarted.0 >> place) & 1 == 1 {
+    if restarted.contains(iface) {
         Counters::zero()
     } else {
-        nodes.counters[place as usize]
+        nodes.counters_of(iface)
     }
 }
 
@@ -56,7 +55,8 @@ pub fn begun_anew(nodes: &Nodes, restarted: IfaceSet) -> [Counters; 16]
 {
     let mut counters = [Counters::zero(); 16];
     for place in 0..16u8 {
-        counters[place as usize] = anew_at(nodes, restarted, place);
+        let iface = Iface::new(place).unwrap();
+        counters[place as usize] = anew_at(nodes, restarted, iface);
     }
     counters
 }

@@ -1,17 +1,9 @@
-ghost use Rattle.std.specs.Prelude.{◌≡◌, ◌==◌, ◌<◌, ◌^◌, bit_or, not, map, replicate, slice_set};
+ghost use Rattle.std.specs.Prelude.{◌≡◌, ◌==◌, not, replicate, slice_set};
 ghost use Rattle.std.specs.List.{list_any};
 ghost use Rattle.can_bus.specs.Changes.{counting_down, due_in, ticked};
 
 use can_frame::{Iface, IfaceSet};
 use std::marker::Model;
-
-/// The set with the interface at this place too.
-fn with_place(set: IfaceSet, place: u8) -> IfaceSet
-    requires { place < 16 }
-    ensures { result.0 ≡ bit_or set.0 (2 ^ place) }
-{
-    IfaceSet(set.0 | (1 << place))
-}
 
 /// How many attempts are left until each interface is restarted: 0 where it does not count.
 #[derive(Drop)]
@@ -65,7 +57,7 @@ impl Countdown {
         let mut due = IfaceSet::empty();
         for place in 0..16u8 {
             if self.left[place as usize] == 1 {
-                due = with_place(due, place);
+                due = due.with(Iface::new(place).unwrap());
             }
         }
         due

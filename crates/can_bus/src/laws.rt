@@ -80,7 +80,8 @@ pub fn own_copies_are_single(config: BusConfig)
 
 /// On a bus of proper configuration a frame reaches a socket at most 32 times. While it is at the head of its
 /// queue the transmit error count of its interface never falls, and each attempt that failed at the last bit
-/// alone adds 8: by the 32nd the interface is bus off, and the frame lost.
+/// alone adds 8: by the 32nd the interface is bus off, and the frame lost. Restarts leave the bound as it is: an interface
+/// that is restarted was bus off, so it had no frame at the head.
 pub fn at_most_32_copies(config: BusConfig)
     ensures copies { IsConfig config → (past : List Entry) → IsLegal config past → AtMost32Copies config past }
     ensures rising { IsConfig config → (past : List Entry) → (e : Entry) → IsLegal config (e ∷ past) → RisesAtTheHead config e past }

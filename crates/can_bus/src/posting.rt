@@ -106,16 +106,6 @@ pub fn tell_all<R: BoundedQueue<Received>>(sockets: &mut [Socket<R>], news: &New
     }
 }
 
-/// Tells a socket that an interface was restarted.
-fn tell_restart_to<R: BoundedQueue<Received>>(socket: &mut Socket<R>, iface: Iface, moment: Moment)
-    requires { socket.old.dropped + 1 < 2 ^ 64 }
-    ensures { socket.new ≡ reached (restart_posts iface moment) socket.old }
-{
-    if socket.iface() == iface {
-        post_error(socket, moment, Some(restart_frame()));
-    }
-}
-
 /// Tells every socket that an interface was restarted.
 pub fn tell_restart<R: BoundedQueue<Received>>(
     sockets: &mut [Socket<R>],
@@ -125,9 +115,7 @@ pub fn tell_restart<R: BoundedQueue<Received>>(
     requires { All (λ v. v.dropped + 1 < 2 ^ 64) sockets.old }
     ensures { sockets.new ≡ map (reached (restart_posts iface moment)) sockets.old }
 {
-    for socket in sockets.iter_mut() {
-        tell_restart_to(socket, iface, moment);
-    }
+    tell_restarts(sockets, IfaceSet::empty().with(iface), moment)
 }
 
 /// Tells a socket that its interface was restarted, if it is among these.

@@ -1,4 +1,4 @@
-use Rattle.std.proofs.Common.{◌≡◌, ℕ, Bool, true, false, not, ◌&&◌, ◌||◌, arith, ap, sym, ◌∙◌, refl}
+use Rattle.std.proofs.Common.{◌≡◌, ℕ, ◌^◌, bit_or, Bool, true, false, not, ◌&&◌, ◌||◌, arith, ap, sym, ◌∙◌, refl}
 use Rattle.can_frame.specs.declared.ifaces.IfaceSet.{IfaceSet}
 use Rattle.can_confine.specs.Confinement.{ErrorCounts, is_passive, state_of}
 use Rattle.can_frame.specs.Sets.{bits_where}
@@ -10,7 +10,9 @@ use Rattle.can_attempt.proofs.surveys.survey_of.Goals.{then-is_named+then-not-is
 
 pub loop-place-preserved-then-not-can_hear : goal.loop-place-preserved-then-not-can_hear
 loop-place-preserved-then-not-can_hear c =
-    let deaf : can_hear (attempt_between c.args.nodes.now c.args.winner c.args.verdict Always) c.loop-place.place ≡ false = sym (c.can_hear.ensures c.args.verdict Always) ∙ c.if-not-can_hear.true in
+    let t : Transmission = attempt_between c.args.nodes.now c.args.winner c.args.verdict Always in
+    let place : c.unwrap-iface.result ≡ c.loop-place.place = (rw c.unwrap-iface.ensures at c.new.ensures).1 in
+    let deaf : can_hear t c.loop-place.place ≡ false = ap (can_hear t) (sym place) ∙ sym (c.can_hear.ensures c.args.verdict Always) ∙ c.if-not-can_hear.true in
     seen_more _ _ _ _ _ _ _ _ c.loop-place.invariant _ _ _ _ (rw deaf refl) (rw deaf refl) (rw deaf (grind arith)) (rw deaf (grind arith))
 
 true_on_the_right : (x : Bool) → true ≡ (x || true)
@@ -22,29 +24,30 @@ false_on_the_right x = grind arith
 pub loop-place-preserved : goal.loop-place-preserved
 loop-place-preserved c =
     let t : Transmission = attempt_between c.args.nodes.now c.args.winner c.args.verdict Always in
-    let hears : can_hear t c.loop-place.place ≡ true = sym (c.can_hear.ensures c.args.verdict Always) ∙ c.if-not-can_hear.false in
+    let place : c.unwrap-iface.result ≡ c.loop-place.place = (rw c.unwrap-iface.ensures at c.new.ensures).1 in
+    let hears : can_hear t c.loop-place.place ≡ true = ap (can_hear t) (sym place) ∙ sym (c.can_hear.ensures c.args.verdict Always) ∙ c.if-not-can_hear.false in
     elim c.if-is_named.branch [
       | then-is_named+then-not-is_passive w ↦
-          let named : is_named c.args.verdict c.loop-place.place ≡ true = sym c.is_named.ensures ∙ w.if-is_named.true in
-          let active : is_passive (state_at t c.loop-place.place) ≡ false = ap (λ (k : ErrorCounts). is_passive (state_of k)) (sym w.counters_at.ensures) ∙ ap is_passive (sym w.state.ensures) ∙ sym w.is_passive.ensures ∙ w.if-not-is_passive.true in
+          let named : is_named c.args.verdict c.loop-place.place ≡ true = ap (is_named c.args.verdict) (sym place) ∙ sym c.is_named.ensures ∙ w.if-is_named.true in
+          let active : is_passive (state_at t c.loop-place.place) ≡ false = ap (λ (n : ℕ). is_passive (state_at t n)) (sym place) ∙ ap (λ (k : ErrorCounts). is_passive (state_of k)) (sym w.counters_of.ensures) ∙ ap is_passive (sym w.state.ensures) ∙ sym w.is_passive.ensures ∙ w.if-not-is_passive.true in
           seen_more _ _ _ _ _ _ _ _ c.loop-place.invariant _ _ _ _
-          (rw (hears, named) (ap (λ (s : IfaceSet). s.0) w.hit-is ∙ w.with_place-hit.ensures))
+          (rw (hears, named) (ap (λ (s : IfaceSet). s.0) w.hit-is ∙ w.with-hit.ensures ∙ ap (λ (n : ℕ). bit_or c.loop-place.hit.0 (2 ^ n)) place))
           (rw (hears, named) (ap (λ (s : IfaceSet). s.0) w.unhurt-is))
           (rw (hears, named, active) (w.is_hit_active-is ∙ true_on_the_right _))
           (rw (hears, named) (w.is_heard-is ∙ false_on_the_right _))
       | then-is_named+else-not-is_passive w ↦
-          let named : is_named c.args.verdict c.loop-place.place ≡ true = sym c.is_named.ensures ∙ w.if-is_named.true in
-          let passive : is_passive (state_at t c.loop-place.place) ≡ true = ap (λ (k : ErrorCounts). is_passive (state_of k)) (sym w.counters_at.ensures) ∙ ap is_passive (sym w.state.ensures) ∙ sym w.is_passive.ensures ∙ w.if-not-is_passive.false in
+          let named : is_named c.args.verdict c.loop-place.place ≡ true = ap (is_named c.args.verdict) (sym place) ∙ sym c.is_named.ensures ∙ w.if-is_named.true in
+          let passive : is_passive (state_at t c.loop-place.place) ≡ true = ap (λ (n : ℕ). is_passive (state_at t n)) (sym place) ∙ ap (λ (k : ErrorCounts). is_passive (state_of k)) (sym w.counters_of.ensures) ∙ ap is_passive (sym w.state.ensures) ∙ sym w.is_passive.ensures ∙ w.if-not-is_passive.false in
           seen_more _ _ _ _ _ _ _ _ c.loop-place.invariant _ _ _ _
-          (rw (hears, named) (ap (λ (s : IfaceSet). s.0) w.hit-is ∙ w.with_place-hit.ensures))
+          (rw (hears, named) (ap (λ (s : IfaceSet). s.0) w.hit-is ∙ w.with-hit.ensures ∙ ap (λ (n : ℕ). bit_or c.loop-place.hit.0 (2 ^ n)) place))
           (rw (hears, named) (ap (λ (s : IfaceSet). s.0) w.unhurt-is))
           (rw (hears, named, passive) (w.is_hit_active-is ∙ false_on_the_right _))
           (rw (hears, named) (w.is_heard-is ∙ false_on_the_right _))
       | else-is_named w ↦
-          let spared : is_named c.args.verdict c.loop-place.place ≡ false = sym c.is_named.ensures ∙ w.if-is_named.false in
+          let spared : is_named c.args.verdict c.loop-place.place ≡ false = ap (is_named c.args.verdict) (sym place) ∙ sym c.is_named.ensures ∙ w.if-is_named.false in
           seen_more _ _ _ _ _ _ _ _ c.loop-place.invariant _ _ _ _
           (rw (hears, spared) (ap (λ (s : IfaceSet). s.0) w.hit-is))
-          (rw (hears, spared) (ap (λ (s : IfaceSet). s.0) w.unhurt-is ∙ w.with_place-unhurt.ensures))
+          (rw (hears, spared) (ap (λ (s : IfaceSet). s.0) w.unhurt-is ∙ w.with-unhurt.ensures ∙ ap (λ (n : ℕ). bit_or c.loop-place.unhurt.0 (2 ^ n)) place))
           (rw (hears, spared) (w.is_hit_active-is ∙ false_on_the_right _))
           (rw (hears, spared) (w.is_heard-is ∙ true_on_the_right _))
     ]

@@ -1,4 +1,4 @@
-use Rattle.std.proofs.Common.{◌≡◌, ℕ, ◌==◌, slice_index_or}
+use Rattle.std.proofs.Common.{◌≡◌, ◌==◌, slice_index_or}
 use Rattle.can_frame.specs.Sets.{bits_where}
 use Rattle.can_bus.proofs.countdowns.Countdown.due.Given as goal
 

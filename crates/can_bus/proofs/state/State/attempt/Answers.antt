@@ -1,4 +1,4 @@
-use Rattle.std.proofs.Common.{ℕ, ◌+◌, ◌^◌, ◌<◌, Some, None, All, refl, sym, subst}
+use Rattle.std.proofs.Common.{◌+◌, ◌^◌, ◌<◌, Some, None, All, refl, sym, subst}
 use Rattle.can_bus.specs.Changes.{AreReady}
 use Rattle.can_bus.specs.State.{LineState, SocketState, Parts}
 use Rattle.can_bus.proofs.Between.{came, fewer_three, ready_left, small_between}

@@ -1,4 +1,4 @@
-use Rattle.std.proofs.Common.{ℕ, ◌+◌, ◌^◌, ◌<◌, All, sym, subst}
+use Rattle.std.proofs.Common.{◌+◌, ◌^◌, ◌<◌, All, sym, subst}
 use Rattle.can_bus.specs.State.{SocketState, Parts}
 use Rattle.can_bus.proofs.Between.{none-restarted}
 use Rattle.can_bus.proofs.state.State.restart_all.Goals as goal

@@ -1,7 +1,0 @@
-use Rattle.std.proofs.Common.{◌≡◌, ◌++◌, take, drop, map}
-use Rattle.can_bus.specs.Posts.{restart_posts}
-use Rattle.can_bus.specs.State.{reached}
-use Rattle.can_bus.proofs.posting.tell_restart.Given as goal
-
-abbrev pub invariant-loop-socket : goal.invariant-loop-socket
-invariant-loop-socket g l = l.sockets ≡ map (reached (restart_posts l.iface l.moment)) (take l.socket-index l.fn.sockets) ++ drop l.socket-index l.fn.sockets
