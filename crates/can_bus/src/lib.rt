@@ -10,6 +10,7 @@ mod attempts;
 pub mod buses;
 mod countdowns;
 pub mod laws;
+pub mod lean;
 mod line;
 mod lines;
 pub mod outcomes;
@@ -27,6 +28,7 @@ pub use can_event::{
     Attempt, BusConfig, Closed, Entry, Event, IfaceStats, Opt, Pending, Received, Refusal, Reply,
     SocketId, SocketStats, Tried, is_spelled,
 };
+pub use lean::{LeanBus, LeanRingBus};
 pub use outcomes::Attempted;
 pub use records::Record;
 pub use runs::{RunFault, answer, run};
