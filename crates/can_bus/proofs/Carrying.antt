@@ -10,10 +10,12 @@ use Rattle.can_event.specs.declared.events.Refusal.TheVariants as refusal
 use Rattle.can_event.specs.declared.events.SocketId.{SocketId}
 use Rattle.can_bus.specs.Answer.{told}
 use Rattle.can_bus.specs.Changes.{Opens}
-use Rattle.can_bus.specs.Lean.{Carries, record_of}
+use Rattle.can_bus.specs.Lean.{Carries, Enters, record_of}
 use Rattle.can_bus.specs.Legal.{legal_reply}
 use Rattle.can_bus.specs.Run.{IsAnswer, history_after}
 use Rattle.can_bus.specs.State.{Parts, kept_parts, IsKept}
+use Rattle.can_event.specs.Spelled.{IsSpelled}
+use Rattle.can_bus.proofs.Fitting.{legal_has_line}
 use Rattle.can_bus.proofs.Keeping.{Follows}
 use Rattle.can_bus.proofs.Opening.{no_memory}
 use Rattle.can_bus.proofs.Refusing.{never_full, never_no_memory}
@@ -58,3 +60,9 @@ carried-no_memory {r} {parts} {parts'} c past i k kept room is opens =
     let here : Opens parts i k (Err refusal.NoMemory) parts' = subst (λ (x : Result SocketId Refusal). Opens parts i k x parts') is opens in
     let refuses = no_memory (record_of c past) (record { config = c; history = past }) parts parts' i k refl kept room here in
     record { answer = (room, refuses.1); after = subst (IsKept (record_of c past)) (sym here.3) kept }
+
+-- an answer that enters the record has a line
+pub answer_is_spelled : (c : BusConfig) (past : List Entry) (e : Event) (r : Reply) → IsAnswer c past e r → Enters r → IsSpelled c (record { event = e; reply = r })
+answer_is_spelled c past e (reply.Refused refusal.RecordFull) answer enters = absurd enters
+answer_is_spelled c past e (reply.Refused refusal.NoMemory) answer enters = absurd enters
+answer_is_spelled c past e r answer enters = legal_has_line c past e r answer.1
