@@ -41,3 +41,4 @@ pub mod LostFacts
 pub mod CopyBound
 pub mod OfferFacts
 pub mod Headlines
+pub mod Carrying

@@ -19,6 +19,7 @@ pub mod News
 pub mod Changes
 pub mod Answer
 pub mod Run
+pub mod Lean
 pub mod Stats
 pub use Rattle.can_frame.specs.Frames
 pub use Rattle.can_frame.specs.Sets

@@ -11,6 +11,7 @@ pub mod buses;
 mod countdowns;
 mod held;
 pub mod laws;
+pub mod lean;
 mod line;
 mod lines;
 pub mod outcomes;
@@ -29,6 +30,7 @@ pub use can_event::{
     SocketId, SocketStats, Tried, is_spelled,
 };
 pub use can_packed::Looked;
+pub use lean::{LeanBus, LeanRingBus};
 pub use outcomes::Attempted;
 pub use records::Record;
 pub use runs::{RunFault, answer, run};

@@ -7,3 +7,4 @@ pub mod Written
 pub mod LineLists
 pub mod Whole
 pub mod Growing
+pub mod Carrying

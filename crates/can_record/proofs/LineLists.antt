@@ -36,7 +36,7 @@ line_behind text buffer e b is = is ∙ rw b (spell-rest (entry_words e) (drop (
 pub line_within : (text buffer : List ℕ) (e : Entry) → buffer ≡ entry_line e [] → text ≡ entry_line e [] ++ drop (length (entry_line e [])) text → length buffer ≤ length text
 line_within text buffer e b is = omega (arith, ap length b, ap length is, length-append (entry_line e []) (drop (length (entry_line e [])) text))
 
-not_zero : (xs : List ℕ) → (xs ≡ [] → ⊥) → 0 < length xs
+pub not_zero : (xs : List ℕ) → (xs ≡ [] → ⊥) → 0 < length xs
 not_zero [] h = absurd (h refl)
 not_zero (x ∷ xs) h = omega arith
 

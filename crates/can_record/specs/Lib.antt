@@ -1,4 +1,5 @@
 pub mod Spelling
 pub mod Values
 pub mod RecordFaults
+pub mod TextAudits
 pub mod inner

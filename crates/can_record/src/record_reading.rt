@@ -1,9 +1,10 @@
-ghost use Rattle.std.specs.Prelude.{◌≡◌, ◌++◌, [], All, IfOk, ◌<◌, ◌^◌, List, ℕ, length};
+ghost use Rattle.std.specs.Prelude.{◌≡◌, ◌++◌, [], All, Err, IfErr, IfOk, ◌<◌, ◌^◌, List, ℕ, length};
 ghost use Rattle.can_event.specs.declared.events.BusConfig.{BusConfig as AConfig};
 ghost use Rattle.can_event.specs.declared.events.Entry.{Entry as AnEntry};
 ghost use Rattle.can_record.specs.Values.{HasLine, HasText};
 ghost use Rattle.can_record.specs.Spelling.{entry_lines, record_spelling};
 ghost use Rattle.can_record.specs.RecordFaults.{LacksEntry, Ends, Reads, ReadsBack};
+ghost use Rattle.can_record.specs.inner.Stepping.{HasFront};
 
 use crate::faults::{ReadFault, Unread};
 use crate::lines::{begins, behind, put_end, read_bus, read_line, read_version};
@@ -34,17 +35,11 @@ pub fn read_record_bytes(alloc: Global, text: &[u8]) -> Result<Record, ReadFault
 fn read_text(alloc: Global, text: &[u8]) -> Result<Record, ReadFault>
     ensures { Reads text.now result }
 {
-    let Some(version) = read_version(text) else {
-        return Err(ReadFault::BadVersion);
-    };
-    let rest = behind(text, version.first_line().len());
     let mut buffer = Vec::new(alloc);
-    let config = match read_bus(&mut buffer, version, rest) {
-        Ok(config) => config,
-        Err(Unread::Bad) => return Err(ReadFault::BadLine(2)),
-        Err(Unread::NoMemory) => return Err(ReadFault::NoMemory),
+    let (config, rest) = match read_front(&mut buffer, text) {
+        Ok(front) => front,
+        Err(why) => return Err(why),
     };
-    let rest = behind(rest, buffer.len());
     let mut entries = Vec::new(alloc);
     let Ok(rest) = read_lines(alloc, config, &mut buffer, &mut entries, rest) else {
         return Err(ReadFault::NoMemory);
@@ -56,8 +51,28 @@ fn read_text(alloc: Global, text: &[u8]) -> Result<Record, ReadFault>
     Ok(Record::from_spelled(config, entries))
 }
 
+/// The bus of the first two lines, and what follows them.
+pub(crate) fn read_front<'a>(
+    buffer: &mut Vec<u8>,
+    text: &'a [u8],
+) -> Result<(BusConfig, &'a [u8]), ReadFault>
+    ensures front { IfOk result (λ x. HasFront text.now x.0 x.1.now) }
+    ensures fault { IfErr result (λ why. Reads text.now (Err why)) }
+{
+    let Some(version) = read_version(text) else {
+        return Err(ReadFault::BadVersion);
+    };
+    let rest = behind(text, version.first_line().len());
+    let config = match read_bus(buffer, version, rest) {
+        Ok(config) => config,
+        Err(Unread::Bad) => return Err(ReadFault::BadLine(2)),
+        Err(Unread::NoMemory) => return Err(ReadFault::NoMemory),
+    };
+    Ok((config, behind(rest, buffer.len())))
+}
+
 /// Whether the text ends here, after so many entries.
-fn read_end(buffer: &mut Vec<u8>, count: usize, text: &[u8]) -> Result<(), ReadFault>
+pub(crate) fn read_end(buffer: &mut Vec<u8>, count: usize, text: &[u8]) -> Result<(), ReadFault>
     requires { count < 2 ^ 63 }
     ensures { Ends count text.now result }
 {

@@ -9,7 +9,7 @@ ghost use Rattle.canbusd_faults.specs.declared.faults.Fault.TheVariants as fault
 use crate::record_notes::record_note;
 use crate::wrong_entries::wrong_note;
 use can_bus::Record;
-use can_record::read_record;
+use can_record::{count_legal, read_record};
 use can_replay::{AuditFault, audit};
 use canbusd_faults::{Failure, Fault};
 use canbusd_files::{OUTPUT, read_file, write_failure};
@@ -31,7 +31,10 @@ pub fn audit_file<'a, H: Files, W: Write>(
 }
 
 /// Audits the record of a text, which the file with this path has, and writes how many entries it has where it is a
-/// legal history. The text is kept no longer than it takes to read it.
+/// legal history.
+///
+/// Of the text of a legal record no record is made: its lines are compared with what a bus answers, one by one. Where one
+/// differs, the text is read and the record audited, to say what is wrong.
 pub fn audit_text<'a, W: Write>(
     alloc: Global,
     path: &str,
@@ -41,8 +44,19 @@ pub fn audit_text<'a, W: Write>(
     ensures legal { OnOk result (IsAudited (string_bytes text) (W.contents output.old) (W.contents output.new)) }
     ensures fault { IfErr result (λ failure. Faults (string_bytes text) failure.fault) }
 {
+    if let Some(count) = count_legal(alloc, text.as_bytes()) {
+        return tell_legal(alloc, count, output);
+    }
     let record = record_in(alloc, path, text)?;
     judge_record(alloc, path, &record, output)
+}
+
+// Writes how many entries a legal record has.
+fn tell_legal<'a, W: Write>(alloc: Global, count: usize, output: &mut W) -> Result<(), Failure<'a>>
+    ensures wrote { OnOk result (Appends (W.contents output.old) (W.contents output.new) (entries_line count)) }
+    ensures fault { IfErr result (λ failure. failure.fault ≡ fault.Write) }
+{
+    writeln!(output, "ok {count} entries").map_err(|error| write_failure(alloc, OUTPUT, &error))
 }
 
 // The record of a text.
@@ -74,8 +88,7 @@ fn judge_record<'a, W: Write>(
         Ok(()) => {}
         Err(fault) => return Err(audit_failure(alloc, path, record, fault)),
     }
-    let count = record.len();
-    writeln!(output, "ok {count} entries").map_err(|error| write_failure(alloc, OUTPUT, &error))
+    tell_legal(alloc, record.len(), output)
 }
 
 // What is told of a record that was not found to be legal.

@@ -1,0 +1,48 @@
+use Rattle.std.specs.Prelude.{◌≡◌, ℕ, ◌<◌, List, length}
+use Rattle.can_event.specs.declared.events.BusConfig.{BusConfig}
+use Rattle.can_event.specs.declared.events.Entry.{Entry}
+use Rattle.can_event.specs.declared.events.Event.{Event}
+use Rattle.can_event.specs.declared.events.Reply.{Reply}
+use Rattle.can_event.specs.declared.events.Reply.TheVariants as reply
+use Rattle.can_event.specs.Spelled.{LeavesEntry}
+use Rattle.can_bus.specs.Journal.{Kept}
+use Rattle.can_bus.specs.Run.{IsAnswer, history_after}
+use Rattle.can_bus.specs.State.{Parts, IsKept}
+
+-- A bus that keeps no record (own choice).
+
+-- its configuration, how many entries there were, and what they left
+pub record Lean : Type 0 where
+  pub config : BusConfig
+  pub count : ℕ
+  pub parts : Parts
+
+-- the record that a bus would keep of these entries, with room for all that may come
+abbrev pub record_of : BusConfig → List Entry → Kept
+record_of c past = record { config = c; history = past; room = c.limit }
+
+-- these entries, the newest first, are a legal history, and the bus is as they leave it
+pub record Stands (b : Lean) (past : List Entry) : Type 0 where
+  pub kept : IsKept (record_of b.config past) b.parts
+  pub count : b.count ≡ length past
+
+-- some entries left it so
+pub record IsStanding (b : Lean) : Type 0 where
+  pub past : List Entry
+  pub stands : Stands b past
+
+-- some entries left these parts, and one more may come
+pub record IsReady (c : BusConfig) (parts : Parts) : Type 0 where
+  pub past : List Entry
+  pub kept : IsKept (record_of c past) parts
+  pub room : length past < c.limit
+
+-- what an event is answered, and what it leaves
+pub record Carries (c : BusConfig) (past : List Entry) (e : Event) (r : Reply) (parts : Parts) : Type 0 where
+  pub answer : IsAnswer c past e r
+  pub after : IsKept (record_of c (history_after e r past)) parts
+
+-- a reply that enters the record: no refusal for a full record or for want of memory
+abbrev pub Enters : Reply → Type 0
+Enters (reply.Refused why) = LeavesEntry why
+Enters _ = Unit {0}

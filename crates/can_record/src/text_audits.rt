@@ -1,0 +1,87 @@
+ghost use Rattle.std.specs.Prelude.{◌≡◌, ◌<◌, ◌^◌, [], List, IfSome, IsTrue};
+ghost use Rattle.can_bus.specs.Lean.{Enters, Stands};
+ghost use Rattle.can_event.specs.declared.events.Entry.{Entry as AnEntry};
+ghost use Rattle.can_record.specs.TextAudits.{IsLegalText};
+ghost use Rattle.can_record.specs.inner.Stepping.{AreCarried, IsCarried};
+
+use crate::event_reading::guess_entry;
+use crate::lines::{begins, behind, put_answered};
+use crate::record_reading::{read_end, read_front};
+use crate::values::{hold_event, hold_reply};
+use can_bus::{LeanRingBus, Refusal, Reply};
+use std::alloc::Global;
+
+/// How many entries the text of a legal record has: `None` where it is no such text, or where memory was refused, and
+/// then nothing is known of it.
+///
+/// Line by line, the event is carried out on a bus that keeps no record, and the line with the bus's reply is compared
+/// with what stands there. So neither the entries nor a second record is held, only a line, and what `open` and
+/// `set_filters` take. The time is linear in the text.
+pub fn count_legal(alloc: Global, text: &[u8]) -> Option<usize>
+    ensures { IfSome result (λ count. IsLegalText text.now count) }
+{
+    let mut line = Vec::new(alloc);
+    let Ok((config, rest)) = read_front(&mut line, text) else {
+        return None;
+    };
+    let Ok(mut bus) = LeanRingBus::new(alloc, config) else {
+        return None;
+    };
+    let (count, rest) = carry_lines(alloc, &mut bus, &mut line, rest);
+    match read_end(&mut line, count, rest) {
+        Ok(()) => Some(count),
+        Err(_) => None,
+    }
+}
+
+/// Carries out the entries whose lines stand here, as far as they are legal: how many they are, and what follows.
+fn carry_lines<'a>(
+    alloc: Global,
+    bus: &mut LeanRingBus,
+    line: &mut Vec<u8>,
+    text: &'a [u8],
+) -> (usize, &'a [u8])
+    requires { Stands bus.old [] }
+    ensures lines { AreCarried bus.old.config text.now result.0 result.1.now bus.new }
+    ensures few { result.0 < 2 ^ 32 }
+{
+    let mut count = 0;
+    let mut rest = text;
+    while carry_line(alloc, bus, line, rest) {
+        rest = behind(rest, line.len());
+        count += 1;
+    }
+    (count, rest)
+}
+
+/// Carries out the event of the line that stands here, and says whether the line is that of its legal reply. Then it is
+/// left in the line.
+fn carry_line(alloc: Global, bus: &mut LeanRingBus, line: &mut Vec<u8>, text: &[u8]) -> bool
+    ensures config { bus.new.config ≡ bus.old.config }
+    ensures carried { IsTrue result → (past : List AnEntry) → Stands bus.old past → IsCarried bus.old.config past text.now line.new.items bus.new }
+{
+    let Ok(guess) = guess_entry(alloc, text) else {
+        return false;
+    };
+    let reply = bus.answer(alloc, &guess.event);
+    if !enters(&reply) {
+        return false;
+    }
+    hold_event(&guess.event);
+    hold_reply(&reply);
+    line.clear();
+    if put_answered(line, &guess.event, &reply).is_err() {
+        return false;
+    }
+    begins(text, line)
+}
+
+/// Whether a record has this reply: no refusal for a full record or for want of memory.
+fn enters(reply: &Reply) -> bool
+    ensures { IsTrue result → Enters reply.now }
+{
+    !matches!(
+        reply,
+        Reply::Refused(Refusal::RecordFull | Refusal::NoMemory)
+    )
+}
