@@ -1,4 +1,5 @@
 pub mod Journal
+pub mod Held
 pub mod Sockets
 pub mod Transmit
 pub mod Counters

@@ -18,8 +18,8 @@ use crate::state::State;
 use can_arbiter::{Arbiter, IndexArbiter, ScanArbiter};
 use can_confine::Counters;
 use can_event::{
-    Attempt, BusConfig, Closed, Event, IfaceStats, Opt, Pending, Received, Refusal, SocketId,
-    SocketStats,
+    Attempt, BusConfig, Closed, Entry, Event, IfaceStats, Opt, Pending, Received, Refusal, Reply,
+    SocketId, SocketStats,
 };
 use can_fault::Verdict;
 use can_filter::FilterSet;
@@ -47,7 +47,7 @@ pub enum BusFault {
 /// as its configuration and its history. The queues that frames and items wait in are known by the
 /// laws of `BoundedQueue` alone, and the arbiter by those of `Arbiter`.
 ///
-/// No event but `open` and `set_filters` takes memory: `new` reserves the record, the transmit queues
+/// No event but `open` and `set_filters` takes memory: `new` reserves the record, of 32 bytes an entry, the transmit queues
 /// and the places of 64 sockets. A call on a socket looks through the open sockets, at most 64.
 #[derive(Drop)]
 pub struct Bus<T: BoundedQueue<Pending>, R: BoundedQueue<Received>, A: Arbiter> {
@@ -173,9 +173,16 @@ impl<T: BoundedQueue<Pending>, R: BoundedQueue<Received>, A: Arbiter> Bus<T, R, 
         let Ok(noted) = filters.try_copy(alloc) else {
             return Err(Refusal::NoMemory);
         };
+        let done = Entry {
+            event: Event::SetFilters(id, noted),
+            reply: Reply::Done,
+        };
+        let Ok(mut entry) = Box::new(alloc, done) else {
+            return Err(Refusal::NoMemory);
+        };
         let outcome = self.state.set_filters(id, kept);
-        self.record
-            .push(Event::SetFilters(id, noted), done_reply(&outcome));
+        entry.reply = done_reply(&outcome);
+        self.record.push_boxed(entry);
         outcome
     }
 

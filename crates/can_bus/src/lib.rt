@@ -9,6 +9,7 @@
 mod attempts;
 pub mod buses;
 mod countdowns;
+mod held;
 pub mod laws;
 mod line;
 mod lines;
@@ -27,6 +28,7 @@ pub use can_event::{
     Attempt, BusConfig, Closed, Entry, Event, IfaceStats, Opt, Pending, Received, Refusal, Reply,
     SocketId, SocketStats, Tried, is_spelled,
 };
+pub use can_packed::Looked;
 pub use outcomes::Attempted;
 pub use records::Record;
 pub use runs::{RunFault, answer, run};

@@ -1,32 +1,36 @@
-ghost use Rattle.std.specs.Prelude.{◌≡◌, ◌<◌, ◌≤◌, ◌^◌, ◌==◌, [], length, All, IfOk, IsSome, IfSome, IsTrue, ◌↔◌};
+ghost use Rattle.std.specs.Prelude.{◌≡◌, ◌<◌, ◌≤◌, ◌==◌, false, [], length, slice_get, All, IfOk, IsSome, IfSome, IsTrue, ◌↔◌};
 ghost use Rattle.can_event.specs.Events.{IsConfig};
 ghost use Rattle.can_event.specs.Spelled.{IsSpelled, IsRecord};
+ghost use Rattle.can_packed.specs.Wide.{is_wide};
 
-use can_event::{BusConfig, Entry, Event, Received, Reply, is_spelled};
-use can_frame::Item;
+use crate::held::Held;
+use can_event::{BusConfig, Entry, Event, Reply, is_spelled};
+use can_packed::{Looked, Packed};
 use std::alloc::{AllocError, Global};
 use std::marker::Model;
 
 /// A bus's configuration, and each event on it with its reply. A bus alone adds to one.
 ///
 /// The configuration is always within the limits of a bus, and the text of a record has a line for each
-/// entry: its reply fits its event. Contracts see the entries newest first.
+/// entry: its reply fits its event. A bus's record takes 32 bytes for each entry, and memory beside for the filters of
+/// `set_filters`. Contracts see the entries newest first.
 #[derive(Drop)]
 pub struct Record {
     config: BusConfig,
-    entries: Vec<Entry>,
+    held: Held,
 }
 
 impl Model for Record {
-    ghost use Rattle.std.specs.Prelude.{reverse, vec_capacity};
+    ghost use Rattle.std.specs.Prelude.{reverse};
+    ghost use Rattle.can_bus.specs.Held.{entries_in, room_in};
     ghost use Rattle.can_bus.specs.Journal.{Kept};
     ghost use Rattle.can_event.specs.Spelled.{IsRecord};
 
     ghost Value = { Kept };
 
-    ghost view = { λ r. record { config = r.config; history = reverse r.entries.items; room = vec_capacity r.entries } };
+    ghost view = { λ r. record { config = r.config; history = reverse (entries_in r.held); room = room_in r.held } };
 
-    ghost invariant = { λ r. IsRecord r.config r.entries.items };
+    ghost invariant = { λ r. IsRecord r.config (entries_in r.held) };
 }
 
 impl Record {
@@ -40,8 +44,8 @@ impl Record {
         ensures empty { IfOk result (λ r. r.history ≡ []) }
         ensures room { IfOk result (λ r. config.limit ≤ r.room) }
     {
-        let entries = Vec::with_capacity(alloc, config.limit as usize)?;
-        Ok(Record { config, entries })
+        let held = Held::packed(alloc, config.limit)?;
+        Ok(Record { config, held })
     }
 
     /// The record of these parts, the oldest entry first: `None` exactly where the configuration is outside
@@ -69,7 +73,10 @@ impl Record {
         ensures config { result.config ≡ config }
         ensures history { result.history ≡ reverse entries.items }
     {
-        Record { config, entries }
+        Record {
+            config,
+            held: Held::Given(entries),
+        }
     }
 
     /// What the bus was made with.
@@ -80,45 +87,61 @@ impl Record {
         self.config
     }
 
-    /// The entries, the oldest first.
-    pub fn entries(&self) -> &[Entry]
-        ensures entries { result.now ≡ reverse self.now.history }
-        ensures spelled { All (IsSpelled self.now.config) result.now }
+    /// The entry at a place, from 0 for the oldest, if there is one. No memory is taken.
+    pub fn entry(&self, place: usize) -> Option<Looked<'_>>
+        ensures entry { result ≡ slice_get (reverse self.now.history) place }
+        ensures spelled { IfSome result (IsSpelled self.now.config) }
     {
-        &self.entries
+        self.held.look(place)
+    }
+
+    /// A copy of all entries, the oldest first, of 104 bytes each.
+    pub fn to_entries(&self, alloc: Global) -> Result<Vec<Entry>, AllocError>
+        ensures entries { IfOk result (λ es. es.items ≡ reverse self.now.history) }
+        ensures spelled { IfOk result (λ es. All (IsSpelled self.now.config) es.items) }
+    {
+        self.held.to_entries(alloc)
     }
 
     /// How many entries there are.
     pub fn len(&self) -> usize
         ensures { result ≡ length self.now.history }
     {
-        self.entries.len()
+        self.held.len()
     }
 
     /// Whether nothing was done yet.
     pub fn is_empty(&self) -> bool
         ensures { result ≡ (length self.now.history == 0) }
     {
-        self.entries.is_empty()
+        self.held.len() == 0
     }
 
     /// Whether the record has as many entries as its limit.
     pub fn is_full(&self) -> bool
         ensures { IsTrue result ↔ (self.now.config.limit ≤ length self.now.history) }
     {
-        self.entries.len() >= self.config.limit as usize
+        self.held.len() >= self.config.limit as usize
     }
 
-    /// Adds an entry. No memory is taken.
+    /// Adds an entry that is not wide. No memory is taken.
     #[inline(always)]
     pub(crate) fn push(&mut self, event: Event, reply: Reply)
         requires room { length self.old.history < self.old.room }
         requires spelled { IsSpelled self.old.config (record { event = event; reply = reply }) }
+        requires fits { is_wide event reply ≡ false }
         ensures { IsLonger self.old (record { event = event; reply = reply }) self.new }
     {
-        // The checker has to meet the types inside a reply before a vector takes one.
-        let _types: Option<(Item, Received)> = None;
-        let _ = self.entries.push(Entry { event, reply });
+        self.held.push(Packed::fitting(event, reply));
+    }
+
+    /// Adds an entry, which keeps its memory. No other is taken.
+    pub(crate) fn push_boxed(&mut self, entry: Box<Entry>)
+        requires room { length self.old.history < self.old.room }
+        requires spelled { IsSpelled self.old.config entry.value }
+        ensures { IsLonger self.old entry.value self.new }
+    {
+        self.held.push(Packed::boxed(entry));
     }
 }
 

@@ -1,4 +1,4 @@
-use Rattle.std.specs.Prelude.{ℕ, ◌/◌, ◌%◌, ◌^◌, ◌==◌, List, Some, None, IsTrue, if◌then◌else◌}
+use Rattle.std.specs.Prelude.{ℕ, ◌/◌, ◌%◌, ◌^◌, ◌==◌, List, Some, None, if◌then◌else◌}
 use Rattle.can_frame.specs.Sets.{no_ifaces}
 use Rattle.can_frame.specs.declared.ifaces.IfaceSet.{IfaceSet}
 use Rattle.can_frame.specs.declared.items.Item.TheVariants as item
@@ -11,7 +11,6 @@ use Rattle.can_event.specs.declared.events.Reply.TheVariants as reply
 use Rattle.can_event.specs.declared.events.Tried.{Tried}
 use Rattle.can_packed.specs.declared.kept.Kept.{Kept}
 use Rattle.can_packed.specs.declared.kept.Kept.TheVariants as kept
-use Rattle.can_packed.specs.Wide.{is_wide}
 use Rattle.can_packed.specs.FrameWords.{frame_in}
 use Rattle.can_packed.specs.Moments.{moment_in}
 use Rattle.can_packed.specs.Verdicts.{class_in, verdict_in}
@@ -63,8 +62,3 @@ entry_in (kept.Wide entry) = entry.value
 abbrev pub IsSmall : Kept → Type 0
 IsSmall (kept.Wide entry) = ⊥
 IsSmall _ = Unit {0}
-
--- only wide entries have
-abbrev pub IsFitting : Kept → Type 0
-IsFitting (kept.Wide entry) = IsTrue (is_wide entry.value.event entry.value.reply)
-IsFitting _ = Unit {0}

@@ -7,11 +7,13 @@
 
 mod frame_words;
 mod kept;
+pub mod looked;
 pub mod packed;
 mod packing;
 pub mod records;
 mod unpacking;
 mod verdicts;
 
+pub use looked::Looked;
 pub use packed::Packed;
 pub use records::PackedRecord;

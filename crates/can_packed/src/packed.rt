@@ -1,9 +1,10 @@
-ghost use Rattle.std.specs.Prelude.{◌≡◌, IfOk, OnErr, IsTrue};
+ghost use Rattle.std.specs.Prelude.{◌≡◌, false, IfOk, OnErr, IsTrue};
 ghost use Rattle.can_packed.specs.Wide.{is_wide};
 
 use crate::kept::Kept;
+use crate::looked::Looked;
 use crate::packing::packed;
-use crate::unpacking::unpacked;
+use crate::unpacking::{event_in, reply_in};
 use can_event::{Entry, Event, Reply};
 use std::alloc::{AllocError, Global};
 use std::marker::Model;
@@ -16,13 +17,11 @@ pub struct Packed {
 
 impl Model for Packed {
     ghost use Rattle.can_event.specs.declared.events.Entry.{Entry};
-    ghost use Rattle.can_packed.specs.Kept.{entry_in, IsFitting};
+    ghost use Rattle.can_packed.specs.Kept.{entry_in};
 
     ghost Value = { Entry };
 
     ghost view = { λ p. entry_in p.kept };
-
-    ghost invariant = { λ p. IsFitting p.kept };
 }
 
 impl Packed {
@@ -36,18 +35,37 @@ impl Packed {
             Some(kept) => Ok(Packed { kept }),
             None => {
                 let entry = Box::new(alloc, Entry { event, reply })?;
-                Ok(Packed {
-                    kept: Kept::Wide(entry),
-                })
+                Ok(Packed::boxed(entry))
             }
         }
     }
 
-    /// The entry again. Memory is taken, and may be refused, for a wide one alone: for a copy of its filters.
-    pub fn entry(&self, alloc: Global) -> Result<Entry, AllocError>
-        ensures entry { IfOk result (λ e. e ≡ self.now) }
-        ensures memory { OnErr result (IsTrue (is_wide self.now.event self.now.reply)) }
+    /// An event with its reply that is not wide. No memory is taken.
+    #[inline(always)]
+    pub fn fitting(event: Event, reply: Reply) -> Packed
+        requires fits { is_wide event reply ≡ false }
+        ensures { result ≡ record { event = event; reply = reply } }
     {
-        unpacked(alloc, &self.kept)
+        let kept = packed(&event, &reply).unwrap();
+        Packed { kept }
+    }
+
+    /// An entry that has memory of its own, and stays in it.
+    pub fn boxed(entry: Box<Entry>) -> Packed
+        ensures { result ≡ entry.value }
+    {
+        Packed {
+            kept: Kept::Wide(entry),
+        }
+    }
+
+    /// The entry again: made anew, or borrowed where it has memory of its own. No memory is taken.
+    pub fn look(&self) -> Looked<'_>
+        ensures { result ≡ self.now }
+    {
+        match &self.kept {
+            Kept::Wide(entry) => Looked::lent(entry),
+            kept => Looked::made(event_in(kept), reply_in(kept)),
+        }
     }
 }

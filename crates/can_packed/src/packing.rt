@@ -2,7 +2,7 @@ ghost use Rattle.std.specs.Prelude.{◌≡◌, ◌≤◌, ◌/◌, ◌%◌, is_s
 ghost use Rattle.can_event.specs.declared.events.Event.TheVariants as asked;
 ghost use Rattle.can_event.specs.declared.events.Reply.TheVariants as answer;
 ghost use Rattle.can_frame.specs.declared.items.Item.TheVariants as item;
-ghost use Rattle.can_packed.specs.Kept.{entry_in, IsSmall, stamp_moment, stamp_winner, stamp_len, stamp_off};
+ghost use Rattle.can_packed.specs.Kept.{entry_in, stamp_moment, stamp_winner, stamp_len, stamp_off};
 ghost use Rattle.can_packed.specs.Verdicts.{class_in, verdict_in, verdict_set};
 ghost use Rattle.can_packed.specs.Wide.{is_wide, is_large, is_off_alone};
 
@@ -17,7 +17,6 @@ use can_frame::{Frame, Iface, IfaceSet, Item, Moment};
 /// An entry that fits in 32 bytes, and `None` exactly where it is wide.
 pub fn packed(event: &Event, reply: &Reply) -> Option<Kept>
     ensures entry { IfSome result (λ k. entry_in k ≡ record { event = event.now; reply = reply.now }) }
-    ensures small { IfSome result IsSmall }
     ensures wide { is_some result ≡ not (is_wide event.now reply.now) }
 {
     match event {
@@ -34,7 +33,6 @@ pub fn packed(event: &Event, reply: &Reply) -> Option<Kept>
 
 fn opened(iface: Iface, capacity: u32, reply: &Reply) -> Option<Kept>
     ensures entry { IfSome result (λ k. entry_in k ≡ record { event = asked.Open iface capacity; reply = reply.now }) }
-    ensures small { IfSome result IsSmall }
     ensures wide { is_some result ≡ not (is_wide (asked.Open iface capacity) reply.now) }
 {
     match reply {
@@ -46,7 +44,6 @@ fn opened(iface: Iface, capacity: u32, reply: &Reply) -> Option<Kept>
 
 fn closed(id: SocketId, reply: &Reply) -> Option<Kept>
     ensures entry { IfSome result (λ k. entry_in k ≡ record { event = asked.Close id; reply = reply.now }) }
-    ensures small { IfSome result IsSmall }
     ensures wide { is_some result ≡ not (is_wide (asked.Close id) reply.now) }
 {
     match reply {
@@ -58,7 +55,6 @@ fn closed(id: SocketId, reply: &Reply) -> Option<Kept>
 
 fn option_set(id: SocketId, option: Opt, reply: &Reply) -> Option<Kept>
     ensures entry { IfSome result (λ k. entry_in k ≡ record { event = asked.SetOption id option; reply = reply.now }) }
-    ensures small { IfSome result IsSmall }
     ensures wide { is_some result ≡ not (is_wide (asked.SetOption id option) reply.now) }
 {
     match reply {
@@ -70,7 +66,6 @@ fn option_set(id: SocketId, option: Opt, reply: &Reply) -> Option<Kept>
 
 fn sent(id: SocketId, frame: Frame, reply: &Reply) -> Option<Kept>
     ensures entry { IfSome result (λ k. entry_in k ≡ record { event = asked.Send id frame; reply = reply.now }) }
-    ensures small { IfSome result IsSmall }
     ensures wide { is_some result ≡ not (is_wide (asked.Send id frame) reply.now) }
 {
     match reply {
@@ -82,7 +77,6 @@ fn sent(id: SocketId, frame: Frame, reply: &Reply) -> Option<Kept>
 
 fn received(id: SocketId, reply: &Reply) -> Option<Kept>
     ensures entry { IfSome result (λ k. entry_in k ≡ record { event = asked.Receive id; reply = reply.now }) }
-    ensures small { IfSome result IsSmall }
     ensures wide { is_some result ≡ not (is_wide (asked.Receive id) reply.now) }
 {
     match reply {
@@ -95,7 +89,6 @@ fn received(id: SocketId, reply: &Reply) -> Option<Kept>
 
 fn item_received(id: SocketId, received: Received) -> Option<Kept>
     ensures entry { IfSome result (λ k. entry_in k ≡ record { event = asked.Receive id; reply = answer.Received (Some received) }) }
-    ensures small { IfSome result IsSmall }
     ensures wide { is_some result ≡ not (is_large received.number) }
 {
     let number = small(received.number)?;
@@ -108,7 +101,6 @@ fn item_received(id: SocketId, received: Received) -> Option<Kept>
 }
 
 fn frame_received(id: SocketId, received: &Received, number: u32, frame: Frame) -> Kept
-    ensures small { IsSmall result }
     ensures entry { entry_in result ≡ record { event = asked.Receive id; reply = answer.Received (Some (record received.now { item = item.Data frame; number = number })) } }
 {
     let (word, len, bytes) = frame_words(frame);
@@ -117,7 +109,6 @@ fn frame_received(id: SocketId, received: &Received, number: u32, frame: Frame) 
 
 fn attempted(moment: Moment, verdict: Verdict, reply: &Reply) -> Option<Kept>
     ensures entry { IfSome result (λ k. entry_in k ≡ record { event = asked.Attempt moment verdict; reply = reply.now }) }
-    ensures small { IfSome result IsSmall }
     ensures wide { is_some result ≡ not (is_wide (asked.Attempt moment verdict) reply.now) }
 {
     match reply {
@@ -130,7 +121,6 @@ fn attempted(moment: Moment, verdict: Verdict, reply: &Reply) -> Option<Kept>
 
 fn tried_at(moment: Moment, verdict: Verdict, tried: Tried) -> Option<Kept>
     ensures entry { IfSome result (λ k. entry_in k ≡ record { event = asked.Attempt moment verdict; reply = answer.Tried tried }) }
-    ensures small { IfSome result IsSmall }
     ensures wide { is_some result ≡ not (is_wide (asked.Attempt moment verdict) (answer.Tried tried)) }
 {
     let number = small(tried.number)?;
@@ -155,7 +145,6 @@ fn tried_at(moment: Moment, verdict: Verdict, tried: Tried) -> Option<Kept>
 
 fn restarted(iface: Iface, moment: Moment, reply: &Reply) -> Option<Kept>
     ensures entry { IfSome result (λ k. entry_in k ≡ record { event = asked.Restart iface moment; reply = reply.now }) }
-    ensures small { IfSome result IsSmall }
     ensures wide { is_some result ≡ not (is_wide (asked.Restart iface moment) reply.now) }
 {
     match reply {

@@ -1,8 +1,7 @@
-ghost use Rattle.std.specs.Prelude.{◌≡◌, ◌<◌, ◌≤◌, [], ◌∷◌, ◌++◌, length, slice_get, IfOk, IfSome, OnOk, OnErr, IsTrue};
-ghost use Rattle.can_packed.specs.Wide.{is_wide};
+ghost use Rattle.std.specs.Prelude.{◌≡◌, ◌<◌, ◌≤◌, [], ◌∷◌, ◌++◌, length, slice_get, IfOk};
 
+use crate::looked::Looked;
 use crate::packed::Packed;
-use can_event::{Entry, Event, Reply};
 use std::alloc::{AllocError, Global};
 use std::marker::Model;
 
@@ -38,28 +37,23 @@ impl PackedRecord {
         self.entries.len()
     }
 
-    /// Adds an entry. Memory is taken, and may be refused, for a wide entry alone; then nothing changes.
-    pub fn push(&mut self, alloc: Global, event: Event, reply: Reply) -> Result<(), AllocError>
+    /// Adds an entry. No memory is taken.
+    #[inline(always)]
+    pub fn push(&mut self, packed: Packed)
         requires room { length self.old.entries < self.old.room }
-        ensures more { OnOk result (self.new.entries ≡ self.old.entries ++ record { event = event; reply = reply } ∷ []) }
-        ensures none { OnErr result (self.new ≡ self.old) }
-        ensures memory { OnErr result (IsTrue (is_wide event reply)) }
+        ensures more { self.new.entries ≡ self.old.entries ++ packed ∷ [] }
         ensures room { self.old.room ≤ self.new.room }
     {
-        let packed = Packed::new(alloc, event, reply)?;
         let _ = self.entries.push(packed);
-        Ok(())
     }
 
-    /// The entry at a place, if there is one. Memory is taken, and may be refused, for a wide one alone.
-    pub fn entry(&self, alloc: Global, place: usize) -> Result<Option<Entry>, AllocError>
-        ensures entry { IfOk result (λ e. e ≡ slice_get self.now.entries place) }
-        ensures memory { OnErr result (IfSome (slice_get self.now.entries place) (λ e. IsTrue (is_wide e.event e.reply))) }
-        ensures there { OnErr result (place < length self.now.entries) }
+    /// The entry at a place, if there is one. No memory is taken.
+    pub fn look(&self, place: usize) -> Option<Looked<'_>>
+        ensures { result ≡ slice_get self.now.entries place }
     {
         match self.entries.get(place) {
-            Some(packed) => Ok(Some(packed.entry(alloc)?)),
-            None => Ok(None),
+            Some(packed) => Some(packed.look()),
+            None => None,
         }
     }
 }

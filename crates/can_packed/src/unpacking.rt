@@ -1,32 +1,18 @@
-ghost use Rattle.std.specs.Prelude.{◌≡◌, ◌/◌, ◌%◌, IfOk, OnErr, IsTrue};
-ghost use Rattle.can_packed.specs.Kept.{entry_in, IsFitting, tried_in, stamp_moment, stamp_winner, stamp_len, stamp_off};
-ghost use Rattle.can_packed.specs.Wide.{is_wide};
+ghost use Rattle.std.specs.Prelude.{◌≡◌, ◌/◌, ◌%◌};
+ghost use Rattle.can_packed.specs.Kept.{entry_in, IsSmall, tried_in, stamp_moment, stamp_winner, stamp_len, stamp_off};
 
 use crate::frame_words::{frame_in, moment_in};
 use crate::kept::Kept;
 use crate::verdicts::{class_in, verdict_in};
-use can_event::{Entry, Event, Received, Reply, Tried};
+use can_event::{Event, Received, Reply, Tried};
 use can_frame::{Iface, IfaceSet, Item, Moment};
-use std::alloc::{AllocError, Global};
-
-/// The entry that is kept so.
-pub fn unpacked(alloc: Global, kept: &Kept) -> Result<Entry, AllocError>
-    requires { IsFitting kept.now }
-    ensures entry { IfOk result (λ e. e ≡ entry_in kept.now) }
-    ensures memory { OnErr result (IsTrue (is_wide (entry_in kept.now).event (entry_in kept.now).reply)) }
-{
-    let event = event_in(alloc, kept)?;
-    let reply = reply_in(kept);
-    Ok(Entry { event, reply })
-}
 
 /// The event that is kept.
-fn event_in(alloc: Global, kept: &Kept) -> Result<Event, AllocError>
-    requires { IsFitting kept.now }
-    ensures event { IfOk result (λ e. e ≡ (entry_in kept.now).event) }
-    ensures memory { OnErr result (IsTrue (is_wide (entry_in kept.now).event (entry_in kept.now).reply)) }
+pub fn event_in(kept: &Kept) -> Event
+    requires { IsSmall kept.now }
+    ensures { result ≡ (entry_in kept.now).event }
 {
-    Ok(match kept {
+    match kept {
         Kept::Opened(iface, capacity, _) => Event::Open(*iface, *capacity),
         Kept::OpenRefused(iface, capacity, _) => Event::Open(*iface, *capacity),
         Kept::Closed(id, _) => Event::Close(*id),
@@ -46,12 +32,12 @@ fn event_in(alloc: Global, kept: &Kept) -> Result<Event, AllocError>
         Kept::AttemptRefused(verdict, moment, _) => Event::Attempt(*moment, *verdict),
         Kept::Restarted(iface, moment) => Event::Restart(*iface, *moment),
         Kept::RestartRefused(iface, moment, _) => Event::Restart(*iface, *moment),
-        Kept::Wide(entry) => entry.event.try_copy(alloc)?,
-    })
+        Kept::Wide(_) => unreachable!(),
+    }
 }
 
 /// The reply that is kept.
-fn reply_in(kept: &Kept) -> Reply
+pub fn reply_in(kept: &Kept) -> Reply
     ensures { result ≡ (entry_in kept.now).reply }
 {
     match kept {

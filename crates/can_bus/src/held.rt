@@ -1,0 +1,89 @@
+ghost use Rattle.std.specs.Prelude.{◌≡◌, ◌<◌, ◌≤◌, [], ◌∷◌, ◌++◌, length, slice_get, vec_capacity, IfOk};
+ghost use Rattle.can_bus.specs.Held.{entries_in, room_in};
+
+use can_event::{Entry, Received};
+use can_frame::Item;
+use can_packed::{Looked, Packed, PackedRecord};
+use std::alloc::{AllocError, Global};
+
+/// The entries of a record, the oldest first.
+#[derive(Drop)]
+pub enum Held {
+    /// Those of a bus, in 32 bytes each.
+    Packed(PackedRecord),
+    /// Those that were handed in.
+    Given(Vec<Entry>),
+}
+
+impl Held {
+    /// No entries, and memory for so many.
+    pub fn packed(alloc: Global, limit: u32) -> Result<Held, AllocError>
+        ensures empty { IfOk result (λ h. entries_in h ≡ []) }
+        ensures room { IfOk result (λ h. limit ≤ room_in h) }
+    {
+        Ok(Held::Packed(PackedRecord::with_capacity(alloc, limit)?))
+    }
+
+    /// How many entries there are.
+    #[inline(always)]
+    pub fn len(&self) -> usize
+        ensures { result ≡ length (entries_in self.now) }
+    {
+        match self {
+            Held::Packed(entries) => entries.len(),
+            Held::Given(entries) => entries.len(),
+        }
+    }
+
+    /// The entry at a place, if there is one.
+    pub fn look(&self, place: usize) -> Option<Looked<'_>>
+        ensures { result ≡ slice_get (entries_in self.now) place }
+    {
+        match self {
+            Held::Packed(entries) => entries.look(place),
+            Held::Given(entries) => match entries.get(place) {
+                Some(entry) => Some(Looked::lent(entry)),
+                None => None,
+            },
+        }
+    }
+
+    /// A copy of all entries.
+    pub fn to_entries(&self, alloc: Global) -> Result<Vec<Entry>, AllocError>
+        ensures { IfOk result (λ es. es.items ≡ entries_in self.now) }
+    {
+        let mut copies = Vec::with_capacity(alloc, self.len())?;
+        for place in 0..self.len() {
+            let looked = self.look(place).unwrap();
+            let entry = looked.entry();
+            let event = entry.event.try_copy(alloc)?;
+            add(&mut copies, Entry { event, reply: entry.reply });
+        }
+        Ok(copies)
+    }
+
+    /// Adds an entry to those of a bus. No memory is taken.
+    #[inline(always)]
+    pub fn push(&mut self, entry: Packed)
+        requires room { length (entries_in self.old) < room_in self.old }
+        ensures more { entries_in self.new ≡ entries_in self.old ++ entry ∷ [] }
+        ensures room { room_in self.old ≤ room_in self.new }
+    {
+        match self {
+            Held::Packed(entries) => entries.push(entry),
+            // There is no room in a list that was handed in.
+            Held::Given(_) => unreachable!(),
+        }
+    }
+}
+
+/// Adds an entry where there is room for it.
+fn add(entries: &mut Vec<Entry>, entry: Entry)
+    requires { length entries.old.items < vec_capacity entries.old }
+    ensures items { entries.new.items ≡ entries.old.items ++ entry ∷ [] }
+    ensures room { vec_capacity entries.old ≤ vec_capacity entries.new }
+{
+    // The checker has to meet the types inside a reply before a vector takes one.
+    let _types: Option<(Item, Received)> = None;
+    let _ = entries.push(entry);
+}
