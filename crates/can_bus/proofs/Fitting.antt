@@ -34,7 +34,7 @@ use Rattle.can_event.specs.Spelled.{IsNumbered, AreNumbered, FitsReply, MayResta
 
 -- Each legal reply fits its event, so that each entry of a legal history has a line.
 
-if-holds : {X : Type 0} (P : X → Type 0) (b : Bool) (x y : X) → P x → P y → P (if b then x else y)
+pub if-holds : {X : Type 0} (P : X → Type 0) (b : Bool) (x y : X) → P x → P y → P (if b then x else y)
 if-holds P true x y hx hy = hx
 if-holds P false x y hx hy = hy
 

@@ -25,6 +25,7 @@ pub mod OffFacts
 pub mod CopyFacts
 pub mod TurnFacts
 pub mod Winning
+pub mod Narrow
 pub mod Attempting
 pub mod Between
 pub mod Restarting

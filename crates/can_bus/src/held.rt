@@ -55,9 +55,8 @@ impl Held {
         let mut copies = Vec::with_capacity(alloc, self.len())?;
         for place in 0..self.len() {
             let looked = self.look(place).unwrap();
-            let entry = looked.entry();
-            let event = entry.event.try_copy(alloc)?;
-            add(&mut copies, Entry { event, reply: entry.reply });
+            let entry = copy_of(alloc, looked.entry())?;
+            add(&mut copies, entry);
         }
         Ok(copies)
     }
@@ -75,6 +74,17 @@ impl Held {
             Held::Given(_) => unreachable!(),
         }
     }
+}
+
+/// An entry that is equal.
+fn copy_of(alloc: Global, entry: &Entry) -> Result<Entry, AllocError>
+    ensures { IfOk result (λ e. e ≡ entry.now) }
+{
+    let event = entry.event.try_copy(alloc)?;
+    Ok(Entry {
+        event,
+        reply: entry.reply,
+    })
 }
 
 /// Adds an entry where there is room for it.

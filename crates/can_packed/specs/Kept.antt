@@ -5,7 +5,6 @@ use Rattle.can_frame.specs.declared.items.Item.TheVariants as item
 use Rattle.can_event.specs.declared.events.Entry.{Entry}
 use Rattle.can_event.specs.declared.events.Event.{Event}
 use Rattle.can_event.specs.declared.events.Event.TheVariants.{Open, Close, SetOption, Send, Receive, Attempt, Restart}
-use Rattle.can_event.specs.declared.events.Received.{Received}
 use Rattle.can_event.specs.declared.events.Reply.{Reply}
 use Rattle.can_event.specs.declared.events.Reply.TheVariants as reply
 use Rattle.can_event.specs.declared.events.Tried.{Tried}

@@ -29,6 +29,7 @@ fn identifier_in(word: u32) -> CanId
 }
 
 /// The word, the length and the eight bytes of a frame.
+#[inline(always)]
 pub fn frame_words(frame: Frame) -> (u32, u8, [u8; 8])
     ensures back { frame_in result.0 result.1 result.2 ≡ frame }
     ensures short { result.1 ≤ 8 }
@@ -39,10 +40,14 @@ pub fn frame_words(frame: Frame) -> (u32, u8, [u8; 8])
 }
 
 /// These bytes, with zeros behind them.
+#[inline(always)]
 fn eight_bytes(bytes: &[u8]) -> [u8; 8]
     requires { length bytes.now ≤ 8 }
     ensures { take (length bytes.now) result ≡ bytes.now }
 {
+    if let Some(all) = bytes.first_chunk::<8>() {
+        return *all;
+    }
     let mut all = [0u8; 8];
     all[..bytes.len()].copy_from_slice(bytes);
     all

@@ -15,6 +15,7 @@ use can_fault::Verdict;
 use can_frame::{Frame, Iface, IfaceSet, Item, Moment};
 
 /// An entry that fits in 32 bytes, and `None` exactly where it is wide.
+#[inline(always)]
 pub fn packed(event: &Event, reply: &Reply) -> Option<Kept>
     ensures entry { IfSome result (λ k. entry_in k ≡ record { event = event.now; reply = reply.now }) }
     ensures wide { is_some result ≡ not (is_wide event.now reply.now) }
@@ -31,6 +32,7 @@ pub fn packed(event: &Event, reply: &Reply) -> Option<Kept>
     }
 }
 
+#[inline(always)]
 fn opened(iface: Iface, capacity: u32, reply: &Reply) -> Option<Kept>
     ensures entry { IfSome result (λ k. entry_in k ≡ record { event = asked.Open iface capacity; reply = reply.now }) }
     ensures wide { is_some result ≡ not (is_wide (asked.Open iface capacity) reply.now) }
@@ -42,6 +44,7 @@ fn opened(iface: Iface, capacity: u32, reply: &Reply) -> Option<Kept>
     }
 }
 
+#[inline(always)]
 fn closed(id: SocketId, reply: &Reply) -> Option<Kept>
     ensures entry { IfSome result (λ k. entry_in k ≡ record { event = asked.Close id; reply = reply.now }) }
     ensures wide { is_some result ≡ not (is_wide (asked.Close id) reply.now) }
@@ -53,6 +56,7 @@ fn closed(id: SocketId, reply: &Reply) -> Option<Kept>
     }
 }
 
+#[inline(always)]
 fn option_set(id: SocketId, option: Opt, reply: &Reply) -> Option<Kept>
     ensures entry { IfSome result (λ k. entry_in k ≡ record { event = asked.SetOption id option; reply = reply.now }) }
     ensures wide { is_some result ≡ not (is_wide (asked.SetOption id option) reply.now) }
@@ -64,6 +68,7 @@ fn option_set(id: SocketId, option: Opt, reply: &Reply) -> Option<Kept>
     }
 }
 
+#[inline(always)]
 fn sent(id: SocketId, frame: Frame, reply: &Reply) -> Option<Kept>
     ensures entry { IfSome result (λ k. entry_in k ≡ record { event = asked.Send id frame; reply = reply.now }) }
     ensures wide { is_some result ≡ not (is_wide (asked.Send id frame) reply.now) }
@@ -75,6 +80,7 @@ fn sent(id: SocketId, frame: Frame, reply: &Reply) -> Option<Kept>
     }
 }
 
+#[inline(always)]
 fn received(id: SocketId, reply: &Reply) -> Option<Kept>
     ensures entry { IfSome result (λ k. entry_in k ≡ record { event = asked.Receive id; reply = reply.now }) }
     ensures wide { is_some result ≡ not (is_wide (asked.Receive id) reply.now) }
@@ -87,6 +93,7 @@ fn received(id: SocketId, reply: &Reply) -> Option<Kept>
     }
 }
 
+#[inline(always)]
 fn item_received(id: SocketId, received: Received) -> Option<Kept>
     ensures entry { IfSome result (λ k. entry_in k ≡ record { event = asked.Receive id; reply = answer.Received (Some received) }) }
     ensures wide { is_some result ≡ not (is_large received.number) }
@@ -100,6 +107,7 @@ fn item_received(id: SocketId, received: Received) -> Option<Kept>
     })
 }
 
+#[inline(always)]
 fn frame_received(id: SocketId, received: &Received, number: u32, frame: Frame) -> Kept
     ensures entry { entry_in result ≡ record { event = asked.Receive id; reply = answer.Received (Some (record received.now { item = item.Data frame; number = number })) } }
 {
@@ -107,6 +115,7 @@ fn frame_received(id: SocketId, received: &Received, number: u32, frame: Frame) 
     Kept::FrameReceived(received.from, len, id, word, number, bytes, received.moment)
 }
 
+#[inline(always)]
 fn attempted(moment: Moment, verdict: Verdict, reply: &Reply) -> Option<Kept>
     ensures entry { IfSome result (λ k. entry_in k ≡ record { event = asked.Attempt moment verdict; reply = reply.now }) }
     ensures wide { is_some result ≡ not (is_wide (asked.Attempt moment verdict) reply.now) }
@@ -119,6 +128,7 @@ fn attempted(moment: Moment, verdict: Verdict, reply: &Reply) -> Option<Kept>
     }
 }
 
+#[inline(always)]
 fn tried_at(moment: Moment, verdict: Verdict, tried: Tried) -> Option<Kept>
     ensures entry { IfSome result (λ k. entry_in k ≡ record { event = asked.Attempt moment verdict; reply = answer.Tried tried }) }
     ensures wide { is_some result ≡ not (is_wide (asked.Attempt moment verdict) (answer.Tried tried)) }
@@ -143,6 +153,7 @@ fn tried_at(moment: Moment, verdict: Verdict, tried: Tried) -> Option<Kept>
     ))
 }
 
+#[inline(always)]
 fn restarted(iface: Iface, moment: Moment, reply: &Reply) -> Option<Kept>
     ensures entry { IfSome result (λ k. entry_in k ≡ record { event = asked.Restart iface moment; reply = reply.now }) }
     ensures wide { is_some result ≡ not (is_wide (asked.Restart iface moment) reply.now) }
@@ -155,6 +166,7 @@ fn restarted(iface: Iface, moment: Moment, reply: &Reply) -> Option<Kept>
 }
 
 /// A number below 2^32.
+#[inline(always)]
 fn small(number: u64) -> Option<u32>
     ensures { result ≡ (if is_large number then None else Some number) }
 {
@@ -165,6 +177,7 @@ fn small(number: u64) -> Option<u32>
 }
 
 /// Whether at most the winner went bus off.
+#[inline(always)]
 fn is_off_alone(winner: Iface, off: IfaceSet) -> bool
     ensures { result ≡ is_off_alone winner off }
 {
@@ -172,6 +185,7 @@ fn is_off_alone(winner: Iface, off: IfaceSet) -> bool
 }
 
 /// The class of an attempt and its verdict as one number.
+#[inline(always)]
 fn end_of(class: Class, verdict: Verdict) -> u8
     ensures class { class_in (result % 4) ≡ class }
     ensures verdict { verdict_in (result / 4) (verdict_set verdict) ≡ verdict }
@@ -180,6 +194,7 @@ fn end_of(class: Class, verdict: Verdict) -> u8
 }
 
 /// The moment, the winner, the length and whether the winner went off as one number.
+#[inline(always)]
 fn stamp_of(moment: Moment, winner: Iface, len: u8, off: IfaceSet) -> u64
     requires short { len ≤ 8 }
     requires alone { IsTrue (is_off_alone winner off) }

@@ -6,6 +6,7 @@ use can_fault::{GlobalKind, LocalKind, Verdict};
 use can_frame::IfaceSet;
 
 /// The number of a class.
+#[inline(always)]
 pub fn class_number(class: Class) -> u8
     ensures number { result ≡ class_number class }
     ensures small { result < 4 }
@@ -32,6 +33,7 @@ pub fn class_in(number: u8) -> Class
 }
 
 /// The number of a verdict.
+#[inline(always)]
 pub fn verdict_number(verdict: Verdict) -> u8
     ensures number { result ≡ verdict_number verdict }
     ensures small { result < 8 }
@@ -49,6 +51,7 @@ pub fn verdict_number(verdict: Verdict) -> u8
 }
 
 /// The interfaces that a verdict names.
+#[inline(always)]
 pub fn verdict_set(verdict: Verdict) -> IfaceSet
     ensures { result ≡ verdict_set verdict }
 {

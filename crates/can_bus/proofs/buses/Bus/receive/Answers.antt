@@ -6,6 +6,7 @@ use Rattle.can_bus.specs.Changes.{Receives}
 use Rattle.can_bus.proofs.Bounds.{small_taken}
 use Rattle.can_bus.proofs.Fitting.{legal_has_line}
 use Rattle.can_bus.proofs.Keeping.{IsDone, done}
+use Rattle.can_bus.proofs.Narrow.{legal_fits}
 use Rattle.can_bus.proofs.Receiving.{received_follows}
 use Rattle.can_bus.proofs.buses.Bus.receive.Given as given
 use Rattle.can_bus.proofs.buses.Bus.receive.Goals as goal
@@ -17,6 +18,11 @@ pub push-requires-clause-spelled : goal.push-requires-clause-spelled
 push-requires-clause-spelled g c =
     let receives = subst (λ (p : Parts). Receives p c.args.id.0 c.receive-outcome.result c.receive-outcome.new.self) c.self.invariant.of_parts c.receive-outcome.ensures in
     legal_has_line c.self.inside.record.config c.self.inside.record.history (event.Receive c.args.id) _ (c.received_reply.ensures ∙ (received_follows _ _ c.args.id _ _ receives).lawful)
+
+pub push-requires-clause-fits : goal.push-requires-clause-fits
+push-requires-clause-fits g c =
+    let receives = subst (λ (p : Parts). Receives p c.args.id.0 c.receive-outcome.result c.receive-outcome.new.self) c.self.invariant.of_parts c.receive-outcome.ensures in
+    legal_fits c.self.inside.record c.self.inside.state (event.Receive c.args.id) _ c.self.invariant (λ none. none) (c.received_reply.ensures ∙ (received_follows _ _ c.args.id _ _ receives).lawful)
 
 is_done : (g : given.Over) (c : goal.After-push g) → IsDone reply.Received c.args.self.now (event.Receive c.args.id) c.receive-outcome.result c.push.new.self c.receive-outcome.new.self
 is_done g c =
