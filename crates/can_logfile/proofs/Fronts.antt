@@ -1,15 +1,15 @@
-use Rattle.std.proofs.Common.{◌≡◌, ℕ, ◌+◌, ◌<◌, ◌≤◌, List, [], ◌∷◌, ◌++◌, length, take, drop, get_or, Option, Some, refl, sym, ap, subst, ◌∙◌, arith, append_assoc, take-append-drop, length-append}
+use Rattle.std.proofs.Common.{◌≡◌, ℕ, ◌+◌, ◌<◌, ◌≤◌, List, [], ◌∷◌, ◌++◌, length, take, drop, get_or, Option, Some, inl, inr, refl, sym, ap, subst, ◌∙◌, arith, append_assoc, take-append-drop, length-append}
 use Rattle.std.specs.Prelude.{reverse, map, false, slice_get}
 use Rattle.std.specs.Io.KnownBytes.{Appends}
 use Rattle.std.proofs.lemmas.List.{reverse-append, reverse-reverse, length-reverse, take_more, take_all, take_at, append-nil, map-append, length-map}
 use Rattle.std.proofs.lemmas.Grind.{flat_map-append}
-use Rattle.std.proofs.lemmas.Option.{slice_get_read}
+use Rattle.std.proofs.lemmas.Option.{slice_get_read, slice_get_cases, none-some, same_Some}
 use Rattle.can_event.specs.declared.events.Entry.{Entry}
 use Rattle.can_event.specs.declared.events.Tried.{Tried}
 use Rattle.can_event.specs.declared.events.Reply.{Reply}
 use Rattle.can_event.specs.declared.events.Reply.TheVariants as reply
 use Rattle.can_bus.specs.Transmit.{tape, tape_after}
-use Rattle.can_logfile.specs.Log.{log_line, log_lines, joined, LineGoesOut, TornAfter}
+use Rattle.can_logfile.specs.Log.{log_line, log_lines, tried_of, tried_in, joined, LineGoesOut, TornAfter}
 use Rattle.can_logfile.proofs.Growing.{Appends-then}
 
 -- The oldest entries of a history, and their lines.
@@ -80,7 +80,9 @@ lines-cut names k past e t lt at is =
     let whole : tape past ≡ base ++ t ∷ grown.0 = grown.1 ∙ ap (λ (x : List Tried). x ++ grown.0) (tried-more k past e t lt at is) ∙ append_assoc base (t ∷ []) grown.0 in
     (map (log_line names) grown.0, ap (map (log_line names)) whole ∙ map-append (log_line names) base (t ∷ grown.0))
 
-pub torn : (a b c : Option (List ℕ)) (names : List (List ℕ)) (k whole : ℕ) (past : List Entry) (e : Entry) (t : Tried) (line : List ℕ) → k < length past → e ≡ get_or (reverse past) k e → e.reply ≡ reply.Tried t → line ≡ log_line names t → whole ≡ length (tape (front k past)) → Appends a b (joined (log_lines names (front k past))) → LineGoesOut b c line false → TornAfter a c (log_lines names past) whole
+pub torn : (a b c : Option (List ℕ)) (names : List (List ℕ)) (k whole : ℕ) (past : List Entry) (e : Entry) (t : Tried) (line : List ℕ) →
+    k < length past → e ≡ get_or (reverse past) k e → e.reply ≡ reply.Tried t → line ≡ log_line names t → whole ≡ length (tape (front k past)) →
+    Appends a b (joined (log_lines names (front k past))) → LineGoesOut b c line false → TornAfter a c (log_lines names past) whole
 torn a b c names k whole past e t line lt at is made count out part =
     let cut = lines-cut names k past e t lt at is in
     let base = log_lines names (front k past) in
@@ -109,9 +111,41 @@ stays (reply.Refused s) before never = refl
 pub same-tape : (k : ℕ) (past : List Entry) (e : Entry) → k < length past → e ≡ get_or (reverse past) k e → ((t : Tried) → e.reply ≡ reply.Tried t → ⊥) → tape (front (k + 1) past) ≡ tape (front k past)
 same-tape k past e lt at never = ap tape (front-more k past e lt at) ∙ stays e.reply (tape (front k past)) never
 
-pub line-more : (a b c : Option (List ℕ)) (names : List (List ℕ)) (k : ℕ) (past : List Entry) (e : Entry) (t : Tried) (line : List ℕ) → k < length past → e ≡ get_or (reverse past) k e → e.reply ≡ reply.Tried t → line ≡ log_line names t → Appends a b (joined (log_lines names (front k past))) → Appends b c line → Appends a c (joined (log_lines names (front (k + 1) past)))
+pub line-more : (a b c : Option (List ℕ)) (names : List (List ℕ)) (k : ℕ) (past : List Entry) (e : Entry) (t : Tried) (line : List ℕ) →
+    k < length past → e ≡ get_or (reverse past) k e → e.reply ≡ reply.Tried t → line ≡ log_line names t →
+    Appends a b (joined (log_lines names (front k past))) → Appends b c line → Appends a c (joined (log_lines names (front (k + 1) past)))
 line-more a b c names k past e t line lt at is made out part =
     subst (Appends a c) (sym (lines-more names k past e t lt at is)) (Appends-then a b c (joined (log_lines names (front k past))) (log_line names t) out (subst (Appends b c) made part))
 
-pub within : (k : ℕ) (past xs : List Entry) → xs ≡ reverse past → k < length xs → k < length past
-within k past xs e lt = let l = ap length e in omega (arith, l, length-reverse past, lt)
+-- ---- the entry at a place
+
+tried-is : (r : Reply) (t : Tried) → tried_of r ≡ Some t → r ≡ reply.Tried t
+tried-is (reply.Tried s) t e = ap reply.Tried (same_Some s t e)
+tried-is (reply.Opened s) t e = absurd (none-some t e)
+tried-is (reply.Closed s) t e = absurd (none-some t e)
+tried-is reply.Done t e = absurd (none-some t e)
+tried-is (reply.Sent s) t e = absurd (none-some t e)
+tried-is (reply.Received s) t e = absurd (none-some t e)
+tried-is (reply.Idle restarted) t e = absurd (none-some t e)
+tried-is (reply.Refused s) t e = absurd (none-some t e)
+
+-- an entry of a history, and the frame that was tried in it
+pub record Seen (k : ℕ) (past : List Entry) (o : Option Tried) : Type 0 where
+  pub entry : Entry
+  pub read : entry ≡ get_or (reverse past) k entry
+  pub tried : (t : Tried) → o ≡ Some t → entry.reply ≡ reply.Tried t
+  pub never : ((t : Tried) → o ≡ Some t → ⊥) → (t : Tried) → entry.reply ≡ reply.Tried t → ⊥
+
+pub seen : (k : ℕ) (past : List Entry) (o : Option Tried) → k < length past → o ≡ tried_in (slice_get (reverse past) k) → Seen k past o
+seen k past o lt is =
+    elim (slice_get_cases (reverse past) k).1 [
+      | inl (e, inside, there, read) ↦
+          let here : o ≡ tried_of e.reply = is ∙ ap tried_in there in
+          record {
+            entry = e;
+            read = sym read;
+            tried = λ t some. tried-is e.reply t (sym here ∙ some);
+            never = λ none t tried. none t (here ∙ ap tried_of tried);
+          }
+      | inr (past_end, there) ↦ absurd (omega (arith, lt, past_end, length-reverse past))
+    ]

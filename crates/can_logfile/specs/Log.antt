@@ -1,4 +1,4 @@
-use Rattle.std.specs.Prelude.{◌≡◌, ◌<◌, ℕ, ◌/◌, ◌%◌, Bool, true, false, List, [], ◌∷◌, ◌++◌, length, take, map, slice_get, Option, Some, Result, Ok, Err, codes}
+use Rattle.std.specs.Prelude.{◌≡◌, ◌<◌, ℕ, ◌/◌, ◌%◌, Bool, true, false, List, [], ◌∷◌, ◌++◌, length, take, map, slice_get, Option, Some, None, Result, Ok, Err, codes}
 use Rattle.std.specs.Option.{unwrap_or}
 use Rattle.std.specs.List.{flat_map}
 use Rattle.std.specs.Io.KnownBytes.{Appends}
@@ -8,6 +8,8 @@ use Rattle.can_frame.specs.declared.items.Item.TheVariants as item
 use Rattle.can_attempt.specs.declared.classes.Class.{Class}
 use Rattle.can_attempt.specs.declared.classes.Class.TheVariants as class
 use Rattle.can_event.specs.declared.events.Entry.{Entry}
+use Rattle.can_event.specs.declared.events.Reply.{Reply}
+use Rattle.can_event.specs.declared.events.Reply.TheVariants as reply
 use Rattle.can_event.specs.declared.events.Tried.{Tried}
 use Rattle.can_bus.specs.Transmit.{tape}
 use Rattle.can_logfile.specs.declared.tapes.LogFault.{LogFault}
@@ -33,6 +35,16 @@ tried_text class.NoAck frame = codes "200000A0#0000000000000000"
 -- the line of a tried frame: moment, name and text with a space (32) between them, and LF (10)
 abbrev pub log_line : List (List ℕ) → Tried → List ℕ
 log_line names t = stamp t.moment ++ 32 ∷ winner_name names t.winner ++ 32 ∷ tried_text t.class t.frame ++ 10 ∷ []
+
+-- the frame that was tried, where one was
+abbrev pub tried_of : Reply → Option Tried
+tried_of (reply.Tried t) = Some t
+tried_of _ = None
+
+-- the frame that was tried in this entry, where there is one
+abbrev pub tried_in : Option Entry → Option Tried
+tried_in None = None
+tried_in (Some e) = tried_of e.reply
 
 -- the lines of the tried frames of a history
 abbrev pub log_lines : List (List ℕ) → List Entry → List (List ℕ)

@@ -1,7 +1,8 @@
-ghost use Rattle.can_logfile.specs.Log.{log_lines, LineGoesOut, LinesGoOut};
+ghost use Rattle.std.specs.Prelude.{◌≡◌, reverse, slice_get};
+ghost use Rattle.can_logfile.specs.Log.{log_lines, tried_in, LineGoesOut, LinesGoOut};
 
 use crate::lines::log_line;
-use can_bus::{Record, Reply};
+use can_bus::{Record, Reply, Tried};
 use can_frame::Names;
 use std::io::Write;
 use thiserror::Error;
@@ -30,9 +31,9 @@ pub fn write_tape<W: Write>(names: &Names, record: &Record, writer: &mut W) -> R
     // Counting the names tells the proof that none is long.
     let _count = names.count();
     let mut whole_lines = 0;
-    for entry in record.entries() {
-        if let Reply::Tried(tried) = &entry.reply {
-            let line = log_line(names, tried);
+    for place in 0..record.len() {
+        if let Some(tried) = tried_at(record, place) {
+            let line = log_line(names, &tried);
             if !write_line(writer, line.as_bytes()) {
                 return Err(LogFault { whole_lines });
             }
@@ -40,6 +41,17 @@ pub fn write_tape<W: Write>(names: &Names, record: &Record, writer: &mut W) -> R
         }
     }
     Ok(whole_lines)
+}
+
+/// The frame that was tried in the entry at a place.
+fn tried_at(record: &Record, place: usize) -> Option<Tried>
+    ensures { result ≡ tried_in (slice_get (reverse «record».now.history) place) }
+{
+    let looked = record.entry(place)?;
+    match &looked.entry().reply {
+        Reply::Tried(tried) => Some(*tried),
+        _ => None,
+    }
 }
 
 /// Writes a line. Answers false where the writer failed: then only a proper front of the line is out.

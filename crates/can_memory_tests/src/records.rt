@@ -35,7 +35,7 @@ pub fn texts(alloc: Global) -> Result<(), Stop> {
 
 fn events_of(alloc: Global, record: &Record) -> Result<Vec<Event>, AllocError> {
     let mut events = Vec::new(alloc);
-    for entry in record.entries() {
+    for entry in &record.to_entries(alloc)? {
         events.push(entry.event.try_copy(alloc)?)?;
     }
     Ok(events)
@@ -45,7 +45,7 @@ pub fn replies(alloc: Global) -> Result<(), Stop> {
     let record = read_record(alloc, TEXT)?;
     let replies = replies_of(alloc, &events_of(alloc, &record)?, TWO)?;
     demand(replies.len() == record.len())?;
-    for (reply, entry) in replies.iter().zip(record.entries()) {
+    for (reply, entry) in replies.iter().zip(&record.to_entries(alloc)?) {
         demand(*reply == entry.reply)?;
     }
     let socket = SocketId(1);

@@ -174,7 +174,9 @@ bytes-again (b ∷ bs) h =
     let again = bytes-again bs (λ i. h (suc i)) in
     ap (λ (o : Option ℕ). or_fault BadByte o >>= λ x. bytes_of (map (digits 16 2) bs) >>= λ xs. Ok (x ∷ xs)) byte ∙ ap (λ (r : Result (List ℕ) ProtoFault). r >>= λ xs. Ok (b ∷ xs)) again
 
-send-again : (id_word len_word : List ℕ) (words : List (List ℕ)) (id : Identifier) (len : ℕ) (bytes : List ℕ) → id_of id_word ≡ Ok id → length_of len_word ≡ Ok len → length words ≡ len → bytes_of words ≡ Ok bytes → send_of (id_word ∷ len_word ∷ words) ≡ Ok (Send (record { id = id; payload = Data bytes }))
+send-again : (id_word len_word : List ℕ) (words : List (List ℕ)) (id : Identifier) (len : ℕ) (bytes : List ℕ) →
+    id_of id_word ≡ Ok id → length_of len_word ≡ Ok len → length words ≡ len → bytes_of words ≡ Ok bytes →
+    send_of (id_word ∷ len_word ∷ words) ≡ Ok (Send (record { id = id; payload = Data bytes }))
 unfolding send_of
 send-again id_word len_word words id len bytes is_id is_len count is_bytes = rw (is_id, is_len, eq-true (length words) len count, is_bytes) refl
 

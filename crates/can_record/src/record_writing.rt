@@ -66,9 +66,9 @@ fn put_front(out: &mut Vec<u8>, config: BusConfig) -> Result<(), AllocError>
 fn write_lines<W: Write>(line: &mut Vec<u8>, record: &Record, writer: &mut W) -> io::Result<()>
     ensures { OnOk result (Appends (W.contents writer.old) (W.contents writer.new) (entry_lines (reverse «record».now.history) [])) }
 {
-    let entries = record.entries();
-    for entry in entries {
-        write_line(line, entry, writer)?;
+    for place in 0..record.len() {
+        let looked = record.entry(place).unwrap();
+        write_line(line, looked.entry(), writer)?;
     }
     Ok(())
 }

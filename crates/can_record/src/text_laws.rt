@@ -1,4 +1,4 @@
-ghost use Rattle.std.specs.Prelude.{◌≡◌, List, ℕ, All, IfOk};
+ghost use Rattle.std.specs.Prelude.{◌≡◌, List, ℕ, All, IfOk, reverse};
 ghost use Rattle.can_event.specs.declared.events.BusConfig.{BusConfig as AConfig};
 ghost use Rattle.can_event.specs.declared.events.Entry.{Entry as AnEntry};
 ghost use Rattle.can_event.specs.Events.{IsConfig};
@@ -33,7 +33,7 @@ pub fn read_back(alloc: Global, kept: &Record) -> Result<Record, AllocError>
     ensures history { IfOk result (λ r. r.history ≡ kept.now.history) }
 {
     hold_config(kept.config());
-    hold_lines(kept.config(), kept.entries());
+    hold_lines(kept);
     let text = record_text(alloc, kept)?;
     match read_record_bytes(alloc, &text) {
         Ok(read) => Ok(read),
@@ -49,13 +49,14 @@ fn hold_config(config: BusConfig)
     let _bits = config.reporting.0;
 }
 
-/// Entries that are spelled have lines.
-fn hold_lines(config: BusConfig, entries: &[Entry])
-    requires { All (IsSpelled config) entries.now }
-    ensures { All (HasLine config) entries.now }
+/// Entries of a record have lines.
+fn hold_lines(kept: &Record)
+    ensures { All (HasLine «kept».now.config) (reverse «kept».now.history) }
 {
-    for entry in entries {
-        hold_line(config, entry);
+    let config = kept.config();
+    for place in 0..kept.len() {
+        let looked = kept.entry(place).unwrap();
+        hold_line(config, looked.entry());
     }
 }
 

@@ -147,7 +147,8 @@ pub(crate) fn arrivals_at(
 pub fn queued(alloc: Global, record: &Record, id: SocketId) -> Result<Vec<Received>, AllocError>
     ensures { IsHistory «record».now.config «record».now.history → IfOk result (λ rs. rs.items ≡ queued_to «record».now.config «record».now.history id.0) }
 {
-    Ok(arrivals_at(alloc, record.config(), record.entries(), id)?.queued)
+    let entries = record.to_entries(alloc)?;
+    Ok(arrivals_at(alloc, record.config(), &entries, id)?.queued)
 }
 
 /// The items that came to a socket's interface while it was open and passed its filters and options, in
@@ -158,7 +159,8 @@ pub fn queued(alloc: Global, record: &Record, id: SocketId) -> Result<Vec<Receiv
 pub fn candidates(alloc: Global, record: &Record, id: SocketId) -> Result<Vec<Received>, AllocError>
     ensures { IsHistory «record».now.config «record».now.history → IfOk result (λ rs. rs.items ≡ candidates_for «record».now.config «record».now.history id.0) }
 {
-    candidates_for(alloc, record.config(), record.entries(), id)
+    let entries = record.to_entries(alloc)?;
+    candidates_for(alloc, record.config(), &entries, id)
 }
 
 /// Whether it is a data frame that an interface sent.

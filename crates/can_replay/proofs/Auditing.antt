@@ -1,7 +1,7 @@
 use Rattle.std.proofs.Common.{◌≡◌, ◌≢◌, ℕ, ◌+◌, ◌<◌, ◌≤◌, zero, suc, nat_le, List, [], ◌∷◌, length, min, get_or, take, reverse, Some, None, Result, Ok, Err, OnOk, IfErr, inl, inr, arith, refl, sym, ap, ◌∙◌, subst}
 use Rattle.std.proofs.lemmas.Bool.{cond-true, cond-false, le-leb, lt-leb, cases_lt}
-use Rattle.std.proofs.lemmas.List.{length-reverse, length-take-le, reverse-reverse}
-use Rattle.std.proofs.lemmas.Option.{slice_get_read, slice_get_within, get_or_from_slice_get}
+use Rattle.std.proofs.lemmas.List.{length-reverse, length-take-le, reverse-reverse, take_all}
+use Rattle.std.proofs.lemmas.Option.{slice_get_read, slice_get_cases, slice_get_within, get_or_from_slice_get}
 use Rattle.can_event.specs.declared.events.BusConfig.{BusConfig}
 use Rattle.can_event.specs.declared.events.Entry.{Entry}
 use Rattle.can_event.specs.declared.events.Event.{Event}
@@ -57,16 +57,20 @@ carried-turn c es k e bus r t =
     carried c (before es k) e.event r (omega (arith, length-reverse (take k es), length-take-le k es (omega (arith, t.below)), t.room)) (subst (λ (b : Journal). IsAnswer b.config b.history e.event r) t.so_far t.answer) t.memory
 
 -- no entry may stand past the limit
-pub past_limit : (c : BusConfig) (es : List Entry) (k : ℕ) (e : Entry) (bus : Journal) → k < length es → e ≡ get_or es k e → bus ≡ replayed c es k → IsLegal bus.config bus.history → c.limit ≤ k → IsToldWrong c es k None
-past_limit c es k e bus below read so_far legal past = record {
-  first = record {
-    entry = e;
-    there = slice_get_read es (length es) k e refl below read;
-    legal_before = subst (λ (b : Journal). IsLegal b.config b.history) so_far legal;
-    wrong = inl past;
-  };
-  is_allowed = sym (cond-true (nat_le c.limit k) _ _ (le-leb c.limit k past));
-}
+pub past_limit : (c : BusConfig) (es : List Entry) (k : ℕ) (bus : Journal) → k < length es → bus ≡ replayed c es k → IsLegal bus.config bus.history → c.limit ≤ k → IsToldWrong c es k None
+past_limit c es k bus below so_far legal past =
+    elim (slice_get_cases es k).1 [
+      | inl (e, inside, there, read) ↦ record {
+        first = record {
+          entry = e;
+          there = there;
+          legal_before = subst (λ (b : Journal). IsLegal b.config b.history) so_far legal;
+          wrong = inl past;
+        };
+        is_allowed = sym (cond-true (nat_le c.limit k) _ _ (le-leb c.limit k past));
+      }
+      | inr (beyond, there) ↦ absurd (omega (arith, below, beyond))
+    ]
 
 -- another reply than the entry's
 pub first_wrong : (c : BusConfig) (es : List Entry) (k : ℕ) (e : Entry) (bus : Journal) (r : Reply) → Turn c es k e bus r → IsLegal bus.config bus.history → r ≢ e.reply → IsToldWrong c es k (Some r)
@@ -88,6 +92,12 @@ replayed_more c es k e bus after r t noted same =
     noted
     ∙ ap (λ (b : Journal). record b { history = history_after e.event r b.history }) t.so_far
     ∙ ap (λ (h : List Entry). record { config = c; history = h }) ((carried-turn c es k e bus r t).entries ∙ ap (λ (q : Reply). record { event = e.event; reply = q } ∷ before es k) same ∙ sym (before_more es k e t.below t.read))
+
+-- all entries are carried out
+pub all_replayed : (c : BusConfig) (past : List Entry) (k : ℕ) (bus : Journal) → length past ≤ k → bus ≡ replayed c (reverse past) k → IsLegal bus.config bus.history → IsLegal c past
+all_replayed c past k bus end so_far legal =
+    let whole : before (reverse past) k ≡ past = ap reverse (take_all k (reverse past) (omega (arith, length-reverse past, end))) ∙ reverse-reverse past in
+    subst (IsLegal c) whole (subst (λ (b : Journal). IsLegal b.config b.history) so_far legal)
 
 -- ---- the answer
 
@@ -129,26 +139,24 @@ one-first c es j k proper f g =
       ]
     ]
 
--- what an audit answers of these entries, which are this history
-pub record Audits (c : BusConfig) (es past : List Entry) (r : Result (Unit {0}) AuditFault) : Type 0 where
+-- what an audit answers of this history
+pub record Audits (c : BusConfig) (past : List Entry) (r : Result (Unit {0}) AuditFault) : Type 0 where
   pub legal : OnOk r (IsLegal c past)
   pub headline : OnOk r (Headline c past)
-  pub wrong : IfErr r (Blames c es)
+  pub wrong : IfErr r (Blames c (reverse past))
   pub spared : IsLegal c past → IfErr r (λ why. why ≡ fault.NoMemory)
 
 -- a bus made for no more entries than there are tells the same
-pub audited : (c : BusConfig) (n : ℕ) (es : List Entry) (r : Result (Unit {0}) AuditFault) → IsConfig c → n ≡ min c.limit (length es) → OnOk r (IsLegal (narrow c n) (reverse es)) → IfErr r (Blames (narrow c n) es) → Audits c es (reverse es) r
-audited c n es (Ok u) proper is legal wrong =
-    let whole = legal-narrow c n (reverse es) (omega (arith, is)) legal in
-    record { legal = whole; headline = headline c (reverse es) proper whole; wrong = tt; spared = λ h. tt }
-audited c n es (Err (fault.Wrong k reply)) proper is legal wrong =
-    let told = told-narrow c n es k reply is wrong in
-    record { legal = tt; headline = tt; wrong = told; spared = λ h. absurd (none-wrong c es k proper h told.first) }
-audited c n es (Err fault.NoMemory) proper is legal wrong = record { legal = tt; headline = tt; wrong = tt; spared = λ h. refl }
-
--- the same of the record that has these parts
-pub audited-record : (c d : BusConfig) (es past : List Entry) (r : Result (Unit {0}) AuditFault) → c ≡ d → es ≡ reverse past → Audits c es (reverse es) r → Audits d (reverse past) past r
-audited-record c d es past r config entries a =
-    subst (λ (x : BusConfig). Audits x (reverse past) past r) config
-    (subst (λ (x : List Entry). Audits c (reverse past) x r) (reverse-reverse past)
-    (subst (λ (x : List Entry). Audits c x (reverse x) r) entries a))
+pub audited : (c : BusConfig) (n : ℕ) (past : List Entry) (r : Result (Unit {0}) AuditFault) → IsConfig c → n ≡ min c.limit (length past) → OnOk r (IsLegal (narrow c n) past) → IfErr r (Blames (narrow c n) (reverse past)) → Audits c past r
+audited c n past (Ok u) proper is legal wrong =
+    let whole = legal-narrow c n past (omega (arith, is)) legal in
+    record { legal = whole; headline = headline c past proper whole; wrong = tt; spared = λ h. tt }
+audited c n past (Err (fault.Wrong k reply)) proper is legal wrong =
+    let told = told-narrow c n (reverse past) k reply (is ∙ ap (min c.limit) (sym (length-reverse past))) wrong in
+    record {
+      legal = tt;
+      headline = tt;
+      wrong = told;
+      spared = λ h. absurd (none-wrong c (reverse past) k proper (subst (IsLegal c) (sym (reverse-reverse past)) h) told.first);
+    }
+audited c n past (Err fault.NoMemory) proper is legal wrong = record { legal = tt; headline = tt; wrong = tt; spared = λ h. refl }

@@ -5,7 +5,7 @@ ghost use Rattle.can_bus.specs.Legal.{IsLegal};
 ghost use Rattle.can_replay.specs.Audits.{Blames};
 
 use crate::same::same_reply;
-use can_bus::{BusConfig, Entry, Record, Refusal, Reply, RingBus, answer};
+use can_bus::{BusConfig, Record, Refusal, Reply, RingBus, answer};
 use std::alloc::Global;
 use thiserror::Error;
 
@@ -28,18 +28,18 @@ fn is_no_memory(reply: &Reply) -> bool
     matches!(reply, Reply::Refused(Refusal::NoMemory))
 }
 
-/// Carries the events out on a new bus, one after another, until one has another reply than its entry.
-fn replay(alloc: Global, config: BusConfig, entries: &[Entry]) -> Result<(), AuditFault>
+/// Carries the events of a record out on a new bus of this configuration, one after another, until one has another
+/// reply than its entry.
+fn replay(alloc: Global, config: BusConfig, record: &Record) -> Result<(), AuditFault>
     requires { IsConfig config }
-    ensures legal { OnOk result (IsLegal config (reverse entries.now)) }
-    ensures wrong { IfErr result (Blames config entries.now) }
+    ensures legal { OnOk result (IsLegal config «record».now.history) }
+    ensures wrong { IfErr result (Blames config (reverse «record».now.history)) }
 {
     let limit = config.limit as usize;
     let Ok(mut bus) = RingBus::new(alloc, config) else {
         return Err(AuditFault::NoMemory);
     };
-    for i in 0..entries.len() {
-        let entry = &entries[i];
+    for i in 0..record.len() {
         // Looking at the record tells the proof that what was carried out is a legal history.
         let _so_far = bus.record();
         if i >= limit {
@@ -48,6 +48,8 @@ fn replay(alloc: Global, config: BusConfig, entries: &[Entry]) -> Result<(), Aud
                 legal: None,
             });
         }
+        let looked = record.entry(i).unwrap();
+        let entry = looked.entry();
         let reply = answer(&mut bus, alloc, &entry.event);
         if is_no_memory(&reply) {
             return Err(AuditFault::NoMemory);
@@ -63,14 +65,15 @@ fn replay(alloc: Global, config: BusConfig, entries: &[Entry]) -> Result<(), Aud
     Ok(())
 }
 
-/// For how many entries a bus has to have room so that these are carried out on it, or as many as may be.
-fn room_for(config: BusConfig, entries: &[Entry]) -> u32
-    ensures { result ≡ min config.limit (length entries.now) }
+/// For how many entries a bus has to have room so that a record's are carried out on it, or as many as may be.
+fn room_for(record: &Record) -> u32
+    ensures { result ≡ min «record».now.config.limit (length «record».now.history) }
 {
-    if entries.len() < config.limit as usize {
-        entries.len() as u32
+    let limit = record.config().limit;
+    if record.len() < limit as usize {
+        record.len() as u32
     } else {
-        config.limit
+        limit
     }
 }
 
@@ -92,11 +95,12 @@ pub fn audit(alloc: Global, record: &Record) -> Result<(), AuditFault>
     // A legal record is never called wrong.
     ensures spared { IsLegal «record».now.config «record».now.history → IfErr result (λ why. why ≡ AuditFault.NoMemory) }
 {
-    let config = record.config();
-    let entries = record.entries();
-    if entries.is_empty() {
+    if record.is_empty() {
         return Ok(());
     }
-    let limit = room_for(config, entries);
-    replay(alloc, BusConfig { limit, ..config }, entries)
+    let config = BusConfig {
+        limit: room_for(record),
+        ..record.config()
+    };
+    replay(alloc, config, record)
 }

@@ -20,7 +20,8 @@ pub fn wrong_note(
 ) -> Result<String, AllocError>
     requires { IsToldWrong «record».now.config (reverse «record».now.history) place legal }
 {
-    let entry = &record.entries()[place];
+    let looked = record.entry(place).unwrap();
+    let entry = looked.entry();
     let text = shown_line(alloc, &entry.event, &entry.reply)?;
     let line = Line::new(path, (place as u64).saturating_add(HEAD + 1), &text);
     match legal {

@@ -171,7 +171,7 @@ fn a_writer_that_fails_is_told(rt: HostRuntime) -> Result<(), Fail> {
 }
 
 fn count(record: &Record) -> usize {
-    record.entries().len()
+    record.len()
 }
 
 fn limit(record: &Record) -> u32 {

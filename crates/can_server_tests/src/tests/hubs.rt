@@ -179,12 +179,12 @@ fn exchanged_passes_are_refused(rt: HostRuntime) {
 
 /// Whether a bus had one pass, which opened a socket at this interface.
 fn has_opened(bus: &Settled, wanted: Iface) -> bool {
-    match bus.history.entries() {
-        [entry] => {
-            bus.passes == 1 && matches!(&entry.event, Event::Open(iface, 16) if *iface == wanted)
-        }
-        _ => false,
-    }
+    let Some(first) = bus.history.entry(0) else {
+        return false;
+    };
+    bus.passes == 1
+        && bus.history.len() == 1
+        && matches!(&first.entry().event, Event::Open(iface, 16) if *iface == wanted)
 }
 
 #[test]

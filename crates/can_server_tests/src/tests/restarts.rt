@@ -79,9 +79,13 @@ fn comes_back<N: RollName + MeterName + Send + Sync, R: Machine>(
     let entrance = Entrance::new(rt, 2);
     let kept = record::<N, _>(rt, alloc, benches, entrance);
     let mut attempts = 0_u32;
-    for entry in kept.entries() {
-        if matches!(entry.reply, Reply::Tried(_) | Reply::Idle(_)) {
-            assert!(rt; is_wanted(attempts, &entry.reply));
+    for place in 0..kept.len() {
+        let Some(looked) = kept.entry(place) else {
+            break;
+        };
+        let reply = &looked.entry().reply;
+        if matches!(reply, Reply::Tried(_) | Reply::Idle(_)) {
+            assert!(rt; is_wanted(attempts, reply));
             attempts = attempts.wrapping_add(1);
         }
     }

@@ -125,9 +125,9 @@ fn two_senders<N: RollName + MeterName + Send + Sync, R: Threads + Wait + Abort 
 fn senders_of_two_interfaces_are_numbered_apart(rt: HostRuntime) -> Result<(), Fail> {
     let blanks = Blanks::new(rt.alloc(), 3)?;
     let settled = two_senders::<Brand, _>(&rt, rt.alloc(), blanks, 1);
-    let entries = settled.history.entries();
-    assert!(&rt; numbered(&rt, entries, &[SocketId(0)]) == 100);
-    assert!(&rt; numbered(&rt, entries, &[SocketId(1)]) == 100);
+    let entries = settled.history.to_entries(rt.alloc())?;
+    assert!(&rt; numbered(&rt, &entries, &[SocketId(0)]) == 100);
+    assert!(&rt; numbered(&rt, &entries, &[SocketId(1)]) == 100);
     Ok(())
 }
 
@@ -135,8 +135,8 @@ fn senders_of_two_interfaces_are_numbered_apart(rt: HostRuntime) -> Result<(), F
 fn senders_of_one_interface_share_its_numbers(rt: HostRuntime) -> Result<(), Fail> {
     let blanks = Blanks::new(rt.alloc(), 3)?;
     let settled = two_senders::<Brand, _>(&rt, rt.alloc(), blanks, 0);
-    let entries = settled.history.entries();
-    assert!(&rt; numbered(&rt, entries, &[SocketId(0), SocketId(1)]) == 200);
+    let entries = settled.history.to_entries(rt.alloc())?;
+    assert!(&rt; numbered(&rt, &entries, &[SocketId(0), SocketId(1)]) == 200);
     Ok(())
 }
 

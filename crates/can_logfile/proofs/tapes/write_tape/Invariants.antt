@@ -5,9 +5,9 @@ use Rattle.can_logfile.specs.Log.{log_lines, joined}
 use Rattle.can_logfile.proofs.Fronts.{front}
 use Rattle.can_logfile.proofs.tapes.write_tape.Given as goal
 
-abbrev pub invariant-loop-entry : goal.invariant-loop-entry
-invariant-loop-entry g l = record {
-  few : l.whole_lines ≤ l.entry-index;
-  count : l.whole_lines ≡ length (tape (front l.entry-index l.record.history));
-  out : Appends (g.W.Write.contents l.fn.writer) (g.W.Write.contents l.writer) (joined (log_lines l.names (front l.entry-index l.record.history)));
+abbrev pub invariant-loop-place : goal.invariant-loop-place
+invariant-loop-place g l = record {
+  few : l.whole_lines ≤ l.place;
+  count : l.whole_lines ≡ length (tape (front l.place l.record.history));
+  out : Appends (g.W.Write.contents l.fn.writer) (g.W.Write.contents l.writer) (joined (log_lines l.names (front l.place l.record.history)));
 }

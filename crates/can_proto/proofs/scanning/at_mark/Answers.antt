@@ -24,7 +24,9 @@ pub returns-in_ok-push-in-At-clause-given : goal.returns-in_ok-push-in-At-clause
 returns-in_ok-push-in-At-clause-given c =
     let le : c.in-At.start ≤ c.args.i = rw c.in-At.is at c.requires.within in
     let e = text-at c.args.held.now c.args.piece.now c.args.i c.in-At.start c.args.place c.in-At.is in
-    pushed _ _ _ _ c.in_ok-push-in-At.ensures.items ((closes-at _ _ _ e c.requires.was (close_mark _ c.requires.mark c.if-piece-i-eq60.false)).0 ∙ ap (λ (r : List ℕ). Message r ∷ []) (slice_is c.args.piece.now c.in-At.start c.args.i le) ∙ ap (λ (r : List ℕ). Message r ∷ []) (sym c.in_ok-joined-in-At.ensures))
+    let closed = closes-at _ _ _ e c.requires.was (close_mark _ c.requires.mark c.if-piece-i-eq60.false) in
+    pushed _ _ _ _ c.in_ok-push-in-At.ensures.items
+    (closed.0 ∙ ap (λ (r : List ℕ). Message r ∷ []) (slice_is c.args.piece.now c.in-At.start c.args.i le) ∙ ap (λ (r : List ℕ). Message r ∷ []) (sym c.in_ok-joined-in-At.ensures))
 
 pub returns-in_ok-push-in-At-clause-keeps : goal.returns-in_ok-push-in-At-clause-keeps
 returns-in_ok-push-in-At-clause-keeps c =

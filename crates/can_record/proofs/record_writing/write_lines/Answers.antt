@@ -1,10 +1,15 @@
+use Rattle.std.proofs.Common.{Some, reverse, sym, ap, ◌∙◌}
+use Rattle.std.proofs.lemmas.Option.{slice_get_within, get_or_from_slice_get}
 use Rattle.can_record.proofs.Growing.{no_lines_yet, line_more}
 use Rattle.can_record.proofs.record_writing.write_lines.Goals as goal
 
-pub loop-entry-init : goal.loop-entry-init
-loop-entry-init g c = no_lines_yet (g.W.Write.contents c.args.writer.now)
+pub loop-place-init : goal.loop-place-init
+loop-place-init g c = no_lines_yet (g.W.Write.contents c.args.writer.now)
 
-pub loop-entry-preserved : goal.loop-entry-preserved
-loop-entry-preserved g c =
-    line_more (g.W.Write.contents c.args.writer.now) (g.W.Write.contents c.loop-entry.writer) (g.W.Write.contents c.write_line.new.writer) c.entries-entries.result.now c.loop-entry.entry-index c.entry-item.result
-    c.loop-entry.invariant c.in_ok-write_line.ensures c.loop-entry-test.true c.entry-item.is
+pub loop-place-preserved : goal.loop-place-preserved
+loop-place-preserved g c =
+    let es = reverse c.args.record.now.history in
+    let e = c.entry-in-loop-place.result.now in
+    let there = sym c.entry.ensures.entry ∙ c.unwrap-looked.ensures ∙ ap Some (sym c.entry-in-loop-place.ensures) in
+    line_more (g.W.Write.contents c.args.writer.now) (g.W.Write.contents c.loop-place.writer) (g.W.Write.contents c.write_line.new.writer) es c.loop-place.place e
+    c.loop-place.invariant c.in_ok-write_line.ensures (slice_get_within es c.loop-place.place e there) (sym (get_or_from_slice_get es c.loop-place.place e e there))

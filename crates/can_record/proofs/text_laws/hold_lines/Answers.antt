@@ -1,13 +1,23 @@
-use Rattle.std.proofs.Common.{List, subst}
-use Rattle.std.specs.Prelude.{All}
-use Rattle.std.proofs.lemmas.List.{take_all}
+use Rattle.std.proofs.Common.{Some, reverse, sym, ap, ◌∙◌, subst, arith, length, ◌≤◌}
+use Rattle.std.specs.Prelude.{All, List}
+use Rattle.std.proofs.lemmas.List.{take_all, length-reverse}
 use Rattle.std.proofs.lemmas.List.Elements.{All-more}
+use Rattle.std.proofs.lemmas.Option.{slice_get_within, get_or_from_slice_get}
 use Rattle.can_event.specs.declared.events.Entry.{Entry}
 use Rattle.can_record.specs.Values.{HasLine}
 use Rattle.can_record.proofs.text_laws.hold_lines.Goals as goal
 
-pub loop-entry-preserved : goal.loop-entry-preserved
-loop-entry-preserved c = All-more (HasLine c.args.config) c.args.entries.now c.loop-entry.entry-index c.entry-item.result c.loop-entry-test.true c.loop-entry.invariant (subst (HasLine c.args.config) c.entry-item.is c.hold_line.ensures)
+pub loop-place-preserved : goal.loop-place-preserved
+loop-place-preserved c =
+    let es = reverse c.args.kept.now.history in
+    let k = c.loop-place.place in
+    let e = c.unwrap-looked.result in
+    let there = sym c.entry.ensures.entry ∙ c.unwrap-looked.ensures in
+    All-more (HasLine c.config-config.result) es k e (slice_get_within es k e there) c.loop-place.invariant
+    (subst (HasLine c.config-config.result) (c.entry-2.ensures ∙ sym (get_or_from_slice_get es k e e there)) c.hold_line.ensures)
 
 pub returns : goal.returns
-returns c = subst (λ (xs : List Entry). All (HasLine c.args.config) xs) (take_all c.loop-entry.entry-index c.args.entries.now c.loop-entry-test.false) c.loop-entry.invariant
+returns c =
+    let es = reverse c.args.kept.now.history in
+    let short : length es ≤ c.loop-place.place = omega (arith, c.loop-place-test.false, c.len-place-end.ensures, length-reverse c.args.kept.now.history) in
+    rw c.config-config.ensures.config at subst (λ (xs : List Entry). All (HasLine c.config-config.result) xs) (take_all c.loop-place.place es short) c.loop-place.invariant

@@ -1,10 +1,10 @@
 use Rattle.std.proofs.Common.{◌≡◌, ◌∙◌, List, ap, sym, subst}
-use Rattle.std.specs.Prelude.{All, reverse}
+use Rattle.std.specs.Prelude.{reverse}
 use Rattle.std.proofs.lemmas.List.{reverse-reverse}
 use Rattle.can_event.specs.declared.events.BusConfig.{BusConfig}
 use Rattle.can_event.specs.declared.events.Entry.{Entry}
 use Rattle.can_record.specs.Spelling.{version_of}
-use Rattle.can_record.specs.Values.{HasLine, HasBusLine, HasText}
+use Rattle.can_record.specs.Values.{HasBusLine, HasText}
 use Rattle.can_record.proofs.text_laws.read_back.Goals as goal
 use Rattle.can_record.proofs.text_laws.read_back.Goals.{After-drop-text}
 
@@ -12,7 +12,7 @@ use Rattle.can_record.proofs.text_laws.read_back.Goals.{After-drop-text}
 whole : (c : After-drop-text) → HasText c.args.kept.now.config (reverse c.args.kept.now.history)
 whole c = record {
   bus = subst (λ (x : BusConfig). HasBusLine (version_of x) x) c.config.ensures.config c.hold_config.ensures;
-  lines = subst (λ (xs : List Entry). All (HasLine c.args.kept.now.config) xs) c.entries.ensures.entries (subst (λ (x : BusConfig). All (HasLine x) c.entries.result.now) c.config-2.ensures.config c.hold_lines.ensures);
+  lines = c.hold_lines.ensures;
 }
 
 same : (c : After-drop-text) → (c.in-Ok.read.config ≡ c.args.kept.now.config) × (reverse c.in-Ok.read.history ≡ reverse c.args.kept.now.history)

@@ -1,5 +1,6 @@
-use Rattle.std.proofs.Common.{◌≡◌, ℕ, Bool, true, false, nat_le, List, get_or, Option, Some, None, if◌then◌else◌, rules, sym, ◌∙◌, subst}
-use Rattle.std.proofs.lemmas.Option.{get_or_from_slice_get}
+use Rattle.std.proofs.Common.{◌≡◌, ℕ, Bool, true, false, nat_le, List, Option, Some, None, if◌then◌else◌, rules, sym, ap, ◌∙◌, subst}
+use Rattle.std.specs.Prelude.{slice_get}
+use Rattle.std.proofs.lemmas.Option.{same_Some}
 use Rattle.can_event.specs.declared.events.BusConfig.{BusConfig}
 use Rattle.can_event.specs.declared.events.Entry.{Entry}
 use Rattle.can_event.specs.declared.events.Reply.{Reply}
@@ -16,11 +17,11 @@ told-lawful true law r e = grind rules
 told-lawful false law r e = grind rules
 
 -- so it fits the event of the wrong entry
-told-fits : (c : BusConfig) (es : List Entry) (k : ℕ) (legal : Option Reply) (r : Reply) (e : Entry) → IsToldWrong c es k legal → legal ≡ Some r → e ≡ get_or es k e → FitsReply e.event r
-told-fits c es k legal r e t told read =
-    let here : e ≡ t.first.entry = read ∙ get_or_from_slice_get es k t.first.entry e t.first.there in
+told-fits : (c : BusConfig) (es : List Entry) (k : ℕ) (legal : Option Reply) (r : Reply) (e : Entry) → IsToldWrong c es k legal → legal ≡ Some r → slice_get es k ≡ Some e → FitsReply e.event r
+told-fits c es k legal r e t told there =
+    let here : t.first.entry ≡ e = same_Some t.first.entry e (sym t.first.there ∙ there) in
     let lawful = told-lawful (nat_le c.limit k) (legal_reply c (before es k) t.first.entry.event) r (sym told ∙ t.is_allowed) in
-    subst (λ (x : Entry). FitsReply x.event r) (sym here) (legal_is_spelled c (before es k) t.first.entry.event r lawful)
+    subst (λ (x : Entry). FitsReply x.event r) here (legal_is_spelled c (before es k) t.first.entry.event r lawful)
 
 pub shown_line-requires-in-Some : goal.shown_line-requires-in-Some
-shown_line-requires-in-Some c = told-fits _ _ _ _ _ _ c.requires c.in-Some.is (subst (λ (xs : List Entry). c.index-entries-place.result ≡ get_or xs c.args.place c.index-entries-place.result) c.entries.ensures.entries c.index-entries-place.is)
+shown_line-requires-in-Some c = told-fits _ _ _ _ _ _ c.requires c.in-Some.is (sym c.entry.ensures.entry ∙ c.unwrap-looked.ensures ∙ ap Some (sym c.entry-entry.ensures))
