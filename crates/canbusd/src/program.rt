@@ -90,7 +90,7 @@ fn tell_words<W: Write + Drop, E: Write>(
     finish(alloc, outcome, output, errors)
 }
 
-// Writes what was put out, also before a fault; a fault of that comes first. Answers the status.
+// Writes what was put out, also before a fault; a fault of that comes first, if none was found before. Answers the status.
 fn finish<W: Write + Drop, E: Write>(
     alloc: Global,
     outcome: Result<(), Failure<'_>>,
@@ -103,12 +103,22 @@ fn finish<W: Write + Drop, E: Write>(
     ensures kept { Keeps (writer_contents W.contents output.old) (writer_contents W.contents output.new) }
 {
     if let Err(error) = output.flush() {
-        return fail(&write_failure(alloc, OUTPUT, &error), errors);
+        let late = write_failure(alloc, OUTPUT, &error);
+        return fail(&write_fault(outcome, late), errors);
     }
     match outcome {
         Ok(()) => DONE,
         Err(failure) => fail(&failure, errors),
     }
+}
+
+// The fault of a job whose output was not written: as the job tells it, if it met that itself.
+fn write_fault<'a>(outcome: Result<(), Failure<'a>>, late: Failure<'a>) -> Failure<'a> {
+    let Err(failure) = outcome else {
+        return late;
+    };
+    let fault = failure.fault;
+    if fault == Fault::Write { failure } else { late }
 }
 
 /// Tells why a command line was not carried out, and answers its status.

@@ -3,6 +3,7 @@ use super::support::{Sockets, runs, words_of};
 use crate::program::run_words;
 use canbusd_faults::Fault;
 use canbusd_files::read_text;
+use std::fs;
 use std::test::Fail;
 use can_test_streams::{Closed, Pieces};
 
@@ -41,10 +42,13 @@ fn makes_no_record_where_the_last_flush_fails(rt: HostRuntime) -> Result<(), Fai
     let input = b"session 1\n".as_slice();
     let status = run_words(&rt, alloc, &words, input, Closed, &mut errors);
     assert!(rt; status == 1);
-    let told =
-        "canbusd: cannot open late.rec\n  late.rec: No such file or directory (os error 2)\n";
-    let told = ("", told, 1);
-    runs(&rt, alloc, "canbusd audit late.rec", b"".as_slice(), told)
+    let told = "canbusd: write fault
+  standard output: broken pipe
+  no record was written to late.rec
+";
+    assert_eq!(rt; errors.as_slice(), told.as_bytes());
+    assert!(rt; !fs::exists(&rt, "late.rec")?);
+    Ok(())
 }
 
 #[test]
