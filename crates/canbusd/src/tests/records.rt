@@ -1,5 +1,5 @@
 //! Records that are written and audited.
-use super::support::{Sockets, carries_out, runs};
+use super::support::{Sockets, carries_out, runs, same};
 use std::fs;
 use std::test::Fail;
 
@@ -27,7 +27,7 @@ fn writes_and_audits_records(rt: HostRuntime) -> Result<(), Fail> {
     let line = "canbusd bench --record written.rec --rxqueue 1 --limit 100 can0,can1";
     carries_out(&rt, alloc, line, rest, wanted)?;
     let record = fs::read_to_string(&rt, RECORD)?;
-    assert_eq!(rt; record.as_bytes(), RECORDED.as_bytes());
+    same(&rt, record.as_bytes(), RECORDED.as_bytes());
     let audited = ("ok 7 entries\n", "", 0);
     runs(
         &rt,
