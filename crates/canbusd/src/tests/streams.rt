@@ -1,10 +1,10 @@
 //! Streams and files that fail.
 use super::support::{Sockets, run_over, runs, same};
+use can_test_streams::{Closed, Pieces};
 use canbusd_faults::Fault;
 use canbusd_files::read_text;
 use std::fs;
 use std::test::Fail;
-use can_test_streams::{Closed, Pieces};
 
 #[test]
 fn tells_faults(rt: HostRuntime) -> Result<(), Fail> {
