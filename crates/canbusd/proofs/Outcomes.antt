@@ -1,4 +1,4 @@
-use Rattle.std.proofs.Common.{◌≡◌, List, ℕ, Option, ◌++◌}
+use Rattle.std.proofs.Common.{List, ℕ, Option}
 use Rattle.std.specs.Io.KnownBytes.{Keeps}
 use Rattle.std.proofs.KnownBytes.{Appends-kept, Keeps-trans}
 use Rattle.canbusd_options.specs.declared.command_line.Job.{Job}
