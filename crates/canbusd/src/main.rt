@@ -5,7 +5,8 @@
 //! record of such a run. `program` carries out a command line and answers its status; its words are canbusd_options', its jobs
 //! canbusd_bench's, canbusd_serve's and canbusd_audit's.
 //!
-//! What is proved here: no command line, file or input makes a function fail, and none but `serve` waits for others.
+//! What is proved here: no command line, file or input makes a function fail, none but `serve` waits for others, and status 0
+//! means that the job of the words was done and its output written.
 #![tactic(auto)]
 
 mod program;

@@ -24,7 +24,8 @@ const BAD_WORDS: u8 = 2;
 
 /// Carries out a command line, the program's name among its words, and answers its status: 0, 1 with a line
 /// `canbusd: TEXT` among the errors and notes behind it, or 2 for a fault of the words with the parser's own text.
-/// All output was written, or the status is 1 and the text `write fault`.
+/// All output was written, or the status is 1 and the text `write fault`. Status 0 means that what the words ask for was
+/// done and put out.
 ///
 /// A server may wait for its clients for ever; no other command line waits, but for its input.
 pub fn run_words<
@@ -118,7 +119,7 @@ fn tell_words<W: Write + Drop, E: Write>(
     finish(alloc, outcome, output, errors)
 }
 
-// Writes what was put out, also before a fault; a fault of that comes first, if none was found before. Answers the status.
+// Writes what was put out, also before a fault. Where that fails this is what is told. Answers the status.
 fn finish<W: Write + Drop, E: Write>(
     alloc: Global,
     outcome: Result<(), Failure<'_>>,
