@@ -42,6 +42,15 @@ TYPED = [
     ("canbusd bench can0 2> ou", "t.txt "),
     ("canbusd serve can0 >ou", "t.txt "),
     ("canbusd bench --until", ""),
+    ("canbusd serve --lo", ""),
+]
+# The beginning of an option that takes a value, and the rest of its name, behind which a shell puts its own sign.
+OPTIONS = [
+    ("canbusd bench --lo", "g"),
+    ("canbusd bench --rec", "ord"),
+    ("canbusd bench --li", "mit"),
+    ("canbusd serve --lis", "ten"),
+    ("canbusd serve --auto-restart=5 --pa", "ce"),
 ]
 
 
@@ -97,7 +106,12 @@ class Shell:
         os.close(self.terminal)
 
 
-def completes(words, *commands):
+def typed_with(sign):
+    """What is typed, and what the tab key adds where a shell puts this sign behind an option."""
+    return TYPED + [(typed, rest + sign) for typed, rest in OPTIONS]
+
+
+def completes(words, sign, *commands):
     """Types each line into the shell, behind commands that make it ready."""
     if not shutil.which(words[0]):
         return f"{words[0]} is not installed"
@@ -106,10 +120,11 @@ def completes(words, *commands):
             shell.tell(command + "\n")
         shell.tell("echo rea''dy\n")
         shell.until("ready\r?\n")
-        for typed, wanted in TYPED:
+        lines = typed_with(sign)
+        for typed, wanted in lines:
             line = shell.completed(typed)
             demand(line == typed + wanted, f"`{typed}` becomes `{line}`")
-    return f"{len(TYPED)} lines"
+    return f"{len(lines)} lines"
 
 
 BASH_LINE = [
@@ -121,7 +136,7 @@ BASH_LINE = [
 @check
 def completion_in_bash():
     """with bash as it is"""
-    return completes(["bash", "--norc", "--noprofile", "-i"], f"source {CONTRIB}/canbusd.bash", *BASH_LINE)
+    return completes(["bash", "--norc", "--noprofile", "-i"], " ", f"source {CONTRIB}/canbusd.bash", *BASH_LINE)
 
 
 @check
@@ -129,6 +144,7 @@ def completion_in_bash_with_other_words():
     """where neither `=` nor `@` parts words"""
     return completes(
         ["bash", "--norc", "--noprofile", "-i"],
+        " ",
         f"source {CONTRIB}/canbusd.bash",
         "COMP_WORDBREAKS=${COMP_WORDBREAKS//[=@]}",
         *BASH_LINE,
@@ -140,6 +156,7 @@ def completion_in_zsh():
     """with zsh's own completion system, which finds the file by its name"""
     return completes(
         ["zsh", "-f", "-i"],
+        "=",
         "mkdir functions",
         f"cp {CONTRIB}/canbusd.zsh functions/_canbusd",
         "fpath=($PWD/functions $fpath)",
@@ -159,7 +176,8 @@ def completion_in_fish():
     if not shutil.which("fish"):
         return "fish is not installed"
     with folder_of_files() as folder:
-        for typed, wanted in TYPED:
+        lines = typed_with("")
+        for typed, wanted in lines:
             done = subprocess.run(
                 ["fish", "--no-config", "-c", f'source {CONTRIB}/canbusd.fish; complete --do-complete "{typed}"'],
                 cwd=folder,
@@ -172,4 +190,4 @@ def completion_in_fish():
             offers = [line.split("\t")[0] for line in done.stdout.splitlines()]
             word = re.split("[ <>]", typed)[-1] + wanted.rstrip(" ").replace("\\", "")
             demand(offers == ([word] if wanted else []), f"`{typed}` is offered {offers} {done.stderr}")
-    return f"{len(TYPED)} lines"
+    return f"{len(lines)} lines"

@@ -5,14 +5,15 @@
 //! record of such a run. `program` carries out a command line and answers its status; its words are canbusd_options', its jobs
 //! canbusd_bench's, canbusd_serve's and canbusd_audit's.
 //!
-//! What is proved here: no command line, file or input makes a function fail, and none but `serve` waits for others.
+//! What is proved here: no command line, file or input makes a function fail, none but `serve` waits for others, and status 0
+//! means that the job of the words was done and its output written.
 #![tactic(auto)]
 
 mod program;
 
 use canbusd_faults::{Failure, Fault};
 use program::{fail, run_words};
-use std::io::ErrorKind;
+use std::io::{BufWriter, ErrorKind};
 use std::net::{TcpListener, TcpStream};
 use std::process::ExitCode;
 use std::rt::Env;
@@ -22,17 +23,14 @@ fn main(rt: HostRuntime) -> ExitCode {
     // The checker has to meet the sockets of the system before a server is made over them.
     let _types: Option<(TcpListener, TcpStream)> = None;
     let alloc = rt.alloc();
+    let errors = &mut rt.stderr();
+    let Ok(mut output) = BufWriter::new(alloc, rt.stdout()) else {
+        return ExitCode::from(fail(&Failure::new(alloc, Fault::NoMemory), errors));
+    };
     let status = match read_words(&rt) {
-        Ok(words) => run_words(
-            &rt,
-            alloc,
-            &words,
-            rt.stdin(),
-            rt.stdout(),
-            &mut rt.stderr(),
-        ),
+        Ok(words) => run_words(&rt, alloc, &words, rt.stdin(), &mut output, errors),
         Err(error) if error.kind() == ErrorKind::OutOfMemory => {
-            fail(&Failure::new(alloc, Fault::NoMemory), &mut rt.stderr())
+            fail(&Failure::new(alloc, Fault::NoMemory), errors)
         }
         Err(_) => {
             let _ = eprintln!(rt; "error: the command line is no UTF-8 text");

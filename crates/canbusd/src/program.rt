@@ -1,6 +1,8 @@
-ghost use Rattle.std.specs.Prelude.{◌≡◌, ◌≤◌, [], IsOk};
+ghost use Rattle.std.specs.Prelude.{◌≡◌, ◌≤◌, [], IfOk, IsOk, IsTrue, map, string_bytes};
 ghost use Rattle.std.specs.Io.Buffered.{writer_buffer, writer_contents};
 ghost use Rattle.std.specs.Io.KnownBytes.{Keeps};
+ghost use Rattle.canbusd.specs.Outcomes.{IsDone, Succeeds};
+ghost use Rattle.canbusd_options.specs.Help.{ShowsHelp};
 
 use can_session::Unheard;
 use canbusd_audit::audit_file;
@@ -22,7 +24,8 @@ const BAD_WORDS: u8 = 2;
 
 /// Carries out a command line, the program's name among its words, and answers its status: 0, 1 with a line
 /// `canbusd: TEXT` among the errors and notes behind it, or 2 for a fault of the words with the parser's own text.
-/// All output was written, or the status is 1 and the text `write fault`.
+/// All output was written, or the status is 1 and the text `write fault`. Status 0 means that what the words ask for was
+/// done and put out.
 ///
 /// A server may wait for its clients for ever; no other command line waits, but for its input.
 pub fn run_words<
@@ -30,15 +33,21 @@ pub fn run_words<
     R: Read + Drop + Send + 'static,
     W: Write + Drop,
     E: Write + Send,
->(rt: &H, alloc: Global, words: &[String], input: R, output: W, errors: &mut E) -> u8
-    ensures { result ≤ 2 }
+>(
+    rt: &H,
+    alloc: Global,
+    words: &[String],
+    input: R,
+    output: &mut BufWriter<W>,
+    errors: &mut E,
+) -> u8
+    ensures status { result ≤ 2 }
+    ensures done { result ≡ 0 → Succeeds (writer_contents W.contents) (map string_bytes words.now) (R.remaining input) output.old output.new }
+    ensures flushed { result ≡ 0 → writer_buffer output.new ≡ [] }
 {
-    let Ok(mut output) = BufWriter::new(alloc, output) else {
-        return fail(&Failure::new(alloc, Fault::NoMemory), errors);
-    };
     match read_options(alloc, words) {
-        Ok(job) => carry_out(rt, alloc, job, input, &mut output, errors),
-        Err(error) => tell_words(alloc, &error, &mut output, errors),
+        Ok(job) => carry_out(rt, alloc, job, input, output, errors),
+        Err(error) => tell_words(alloc, &error, output, errors),
     }
 }
 
@@ -51,23 +60,41 @@ fn carry_out<H: ServerRuntime, R: Read + Drop + Send + 'static, W: Write + Drop,
     output: &mut BufWriter<W>,
     errors: &mut E,
 ) -> u8
-    ensures { result ≤ 1 }
+    ensures status { result ≤ 1 }
+    ensures done { result ≡ 0 → IsDone (writer_contents W.contents) job.entry (R.remaining input) output.old output.new }
+    ensures flushed { result ≡ 0 → writer_buffer output.new ≡ [] }
 {
     let mut unheard = Unheard::none();
-    let outcome = match job {
-        Job::Bench(options) => run_bench(rt, alloc, options, input, output, &mut unheard),
-        Job::Audit(path) => audit_file(rt, alloc, path, output),
-        Job::Serve(options) => match run_serve(rt, alloc, &options, input, output, errors) {
-            Ok(true) => Ok(()),
-            Ok(false) => return FAILED,
-            Err(failure) => Err(failure),
-        },
+    let outcome = match do_job(rt, alloc, job, input, output, errors, &mut unheard) {
+        Ok(false) => return FAILED,
+        Ok(true) => Ok(()),
+        Err(failure) => Err(failure),
     };
     let status = finish(alloc, outcome, output, errors);
     if status == DONE {
         tell_unheard(unheard, errors);
     }
     status
+}
+
+// Does a job. Answers whether all of it was done: where it was not, each fault was told.
+fn do_job<'a, H: ServerRuntime, R: Read + Drop + Send + 'static, W: Write + Drop, E: Write + Send>(
+    rt: &H,
+    alloc: Global,
+    job: Job<'a>,
+    input: R,
+    output: &mut BufWriter<W>,
+    errors: &mut E,
+    unheard: &mut Unheard,
+) -> Result<bool, Failure<'a>>
+    ensures { IfOk result (λ whole. IsTrue whole → IsDone (writer_contents W.contents) job.entry (R.remaining input) output.old output.new) }
+{
+    match job {
+        Job::Bench(options) => run_bench(rt, alloc, options, input, output, unheard)?,
+        Job::Audit(path) => audit_file(rt, alloc, path, output)?,
+        Job::Serve(options) => return run_serve(rt, alloc, &options, input, output, errors),
+    }
+    Ok(true)
 }
 
 // Tells why the words ask for no job, or what help they ask for.
@@ -77,7 +104,9 @@ fn tell_words<W: Write + Drop, E: Write>(
     output: &mut BufWriter<W>,
     errors: &mut E,
 ) -> u8
-    ensures { result ≤ 2 }
+    ensures status { result ≤ 2 }
+    ensures shown { result ≡ 0 → ShowsHelp error.now }
+    ensures flushed { result ≡ 0 → writer_buffer output.new ≡ [] }
 {
     if error.kind() == ErrorKind::OutOfMemory {
         return fail(&Failure::new(alloc, Fault::NoMemory), errors);
@@ -90,7 +119,7 @@ fn tell_words<W: Write + Drop, E: Write>(
     finish(alloc, outcome, output, errors)
 }
 
-// Writes what was put out, also before a fault; a fault of that comes first. Answers the status.
+// Writes what was put out, also before a fault. Where that fails this is what is told. Answers the status.
 fn finish<W: Write + Drop, E: Write>(
     alloc: Global,
     outcome: Result<(), Failure<'_>>,
@@ -103,12 +132,22 @@ fn finish<W: Write + Drop, E: Write>(
     ensures kept { Keeps (writer_contents W.contents output.old) (writer_contents W.contents output.new) }
 {
     if let Err(error) = output.flush() {
-        return fail(&write_failure(alloc, OUTPUT, &error), errors);
+        let late = write_failure(alloc, OUTPUT, &error);
+        return fail(&write_fault(outcome, late), errors);
     }
     match outcome {
         Ok(()) => DONE,
         Err(failure) => fail(&failure, errors),
     }
+}
+
+// The fault of a job whose output was not written: as the job tells it, if it met that itself.
+fn write_fault<'a>(outcome: Result<(), Failure<'a>>, late: Failure<'a>) -> Failure<'a> {
+    let Err(failure) = outcome else {
+        return late;
+    };
+    let fault = failure.fault;
+    if fault == Fault::Write { failure } else { late }
 }
 
 /// Tells why a command line was not carried out, and answers its status.

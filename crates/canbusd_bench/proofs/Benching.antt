@@ -21,10 +21,14 @@ pub record Answered {W : Type 0} (contents : W → Option (List ℕ)) (c : BusCo
   pub runs : r ≢ Err BadConfig → EndsOver contents verdicts input (at_start names c capacity) out r new
 
 -- a run that came to its end
-pub ended : {W : Type 0} (contents : W → Option (List ℕ)) (c : BusConfig) (o : BenchOptions) (names : List (List ℕ)) (verdicts : VerdictMap) (input : Option (List ℕ)) (out new : W) (r : Kept) → c ≡ config_of o.settings (length names) → Answered contents c o.settings.rx_capacity names verdicts input out (Ok r) new → EndsOver contents verdicts input (begun o names) out (Ok r) new
+pub ended : {W : Type 0} (contents : W → Option (List ℕ)) (c : BusConfig) (o : BenchOptions) (names : List (List ℕ)) (verdicts : VerdictMap) (input : Option (List ℕ)) (out new : W) (r : Kept)
+    → c ≡ config_of o.settings (length names) → Answered contents c o.settings.rx_capacity names verdicts input out (Ok r) new
+    → EndsOver contents verdicts input (begun o names) out (Ok r) new
 ended contents c o names verdicts input out new r is a = subst (λ (k : BusConfig). EndsOver contents verdicts input (at_start names k o.settings.rx_capacity) out (Ok r) new) is (a.runs (search rules))
 
-stops : {W : Type 0} (contents : W → Option (List ℕ)) (o : BenchOptions) (names : List (List ℕ)) (verdicts : VerdictMap) (input : Option (List ℕ)) (out new : W) (why : BenchFault) → Answered contents (config_of o.settings (length names)) o.settings.rx_capacity names verdicts input out (Err why) new → StopsBy contents o names verdicts input out (fault.Bench why) new
+stops : {W : Type 0} (contents : W → Option (List ℕ)) (o : BenchOptions) (names : List (List ℕ)) (verdicts : VerdictMap) (input : Option (List ℕ)) (out new : W) (why : BenchFault)
+    → Answered contents (config_of o.settings (length names)) o.settings.rx_capacity names verdicts input out (Err why) new
+    → StopsBy contents o names verdicts input out (fault.Bench why) new
 stops contents o names verdicts input out new BadConfig a = (a.bad.0 refl, a.untouched refl)
 stops contents o names verdicts input out new (BadLine n) a = a.runs (search rules)
 stops contents o names verdicts input out new InputTooLong a = a.runs (search rules)
@@ -33,12 +37,16 @@ stops contents o names verdicts input out new Write a = a.runs (search rules)
 stops contents o names verdicts input out new NoMemory a = a.runs (search rules)
 
 -- a run that ended in a fault
-pub stopped : {W : Type 0} (contents : W → Option (List ℕ)) (c : BusConfig) (o : BenchOptions) (names : List (List ℕ)) (verdicts : VerdictMap) (input : Option (List ℕ)) (out new : W) (why : BenchFault) (f : Fault) → c ≡ config_of o.settings (length names) → f ≡ fault.Bench why → Answered contents c o.settings.rx_capacity names verdicts input out (Err why) new → StopsBy contents o names verdicts input out f new
+pub stopped : {W : Type 0} (contents : W → Option (List ℕ)) (c : BusConfig) (o : BenchOptions) (names : List (List ℕ)) (verdicts : VerdictMap) (input : Option (List ℕ)) (out new : W) (why : BenchFault) (f : Fault)
+    → c ≡ config_of o.settings (length names) → f ≡ fault.Bench why → Answered contents c o.settings.rx_capacity names verdicts input out (Err why) new
+    → StopsBy contents o names verdicts input out f new
 stopped contents c o names verdicts input out new why f is told a =
     subst (λ (x : Fault). StopsBy contents o names verdicts input out x new) (sym told)
     (stops contents o names verdicts input out new why (subst (λ (k : BusConfig). Answered contents k o.settings.rx_capacity names verdicts input out (Err why) new) is a))
 
 -- the same with the verdicts of the script that the options name
-pub ran : {W : Type 0} (E : Type 0) (contents : W → Option (List ℕ)) (o : BenchOptions) (names : List (List ℕ)) (verdicts : VerdictMap) (input : Option (List ℕ)) (out new : W) (r : Result Kept E) → AreVerdicts o.bus.script names verdicts → IfOk r (λ k. EndsOver contents verdicts input (begun o names) out (Ok k) new) → IfOk r (λ k. IsLegal k.config k.history) → IfOk r (λ k. IsRun contents o names input out k new)
+pub ran : {W : Type 0} (E : Type 0) (contents : W → Option (List ℕ)) (o : BenchOptions) (names : List (List ℕ)) (verdicts : VerdictMap) (input : Option (List ℕ)) (out new : W) (r : Result Kept E)
+    → AreVerdicts o.bus.script names verdicts → IfOk r (λ k. EndsOver contents verdicts input (begun o names) out (Ok k) new) → IfOk r (λ k. IsLegal k.config k.history)
+    → IfOk r (λ k. IsRun contents o names input out k new)
 ran E contents o names verdicts input out new (Ok k) scripted ends legal = record { verdicts = verdicts; scripted = scripted; ends = ends; legal = legal }
 ran E contents o names verdicts input out new (Err why) scripted ends legal = tt

@@ -1,5 +1,5 @@
 //! Command lines that are refused, and those that ask for help.
-use super::support::{Sockets, run};
+use super::support::{Sockets, run, same};
 use canbusd_serve::ServerRuntime;
 use std::alloc::Global;
 use std::process::Abort;
@@ -15,7 +15,7 @@ fn tells(
     let (output, errors, status) = wanted;
     let ended = run(rt, alloc, line, b"".as_slice())?;
     assert!(rt; ended.begins(output, errors));
-    assert_eq!(rt; ended.status, status);
+    same(rt, ended.status, status);
     Ok(())
 }
 

@@ -1,5 +1,5 @@
 //! Records that are written and audited.
-use super::support::{Sockets, carries_out, runs};
+use super::support::{Sockets, carries_out, runs, same};
 use std::fs;
 use std::test::Fail;
 
@@ -27,7 +27,7 @@ fn writes_and_audits_records(rt: HostRuntime) -> Result<(), Fail> {
     let line = "canbusd bench --record written.rec --rxqueue 1 --limit 100 can0,can1";
     carries_out(&rt, alloc, line, rest, wanted)?;
     let record = fs::read_to_string(&rt, RECORD)?;
-    assert_eq!(rt; record.as_bytes(), RECORDED.as_bytes());
+    same(&rt, record.as_bytes(), RECORDED.as_bytes());
     let audited = ("ok 7 entries\n", "", 0);
     runs(
         &rt,
@@ -66,7 +66,7 @@ fn makes_no_files_where_a_run_ends_in_a_fault(rt: HostRuntime) -> Result<(), Fai
     let line = "canbusd bench --record fault.rec can0@none";
     runs(&rt, alloc, line, lines, ("", told, 1))?;
     let old = fs::read_to_string(&rt, "fault.rec")?;
-    assert_eq!(rt; old.as_str(), "old");
+    same(&rt, old.as_str(), "old");
     fs::remove_file(&rt, "fault.rec")?;
     Ok(())
 }
@@ -87,7 +87,7 @@ fn writes_logs(rt: HostRuntime) -> Result<(), Fail> {
         wanted,
     )?;
     let log = fs::read_to_string(&rt, "run.log")?;
-    assert_eq!(rt; log.as_str(), logged);
+    same(&rt, log.as_str(), logged);
     // The log is written also where the record cannot be, whose fault is told.
     fs::remove_file(&rt, "run.log")?;
     let line = "canbusd bench --record none/run.rec --log run.log can0";

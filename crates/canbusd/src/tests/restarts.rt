@@ -1,6 +1,6 @@
 //! Interfaces that come back by themselves, and the records of such runs.
 use super::serving::{connect, has_shape, hears, say};
-use super::support::{Sockets, carries_out, ever, joined, run, runs, times};
+use super::support::{Sockets, carries_out, ever, joined, run, runs, same, times};
 use canbusd_serve::ServerRuntime;
 use std::alloc::Global;
 use std::io::Read;
@@ -101,7 +101,7 @@ fn each_bus_of_a_server_restarts(rt: HostRuntime) -> Result<(), Fail> {
     );
     let ended = ended?;
     assert!(&rt; ended.begins("listening ./back\nbus can0 entries ", ""));
-    assert_eq!(&rt; ended.status, 0);
+    same(&rt, ended.status, 0);
     fs::remove_file(&rt, "back.script")?;
     Ok(())
 }

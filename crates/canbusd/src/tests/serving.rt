@@ -1,5 +1,5 @@
 //! Servers: what they are refused, how they end, and what a run leaves.
-use super::support::{Sockets, run, runs};
+use super::support::{Sockets, run, runs, same};
 use canbusd_serve::ServerRuntime;
 use std::io::{Read, Write};
 use std::net::{Shutdown, TcpListener};
@@ -112,7 +112,7 @@ fn ends_with_its_input(rt: HostRuntime) -> Result<(), Fail> {
     assert!(&rt; ended.begins("listening 127.0.0.1:", ""));
     assert!(&rt; !ended.output.starts_with(b"listening 127.0.0.1:0\n"));
     assert!(&rt; ended.output.ends_with(b"\nbus can0 entries 0\n"));
-    assert_eq!(&rt; ended.status, 0);
+    same(&rt, ended.status, 0);
     Ok(())
 }
 
@@ -173,7 +173,7 @@ pub fn hears<R: Abort>(rt: &R, client: &UnixStream, text: &str) {
     let mut heard = [0; 64];
     let heard = &mut heard[..text.len().min(64)];
     assert!(rt; stream.read_exact(heard).is_ok());
-    assert_eq!(rt; &*heard, text.as_bytes());
+    same(rt, &*heard, text.as_bytes());
 }
 
 /// Whether a text has the shape of another, where `0` stands for any digit.
@@ -222,9 +222,9 @@ fn serves_two_clients(rt: HostRuntime) -> Result<(), Fail> {
     let ended = ended?;
     // Two sockets, a frame, its attempt and what the second socket receives of it, and both are closed.
     let told = "listening ./talk\nbus can0 entries 7\n";
-    assert_eq!(&rt; ended.output.as_slice(), told.as_bytes());
+    same(&rt, ended.output.as_slice(), told.as_bytes());
     assert!(&rt; ended.errors.is_empty());
-    assert_eq!(&rt; ended.status, 0);
+    same(&rt, ended.status, 0);
     assert!(&rt; !fs::exists(&rt, "./talk")?);
     let log = fs::read_to_string(&rt, "./can0.log")?;
     assert!(&rt; has_shape(log.as_bytes(), "(0000000000.000000) can0 123#11223344\n"));
@@ -264,12 +264,10 @@ fn tells_once_that_a_record_is_full(rt: HostRuntime) -> Result<(), Fail> {
     );
     let ended = ended?;
     let told = "listening ./full\nbus can0 entries 2\n";
-    assert_eq!(&rt; ended.output.as_slice(), told.as_bytes());
-    assert_eq!(&rt;
-        ended.errors.as_slice(),
-        b"canbusd: bus can0: record full\n".as_slice()
-    );
-    assert_eq!(&rt; ended.status, 0);
+    same(&rt, ended.output.as_slice(), told.as_bytes());
+    let told = b"canbusd: bus can0: record full\n";
+    same(&rt, ended.errors.as_slice(), told.as_slice());
+    same(&rt, ended.status, 0);
     Ok(())
 }
 
@@ -280,7 +278,7 @@ fn sees_the_end<R: Abort + ServerRuntime>(rt: &R, input: &UnixStream) {
     hears(rt, &client, "< hi >< ok >< ok >");
     assert!(rt; input.shutdown(Shutdown::Both).is_ok());
     let mut stream = &client;
-    assert_eq!(rt; stream.read(&mut [0; 1]).ok(), Some(0));
+    same(rt, stream.read(&mut [0; 1]).ok(), Some(0));
 }
 
 #[test]
@@ -303,8 +301,8 @@ fn the_end_of_the_input_ends_sessions(rt: HostRuntime) -> Result<(), Fail> {
     let ended = ended?;
     // A socket was opened and closed.
     let told = "listening ./ended\nbus can0 entries 2\n";
-    assert_eq!(&rt; ended.output.as_slice(), told.as_bytes());
+    same(&rt, ended.output.as_slice(), told.as_bytes());
     assert!(&rt; ended.errors.is_empty());
-    assert_eq!(&rt; ended.status, 0);
+    same(&rt, ended.status, 0);
     Ok(())
 }

@@ -1,10 +1,10 @@
 //! Streams and files that fail.
-use super::support::{Sockets, runs, words_of};
-use crate::program::run_words;
+use super::support::{Sockets, run_over, runs, same};
+use can_test_streams::{Closed, Pieces};
 use canbusd_faults::Fault;
 use canbusd_files::read_text;
+use std::fs;
 use std::test::Fail;
-use can_test_streams::{Closed, Pieces};
 
 #[test]
 fn tells_faults(rt: HostRuntime) -> Result<(), Fail> {
@@ -21,13 +21,11 @@ fn tells_faults(rt: HostRuntime) -> Result<(), Fail> {
         1,
     );
     runs(&rt, alloc, "canbusd bench can0", broken, wanted)?;
-    let words = words_of(alloc, "canbusd bench can0")?;
-    let mut errors = Vec::new(alloc);
     let input = b"session 1\n".as_slice();
-    let status = run_words(&rt, alloc, &words, input, Closed, &mut errors);
+    let (errors, status) = run_over(&rt, alloc, "canbusd bench can0", input, Closed)?;
     let told = b"canbusd: write fault\n  standard output: broken pipe\n";
-    assert_eq!(rt; errors.as_slice(), told.as_slice());
-    assert_eq!(rt; status, 1);
+    same(&rt, errors.as_slice(), told.as_slice());
+    same(&rt, status, 1);
     Ok(())
 }
 
@@ -36,15 +34,16 @@ fn tells_faults(rt: HostRuntime) -> Result<(), Fail> {
 fn makes_no_record_where_the_last_flush_fails(rt: HostRuntime) -> Result<(), Fail> {
     let _sockets: Sockets = None;
     let alloc = rt.alloc();
-    let words = words_of(alloc, "canbusd bench --record late.rec can0")?;
-    let mut errors = Vec::new(alloc);
-    let input = b"session 1\n".as_slice();
-    let status = run_words(&rt, alloc, &words, input, Closed, &mut errors);
-    assert!(rt; status == 1);
-    let told =
-        "canbusd: cannot open late.rec\n  late.rec: No such file or directory (os error 2)\n";
-    let told = ("", told, 1);
-    runs(&rt, alloc, "canbusd audit late.rec", b"".as_slice(), told)
+    let line = "canbusd bench --record late.rec can0";
+    let (errors, status) = run_over(&rt, alloc, line, b"session 1\n".as_slice(), Closed)?;
+    same(&rt, status, 1);
+    let told = "canbusd: write fault
+  standard output: broken pipe
+  no record was written to late.rec
+";
+    same(&rt, errors.as_slice(), told.as_bytes());
+    assert!(rt; !fs::exists(&rt, "late.rec")?);
+    Ok(())
 }
 
 #[test]
@@ -63,12 +62,12 @@ fn reads_files_in_so_many_reads(rt: HostRuntime) -> Result<(), Fail> {
         };
         match read_text(alloc, "f.rec", &mut file, most_reads) {
             Ok(text) => {
-                assert_eq!(rt; text.as_str(), "abc");
+                same(&rt, text.as_str(), "abc");
                 assert!(rt; told.is_empty());
             }
             Err(failure) => {
-                assert_eq!(rt; failure.fault, Fault::Read);
-                assert_eq!(rt; failure.notes.as_str(), told);
+                same(&rt, failure.fault, Fault::Read);
+                same(&rt, failure.notes.as_str(), told);
             }
         }
     }

@@ -2,14 +2,20 @@
 use crate::program::run_words;
 use canbusd_serve::ServerRuntime;
 use std::alloc::Global;
+use std::fmt::Debug;
 use std::io;
-use std::io::Read;
+use std::io::{BufWriter, Read, Write};
 use std::net::{TcpListener, TcpStream};
 use std::process::Abort;
 use std::test::Fail;
 
 /// The sockets of the system. The checker has to meet their types in each test that runs a command line.
 pub type Sockets = Option<(TcpListener, TcpStream)>;
+
+/// Both are alike. Where they are not, the test ends and says what differs.
+pub fn same<T: PartialEq + Debug + Drop>(rt: &impl Abort, got: T, expected: T) {
+    assert_eq!(rt; got, expected);
+}
 
 /// A reader of a text that it owns, in pieces of so many bytes.
 #[derive(Drop)]
@@ -64,10 +70,8 @@ pub fn run<R: Read + Drop + Send + 'static>(
     line: &str,
     input: R,
 ) -> Result<Ended, Fail> {
-    let words = words_of(alloc, line)?;
     let mut output = Vec::new(alloc);
-    let mut errors = Vec::new(alloc);
-    let status = run_words(rt, alloc, &words, input, &mut output, &mut errors);
+    let (errors, status) = run_over(rt, alloc, line, input, &mut output)?;
     Ok(Ended {
         output,
         errors,
@@ -75,7 +79,22 @@ pub fn run<R: Read + Drop + Send + 'static>(
     })
 }
 
-pub fn words_of(alloc: Global, line: &str) -> Result<Vec<String>, Fail> {
+/// Runs the words of a line over this output. Gives what it tells of errors, and its status.
+pub fn run_over<R: Read + Drop + Send + 'static, W: Write + Drop>(
+    rt: &impl ServerRuntime,
+    alloc: Global,
+    line: &str,
+    input: R,
+    output: W,
+) -> Result<(Vec<u8>, u8), Fail> {
+    let words = words_of(alloc, line)?;
+    let mut output = BufWriter::new(alloc, output)?;
+    let mut errors = Vec::new(alloc);
+    let status = run_words(rt, alloc, &words, input, &mut output, &mut errors);
+    Ok((errors, status))
+}
+
+fn words_of(alloc: Global, line: &str) -> Result<Vec<String>, Fail> {
     let mut words = Vec::new(alloc);
     for word in line.split(' ') {
         words.push(String::from_str(alloc, word)?)?;
@@ -93,9 +112,9 @@ pub fn runs<R: Read + Drop + Send + 'static>(
 ) -> Result<(), Fail> {
     let (output, errors, status) = wanted;
     let ended = run(rt, alloc, line, input)?;
-    assert_eq!(rt; ended.output.as_slice(), output.as_bytes());
-    assert_eq!(rt; ended.errors.as_slice(), errors.as_bytes());
-    assert_eq!(rt; ended.status, status);
+    same(rt, ended.output.as_slice(), output.as_bytes());
+    same(rt, ended.errors.as_slice(), errors.as_bytes());
+    same(rt, ended.status, status);
     Ok(())
 }
 
