@@ -233,7 +233,7 @@ def four_thousand_sessions():
         with contextlib.suppress(OSError):
             demand(not comes_in(server), "one more comes in")
     # Of half the sessions the record has four entries, and each stands in a list of 4 calls as well.
-    most = (1900 * 4 * 108 + 1900 * 4 * 104) // 1024 + 2048
+    most = (1900 * 4 * 36 + 1900 * 4 * 104) // 1024 + 2048
     demand(grown <= most, f"{grown} KB more")
     return f"{grown} KB more after 3,798 of them"
 

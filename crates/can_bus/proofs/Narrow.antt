@@ -1,5 +1,5 @@
-use Rattle.std.proofs.Common.{refl, ◌≡◌, ℕ, zero, suc, ◌+◌, ◌-◌, ◌^◌, ◌==◌, ◌<◌, ◌≤◌, ◌⊎◌, inl, inr, nat_le, Bool, true, false, not, ◌&&◌, ◌||◌, List, [], ◌∷◌, ◌++◌, length, slice_get, Option, Some, None, All, if◌then◌else◌, arith, ap, sym, ◌∙◌, subst}
-use Rattle.std.specs.Int.Bits.{bit_or, or_zero_l}
+use Rattle.std.proofs.Common.{refl, ◌≡◌, ℕ, zero, suc, ◌+◌, ◌-◌, ◌^◌, ◌==◌, ◌<◌, ◌≤◌, inl, inr, nat_le, Bool, true, false, not, ◌&&◌, ◌||◌, List, [], ◌∷◌, ◌++◌, length, slice_get, Option, Some, None, All, if◌then◌else◌, arith, ap, sym, ◌∙◌}
+use Rattle.std.specs.Int.Bits.{or_zero_l}
 use Rattle.std.proofs.lemmas.Bool.{ne_eqb, eq-eqb, or_right, cases_eq}
 use Rattle.std.proofs.lemmas.Bool.Decides.{nat_tests}
 use Rattle.std.proofs.lemmas.List.Elements.{All-nil, All-cons, All-head, All-tail, All-append, All-take}
@@ -29,12 +29,12 @@ use Rattle.can_bus.specs.State.{Parts, IsKept}
 use Rattle.can_bus.specs.Sockets.{open_sockets, is_open, iface_of, capacity_of, filters_of, options_of}
 use Rattle.can_bus.specs.Transmit.{sent_by, gone_count, head_of}
 use Rattle.can_bus.specs.Counters.{state_at, transmission}
-use Rattle.can_bus.specs.Attempts.{winner, attempt_reply, tried_head, tried_with}
+use Rattle.can_bus.specs.Attempts.{winner, attempt_reply, tried_head}
 use Rattle.can_bus.specs.Posts.{Post, is_looped_back, is_own, data_posts, error_posts, attempt_posts, auto_restart_posts, posts_of, fault_message_for, role_at}
 use Rattle.can_bus.specs.Queues.{passing, candidates_of, queued_to, taken_from}
 use Rattle.can_bus.specs.Legal.{legal_reply, IsLegal}
 use Rattle.can_bus.proofs.Fitting.{if-holds}
-use Rattle.can_bus.proofs.Lawful.{WasTried, was_tried, sent_by-le, gone-le-sent}
+use Rattle.can_bus.proofs.Lawful.{was_tried, sent_by-le, gone-le-sent}
 use Rattle.can_bus.proofs.Bounds.{short}
 use Rattle.can_bus.proofs.OffFacts.{winner-contends}
 

@@ -154,7 +154,7 @@ impl<T: BoundedQueue<Pending>, R: BoundedQueue<Received>, A: Arbiter> Bus<T, R, 
 
     /// Sets the filters of a socket, to a copy of these.
     ///
-    /// Refusals, in this order: `RecordFull`, `NoMemory` (the copies are made before the socket is
+    /// Refusals, in this order: `RecordFull`, `NoMemory` (all memory is taken before the socket is
     /// looked up), `NoSocket`. It costs the length of the set.
     pub fn set_filters(
         &mut self,

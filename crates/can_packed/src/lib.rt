@@ -2,7 +2,8 @@
 //!
 //! What is kept gives back the very entry: its model is that entry. An entry that a bus answers fits, but for the filters
 //! of a socket, which take memory of their own, as they do anyhow. `PackedRecord` is a list of them with the memory for all
-//! taken at once, so that an entry that fits takes none when it comes.
+//! taken at once, so that none is taken when an entry comes. `Looked` is an entry that is read there: made for the look, or
+//! borrowed.
 #![tactic(auto)]
 
 mod frame_words;
