@@ -111,12 +111,24 @@ fn made_with(record: &Record) -> BusConfig {
 }
 
 fn count(record: &Record) -> usize {
-    record.entries().len()
+    record.len()
+}
+
+/// The reply at a place of a record.
+fn reply_at(record: &Record, place: usize) -> Option<Reply> {
+    match record.entry(place) {
+        Some(looked) => Some(looked.entry().reply),
+        None => None,
+    }
 }
 
 fn same_replies(left: &Record, right: &Record) -> bool {
-    let mut pairs = left.entries().iter().zip(right.entries());
-    pairs.all(|(one, other)| one.reply == other.reply)
+    for place in 0..left.len() {
+        if reply_at(left, place) != reply_at(right, place) {
+            return false;
+        }
+    }
+    left.len() == right.len()
 }
 
 fn has_line(entry: &Entry) -> bool {

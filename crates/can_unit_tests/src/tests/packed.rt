@@ -1,10 +1,10 @@
 use super::{same, same_at};
 use can_attempt::Class;
-use can_event::{Closed, Entry, Event, Opt, Received, Refusal, Reply, SocketId, Tried};
+use can_event::{Closed, Event, Opt, Received, Refusal, Reply, SocketId, Tried};
 use can_fault::{GlobalKind, LocalKind, Verdict};
 use can_filter::{Filter, FilterSet};
 use can_frame::{CanId, ErrorFrame, Frame, Iface, IfaceSet, Item, Moment};
-use can_packed::{Packed, PackedRecord};
+use can_packed::{Looked, Packed, PackedRecord};
 use std::alloc::AllocGlobal;
 use std::process::Abort;
 use std::test::Fail;
@@ -69,7 +69,8 @@ fn asks_the_same(one: &Event, other: &Event) -> bool {
 fn comes_back(rt: &(impl Abort + AllocGlobal), event: Event, reply: Reply) -> Result<(), Fail> {
     let given = event.try_copy(rt.alloc())?;
     let packed = Packed::new(rt.alloc(), given, reply)?;
-    let entry = packed.entry(rt.alloc())?;
+    let looked = packed.look();
+    let entry = looked.entry();
     same(rt, asks_the_same(&entry.event, &event), true);
     same(rt, entry.reply, reply);
     Ok(())
@@ -205,26 +206,30 @@ fn wide_entries_come_back(rt: HostRuntime) -> Result<(), Fail> {
     comes_back(&rt, Event::Receive(id), Reply::Opened(id))
 }
 
+/// The number of the socket that an entry closes.
+fn closed_in(looked: &Option<Looked<'_>>) -> Option<u32> {
+    match looked {
+        Some(looked) => match &looked.entry().event {
+            Event::Close(id) => Some(id.0),
+            _ => None,
+        },
+        None => None,
+    }
+}
+
 #[test]
 fn a_packed_record_lists_its_entries(rt: HostRuntime) -> Result<(), Fail> {
     let mut record = PackedRecord::with_capacity(rt.alloc(), 3)?;
     same(&rt, record.len(), 0);
     for number in [4, 5, 6] {
         let event = Event::Close(SocketId(number));
-        record.push(rt.alloc(), event, Reply::Refused(Refusal::NoSocket))?;
+        let reply = Reply::Refused(Refusal::NoSocket);
+        record.push(Packed::new(rt.alloc(), event, reply)?);
     }
     same(&rt, record.len(), 3);
     for (place, number) in [(0, Some(4)), (1, Some(5)), (2, Some(6)), (3, None)] {
-        let got = match record.entry(rt.alloc(), place)? {
-            Some(
-                Entry {
-                    event: Event::Close(id),
-                    ..
-                },
-            ) => Some(id.0),
-            _ => None,
-        };
-        same_at(&rt, place, got, number);
+        let got = record.look(place);
+        same_at(&rt, place, closed_in(&got), number);
     }
     Ok(())
 }
