@@ -120,12 +120,12 @@ one-frame : (errdata : Bool) (a b : Identifier) (p q : Payload) (m n : ℕ) → 
 unfolding third
 one-frame errdata a b (Data xs) (Data ys) m n ha hb hp hq hm hn e =
     let parts = same-parts (id_text a) (id_text b) (pairs xs ++ codes " >") (pairs ys ++ codes " >") m n (clear-id a) (clear-id b) hm hn
-        (between _ _ _ _ (regroup-all (id_text a) (moment_text m) (pairs xs) (codes " >")) (regroup-all (id_text b) (moment_text n) (pairs ys) (codes " >")) (ap (drop 8) e)) in
+    (between _ _ _ _ (regroup-all (id_text a) (moment_text m) (pairs xs) (codes " >")) (regroup-all (id_text b) (moment_text n) (pairs ys) (codes " >")) (ap (drop 8) e)) in
     let ends = cut is_space 32 (pairs xs) (pairs ys) (62 ∷ []) (62 ∷ []) refl (clear-pairs is_space no-space xs) (clear-pairs is_space no-space ys) parts.2 in
     (same-identifier a b ha hb parts.0, ap (λ (bytes : List ℕ). Data bytes) (same-bytes xs ys hp.1 hq.1 ends.0), parts.1)
 one-frame errdata a b (Remote k) (Remote l) m n ha hb hp hq hm hn e =
     let parts = same-parts (id_text a) (id_text b) (decimal k ++ codes " >") (decimal l ++ codes " >") m n (clear-id a) (clear-id b) hm hn
-        (between _ _ _ _ (regroup-all (id_text a) (moment_text m) (decimal k) (codes " >")) (regroup-all (id_text b) (moment_text n) (decimal l) (codes " >")) (ap (drop 9) e)) in
+    (between _ _ _ _ (regroup-all (id_text a) (moment_text m) (decimal k) (codes " >")) (regroup-all (id_text b) (moment_text n) (decimal l) (codes " >")) (ap (drop 9) e)) in
     let ends = cut is_space 32 (decimal k) (decimal l) (62 ∷ []) (62 ∷ []) refl (clear-decimal is_space no-space k (omega arith)) (clear-decimal is_space no-space l (omega arith)) parts.2 in
     (same-identifier a b ha hb parts.0, ap (λ (len : ℕ). Remote len) (decimal_injective k l (omega arith) (omega arith) ends.0), parts.1)
 one-frame errdata a b (Data xs) (Remote l) m n ha hb hp hq hm hn e = let k : 102 ≡ 114 = ap third e in absurd (omega (arith, k))
@@ -142,7 +142,7 @@ two-kinds false id (Remote len) error m n e = let k : 114 ≡ 101 = ap third e i
 one-error : (a b : ℕ) (xs ys : List ℕ) (m n : ℕ) → a < 2 ^ 29 → b < 2 ^ 29 → AreBytes xs → AreBytes ys → m < 10 ^ 16 → n < 10 ^ 16 → item_text true (item.Error (record { class = a; bytes = xs })) m ≡ item_text true (item.Error (record { class = b; bytes = ys })) n → (a ≡ b) × (xs ≡ ys) × (m ≡ n)
 one-error a b xs ys m n ha hb hx hy hm hn e =
     let parts = same-parts (class_text a) (class_text b) (pairs xs ++ codes " >") (pairs ys ++ codes " >") m n (clear-class a) (clear-class b) hm hn
-        (between _ _ _ _ (regroup-all (class_text a) (moment_text m) (pairs xs) (codes " >")) (regroup-all (class_text b) (moment_text n) (pairs ys) (codes " >")) (ap (drop 8) e)) in
+    (between _ _ _ _ (regroup-all (class_text a) (moment_text m) (pairs xs) (codes " >")) (regroup-all (class_text b) (moment_text n) (pairs ys) (codes " >")) (ap (drop 8) e)) in
     let ends = cut is_space 32 (pairs xs) (pairs ys) (62 ∷ []) (62 ∷ []) refl (clear-pairs is_space no-space xs) (clear-pairs is_space no-space ys) parts.2 in
     (same-class a b ha hb parts.0, same-bytes xs ys hx hy ends.0, parts.1)
 

@@ -5,8 +5,8 @@ ghost use Rattle.can_server.specs.Benches.{NamedFrom};
 
 use super::*;
 use can_dialog::Session;
-use std::marker::Brand;
 use can_test_streams::Output;
+use std::marker::Brand;
 
 /// Two sessions on one bus, and a step between them.
 fn dialogue<N: RollName + MeterName, R: Wait + Abort>(

@@ -7,10 +7,10 @@ use super::clients::*;
 use super::*;
 use can_bus::Record;
 use can_logfile::write_tape;
+use can_test_streams::Output;
 use std::marker::Brand;
 use std::thread::join;
 use std::{env, fs, io, process};
-use can_test_streams::Output;
 
 /// The first client sends once the second listens.
 fn talk<R: Abort>(mut first: Client<'_, R>, mut second: Client<'_, R>) {

@@ -7,8 +7,8 @@ use super::*;
 use can_bus::Attempt;
 use can_dialog::Session;
 use can_station::Station;
-use std::marker::Brand;
 use can_test_streams::Output;
+use std::marker::Brand;
 
 /// A session over a pass.
 #[derive(Drop)]

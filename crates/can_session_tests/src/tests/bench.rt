@@ -4,10 +4,10 @@ use can_bus::BusConfig;
 use can_fault::Script;
 use can_frame::{IfaceSet, Names};
 use can_session::{BenchConfig, BenchFault, LineFault, Lines, bench, bench_lines};
+use can_test_streams::{Closed, Pieces};
 use std::alloc::Global;
 use std::process::Abort;
 use std::test::Fail;
-use can_test_streams::{Closed, Pieces};
 
 /// A bench of a test: its names, who acknowledges, how many events it has, and which attempt after bus off restarts.
 #[derive(Clone, Copy)]

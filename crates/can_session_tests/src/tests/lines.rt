@@ -1,8 +1,8 @@
 use super::same;
 use can_session::{LineFault, Lines, Order, read_order};
+use can_test_streams::Pieces;
 use std::alloc::{AllocError, Global};
 use std::io::Read;
-use can_test_streams::Pieces;
 
 /// How many lines there are, at most 5,000, and the fault behind them.
 fn count_lines<R: Read + Drop>(

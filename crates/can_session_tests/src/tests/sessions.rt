@@ -11,9 +11,9 @@ use can_filter::FilterSet;
 use can_frame::{CanId, Frame, Iface, IfaceSet, Item, Moment, Names};
 use can_queue::ListQueue;
 use can_session::{BusPort, Port, PortRefusal, Session, SessionFault, Stage};
+use can_test_streams::Output;
 use std::alloc::{AllocGlobal, Global};
 use std::process::Abort;
-use can_test_streams::Output;
 
 /// A port that gives one item at each receive, and counts its calls.
 #[derive(Drop)]

@@ -242,7 +242,9 @@ fn are_answered_alike<N: RollName + MeterName, R: Wait + Abort>(
     let (calls, record) = (caller.pass.calls(), bus.record());
     assert!(rt; calls.len() == 200 && record.len() == 200);
     for place in 0..200 {
-        assert!(rt; matches!(record.entry(place), Some(looked) if looked.entry().reply == calls[place].reply));
+        assert!(rt;
+            matches!(record.entry(place), Some(looked) if looked.entry().reply == calls[place].reply)
+        );
     }
     let is_restarted = calls[43].reply == Reply::Idle(IfaceSet(1));
     assert!(rt; is_restarted == (run.auto_restart == 3 && !run.by_call));

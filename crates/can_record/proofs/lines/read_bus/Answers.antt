@@ -21,7 +21,7 @@ pub returns-then-not-begins-clause-only : goal.returns-then-not-begins-clause-on
 returns-then-not-begins-clause-only c = λ d rest good is.
     let same : d ≡ c.in-Some.config = same_config c.args.version c.in-Some.config c.args.text.now c.in-Some.ensures d rest good is in
     let written : c.deref.result.now ≡ spell (bus_words c.args.version d) [] = c.deref.ensures.value
-        ∙ kept c.clear.new.self.items c.put_bus.new.out.items (spell (bus_words c.args.version c.in-Some.config) []) c.clear.ensures.items c.in-Ok.ensures
-        ∙ ap (λ (x : BusConfig). spell (bus_words c.args.version x) []) (sym same) in
+    ∙ kept c.clear.new.self.items c.put_bus.new.out.items (spell (bus_words c.args.version c.in-Some.config) []) c.clear.ensures.items c.in-Ok.ensures
+    ∙ ap (λ (x : BusConfig). spell (bus_words c.args.version x) []) (sym same) in
     let h : IsTrue c.begins.result = c.begins.ensures.no rest (is ∙ sym (spell-rest (bus_words c.args.version d) rest) ∙ ap (λ (x : List ℕ). x ++ rest) (sym written)) in
     absurd (never c.begins.result h c.if-not-begins.true)
