@@ -6,13 +6,18 @@ use Rattle.std.proofs.lemmas.List.{length_push, length-reverse, reverse-append}
 use Rattle.std.proofs.lemmas.List.Elements.{All-nil, All-push}
 use Rattle.can_event.specs.declared.events.BusConfig.{BusConfig}
 use Rattle.can_event.specs.declared.events.Entry.{Entry}
-use Rattle.can_bus.specs.Lean.{Lean, Stands, record_of}
+use Rattle.can_event.specs.declared.events.Event.{Event}
+use Rattle.can_event.specs.declared.events.Reply.{Reply}
+use Rattle.can_event.specs.declared.events.Reply.TheVariants as reply
+use Rattle.can_event.specs.declared.events.Refusal.TheVariants as refusal
+use Rattle.can_bus.specs.Lean.{Enters, Lean, Stands, record_of}
+use Rattle.can_bus.specs.Run.{history_after}
 use Rattle.can_bus.specs.Legal.{IsLegal}
 use Rattle.can_bus.proofs.Bounds.{short}
 use Rattle.can_record.specs.Spelling.{entry_words, entry_line, entry_lines, end_words, front_lines, spell, record_spelling}
 use Rattle.can_record.specs.Values.{HasLine}
 use Rattle.can_record.specs.TextAudits.{IsLegalText}
-use Rattle.can_record.specs.inner.Stepping.{AreCarried, HasFront, IsCarried}
+use Rattle.can_record.specs.inner.Stepping.{AreCarried, AreLegal, HasFront, IsCarried}
 use Rattle.can_record.proofs.Again.{line_some, spell-rest}
 use Rattle.can_record.proofs.LineLists.{first_lines, lines-push, not_zero}
 use Rattle.can_record.proofs.Whole.{whole_text}
@@ -54,14 +59,30 @@ carried_more c text rest line next n bus after a step is =
       after = subst (Stands after) (sym (reverse-append a.entries (e ∷ []))) one.after;
     }
 
+-- what was carried out is legal
+pub legal_so_far : (c : BusConfig) (text rest : List ℕ) (n : ℕ) (bus : Lean) → bus.config ≡ c → AreCarried c text n rest bus → AreLegal c text n rest
+legal_so_far c text rest n bus config a = record {
+  entries = a.entries;
+  begins = a.begins;
+  good = a.good;
+  counted = a.counted;
+  legal = subst (λ (d : BusConfig). IsLegal d (reverse a.entries)) config a.after.kept.legal;
+}
+
 -- the text of a legal record ends there
-pub legal_text : (c : BusConfig) (text rest end : List ℕ) (n : ℕ) (bus : Lean) → bus.config ≡ c → HasFront text c rest → AreCarried c rest n end bus → end ≡ spell (end_words n) [] → IsLegalText text n
-legal_text c text rest end n bus config front a ends =
+pub legal_text : (c : BusConfig) (text rest end : List ℕ) (n : ℕ) → HasFront text c rest → AreLegal c rest n end → end ≡ spell (end_words n) [] → IsLegalText text n
+legal_text c text rest end n front a ends =
     let begins : text ≡ front_lines c (entry_lines a.entries end) = front.begins ∙ ap (front_lines c) a.begins in
     record {
       config = c;
       entries = a.entries;
       whole = (record { bus = front.good; lines = a.good }, whole_text text end c a.entries begins (ends ∙ ap (λ (m : ℕ). spell (end_words m) []) a.counted));
-      legal = subst (λ (d : BusConfig). IsLegal d (reverse a.entries)) config a.after.kept.legal;
+      legal = a.legal;
       counted = a.counted;
     }
+
+-- what enters the record is noted
+pub entered : (e : Event) (r : Reply) (past : List Entry) → Enters r → history_after e r past ≡ record { event = e; reply = r } ∷ past
+entered e (reply.Refused refusal.RecordFull) past enters = absurd enters
+entered e (reply.Refused refusal.NoMemory) past enters = absurd enters
+entered e r past enters = refl

@@ -2,7 +2,7 @@ ghost use Rattle.std.specs.Prelude.{◌≡◌, ◌<◌, ◌^◌, [], List, IfSom
 ghost use Rattle.can_bus.specs.Lean.{Enters, Stands};
 ghost use Rattle.can_event.specs.declared.events.Entry.{Entry as AnEntry};
 ghost use Rattle.can_record.specs.TextAudits.{IsLegalText};
-ghost use Rattle.can_record.specs.inner.Stepping.{AreCarried, IsCarried};
+ghost use Rattle.can_record.specs.inner.Stepping.{AreLegal, IsCarried};
 
 use crate::event_reading::guess_entry;
 use crate::lines::{begins, behind, put_answered};
@@ -42,7 +42,7 @@ fn carry_lines<'a>(
     text: &'a [u8],
 ) -> (usize, &'a [u8])
     requires { Stands bus.old [] }
-    ensures lines { AreCarried bus.old.config text.now result.0 result.1.now bus.new }
+    ensures lines { AreLegal bus.old.config text.now result.0 result.1.now }
     ensures few { result.0 < 2 ^ 32 }
 {
     let mut count = 0;
@@ -70,10 +70,10 @@ fn carry_line(alloc: Global, bus: &mut LeanRingBus, line: &mut Vec<u8>, text: &[
     hold_event(&guess.event);
     hold_reply(&reply);
     line.clear();
-    if put_answered(line, &guess.event, &reply).is_err() {
-        return false;
+    match put_answered(line, &guess.event, &reply) {
+        Ok(()) => begins(text, line),
+        Err(_) => false,
     }
-    begins(text, line)
 }
 
 /// Whether a record has this reply: no refusal for a full record or for want of memory.

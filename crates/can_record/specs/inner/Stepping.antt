@@ -1,7 +1,8 @@
-use Rattle.std.specs.Prelude.{◌≡◌, ℕ, ◌≤◌, List, [], ◌∷◌, ◌++◌, All, length, reverse}
+use Rattle.std.specs.Prelude.{◌≡◌, ℕ, List, [], ◌∷◌, ◌++◌, All, length, reverse}
 use Rattle.can_event.specs.declared.events.BusConfig.{BusConfig}
 use Rattle.can_event.specs.declared.events.Entry.{Entry}
 use Rattle.can_bus.specs.Lean.{Lean, Stands}
+use Rattle.can_bus.specs.Legal.{IsLegal}
 use Rattle.can_record.specs.Spelling.{entry_line, entry_lines, front_lines, version_of}
 use Rattle.can_record.specs.Values.{HasBusLine, HasLine}
 
@@ -28,3 +29,11 @@ pub record AreCarried (c : BusConfig) (text : List ℕ) (count : ℕ) (rest : Li
   pub good : All (HasLine c) entries
   pub counted : count ≡ length entries
   pub after : Stands bus (reverse entries)
+
+-- the lines of these entries stand here, and they are a legal history
+pub record AreLegal (c : BusConfig) (text : List ℕ) (count : ℕ) (rest : List ℕ) : Type 0 where
+  pub entries : List Entry
+  pub begins : text ≡ entry_lines entries rest
+  pub good : All (HasLine c) entries
+  pub counted : count ≡ length entries
+  pub legal : IsLegal c (reverse entries)
