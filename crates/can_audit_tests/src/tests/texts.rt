@@ -2,7 +2,9 @@
 
 use super::{same, same_at};
 use can_attempt::AckMode;
-use can_audit::{ReadFault, read_record, read_record_bytes, record_text, write_record};
+use can_audit::{
+    ReadFault, count_legal, read_record, read_record_bytes, record_text, write_record,
+};
 use can_bus::{Bus, BusConfig, Event, ListBus, Record, SocketId, run};
 use can_fault::Verdict;
 use can_frame::{CanId, Frame, Iface, IfaceSet, Moment};
@@ -39,6 +41,10 @@ pub fn read(rt: &impl AllocGlobal, text: &str) -> Result<Record, ReadFault> {
 
 fn read_bytes(rt: &impl AllocGlobal, text: &[u8]) -> Result<Record, ReadFault> {
     read_record_bytes(rt.alloc(), text)
+}
+
+fn legal_lines(rt: &impl AllocGlobal, text: &str) -> Option<usize> {
+    count_legal(rt.alloc(), text.as_bytes())
 }
 
 fn written(rt: &impl AllocGlobal, record: &Record) -> Result<Vec<u8>, Fail> {
@@ -240,6 +246,27 @@ fn another_first_line_is_another_version(rt: HostRuntime) -> Result<(), Fail> {
 fn a_record_may_be_longer_than_its_limit(rt: HostRuntime) -> Result<(), Fail> {
     let text = changed(&rt, "10 100\n", "10 6\n")?;
     assert!(rt; again(&rt, &text)?.as_slice() == text.as_bytes());
+    Ok(())
+}
+
+#[test]
+fn a_legal_record_is_known_by_its_lines(rt: HostRuntime) -> Result<(), Fail> {
+    same(&rt, legal_lines(&rt, ONE_FRAME), Some(7));
+    let at_the_limit = changed(&rt, "10 100\n", "10 7\n")?;
+    same(&rt, legal_lines(&rt, &at_the_limit), Some(7));
+    for (from, to) in [
+        ("done 0002", "done 0000"),
+        ("10 100\n", "10 6\n"),
+        ("socket 1\n", "socket 2\n"),
+        ("receive 1 = none\n", ""),
+        ("123#01FF = n", "123#01ff = n"),
+        ("end 7\n", "end 8\n"),
+        ("end 7\n", "end 7\n\n"),
+        ("record 1\n", "record 9\n"),
+    ] {
+        let text = changed(&rt, from, to)?;
+        same_at(&rt, to, legal_lines(&rt, &text), None);
+    }
     Ok(())
 }
 
