@@ -1,6 +1,6 @@
 use Rattle.std.proofs.Common.{◌≡◌, ℕ, zero, suc, ◌+◌, ◌*◌, ◌/◌, ◌%◌, ◌^◌, ◌<◌, ◌≤◌, Bool, true, false, cond, List, [], ◌∷◌, ◌++◌, length, refl, sym, ◌∙◌, inl, inr, arith}
 use Rattle.can_frame.specs.Frames.{Payload, CanFrame}
-use Rattle.can_frame.specs.Frames.Payload.{Data, Remote}
+use Rattle.can_frame.specs.Frames.Payload.{Data, Remote, Fd}
 use Rattle.can_frame.specs.Arbitration.{low_bits, rtr_of, standard_bits, extended_bits, arbitration_bits, goes_before, bits_number, key_of}
 use Rattle.can_frame.proofs.Bits.{IsBits, IsBits-append, IsBits-low_bits, length-low_bits, bits_number-low_bits, bits_number-before, AreCompared, AreCompared-append, AreCompared-bits, AreCompared-sym}
 
@@ -9,6 +9,7 @@ use Rattle.can_frame.proofs.Bits.{IsBits, IsBits-append, IsBits-low_bits, length
 pub rtr-below : (p : Payload) → rtr_of p < 2
 rtr-below (Data bytes) = omega arith
 rtr-below (Remote len) = omega arith
+rtr-below (Fd bytes) = omega arith
 
 -- ---- the key's number
 
