@@ -1,6 +1,6 @@
 use Rattle.std.specs.Prelude.{◌≡◌, ◌⊎◌, ℕ, ◌-◌, ◌*◌, ◌^◌, Bool, true, false, IsTrue, ◌&&◌, ◌==◌, nat_lt, nat_le, bit_and, if◌then◌else◌, List, [], ◌∷◌, ◌++◌, length, Option, Some, None, Result, Ok, Err}
-use Rattle.can_frame.specs.Frames.{Identifier}
-use Rattle.can_frame.specs.Frames.Payload.{Data, Remote}
+use Rattle.can_frame.specs.Frames.{Identifier, is_fd_length}
+use Rattle.can_frame.specs.Frames.Payload.{Data, Remote, Fd}
 use Rattle.can_filter.specs.Filters.{CanFilter}
 use Rattle.can_event.specs.declared.events.Opt.TheVariants as opt
 use Rattle.can_proto.specs.declared.commands.Mode.{Mode}
@@ -69,6 +69,10 @@ unfoldable pub length_of : List ℕ → Result ℕ ProtoFault
 length_of (d ∷ []) = if nat_le 48 d && nat_le d 56 then Ok (d - 48) else Err BadLength
 length_of _ = Err BadLength
 
+-- a length of an FD frame, in decimal without leading zeros
+unfoldable pub fd_length_of : List ℕ → Result ℕ ProtoFault
+fd_length_of word = or_fault BadLength (number_in 10 2 word) >>= λ n. if is_fd_length n && length word == (if nat_lt n 10 then 1 else 2) then Ok n else Err BadLength
+
 -- bytes of one or two hexadecimal digits
 unfoldable pub bytes_of : List (List ℕ) → Result (List ℕ) ProtoFault
 bytes_of [] = Ok []
@@ -88,6 +92,14 @@ send_of (id_word ∷ len_word ∷ words) = do
   len ← length_of len_word
   if length words == len then bytes_of words >>= (λ bytes. Ok (Send (record { id = id; payload = Data bytes }))) else Err BadCount
 send_of _ = Err BadCount
+
+-- `sendfd ID LEN b ..`
+unfoldable pub send_fd_of : List (List ℕ) → Result Command ProtoFault
+send_fd_of (id_word ∷ len_word ∷ words) = do
+  id ← id_of id_word
+  len ← fd_length_of len_word
+  if length words == len then bytes_of words >>= (λ bytes. Ok (Send (record { id = id; payload = Fd bytes }))) else Err BadCount
+send_fd_of _ = Err BadCount
 
 -- `sendrtr ID LEN`
 unfoldable pub remote_of : List (List ℕ) → Result Command ProtoFault
@@ -157,11 +169,13 @@ arguments_of verb.Rawmode words = alone Rawmode words
 arguments_of verb.OtherMode words = Err ModeNotSupported
 arguments_of verb.Send words = send_of words
 arguments_of verb.SendRtr words = remote_of words
+arguments_of verb.SendFd words = send_fd_of words
 arguments_of verb.Filter words = set_of words
 arguments_of verb.Join words = switch_of words >>= λ on. Ok (SetOption (opt.Join on))
 arguments_of verb.Loopback words = switch_of words >>= λ on. Ok (SetOption (opt.Loopback on))
 arguments_of verb.RecvOwn words = switch_of words >>= λ on. Ok (SetOption (opt.RecvOwn on))
 arguments_of verb.ErrMask words = mask_of words
+arguments_of verb.FdFrames words = switch_of words >>= λ on. Ok (SetOption (opt.FdFrames on))
 arguments_of verb.ErrData words = switch_of words >>= λ on. Ok (ErrData on)
 arguments_of verb.Stats words = alone Stats words
 arguments_of verb.Status words = alone Status words

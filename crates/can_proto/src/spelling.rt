@@ -1,6 +1,9 @@
-ghost use Rattle.std.specs.Prelude.{◌≡◌, ◌≤◌, ◌<◌, ◌+◌, ◌^◌, ◌++◌, length};
+ghost use Rattle.std.specs.Prelude.{◌≡◌, ◌≤◌, ◌<◌, ◌+◌, ◌^◌, ◌++◌, length, true, codes};
 ghost use Rattle.std.specs.Fmt.{decimal};
-ghost use Rattle.can_proto.specs.Spelling.{class_width, class_text, data_text, remote_text, error_text, item_text, stats_text, state_word, status_text, reply_text};
+ghost use Rattle.can_frame.specs.Frames.{is_remote, payload_bytes};
+ghost use Rattle.can_frame.specs.FrameText.{id_text, pairs};
+ghost use Rattle.can_frame.specs.Moments.{moment_text};
+ghost use Rattle.can_proto.specs.Spelling.{class_width, class_text, data_text, fd_text, remote_text, error_text, item_text, stats_text, state_word, status_text, reply_text};
 ghost use Rattle.can_proto.specs.declared.answers.Answer.TheVariants.{Refused};
 
 use crate::answers::{Answer, Cause};
@@ -13,12 +16,14 @@ use can_frame::{ErrorFrame, Frame, Item, Moment};
 /// where `errdata` asks for them.
 pub fn item_text(item: Item, moment: Moment, errdata: bool) -> ItemText
     ensures text { result ≡ item_text errdata item moment }
-    ensures short { length result ≤ 53 }
+    ensures short { length result ≤ 167 }
 {
     match item {
         Item::Data(frame) => {
             if frame.is_remote() {
                 remote_text(frame, moment)
+            } else if frame.is_fd() {
+                fd_text(frame, moment)
             } else {
                 data_text(frame, moment)
             }
@@ -91,7 +96,7 @@ fn class_width(class: u32) -> usize
 
 /// Adds an error class.
 fn push_class(text: &mut ItemText, class: u32)
-    requires { length text.old + 8 ≤ 64 }
+    requires { length text.old + 8 ≤ 192 }
     ensures text { text.new ≡ text.old ++ class_text class }
     ensures len { length text.new ≤ length text.old + 8 }
 {
@@ -101,22 +106,44 @@ fn push_class(text: &mut ItemText, class: u32)
 /// A data frame. Without data two spaces stand together.
 fn data_text(frame: Frame, moment: Moment) -> ItemText
     ensures text { result ≡ data_text frame moment }
-    ensures short { length result ≤ 53 }
+    ensures short { length result ≤ 167 }
 {
-    prove!(frame.len() <= 8);
     let mut text = ItemText::new();
     text.push_all(b"< frame ");
+    push_data(&mut text, frame, moment);
+    text.push_all(b" >");
+    text
+}
+
+/// An FD frame, in the same way.
+fn fd_text(frame: Frame, moment: Moment) -> ItemText
+    ensures text { result ≡ fd_text frame moment }
+    ensures short { length result ≤ 167 }
+{
+    let mut text = ItemText::new();
+    text.push_all(b"< fdframe ");
+    push_data(&mut text, frame, moment);
+    text.push_all(b" >");
+    text
+}
+
+/// Adds the identifier, the moment and the data of a frame.
+fn push_data(text: &mut ItemText, frame: Frame, moment: Moment)
+    requires { length text.old + 155 ≤ 192 }
+    ensures text { text.new ≡ text.old ++ id_text frame.id ++ codes " " ++ moment_text moment ++ codes " " ++ pairs (payload_bytes frame.payload) }
+    ensures len { length text.new ≤ length text.old + 155 }
+{
+    prove!(frame.len() <= 64);
     text.push_id(frame.id());
     text.push_all(b" ");
     text.push_moment(moment);
     text.push_all(b" ");
     text.push_pairs(frame.bytes());
-    text.push_all(b" >");
-    text
 }
 
 /// A remote frame.
 fn remote_text(frame: Frame, moment: Moment) -> ItemText
+    requires { is_remote frame.payload ≡ true }
     ensures text { result ≡ remote_text frame moment }
     ensures short { length result ≤ 53 }
 {
@@ -134,7 +161,7 @@ fn remote_text(frame: Frame, moment: Moment) -> ItemText
 /// Adds the length that a remote frame asks for.
 fn push_length(text: &mut ItemText, len: u8)
     requires small { len ≤ 8 }
-    requires room { length text.old < 64 }
+    requires room { length text.old < 192 }
     ensures text { text.new ≡ text.old ++ decimal len }
     ensures len { length text.new ≡ length text.old + 1 }
 {
