@@ -108,6 +108,7 @@ impl Frame {
         ensures length { result ≡ payload_len self.payload }
         ensures short { result ≤ 64 }
         ensures classic { is_fd self.payload ≡ false → result ≤ 8 }
+        ensures fd { is_fd self.payload ≡ true → IsTrue (is_fd_length result) }
     {
         self.len
     }
