@@ -10,6 +10,8 @@ pub(crate) enum Version {
     One,
     /// The record of a bus with automatic restart.
     Two,
+    /// The record with an FD frame, or with the option for such.
+    Three,
 }
 
 impl Version {
@@ -31,6 +33,7 @@ impl Version {
         match self {
             Version::One => b"canbus record 1\n",
             Version::Two => b"canbus record 2\n",
+            Version::Three => b"canbus record 3\n",
         }
     }
 }

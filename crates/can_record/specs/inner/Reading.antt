@@ -102,6 +102,7 @@ option_at t =
     if bytes_eq (word t) (codes "loopback") then (flag_at (after t) >>= λ on. Some (opt.Loopback on.0, on.1))
     else if bytes_eq (word t) (codes "recvown") then (flag_at (after t) >>= λ on. Some (opt.RecvOwn on.0, on.1))
     else if bytes_eq (word t) (codes "join") then (flag_at (after t) >>= λ on. Some (opt.Join on.0, on.1))
+    else if bytes_eq (word t) (codes "fd") then (flag_at (after t) >>= λ on. Some (opt.FdFrames on.0, on.1))
     else if bytes_eq (word t) (codes "errmask") then (mask_at (after t) >>= λ m. Some (opt.ErrMask m.0, m.1))
     else None
 
@@ -141,6 +142,7 @@ refusal_in w =
     else if bytes_eq w (codes "bad-capacity") then Some refusal.BadCapacity
     else if bytes_eq w (codes "too-many-sockets") then Some refusal.TooManySockets
     else if bytes_eq w (codes "no-socket") then Some refusal.NoSocket
+    else if bytes_eq w (codes "fd-off") then Some refusal.FdOff
     else if bytes_eq w (codes "bus-off") then Some refusal.BusOff
     else if bytes_eq w (codes "no-buffers") then Some refusal.NoBuffers
     else if bytes_eq w (codes "not-bus-off") then Some refusal.NotBusOff
