@@ -194,7 +194,7 @@ impl<T: BoundedQueue<Pending>, R: BoundedQueue<Received>, A: Arbiter> Bus<T, R, 
 
     /// Puts a frame into the transmit queue of the socket's interface, and answers its number there.
     ///
-    /// Refusals, in this order: `RecordFull`, `NoSocket`, `BusOff`, `NoBuffers` exactly where the queue
+    /// Refusals, in this order: `RecordFull`, `NoSocket`, `FdOff`, `BusOff`, `NoBuffers` exactly where the queue
     /// is full.
     pub fn send(&mut self, id: SocketId, frame: Frame) -> Result<u64, Refusal>
         ensures { Answers reply.Sent self.old (event.Send id frame) result self.new }
