@@ -126,6 +126,7 @@ option_again : (o : Opt) (w : List ℕ) (ws : List (List ℕ)) (rest : List ℕ)
 unfolding option_at word after
 option_again (opt.Loopback on) w ws rest h = rw (flag_field on (spell (w ∷ ws) rest)) refl
 option_again (opt.RecvOwn on) w ws rest h = rw (flag_field on (spell (w ∷ ws) rest)) refl
+option_again (opt.FdFrames on) w ws rest h = rw (flag_field on (spell (w ∷ ws) rest)) refl
 option_again (opt.Join on) w ws rest h = rw (flag_field on (spell (w ∷ ws) rest)) refl
 option_again (opt.ErrMask mask) w ws rest h = rw (mask_field mask 32 (spell (w ∷ ws) rest) h refl) refl
 

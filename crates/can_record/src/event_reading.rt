@@ -210,6 +210,10 @@ fn option_field(text: &[u8]) -> Option<(Opt, &[u8])>
         let (on, rest) = flag_field(rest)?;
         return Some((Opt::Join(on), rest));
     }
+    if same_word(word, b"fd") {
+        let (on, rest) = flag_field(rest)?;
+        return Some((Opt::FdFrames(on), rest));
+    }
     if same_word(word, b"errmask") {
         let (mask, rest) = mask_field(rest)?;
         return Some((Opt::ErrMask(mask), rest));
