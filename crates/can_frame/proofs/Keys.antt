@@ -40,7 +40,10 @@ AreCompared-standard m n r s p q =
 
 AreCompared-extended : (m n r s : ℕ) → r < 2 → s < 2 → AreCompared (extended_bits m r) (extended_bits n s)
 AreCompared-extended m n r s p q =
-    AreCompared-append (low_bits 11 (m / 2 ^ 18)) (low_bits 11 (n / 2 ^ 18)) (1 ∷ 1 ∷ low_bits 18 m ++ r ∷ []) (1 ∷ 1 ∷ low_bits 18 n ++ s ∷ []) (AreCompared-low 11 (m / 2 ^ 18) (n / 2 ^ 18)) (AreCompared-append (1 ∷ 1 ∷ low_bits 18 m) (1 ∷ 1 ∷ low_bits 18 n) (r ∷ []) (s ∷ []) (AreCompared-append (1 ∷ 1 ∷ []) (1 ∷ 1 ∷ []) (low_bits 18 m) (low_bits 18 n) (inl refl) (AreCompared-low 18 m n)) (AreCompared-bits (r ∷ []) (s ∷ []) (p, tt) (q, tt) refl))
+    AreCompared-append (low_bits 11 (m / 2 ^ 18)) (low_bits 11 (n / 2 ^ 18)) (1 ∷ 1 ∷ low_bits 18 m ++ r ∷ []) (1 ∷ 1 ∷ low_bits 18 n ++ s ∷ []) (AreCompared-low 11 (m / 2 ^ 18) (n / 2 ^ 18))
+    (AreCompared-append (1 ∷ 1 ∷ low_bits 18 m) (1 ∷ 1 ∷ low_bits 18 n) (r ∷ []) (s ∷ [])
+      (AreCompared-append (1 ∷ 1 ∷ []) (1 ∷ 1 ∷ []) (low_bits 18 m) (low_bits 18 n) (inl refl) (AreCompared-low 18 m n))
+      (AreCompared-bits (r ∷ []) (s ∷ []) (p, tt) (q, tt) refl))
 
 -- RTR against SRR, then IDE
 pub kinds : (r : ℕ) → r < 2 → (rest : List ℕ) → goes_before (r ∷ 0 ∷ []) (1 ∷ 1 ∷ rest) ≡ true

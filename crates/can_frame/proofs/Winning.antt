@@ -52,7 +52,8 @@ least f (g ∷ gs) =
       | inr above ↦ (0, omega arith, here r.0 r.1 r.2 above)
     ]
   where
-    later : (w : ℕ) → w < length (g ∷ gs) → ((k : ℕ) (d : CanFrame) → k < length (g ∷ gs) → key_of (get_or (g ∷ gs) w d) ≤ key_of (get_or (g ∷ gs) k d)) → key_of (get_or (g ∷ gs) w f) < key_of f → (k : ℕ) (d : CanFrame) → k < length (f ∷ g ∷ gs) → key_of (get_or (g ∷ gs) w d) ≤ key_of (get_or (f ∷ g ∷ gs) k d)
+    later : (w : ℕ) → w < length (g ∷ gs) → ((k : ℕ) (d : CanFrame) → k < length (g ∷ gs) → key_of (get_or (g ∷ gs) w d) ≤ key_of (get_or (g ∷ gs) k d)) → key_of (get_or (g ∷ gs) w f) < key_of f →
+        (k : ℕ) (d : CanFrame) → k < length (f ∷ g ∷ gs) → key_of (get_or (g ∷ gs) w d) ≤ key_of (get_or (f ∷ g ∷ gs) k d)
     later w inside all below zero d h = rw (get_or_default (g ∷ gs) w d f inside) (omega arith)
     later w inside all below (suc k) d h = all k d (omega arith)
 
