@@ -65,14 +65,24 @@ fn asks_the_same(one: &Event, other: &Event) -> bool {
     }
 }
 
+/// Whether a packed entry has this event.
+fn asks(packed: &Packed, event: &Event) -> bool {
+    let looked = packed.look();
+    asks_the_same(&looked.entry().event, event)
+}
+
+/// Whether a packed entry has this reply.
+fn answers(packed: &Packed, reply: &Reply) -> bool {
+    let looked = packed.look();
+    looked.entry().reply == *reply
+}
+
 /// Packs an entry and compares what is given back.
 fn comes_back(rt: &(impl Abort + AllocGlobal), event: Event, reply: Reply) -> Result<(), Fail> {
     let given = event.try_copy(rt.alloc())?;
     let packed = Packed::new(rt.alloc(), given, reply)?;
-    let looked = packed.look();
-    let entry = looked.entry();
-    same(rt, asks_the_same(&entry.event, &event), true);
-    same(rt, entry.reply, reply);
+    same(rt, asks(&packed, &event), true);
+    same(rt, answers(&packed, &reply), true);
     Ok(())
 }
 
@@ -217,15 +227,23 @@ fn closed_in(looked: &Option<Looked<'_>>) -> Option<u32> {
     }
 }
 
+/// A close of this socket, which is not open.
+fn refused_close(rt: &impl AllocGlobal, number: u32) -> Result<Packed, Fail> {
+    let event = Event::Close(SocketId(number));
+    let reply = Reply::Refused(Refusal::NoSocket);
+    Ok(Packed::new(rt.alloc(), event, reply)?)
+}
+
 #[test]
 fn a_packed_record_lists_its_entries(rt: HostRuntime) -> Result<(), Fail> {
     let mut record = PackedRecord::with_capacity(rt.alloc(), 3)?;
     same(&rt, record.len(), 0);
-    for number in [4, 5, 6] {
-        let event = Event::Close(SocketId(number));
-        let reply = Reply::Refused(Refusal::NoSocket);
-        record.push(Packed::new(rt.alloc(), event, reply)?);
-    }
+    let fourth = refused_close(&rt, 4)?;
+    let fifth = refused_close(&rt, 5)?;
+    let sixth = refused_close(&rt, 6)?;
+    record.push(fourth);
+    record.push(fifth);
+    record.push(sixth);
     same(&rt, record.len(), 3);
     for (place, number) in [(0, Some(4)), (1, Some(5)), (2, Some(6)), (3, None)] {
         let got = record.look(place);
