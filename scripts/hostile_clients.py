@@ -16,9 +16,10 @@ RNG = random.Random()
 FAST = ("--pace", "0", "--txqueue", "1024")
 # What a client says to come into raw mode, and there.
 DIALOGUE = b"< open can1 >< rawmode >< filter 1 123 7FF >< send 124 2 1 2 >< stats >< errmask FF >< send 7FF 0 >"
-WORDS = [b"open", b"can1", b"can2", b"rawmode", b"send", b"sendrtr", b"123", b"12345678", b"8", b"0", b"ff", b"filter",
-         b"512", b"join", b"loopback", b"recvown", b"errmask", b"FFFFFFFF", b"errdata", b"1", b"stats", b"status", b"echo",
-         b"restart", b"bcmmode", b"close", b"\0", b"\xff\xfe", b"<", b">", b"><", b"< ", b" >", b"\r\n", b"\t", b"x" * 1100]
+WORDS = [b"open", b"can1", b"can2", b"rawmode", b"send", b"sendrtr", b"123", b"12345678", b"8", b"0", b"ff",
+         b"filter", b"512", b"join", b"loopback", b"recvown", b"fdframes", b"sendfd", b"12", b"errmask", b"FFFFFFFF",
+         b"errdata", b"1", b"stats", b"status", b"echo", b"restart", b"bcmmode", b"close", b"\0", b"\xff\xfe", b"<",
+         b">", b"><", b"< ", b" >", b"\r\n", b"\t", b"x" * 1100]
 
 
 @contextlib.contextmanager

@@ -7,16 +7,18 @@ import re
 DECIMAL = r"(?:0|[1-9][0-9]*)"
 SET, WORD = r"[0-9A-F]{4}", r"[0-9A-F]{8}"
 MOMENT = r"(?:0|[1-9][0-9]{0,9})\.[0-9]{6}"
-FRAME = r"(?:[0-7][0-9A-F]{2}|[01][0-9A-F]{7})#(?:(?:[0-9A-F]{2}){0,8}|R[1-8]?)"
+# A frame, an FD frame of any number of bytes too: which of these are bad is told after the line was read.
+FRAME = r"(?:[0-7][0-9A-F]{2}|[01][0-9A-F]{7})#(?:(?:[0-9A-F]{2}){0,8}|R[1-8]?|#0(?:[0-9A-F]{2})*)"
+FD_LENGTHS = [0, 1, 2, 3, 4, 5, 6, 7, 8, 12, 16, 20, 24, 32, 48, 64]
 ERROR_FRAME = r"[23][0-9A-F]{7}#[0-9A-F]{16}"
 VERDICT = rf"(?:good|global-bit|global-form|lastbit|local-(?:stuff|crc|form):{SET})"
-REFUSALS = ["no-interface", "bad-capacity", "too-many-sockets", "no-socket", "bus-off", "no-buffers", "not-bus-off"]
+REFUSALS = ["no-interface", "bad-capacity", "too-many-sockets", "no-socket", "fd-off", "bus-off", "no-buffers", "not-bus-off"]
 # The words of each event, and of the replies that it may have beside refusals.
 LINES = {
     "open": (rf"({DECIMAL}) ({DECIMAL})", rf"socket {DECIMAL}"),
     "close": (rf"({DECIMAL})", rf"closed {DECIMAL} {DECIMAL}"),
     "filters": (rf"({DECIMAL}) ({DECIMAL})((?: {WORD} {WORD})*)", "ok"),
-    "option": (rf"({DECIMAL}) (?:(loopback|recvown|join) ([01])|(errmask) ({WORD}))", "ok"),
+    "option": (rf"({DECIMAL}) (?:(loopback|recvown|join|fd) ([01])|(errmask) ({WORD}))", "ok"),
     "send": (rf"({DECIMAL}) ({FRAME})", rf"number {DECIMAL}"),
     "receive": (rf"({DECIMAL})", rf"none|data {DECIMAL} {DECIMAL} {FRAME} {MOMENT}|error {DECIMAL} {ERROR_FRAME} {MOMENT}"),
     "attempt": (rf"({MOMENT}) ({VERDICT})",
@@ -37,26 +39,33 @@ def verdict_on(data):
         text = data.decode()
     except UnicodeDecodeError:
         return "canbusd: read fault"
-    if not text.startswith(("canbus record 1\n", "canbus record 2\n")):
+    if not text.startswith(("canbus record 1\n", "canbus record 2\n", "canbus record 3\n")):
         return "canbusd: bad version"
     lines = text.split("\n")
     bus = re.fullmatch(rf"bus ({DECIMAL}) (always|peers) ({SET}) ({DECIMAL}) ({DECIMAL})(?: ({DECIMAL}))?", lines[1])
     if not bus or len(lines) < 3 or not (1 <= int(bus[1]) <= 16 and 1 <= int(bus[4]) <= 1024 and 1 <= int(bus[5]) <= 2**24):
         return "canbusd: line 2: bad line"
-    # Version 2 has an N, of at least 1, and version 1 has none.
-    if not (1 <= int(bus[6] or 0) <= 1000000 if lines[0].endswith("2") else bus[6] is None):
+    # Version 1 has no N, version 2 one of at least 1, and version 3 one that may be 0.
+    version, after = int(lines[0][-1]), int(bus[6] or 0)
+    if (bus[6] is None) != (version == 1) or after > 1000000 or version == 2 and after == 0:
         return "canbusd: line 2: bad line"
-    entries = []
+    entries, is_three = [], False
     for number, line in enumerate(lines[2:], 3):
         # What stands behind the last LF is no line.
         is_whole = number < len(lines)
         if is_whole and line == f"end {len(entries)}":
             if lines[number:] != [""]:
                 return f"canbusd: line {number + 1}: bad line"
+            if version == 3 and not is_three:
+                return "canbusd: bad version"
             return audit(Bus(*bus.groups()), entries, int(bus[5]))
         entry = read_entry(line) if is_whole else None
-        if entry is None or " restarted " in entry[2] and (bus[6] is None or entry[2].endswith(" 0000")):
+        if entry is None or " restarted " in entry[2] and (after == 0 or entry[2].endswith(" 0000")):
             return f"canbusd: line {number}: bad line"
+        needs_three = "##" in line or entry[0] == "option" and entry[1][1] == "fd"
+        if needs_three and version < 3 or not all(len(data) // 2 in FD_LENGTHS for data in re.findall("##0([0-9A-F]*)", line)):
+            return f"canbusd: line {number}: bad line"
+        is_three = is_three or needs_three
         entries.append(entry)
     raise AssertionError("the last piece is no whole line")
 
@@ -72,6 +81,8 @@ def read_entry(line):
     if not found or not fits(found.groups(), WIDTHS[kind]):
         return None
     if kind == "filters" and not are_filters(int(found[2]), found[3].split()):
+        return None
+    if reply == "fd-off" and not (kind == "send" and "##" in rest):
         return None
     if reply not in REFUSALS:
         told = reply.split(" ")
@@ -96,8 +107,8 @@ def audit(bus, entries, limit):
 
 
 def bits(frame):
-    """What a frame says in arbitration, as text."""
-    digits, data = frame.split("#")
+    """What a frame says in arbitration, as text; an FD frame says what a data frame does."""
+    digits, data = frame.split("#", 1)
     remote = str(int(data.startswith("R")))
     if len(digits) == 3:
         return f"{int(digits, 16):011b}" + remote + "0"
@@ -107,7 +118,7 @@ def bits(frame):
 
 def word_of(frame):
     """The identifier word of a frame, with its marks."""
-    digits, data = frame.split("#")
+    digits, data = frame.split("#", 1)
     return int(digits, 16) | (len(digits) == 8) << 31 | data.startswith("R") << 30
 
 
@@ -162,12 +173,14 @@ class Interface:
 class Socket:
     def __init__(self, interface, capacity):
         self.interface, self.capacity = interface, capacity
-        self.filters, self.options = [(0, 0)], {"loopback": 1, "recvown": 0, "join": 0, "errmask": 0}
+        self.filters, self.options = [(0, 0)], {"loopback": 1, "recvown": 0, "join": 0, "errmask": 0, "fd": 0}
         self.waiting, self.dropped = [], 0
 
-    def passes(self, word):
+    def passes(self, frame):
+        word = word_of(frame)
         matches = [((word & mask) == (number & mask)) != bool(number & 1 << 29) for number, mask in self.filters]
-        return bool(matches) and (all(matches) if self.options["join"] else any(matches))
+        is_wanted = bool(matches) and (all(matches) if self.options["join"] else any(matches))
+        return is_wanted and (self.options["fd"] == 1 or "##" not in frame)
 
     def offer(self, item):
         if len(self.waiting) < self.capacity:
@@ -217,6 +230,8 @@ class Bus:
         socket = self.sockets.get(int(number))
         if not socket:
             return "no-socket"
+        if "##" in frame and not socket.options["fd"]:
+            return "fd-off"
         interface = self.interfaces[socket.interface]
         if not interface.is_live():
             return "bus-off"
@@ -272,7 +287,7 @@ class Bus:
             sender.gone = len(sender.sent)
             sender.back_in = self.attempts + self.restart_after if self.restart_after else None
         for number in sorted(accepted + ([winner] if outcome == "done" and is_looped else [])):
-            self.post_frame(number, f"data {winner} {place} {frame} {moment}", word_of(frame), socket)
+            self.post_frame(number, f"data {winner} {place} {frame} {moment}", frame, socket)
         for number, one in enumerate(self.interfaces):
             part = "winner" if number == winner else "named" if number in hit else "other" if number in receivers else None
             fault = fault_frame(outcome, kind, part)
@@ -308,9 +323,9 @@ class Bus:
             self.interfaces[number].receive_error()
         return outcome, accepted
 
-    def post_frame(self, interface, item, word, sender):
+    def post_frame(self, interface, item, frame, sender):
         for number, socket in self.sockets.items():
-            if socket.interface == interface and socket.passes(word) and (number != sender or socket.options["recvown"]):
+            if socket.interface == interface and socket.passes(frame) and (number != sender or socket.options["recvown"]):
                 socket.offer(item)
 
     def post_error(self, interface, frame, moment):

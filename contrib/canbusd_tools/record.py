@@ -3,7 +3,7 @@
 import os
 import re
 
-from canbusd_tools.frames import ERROR_FRAME, FRAME
+from canbusd_tools.frames import ERROR_FRAME, FD_FRAME, FRAME, is_fd
 from canbusd_tools.words import NAME, shown
 
 IFACE = "(?:1[0-5]|[0-9])"
@@ -24,28 +24,33 @@ END = re.compile(f"end ({NUMBER})")
 class Version:
     """A version of the text: the line of its bus, and for each kind of event its words and its replies."""
 
-    def __init__(self, bus, restarted):
-        attempted = f"(?:idle|tried {IFACE} {NUMBER} {FRAME} (?:done|lastbit|destroyed|noack) {SET} {SET}){restarted}"
-        self.bus = re.compile(bus)
+    def __init__(self, bus, restarted="", with_fd=False):
+        frame = f"(?:{FRAME}|{FD_FRAME})" if with_fd else FRAME
+        options = "loopback|recvown|join|fd" if with_fd else "loopback|recvown|join"
+        attempted = f"(?:idle|tried {IFACE} {NUMBER} {frame} (?:done|lastbit|destroyed|noack) {SET} {SET}){restarted}"
+        self.bus, self.with_fd = re.compile(bus), with_fd
         self.entries = {
             kind: re.compile(f"{kind} {event} = (?:{reply}|{REFUSAL})")
             for kind, event, reply in [
                 ("open", f"{IFACE} {NUMBER}", f"socket {NUMBER}"),
                 ("close", NUMBER, f"closed {NUMBER} {NUMBER}"),
                 ("filters", f"{NUMBER} {NUMBER}(?: {WORD} {MASK})*", "ok"),
-                ("option", f"{NUMBER} (?:(?:loopback|recvown|join) [01]|errmask {WORD})", "ok"),
-                ("send", f"{NUMBER} {FRAME}", f"number {NUMBER}"),
-                ("receive", NUMBER, f"none|data {IFACE} {NUMBER} {FRAME} {MOMENT}|error {IFACE} {ERROR_FRAME} {MOMENT}"),
+                ("option", f"{NUMBER} (?:(?:{options}) [01]|errmask {WORD})", "ok"),
+                ("send", f"{NUMBER} {frame}", f"number {NUMBER}"),
+                ("receive", NUMBER, f"none|data {IFACE} {NUMBER} {frame} {MOMENT}|error {IFACE} {ERROR_FRAME} {MOMENT}"),
                 ("attempt", f"{MOMENT} {VERDICT}", attempted),
                 ("restart", f"{IFACE} {MOMENT}", "ok"),
             ]
         }
+        if with_fd:
+            self.entries["send"] = re.compile(f"{self.entries['send'].pattern}|send {NUMBER} {FD_FRAME} = fd-off")
 
 
 # By the first line. From version 2 on a number behind the limit says after how many attempts interfaces are restarted.
 VERSIONS = {
-    "canbus record 1": Version(BUS, ""),
+    "canbus record 1": Version(BUS),
     "canbus record 2": Version(f"{BUS} ([1-9][0-9]{{0,6}})", RESTARTED),
+    "canbus record 3": Version(f"{BUS} (0|[1-9][0-9]{{0,6}})", RESTARTED, with_fd=True),
 }
 
 
@@ -108,7 +113,14 @@ def read_lines(lines):
         raise BadRecord(f"line {number}: `{line}` stands behind {number - 3} entries")
     if number != len(lines):
         raise BadRecord(f"line {number + 1}: text behind the line `{line}`")
+    if version.with_fd and not any(map(needs_fd, lines)):
+        raise BadRecord("version 3, and neither an FD frame nor the option for such stands in it")
     return Record(*bus, lines[2:-1])
+
+
+def needs_fd(line):
+    """Whether an entry's line stands in version 3 alone."""
+    return is_fd(line) or line.startswith("option ") and line.split(" ")[2] == "fd"
 
 
 def has_its_filters(line):

@@ -42,14 +42,16 @@ class Socket:
         self.number, self.iface, self.capacity = number, iface, capacity
         self.opened_after, self.closed_after = opened_after, None
         self.filters = [(0, 0)]
-        self.options = {"loopback": 1, "recvown": 0, "join": 0, "errmask": 0}
+        self.options = {"loopback": 1, "recvown": 0, "join": 0, "errmask": 0, "fd": 0}
         self.queue = deque()
         self.queued = self.dropped = self.taken = 0
 
-    def passes(self, word):
-        """Whether a data frame with this identifier word passes the filters."""
+    def passes(self, frame):
+        """Whether a frame passes the filters, and an FD frame the option for such."""
+        if frame.is_fd and not self.options["fd"]:
+            return False
         matches = [
-            ((word ^ identifier) & mask == 0) != bool(identifier & 0x20000000) for identifier, mask in self.filters
+            ((frame.word ^ identifier) & mask == 0) != bool(identifier & 0x20000000) for identifier, mask in self.filters
         ]
         return bool(matches) and (all(matches) if self.options["join"] else any(matches))
 
@@ -214,13 +216,15 @@ class Run:
         socket = self.open_socket(number)
         if socket is None:
             return ["no-socket"]
-        iface = self.ifaces[socket.iface]
+        frame, iface = self.frame(text), self.ifaces[socket.iface]
+        if frame.is_fd and not socket.options["fd"]:
+            return ["fd-off"]
         if iface.is_off():
             return ["bus-off"]
         if len(iface.waiting) == self.record.tx_capacity:
             iface.refused += 1
             return ["no-buffers"]
-        iface.waiting.append(Sent(iface.sent, self.frame(text), socket, socket.options["loopback"]))
+        iface.waiting.append(Sent(iface.sent, frame, socket, socket.options["loopback"]))
         iface.sent += 1
         return ["number", str(iface.sent - 1)]
 
@@ -336,7 +340,7 @@ class Run:
         looped = [step.iface] if step.kind == "done" and sent.loops_back else []
         for number in sorted(step.accepted + looped):
             for socket in self.open_sockets[number]:
-                if socket.passes(sent.frame.word) and (socket is not sent.socket or socket.options["recvown"]):
+                if socket.passes(sent.frame) and (socket is not sent.socket or socket.options["recvown"]):
                     self.put(Item(socket, len(self.steps), step.text, step.iface, step.number, step.moment))
 
     def post_fault(self, step, number, is_receiver):

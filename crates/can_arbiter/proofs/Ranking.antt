@@ -1,4 +1,7 @@
-use Rattle.std.proofs.Common.{◌≡◌, ◌≢◌, ◌==◌, ℕ, ◌<◌, ◌≤◌, ◌+◌, ◌-◌, ◌*◌, ◌%◌, ◌/◌, ◌↔◌, Bool, true, false, cond, not, List, [], ◌∷◌, ◌++◌, length, get_or, take, drop, slice_set, slice_get, filter, true≢false, Option, Some, None, SomeIff, IfSome, IsNone, zero, suc, refl, sym, ap, ◌∙◌, subst, inl, inr, arith, eq-eqb, ne_eqb, ltb, ltb-true, ltb-false, take-append-drop, length-set, set-set, get_or-set_same, get_or-set_other}
+use Rattle.std.proofs.Common.{◌≡◌, ◌≢◌, ◌==◌, ℕ, ◌<◌, ◌≤◌, ◌+◌, ◌-◌, ◌*◌, ◌%◌, ◌/◌, ◌↔◌, Bool, true, false, cond, not, List, [], ◌∷◌, ◌++◌, length}
+use Rattle.std.proofs.Common.{get_or, take, drop, slice_set, slice_get, filter, true≢false, Option, Some, None, SomeIff, IfSome, IsNone, zero, suc}
+use Rattle.std.proofs.Common.{refl, sym, ap, ◌∙◌, subst, inl, inr, arith, eq-eqb, ne_eqb, ltb, ltb-true, ltb-false, take-append-drop, length-set}
+use Rattle.std.proofs.Common.{set-set, get_or-set_same, get_or-set_other}
 use Rattle.std.specs.List.{AllPairs, insert}
 use Rattle.std.proofs.lemmas.Bool.{cases_eq, cases_order}
 use Rattle.std.proofs.lemmas.List.Edits.{length-insert, get_or-insert_below, get_or-insert_at, get_or-insert_above}

@@ -1,5 +1,6 @@
 mod auditing;
 mod events;
+mod fd_frames;
 mod reaching;
 mod replying;
 mod restarting;

@@ -1,4 +1,4 @@
-use Rattle.std.proofs.Common.{refl, ◌≡◌, ℕ, zero, suc, ◌+◌, ◌-◌, ◌==◌, nat_le, Bool, true, false, not, ◌&&◌, ◌||◌, List, [], ◌∷◌, ◌++◌, length, slice_get, Option, Some, None, All, if◌then◌else◌, filter, arith, ap, sym, subst}
+use Rattle.std.proofs.Common.{refl, ◌≡◌, ℕ, zero, suc, ◌+◌, ◌-◌, ◌==◌, nat_le, Bool, true, false, not, ◌&&◌, ◌||◌, List, [], ◌∷◌, ◌++◌, length, slice_get, Option, Some, None, All, IsTrue, if◌then◌else◌, filter, arith, ap, sym, subst}
 use Rattle.std.specs.List.{range_with_len}
 use Rattle.std.proofs.lemmas.Bool.{ne_eqb}
 use Rattle.std.proofs.lemmas.List.Elements.{All-nil, All-cons, All-head, All-tail, All-append, All-take}
@@ -27,16 +27,25 @@ use Rattle.can_bus.specs.Counters.{state_at, transmission}
 use Rattle.can_bus.specs.Attempts.{winner, attempt_reply, tried_head}
 use Rattle.can_bus.specs.Posts.{Post, is_looped_back, is_own, data_posts, error_posts, attempt_posts, auto_restart_posts, posts_of, fault_message_for, role_at}
 use Rattle.can_bus.specs.Queues.{passing, candidates_of, queued_to, taken_from}
-use Rattle.can_bus.specs.Legal.{legal_reply, IsLegal}
+use Rattle.can_bus.specs.Legal.{lacks_fd, legal_reply, IsLegal}
 use Rattle.can_bus.specs.AutoRestart.{attempts_off, is_nth_after, is_due, restarted_next}
 use Rattle.can_event.specs.Events.{restarted_in}
 use Rattle.can_event.specs.Spelled.{IsNumbered, AreNumbered, FitsReply, MayRestart, IsSpelled}
+use Rattle.can_frame.specs.Frames.{CanFrame, is_fd}
+use Rattle.std.proofs.lemmas.Bool.{and_parts}
 
 -- Each legal reply fits its event, so that each entry of a legal history has a line.
 
 pub if-holds : {X : Type 0} (P : X → Type 0) (b : Bool) (x y : X) → P x → P y → P (if b then x else y)
 if-holds P true x y hx hy = hx
 if-holds P false x y hx hy = hy
+
+if-told : {X : Type 0} (P : X → Type 0) (b : Bool) (x y : X) → (b ≡ true → P x) → P y → P (if b then x else y)
+if-told P true x y hx hy = hx refl
+if-told P false x y hx hy = hy
+
+asks-fd : (f : CanFrame) (o : Options) → lacks_fd f o ≡ true → IsTrue (is_fd f.payload)
+asks-fd f o h = (and_parts (is_fd f.payload) (not o.fd) h).0
 
 -- ---- the items that sockets receive
 
@@ -113,7 +122,12 @@ legal-fits c past (Open i n) = if-holds (FitsReply (Open i n)) (nat_le c.ifaces 
 legal-fits c past (Close s) = if-holds (FitsReply (Close s)) (is_open past s.0) _ _ tt tt
 legal-fits c past (SetFilters s f) = if-holds (FitsReply (SetFilters s f)) (is_open past s.0) _ _ tt tt
 legal-fits c past (SetOption s o) = if-holds (FitsReply (SetOption s o)) (is_open past s.0) _ _ tt tt
-legal-fits c past (Send s f) = if-holds (FitsReply (Send s f)) (is_open past s.0) _ _ (if-holds (FitsReply (Send s f)) (is_off (state_at c past (iface_of past s.0))) _ _ tt (if-holds (FitsReply (Send s f)) (length (sent_by past (iface_of past s.0)) - gone_count past (iface_of past s.0) == c.tx_capacity) _ _ tt tt)) tt
+legal-fits c past (Send s f) =
+    let i = iface_of past s.0 in
+    let full : Bool = length (sent_by past i) - gone_count past i == c.tx_capacity in
+    if-holds (FitsReply (Send s f)) (is_open past s.0) _ _
+    (if-told (FitsReply (Send s f)) (lacks_fd f (options_of past s.0)) _ _ (asks-fd f (options_of past s.0)) (if-holds (FitsReply (Send s f)) (is_off (state_at c past i)) _ _ tt (if-holds (FitsReply (Send s f)) full _ _ tt tt)))
+    tt
 legal-fits c past (Receive s) = if-holds (FitsReply (Receive s)) (is_open past s.0) _ _ (given-numbered (queued_to c past s.0) (length (taken_from past s.0)) (queued-numbered c past s.0)) tt
 legal-fits c past (Attempt m v) = attempt-fits c past m v (winner c past)
 legal-fits c past (Restart i m) = if-holds (FitsReply (Restart i m)) (nat_le c.ifaces i) _ _ tt (if-holds (FitsReply (Restart i m)) (is_off (state_at c past i)) _ _ tt tt)
@@ -156,7 +170,10 @@ legal-restarts c past (Open i n) never = none-if (nat_le c.ifaces i) _ _ refl (n
 legal-restarts c past (Close s) never = none-if (is_open past s.0) _ _ refl refl
 legal-restarts c past (SetFilters s f) never = none-if (is_open past s.0) _ _ refl refl
 legal-restarts c past (SetOption s o) never = none-if (is_open past s.0) _ _ refl refl
-legal-restarts c past (Send s f) never = none-if (is_open past s.0) _ _ (none-if (is_off (state_at c past (iface_of past s.0))) _ _ refl (none-if (length (sent_by past (iface_of past s.0)) - gone_count past (iface_of past s.0) == c.tx_capacity) _ _ refl refl)) refl
+legal-restarts c past (Send s f) never =
+    let i = iface_of past s.0 in
+    let full : Bool = length (sent_by past i) - gone_count past i == c.tx_capacity in
+    none-if (is_open past s.0) _ _ (none-if (lacks_fd f (options_of past s.0)) _ _ refl (none-if (is_off (state_at c past i)) _ _ refl (none-if full _ _ refl refl))) refl
 legal-restarts c past (Receive s) never = none-if (is_open past s.0) _ _ refl refl
 legal-restarts c past (Attempt m v) never = attempt-restarts c past m v (winner c past) never
 legal-restarts c past (Restart i m) never = none-if (nat_le c.ifaces i) _ _ refl (none-if (is_off (state_at c past i)) _ _ refl refl)

@@ -28,7 +28,7 @@ use Rattle.can_bus.specs.Counters.{state_at, transmission}
 use Rattle.can_bus.specs.Attempts.{winner, attempt_reply, tried_head, tried_with}
 use Rattle.can_bus.specs.Posts.{Post, is_looped_back, is_own, posts_of, data_posts, error_posts, attempt_posts, restart_posts, auto_restart_posts, fault_message_for, role_at}
 use Rattle.can_bus.specs.Queues.{taken_from, taken_after, queued_to, dropped_at, candidates_of, passing}
-use Rattle.can_bus.specs.Legal.{legal_reply, IsLegal}
+use Rattle.can_bus.specs.Legal.{lacks_fd, legal_reply, IsLegal}
 use Rattle.can_bus.proofs.Lists.{Rises}
 use Rattle.can_bus.proofs.Rising.{open_sockets-rise}
 
@@ -99,7 +99,10 @@ by_attempt P c past (Open i n) t law k = never t _ law (untried-if (nat_le c.ifa
 by_attempt P c past (Close s) t law k = never t _ law (untried-if (is_open past s.0) _ _ refl refl)
 by_attempt P c past (SetFilters s f) t law k = never t _ law (untried-if (is_open past s.0) _ _ refl refl)
 by_attempt P c past (SetOption s o) t law k = never t _ law (untried-if (is_open past s.0) _ _ refl refl)
-by_attempt P c past (Send s f) t law k = never t _ law (untried-if (is_open past s.0) _ _ (untried-if (is_off (state_at c past (iface_of past s.0))) _ _ refl (untried-if (length (sent_by past (iface_of past s.0)) - gone_count past (iface_of past s.0) == c.tx_capacity) _ _ refl refl)) refl)
+by_attempt P c past (Send s f) t law k =
+    let i = iface_of past s.0 in
+    let full : Bool = length (sent_by past i) - gone_count past i == c.tx_capacity in
+    never t _ law (untried-if (is_open past s.0) _ _ (untried-if (lacks_fd f (options_of past s.0)) _ _ refl (untried-if (is_off (state_at c past i)) _ _ refl (untried-if full _ _ refl refl))) refl)
 by_attempt P c past (Receive s) t law k = never t _ law (untried-if (is_open past s.0) _ _ refl refl)
 by_attempt P c past (Restart i m) t law k = never t _ law (untried-if (nat_le c.ifaces i) _ _ refl (untried-if (is_off (state_at c past i)) _ _ refl refl))
 

@@ -32,7 +32,7 @@ use Rattle.can_bus.specs.Counters.{state_at, transmission}
 use Rattle.can_bus.specs.Attempts.{winner, attempt_reply, tried_head}
 use Rattle.can_bus.specs.Posts.{Post, is_looped_back, is_own, data_posts, error_posts, attempt_posts, auto_restart_posts, posts_of, fault_message_for, role_at}
 use Rattle.can_bus.specs.Queues.{passing, candidates_of, queued_to, taken_from}
-use Rattle.can_bus.specs.Legal.{legal_reply, IsLegal}
+use Rattle.can_bus.specs.Legal.{lacks_fd, legal_reply, IsLegal}
 use Rattle.can_bus.proofs.Fitting.{if-holds}
 use Rattle.can_bus.proofs.Lawful.{was_tried, sent_by-le, gone-le-sent}
 use Rattle.can_bus.proofs.Bounds.{short}
@@ -179,7 +179,8 @@ legal-narrow c past (SetOption s o) legal few most other = narrow-if (SetOption 
 legal-narrow c past (Send s f) legal few most other =
     let i = iface_of past s.0 in
     let small : length (sent_by past i) < 2 ^ 32 = omega (arith, sent_by-le past i) in
-    narrow-if (Send s f) (is_open past s.0) _ _ (narrow-if (Send s f) (is_off (state_at c past i)) _ _ refl (narrow-if (Send s f) (length (sent_by past i) - gone_count past i == c.tx_capacity) _ _ refl (not_large (length (sent_by past i)) small))) refl
+    let full : Bool = length (sent_by past i) - gone_count past i == c.tx_capacity in
+    narrow-if (Send s f) (is_open past s.0) _ _ (narrow-if (Send s f) (lacks_fd f (options_of past s.0)) _ _ refl (narrow-if (Send s f) (is_off (state_at c past i)) _ _ refl (narrow-if (Send s f) full _ _ refl (not_large (length (sent_by past i)) small)))) refl
 legal-narrow c past (Receive s) legal few most other = narrow-if (Receive s) (is_open past s.0) _ _ (given-narrow s (queued_to c past s.0) (length (taken_from past s.0)) (queued-short c past s.0 legal few)) refl
 legal-narrow c past (Attempt m v) legal few most other = attempt-narrow c past m v (winner c past) refl legal few most
 legal-narrow c past (Restart i m) legal few most other = narrow-if (Restart i m) (nat_le c.ifaces i) _ _ refl (narrow-if (Restart i m) (is_off (state_at c past i)) _ _ refl refl)

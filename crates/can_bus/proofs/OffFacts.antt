@@ -16,11 +16,11 @@ use Rattle.can_event.specs.declared.events.Refusal.TheVariants as refusal
 use Rattle.can_event.specs.declared.events.BusConfig.{BusConfig}
 use Rattle.can_event.specs.declared.events.Tried.{Tried}
 use Rattle.can_event.specs.declared.events.Pending.{Pending}
-use Rattle.can_bus.specs.Sockets.{open_sockets, is_open, iface_of}
+use Rattle.can_bus.specs.Sockets.{open_sockets, is_open, iface_of, options_of}
 use Rattle.can_bus.specs.Transmit.{sent_by, sent_after, gone_count, gone_after, head_of, is_done}
 use Rattle.can_bus.specs.Counters.{counts_of, steps_of, steps_after, state_at, transmission}
 use Rattle.can_bus.specs.Attempts.{winner, contenders, beats}
-use Rattle.can_bus.specs.Legal.{legal_reply, IsLegal}
+use Rattle.can_bus.specs.Legal.{lacks_fd, legal_reply, IsLegal}
 use Rattle.can_attempt.proofs.Standing.{is_in-set_of, winner-alone-off}
 use Rattle.can_bus.proofs.Lawful.{WasTried, by_attempt, open-iface}
 
@@ -71,10 +71,12 @@ pub record WasSent (c : BusConfig) (past : List Entry) (s : ℕ) : Type 0 where
   pub is_there : is_open past s ≡ true
   pub live : is_off (state_at c past (iface_of past s)) ≡ false
 
-sent-if : (c : BusConfig) (past : List Entry) (s n : ℕ) (opened off : Bool) (r : Reply) → is_open past s ≡ opened → is_off (state_at c past (iface_of past s)) ≡ off → reply.Sent n ≡ (if opened then (if off then reply.Refused refusal.BusOff else r) else reply.Refused refusal.NoSocket) → WasSent c past s
-sent-if c past s n true false r is at law = record { is_there = is; live = at }
-sent-if c past s n true true r is at law = cc
-sent-if c past s n false off r is at law = cc
+sent-if : (c : BusConfig) (past : List Entry) (s n : ℕ) (opened lacks off : Bool) (r : Reply) → is_open past s ≡ opened → is_off (state_at c past (iface_of past s)) ≡ off
+    → reply.Sent n ≡ (if opened then (if lacks then reply.Refused refusal.FdOff else if off then reply.Refused refusal.BusOff else r) else reply.Refused refusal.NoSocket) → WasSent c past s
+sent-if c past s n true false false r is at law = record { is_there = is; live = at }
+sent-if c past s n true false true r is at law = cc
+sent-if c past s n true true off r is at law = cc
+sent-if c past s n false lacks off r is at law = cc
 
 -- ---- where an interface is bus off, all its frames are gone
 
@@ -149,7 +151,7 @@ off-step c past i (Restart k m) reply.Done few law before off = when (k == i) of
 off-step c past i (Send s f) (reply.Sent n) few law before off = when (iface_of past s.0 == i) refl _
   where
     live : is_off (state_at c past (iface_of past s.0)) ≡ false
-    live = (sent-if c past s.0 n (is_open past s.0) (is_off (state_at c past (iface_of past s.0))) _ refl refl law).live
+    live = (sent-if c past s.0 n (is_open past s.0) (lacks_fd f (options_of past s.0)) (is_off (state_at c past (iface_of past s.0))) _ refl refl law).live
 
     when : (b : Bool) → (iface_of past s.0 == i) ≡ b → (p : Pending) → gone_count past i ≡ length (if b then sent_by past i ++ p ∷ [] else sent_by past i)
     when true here p =
@@ -192,7 +194,7 @@ sent-step : (c : BusConfig) (past : List Entry) (i : ℕ) (e : Event) (r : Reply
 sent-step c past i (Send s f) (reply.Sent n) legal law above none = when (iface_of past s.0 == i) refl _
   where
     below : iface_of past s.0 < c.ifaces
-    below = is_open-iface c past legal s.0 (sent-if c past s.0 n (is_open past s.0) (is_off (state_at c past (iface_of past s.0))) _ refl refl law).is_there
+    below = is_open-iface c past legal s.0 (sent-if c past s.0 n (is_open past s.0) (lacks_fd f (options_of past s.0)) (is_off (state_at c past (iface_of past s.0))) _ refl refl law).is_there
 
     when : (b : Bool) → (iface_of past s.0 == i) ≡ b → (p : Pending) → (if b then sent_by past i ++ p ∷ [] else sent_by past i) ≡ []
     when true here p = let same = eqb-true (iface_of past s.0) i here in absurd (omega (arith, same, below, above))

@@ -12,11 +12,11 @@ use Rattle.can_event.specs.declared.events.Refusal.TheVariants as refusal
 use Rattle.can_event.specs.declared.events.BusConfig.{BusConfig}
 use Rattle.can_event.specs.declared.events.Pending.{Pending}
 use Rattle.can_event.specs.declared.events.Received.{Received}
-use Rattle.can_bus.specs.Sockets.{places, is_open, iface_of, capacity_in, capacity_of}
+use Rattle.can_bus.specs.Sockets.{places, is_open, iface_of, capacity_in, capacity_of, options_of}
 use Rattle.can_bus.specs.Transmit.{sent_by, sent_after, gone_count, gone_after, is_done}
 use Rattle.can_bus.specs.Counters.{state_at}
 use Rattle.can_bus.specs.Queues.{queued_to, taken_from, taken_after, candidates_of}
-use Rattle.can_bus.specs.Legal.{legal_reply, IsLegal}
+use Rattle.can_bus.specs.Legal.{lacks_fd, legal_reply, IsLegal}
 use Rattle.can_bus.proofs.Lawful.{gone-le-sent}
 use Rattle.can_bus.proofs.TurnFacts.{gone-grows-if}
 use Rattle.can_bus.proofs.LifeFacts.{unmade-closed, queued-shut, queued-unmade}
@@ -93,15 +93,18 @@ few-frames-step c past i (Send s f) (reply.Sent n) law le before = when (iface_o
     j : ℕ
     j = iface_of past s.0
 
-    free : (opened off full : Bool) → (length (sent_by past j) - gone_count past j == c.tx_capacity) ≡ full → reply.Sent n ≡ (if opened then (if off then reply.Refused refusal.BusOff else if full then reply.Refused refusal.NoBuffers else reply.Sent (length (sent_by past j))) else reply.Refused refusal.NoSocket) → (length (sent_by past j) - gone_count past j == c.tx_capacity) ≡ false
-    free false off full is l = cc
-    free true true full is l = cc
-    free true false true is l = cc
-    free true false false is l = is
+    free : (opened lacks off full : Bool) → (length (sent_by past j) - gone_count past j == c.tx_capacity) ≡ full
+        → reply.Sent n ≡ (if opened then (if lacks then reply.Refused refusal.FdOff else if off then reply.Refused refusal.BusOff else if full then reply.Refused refusal.NoBuffers else reply.Sent (length (sent_by past j))) else reply.Refused refusal.NoSocket)
+        → (length (sent_by past j) - gone_count past j == c.tx_capacity) ≡ false
+    free false lacks off full is l = cc
+    free true true off full is l = cc
+    free true false true full is l = cc
+    free true false false true is l = cc
+    free true false false false is l = is
 
     when : (b : Bool) → (iface_of past s.0 == i) ≡ b → (p : Pending) → length (if b then sent_by past i ++ p ∷ [] else sent_by past i) ≤ c.tx_capacity + gone_count past i
     when true here p =
-        let open_room : (length (sent_by past j) - gone_count past j == c.tx_capacity) ≡ false = free (is_open past s.0) (is_off (state_at c past j)) _ refl law in
+        let open_room : (length (sent_by past j) - gone_count past j == c.tx_capacity) ≡ false = free (is_open past s.0) (lacks_fd f (options_of past s.0)) (is_off (state_at c past j)) _ refl law in
         let room : (length (sent_by past i) - gone_count past i == c.tx_capacity) ≡ false = subst (λ k. (length (sent_by past k) - gone_count past k == c.tx_capacity) ≡ false) (eqb-true j i here) open_room in
         let lt : length (sent_by past i) < c.tx_capacity + gone_count past i = fewer (length (sent_by past i)) (gone_count past i) c.tx_capacity room le before in
         omega (arith, lt, length_push (sent_by past i) p)

@@ -9,11 +9,11 @@ use Rattle.can_event.specs.declared.events.Pending.{Pending}
 use Rattle.can_event.specs.declared.events.Reply.{Reply}
 use Rattle.can_event.specs.declared.events.Reply.TheVariants as reply
 use Rattle.can_event.specs.declared.events.Refusal.TheVariants as refusal
-use Rattle.can_bus.specs.Sockets.{open_sockets, is_open, iface_of}
+use Rattle.can_bus.specs.Sockets.{open_sockets, is_open, iface_of, options_of}
 use Rattle.can_bus.specs.Transmit.{sent_by, gone_count, head_of}
 use Rattle.can_bus.specs.Counters.{state_at}
 use Rattle.can_bus.specs.Attempts.{winner, attempt_reply, tried_head}
-use Rattle.can_bus.specs.Legal.{legal_reply}
+use Rattle.can_bus.specs.Legal.{lacks_fd, legal_reply}
 
 -- No legal reply is RecordFull or NoMemory.
 
@@ -39,7 +39,10 @@ legal-inside c past (Open i n) = inside-if (nat_le c.ifaces i) _ _ refl (inside-
 legal-inside c past (Close s) = inside-if (is_open past s.0) _ _ refl refl
 legal-inside c past (SetFilters s f) = inside-if (is_open past s.0) _ _ refl refl
 legal-inside c past (SetOption s o) = inside-if (is_open past s.0) _ _ refl refl
-legal-inside c past (Send s f) = inside-if (is_open past s.0) _ _ (inside-if (is_off (state_at c past (iface_of past s.0))) _ _ refl (inside-if (length (sent_by past (iface_of past s.0)) - gone_count past (iface_of past s.0) == c.tx_capacity) _ _ refl refl)) refl
+legal-inside c past (Send s f) =
+    let i = iface_of past s.0 in
+    let full : Bool = length (sent_by past i) - gone_count past i == c.tx_capacity in
+    inside-if (is_open past s.0) _ _ (inside-if (lacks_fd f (options_of past s.0)) _ _ refl (inside-if (is_off (state_at c past i)) _ _ refl (inside-if full _ _ refl refl))) refl
 legal-inside c past (Receive s) = inside-if (is_open past s.0) _ _ refl refl
 legal-inside c past (Attempt m v) = inside-attempt c past m v (winner c past)
 legal-inside c past (Restart i m) = inside-if (nat_le c.ifaces i) _ _ refl (inside-if (is_off (state_at c past i)) _ _ refl refl)

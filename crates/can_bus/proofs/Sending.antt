@@ -1,4 +1,4 @@
-use Rattle.std.proofs.Common.{◌≡◌, ◌≢◌, ℕ, ◌+◌, ◌-◌, ◌<◌, ◌==◌, true, false, List, [], ◌∷◌, ◌++◌, length, drop, slice_get, slice_set, Option, Result, Ok, Err, refl, sym, ap, ◌∙◌, arith}
+use Rattle.std.proofs.Common.{◌≡◌, ◌≢◌, ℕ, Bool, ◌+◌, ◌-◌, ◌<◌, ◌==◌, true, false, List, [], ◌∷◌, ◌++◌, length, drop, slice_get, slice_set, Option, Result, Ok, Err, refl, sym, ap, ◌∙◌, arith}
 use Rattle.std.proofs.lemmas.Bool.{eq-eqb, ne_eqb, cond-true, cond-false}
 use Rattle.std.proofs.lemmas.List.{length_push, length-drop, drop-append-le}
 use Rattle.can_frame.specs.Frames.{CanFrame}
@@ -14,11 +14,11 @@ use Rattle.can_event.specs.declared.events.Reply.TheVariants as reply
 use Rattle.can_bus.specs.Answer.{told}
 use Rattle.can_bus.specs.Counters.{state_at}
 use Rattle.can_event.specs.Events.{IsConfig}
-use Rattle.can_bus.specs.Legal.{legal_reply, IsLegal}
-use Rattle.can_bus.specs.Sockets.{iface_of, is_open}
+use Rattle.can_bus.specs.Legal.{lacks_fd, legal_reply, IsLegal}
+use Rattle.can_bus.specs.Sockets.{iface_of, is_open, options_of}
 use Rattle.can_bus.specs.Transmit.{sent_by, gone_count, head_of}
 use Rattle.can_bus.specs.State.{LineState, SocketState, Parts, key_in, kept_line, kept_lines, kept_keys, kept_nodes, kept_left, kept_socket, kept_sockets, kept_parts}
-use Rattle.can_bus.specs.Changes.{IsLineOf, Takes, FindsFull, IsOffFor, Sends, with_line, is_off_at}
+use Rattle.can_bus.specs.Changes.{IsLineOf, Takes, FindsFull, IsFdOffFor, IsOffFor, Sends, with_line, is_off_at}
 use Rattle.can_bus.proofs.Keeping.{Follows, IsQuiet, kept_sockets-quiet, refused-quiet, follows_refused, parts-are}
 use Rattle.can_bus.proofs.KeyFacts.{kept_keys-one}
 use Rattle.can_bus.proofs.Lawful.{gone-le-sent, open-iface}
@@ -55,13 +55,17 @@ sender c past s v l is_line =
 off-is : (c : BusConfig) (past : List Entry) (k i : ℕ) → k ≡ i → i < 16 → is_off_at (kept_nodes c past) k ≡ is_off (state_at c past i)
 off-is c past k i same below = ap (is_off_at (kept_nodes c past)) same ∙ is_off_at-kept c past i below
 
+may-send : (c : BusConfig) (past : List Entry) (s : ℕ) (f : CanFrame) (v : SocketState) (b : Bool) → v ≡ kept_socket c past s → lacks_fd f v.options ≡ b → lacks_fd f (options_of past s) ≡ b
+may-send c past s f v b is h = ap (λ (w : SocketState). lacks_fd f w.options) (sym is) ∙ h
+
 -- ---- the reply
 
 waits-is : (c : BusConfig) (past : List Entry) (s : ℕ) (v : SocketState) (l : LineState) → IsSender c past s v l → length l.waiting ≡ length (sent_by past (iface_of past s)) - gone_count past (iface_of past s)
 waits-is c past s v l is = ap (λ (k : LineState). length k.waiting) is.line ∙ length-drop (gone_count past (iface_of past s)) (sent_by past (iface_of past s))
 
-reply-sent : (c : BusConfig) (past : List Entry) (s : SocketId) (f : CanFrame) (v : SocketState) (l : LineState) → IsSender c past s.0 v l → is_off (state_at c past (iface_of past s.0)) ≡ false → length l.waiting < l.room → reply.Sent l.sent ≡ legal_reply c past (Send s f)
-reply-sent c past s f v l is live room =
+reply-sent : (c : BusConfig) (past : List Entry) (s : SocketId) (f : CanFrame) (v : SocketState) (l : LineState) → IsSender c past s.0 v l
+    → lacks_fd f (options_of past s.0) ≡ false → is_off (state_at c past (iface_of past s.0)) ≡ false → length l.waiting < l.room → reply.Sent l.sent ≡ legal_reply c past (Send s f)
+reply-sent c past s f v l is may live room =
     let i = iface_of past s.0 in
     let number : l.sent ≡ length (sent_by past i) = ap (λ (k : LineState). k.sent) is.line in
     let waits = waits-is c past s.0 v l is in
@@ -69,15 +73,18 @@ reply-sent c past s f v l is live room =
     ap (λ (n : ℕ). reply.Sent n) number
     ∙ sym (cond-false (length (sent_by past i) - gone_count past i == c.tx_capacity) (reply.Refused refusal.NoBuffers) (reply.Sent (length (sent_by past i))) (ne_eqb _ _ (omega arith)))
     ∙ sym (cond-false (is_off (state_at c past i)) _ _ live)
+    ∙ sym (cond-false (lacks_fd f (options_of past s.0)) _ _ may)
     ∙ sym (cond-true (is_open past s.0) _ _ is.there)
 
-reply-full : (c : BusConfig) (past : List Entry) (s : SocketId) (f : CanFrame) (v : SocketState) (l : LineState) → IsSender c past s.0 v l → is_off (state_at c past (iface_of past s.0)) ≡ false → length l.waiting ≡ l.room → reply.Refused refusal.NoBuffers ≡ legal_reply c past (Send s f)
-reply-full c past s f v l is live full =
+reply-full : (c : BusConfig) (past : List Entry) (s : SocketId) (f : CanFrame) (v : SocketState) (l : LineState) → IsSender c past s.0 v l
+    → lacks_fd f (options_of past s.0) ≡ false → is_off (state_at c past (iface_of past s.0)) ≡ false → length l.waiting ≡ l.room → reply.Refused refusal.NoBuffers ≡ legal_reply c past (Send s f)
+reply-full c past s f v l is may live full =
     let i = iface_of past s.0 in
     let waits = waits-is c past s.0 v l is in
     let capacity : l.room ≡ c.tx_capacity = ap (λ (k : LineState). k.room) is.line in
     sym (cond-true (length (sent_by past i) - gone_count past i == c.tx_capacity) (reply.Refused refusal.NoBuffers) (reply.Sent (length (sent_by past i))) (eq-eqb _ _ (omega arith)))
     ∙ sym (cond-false (is_off (state_at c past i)) _ _ live)
+    ∙ sym (cond-false (lacks_fd f (options_of past s.0)) _ _ may)
     ∙ sym (cond-true (is_open past s.0) _ _ is.there)
 
 -- ---- a frame that was taken
@@ -155,7 +162,7 @@ taken_follows c past s f n new proper legal takes =
     let few : iface_of past s.0 < 16 = omega (arith, is.below, proper.few_ifaces) in
     let live : is_off (state_at c past (iface_of past s.0)) ≡ false = sym (off-is c past v.iface (iface_of past s.0) is.iface few) ∙ takes.live in
     record {
-      lawful = ap (λ (m : ℕ). reply.Sent m) takes.number ∙ reply-sent c past s f v l is live takes.room;
+      lawful = ap (λ (m : ℕ). reply.Sent m) takes.number ∙ reply-sent c past s f v l is (may-send c past s.0 f v false is.socket takes.may) live takes.room;
       after = takes.after ∙ parts-are (with_line (kept_parts c past) v.iface (record l { waiting = l.waiting ++ of_frame f s v ∷ []; sent = l.sent + 1 })) (kept_parts c (e ∷ past))
           (lines-sent c past s f n v l legal is)
           (keys-sent c past s f n v l legal few is)
@@ -194,7 +201,7 @@ keys-full : (past : List Entry) (s : SocketId) (f : CanFrame) → kept_keys (ful
 unfolding kept_keys
 keys-full past s f = refl
 
-full_follows : (c : BusConfig) (past : List Entry) (s : SocketId) (f : CanFrame) (new : Parts) → IsConfig c → FindsFull (kept_parts c past) s.0 new → Follows c past (full_entry s f) new
+full_follows : (c : BusConfig) (past : List Entry) (s : SocketId) (f : CanFrame) (new : Parts) → IsConfig c → FindsFull (kept_parts c past) s.0 (of_frame f s) new → Follows c past (full_entry s f) new
 full_follows c past s f new proper full =
     let e = full_entry s f in
     let v = full.socket in
@@ -203,7 +210,7 @@ full_follows c past s f new proper full =
     let few : iface_of past s.0 < 16 = omega (arith, is.below, proper.few_ifaces) in
     let live : is_off (state_at c past (iface_of past s.0)) ≡ false = sym (off-is c past v.iface (iface_of past s.0) is.iface few) ∙ full.live in
     record {
-      lawful = reply-full c past s f v l is live full.full;
+      lawful = reply-full c past s f v l is (may-send c past s.0 f v false is.socket full.may) live full.full;
       after = full.after ∙ parts-are (record (kept_parts c past) { lines = slice_set (kept_lines c past) v.iface (record l { refused = l.refused + 1 }) }) (kept_parts c (e ∷ past))
           (lines-full c past s f v l is)
           (sym (keys-full past s f))
@@ -215,13 +222,20 @@ full_follows c past s f new proper full =
 
 -- ---- refusals that count nothing
 
-reply-off : (c : BusConfig) (past : List Entry) (s : SocketId) (f : CanFrame) → IsConfig c → IsLegal c past → IsOffFor (kept_parts c past) s.0 → reply.Refused refusal.BusOff ≡ legal_reply c past (Send s f)
+reply-off : (c : BusConfig) (past : List Entry) (s : SocketId) (f : CanFrame) → IsConfig c → IsLegal c past → IsOffFor (kept_parts c past) s.0 (of_frame f s) → reply.Refused refusal.BusOff ≡ legal_reply c past (Send s f)
 reply-off c past s f proper legal off =
     let at = IsThere-stands c past (kept_sockets c past) s.0 off.place off.socket refl off.stands in
     let below = open-iface c past legal off.place s.0 at.listed in
     let few : iface_of past s.0 < 16 = omega (arith, below, proper.few_ifaces) in
     let dead : is_off (state_at c past (iface_of past s.0)) ≡ true = sym (off-is c past off.socket.iface (iface_of past s.0) (ap (λ (w : SocketState). w.iface) at.left) few) ∙ off.off in
-    sym (cond-true (is_off (state_at c past (iface_of past s.0))) _ _ dead) ∙ sym (cond-true (is_open past s.0) _ _ at.is_there)
+    sym (cond-true (is_off (state_at c past (iface_of past s.0))) _ _ dead)
+    ∙ sym (cond-false (lacks_fd f (options_of past s.0)) _ _ (may-send c past s.0 f off.socket false at.left off.may))
+    ∙ sym (cond-true (is_open past s.0) _ _ at.is_there)
+
+reply-fd-off : (c : BusConfig) (past : List Entry) (s : SocketId) (f : CanFrame) → IsFdOffFor (kept_parts c past) s.0 (of_frame f s) → reply.Refused refusal.FdOff ≡ legal_reply c past (Send s f)
+reply-fd-off c past s f off =
+    let at = IsThere-stands c past (kept_sockets c past) s.0 off.place off.socket refl off.stands in
+    sym (cond-true (lacks_fd f (options_of past s.0)) _ _ (may-send c past s.0 f off.socket true at.left off.lacks)) ∙ sym (cond-true (is_open past s.0) _ _ at.is_there)
 
 -- a frame that was sent, or a refusal, leaves what its entry leaves
 pub sent_follows : (c : BusConfig) (past : List Entry) (s : SocketId) (f : CanFrame) (r : Result ℕ Refusal) (new : Parts) → IsConfig c → IsLegal c past → Sends (kept_parts c past) s.0 (of_frame f s) r new → Follows c past (entry s f r) new
@@ -229,6 +243,7 @@ sent_follows c past s f (Ok n) new proper legal takes = taken_follows c past s f
 sent_follows c past s f (Err refusal.NoSocket) new proper legal refuses =
     let shut = closed-nowhere c past (kept_sockets c past) s.0 refl refuses.0 in
     follows_refused c past (Send s f) refusal.NoSocket new tt refuses.1 (sym (cond-false (is_open past s.0) _ _ shut))
+sent_follows c past s f (Err refusal.FdOff) new proper legal refuses = follows_refused c past (Send s f) refusal.FdOff new tt refuses.1 (reply-fd-off c past s f refuses.0)
 sent_follows c past s f (Err refusal.BusOff) new proper legal refuses = follows_refused c past (Send s f) refusal.BusOff new tt refuses.1 (reply-off c past s f proper legal refuses.0)
 sent_follows c past s f (Err refusal.NoBuffers) new proper legal full = full_follows c past s f new proper full
 sent_follows c past s f (Err _) new proper legal refuses = absurd refuses

@@ -18,9 +18,9 @@ use Rattle.can_event.specs.declared.events.Refusal.TheVariants as refusal
 use Rattle.can_event.specs.declared.events.BusConfig.{BusConfig}
 use Rattle.can_event.specs.declared.events.SocketId.{SocketId}
 use Rattle.can_event.specs.declared.events.Tried.{Tried}
-use Rattle.can_bus.specs.Sockets.{is_open, iface_of}
+use Rattle.can_bus.specs.Sockets.{is_open, iface_of, options_of}
 use Rattle.can_bus.specs.Counters.{counts_of, steps_of, steps_after, state_at, transmission}
-use Rattle.can_bus.specs.Legal.{legal_reply, IsLegal}
+use Rattle.can_bus.specs.Legal.{lacks_fd, legal_reply, IsLegal}
 use Rattle.can_bus.specs.Fates.{is_restart_of}
 use Rattle.can_bus.proofs.Lawful.{WasTried, was_tried}
 use Rattle.can_attempt.proofs.Standing.{is_in-of}
@@ -94,5 +94,9 @@ off-counts-stay c past e i legal off other = ap (all_stepped at_start) (steps-st
 
 -- ---- a frame is refused there
 
-pub off-send-refused : (c : BusConfig) (past : List Entry) (s : SocketId) (f : CanFrame) → is_open past s.0 ≡ true → is_off (state_at c past (iface_of past s.0)) ≡ true → legal_reply c past (Send s f) ≡ reply.Refused refusal.BusOff
-off-send-refused c past s f there off = rw (there, off) refl
+pub off-send-refused : (c : BusConfig) (past : List Entry) (s : SocketId) (f : CanFrame) → is_open past s.0 ≡ true → lacks_fd f (options_of past s.0) ≡ false → is_off (state_at c past (iface_of past s.0)) ≡ true → legal_reply c past (Send s f) ≡ reply.Refused refusal.BusOff
+off-send-refused c past s f there may off = rw (there, may, off) refl
+
+-- an FD frame is refused for its option first
+pub fd-send-refused : (c : BusConfig) (past : List Entry) (s : SocketId) (f : CanFrame) → is_open past s.0 ≡ true → lacks_fd f (options_of past s.0) ≡ true → legal_reply c past (Send s f) ≡ reply.Refused refusal.FdOff
+fd-send-refused c past s f there lacks = rw (there, lacks) refl

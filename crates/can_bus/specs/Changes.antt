@@ -22,6 +22,7 @@ use Rattle.can_event.specs.declared.events.Refusal.TheVariants as refusal
 use Rattle.can_bus.specs.Transmit.{is_done}
 use Rattle.can_bus.specs.Posts.{attempt_posts, restart_posts, auto_restart_posts}
 use Rattle.can_bus.specs.State.{LineState, SocketState, Parts, reached, key_in}
+use Rattle.can_bus.specs.Legal.{lacks_fd}
 
 -- What each call does to what is kept: the parts before it, and the parts after it.
 
@@ -120,21 +121,31 @@ pub record Takes (old : Parts) (s n : ℕ) (pending : SocketState → Pending) (
   pub socket : SocketState
   pub line : LineState
   pub is_line : IsLineOf old s socket line
+  pub may : lacks_fd (pending socket).frame socket.options ≡ false
   pub live : is_off_at old.nodes socket.iface ≡ false
   pub room : length line.waiting < line.room
   pub number : n ≡ line.sent
   pub after : new ≡ with_line old socket.iface (record line { waiting = line.waiting ++ pending socket ∷ []; sent = line.sent + 1 })
 
-pub record IsOffFor (old : Parts) (s : ℕ) : Type 0 where
+-- the socket is open, and the frame is an FD frame that it did not ask for
+pub record IsFdOffFor (old : Parts) (s : ℕ) (pending : SocketState → Pending) : Type 0 where
   pub place : ℕ
   pub socket : SocketState
   pub stands : StandsAt old.sockets s place socket
+  pub lacks : lacks_fd (pending socket).frame socket.options ≡ true
+
+pub record IsOffFor (old : Parts) (s : ℕ) (pending : SocketState → Pending) : Type 0 where
+  pub place : ℕ
+  pub socket : SocketState
+  pub stands : StandsAt old.sockets s place socket
+  pub may : lacks_fd (pending socket).frame socket.options ≡ false
   pub off : is_off_at old.nodes socket.iface ≡ true
 
-pub record FindsFull (old : Parts) (s : ℕ) (new : Parts) : Type 0 where
+pub record FindsFull (old : Parts) (s : ℕ) (pending : SocketState → Pending) (new : Parts) : Type 0 where
   pub socket : SocketState
   pub line : LineState
   pub is_line : IsLineOf old s socket line
+  pub may : lacks_fd (pending socket).frame socket.options ≡ false
   pub live : is_off_at old.nodes socket.iface ≡ false
   pub full : length line.waiting ≡ line.room
   pub after : new ≡ record old { lines = slice_set old.lines socket.iface (record line { refused = line.refused + 1 }) }
@@ -143,8 +154,9 @@ pub record FindsFull (old : Parts) (s : ℕ) (new : Parts) : Type 0 where
 abbrev pub Sends : Parts → ℕ → (SocketState → Pending) → Result ℕ Refusal → Parts → Type 0
 Sends old s pending (Ok n) new = Takes old s n pending new
 Sends old s pending (Err refusal.NoSocket) new = IsNowhere old.sockets s × (new ≡ old)
-Sends old s pending (Err refusal.BusOff) new = IsOffFor old s × (new ≡ old)
-Sends old s pending (Err refusal.NoBuffers) new = FindsFull old s new
+Sends old s pending (Err refusal.FdOff) new = IsFdOffFor old s pending × (new ≡ old)
+Sends old s pending (Err refusal.BusOff) new = IsOffFor old s pending × (new ≡ old)
+Sends old s pending (Err refusal.NoBuffers) new = FindsFull old s pending new
 Sends old s pending (Err _) new = ⊥
 
 -- ---- attempts

@@ -47,8 +47,8 @@ pub enum BusFault {
 /// as its configuration and its history. The queues that frames and items wait in are known by the
 /// laws of `BoundedQueue` alone, and the arbiter by those of `Arbiter`.
 ///
-/// No event but `open` and `set_filters` takes memory: `new` reserves the record, of 32 bytes an entry, the transmit queues
-/// and the places of 64 sockets. A call on a socket looks through the open sockets, at most 64.
+/// No event but `open` and `set_filters` takes memory: `new` reserves the record, of 32 bytes an entry and 76 for its FD
+/// frame, the transmit queues and the places of 64 sockets. A call on a socket looks through the open ones, at most 64.
 #[derive(Drop)]
 pub struct Bus<T: BoundedQueue<Pending>, R: BoundedQueue<Received>, A: Arbiter> {
     record: Record,
@@ -201,8 +201,8 @@ impl<T: BoundedQueue<Pending>, R: BoundedQueue<Received>, A: Arbiter> Bus<T, R, 
 
     /// Puts a frame into the transmit queue of the socket's interface, and answers its number there.
     ///
-    /// Refusals, in this order: `RecordFull`, `NoSocket`, `BusOff`, `NoBuffers` exactly where the queue
-    /// is full.
+    /// Refusals, in this order: `RecordFull`, `NoSocket`, `FdOff` where the frame is an FD frame and the
+    /// socket did not ask for such, `BusOff`, `NoBuffers` exactly where the queue is full.
     pub fn send(&mut self, id: SocketId, frame: Frame) -> Result<u64, Refusal>
         ensures { Answers reply.Sent self.old (event.Send id frame) result self.new }
     {

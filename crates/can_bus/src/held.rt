@@ -1,9 +1,12 @@
-ghost use Rattle.std.specs.Prelude.{◌≡◌, ◌<◌, ◌≤◌, [], ◌∷◌, ◌++◌, length, slice_get, vec_capacity, IfOk};
+ghost use Rattle.std.specs.Prelude.{◌≡◌, ◌<◌, ◌≤◌, false, [], ◌∷◌, ◌++◌, length, slice_get, vec_capacity, IfOk, IfSome};
+ghost use Rattle.std.specs.Option.{option_map};
 ghost use Rattle.can_bus.specs.Held.{entries_in, room_in};
+ghost use Rattle.can_packed.specs.Stored.{entry_stored, IsStored};
+ghost use Rattle.can_packed.specs.Wide.{is_wide};
 
-use can_event::{Entry, Received};
+use can_event::{Entry, Event, Received, Reply};
 use can_frame::Item;
-use can_packed::{Looked, Packed, PackedRecord};
+use can_packed::{Looked, PackedRecord, Stored};
 use std::alloc::{AllocError, Global};
 
 /// The entries of a record, the oldest first.
@@ -35,14 +38,15 @@ impl Held {
         }
     }
 
-    /// The entry at a place, if there is one.
-    pub fn look(&self, place: usize) -> Option<Looked<'_>>
-        ensures { result ≡ slice_get (entries_in self.now) place }
+    /// The entry at a place as it is stored, if there is one.
+    pub fn stored(&self, place: usize) -> Option<Stored<'_>>
+        ensures entry { option_map entry_stored result ≡ slice_get (entries_in self.now) place }
+        ensures stored { IfSome result IsStored }
     {
         match self {
-            Held::Packed(entries) => entries.look(place),
+            Held::Packed(entries) => entries.stored(place),
             Held::Given(entries) => match entries.get(place) {
-                Some(entry) => Some(Looked::lent(entry)),
+                Some(entry) => Some(Stored::Whole(entry)),
                 None => None,
             },
         }
@@ -54,22 +58,37 @@ impl Held {
     {
         let mut copies = Vec::with_capacity(alloc, self.len())?;
         for place in 0..self.len() {
-            let looked = self.look(place).unwrap();
+            let stored = self.stored(place).unwrap();
+            let looked = Looked::of(&stored);
             let entry = copy_of(alloc, looked.entry())?;
             add(&mut copies, entry);
         }
         Ok(copies)
     }
 
-    /// Adds an entry to those of a bus. No memory is taken.
+    /// Adds an entry that is not wide to those of a bus. No memory is taken.
     #[inline(always)]
-    pub fn push(&mut self, entry: Packed)
+    pub fn push(&mut self, event: Event, reply: Reply)
         requires room { length (entries_in self.old) < room_in self.old }
-        ensures more { entries_in self.new ≡ entries_in self.old ++ entry ∷ [] }
+        requires fits { is_wide event reply ≡ false }
+        ensures more { entries_in self.new ≡ entries_in self.old ++ record { event = event; reply = reply } ∷ [] }
         ensures room { room_in self.old ≤ room_in self.new }
     {
         match self {
-            Held::Packed(entries) => entries.push(entry),
+            Held::Packed(entries) => entries.push(event, reply),
+            // There is no room in a list that was handed in.
+            Held::Given(_) => unreachable!(),
+        }
+    }
+
+    /// Adds an entry to those of a bus, which keeps its memory. No other is taken.
+    pub fn push_boxed(&mut self, entry: Box<Entry>)
+        requires room { length (entries_in self.old) < room_in self.old }
+        ensures more { entries_in self.new ≡ entries_in self.old ++ entry.value ∷ [] }
+        ensures room { room_in self.old ≤ room_in self.new }
+    {
+        match self {
+            Held::Packed(entries) => entries.push_boxed(entry),
             // There is no room in a list that was handed in.
             Held::Given(_) => unreachable!(),
         }

@@ -13,12 +13,12 @@ ghost use Rattle.can_bus.specs.Repeats.{AtMost32Copies, RisesAtTheHead, LastBitA
 ghost use Rattle.can_bus.specs.Queues.{queued_to, dropped_at, taken_from, candidates_for};
 ghost use Rattle.can_bus.specs.Headline.{Headline};
 ghost use Rattle.can_bus.specs.Offers.{Offer, offers_to, with_room, without_room};
-ghost use Rattle.can_bus.specs.Sockets.{places, open_sockets, is_open, iface_of, capacity_of};
+ghost use Rattle.can_bus.specs.Sockets.{places, open_sockets, is_open, iface_of, capacity_of, options_of};
 ghost use Rattle.can_bus.specs.Fates.{numbers_given, opening, closing, is_restart_of, frames_with, goes_off};
 ghost use Rattle.can_bus.specs.Fates.Fate.{Waiting, Done, Lost};
 ghost use Rattle.can_event.specs.declared.events.Closed.{Closed};
 ghost use Rattle.can_event.specs.declared.events.SocketId.{SocketId};
-ghost use Rattle.can_bus.specs.Legal.{legal_reply, IsLegal};
+ghost use Rattle.can_bus.specs.Legal.{lacks_fd, legal_reply, IsLegal};
 ghost use Rattle.can_event.specs.Spelled.{IsSpelled};
 ghost use Rattle.can_event.specs.declared.events.Event.TheVariants as event;
 ghost use Rattle.can_event.specs.declared.events.Reply.TheVariants as reply;
@@ -165,11 +165,13 @@ pub fn off_interfaces_have_nothing_to_send(config: BusConfig)
 {}
 
 /// An interface that is bus off takes part in no attempt, and a frame sent on one of its sockets is
-/// refused; its error counts stay until it is restarted.
+/// refused: an FD frame that the socket did not ask for as on any interface, the others for it. Its
+/// error counts stay until it is restarted.
 pub fn off_interfaces_take_no_part(config: BusConfig)
     ensures wins { (past : List Entry) → (m : ℕ) → (v : Verdict) → (t : Tried) → reply.Tried t ≡ legal_reply config past (event.Attempt m v) → (i : ℕ) → is_off (state_at config past i) ≡ true → t.winner ≢ i }
     ensures accepts { (past : List Entry) → (m : ℕ) → (v : Verdict) → (t : Tried) → reply.Tried t ≡ legal_reply config past (event.Attempt m v) → (i : ℕ) → is_off (state_at config past i) ≡ true → is_in i t.accepted ≡ false }
-    ensures sends { (past : List Entry) → (s : SocketId) → (f : CanFrame) → is_open past s.0 ≡ true → is_off (state_at config past (iface_of past s.0)) ≡ true → legal_reply config past (event.Send s f) ≡ reply.Refused refusal.BusOff }
+    ensures sends { (past : List Entry) → (s : SocketId) → (f : CanFrame) → is_open past s.0 ≡ true → lacks_fd f (options_of past s.0) ≡ false → is_off (state_at config past (iface_of past s.0)) ≡ true → legal_reply config past (event.Send s f) ≡ reply.Refused refusal.BusOff }
+    ensures fd { (past : List Entry) → (s : SocketId) → (f : CanFrame) → is_open past s.0 ≡ true → lacks_fd f (options_of past s.0) ≡ true → legal_reply config past (event.Send s f) ≡ reply.Refused refusal.FdOff }
     ensures counts { (past : List Entry) → (e : Entry) → IsLegal config (e ∷ past) → (i : ℕ) → is_off (state_at config past i) ≡ true → is_restart_of i e.event e.reply ≡ false → counts_of config (e ∷ past) i ≡ counts_of config past i }
 {}
 

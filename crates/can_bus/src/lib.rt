@@ -29,7 +29,7 @@ pub use can_event::{
     Attempt, BusConfig, Closed, Entry, Event, IfaceStats, Opt, Pending, Received, Refusal, Reply,
     SocketId, SocketStats, Tried, is_spelled,
 };
-pub use can_packed::Looked;
+pub use can_packed::{Looked, Stored};
 pub use lean::{LeanBus, LeanRingBus};
 pub use outcomes::Attempted;
 pub use records::Record;

@@ -1,19 +1,21 @@
 ghost use Rattle.std.specs.Prelude.{◌≡◌, ◌<◌, ◌≤◌, ◌==◌, false, [], length, slice_get, All, IfOk, IsSome, IfSome, IsTrue, ◌↔◌};
+ghost use Rattle.std.specs.Option.{option_map};
 ghost use Rattle.can_event.specs.Events.{IsConfig};
 ghost use Rattle.can_event.specs.Spelled.{IsSpelled, IsRecord};
+ghost use Rattle.can_packed.specs.Stored.{entry_stored, IsStored};
 ghost use Rattle.can_packed.specs.Wide.{is_wide};
 
 use crate::held::Held;
 use can_event::{BusConfig, Entry, Event, Reply, is_spelled};
-use can_packed::{Looked, Packed};
+use can_packed::{Looked, Stored};
 use std::alloc::{AllocError, Global};
 use std::marker::Model;
 
 /// A bus's configuration, and each event on it with its reply. A bus alone adds to one.
 ///
 /// The configuration is always within the limits of a bus, and the text of a record has a line for each
-/// entry: its reply fits its event. A bus's record takes 32 bytes for each entry, and memory beside for the filters of
-/// `set_filters`. Contracts see the entries newest first.
+/// entry: its reply fits its event. A bus's record takes 32 bytes for each entry, 76 more for an FD frame, and memory
+/// beside for the filters of `set_filters`. Contracts see the entries newest first.
 #[derive(Drop)]
 pub struct Record {
     config: BusConfig,
@@ -92,10 +94,22 @@ impl Record {
         ensures entry { result ≡ slice_get (reverse self.now.history) place }
         ensures spelled { IfSome result (IsSpelled self.now.config) }
     {
-        self.held.look(place)
+        match self.held.stored(place) {
+            Some(stored) => Some(Looked::of(&stored)),
+            None => None,
+        }
     }
 
-    /// A copy of all entries, the oldest first, of 104 bytes each.
+    /// The entry at a place as it is stored, if there is one, for those who read many. No memory is taken.
+    pub fn stored(&self, place: usize) -> Option<Stored<'_>>
+        ensures entry { option_map entry_stored result ≡ slice_get (reverse self.now.history) place }
+        ensures stored { IfSome result IsStored }
+        ensures spelled { IfSome result (λ s. IsSpelled self.now.config (entry_stored s)) }
+    {
+        self.held.stored(place)
+    }
+
+    /// A copy of all entries, the oldest first, of 208 bytes each.
     pub fn to_entries(&self, alloc: Global) -> Result<Vec<Entry>, AllocError>
         ensures entries { IfOk result (λ es. es.items ≡ reverse self.now.history) }
         ensures spelled { IfOk result (λ es. All (IsSpelled self.now.config) es.items) }
@@ -132,7 +146,7 @@ impl Record {
         requires fits { is_wide event reply ≡ false }
         ensures { IsLonger self.old (record { event = event; reply = reply }) self.new }
     {
-        self.held.push(Packed::fitting(event, reply));
+        self.held.push(event, reply);
     }
 
     /// Adds an entry, which keeps its memory. No other is taken.
@@ -141,7 +155,7 @@ impl Record {
         requires spelled { IsSpelled self.old.config entry.value }
         ensures { IsLonger self.old entry.value self.new }
     {
-        self.held.push(Packed::boxed(entry));
+        self.held.push_boxed(entry);
     }
 }
 

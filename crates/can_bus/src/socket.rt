@@ -1,5 +1,6 @@
 ghost use Rattle.std.specs.Prelude.{◌≡◌, ◌+◌, ◌<◌, ◌^◌, ◌≤◌, [], ◌∷◌, ◌++◌, length, slice_get, IfOk, Some, None, Err, ◌≢◌};
 ghost use Rattle.can_bus.specs.Changes.{fresh, relieved};
+ghost use Rattle.can_bus.specs.Legal.{lacks_fd};
 ghost use Rattle.can_bus.specs.Queues.{passing};
 ghost use Rattle.can_event.specs.Events.{with_option};
 ghost use Rattle.can_bus.specs.State.{filled};
@@ -8,7 +9,7 @@ ghost use Rattle.can_event.specs.declared.events.SocketId.{SocketId};
 
 use can_event::{Closed, Opt, Received, SocketId};
 use can_filter::{FilterSet, Options, wants};
-use can_frame::Iface;
+use can_frame::{Frame, Iface};
 use can_queue::{BoundedQueue, QueueError};
 use std::alloc::Global;
 use std::marker::Model;
@@ -73,6 +74,13 @@ impl<R: BoundedQueue<Received>> Socket<R> {
         ensures { result ≡ self.now.options }
     {
         self.options
+    }
+
+    /// Whether the frame is an FD frame, and the option for such is off.
+    pub fn lacks_fd(&self, frame: &Frame) -> bool
+        ensures { result ≡ lacks_fd frame.now self.now.options }
+    {
+        frame.is_fd() && !self.options.fd
     }
 
     pub fn taken(&self) -> u64

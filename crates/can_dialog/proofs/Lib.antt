@@ -5,3 +5,4 @@ pub mod Counts
 pub mod Cuts
 pub mod Living
 pub mod Naming
+pub mod LoneSends

@@ -1,5 +1,6 @@
 use Rattle.std.specs.Prelude.{ℕ, Bool, true, false, if◌then◌else◌, List, [], Option, Some, None, Result, Ok, Err}
 use Rattle.can_confine.specs.Confinement.{ErrorCounts}
+use Rattle.can_frame.specs.Frames.{CanFrame}
 use Rattle.can_event.specs.declared.events.SocketId.{SocketId}
 use Rattle.can_event.specs.declared.events.Closed.{Closed}
 use Rattle.can_event.specs.declared.events.Received.{Received}
@@ -82,6 +83,10 @@ abbrev pub sent : Dialog → Result ℕ PortRefusal → Plan Dialog
 sent d (Ok number) = silent d
 sent d (Err why) = refused why d
 
+-- a frame is sent
+abbrev pub sending : Dialog → RawSocket → CanFrame → Plan Dialog
+sending d raw frame = Ask (Send raw.socket frame) (sent d)
+
 -- what is told of a call that has nothing to say but that it was done
 abbrev pub told : Result (Unit {0}) PortRefusal → Answer
 told (Ok _) = answer.Done
@@ -135,7 +140,7 @@ abbrev pub doing_raw : ℕ → Dialog → RawSocket → Command → Plan Dialog
 doing_raw moment d raw command.Echo = tells answer.Echo d
 doing_raw moment d raw (command.Open name) = misplaced d
 doing_raw moment d raw command.Rawmode = tells answer.Done d
-doing_raw moment d raw (command.Send frame) = Ask (Send raw.socket frame) (sent d)
+doing_raw moment d raw (command.Send frame) = sending d raw frame
 doing_raw moment d raw (command.SetFilters filters) = Ask (SetFilters raw.socket filters) (done d)
 doing_raw moment d raw (command.SetOption option) = Ask (SetOption raw.socket option) (done d)
 doing_raw moment d raw (command.ErrData on) = tells answer.Done (at_stage (Raw (record raw { errdata = on })) d)

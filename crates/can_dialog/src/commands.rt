@@ -1,12 +1,12 @@
 ghost use Rattle.std.specs.Prelude.{◌≡◌, Some};
 ghost use Rattle.can_dialog.specs.Calls.{cause_of_port};
 ghost use Rattle.can_dialog.specs.Plans.{Plays};
-ghost use Rattle.can_dialog.specs.Turns.{voiced, told as told_of, looking_up, closing, doing, doing_unopened, doing_opened, doing_raw};
+ghost use Rattle.can_dialog.specs.Turns.{voiced, told as told_of, sending, looking_up, closing, doing, doing_unopened, doing_opened, doing_raw};
 
 use crate::port::{Port, PortRefusal};
 use crate::stages::{Dialog, RawSocket, Stage};
 use can_bus::Refusal;
-use can_frame::{Iface, Moment};
+use can_frame::{Frame, Iface, Moment};
 use can_proto::{Answer, Cause, Command};
 
 /// What a client is told of a refusal.
@@ -69,6 +69,16 @@ fn do_opened<P: Port>(
     }
 }
 
+/// A frame is sent: only a refusal is told.
+pub fn send<P: Port>(dialog: Dialog, raw: RawSocket, frame: Frame, port: &mut P) -> Option<Answer>
+    ensures { Plays P.step (sending dialog raw frame) port.old port.new (voiced result) dialog }
+{
+    match port.send(raw.socket, frame) {
+        Ok(_) => None,
+        Err(refusal) => refused(refusal),
+    }
+}
+
 /// The counts of the socket and of its interface.
 fn look_up<P: Port>(dialog: Dialog, raw: RawSocket, port: &mut P) -> Option<Answer>
     ensures { Plays P.step (looking_up dialog raw) port.old port.new (voiced result) dialog }
@@ -109,10 +119,7 @@ fn do_raw<P: Port>(
         Command::Echo => Some(Answer::Echo),
         Command::Open(_) => Some(Answer::Refused(Cause::WrongState)),
         Command::Rawmode => Some(Answer::Done),
-        Command::Send(frame) => match port.send(raw.socket, *frame) {
-            Ok(_) => None,
-            Err(refusal) => refused(refusal),
-        },
+        Command::Send(frame) => send(*dialog, raw, *frame, port),
         Command::SetFilters(filters) => told(port.set_filters(raw.socket, filters)),
         Command::SetOption(option) => told(port.set_option(raw.socket, *option)),
         Command::ErrData(on) => {

@@ -1,15 +1,16 @@
-ghost use Rattle.std.specs.Prelude.{◌≡◌, ◌≢◌, ◌⊎◌, ◌+◌, ◌*◌, ◌≤◌, ◌++◌, ◌↔◌, [], List, Bool, true, false, length, vec_capacity, IfOk, OnOk, OnErr};
+ghost use Rattle.std.specs.Prelude.{◌≡◌, ◌≢◌, ◌⊎◌, ◌+◌, ◌*◌, ◌≤◌, ◌++◌, ◌↔◌, [], ℕ, List, Bool, true, false, length, vec_capacity, IfOk, OnOk, OnErr};
 ghost use Rattle.can_proto.specs.Messages.{messages_of, kept_of};
 ghost use Rattle.can_dialog.specs.Plans.{Plays};
-ghost use Rattle.can_dialog.specs.Turns.{ending, delivery, greeting};
+ghost use Rattle.can_dialog.specs.Turns.{sending, ending, delivery, greeting};
 ghost use Rattle.can_dialog.specs.Sessions.{IsNotRaw, Turns, Says, Cut, Wrote, Delivers, DeliveryCut};
 
+use crate::commands::send;
 use crate::deliveries::take_delivery;
 use crate::dialog::{finish, take_turn};
 use crate::output::{make_room, put, say};
 use crate::port::Port;
-use crate::stages::{Dialog, Stage};
-use can_frame::Moment;
+use crate::stages::{Dialog, RawSocket, Stage};
+use can_frame::{Frame, Moment};
 use can_proto::{Answer, Incoming, Reader, reply_text};
 use std::alloc::{AllocError, Global};
 use std::io::Write;
@@ -145,6 +146,11 @@ impl Session {
         if let Stage::Ended = self.dialog.stage {
             return Err(SessionFault::Ended);
         }
+        if let Stage::Raw(raw) = self.dialog.stage {
+            if let Some(frame) = self.reader.lone_send(piece) {
+                return self.pass_on(raw, frame, port, out);
+            }
+        }
         if make_room(&mut self.said, piece).is_err() {
             return Err(SessionFault::NoMemory);
         }
@@ -160,6 +166,30 @@ impl Session {
             &mut self.said,
         );
         if !put(out, &self.said) {
+            finish(&mut self.dialog, port);
+            return Err(SessionFault::Write);
+        }
+        Ok(())
+    }
+
+    /// Sends a frame, and writes what the client is told of it, if anything.
+    fn pass_on<P: Port, W: Write>(
+        &mut self,
+        raw: RawSocket,
+        frame: Frame,
+        port: &mut P,
+        out: &mut W,
+    ) -> Result<(), SessionFault>
+        ensures said { OnOk result ((text : List ℕ) × Plays P.step (sending self.old.dialog raw frame) port.old port.new text self.new.dialog × Wrote W.contents out.old text out.new) }
+        ensures keeps { OnOk result (self.new.kept ≡ self.old.kept) }
+        ensures faults { OnErr result (result ≡ Err SessionFault.Write) }
+        ensures cut { result ≡ Err SessionFault.Write → (text : List ℕ) × (mid : Dialog) × (middle : P) × (text ≢ []) × Plays P.step (sending self.old.dialog raw frame) port.old middle text mid × Plays P.step (ending mid.stage mid) middle port.new [] self.new.dialog }
+    {
+        let Some(answer) = send(self.dialog, raw, frame, port) else {
+            return Ok(());
+        };
+        let text = reply_text(answer);
+        if !put(out, text.as_bytes()) {
             finish(&mut self.dialog, port);
             return Err(SessionFault::Write);
         }

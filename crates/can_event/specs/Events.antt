@@ -39,3 +39,4 @@ with_option (opt.Loopback on) o = record o { loopback = on }
 with_option (opt.RecvOwn on) o = record o { recv_own = on }
 with_option (opt.Join on) o = record o { join = on }
 with_option (opt.ErrMask mask) o = record o { err_mask = mask }
+with_option (opt.FdFrames on) o = record o { fd = on }

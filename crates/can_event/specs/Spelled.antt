@@ -1,4 +1,5 @@
-use Rattle.std.specs.Prelude.{◌≡◌, ℕ, List, Option, Some, None, All}
+use Rattle.std.specs.Prelude.{IsTrue, ◌≡◌, ℕ, List, Option, Some, None, All}
+use Rattle.can_frame.specs.Frames.{is_fd}
 use Rattle.can_frame.specs.Sets.{no_ifaces}
 use Rattle.can_frame.specs.declared.items.Item.{Item}
 use Rattle.can_frame.specs.declared.items.Item.TheVariants as item
@@ -21,6 +22,17 @@ LeavesEntry refusal.RecordFull = ⊥
 LeavesEntry refusal.NoMemory = ⊥
 LeavesEntry _ = Unit {0}
 
+-- to send an FD frame is asked for
+abbrev pub SendsFd : Event → Type 0
+SendsFd (Send s frame) = IsTrue (is_fd frame.payload)
+SendsFd _ = ⊥
+
+-- a refusal that leaves an entry and may stand with the event: that FD frames are off is said to sends of such alone (own
+-- choice)
+abbrev pub MayRefuse : Event → Refusal → Type 0
+MayRefuse event refusal.FdOff = SendsFd event
+MayRefuse event why = LeavesEntry why
+
 -- the number of an item that a socket received: an error message frame has the number 0 (own choice)
 abbrev pub IsNumberOf : Item → ℕ → Type 0
 IsNumberOf (item.Data frame) n = Unit {0}
@@ -37,7 +49,7 @@ AreNumbered (Some r) = IsNumbered r
 
 -- a reply of the event's own kind, or a refusal; a frame was tried at the moment of its attempt (own choice)
 abbrev pub FitsReply : Event → Reply → Type 0
-FitsReply event (reply.Refused why) = LeavesEntry why
+FitsReply event (reply.Refused why) = MayRefuse event why
 FitsReply (Open i capacity) (reply.Opened s) = Unit {0}
 FitsReply (Close s) (reply.Closed counts) = Unit {0}
 FitsReply (SetFilters s filters) reply.Done = Unit {0}

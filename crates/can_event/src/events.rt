@@ -63,6 +63,8 @@ pub enum Opt {
     Join(bool),
     /// The error classes whose message frames the socket gets (CAN_RAW_ERR_FILTER).
     ErrMask(u32),
+    /// Whether the socket sends and gets FD frames (CAN_RAW_FD_FRAMES).
+    FdFrames(bool),
 }
 
 impl Opt {
@@ -84,6 +86,7 @@ impl Opt {
                 err_mask,
                 ..options
             },
+            Opt::FdFrames(fd) => Options { fd, ..options },
         }
     }
 }
@@ -145,6 +148,9 @@ pub enum Refusal {
     /// No such socket is open.
     #[error("no socket")]
     NoSocket,
+    /// The frame is an FD frame, and the socket's option for such is off.
+    #[error("fd frames off")]
+    FdOff,
     /// The interface is bus off.
     #[error("bus off")]
     BusOff,
@@ -235,8 +241,8 @@ pub enum Reply {
     Refused(Refusal),
 }
 
-/// A call with its answer. It takes 104 bytes: the event is as wide as `SetFilters` with its filters, and
-/// the reply as wide as `Tried`.
+/// A call with its answer. It takes 208 bytes: the event is as wide as `Send` with its frame, and the
+/// reply as wide as `Tried`.
 #[derive(Debug, Drop)]
 pub struct Entry {
     pub event: Event,

@@ -1,13 +1,13 @@
 ghost use Rattle.std.specs.Prelude.{IsTrue, ◌↔◌};
-ghost use Rattle.can_event.specs.Spelled.{LeavesEntry, IsNumbered, AreNumbered, FitsReply, MayRestart, IsSpelled};
+ghost use Rattle.can_event.specs.Spelled.{LeavesEntry, SendsFd, MayRefuse, IsNumbered, AreNumbered, FitsReply, MayRestart, IsSpelled};
 ghost use Rattle.can_event.specs.declared.events.Reply.TheVariants as reply;
 
 use crate::events::{BusConfig, Entry, Event, Received, Refusal, Reply, Tried};
 use can_frame::{IfaceSet, Item};
 
-/// Whether the text of a record has a line for an entry: its reply is of the event's own kind, or a
-/// refusal other than of a full record or of memory; a frame was tried at the moment of its attempt; and
-/// an error message frame that was received has the number 0. Where the bus is made to restart no
+/// Whether the text of a record has a line for an entry: its reply is of the event's own kind, or a refusal other than
+/// of a full record or of memory, and that FD frames are off is said to a send of such; a frame was tried at the moment
+/// of its attempt; and an error message frame that was received has the number 0. Where the bus is made to restart no
 /// interface by itself, no attempt names one as restarted.
 pub fn is_spelled(config: BusConfig, entry: &Entry) -> bool
     ensures { IsTrue result ↔ IsSpelled config entry.now }
@@ -32,7 +32,7 @@ fn fits_reply(event: &Event, reply: &Reply) -> bool
     ensures { IsTrue result ↔ FitsReply event.now reply.now }
 {
     match reply {
-        Reply::Refused(why) => leaves_entry(*why),
+        Reply::Refused(why) => may_refuse(event, *why),
         Reply::Opened(_) => matches!(event, Event::Open(_, _)),
         Reply::Closed(_) => matches!(event, Event::Close(_)),
         Reply::Done => is_setting(event),
@@ -82,6 +82,26 @@ fn is_numbered(received: &Received) -> bool
     match &received.item {
         Item::Data(_) => true,
         Item::Error(_) => received.number == 0,
+    }
+}
+
+/// Whether an event may be refused so.
+fn may_refuse(event: &Event, why: Refusal) -> bool
+    ensures { IsTrue result ↔ MayRefuse event.now why }
+{
+    match why {
+        Refusal::FdOff => sends_fd(event),
+        why => leaves_entry(why),
+    }
+}
+
+/// Whether an event asks to send an FD frame.
+fn sends_fd(event: &Event) -> bool
+    ensures { IsTrue result ↔ SendsFd event.now }
+{
+    match event {
+        Event::Send(_, frame) => frame.is_fd(),
+        _ => false,
     }
 }
 

@@ -1,4 +1,6 @@
-use Rattle.std.proofs.Common.{◌≡◌, ◌⊎◌, ◌<◌, ◌≤◌, ℕ, ◌+◌, Bool, true, false, cond, not, ◌==◌, List, [], ◌∷◌, ◌++◌, take, drop, length, get_or, Option, Some, None, Result, Ok, Err, refl, sym, ap, ◌∙◌, subst, inl, inr, ⊎_elim, arith, rules, tests, if◌then◌else◌, append_assoc, is_some, codes}
+use Rattle.std.proofs.Common.{◌≡◌, ◌⊎◌, ◌<◌, ◌≤◌, ℕ, ◌+◌, Bool, true, false, cond, not, ◌==◌, List, [], ◌∷◌, ◌++◌, take, drop, length, get_or, Option}
+use Rattle.std.proofs.Common.{Some, None, Result, Ok, Err, refl, sym, ap, ◌∙◌, subst, inl, inr, ⊎_elim, arith, rules, tests, if◌then◌else◌}
+use Rattle.std.proofs.Common.{append_assoc, is_some, codes}
 use Rattle.std.specs.Char.{is_ascii_digit}
 use Rattle.std.specs.List.{list_all, position_or_len}
 use Rattle.std.specs.Option.{ok_or}
@@ -48,7 +50,8 @@ set-spelled names text set e = both _ _ (set_named names (names_in text)) set e
 kind-spelled : (text : List ℕ) (kind : LocalKind) → kind_spelling text ≡ Some kind → text ≡ kind_word kind
 kind-spelled text kind e = choice _ _ _ e (bytes_eq-Decides text (codes "stuff")).0 (bytes_eq-Decides text (codes "crc")).0 (bytes_eq-Decides text (codes "form")).0
   where
-    choice : (a b c : Bool) → (if a then Some local.Stuff else if b then Some local.Crc else if c then Some local.Form else None) ≡ Some kind → (a ≡ true → text ≡ codes "stuff") → (b ≡ true → text ≡ codes "crc") → (c ≡ true → text ≡ codes "form") → text ≡ kind_word kind
+    choice : (a b c : Bool) → (if a then Some local.Stuff else if b then Some local.Crc else if c then Some local.Form else None) ≡ Some kind
+        → (a ≡ true → text ≡ codes "stuff") → (b ≡ true → text ≡ codes "crc") → (c ≡ true → text ≡ codes "form") → text ≡ kind_word kind
     choice true b c e f g h = let same : local.Stuff ≡ kind = cc in f refl ∙ ap kind_word same
     choice false true c e f g h = let same : local.Crc ≡ kind = cc in g refl ∙ ap kind_word same
     choice false false true e f g h = let same : local.Form ≡ kind = cc in h refl ∙ ap kind_word same

@@ -1,4 +1,5 @@
-use Rattle.std.proofs.Common.{◌≡◌, ◌≢◌, ℕ, ◌+◌, ◌<◌, ◌≤◌, ◌^◌, zero, suc, max, Bool, true, false, ◌||◌, ◌&&◌, nat_eq, ◌==◌, List, [], ◌∷◌, length, Some, None, is_some, Result, Ok, Err, refl, ap, sym, ◌∙◌, arith, if◌then◌else◌, bit_or, ⊎_elim, drop, get_or, eq-eqb}
+use Rattle.std.proofs.Common.{◌≡◌, ◌≢◌, ℕ, ◌+◌, ◌<◌, ◌≤◌, ◌^◌, zero, suc, max, Bool, true, false, ◌||◌, ◌&&◌, nat_eq, ◌==◌, List, [], ◌∷◌, length}
+use Rattle.std.proofs.Common.{Some, None, is_some, Result, Ok, Err, refl, ap, sym, ◌∙◌, arith, if◌then◌else◌, bit_or, ⊎_elim, drop, get_or, eq-eqb}
 use Rattle.std.specs.Int.{bit_at}
 use Rattle.std.specs.List.{list_any, list_all}
 use Rattle.std.specs.Option.{option_eq, option_map_or}

@@ -1,5 +1,5 @@
 use Rattle.std.specs.Prelude.{ℕ, ◌==◌, Bool, true, false, not, ◌&&◌, ◌||◌, List, bit_and}
-use Rattle.can_frame.specs.Frames.{word_of}
+use Rattle.can_frame.specs.Frames.{word_of, is_fd}
 use Rattle.can_frame.specs.declared.items.Item.{Item}
 use Rattle.can_frame.specs.declared.items.Item.TheVariants.{Data, Error}
 use Rattle.can_filter.specs.declared.socket_options.Options.{Options}
@@ -12,12 +12,12 @@ abbrev pub shares_class : ℕ → ℕ → Bool
 shares_class class mask = not (bit_and class mask == 0)
 
 -- A data frame, a remote one too, has to pass the filters, and the socket's own frames also need recv_own
--- (CAN_RAW_RECV_OWN_MSGS). An error message frame passes by the error mask (CAN_RAW_ERR_FILTER) alone, without the
--- filters (own choice).
+-- (CAN_RAW_RECV_OWN_MSGS), and an FD frame needs fd (CAN_RAW_FD_FRAMES). An error message frame passes by the error mask
+-- (CAN_RAW_ERR_FILTER) alone, without the filters (own choice).
 abbrev pub wants : List CanFilter → Options → Item → Bool → Bool
-wants filters options (Data frame) is_own = passes filters options.join (word_of frame) && (not is_own || options.recv_own)
+wants filters options (Data frame) is_own = (passes filters options.join (word_of frame) && (not is_own || options.recv_own)) && (not (is_fd frame.payload) || options.fd)
 wants filters options (Error message) is_own = shares_class message.class options.err_mask
 
 -- the options of a socket just opened (linux/can/raw.h)
 abbrev pub default_options : Options
-default_options = record { loopback = true; recv_own = false; join = false; err_mask = 0 }
+default_options = record { loopback = true; recv_own = false; join = false; err_mask = 0; fd = false }

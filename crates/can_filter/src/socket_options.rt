@@ -9,6 +9,8 @@ pub struct Options {
     pub join: bool,
     /// The error classes whose message frames the socket gets. Bits 29 to 31 are ignored.
     pub err_mask: u32,
+    /// The socket may send FD frames, and gets them.
+    pub fd: bool,
 }
 
 impl Options {
@@ -24,6 +26,7 @@ impl Options {
             recv_own: false,
             join: false,
             err_mask: 0,
+            fd: false,
         }
     }
 }

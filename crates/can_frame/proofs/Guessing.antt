@@ -3,12 +3,12 @@ use Rattle.std.specs.Option.{option_and_then}
 use Rattle.std.proofs.lemmas.List.{length_push}
 use Rattle.hex.specs.Hex.{IsBytes, encode_upper, upper_digits}
 use Rattle.hex.proofs.HexLemmas.{decode_sized-twice, decode_of-encode_upper, length-encode_with}
-use Rattle.can_frame.specs.Frames.{IsIdentifier, Payload}
-use Rattle.can_frame.specs.Frames.Payload.{Data, Remote}
+use Rattle.can_frame.specs.Frames.{IsIdentifier, Payload, is_fd_length}
+use Rattle.can_frame.specs.Frames.Payload.{Data, Remote, Fd}
 use Rattle.can_frame.specs.declared.items.Item.{Item}
 use Rattle.can_frame.specs.declared.items.Item.TheVariants as item
 use Rattle.can_frame.specs.FrameText.{digit_of, digits, pairs, id_text, payload_text, frame_spelling, AsksForNothing, IsPayload, IsItem, IsSpelling}
-use Rattle.can_frame.specs.FrameGuess.{bytes_in, stands_at, request_in, data_in, payload_in, frame_in, error_in, standard_in, long_in, short_item_in, long_item_in, item_in}
+use Rattle.can_frame.specs.FrameGuess.{bytes_in, stands_at, request_in, data_in, fd_data_in, fd_in, payload_in, frame_in, error_in, standard_in, long_in, short_item_in, long_item_in, item_in}
 use Rattle.can_frame.specs.Numbers.{number_in}
 use Rattle.can_frame.proofs.Digits.{pairs-upper, request-text}
 use Rattle.can_frame.proofs.Numerals.{value-digits}
@@ -104,10 +104,26 @@ no-request-in : (bytes : List ℕ) → IsBytes bytes → stands_at 82 0 (pairs b
 no-request-in [] h = refl
 no-request-in (b ∷ bs) h = rw (lt-true 0 (length (pairs (b ∷ bs))) (omega arith), no-request (b / 16 % 16) (omega arith)) refl
 
+no-mark-in : (bytes : List ℕ) → IsBytes bytes → stands_at 35 0 (pairs bytes) ≡ false
+no-mark-in [] h = refl
+no-mark-in (b ∷ bs) h = rw (lt-true 0 (length (pairs (b ∷ bs))) (omega arith), no-hash (b / 16 % 16)) refl
+
+fd-data-again : (bytes : List ℕ) → is_fd_length (length bytes) ≡ true → IsBytes bytes → fd_data_in (pairs bytes) ≡ Some bytes
+unfolding fd_data_in
+fd-data-again bytes h fits =
+    let len = length-pairs bytes in
+    let half : length (pairs bytes) / 2 ≡ length bytes = omega (arith, len) in
+    rw (half, h) (bytes_again (length bytes) bytes refl fits)
+
+fd-again : (bytes : List ℕ) → is_fd_length (length bytes) ≡ true → IsBytes bytes → fd_in (48 ∷ pairs bytes) ≡ Some bytes
+unfolding fd_in
+fd-again bytes h fits = rw (lt-true 0 (length (48 ∷ pairs bytes)) (omega arith)) (fd-data-again bytes h fits)
+
 payload-again : (p : Payload) → IsPayload p → payload_in (payload_text p) ≡ Some p
 unfolding payload_in
-payload-again (Data bytes) h = rw (no-request-in bytes h.1, data-again bytes h.0 h.1) refl
+payload-again (Data bytes) h = rw (no-request-in bytes h.1, no-mark-in bytes h.1, data-again bytes h.0 h.1) refl
 payload-again (Remote len) h = request-again len h
+payload-again (Fd bytes) h = rw (lt-true 0 (length (35 ∷ 48 ∷ pairs bytes)) (omega arith), fd-again bytes h.0 h.1) refl
 
 error-again : (class : ℕ) (bytes : List ℕ) → class < 2 ^ 29 → length bytes ≡ 8 → IsBytes bytes → long_in (2 ^ 29 + class) (pairs bytes) ≡ Some (item.Error (record { class = class; bytes = bytes }))
 unfolding long_in error_in
@@ -151,19 +167,23 @@ length-id : (extended : Bool) (n : ℕ) → length (id_text (record { extended =
 length-id false n = omega arith
 length-id true n = omega arith
 
-length-request : (len : ℕ) → len ≤ 8 → length (payload_text (Remote len)) ≤ 16
+length-request : (len : ℕ) → len ≤ 8 → length (payload_text (Remote len)) ≤ 2
 length-request zero h = omega arith
 length-request (suc k) h = let l = ap length (request-text (suc k) (omega arith) h) in omega (arith, l)
 
-length-payload : (p : Payload) → IsPayload p → length (payload_text p) ≤ 16
-length-payload (Data bytes) h = omega (arith, h.0, length-pairs bytes)
-length-payload (Remote len) h = length-request len h
+at_most_64 : (n : ℕ) → is_fd_length n ≡ true → n ≤ 64
+at_most_64 n h = grind arith
 
-length-spelling : (i : Item) → IsItem i → length (frame_spelling i) ≤ 25
+length-payload : (p : Payload) → IsPayload p → length (payload_text p) ≤ 130
+length-payload (Data bytes) h = omega (arith, h.0, length-pairs bytes)
+length-payload (Remote len) h = omega (arith, length-request len h)
+length-payload (Fd bytes) h = omega (arith, at_most_64 (length bytes) h.0, length-pairs bytes)
+
+length-spelling : (i : Item) → IsItem i → length (frame_spelling i) ≤ 139
 unfolding frame_spelling
 length-spelling (item.Data f) h = omega (arith, length-append (id_text f.id) (35 ∷ payload_text f.payload), length-id f.id.extended f.id.number, length-payload f.payload h.1)
 length-spelling (item.Error e) h = omega (arith, h.1, length-pairs e.bytes)
 
-pub short : (text : List ℕ) (i : Item) → IsItem i → IsSpelling text i → length text ≤ 26
+pub short : (text : List ℕ) (i : Item) → IsItem i → IsSpelling text i → length text ≤ 140
 short text i h (inl e) = let l = length-spelling i h in omega (arith, ap length e, l)
 short text i h (inr z) = let l = length-spelling i h in omega (arith, ap length z.1, length_push (frame_spelling i) 48, l)

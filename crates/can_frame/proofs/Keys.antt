@@ -1,6 +1,6 @@
 use Rattle.std.proofs.Common.{◌≡◌, ℕ, zero, suc, ◌+◌, ◌*◌, ◌/◌, ◌%◌, ◌^◌, ◌<◌, ◌≤◌, Bool, true, false, cond, List, [], ◌∷◌, ◌++◌, length, refl, sym, ◌∙◌, inl, inr, arith}
 use Rattle.can_frame.specs.Frames.{Payload, CanFrame}
-use Rattle.can_frame.specs.Frames.Payload.{Data, Remote}
+use Rattle.can_frame.specs.Frames.Payload.{Data, Remote, Fd}
 use Rattle.can_frame.specs.Arbitration.{low_bits, rtr_of, standard_bits, extended_bits, arbitration_bits, goes_before, bits_number, key_of}
 use Rattle.can_frame.proofs.Bits.{IsBits, IsBits-append, IsBits-low_bits, length-low_bits, bits_number-low_bits, bits_number-before, AreCompared, AreCompared-append, AreCompared-bits, AreCompared-sym}
 
@@ -9,6 +9,7 @@ use Rattle.can_frame.proofs.Bits.{IsBits, IsBits-append, IsBits-low_bits, length
 pub rtr-below : (p : Payload) → rtr_of p < 2
 rtr-below (Data bytes) = omega arith
 rtr-below (Remote len) = omega arith
+rtr-below (Fd bytes) = omega arith
 
 -- ---- the key's number
 
@@ -40,7 +41,10 @@ AreCompared-standard m n r s p q =
 
 AreCompared-extended : (m n r s : ℕ) → r < 2 → s < 2 → AreCompared (extended_bits m r) (extended_bits n s)
 AreCompared-extended m n r s p q =
-    AreCompared-append (low_bits 11 (m / 2 ^ 18)) (low_bits 11 (n / 2 ^ 18)) (1 ∷ 1 ∷ low_bits 18 m ++ r ∷ []) (1 ∷ 1 ∷ low_bits 18 n ++ s ∷ []) (AreCompared-low 11 (m / 2 ^ 18) (n / 2 ^ 18)) (AreCompared-append (1 ∷ 1 ∷ low_bits 18 m) (1 ∷ 1 ∷ low_bits 18 n) (r ∷ []) (s ∷ []) (AreCompared-append (1 ∷ 1 ∷ []) (1 ∷ 1 ∷ []) (low_bits 18 m) (low_bits 18 n) (inl refl) (AreCompared-low 18 m n)) (AreCompared-bits (r ∷ []) (s ∷ []) (p, tt) (q, tt) refl))
+    AreCompared-append (low_bits 11 (m / 2 ^ 18)) (low_bits 11 (n / 2 ^ 18)) (1 ∷ 1 ∷ low_bits 18 m ++ r ∷ []) (1 ∷ 1 ∷ low_bits 18 n ++ s ∷ []) (AreCompared-low 11 (m / 2 ^ 18) (n / 2 ^ 18))
+    (AreCompared-append (1 ∷ 1 ∷ low_bits 18 m) (1 ∷ 1 ∷ low_bits 18 n) (r ∷ []) (s ∷ [])
+    (AreCompared-append (1 ∷ 1 ∷ []) (1 ∷ 1 ∷ []) (low_bits 18 m) (low_bits 18 n) (inl refl) (AreCompared-low 18 m n))
+    (AreCompared-bits (r ∷ []) (s ∷ []) (p, tt) (q, tt) refl))
 
 -- RTR against SRR, then IDE
 pub kinds : (r : ℕ) → r < 2 → (rest : List ℕ) → goes_before (r ∷ 0 ∷ []) (1 ∷ 1 ∷ rest) ≡ true

@@ -13,7 +13,6 @@ use Rattle.std.proofs.lemmas.Option.{slice_get-get_or, slice_get_within, get_or_
 use Rattle.can_frame.specs.Names.{place_of}
 
 -- the place that is found is the name's
--- the place that is found is the name's
 pub place_of-Some : (names : List (List ℕ)) (name : List ℕ) (i : ℕ) → place_of names name ≡ Some i → slice_get names i ≡ Some name
 place_of-Some names name i e =
     let at = position-Some (λ other. bytes_eq other name) names i name e in
@@ -21,7 +20,9 @@ place_of-Some names name i e =
 
 pub place_of-is : (names : List (List ℕ)) (name d : List ℕ) (i : ℕ) → i < length names → ((k : ℕ) → k < i → get_or names k d ≢ name) → get_or names i d ≡ name → place_of names name ≡ Some i
 place_of-is names name d i inside before here =
-    let at : position_or_len (λ other. bytes_eq other name) names ≡ i = position_or_len_is (λ other. bytes_eq other name) names i d (omega arith) (λ k h. false_from_ne_true _ (λ e. before k h ((bytes_eq-Decides (get_or names k d) name).0 e))) (λ _. (bytes_eq-Decides (get_or names i d) name).1 here) in
+    let at : position_or_len (λ other. bytes_eq other name) names ≡ i = position_or_len_is (λ other. bytes_eq other name) names i d (omega arith)
+    (λ k h. false_from_ne_true _ (λ e. before k h ((bytes_eq-Decides (get_or names k d) name).0 e)))
+    (λ _. (bytes_eq-Decides (get_or names i d) name).1 here) in
     let test : ltb i (length names) ≡ true = search (rules, nat_tests) in
     rw at (rw test refl)
 

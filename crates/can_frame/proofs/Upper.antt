@@ -2,7 +2,7 @@ use Rattle.std.proofs.Common.{◌≡◌, ℕ, zero, suc, ◌+◌, ◌/◌, ◌%�
 use Rattle.std.specs.Char.{to_ascii_uppercase}
 use Rattle.std.proofs.lemmas.List.{map-append}
 use Rattle.can_frame.specs.Frames.{Payload}
-use Rattle.can_frame.specs.Frames.Payload.{Data, Remote}
+use Rattle.can_frame.specs.Frames.Payload.{Data, Remote, Fd}
 use Rattle.can_frame.specs.declared.items.Item.{Item}
 use Rattle.can_frame.specs.declared.items.Item.TheVariants as item
 use Rattle.can_frame.specs.FrameText.{digit_of, digits, pairs, id_text, payload_text, frame_spelling, upper, IsPayload, IsItem, Spells}
@@ -35,6 +35,7 @@ upper-request (suc k) h =
 upper-payload : (p : Payload) → IsPayload p → upper (payload_text p) ≡ payload_text p
 upper-payload (Data bytes) h = upper-pairs bytes
 upper-payload (Remote len) h = upper-request len h
+upper-payload (Fd bytes) h = ap (λ (t : List ℕ). 35 ∷ 48 ∷ t) (upper-pairs bytes)
 
 upper-id : (extended : Bool) (n : ℕ) → upper (id_text (record { extended = extended; number = n })) ≡ id_text (record { extended = extended; number = n })
 upper-id false n = upper-digits 3 n

@@ -2,7 +2,7 @@ use Rattle.std.proofs.Common.{◌≡◌, ◌≢◌, ◌⊎◌, ℕ, zero, suc, �
 use Rattle.std.proofs.lemmas.Bool.{cases_Bool, cases_lt, cases_order, cases_eq}
 use Rattle.std.proofs.lemmas.List.{get_or_default}
 use Rattle.can_frame.specs.Frames.{Identifier, Payload, CanFrame, is_remote, IsIdentifier}
-use Rattle.can_frame.specs.Frames.Payload.{Data, Remote}
+use Rattle.can_frame.specs.Frames.Payload.{Data, Remote, Fd}
 use Rattle.can_frame.specs.Arbitration.{rtr_of, arbitration_bits, GoesBefore, key_of, Wins, DifferInBits}
 use Rattle.can_frame.proofs.Bits.{GoesBefore-goes_before, goes_before-GoesBefore, goes_before-front, front-goes_before}
 use Rattle.can_frame.proofs.Keys.{AreCompared-frames, key_of-before, key_of-same, goes_before-key_of, bits-from_key, key_of-standard, key_of-extended, rtr-below}
@@ -52,7 +52,8 @@ least f (g ∷ gs) =
       | inr above ↦ (0, omega arith, here r.0 r.1 r.2 above)
     ]
   where
-    later : (w : ℕ) → w < length (g ∷ gs) → ((k : ℕ) (d : CanFrame) → k < length (g ∷ gs) → key_of (get_or (g ∷ gs) w d) ≤ key_of (get_or (g ∷ gs) k d)) → key_of (get_or (g ∷ gs) w f) < key_of f → (k : ℕ) (d : CanFrame) → k < length (f ∷ g ∷ gs) → key_of (get_or (g ∷ gs) w d) ≤ key_of (get_or (f ∷ g ∷ gs) k d)
+    later : (w : ℕ) → w < length (g ∷ gs) → ((k : ℕ) (d : CanFrame) → k < length (g ∷ gs) → key_of (get_or (g ∷ gs) w d) ≤ key_of (get_or (g ∷ gs) k d)) → key_of (get_or (g ∷ gs) w f) < key_of f →
+        (k : ℕ) (d : CanFrame) → k < length (f ∷ g ∷ gs) → key_of (get_or (g ∷ gs) w d) ≤ key_of (get_or (f ∷ g ∷ gs) k d)
     later w inside all below zero d h = rw (get_or_default (g ∷ gs) w d f inside) (omega arith)
     later w inside all below (suc k) d h = all k d (omega arith)
 
@@ -93,24 +94,39 @@ alone frames v w p q = elim (cases_eq v w) [
 
 -- ---- identifiers
 
-pub data_first : (id : Identifier) (bytes : List ℕ) (len : ℕ) → GoesBefore (arbitration_bits (record { id = id; payload = Data bytes })) (arbitration_bits (record { id = id; payload = Remote len }))
-data_first id bytes len =
-    let a : CanFrame = record { id = id; payload = Data bytes } in
+marked_first : (id : Identifier) (p : Payload) (len : ℕ) → rtr_of p ≡ 0 → GoesBefore (arbitration_bits (record { id = id; payload = p })) (arbitration_bits (record { id = id; payload = Remote len }))
+marked_first id p len unmarked =
+    let a : CanFrame = record { id = id; payload = p } in
     let b : CanFrame = record { id = id; payload = Remote len } in
     GoesBefore-key_of a b (elim (cases_Bool id.extended) [
       | inl extended ↦ rw (key_of-extended a extended, key_of-extended b extended) (omega arith)
       | inr standard ↦ rw (key_of-standard a standard, key_of-standard b standard) (omega arith)
     ])
 
+pub data_first : (id : Identifier) (bytes : List ℕ) (len : ℕ) → GoesBefore (arbitration_bits (record { id = id; payload = Data bytes })) (arbitration_bits (record { id = id; payload = Remote len }))
+data_first id bytes len = marked_first id (Data bytes) len refl
+
+pub fd_first : (id : Identifier) (bytes : List ℕ) (len : ℕ) → GoesBefore (arbitration_bits (record { id = id; payload = Fd bytes })) (arbitration_bits (record { id = id; payload = Remote len }))
+fd_first id bytes len = marked_first id (Fd bytes) len refl
+
+pub fd_bits : (id : Identifier) (bytes others : List ℕ) → arbitration_bits (record { id = id; payload = Fd bytes }) ≡ arbitration_bits (record { id = id; payload = Data others })
+unfolding arbitration_bits
+fd_bits id bytes others = refl
+
 pub standard_first : (a b : CanFrame) → a.id.extended ≡ false → b.id.extended ≡ true → b.id.number / 2 ^ 18 ≡ a.id.number → GoesBefore (arbitration_bits a) (arbitration_bits b)
 standard_first a b standard extended begins =
     GoesBefore-key_of a b (rw (key_of-standard a standard, key_of-extended b extended, begins) (omega (arith, rtr-below a.payload)))
 
 same_mark : (p q : Payload) → rtr_of p ≡ rtr_of q → is_remote p ≡ is_remote q
-same_mark (Data b) (Data c) e = refl
-same_mark (Data b) (Remote m) e = absurd (omega arith)
-same_mark (Remote n) (Data c) e = absurd (omega arith)
 same_mark (Remote n) (Remote m) e = refl
+same_mark (Remote n) (Data c) e = absurd (omega arith)
+same_mark (Remote n) (Fd c) e = absurd (omega arith)
+same_mark (Data b) (Remote m) e = absurd (omega arith)
+same_mark (Data b) (Data c) e = refl
+same_mark (Data b) (Fd c) e = refl
+same_mark (Fd b) (Remote m) e = absurd (omega arith)
+same_mark (Fd b) (Data c) e = refl
+same_mark (Fd b) (Fd c) e = refl
 
 same_identifier : (i j : Identifier) → i.extended ≡ j.extended → i.number ≡ j.number → i ≡ j
 same_identifier i j e n =

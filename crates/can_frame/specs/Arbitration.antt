@@ -11,7 +11,8 @@ abbrev pub low_bits : ℕ → ℕ → List ℕ
 low_bits zero n = []
 low_bits (suc k) n = bit_at n k ∷ low_bits k n
 
--- the RTR bit: dominant in data frames, recessive in remote frames
+-- the RTR bit: dominant in data frames, recessive in remote frames; the RRS bit in its place is dominant in FD frames
+-- (ISO 11898-1)
 abbrev pub rtr_of : Payload → ℕ
 rtr_of payload = if is_remote payload then 1 else 0
 

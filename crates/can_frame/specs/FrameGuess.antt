@@ -3,8 +3,8 @@ use Rattle.std.specs.Result.{result_ok}
 use Rattle.std.specs.Option.{option_map, option_and_then}
 use Rattle.hex.specs.Hex.{decode_sized}
 use Rattle.can_frame.specs.Numbers.{number_in}
-use Rattle.can_frame.specs.Frames.{Identifier, Payload}
-use Rattle.can_frame.specs.Frames.Payload.{Data, Remote}
+use Rattle.can_frame.specs.Frames.{Identifier, Payload, is_fd_length}
+use Rattle.can_frame.specs.Frames.Payload.{Data, Remote, Fd}
 use Rattle.can_frame.specs.declared.items.Item.{Item}
 use Rattle.can_frame.specs.declared.items.Item.TheVariants as item
 
@@ -26,9 +26,17 @@ request_in text = if length text == 0 then Some 0 else if nat_le 48 (slice_index
 unfoldable pub data_in : List ℕ → Option (List ℕ)
 data_in text = if nat_le (length text / 2) 8 then bytes_in (length text / 2) text else None
 
--- what stands behind the mark of a frame: `R` (82) and a length, or data
+-- the data of an FD frame: as many bytes as one may have
+unfoldable pub fd_data_in : List ℕ → Option (List ℕ)
+fd_data_in text = if is_fd_length (length text / 2) then bytes_in (length text / 2) text else None
+
+-- what stands behind the second mark of an FD frame: no flags (48), and data
+unfoldable pub fd_in : List ℕ → Option (List ℕ)
+fd_in text = if stands_at 48 0 text then fd_data_in (drop 1 text) else None
+
+-- what stands behind the mark of a frame: `R` (82) and a length, a second `#` (35) and an FD frame's data, or data
 unfoldable pub payload_in : List ℕ → Option Payload
-payload_in text = if stands_at 82 0 text then option_map Remote (request_in (drop 1 text)) else option_map Data (data_in text)
+payload_in text = if stands_at 82 0 text then option_map Remote (request_in (drop 1 text)) else if stands_at 35 0 text then option_map Fd (fd_in (drop 1 text)) else option_map Data (data_in text)
 
 -- a frame with this identifier
 unfoldable pub frame_in : Identifier → List ℕ → Option Item

@@ -1,9 +1,9 @@
-use Rattle.std.specs.Prelude.{◌≡◌, ◌<◌, ◌≤◌, ◌⊎◌, ℕ, zero, suc, ◌+◌, ◌/◌, ◌%◌, ◌^◌, ◌==◌, nat_lt, if◌then◌else◌, List, [], ◌∷◌, ◌++◌, length, map}
+use Rattle.std.specs.Prelude.{IsTrue, ◌≡◌, ◌<◌, ◌≤◌, ◌⊎◌, ℕ, zero, suc, ◌+◌, ◌/◌, ◌%◌, ◌^◌, ◌==◌, nat_lt, if◌then◌else◌, List, [], ◌∷◌, ◌++◌, length, map}
 use Rattle.std.specs.Char.{to_ascii_uppercase}
 use Rattle.std.specs.Fmt.{decimal}
 use Rattle.hex.specs.Hex.{IsBytes}
-use Rattle.can_frame.specs.Frames.{Identifier, IsIdentifier, Payload}
-use Rattle.can_frame.specs.Frames.Payload.{Data, Remote}
+use Rattle.can_frame.specs.Frames.{Identifier, IsIdentifier, Payload, is_fd_length}
+use Rattle.can_frame.specs.Frames.Payload.{Data, Remote, Fd}
 use Rattle.can_frame.specs.declared.items.Item.{Item}
 use Rattle.can_frame.specs.declared.items.Item.TheVariants as item
 
@@ -27,10 +27,12 @@ pairs (b ∷ bs) = digits 16 2 b ++ pairs bs
 abbrev pub id_text : Identifier → List ℕ
 id_text id = digits 16 (if id.extended then 8 else 3) id.number
 
--- the data; of a remote frame `R` (82), and the length that it asks for where this is not 0
+-- the data; of a remote frame `R` (82), and the length that it asks for where this is not 0; of an FD frame a second `#`
+-- (35), its flags, of which there are none (48), and the data
 abbrev pub payload_text : Payload → List ℕ
 payload_text (Data bytes) = pairs bytes
 payload_text (Remote len) = 82 ∷ (if len == 0 then [] else decimal len)
+payload_text (Fd bytes) = 35 ∷ 48 ∷ pairs bytes
 
 -- the written spelling of an item: what stands before the `#` (35) says what it is. An error message frame has
 -- its class there, with bit 29 set (CAN_ERR_FLAG of linux/can.h)
@@ -47,10 +49,11 @@ abbrev pub AsksForNothing : Item → Type 0
 AsksForNothing (item.Data f) = f.payload ≡ Remote 0
 AsksForNothing (item.Error e) = ⊥
 
--- a payload that a frame may carry: at most 8 bytes, or a request for so many
+-- a payload that a frame may carry: at most 8 bytes, a request for so many, or as many bytes as an FD frame may have
 abbrev pub IsPayload : Payload → Type 0
 IsPayload (Data bytes) = (length bytes ≤ 8) × IsBytes bytes
 IsPayload (Remote len) = len ≤ 8
+IsPayload (Fd bytes) = IsTrue (is_fd_length (length bytes)) × IsBytes bytes
 
 -- an item that there is
 abbrev pub IsItem : Item → Type 0

@@ -1,4 +1,4 @@
-use Rattle.std.specs.Prelude.{ℕ, Bool, true, false, List, [], length, ◌+◌, ◌^◌, ◌<◌, if◌then◌else◌}
+use Rattle.std.specs.Prelude.{ℕ, Bool, true, false, ◌||◌, ◌==◌, nat_le, List, [], length, ◌+◌, ◌^◌, ◌<◌, if◌then◌else◌}
 
 -- Frames as linux/can.h and the Bosch CAN Specification 2.0 know them.
 
@@ -11,12 +11,14 @@ pub record Identifier : Type 0 where
 abbrev pub IsIdentifier : Identifier → Type 0
 IsIdentifier id = id.number < (if id.extended then 2 ^ 29 else 2 ^ 11)
 
--- what a frame carries: bytes, or in a remote frame a request for so many
+-- what a frame carries: bytes, in a remote frame a request for so many, or the bytes of an FD frame (struct canfd_frame
+-- of linux/can.h)
 pub data Payload : Type 0 where
   Data : List ℕ → Payload
   Remote : ℕ → Payload
+  Fd : List ℕ → Payload
 
--- a data frame or a remote frame
+-- a data frame, a remote frame or an FD frame
 pub record CanFrame : Type 0 where
   pub id : Identifier
   pub payload : Payload
@@ -30,17 +32,31 @@ pub record ErrorMessage : Type 0 where
 abbrev pub is_remote : Payload → Bool
 is_remote (Data bytes) = false
 is_remote (Remote len) = true
+is_remote (Fd bytes) = false
 
--- the data length code: the bytes carried, or asked for
+-- the bytes of an FD frame
+abbrev pub is_fd : Payload → Bool
+is_fd (Data bytes) = false
+is_fd (Remote len) = false
+is_fd (Fd bytes) = true
+
+-- the lengths that the 16 data length codes of FD frames stand for, up to CANFD_MAX_DLEN (ISO 11898-1; linux/can.h)
+abbrev pub is_fd_length : ℕ → Bool
+is_fd_length n = nat_le n 8 || (n == 12 || (n == 16 || (n == 20 || (n == 24 || (n == 32 || (n == 48 || n == 64))))))
+
+-- how many bytes are carried, or asked for
 abbrev pub payload_len : Payload → ℕ
 payload_len (Data bytes) = length bytes
 payload_len (Remote len) = len
+payload_len (Fd bytes) = length bytes
 
 -- the bytes carried
 abbrev pub payload_bytes : Payload → List ℕ
 payload_bytes (Data bytes) = bytes
 payload_bytes (Remote len) = []
+payload_bytes (Fd bytes) = bytes
 
--- the identifier word: bit 31 marks 29-bit identifiers, bit 30 remote requests (linux/can.h)
+-- the identifier word: bit 31 marks 29-bit identifiers, bit 30 remote requests (linux/can.h); that of an FD frame is
+-- a data frame's
 abbrev pub word_of : CanFrame → ℕ
 word_of f = f.id.number + (if f.id.extended then 2 ^ 31 else 0) + (if is_remote f.payload then 2 ^ 30 else 0)

@@ -1,12 +1,12 @@
 ghost use Rattle.std.specs.Prelude.{◌≡◌, ◌<◌, ◌≤◌, length, IsTrue, IfSome, Some};
 ghost use Rattle.std.specs.Option.{option_map};
-ghost use Rattle.can_frame.specs.Frames.Payload.{Data, Remote};
-ghost use Rattle.can_frame.specs.FrameGuess.{stands_at, request_in, data_in, payload_in, frame_in, error_in, standard_in, long_in, short_item_in, long_item_in, item_in};
+ghost use Rattle.can_frame.specs.Frames.Payload.{Data, Remote, Fd};
+ghost use Rattle.can_frame.specs.FrameGuess.{stands_at, request_in, data_in, fd_data_in, fd_in, payload_in, frame_in, error_in, standard_in, long_in, short_item_in, long_item_in, item_in};
 ghost use Rattle.can_frame.specs.FrameText.{IsItem, IsSpelling};
 ghost use Rattle.can_frame.specs.declared.items.Item.{Item as AnItem};
 
 use crate::error_frames::ErrorFrame;
-use crate::frames::Frame;
+use crate::frames::{Frame, is_fd_length};
 use crate::identifiers::CanId;
 use crate::items::Item;
 use crate::numbers::read_hexadecimal;
@@ -97,6 +97,8 @@ fn frame(id: CanId, text: &[u8]) -> Option<Item>
 {
     let frame = if stands_at(b'R', 0, text) {
         remote_frame(id, &text[1..])?
+    } else if stands_at(b'#', 0, text) {
+        fd_frame(id, &text[1..])?
     } else {
         data_frame(id, text)?
     };
@@ -136,6 +138,31 @@ fn data_frame(id: CanId, text: &[u8]) -> Option<Frame>
     let bytes = &mut all[..len];
     decode_to_slice(text, bytes).ok()?;
     Frame::data(id, bytes).ok()
+}
+
+/// What follows the second mark: no flags, and data.
+#[tactic(auto, unfolding(crate::specs::FrameGuess::fd_in))]
+fn fd_frame(id: CanId, text: &[u8]) -> Option<Frame>
+    ensures { result ≡ option_map (λ bytes. record { id = id; payload = Fd bytes }) (fd_in text.now) }
+{
+    if !stands_at(b'0', 0, text) {
+        return None;
+    }
+    fd_of_data(id, &text[1..])
+}
+
+#[tactic(auto, unfolding(crate::specs::FrameGuess::fd_data_in, crate::specs::FrameGuess::bytes_in))]
+fn fd_of_data(id: CanId, text: &[u8]) -> Option<Frame>
+    ensures { result ≡ option_map (λ bytes. record { id = id; payload = Fd bytes }) (fd_data_in text.now) }
+{
+    let len = text.len() / 2;
+    if !is_fd_length(len) {
+        return None;
+    }
+    let mut all = [0; 64];
+    let bytes = &mut all[..len];
+    decode_to_slice(text, bytes).ok()?;
+    Frame::fd(id, bytes).ok()
 }
 
 #[tactic(auto, unfolding(crate::specs::FrameGuess::error_in, crate::specs::FrameGuess::bytes_in))]

@@ -13,15 +13,15 @@ use thiserror::Error;
 #[error("bad text")]
 pub struct BadText;
 
-/// The written form of an item. The longest has 25 bytes: 8 digits, `#` and 16 digits.
-pub type FrameText = Text<32>;
+/// The written form of an item. The longest has 139 bytes: 8 digits, `##0` and 128 digits.
+pub type FrameText = Text<144>;
 
-/// An item in the shape of candump's logs, upper case: `123#1122`, `12345678#`, `123#R4`, and
+/// An item in the shape of candump's logs, upper case: `123#1122`, `12345678#`, `123#R4`, `123##01122` for an FD frame, and
 /// `20000080#0000000000000000` for an error message frame of class 0x80. It takes no memory.
 #[tactic(auto, unfolding(crate::specs::FrameText::frame_spelling))]
 pub fn frame_text(item: &Item) -> FrameText
     ensures text { result ≡ frame_spelling item.now }
-    ensures short { length result ≤ 25 }
+    ensures short { length result ≤ 139 }
 {
     let mut text = Text::new();
     match item {
@@ -39,11 +39,11 @@ pub fn frame_text(item: &Item) -> FrameText
     text
 }
 
-/// Adds the data of a frame, or what a remote frame asks for.
+/// Adds the data of a frame, what a remote frame asks for, or the second mark, the flags and the data of an FD frame.
 fn push_payload(text: &mut FrameText, frame: Frame)
-    requires { length text.old + 16 ≤ 32 }
+    requires { length text.old + 130 ≤ 144 }
     ensures text { text.new ≡ text.old ++ payload_text frame.payload }
-    ensures len { length text.new ≤ length text.old + 16 }
+    ensures len { length text.new ≤ length text.old + 130 }
 {
     let len = frame.len();
     if frame.is_remote() {
@@ -51,21 +51,24 @@ fn push_payload(text: &mut FrameText, frame: Frame)
         if len > 0 {
             text.push(b'0' + len);
         }
-    } else {
-        text.push_pairs(frame.bytes());
+        return;
     }
+    if frame.is_fd() {
+        text.push_all(b"#0");
+    }
+    text.push_pairs(frame.bytes());
 }
 
 /// The item that a text spells, in either case; `BadText` where it spells none. `ID#R0` is read as `ID#R`.
 ///
-/// What the text seems to be is written again and compared with it. A text of more than 32 bytes is refused
+/// What the text seems to be is written again and compared with it. A text of more than 144 bytes is refused
 /// unread, so the cost has a bound. It takes no memory.
 pub fn read_frame_text(text: &str) -> Result<Item, BadText>
     ensures found { IfOk result (λ item. IsItem item × Spells text.now item) }
     ensures only { (i : AnItem) → IsItem i → Spells text.now i → result ≡ Ok i }
     ensures bad { IsErr result ↔ ((i : AnItem) → IsItem i → Spells text.now i → ⊥) }
 {
-    if text.len() > 32 {
+    if text.len() > 144 {
         return Err(BadText);
     }
     let mut raised: FrameText = Text::new();

@@ -1,6 +1,6 @@
-ghost use Rattle.std.specs.Prelude.{◌≡◌, ◌<◌, ◌≤◌, ◌^◌, ℕ, Bool, true, false, List, OkIff, length};
-ghost use Rattle.can_frame.specs.Frames.{Identifier, Payload, CanFrame, word_of, is_remote, payload_len, payload_bytes};
-ghost use Rattle.can_frame.specs.Frames.Payload.{Data, Remote};
+ghost use Rattle.std.specs.Prelude.{◌≡◌, ◌<◌, ◌≤◌, ◌^◌, ℕ, Bool, true, false, List, IsTrue, OkIff, length, replicate, take, drop, ◌-◌};
+ghost use Rattle.can_frame.specs.Frames.{Identifier, Payload, CanFrame, word_of, is_remote, is_fd, is_fd_length, payload_len, payload_bytes};
+ghost use Rattle.can_frame.specs.Frames.Payload.{Data, Remote, Fd};
 
 use crate::identifiers::CanId;
 use std::marker::Model;
@@ -11,20 +11,27 @@ use thiserror::Error;
 #[error("too long")]
 pub struct TooLong;
 
+/// A number of bytes that no FD frame has.
+#[derive(Debug, Clone, Copy, PartialEq, Eq, Error)]
+#[error("bad fd length")]
+pub struct BadFdLength;
+
 /// Which kind of frame it is.
 #[derive(Debug, Clone, Copy, PartialEq, Eq)]
 enum Kind {
     Data,
     Remote,
+    Fd,
 }
 
-/// A data frame of 0 to 8 bytes, or a remote frame that asks for 0 to 8 bytes (linux/can.h).
+/// A data frame of 0 to 8 bytes, a remote frame that asks for 0 to 8 bytes, or an FD frame of 0 to 8, 12, 16, 20, 24, 32,
+/// 48 or 64 bytes (linux/can.h). It takes 76 bytes of its own, and no other memory.
 #[derive(Debug, Clone, Copy, PartialEq, Eq)]
 pub struct Frame {
     id: CanId,
     kind: Kind,
     len: u8,
-    bytes: [u8; 8],
+    bytes: [u8; 64],
 }
 
 impl Model for Frame {
@@ -51,13 +58,11 @@ impl Frame {
         if bytes.len() > 8 {
             return Err(TooLong);
         }
-        let mut all = [0u8; 8];
-        all[..bytes.len()].copy_from_slice(bytes);
         Ok(Frame {
             id,
             kind: Kind::Data,
             len: bytes.len() as u8,
-            bytes: all,
+            bytes: padded(bytes),
         })
     }
 
@@ -72,7 +77,22 @@ impl Frame {
             id,
             kind: Kind::Remote,
             len,
-            bytes: [0; 8],
+            bytes: [0; 64],
+        })
+    }
+
+    /// An FD frame of 0 to 8, 12, 16, 20, 24, 32, 48 or 64 bytes.
+    pub fn fd(id: CanId, bytes: &[u8]) -> Result<Frame, BadFdLength>
+        ensures { OkIff result (IsTrue (is_fd_length (length bytes.now))) (record { id = id; payload = Fd bytes.now }) }
+    {
+        if !is_fd_length(bytes.len()) {
+            return Err(BadFdLength);
+        }
+        Ok(Frame {
+            id,
+            kind: Kind::Fd,
+            len: bytes.len() as u8,
+            bytes: padded(bytes),
         })
     }
 
@@ -83,10 +103,12 @@ impl Frame {
         self.id
     }
 
-    /// How many bytes it carries, or asks for: 0 to 8.
+    /// How many bytes it carries, or asks for: 0 to 8, in an FD frame up to 64.
     pub fn len(self) -> u8
         ensures length { result ≡ payload_len self.payload }
-        ensures short { result ≤ 8 }
+        ensures short { result ≤ 64 }
+        ensures classic { is_fd self.payload ≡ false → result ≤ 8 }
+        ensures fd { is_fd self.payload ≡ true → IsTrue (is_fd_length result) }
     {
         self.len
     }
@@ -96,7 +118,7 @@ impl Frame {
         ensures { result.now ≡ payload_bytes self.now.payload }
     {
         match self.kind {
-            Kind::Data => &self.bytes[..self.len as usize],
+            Kind::Data | Kind::Fd => &self.bytes[..self.len as usize],
             Kind::Remote => &[],
         }
     }
@@ -106,8 +128,18 @@ impl Frame {
         ensures { result ≡ is_remote self.payload }
     {
         match self.kind {
-            Kind::Data => false,
             Kind::Remote => true,
+            Kind::Data | Kind::Fd => false,
+        }
+    }
+
+    /// Whether it is an FD frame.
+    pub fn is_fd(self) -> bool
+        ensures { result ≡ is_fd self.payload }
+    {
+        match self.kind {
+            Kind::Fd => true,
+            Kind::Data | Kind::Remote => false,
         }
     }
 
@@ -125,4 +157,22 @@ impl Frame {
         }
         word
     }
+}
+
+/// Whether there are FD frames of so many bytes.
+pub fn is_fd_length(len: usize) -> bool
+    ensures { result ≡ is_fd_length len }
+{
+    matches!(len, 0..=8 | 12 | 16 | 20 | 24 | 32 | 48 | 64)
+}
+
+/// At most 64 bytes, and zeros behind them.
+fn padded(bytes: &[u8]) -> [u8; 64]
+    requires { length bytes.now ≤ 64 }
+    ensures front { take (length bytes.now) result ≡ bytes.now }
+    ensures rest { drop (length bytes.now) result ≡ replicate (64 - length bytes.now) 0 }
+{
+    let mut all = [0; 64];
+    all[..bytes.len()].copy_from_slice(bytes);
+    all
 }

@@ -4,7 +4,7 @@ use crate::frames::Frame;
 /// What a socket receives: a frame from the bus, or an error message frame of its interface.
 #[derive(Debug, Clone, Copy, PartialEq, Eq)]
 pub enum Item {
-    /// A data frame or a remote frame.
+    /// A data frame, a remote frame or an FD frame.
     Data(Frame),
     /// An error message frame.
     Error(ErrorFrame),

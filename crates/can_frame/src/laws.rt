@@ -1,6 +1,6 @@
 ghost use Rattle.std.specs.Prelude.{◌≡◌, ◌≢◌, ◌<◌, ◌≤◌, ◌↔◌, ◌⊎◌, ◌/◌, ◌^◌, ◌++◌, [], ℕ, List, length, true, false, IsTrue};
-ghost use Rattle.can_frame.specs.Frames.{CanFrame, Identifier, IsIdentifier, is_remote};
-ghost use Rattle.can_frame.specs.Frames.Payload.{Data, Remote};
+ghost use Rattle.can_frame.specs.Frames.{CanFrame, Identifier, IsIdentifier, is_remote, word_of};
+ghost use Rattle.can_frame.specs.Frames.Payload.{Data, Remote, Fd};
 ghost use Rattle.can_frame.specs.Arbitration.{arbitration_bits, GoesBefore, goes_before, Outranks, key_of, Wins, DifferInBits};
 ghost use Rattle.can_frame.specs.FrameText.{frame_spelling, IsItem, Spells};
 ghost use Rattle.can_frame.specs.declared.items.Item.{Item as AnItem};
@@ -41,15 +41,29 @@ pub fn one_frame_wins()
         Wins frames v → Wins frames w → v ≡ w }
 {}
 
-/// A data frame outranks the remote frame of its identifier.
+/// A data frame, and an FD frame too, outranks the remote frame of its identifier.
 pub fn data_outranks_remote()
-    ensures { (id : Identifier) (bytes : List ℕ) (len : ℕ) →
+    ensures data { (id : Identifier) (bytes : List ℕ) (len : ℕ) →
         Outranks
         (record { id = id; payload = Data bytes })
         (record { id = id; payload = Remote len }) }
+    ensures fd { (id : Identifier) (bytes : List ℕ) (len : ℕ) →
+        Outranks
+        (record { id = id; payload = Fd bytes })
+        (record { id = id; payload = Remote len }) }
 {}
 
-/// A frame with an identifier of 11 bits, data or remote, outranks each frame with an identifier of 29
+/// An FD frame competes with the bits of the data frame of its identifier.
+pub fn fd_frames_compete_as_data_frames()
+    ensures bits { (id : Identifier) (bytes others : List ℕ) →
+        arbitration_bits (record { id = id; payload = Fd bytes })
+        ≡ arbitration_bits (record { id = id; payload = Data others }) }
+    ensures word { (id : Identifier) (bytes others : List ℕ) →
+        word_of (record { id = id; payload = Fd bytes })
+        ≡ word_of (record { id = id; payload = Data others }) }
+{}
+
+/// A frame with an identifier of 11 bits, of whatever kind, outranks each frame with an identifier of 29
 /// bits that begins with these 11.
 pub fn standard_outranks_extended()
     ensures { (a b : CanFrame) →
@@ -57,8 +71,8 @@ pub fn standard_outranks_extended()
         b.id.number / 2 ^ 18 ≡ a.id.number → Outranks a b }
 {}
 
-/// Frames with equal bits have one identifier, and both or neither are remote: they differ in length and
-/// bytes alone.
+/// Frames with equal bits have one identifier, and both or neither are remote: beside that they differ in length and
+/// bytes, and in whether they are FD frames.
 pub fn equal_bits_mean_one_identifier()
     ensures { (a b : CanFrame) →
         IsIdentifier a.id → IsIdentifier b.id → arbitration_bits a ≡ arbitration_bits b →

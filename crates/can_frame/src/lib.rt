@@ -31,7 +31,7 @@ pub mod texts;
 pub use error_frames::{ClassTooLarge, ErrorFrame};
 pub use frame_guess::guess_item;
 pub use frame_texts::{BadText, FrameText, frame_text, read_frame_text};
-pub use frames::{Frame, TooLong};
+pub use frames::{BadFdLength, Frame, TooLong, is_fd_length};
 pub use identifiers::{CanId, IdTooLarge};
 pub use ifaces::{Iface, IfaceSet};
 pub use items::Item;

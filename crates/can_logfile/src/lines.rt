@@ -6,9 +6,9 @@ use can_attempt::Class;
 use can_bus::Tried;
 use can_frame::{Iface, Item, Moment, Names, Text, frame_text};
 
-/// A line of the log. The longest has 63 bytes: 20 to the space behind the moment, 15 of a name, a space, 25
+/// A line of the log. The longest has 176 bytes: 20 to the space behind the moment, 15 of a name, a space, 139
 /// of a frame and one LF.
-pub type LogLine = Text<64>;
+pub type LogLine = Text<192>;
 
 /// The line of a tried frame.
 pub fn log_line(names: &Names, tried: &Tried) -> LogLine
@@ -27,7 +27,7 @@ pub fn log_line(names: &Names, tried: &Tried) -> LogLine
 
 /// Adds the moment in brackets.
 fn push_stamp(line: &mut LogLine, moment: Moment)
-    requires { length line.old + 19 ≤ 64 }
+    requires { length line.old + 19 ≤ 192 }
     ensures text { line.new ≡ line.old ++ stamp moment }
     ensures len { length line.new ≡ length line.old + 19 }
 {
@@ -42,7 +42,7 @@ fn push_stamp(line: &mut LogLine, moment: Moment)
 /// Adds the interface's name.
 fn push_name(line: &mut LogLine, names: &Names, iface: Iface)
     requires names { AreNames names.now }
-    requires room { length line.old + 15 ≤ 64 }
+    requires room { length line.old + 15 ≤ 192 }
     ensures text { line.new ≡ line.old ++ winner_name names.now iface }
     ensures len { length line.new ≤ length line.old + 15 }
 {
@@ -54,9 +54,9 @@ fn push_name(line: &mut LogLine, names: &Names, iface: Iface)
 
 /// Adds what became of the frame.
 fn push_text(line: &mut LogLine, tried: &Tried)
-    requires { length line.old + 25 ≤ 64 }
+    requires { length line.old + 139 ≤ 192 }
     ensures text { line.new ≡ line.old ++ tried_text tried.now.class tried.now.frame }
-    ensures len { length line.new ≤ length line.old + 25 }
+    ensures len { length line.new ≤ length line.old + 139 }
 {
     match tried.class {
         Class::Done | Class::LastBit => {

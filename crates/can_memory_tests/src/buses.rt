@@ -71,14 +71,19 @@ fn number(bus: &mut RingBus, socket: SocketId) -> Result<Option<u64>, Stop> {
 pub fn calls(alloc: Global) -> Result<(), Stop> {
     let mut bus = RingBus::new(alloc, TWO)?;
     let filters = FilterSet::from_slice(alloc, &[Filter::new(0x124, 0x7FF)?])?;
-    let sender = opened(&mut bus, alloc, 0, 256)?;
-    let receiver = opened(&mut bus, alloc, 1, 65_536)?;
+    crossed(&mut bus, alloc, &filters)
+}
+
+/// Of two frames one passes the filters.
+fn crossed(bus: &mut RingBus, alloc: Global, filters: &FilterSet) -> Result<(), Stop> {
+    let sender = opened(bus, alloc, 0, 256)?;
+    let receiver = opened(bus, alloc, 1, 65_536)?;
     demand(sender == SocketId(0) && receiver == SocketId(1))?;
-    filtered(&mut bus, alloc, receiver, &filters)?;
-    cross(&mut bus, sender, 0x123)?;
-    cross(&mut bus, sender, 0x124)?;
-    demand(number(&mut bus, receiver)? == Some(1))?;
-    demand(number(&mut bus, receiver)? == None && bus.record().len() == 9)
+    filtered(bus, alloc, receiver, filters)?;
+    cross(bus, sender, 0x123)?;
+    cross(bus, sender, 0x124)?;
+    demand(number(bus, receiver)? == Some(1))?;
+    demand(number(bus, receiver)? == None && bus.record().len() == 9)
 }
 
 /// What one event of a list is answered, once memory is not refused any more. Until then nothing may change.
@@ -98,17 +103,21 @@ fn answered(bus: &mut RingBus, alloc: Global, event: &[Event; 1]) -> Result<Repl
 }
 
 pub fn runs(alloc: Global) -> Result<(), Stop> {
+    // The checker has to meet the types inside a reply before a bus gives one.
     let _types: Option<(Item, Received)> = None;
     let mut bus = RingBus::new(alloc, TWO)?;
     let opening = [Event::Open(iface(1)?, 16)];
     demand(answered(&mut bus, alloc, &opening)? == Reply::Opened(SocketId(0)))?;
-    let filters = FilterSet::from_slice(alloc, &[Filter::new(1, 2)?, Filter::new(3, 4)?])?;
-    let setting = Event::SetFilters(SocketId(0), filters);
-    let copy = [setting.try_copy(alloc)?];
-    demand(answered(&mut bus, alloc, &copy)? == Reply::Done)?;
+    demand(answered(&mut bus, alloc, &[setting(alloc)?])? == Reply::Done)?;
     demand(
         answered(&mut bus, alloc, &[Event::Close(SocketId(1))])?
             == Reply::Refused(Refusal::NoSocket),
     )?;
     demand(bus.record().len() == 3)
+}
+
+/// A copy of an event that sets two filters.
+fn setting(alloc: Global) -> Result<Event, Stop> {
+    let filters = FilterSet::from_slice(alloc, &[Filter::new(1, 2)?, Filter::new(3, 4)?])?;
+    Ok(Event::SetFilters(SocketId(0), filters).try_copy(alloc)?)
 }

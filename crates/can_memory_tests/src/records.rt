@@ -43,16 +43,27 @@ fn events_of(alloc: Global, record: &Record) -> Result<Vec<Event>, AllocError> {
 
 pub fn replies(alloc: Global) -> Result<(), Stop> {
     let record = read_record(alloc, TEXT)?;
-    let replies = replies_of(alloc, &events_of(alloc, &record)?, TWO)?;
+    replayed(alloc, &record)?;
+    copied(alloc, &record)
+}
+
+/// The replies to its events are those of the record.
+fn replayed(alloc: Global, record: &Record) -> Result<(), Stop> {
+    let replies = replies_of(alloc, &events_of(alloc, record)?, TWO)?;
     demand(replies.len() == record.len())?;
     for (reply, entry) in replies.iter().zip(&record.to_entries(alloc)?) {
         demand(*reply == entry.reply)?;
     }
+    Ok(())
+}
+
+/// One frame was queued to the second socket, and it comes from the first interface.
+fn copied(alloc: Global, record: &Record) -> Result<(), Stop> {
     let socket = SocketId(1);
     let first = Iface::new(0).ok_or(Stop::Wrong)?;
     let second = Iface::new(1).ok_or(Stop::Wrong)?;
-    demand(queued(alloc, &record, socket)?.len() == 1)?;
-    demand(candidates(alloc, &record, socket)?.len() == 1)?;
-    demand(projected(alloc, &record, first, socket)?.len() == 1)?;
-    demand(projected(alloc, &record, second, socket)?.is_empty())
+    demand(queued(alloc, record, socket)?.len() == 1)?;
+    demand(candidates(alloc, record, socket)?.len() == 1)?;
+    demand(projected(alloc, record, first, socket)?.len() == 1)?;
+    demand(projected(alloc, record, second, socket)?.is_empty())
 }

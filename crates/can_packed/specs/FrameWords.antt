@@ -1,4 +1,4 @@
-use Rattle.std.specs.Prelude.{ℕ, ◌%◌, ◌^◌, nat_le, min, Bool, List, take, if◌then◌else◌}
+use Rattle.std.specs.Prelude.{ℕ, ◌%◌, ◌^◌, nat_le, min, Bool, List, [], take, if◌then◌else◌}
 use Rattle.can_frame.specs.Frames.{Identifier, Payload, CanFrame}
 use Rattle.can_frame.specs.Frames.Payload.{Data, Remote}
 
@@ -15,3 +15,7 @@ payload_in word len bytes = if nat_le (2 ^ 30) (word % 2 ^ 31) then Remote (min 
 -- the frame
 abbrev pub frame_in : ℕ → ℕ → List ℕ → CanFrame
 frame_in word len bytes = record { id = identifier_in word; payload = payload_in word len bytes }
+
+-- a frame of nothing
+abbrev pub no_frame : CanFrame
+no_frame = record { id = record { extended = Bool.false; number = 0 }; payload = Data [] }

@@ -1,6 +1,9 @@
-use Rattle.std.specs.Prelude.{ℕ, ◌/◌, ◌%◌, ◌^◌, ◌==◌, List, Some, None, if◌then◌else◌}
+use Rattle.std.specs.Prelude.{ℕ, ◌+◌, ◌/◌, ◌%◌, ◌^◌, ◌==◌, ◌≤◌, List, [], ◌∷◌, get_or, Some, None, if◌then◌else◌}
+use Rattle.std.specs.List.{All}
+use Rattle.can_frame.specs.Frames.{CanFrame, is_fd}
 use Rattle.can_frame.specs.Sets.{no_ifaces}
 use Rattle.can_frame.specs.declared.ifaces.IfaceSet.{IfaceSet}
+use Rattle.can_frame.specs.declared.items.Item.{Item}
 use Rattle.can_frame.specs.declared.items.Item.TheVariants as item
 use Rattle.can_event.specs.declared.events.Entry.{Entry}
 use Rattle.can_event.specs.declared.events.Event.{Event}
@@ -10,14 +13,20 @@ use Rattle.can_event.specs.declared.events.Reply.TheVariants as reply
 use Rattle.can_event.specs.declared.events.Tried.{Tried}
 use Rattle.can_packed.specs.declared.kept.Kept.{Kept}
 use Rattle.can_packed.specs.declared.kept.Kept.TheVariants as kept
-use Rattle.can_packed.specs.FrameWords.{frame_in}
+use Rattle.can_packed.specs.declared.kept.KeptFrame.{KeptFrame}
+use Rattle.can_packed.specs.declared.kept.KeptFrame.TheVariants as place
+use Rattle.can_packed.specs.FrameWords.{frame_in, no_frame}
 use Rattle.can_packed.specs.Moments.{moment_in}
 use Rattle.can_packed.specs.Verdicts.{class_in, verdict_in}
 
--- The entry that is kept in 32 bytes.
+-- The entry that is kept in 32 bytes, beside a list of FD frames.
 
 abbrev pub both : Event → Reply → Entry
 both e r = record { event = e; reply = r }
+
+-- the FD frame at a place of the list; no entry of a record has a place past its end
+abbrev pub fd_frame_at : List CanFrame → ℕ → CanFrame
+fd_frame_at frames place = get_or frames place no_frame
 
 -- the moment, winner, length of the frame and whether the winner went off stand in one number: 54, 4, 4 and 1 bits
 abbrev pub stamp_moment : ℕ → ℕ
@@ -37,27 +46,73 @@ abbrev pub tried_in : ℕ → ℕ → ℕ → IfaceSet → IfaceSet → List ℕ
 tried_in end word number accepted restarted bytes stamp = record { moment = stamp_moment stamp; winner = stamp_winner stamp; number = number; frame = frame_in word (stamp_len stamp) bytes; class = class_in (end % 4); accepted = accepted; off = stamp_off stamp; restarted = restarted }
 
 -- the entry
-abbrev pub entry_in : Kept → Entry
-entry_in (kept.Opened i capacity s) = both (Open i capacity) (reply.Opened s)
-entry_in (kept.OpenRefused i capacity why) = both (Open i capacity) (reply.Refused why)
-entry_in (kept.Closed s counts) = both (Close s) (reply.Closed counts)
-entry_in (kept.CloseRefused s why) = both (Close s) (reply.Refused why)
-entry_in (kept.OptionSet s option) = both (SetOption s option) reply.Done
-entry_in (kept.OptionRefused s option why) = both (SetOption s option) (reply.Refused why)
-entry_in (kept.Sent s frame number) = both (Send s frame) (reply.Sent number)
-entry_in (kept.SendRefused s frame why) = both (Send s frame) (reply.Refused why)
-entry_in (kept.NothingReceived s) = both (Receive s) (reply.Received None)
-entry_in (kept.FrameReceived from len s word number bytes m) = both (Receive s) (reply.Received (Some (record { item = item.Data (frame_in word len bytes); from = from; number = number; moment = m })))
-entry_in (kept.ErrorReceived from s number error m) = both (Receive s) (reply.Received (Some (record { item = item.Error error; from = from; number = number; moment = m })))
-entry_in (kept.ReceiveRefused s why) = both (Receive s) (reply.Refused why)
-entry_in (kept.Idle restarted v m) = both (Attempt m v) (reply.Idle restarted)
-entry_in (kept.Tried end named word number accepted restarted bytes stamp) = both (Attempt (stamp_moment stamp) (verdict_in (end / 4) named)) (reply.Tried (tried_in end word number accepted restarted bytes stamp))
-entry_in (kept.AttemptRefused v m why) = both (Attempt m v) (reply.Refused why)
-entry_in (kept.Restarted i m) = both (Restart i m) reply.Done
-entry_in (kept.RestartRefused i m why) = both (Restart i m) (reply.Refused why)
-entry_in (kept.Wide entry) = entry.value
+abbrev pub entry_in : List CanFrame → Kept → Entry
+entry_in frames (kept.Opened i capacity s) = both (Open i capacity) (reply.Opened s)
+entry_in frames (kept.OpenRefused i capacity why) = both (Open i capacity) (reply.Refused why)
+entry_in frames (kept.Closed s counts) = both (Close s) (reply.Closed counts)
+entry_in frames (kept.CloseRefused s why) = both (Close s) (reply.Refused why)
+entry_in frames (kept.OptionSet s option) = both (SetOption s option) reply.Done
+entry_in frames (kept.OptionRefused s option why) = both (SetOption s option) (reply.Refused why)
+entry_in frames (kept.Sent len s word number bytes) = both (Send s (frame_in word len bytes)) (reply.Sent number)
+entry_in frames (kept.FdSent s number place) = both (Send s (fd_frame_at frames place)) (reply.Sent number)
+entry_in frames (kept.SendRefused why len s word bytes) = both (Send s (frame_in word len bytes)) (reply.Refused why)
+entry_in frames (kept.FdSendRefused why s place) = both (Send s (fd_frame_at frames place)) (reply.Refused why)
+entry_in frames (kept.NothingReceived s) = both (Receive s) (reply.Received None)
+entry_in frames (kept.FrameReceived from len s word number bytes m) = both (Receive s) (reply.Received (Some (record { item = item.Data (frame_in word len bytes); from = from; number = number; moment = m })))
+entry_in frames (kept.FdReceived from s number place m) = both (Receive s) (reply.Received (Some (record { item = item.Data (fd_frame_at frames place); from = from; number = number; moment = m })))
+entry_in frames (kept.ErrorReceived from s number error m) = both (Receive s) (reply.Received (Some (record { item = item.Error error; from = from; number = number; moment = m })))
+entry_in frames (kept.ReceiveRefused s why) = both (Receive s) (reply.Refused why)
+entry_in frames (kept.Idle restarted v m) = both (Attempt m v) (reply.Idle restarted)
+entry_in frames (kept.Tried end named word number accepted restarted bytes stamp) = both (Attempt (stamp_moment stamp) (verdict_in (end / 4) named)) (reply.Tried (tried_in end word number accepted restarted bytes stamp))
+entry_in frames (kept.FdTried end winner number named accepted off restarted place m) = both (Attempt m (verdict_in (end / 4) named)) (reply.Tried (record { moment = m; winner = winner; number = number; frame = fd_frame_at frames place; class = class_in (end % 4); accepted = accepted; off = off; restarted = restarted }))
+entry_in frames (kept.AttemptRefused v m why) = both (Attempt m v) (reply.Refused why)
+entry_in frames (kept.Restarted i m) = both (Restart i m) reply.Done
+entry_in frames (kept.RestartRefused i m why) = both (Restart i m) (reply.Refused why)
+entry_in frames (kept.Wide entry) = entry.value
 
 -- it has no memory of its own
 abbrev pub IsSmall : Kept → Type 0
 IsSmall (kept.Wide entry) = ⊥
 IsSmall _ = Unit {0}
+
+-- how many FD frames the list has to have for its place to be within it
+abbrev pub frames_needed : Kept → ℕ
+frames_needed (kept.FdSent s number place) = place + 1
+frames_needed (kept.FdSendRefused why s place) = place + 1
+frames_needed (kept.FdReceived from s number place m) = place + 1
+frames_needed (kept.FdTried end winner number named accepted off restarted place m) = place + 1
+frames_needed _ = 0
+
+-- the places of all are within a list of so many FD frames
+abbrev pub AreWithin : ℕ → List Kept → Type 0
+AreWithin count = All (λ k. frames_needed k ≤ count)
+
+-- the frame that is kept
+abbrev pub frame_kept : List CanFrame → KeptFrame → CanFrame
+frame_kept frames (place.Words word len bytes) = frame_in word len bytes
+frame_kept frames (place.Place at) = fd_frame_at frames at
+
+-- how many FD frames the list has to have for its place to be within it
+abbrev pub frames_needed_for : KeptFrame → ℕ
+frames_needed_for (place.Words word len bytes) = 0
+frames_needed_for (place.Place at) = at + 1
+
+-- its length is at most 8
+abbrev pub IsShort : KeptFrame → Type 0
+IsShort (place.Words word len bytes) = len ≤ 8
+IsShort (place.Place at) = Unit {0}
+
+-- what a frame adds to the list of FD frames
+abbrev pub fd_frames_of : CanFrame → List CanFrame
+fd_frames_of frame = if is_fd frame.payload then frame ∷ [] else []
+
+abbrev pub fd_frames_of_item : Item → List CanFrame
+fd_frames_of_item (item.Data frame) = fd_frames_of frame
+fd_frames_of_item (item.Error error) = []
+
+-- what an entry adds to that list
+abbrev pub fd_frames : Event → Reply → List CanFrame
+fd_frames (Send s frame) r = fd_frames_of frame
+fd_frames (Receive s) (reply.Received (Some r)) = fd_frames_of_item r.item
+fd_frames (Attempt m v) (reply.Tried t) = fd_frames_of t.frame
+fd_frames _ _ = []

@@ -3,7 +3,9 @@ pub mod FrameWords
 pub mod Moments
 pub mod Verdicts
 pub mod Kept
+pub mod Packing
 pub mod Looked
+pub mod Stored
 pub mod Records
 pub use Rattle.can_event.specs.Events
 pub use Rattle.can_frame.specs.Frames

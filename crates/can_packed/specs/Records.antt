@@ -1,7 +1,13 @@
-use Rattle.std.specs.Prelude.{ℕ, List}
+use Rattle.std.specs.Prelude.{ℕ, Bool, List}
 use Rattle.can_event.specs.declared.events.Entry.{Entry}
 
 -- entries, the oldest first, and how many there is memory for
 pub record PackedEntries : Type 0 where
   pub entries : List Entry
   pub room : ℕ
+
+-- the same of a list that grows, and whether there is memory for a wide entry
+pub record ListedEntries : Type 0 where
+  pub entries : List Entry
+  pub room : ℕ
+  pub spare : Bool

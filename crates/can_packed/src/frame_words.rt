@@ -1,4 +1,5 @@
-ghost use Rattle.std.specs.Prelude.{◌≡◌, ◌≤◌, ◌^◌, length, take};
+ghost use Rattle.std.specs.Prelude.{◌≡◌, ◌≤◌, ◌^◌, false, length, take};
+ghost use Rattle.can_frame.specs.Frames.{is_fd};
 ghost use Rattle.can_packed.specs.FrameWords.{identifier_in, frame_in};
 ghost use Rattle.can_packed.specs.Moments.{moment_in};
 
@@ -28,10 +29,11 @@ fn identifier_in(word: u32) -> CanId
     }
 }
 
-/// The word, the length and the eight bytes of a frame.
+/// The word, the length and the eight bytes of a frame that is no FD frame.
 #[inline(always)]
-pub fn frame_words(frame: Frame) -> (u32, u8, [u8; 8])
-    ensures back { frame_in result.0 result.1 result.2 ≡ frame }
+pub fn frame_words(frame: &Frame) -> (u32, u8, [u8; 8])
+    requires classic { is_fd frame.now.payload ≡ false }
+    ensures back { frame_in result.0 result.1 result.2 ≡ frame.now }
     ensures short { result.1 ≤ 8 }
 {
     // Its number is within its bits.

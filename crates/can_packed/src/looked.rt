@@ -1,6 +1,9 @@
 ghost use Rattle.std.specs.Prelude.{◌≡◌};
+ghost use Rattle.can_packed.specs.Stored.{entry_stored, IsStored};
 
-use can_event::{Entry, Event, Reply};
+use crate::stored::Stored;
+use crate::unpacking::{event_in, reply_in};
+use can_event::Entry;
 use std::marker::Model;
 
 /// An entry that is looked at: made for the look, or borrowed from where it is kept. Contracts see the entry.
@@ -26,22 +29,19 @@ impl<'a> Model for Looked<'a> {
 }
 
 impl<'a> Looked<'a> {
-    /// An entry of these parts.
-    pub(crate) fn made(event: Event, reply: Reply) -> Looked<'a>
-        ensures { result ≡ record { event = event; reply = reply } }
+    /// The entry that is stored: made of what is packed, or borrowed.
+    pub fn of(stored: &Stored<'a>) -> Looked<'a>
+        requires { IsStored stored.now }
+        ensures { result ≡ entry_stored stored.now }
     {
-        Looked {
-            sight: Sight::Made(Entry { event, reply }),
-        }
-    }
-
-    /// An entry that is kept elsewhere.
-    pub fn lent(entry: &'a Entry) -> Looked<'a>
-        ensures { result ≡ entry.now }
-    {
-        Looked {
-            sight: Sight::Lent(entry),
-        }
+        let sight = match stored {
+            Stored::Packed(frames, kept) => Sight::Made(Entry {
+                event: event_in(frames, kept),
+                reply: reply_in(frames, kept),
+            }),
+            Stored::Whole(entry) => Sight::Lent(entry),
+        };
+        Looked { sight }
     }
 
     /// The entry.

@@ -1,187 +1,226 @@
-ghost use Rattle.std.specs.Prelude.{◌≡◌, ◌≤◌, ◌/◌, ◌%◌, is_some, not, IfSome, IsTrue, Some, None, if◌then◌else◌};
+ghost use Rattle.std.specs.Prelude.{◌≡◌, ◌<◌, ◌≤◌, ◌/◌, ◌%◌, ◌++◌, List, length, vec_capacity, false, IsTrue, Some};
 ghost use Rattle.can_event.specs.declared.events.Event.TheVariants as asked;
 ghost use Rattle.can_event.specs.declared.events.Reply.TheVariants as answer;
-ghost use Rattle.can_frame.specs.declared.items.Item.TheVariants as item;
-ghost use Rattle.can_packed.specs.Kept.{entry_in, stamp_moment, stamp_winner, stamp_len, stamp_off};
+ghost use Rattle.can_frame.specs.Frames.{CanFrame};
+ghost use Rattle.can_packed.specs.Kept.{entry_in, frames_needed, frame_kept, frames_needed_for, fd_frames, fd_frames_of, fd_frames_of_item, IsShort, stamp_moment, stamp_winner, stamp_len, stamp_off};
 ghost use Rattle.can_packed.specs.Verdicts.{class_in, verdict_in, verdict_set};
 ghost use Rattle.can_packed.specs.Wide.{is_wide, is_large, is_off_alone};
 
 use crate::frame_words::frame_words;
-use crate::kept::Kept;
+use crate::kept::{Kept, KeptFrame};
 use crate::verdicts::{class_number, verdict_number, verdict_set};
 use can_attempt::Class;
 use can_event::{Event, Opt, Received, Reply, SocketId, Tried};
 use can_fault::Verdict;
 use can_frame::{Frame, Iface, IfaceSet, Item, Moment};
 
-/// An entry that fits in 32 bytes, and `None` exactly where it is wide.
+/// An entry that is not wide, in 32 bytes. Its FD frame, if it has one, goes to the end of the list, where there is room.
 #[inline(always)]
-pub fn packed(event: &Event, reply: &Reply) -> Option<Kept>
-    ensures entry { IfSome result (λ k. entry_in k ≡ record { event = event.now; reply = reply.now }) }
-    ensures wide { is_some result ≡ not (is_wide event.now reply.now) }
+pub fn packed(frames: &mut Vec<Frame>, event: &Event, reply: &Reply) -> Kept
+    requires fits { is_wide event.now reply.now ≡ false }
+    requires room { length frames.old.items < vec_capacity frames.old }
+    ensures entry { entry_in frames.new.items result ≡ record { event = event.now; reply = reply.now } }
+    ensures within { frames_needed result ≤ length frames.new.items }
+    ensures frames { frames.new.items ≡ frames.old.items ++ fd_frames event.now reply.now }
+    ensures memory { vec_capacity frames.old ≤ vec_capacity frames.new }
 {
     match event {
         Event::Open(iface, capacity) => opened(*iface, *capacity, reply),
         Event::Close(id) => closed(*id, reply),
-        Event::SetFilters(_, _) => None,
+        // The filters of a socket are wide.
+        Event::SetFilters(_, _) => unreachable!(),
         Event::SetOption(id, option) => option_set(*id, *option, reply),
-        Event::Send(id, frame) => sent(*id, *frame, reply),
-        Event::Receive(id) => received(*id, reply),
-        Event::Attempt(moment, verdict) => attempted(*moment, *verdict, reply),
+        Event::Send(id, frame) => sent(frames, *id, frame, reply),
+        Event::Receive(id) => received(frames, *id, reply),
+        Event::Attempt(moment, verdict) => attempted(frames, *moment, *verdict, reply),
         Event::Restart(iface, moment) => restarted(*iface, *moment, reply),
     }
 }
 
 #[inline(always)]
-fn opened(iface: Iface, capacity: u32, reply: &Reply) -> Option<Kept>
-    ensures entry { IfSome result (λ k. entry_in k ≡ record { event = asked.Open iface capacity; reply = reply.now }) }
-    ensures wide { is_some result ≡ not (is_wide (asked.Open iface capacity) reply.now) }
+fn opened(iface: Iface, capacity: u32, reply: &Reply) -> Kept
+    requires fits { is_wide (asked.Open iface capacity) reply.now ≡ false }
+    ensures entry { (fs : List CanFrame) → entry_in fs result ≡ record { event = asked.Open iface capacity; reply = reply.now } }
+    ensures within { frames_needed result ≡ 0 }
 {
     match reply {
-        Reply::Opened(id) => Some(Kept::Opened(iface, capacity, *id)),
-        Reply::Refused(why) => Some(Kept::OpenRefused(iface, capacity, *why)),
-        _ => None,
+        Reply::Opened(id) => Kept::Opened(iface, capacity, *id),
+        Reply::Refused(why) => Kept::OpenRefused(iface, capacity, *why),
+        _ => unreachable!(),
     }
 }
 
 #[inline(always)]
-fn closed(id: SocketId, reply: &Reply) -> Option<Kept>
-    ensures entry { IfSome result (λ k. entry_in k ≡ record { event = asked.Close id; reply = reply.now }) }
-    ensures wide { is_some result ≡ not (is_wide (asked.Close id) reply.now) }
+fn closed(id: SocketId, reply: &Reply) -> Kept
+    requires fits { is_wide (asked.Close id) reply.now ≡ false }
+    ensures entry { (fs : List CanFrame) → entry_in fs result ≡ record { event = asked.Close id; reply = reply.now } }
+    ensures within { frames_needed result ≡ 0 }
 {
     match reply {
-        Reply::Closed(counts) => Some(Kept::Closed(id, *counts)),
-        Reply::Refused(why) => Some(Kept::CloseRefused(id, *why)),
-        _ => None,
+        Reply::Closed(counts) => Kept::Closed(id, *counts),
+        Reply::Refused(why) => Kept::CloseRefused(id, *why),
+        _ => unreachable!(),
     }
 }
 
 #[inline(always)]
-fn option_set(id: SocketId, option: Opt, reply: &Reply) -> Option<Kept>
-    ensures entry { IfSome result (λ k. entry_in k ≡ record { event = asked.SetOption id option; reply = reply.now }) }
-    ensures wide { is_some result ≡ not (is_wide (asked.SetOption id option) reply.now) }
+fn option_set(id: SocketId, option: Opt, reply: &Reply) -> Kept
+    requires fits { is_wide (asked.SetOption id option) reply.now ≡ false }
+    ensures entry { (fs : List CanFrame) → entry_in fs result ≡ record { event = asked.SetOption id option; reply = reply.now } }
+    ensures within { frames_needed result ≡ 0 }
 {
     match reply {
-        Reply::Done => Some(Kept::OptionSet(id, option)),
-        Reply::Refused(why) => Some(Kept::OptionRefused(id, option, *why)),
-        _ => None,
+        Reply::Done => Kept::OptionSet(id, option),
+        Reply::Refused(why) => Kept::OptionRefused(id, option, *why),
+        _ => unreachable!(),
     }
 }
 
 #[inline(always)]
-fn sent(id: SocketId, frame: Frame, reply: &Reply) -> Option<Kept>
-    ensures entry { IfSome result (λ k. entry_in k ≡ record { event = asked.Send id frame; reply = reply.now }) }
-    ensures wide { is_some result ≡ not (is_wide (asked.Send id frame) reply.now) }
+fn restarted(iface: Iface, moment: Moment, reply: &Reply) -> Kept
+    requires fits { is_wide (asked.Restart iface moment) reply.now ≡ false }
+    ensures entry { (fs : List CanFrame) → entry_in fs result ≡ record { event = asked.Restart iface moment; reply = reply.now } }
+    ensures within { frames_needed result ≡ 0 }
 {
     match reply {
-        Reply::Sent(number) => Some(Kept::Sent(id, frame, small(*number)?)),
-        Reply::Refused(why) => Some(Kept::SendRefused(id, frame, *why)),
-        _ => None,
+        Reply::Done => Kept::Restarted(iface, moment),
+        Reply::Refused(why) => Kept::RestartRefused(iface, moment, *why),
+        _ => unreachable!(),
     }
 }
 
 #[inline(always)]
-fn received(id: SocketId, reply: &Reply) -> Option<Kept>
-    ensures entry { IfSome result (λ k. entry_in k ≡ record { event = asked.Receive id; reply = reply.now }) }
-    ensures wide { is_some result ≡ not (is_wide (asked.Receive id) reply.now) }
+fn sent(frames: &mut Vec<Frame>, id: SocketId, frame: &Frame, reply: &Reply) -> Kept
+    requires fits { is_wide (asked.Send id frame.now) reply.now ≡ false }
+    requires room { length frames.old.items < vec_capacity frames.old }
+    ensures entry { entry_in frames.new.items result ≡ record { event = asked.Send id frame.now; reply = reply.now } }
+    ensures within { frames_needed result ≤ length frames.new.items }
+    ensures frames { frames.new.items ≡ frames.old.items ++ fd_frames (asked.Send id frame.now) reply.now }
+    ensures memory { vec_capacity frames.old ≤ vec_capacity frames.new }
 {
-    match reply {
-        Reply::Received(Some(received)) => item_received(id, *received),
-        Reply::Received(None) => Some(Kept::NothingReceived(id)),
-        Reply::Refused(why) => Some(Kept::ReceiveRefused(id, *why)),
-        _ => None,
-    }
-}
-
-#[inline(always)]
-fn item_received(id: SocketId, received: Received) -> Option<Kept>
-    ensures entry { IfSome result (λ k. entry_in k ≡ record { event = asked.Receive id; reply = answer.Received (Some received) }) }
-    ensures wide { is_some result ≡ not (is_large received.number) }
-{
-    let number = small(received.number)?;
-    Some(match &received.item {
-        Item::Data(frame) => frame_received(id, &received, number, *frame),
-        Item::Error(error) => {
-            Kept::ErrorReceived(received.from, id, number, *error, received.moment)
+    let kept = kept_frame(frames, frame);
+    match (reply, kept) {
+        (Reply::Sent(number), KeptFrame::Words(word, len, bytes)) => {
+            Kept::Sent(len, id, word, *number as u32, bytes)
         }
-    })
+        (Reply::Sent(number), KeptFrame::Place(place)) => Kept::FdSent(id, *number as u32, place),
+        (Reply::Refused(why), KeptFrame::Words(word, len, bytes)) => {
+            Kept::SendRefused(*why, len, id, word, bytes)
+        }
+        (Reply::Refused(why), KeptFrame::Place(place)) => Kept::FdSendRefused(*why, id, place),
+        _ => unreachable!(),
+    }
 }
 
 #[inline(always)]
-fn frame_received(id: SocketId, received: &Received, number: u32, frame: Frame) -> Kept
-    ensures entry { entry_in result ≡ record { event = asked.Receive id; reply = answer.Received (Some (record received.now { item = item.Data frame; number = number })) } }
-{
-    let (word, len, bytes) = frame_words(frame);
-    Kept::FrameReceived(received.from, len, id, word, number, bytes, received.moment)
-}
-
-#[inline(always)]
-fn attempted(moment: Moment, verdict: Verdict, reply: &Reply) -> Option<Kept>
-    ensures entry { IfSome result (λ k. entry_in k ≡ record { event = asked.Attempt moment verdict; reply = reply.now }) }
-    ensures wide { is_some result ≡ not (is_wide (asked.Attempt moment verdict) reply.now) }
+fn received(frames: &mut Vec<Frame>, id: SocketId, reply: &Reply) -> Kept
+    requires fits { is_wide (asked.Receive id) reply.now ≡ false }
+    requires room { length frames.old.items < vec_capacity frames.old }
+    ensures entry { entry_in frames.new.items result ≡ record { event = asked.Receive id; reply = reply.now } }
+    ensures within { frames_needed result ≤ length frames.new.items }
+    ensures frames { frames.new.items ≡ frames.old.items ++ fd_frames (asked.Receive id) reply.now }
+    ensures memory { vec_capacity frames.old ≤ vec_capacity frames.new }
 {
     match reply {
-        Reply::Idle(restarted) => Some(Kept::Idle(*restarted, verdict, moment)),
-        Reply::Tried(tried) => tried_at(moment, verdict, *tried),
-        Reply::Refused(why) => Some(Kept::AttemptRefused(verdict, moment, *why)),
-        _ => None,
+        Reply::Received(Some(received)) => item_received(frames, id, received),
+        Reply::Received(None) => Kept::NothingReceived(id),
+        Reply::Refused(why) => Kept::ReceiveRefused(id, *why),
+        _ => unreachable!(),
     }
 }
 
 #[inline(always)]
-fn tried_at(moment: Moment, verdict: Verdict, tried: Tried) -> Option<Kept>
-    ensures entry { IfSome result (λ k. entry_in k ≡ record { event = asked.Attempt moment verdict; reply = answer.Tried tried }) }
-    ensures wide { is_some result ≡ not (is_wide (asked.Attempt moment verdict) (answer.Tried tried)) }
+fn item_received(frames: &mut Vec<Frame>, id: SocketId, received: &Received) -> Kept
+    requires fits { is_large received.now.number ≡ false }
+    requires room { length frames.old.items < vec_capacity frames.old }
+    ensures entry { entry_in frames.new.items result ≡ record { event = asked.Receive id; reply = answer.Received (Some received.now) } }
+    ensures within { frames_needed result ≤ length frames.new.items }
+    ensures frames { frames.new.items ≡ frames.old.items ++ fd_frames_of_item received.now.item }
+    ensures memory { vec_capacity frames.old ≤ vec_capacity frames.new }
 {
-    let number = small(tried.number)?;
-    if tried.moment != moment {
-        return None;
-    }
-    if !is_off_alone(tried.winner, tried.off) {
-        return None;
-    }
-    let (word, len, bytes) = frame_words(tried.frame);
-    Some(Kept::Tried(
-        end_of(tried.class, verdict),
-        verdict_set(verdict),
-        word,
+    let Received {
+        from,
         number,
-        tried.accepted,
-        tried.restarted,
-        bytes,
-        stamp_of(moment, tried.winner, len, tried.off),
-    ))
+        moment,
+        ..
+    } = *received;
+    let number = number as u32;
+    match &received.item {
+        Item::Data(frame) => match kept_frame(frames, frame) {
+            KeptFrame::Words(word, len, bytes) => {
+                Kept::FrameReceived(from, len, id, word, number, bytes, moment)
+            }
+            KeptFrame::Place(place) => Kept::FdReceived(from, id, number, place, moment),
+        },
+        Item::Error(error) => Kept::ErrorReceived(from, id, number, *error, moment),
+    }
 }
 
 #[inline(always)]
-fn restarted(iface: Iface, moment: Moment, reply: &Reply) -> Option<Kept>
-    ensures entry { IfSome result (λ k. entry_in k ≡ record { event = asked.Restart iface moment; reply = reply.now }) }
-    ensures wide { is_some result ≡ not (is_wide (asked.Restart iface moment) reply.now) }
+fn attempted(frames: &mut Vec<Frame>, moment: Moment, verdict: Verdict, reply: &Reply) -> Kept
+    requires fits { is_wide (asked.Attempt moment verdict) reply.now ≡ false }
+    requires room { length frames.old.items < vec_capacity frames.old }
+    ensures entry { entry_in frames.new.items result ≡ record { event = asked.Attempt moment verdict; reply = reply.now } }
+    ensures within { frames_needed result ≤ length frames.new.items }
+    ensures frames { frames.new.items ≡ frames.old.items ++ fd_frames (asked.Attempt moment verdict) reply.now }
+    ensures memory { vec_capacity frames.old ≤ vec_capacity frames.new }
 {
     match reply {
-        Reply::Done => Some(Kept::Restarted(iface, moment)),
-        Reply::Refused(why) => Some(Kept::RestartRefused(iface, moment, *why)),
-        _ => None,
+        Reply::Idle(restarted) => Kept::Idle(*restarted, verdict, moment),
+        Reply::Tried(tried) => tried_at(frames, moment, verdict, tried),
+        Reply::Refused(why) => Kept::AttemptRefused(verdict, moment, *why),
+        _ => unreachable!(),
     }
 }
 
-/// A number below 2^32.
 #[inline(always)]
-fn small(number: u64) -> Option<u32>
-    ensures { result ≡ (if is_large number then None else Some number) }
+fn tried_at(frames: &mut Vec<Frame>, moment: Moment, verdict: Verdict, tried: &Tried) -> Kept
+    requires fits { is_wide (asked.Attempt moment verdict) (answer.Tried tried.now) ≡ false }
+    requires room { length frames.old.items < vec_capacity frames.old }
+    ensures entry { entry_in frames.new.items result ≡ record { event = asked.Attempt moment verdict; reply = answer.Tried tried.now } }
+    ensures within { frames_needed result ≤ length frames.new.items }
+    ensures frames { frames.new.items ≡ frames.old.items ++ fd_frames_of tried.now.frame }
+    ensures memory { vec_capacity frames.old ≤ vec_capacity frames.new }
 {
-    if number >= 0x1_0000_0000 {
-        return None;
+    let end = end_of(tried.class, verdict);
+    let named = verdict_set(verdict);
+    let number = tried.number as u32;
+    let Tried {
+        winner,
+        accepted,
+        off,
+        restarted,
+        ..
+    } = *tried;
+    match kept_frame(frames, &tried.frame) {
+        KeptFrame::Words(word, len, bytes) => {
+            let stamp = stamp_of(moment, winner, len, off);
+            Kept::Tried(end, named, word, number, accepted, restarted, bytes, stamp)
+        }
+        KeptFrame::Place(place) => Kept::FdTried(
+            end, winner, number, named, accepted, off, restarted, place, moment,
+        ),
     }
-    Some(number as u32)
 }
 
-/// Whether at most the winner went bus off.
+/// How a frame is kept. An FD frame goes to the end of the list.
 #[inline(always)]
-fn is_off_alone(winner: Iface, off: IfaceSet) -> bool
-    ensures { result ≡ is_off_alone winner off }
+fn kept_frame(frames: &mut Vec<Frame>, frame: &Frame) -> KeptFrame
+    requires room { length frames.old.items < vec_capacity frames.old }
+    ensures frame { frame_kept frames.new.items result ≡ frame.now }
+    ensures short { IsShort result }
+    ensures within { frames_needed_for result ≤ length frames.new.items }
+    ensures frames { frames.new.items ≡ frames.old.items ++ fd_frames_of frame.now }
+    ensures memory { vec_capacity frames.old ≤ vec_capacity frames.new }
 {
-    off.0 == 0 || off.0 == 1 << winner.number()
+    if frame.is_fd() {
+        let place = frames.len();
+        let _ = frames.push(*frame);
+        KeptFrame::Place(place)
+    } else {
+        let (word, len, bytes) = frame_words(frame);
+        KeptFrame::Words(word, len, bytes)
+    }
 }
 
 /// The class of an attempt and its verdict as one number.

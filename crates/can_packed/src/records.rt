@@ -1,33 +1,69 @@
-ghost use Rattle.std.specs.Prelude.{◌≡◌, ◌<◌, ◌≤◌, [], ◌∷◌, ◌++◌, length, slice_get, IfOk};
+ghost use Rattle.std.specs.Prelude.{◌≡◌, ◌<◌, ◌≤◌, ◌+◌, false, [], ◌∷◌, ◌++◌, length, slice_get, IfOk, IfSome, IsOk, OnOk};
+ghost use Rattle.std.specs.Option.{option_map};
+ghost use Rattle.can_packed.specs.Kept.{entry_in, frames_needed};
+ghost use Rattle.can_packed.specs.Stored.{entry_stored, IsStored};
+ghost use Rattle.can_packed.specs.Wide.{is_wide};
 
+use crate::kept::Kept;
 use crate::looked::Looked;
-use crate::packed::Packed;
+use crate::packing::packed;
+use crate::stored::Stored;
+use can_event::{Entry, Event, Reply};
+use can_frame::Frame;
 use std::alloc::{AllocError, Global};
 use std::marker::Model;
 
-/// A list of entries, the oldest first, of 32 bytes each, with memory for all of them from the start.
+/// A list of entries, the oldest first, of 32 bytes each. Memory is taken before an entry comes.
+///
+/// FD frames stand in a second list, for which memory is taken as well: one for each entry more. Where there are none, that
+/// memory is never touched, and costs nothing but addresses.
 #[derive(Drop)]
 pub struct PackedRecord {
-    entries: Vec<Packed>,
+    entries: Vec<Kept>,
+    frames: Vec<Frame>,
 }
 
 impl Model for PackedRecord {
-    ghost use Rattle.std.specs.Prelude.{vec_capacity};
     ghost use Rattle.can_packed.specs.Records.{PackedEntries};
 
     ghost Value = { PackedEntries };
 
-    ghost view = { λ r. record { entries = r.entries.items; room = vec_capacity r.entries } };
+    ghost use Rattle.can_packed.specs.Packing.{packed_entries, IsPacked};
+
+    ghost view = { packed_entries };
+
+    ghost invariant = { IsPacked };
 }
 
 impl PackedRecord {
+    /// No entries, and no memory.
+    pub fn new(alloc: Global) -> PackedRecord
+        ensures { result.entries ≡ [] }
+    {
+        PackedRecord {
+            entries: Vec::new(alloc),
+            frames: Vec::new(alloc),
+        }
+    }
+
     /// No entries, and memory for so many.
     pub fn with_capacity(alloc: Global, limit: u32) -> Result<PackedRecord, AllocError>
         ensures empty { IfOk result (λ r. r.entries ≡ []) }
         ensures room { IfOk result (λ r. limit ≤ r.room) }
     {
         let entries = Vec::with_capacity(alloc, limit as usize)?;
-        Ok(PackedRecord { entries })
+        let frames = Vec::with_capacity(alloc, limit as usize)?;
+        Ok(PackedRecord { entries, frames })
+    }
+
+    /// Takes memory for so many entries more, and for as many FD frames, where it is not there yet.
+    pub fn reserve(&mut self, more: usize) -> Result<(), AllocError>
+        ensures entries { self.new.entries ≡ self.old.entries }
+        ensures room { OnOk result (length self.old.entries + more ≤ self.new.room) }
+        ensures enough { length self.old.entries + more ≤ self.old.room → IsOk result }
+    {
+        self.entries.reserve(more)?;
+        self.frames.reserve(more)
     }
 
     /// How many entries there are.
@@ -37,23 +73,57 @@ impl PackedRecord {
         self.entries.len()
     }
 
-    /// Adds an entry. No memory is taken.
+    /// Adds an event with its reply that is not wide. No memory is taken.
     #[inline(always)]
-    pub fn push(&mut self, packed: Packed)
+    pub fn push(&mut self, event: Event, reply: Reply)
         requires room { length self.old.entries < self.old.room }
-        ensures more { self.new.entries ≡ self.old.entries ++ packed ∷ [] }
+        requires fits { is_wide event reply ≡ false }
+        ensures more { self.new.entries ≡ self.old.entries ++ record { event = event; reply = reply } ∷ [] }
         ensures room { self.old.room ≤ self.new.room }
     {
-        let _ = self.entries.push(packed);
+        let kept = packed(&mut self.frames, &event, &reply);
+        let _ = self.entries.push(kept);
     }
 
-    /// The entry at a place, if there is one. No memory is taken.
+    /// Adds an entry that has memory of its own, and stays in it. No other is taken.
+    pub fn push_boxed(&mut self, entry: Box<Entry>)
+        requires room { length self.old.entries < self.old.room }
+        ensures more { self.new.entries ≡ self.old.entries ++ entry.value ∷ [] }
+        ensures room { self.old.room ≤ self.new.room }
+    {
+        let _ = self.entries.push(Kept::Wide(entry));
+    }
+
+    /// The entry at a place as it is stored, if there is one. No memory is taken.
+    pub fn stored(&self, place: usize) -> Option<Stored<'_>>
+        ensures entry { option_map entry_stored result ≡ slice_get self.now.entries place }
+        ensures stored { IfSome result IsStored }
+    {
+        match self.entries.get(place) {
+            Some(kept) => Some(stored(&self.frames, kept)),
+            None => None,
+        }
+    }
+
+    /// The entry at a place, if there is one: made anew, or borrowed where it has memory of its own. No memory is taken.
     pub fn look(&self, place: usize) -> Option<Looked<'_>>
         ensures { result ≡ slice_get self.now.entries place }
     {
-        match self.entries.get(place) {
-            Some(packed) => Some(packed.look()),
+        match self.stored(place) {
+            Some(stored) => Some(Looked::of(&stored)),
             None => None,
         }
+    }
+}
+
+/// How an entry is kept beside these FD frames.
+fn stored<'a>(frames: &'a [Frame], kept: &'a Kept) -> Stored<'a>
+    requires { frames_needed kept.now ≤ length frames.now }
+    ensures entry { entry_stored result ≡ entry_in frames.now kept.now }
+    ensures stored { IsStored result }
+{
+    match kept {
+        Kept::Wide(entry) => Stored::Whole(entry),
+        kept => Stored::Packed(frames, kept),
     }
 }

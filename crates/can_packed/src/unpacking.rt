@@ -1,16 +1,17 @@
-ghost use Rattle.std.specs.Prelude.{◌≡◌, ◌/◌, ◌%◌};
-ghost use Rattle.can_packed.specs.Kept.{entry_in, IsSmall, tried_in, stamp_moment, stamp_winner, stamp_len, stamp_off};
+ghost use Rattle.std.specs.Prelude.{◌≡◌, ◌≤◌, ◌/◌, ◌%◌, length};
+ghost use Rattle.can_packed.specs.Kept.{entry_in, frames_needed, IsSmall, tried_in, stamp_moment, stamp_winner, stamp_len, stamp_off};
 
 use crate::frame_words::{frame_in, moment_in};
 use crate::kept::Kept;
 use crate::verdicts::{class_in, verdict_in};
 use can_event::{Event, Received, Reply, Tried};
-use can_frame::{Iface, IfaceSet, Item, Moment};
+use can_frame::{Frame, Iface, IfaceSet, Item, Moment};
 
-/// The event that is kept.
-pub fn event_in(kept: &Kept) -> Event
-    requires { IsSmall kept.now }
-    ensures { result ≡ (entry_in kept.now).event }
+/// The event that is kept beside these FD frames.
+pub fn event_in(frames: &[Frame], kept: &Kept) -> Event
+    requires small { IsSmall kept.now }
+    requires within { frames_needed kept.now ≤ length frames.now }
+    ensures { result ≡ (entry_in frames.now kept.now).event }
 {
     match kept {
         Kept::Opened(iface, capacity, _) => Event::Open(*iface, *capacity),
@@ -19,15 +20,23 @@ pub fn event_in(kept: &Kept) -> Event
         Kept::CloseRefused(id, _) => Event::Close(*id),
         Kept::OptionSet(id, option) => Event::SetOption(*id, *option),
         Kept::OptionRefused(id, option, _) => Event::SetOption(*id, *option),
-        Kept::Sent(id, frame, _) => Event::Send(*id, *frame),
-        Kept::SendRefused(id, frame, _) => Event::Send(*id, *frame),
+        Kept::Sent(len, id, word, _, bytes) => Event::Send(*id, frame_in(*word, *len, bytes)),
+        Kept::FdSent(id, _, place) => Event::Send(*id, frames[*place]),
+        Kept::SendRefused(_, len, id, word, bytes) => {
+            Event::Send(*id, frame_in(*word, *len, bytes))
+        }
+        Kept::FdSendRefused(_, id, place) => Event::Send(*id, frames[*place]),
         Kept::NothingReceived(id) => Event::Receive(*id),
         Kept::FrameReceived(_, _, id, _, _, _, _) => Event::Receive(*id),
+        Kept::FdReceived(_, id, _, _, _) => Event::Receive(*id),
         Kept::ErrorReceived(_, id, _, _, _) => Event::Receive(*id),
         Kept::ReceiveRefused(id, _) => Event::Receive(*id),
         Kept::Idle(_, verdict, moment) => Event::Attempt(*moment, *verdict),
         Kept::Tried(end, named, _, _, _, _, _, stamp) => {
             Event::Attempt(stamp_moment(*stamp), verdict_in(*end / 4, *named))
+        }
+        Kept::FdTried(end, _, _, named, _, _, _, _, moment) => {
+            Event::Attempt(*moment, verdict_in(*end / 4, *named))
         }
         Kept::AttemptRefused(verdict, moment, _) => Event::Attempt(*moment, *verdict),
         Kept::Restarted(iface, moment) => Event::Restart(*iface, *moment),
@@ -36,9 +45,10 @@ pub fn event_in(kept: &Kept) -> Event
     }
 }
 
-/// The reply that is kept.
-pub fn reply_in(kept: &Kept) -> Reply
-    ensures { result ≡ (entry_in kept.now).reply }
+/// The reply that is kept beside these FD frames.
+pub fn reply_in(frames: &[Frame], kept: &Kept) -> Reply
+    requires within { frames_needed kept.now ≤ length frames.now }
+    ensures { result ≡ (entry_in frames.now kept.now).reply }
 {
     match kept {
         Kept::Opened(_, _, id) => Reply::Opened(*id),
@@ -47,8 +57,10 @@ pub fn reply_in(kept: &Kept) -> Reply
         Kept::CloseRefused(_, why) => Reply::Refused(*why),
         Kept::OptionSet(_, _) => Reply::Done,
         Kept::OptionRefused(_, _, why) => Reply::Refused(*why),
-        Kept::Sent(_, _, number) => Reply::Sent(u64::from(*number)),
-        Kept::SendRefused(_, _, why) => Reply::Refused(*why),
+        Kept::Sent(_, _, _, number, _) => Reply::Sent(u64::from(*number)),
+        Kept::FdSent(_, number, _) => Reply::Sent(u64::from(*number)),
+        Kept::SendRefused(why, _, _, _, _) => Reply::Refused(*why),
+        Kept::FdSendRefused(why, _, _) => Reply::Refused(*why),
         Kept::NothingReceived(_) => Reply::Received(None),
         Kept::FrameReceived(from, len, _, word, number, bytes, moment) => {
             Reply::Received(Some(Received {
@@ -58,6 +70,12 @@ pub fn reply_in(kept: &Kept) -> Reply
                 moment: *moment,
             }))
         }
+        Kept::FdReceived(from, _, number, place, moment) => Reply::Received(Some(Received {
+            item: Item::Data(frames[*place]),
+            from: *from,
+            number: u64::from(*number),
+            moment: *moment,
+        })),
         Kept::ErrorReceived(from, _, number, error, moment) => Reply::Received(Some(Received {
             item: Item::Error(*error),
             from: *from,
@@ -70,6 +88,18 @@ pub fn reply_in(kept: &Kept) -> Reply
             let words = (*end, *word, *number);
             Reply::Tried(tried_in(words, *accepted, *restarted, bytes, *stamp))
         }
+        Kept::FdTried(end, winner, number, _, accepted, off, restarted, place, moment) => {
+            Reply::Tried(Tried {
+                moment: *moment,
+                winner: *winner,
+                number: u64::from(*number),
+                frame: frames[*place],
+                class: class_in(*end % 4),
+                accepted: *accepted,
+                off: *off,
+                restarted: *restarted,
+            })
+        }
         Kept::AttemptRefused(_, _, why) => Reply::Refused(*why),
         Kept::Restarted(_, _) => Reply::Done,
         Kept::RestartRefused(_, _, why) => Reply::Refused(*why),
@@ -78,7 +108,7 @@ pub fn reply_in(kept: &Kept) -> Reply
 }
 
 /// The frame that was tried, of its end, word and number, and of the rest.
-fn tried_in(
+pub fn tried_in(
     words: (u8, u32, u32),
     accepted: IfaceSet,
     restarted: IfaceSet,
@@ -100,24 +130,28 @@ fn tried_in(
     }
 }
 
-fn stamp_moment(stamp: u64) -> Moment
+/// The moment of an attempt, of its stamp.
+pub fn stamp_moment(stamp: u64) -> Moment
     ensures { result ≡ stamp_moment stamp }
 {
     moment_in(stamp / 512)
 }
 
+/// The winner.
 fn stamp_winner(stamp: u64) -> Iface
     ensures { result ≡ stamp_winner stamp }
 {
     Iface::new((stamp / 32 % 16) as u8).unwrap()
 }
 
+/// The length of its frame.
 fn stamp_len(stamp: u64) -> u8
     ensures { result ≡ stamp_len stamp }
 {
     (stamp / 2 % 16) as u8
 }
 
+/// The winner where it went off.
 fn stamp_off(stamp: u64) -> IfaceSet
     ensures { result ≡ stamp_off stamp }
 {

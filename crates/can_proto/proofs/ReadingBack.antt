@@ -1,10 +1,11 @@
-use Rattle.std.proofs.Common.{◌≡◌, ℕ, suc, ◌+◌, ◌*◌, ◌-◌, ◌^◌, ◌<◌, ◌≤◌, ◌==◌, nat_lt, nat_le, Bool, true, false, IsTrue, if◌then◌else◌, List, [], ◌∷◌, ◌++◌, Option, Some, Result, Ok, map, length, slice_index, bit_and, refl, ap, ◌∙◌, arith, append_assoc}
+use Rattle.std.proofs.Common.{◌≡◌, ℕ, suc, inl, inr, ◌+◌, ◌*◌, ◌-◌, ◌^◌, ◌<◌, ◌≤◌, ◌==◌, nat_lt, nat_le, Bool, true, false, IsTrue, if◌then◌else◌, List, [], ◌∷◌, ◌++◌, Option, Some, None, Result, Ok, map, length, slice_index, bit_and, refl, ap, ◌∙◌, arith, append_assoc}
 use Rattle.std.specs.Fmt.{decimal}
 use Rattle.std.specs.List.{All, flat_map, join_with_byte}
 use Rattle.std.proofs.lemmas.Fmt.{decimal_digit, decimal_nonempty, length-decimal-le}
 use Rattle.std.proofs.lemmas.List.{length-map}
-use Rattle.can_frame.specs.Frames.{Identifier, IsIdentifier, Payload}
-use Rattle.can_frame.specs.Frames.Payload.{Data, Remote}
+use Rattle.std.proofs.lemmas.Bool.{cases_lt}
+use Rattle.can_frame.specs.Frames.{Identifier, IsIdentifier, Payload, is_fd_length}
+use Rattle.can_frame.specs.Frames.Payload.{Data, Remote, Fd}
 use Rattle.can_frame.specs.FrameText.{digits, id_text, IsPayload}
 use Rattle.can_filter.specs.Filters.{CanFilter}
 use Rattle.can_event.specs.declared.events.Opt.{Opt}
@@ -18,8 +19,8 @@ use Rattle.can_proto.specs.declared.verbs.Verb.{Verb}
 use Rattle.can_proto.specs.declared.verbs.Verb.TheVariants as verb
 use Rattle.can_proto.specs.Words.{is_blank, front, words_after, words_of}
 use Rattle.can_proto.specs.Verbs.{stands_in}
-use Rattle.can_frame.specs.Numbers.{number_after, number_in}
-use Rattle.can_proto.specs.Commands.{◌>>=◌, or_fault, short_id, long_id, id_of, length_of, bytes_of, send_of, remote_of, filter_of, filters_of, set_of, mask_of, switch_of, open_of, arguments_of, command_of, reading}
+use Rattle.can_frame.specs.Numbers.{hex_digit, in_base, one_more, number_after, number_in}
+use Rattle.can_proto.specs.Commands.{◌>>=◌, or_fault, short_id, long_id, id_of, length_of, fd_length_of, bytes_of, send_of, send_fd_of, remote_of, filter_of, filters_of, set_of, mask_of, switch_of, open_of, arguments_of, command_of, reading}
 use Rattle.can_proto.specs.CommandSpelling.{flag_text, frame_words, filter_words, option_words, command_words, command_spelling, verb_of, verb_of_payload, verb_of_option, IsFilter, IsOption, IsCommand}
 use Rattle.can_proto.proofs.Cuts.{clear, clear_parts}
 use Rattle.can_proto.proofs.Numerals.{IsMark, clear-digits, clear-decimal}
@@ -102,8 +103,12 @@ clear-id id = clear-digits is_blank no-blank 16 (if id.extended then 8 else 3) i
 words-count : (id : Identifier) (n : ℕ) (rest : List (List ℕ)) → n < 2 ^ 64 → AreWords rest → AreWords (id_text id ∷ decimal n ∷ rest)
 words-count id n rest small h = (clear-id id, some-id id.extended id.number, (clear-decimal is_blank no-blank n small, decimal_nonempty n small, h))
 
+at_most_64 : (n : ℕ) → is_fd_length n ≡ true → n ≤ 64
+at_most_64 n h = grind arith
+
 words-frame : (id : Identifier) (p : Payload) → IsPayload p → AreWords (frame_words id p)
 words-frame id (Data bytes) h = let few = h.0 in (refl, omega arith, words-count id (length bytes) (map (digits 16 2) bytes) (omega arith) (words-bytes bytes))
+words-frame id (Fd bytes) h = let few = at_most_64 (length bytes) h.0 in (refl, omega arith, words-count id (length bytes) (map (digits 16 2) bytes) (omega arith) (words-bytes bytes))
 words-frame id (Remote len) h = (refl, omega arith, words-count id len [] (omega arith) tt)
 
 words-flag : (on : Bool) → AreWords (flag_text on ∷ [])
@@ -114,6 +119,7 @@ words-option : (o : Opt) → AreWords (option_words o)
 words-option (opt.Loopback on) = (refl, omega arith, words-flag on)
 words-option (opt.RecvOwn on) = (refl, omega arith, words-flag on)
 words-option (opt.Join on) = (refl, omega arith, words-flag on)
+words-option (opt.FdFrames on) = (refl, omega arith, words-flag on)
 words-option (opt.ErrMask mask) = (refl, omega arith, (clear-digits is_blank no-blank 16 8 mask, omega arith, tt))
 
 words-command : (c : Command) → IsCommand c → AreWords (command_words c)
@@ -135,6 +141,9 @@ words-command Close h = (refl, omega arith, tt)
 
 lt-true : (a b : ℕ) → a < b → nat_lt a b ≡ true
 lt-true a b h = grind arith
+
+below : (a b : ℕ) → nat_lt a b ≡ true → a < b
+below a b h = grind arith
 
 lt-false : (a b : ℕ) → b ≤ a → nat_lt a b ≡ false
 lt-false a b h = grind arith
@@ -165,6 +174,39 @@ length-again k h =
     let back : 48 + k - 48 ≡ k = omega arith in
     ap length_of (decimal_digit k (omega arith)) ∙ rw (le-true 48 (48 + k) (omega arith), le-true (48 + k) 56 (omega arith)) (ap (λ (n : ℕ). Ok n) back)
 
+fd-word : (n : ℕ) (word : List ℕ) → is_fd_length n ≡ true → number_in 10 2 word ≡ Some n → length word ≡ (if nat_lt n 10 then 1 else 2) → fd_length_of word ≡ Ok n
+unfolding fd_length_of
+fd-word n word h is_n count = rw (is_n, h, eq-true (length word) (if nat_lt n 10 then 1 else 2) count) refl
+
+-- a word of one digit stands for less than 10
+one-digit : (o : Option ℕ) (n : ℕ) → number_after 10 (one_more 10 0 (in_base 10 o)) [] ≡ Some n → n < 10
+one-digit None n e = absurd cc
+one-digit (Some v) n e = by_test (nat_lt v 10) refl e
+  where
+    by_test : (b : Bool) → nat_lt v 10 ≡ b → number_after 10 (one_more 10 0 (if b then Some v else None)) [] ≡ Some n → n < 10
+    by_test true lt e = let same : 0 * 10 + v ≡ n = cc in let small = below v 10 lt in omega (arith, same, small)
+    by_test false lt e = absurd cc
+
+two-digits : (ds : List ℕ) (n : ℕ) → number_after 10 (Some 0) ds ≡ Some n → 10 ≤ n → 0 < length ds → 2 ≤ length ds
+two-digits [] n e big some = absurd (omega arith)
+two-digits (d ∷ []) n e big some = let small = one-digit (hex_digit d) n e in absurd (omega (arith, small, big))
+two-digits (d ∷ c ∷ ds) n e big some = omega arith
+
+decimal-width : (n : ℕ) → n < 65 → length (decimal n) ≡ (if nat_lt n 10 then 1 else 2)
+decimal-width n h = elim (cases_lt n 10) [
+  | inl few ↦ rw (lt-true n 10 few) (ap length (decimal_digit n (omega arith)))
+  | inr many ↦
+      let most = length-decimal-le 2 n (omega arith) (omega arith) (omega arith) in
+      let least = two-digits (decimal n) n (value-decimal n (omega arith)) (omega arith) (decimal_nonempty n (omega arith)) in
+      rw (lt-false n 10 (omega arith)) (omega (arith, most, least))
+]
+
+-- each of the lengths
+fd-length-again : (n : ℕ) → is_fd_length n ≡ true → fd_length_of (decimal n) ≡ Ok n
+fd-length-again n h =
+    let small = at_most_64 n h in
+    fd-word n (decimal n) h (number-again 10 2 (decimal n) n (decimal_nonempty n (omega arith)) (length-decimal-le 2 n (omega arith) (omega arith) (omega arith)) (value-decimal n (omega arith))) (decimal-width n (omega arith))
+
 bytes-again : (bytes : List ℕ) → ((i : ℕ) → slice_index bytes i < 256) → bytes_of (map (digits 16 2) bytes) ≡ Ok bytes
 unfolding bytes_of
 bytes-again [] h = refl
@@ -179,6 +221,10 @@ send-again : (id_word len_word : List ℕ) (words : List (List ℕ)) (id : Ident
     send_of (id_word ∷ len_word ∷ words) ≡ Ok (Send (record { id = id; payload = Data bytes }))
 unfolding send_of
 send-again id_word len_word words id len bytes is_id is_len count is_bytes = rw (is_id, is_len, eq-true (length words) len count, is_bytes) refl
+
+send-fd-again : (id_word len_word : List ℕ) (words : List (List ℕ)) (id : Identifier) (len : ℕ) (bytes : List ℕ) → id_of id_word ≡ Ok id → fd_length_of len_word ≡ Ok len → length words ≡ len → bytes_of words ≡ Ok bytes → send_fd_of (id_word ∷ len_word ∷ words) ≡ Ok (Send (record { id = id; payload = Fd bytes }))
+unfolding send_fd_of
+send-fd-again id_word len_word words id len bytes is_id is_len count is_bytes = rw (is_id, is_len, eq-true (length words) len count, is_bytes) refl
 
 remote-again : (id_word len_word : List ℕ) (id : Identifier) (len : ℕ) → id_of id_word ≡ Ok id → length_of len_word ≡ Ok len → remote_of (id_word ∷ len_word ∷ []) ≡ Ok (Send (record { id = id; payload = Remote len }))
 unfolding remote_of
@@ -230,6 +276,8 @@ frame-again : (mode : Mode) (id : Identifier) (p : Payload) → IsIdentifier id 
 unfolding arguments_of
 frame-again mode id (Data bytes) is_id h may =
     said mode verb.Send _ _ may (send-again (id_text id) (decimal (length bytes)) (map (digits 16 2) bytes) id (length bytes) bytes (id-again id.extended id.number is_id) (length-again (length bytes) h.0) (length-map bytes (digits 16 2)) (bytes-again bytes h.1))
+frame-again mode id (Fd bytes) is_id h may =
+    said mode verb.SendFd _ _ may (send-fd-again (id_text id) (decimal (length bytes)) (map (digits 16 2) bytes) id (length bytes) bytes (id-again id.extended id.number is_id) (fd-length-again (length bytes) h.0) (length-map bytes (digits 16 2)) (bytes-again bytes h.1))
 frame-again mode id (Remote len) is_id h may =
     said mode verb.SendRtr _ _ may (remote-again (id_text id) (decimal len) id len (id-again id.extended id.number is_id) (length-again len h))
 
@@ -238,6 +286,7 @@ unfolding arguments_of
 option-again mode (opt.Loopback on) h may = said mode verb.Loopback _ _ may (ap (λ (r : Result Bool ProtoFault). r >>= λ x. Ok (SetOption (opt.Loopback x))) (flag-again on))
 option-again mode (opt.RecvOwn on) h may = said mode verb.RecvOwn _ _ may (ap (λ (r : Result Bool ProtoFault). r >>= λ x. Ok (SetOption (opt.RecvOwn x))) (flag-again on))
 option-again mode (opt.Join on) h may = said mode verb.Join _ _ may (ap (λ (r : Result Bool ProtoFault). r >>= λ x. Ok (SetOption (opt.Join x))) (flag-again on))
+option-again mode (opt.FdFrames on) h may = said mode verb.FdFrames _ _ may (ap (λ (r : Result Bool ProtoFault). r >>= λ x. Ok (SetOption (opt.FdFrames x))) (flag-again on))
 option-again mode (opt.ErrMask mask) h may = said mode verb.ErrMask _ _ may (mask-again (digits 16 8 mask) mask (word-again mask h))
 
 command-again : (mode : Mode) (c : Command) → IsCommand c → IsTrue (stands_in (verb_of c) mode) → reading mode (command_words c) ≡ Ok c

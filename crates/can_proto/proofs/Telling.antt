@@ -13,6 +13,7 @@ cause_in text =
     if is_word text (codes "bad capacity") then cause.BadCapacity else
     if is_word text (codes "too many sockets") then cause.TooManySockets else
     if is_word text (codes "no socket") then cause.NoSocket else
+    if is_word text (codes "fd frames off") then cause.FdOff else
     if is_word text (codes "bus off") then cause.BusOff else
     if is_word text (codes "no buffers") then cause.NoBuffers else
     if is_word text (codes "not bus off") then cause.NotBusOff else
@@ -40,6 +41,7 @@ told cause.NoInterface = refl
 told cause.BadCapacity = refl
 told cause.TooManySockets = refl
 told cause.NoSocket = refl
+told cause.FdOff = refl
 told cause.BusOff = refl
 told cause.NoBuffers = refl
 told cause.NotBusOff = refl

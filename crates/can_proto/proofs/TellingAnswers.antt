@@ -4,7 +4,7 @@ use Rattle.std.specs.List.{All}
 use Rattle.std.proofs.lemmas.Fmt.{decimal_injective}
 use Rattle.std.proofs.lemmas.List.{append_cancel_right}
 use Rattle.can_frame.specs.Frames.{Identifier, Payload}
-use Rattle.can_frame.specs.Frames.Payload.{Data, Remote}
+use Rattle.can_frame.specs.Frames.Payload.{Data, Remote, Fd}
 use Rattle.can_frame.specs.FrameText.{digits, pairs, id_text}
 use Rattle.can_frame.specs.declared.items.Item.{Item}
 use Rattle.can_frame.specs.declared.items.Item.TheVariants as item
@@ -157,6 +157,7 @@ pointed-more front m one two three =
 
 pointed-frame : (errdata : Bool) (id : Identifier) (p : Payload) (m : ℕ) → clear is_point (item_text errdata (item.Data (record { id = id; payload = p })) m) ≡ false
 pointed-frame errdata id (Data bytes) m = pointed-more (id_text id ++ 32 ∷ []) m (32 ∷ []) (pairs bytes) (codes " >")
+pointed-frame errdata id (Fd bytes) m = pointed-more (id_text id ++ 32 ∷ []) m (32 ∷ []) (pairs bytes) (codes " >")
 pointed-frame errdata id (Remote len) m = pointed-more (id_text id ++ 32 ∷ []) m (32 ∷ []) (decimal len) (codes " >")
 
 pointed-item : (errdata : Bool) (i : Item) (m : ℕ) → clear is_point (item_text errdata i m) ≡ false

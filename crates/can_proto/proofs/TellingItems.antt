@@ -2,7 +2,7 @@ use Rattle.std.proofs.Common.{◌≡◌, ℕ, suc, ◌/◌, ◌%◌, ◌^◌, �
 use Rattle.std.specs.Fmt.{decimal}
 use Rattle.std.proofs.lemmas.Fmt.{decimal_injective}
 use Rattle.can_frame.specs.Frames.{Identifier, IsIdentifier, Payload, CanFrame, ErrorMessage}
-use Rattle.can_frame.specs.Frames.Payload.{Data, Remote}
+use Rattle.can_frame.specs.Frames.Payload.{Data, Remote, Fd}
 use Rattle.can_frame.specs.declared.items.Item.{Item}
 use Rattle.can_frame.specs.declared.items.Item.TheVariants as item
 use Rattle.can_frame.specs.FrameText.{digits, pairs, id_text, IsPayload, IsItem}
@@ -114,10 +114,14 @@ same-identifier a b ha hb e =
 third : List ℕ → ℕ
 third text = get_or text 2 0
 
+-- and the fourth, where the third is that of a data frame
+fourth : List ℕ → ℕ
+fourth text = get_or text 3 0
+
 one-frame : (errdata : Bool) (a b : Identifier) (p q : Payload) (m n : ℕ) → IsIdentifier a → IsIdentifier b → IsPayload p → IsPayload q → m < 10 ^ 16 → n < 10 ^ 16 →
     item_text errdata (item.Data (record { id = a; payload = p })) m ≡ item_text errdata (item.Data (record { id = b; payload = q })) n →
     (a ≡ b) × (p ≡ q) × (m ≡ n)
-unfolding third
+unfolding third fourth
 one-frame errdata a b (Data xs) (Data ys) m n ha hb hp hq hm hn e =
     let parts = same-parts (id_text a) (id_text b) (pairs xs ++ codes " >") (pairs ys ++ codes " >") m n (clear-id a) (clear-id b) hm hn
     (between _ _ _ _ (regroup-all (id_text a) (moment_text m) (pairs xs) (codes " >")) (regroup-all (id_text b) (moment_text n) (pairs ys) (codes " >")) (ap (drop 8) e)) in
@@ -128,6 +132,15 @@ one-frame errdata a b (Remote k) (Remote l) m n ha hb hp hq hm hn e =
     (between _ _ _ _ (regroup-all (id_text a) (moment_text m) (decimal k) (codes " >")) (regroup-all (id_text b) (moment_text n) (decimal l) (codes " >")) (ap (drop 9) e)) in
     let ends = cut is_space 32 (decimal k) (decimal l) (62 ∷ []) (62 ∷ []) refl (clear-decimal is_space no-space k (omega arith)) (clear-decimal is_space no-space l (omega arith)) parts.2 in
     (same-identifier a b ha hb parts.0, ap (λ (len : ℕ). Remote len) (decimal_injective k l (omega arith) (omega arith) ends.0), parts.1)
+one-frame errdata a b (Fd xs) (Fd ys) m n ha hb hp hq hm hn e =
+    let parts = same-parts (id_text a) (id_text b) (pairs xs ++ codes " >") (pairs ys ++ codes " >") m n (clear-id a) (clear-id b) hm hn
+    (between _ _ _ _ (regroup-all (id_text a) (moment_text m) (pairs xs) (codes " >")) (regroup-all (id_text b) (moment_text n) (pairs ys) (codes " >")) (ap (drop 10) e)) in
+    let ends = cut is_space 32 (pairs xs) (pairs ys) (62 ∷ []) (62 ∷ []) refl (clear-pairs is_space no-space xs) (clear-pairs is_space no-space ys) parts.2 in
+    (same-identifier a b ha hb parts.0, ap (λ (bytes : List ℕ). Fd bytes) (same-bytes xs ys hp.1 hq.1 ends.0), parts.1)
+one-frame errdata a b (Data xs) (Fd ys) m n ha hb hp hq hm hn e = let k : 114 ≡ 100 = ap fourth e in absurd (omega (arith, k))
+one-frame errdata a b (Fd xs) (Data ys) m n ha hb hp hq hm hn e = let k : 100 ≡ 114 = ap fourth e in absurd (omega (arith, k))
+one-frame errdata a b (Fd xs) (Remote l) m n ha hb hp hq hm hn e = let k : 102 ≡ 114 = ap third e in absurd (omega (arith, k))
+one-frame errdata a b (Remote k) (Fd ys) m n ha hb hp hq hm hn e = let k : 114 ≡ 102 = ap third e in absurd (omega (arith, k))
 one-frame errdata a b (Data xs) (Remote l) m n ha hb hp hq hm hn e = let k : 102 ≡ 114 = ap third e in absurd (omega (arith, k))
 one-frame errdata a b (Remote k) (Data ys) m n ha hb hp hq hm hn e = let k : 114 ≡ 102 = ap third e in absurd (omega (arith, k))
 
@@ -136,6 +149,8 @@ two-kinds : (errdata : Bool) (id : Identifier) (p : Payload) (error : ErrorMessa
 unfolding third
 two-kinds true id (Data xs) error m n e = let k : 102 ≡ 101 = ap third e in omega (arith, k)
 two-kinds false id (Data xs) error m n e = let k : 102 ≡ 101 = ap third e in omega (arith, k)
+two-kinds true id (Fd xs) error m n e = let k : 102 ≡ 101 = ap third e in omega (arith, k)
+two-kinds false id (Fd xs) error m n e = let k : 102 ≡ 101 = ap third e in omega (arith, k)
 two-kinds true id (Remote len) error m n e = let k : 114 ≡ 101 = ap third e in omega (arith, k)
 two-kinds false id (Remote len) error m n e = let k : 114 ≡ 101 = ap third e in omega (arith, k)
 

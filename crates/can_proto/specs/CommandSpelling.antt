@@ -2,7 +2,7 @@ use Rattle.std.specs.Prelude.{◌≡◌, ◌<◌, ◌≤◌, ℕ, ◌^◌, Bool,
 use Rattle.std.specs.Fmt.{decimal}
 use Rattle.std.specs.List.{All, flat_map, join_with_byte}
 use Rattle.can_frame.specs.Frames.{Identifier, IsIdentifier, Payload}
-use Rattle.can_frame.specs.Frames.Payload.{Data, Remote}
+use Rattle.can_frame.specs.Frames.Payload.{Data, Remote, Fd}
 use Rattle.can_frame.specs.FrameText.{digits, id_text, IsPayload}
 use Rattle.can_filter.specs.Filters.{CanFilter}
 use Rattle.can_event.specs.declared.events.Opt.{Opt}
@@ -21,10 +21,11 @@ abbrev pub flag_text : Bool → List ℕ
 flag_text false = 48 ∷ []
 flag_text true = 49 ∷ []
 
--- a data frame with its length and each byte in two digits, or a remote frame with what it asks for
+-- a data frame or an FD frame with its length and each byte in two digits, or a remote frame with what it asks for
 abbrev pub frame_words : Identifier → Payload → List (List ℕ)
 frame_words id (Data bytes) = codes "send" ∷ id_text id ∷ decimal (length bytes) ∷ map (digits 16 2) bytes
 frame_words id (Remote len) = codes "sendrtr" ∷ id_text id ∷ decimal len ∷ []
+frame_words id (Fd bytes) = codes "sendfd" ∷ id_text id ∷ decimal (length bytes) ∷ map (digits 16 2) bytes
 
 -- a filter: identifier word and mask in 8 digits each
 abbrev pub filter_words : CanFilter → List (List ℕ)
@@ -36,6 +37,7 @@ option_words (opt.Loopback on) = codes "loopback" ∷ flag_text on ∷ []
 option_words (opt.RecvOwn on) = codes "recvown" ∷ flag_text on ∷ []
 option_words (opt.Join on) = codes "join" ∷ flag_text on ∷ []
 option_words (opt.ErrMask mask) = codes "errmask" ∷ digits 16 8 mask ∷ []
+option_words (opt.FdFrames on) = codes "fdframes" ∷ flag_text on ∷ []
 
 -- the words of a command
 abbrev pub command_words : Command → List (List ℕ)
@@ -55,10 +57,11 @@ command_words Close = codes "close" ∷ []
 abbrev pub command_spelling : Command → List ℕ
 command_spelling command = join_with_byte 32 (command_words command)
 
--- data frames and remote frames have a word each
+-- data frames, remote frames and FD frames have a word each
 abbrev pub verb_of_payload : Payload → Verb
 verb_of_payload (Data bytes) = verb.Send
 verb_of_payload (Remote len) = verb.SendRtr
+verb_of_payload (Fd bytes) = verb.SendFd
 
 -- each option has a word of its own
 abbrev pub verb_of_option : Opt → Verb
@@ -66,6 +69,7 @@ verb_of_option (opt.Loopback on) = verb.Loopback
 verb_of_option (opt.RecvOwn on) = verb.RecvOwn
 verb_of_option (opt.Join on) = verb.Join
 verb_of_option (opt.ErrMask mask) = verb.ErrMask
+verb_of_option (opt.FdFrames on) = verb.FdFrames
 
 -- what its first word asks for
 abbrev pub verb_of : Command → Verb

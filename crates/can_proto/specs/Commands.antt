@@ -1,9 +1,11 @@
 use Rattle.std.specs.Prelude.{◌≡◌, ◌⊎◌, ℕ, ◌-◌, ◌*◌, ◌^◌, Bool, true, false, IsTrue, ◌&&◌, ◌==◌, nat_lt, nat_le, bit_and, if◌then◌else◌, List, [], ◌∷◌, ◌++◌, length, Option, Some, None, Result, Ok, Err}
-use Rattle.can_frame.specs.Frames.{Identifier}
-use Rattle.can_frame.specs.Frames.Payload.{Data, Remote}
+use Rattle.can_frame.specs.Frames.{Identifier, CanFrame, is_fd_length}
+use Rattle.can_frame.specs.Frames.Payload.{Data, Remote, Fd}
 use Rattle.can_filter.specs.Filters.{CanFilter}
 use Rattle.can_event.specs.declared.events.Opt.TheVariants as opt
+use Rattle.can_proto.specs.declared.messages.Incoming.TheVariants.{Message}
 use Rattle.can_proto.specs.declared.commands.Mode.{Mode}
+use Rattle.can_proto.specs.declared.commands.Mode.TheVariants.{Raw}
 use Rattle.can_proto.specs.declared.commands.Command.{Command}
 use Rattle.can_proto.specs.declared.commands.Command.TheVariants.{Echo, Open, Rawmode, Send, SetFilters, SetOption, ErrData, Stats, Status, Restart, Close}
 use Rattle.can_proto.specs.declared.faults.ProtoFault.{ProtoFault}
@@ -11,6 +13,8 @@ use Rattle.can_proto.specs.declared.faults.ProtoFault.TheVariants.{NoMemory, Inv
 use Rattle.can_proto.specs.declared.verbs.Verb.{Verb}
 use Rattle.can_proto.specs.declared.verbs.Verb.TheVariants as verb
 use Rattle.can_frame.specs.Numbers.{number_in}
+use Rattle.can_proto.specs.Messages.{messages_of, kept_of}
+use Rattle.can_proto.specs.Words.{words_of}
 use Rattle.can_proto.specs.Verbs.{named, stands_in}
 
 -- What the words of a message say, or the first fault that is met, reading from left to right (socketcand's raw mode; the
@@ -69,6 +73,10 @@ unfoldable pub length_of : List ℕ → Result ℕ ProtoFault
 length_of (d ∷ []) = if nat_le 48 d && nat_le d 56 then Ok (d - 48) else Err BadLength
 length_of _ = Err BadLength
 
+-- a length of an FD frame, in decimal without leading zeros
+unfoldable pub fd_length_of : List ℕ → Result ℕ ProtoFault
+fd_length_of word = or_fault BadLength (number_in 10 2 word) >>= λ n. if is_fd_length n && length word == (if nat_lt n 10 then 1 else 2) then Ok n else Err BadLength
+
 -- bytes of one or two hexadecimal digits
 unfoldable pub bytes_of : List (List ℕ) → Result (List ℕ) ProtoFault
 bytes_of [] = Ok []
@@ -88,6 +96,19 @@ send_of (id_word ∷ len_word ∷ words) = do
   len ← length_of len_word
   if length words == len then bytes_of words >>= (λ bytes. Ok (Send (record { id = id; payload = Data bytes }))) else Err BadCount
 send_of _ = Err BadCount
+
+-- what asks for a frame to be sent, where there is one
+abbrev pub asked : Result CanFrame ProtoFault → Result Command ProtoFault
+asked (Ok frame) = Ok (Send frame)
+asked (Err e) = Err e
+
+-- `sendfd ID LEN b ..`
+unfoldable pub send_fd_of : List (List ℕ) → Result Command ProtoFault
+send_fd_of (id_word ∷ len_word ∷ words) = do
+  id ← id_of id_word
+  len ← fd_length_of len_word
+  if length words == len then bytes_of words >>= (λ bytes. Ok (Send (record { id = id; payload = Fd bytes }))) else Err BadCount
+send_fd_of _ = Err BadCount
 
 -- `sendrtr ID LEN`
 unfoldable pub remote_of : List (List ℕ) → Result Command ProtoFault
@@ -157,11 +178,13 @@ arguments_of verb.Rawmode words = alone Rawmode words
 arguments_of verb.OtherMode words = Err ModeNotSupported
 arguments_of verb.Send words = send_of words
 arguments_of verb.SendRtr words = remote_of words
+arguments_of verb.SendFd words = send_fd_of words
 arguments_of verb.Filter words = set_of words
 arguments_of verb.Join words = switch_of words >>= λ on. Ok (SetOption (opt.Join on))
 arguments_of verb.Loopback words = switch_of words >>= λ on. Ok (SetOption (opt.Loopback on))
 arguments_of verb.RecvOwn words = switch_of words >>= λ on. Ok (SetOption (opt.RecvOwn on))
 arguments_of verb.ErrMask words = mask_of words
+arguments_of verb.FdFrames words = switch_of words >>= λ on. Ok (SetOption (opt.FdFrames on))
 arguments_of verb.ErrData words = switch_of words >>= λ on. Ok (ErrData on)
 arguments_of verb.Stats words = alone Stats words
 arguments_of verb.Status words = alone Status words
@@ -177,6 +200,10 @@ command_of mode words (Some v) = if stands_in v mode then arguments_of v words e
 abbrev pub reading : Mode → List (List ℕ) → Result Command ProtoFault
 reading mode [] = Err EmptyMessage
 reading mode (word ∷ words) = command_of mode words (named word)
+
+-- the stream gives one message, which asks in raw mode for this frame to be sent, and nothing of it is kept
+abbrev pub IsLoneSend : List ℕ → CanFrame → Type 0
+IsLoneSend stream frame = (inside : List ℕ) × (messages_of stream ≡ Message inside ∷ []) × (kept_of stream ≡ []) × (reading Raw (words_of inside) ≡ Ok (Send frame))
 
 -- items in front of those that are read
 abbrev pub with_front : {A : Type 0} → List A → Result (List A) ProtoFault → Result (List A) ProtoFault

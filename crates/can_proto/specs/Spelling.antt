@@ -1,7 +1,7 @@
 use Rattle.std.specs.Prelude.{◌≡◌, ◌<◌, ℕ, ◌^◌, nat_lt, Bool, true, false, if◌then◌else◌, List, [], ◌∷◌, ◌++◌, codes}
 use Rattle.std.specs.Fmt.{decimal}
 use Rattle.std.specs.List.{All}
-use Rattle.can_frame.specs.Frames.{CanFrame, ErrorMessage, is_remote, payload_len, payload_bytes}
+use Rattle.can_frame.specs.Frames.{CanFrame, ErrorMessage, is_remote, is_fd, payload_len, payload_bytes}
 use Rattle.can_frame.specs.FrameText.{digits, pairs, id_text}
 use Rattle.can_frame.specs.Moments.{moment_text}
 use Rattle.can_frame.specs.declared.items.Item.{Item}
@@ -34,6 +34,10 @@ class_text class = digits 16 (class_width class) class
 abbrev pub data_text : CanFrame → ℕ → List ℕ
 data_text frame micros = codes "< frame " ++ id_text frame.id ++ codes " " ++ moment_text micros ++ codes " " ++ pairs (payload_bytes frame.payload) ++ codes " >"
 
+-- an FD frame, in the same way
+abbrev pub fd_text : CanFrame → ℕ → List ℕ
+fd_text frame micros = codes "< fdframe " ++ id_text frame.id ++ codes " " ++ moment_text micros ++ codes " " ++ pairs (payload_bytes frame.payload) ++ codes " >"
+
 -- a remote frame with its moment
 abbrev pub remote_text : CanFrame → ℕ → List ℕ
 remote_text frame micros = codes "< remote " ++ id_text frame.id ++ codes " " ++ moment_text micros ++ codes " " ++ decimal (payload_len frame.payload) ++ codes " >"
@@ -45,7 +49,7 @@ error_text true e micros = codes "< error " ++ class_text e.class ++ codes " " +
 
 -- what a client is told of an item that its socket received
 abbrev pub item_text : Bool → Item → ℕ → List ℕ
-item_text errdata (item.Data frame) micros = if is_remote frame.payload then remote_text frame micros else data_text frame micros
+item_text errdata (item.Data frame) micros = if is_remote frame.payload then remote_text frame micros else if is_fd frame.payload then fd_text frame micros else data_text frame micros
 item_text errdata (item.Error e) micros = error_text errdata e micros
 
 -- what is told of an item where the data of error message frames are not asked for: of these the class alone

@@ -2,9 +2,9 @@ use Rattle.std.specs.Prelude.{ℕ, Bool, true, false, ◌&&◌, ◌||◌, ◌==�
 use Rattle.can_proto.specs.declared.commands.Mode.{Mode}
 use Rattle.can_proto.specs.declared.commands.Mode.TheVariants.{NoBus, Opened, Raw}
 use Rattle.can_proto.specs.declared.verbs.Verb.{Verb}
-use Rattle.can_proto.specs.declared.verbs.Verb.TheVariants.{Echo, Open, Rawmode, OtherMode, Send, SendRtr, Filter, Join, Loopback, RecvOwn, ErrMask, ErrData, Stats, Status, Restart, Close}
+use Rattle.can_proto.specs.declared.verbs.Verb.TheVariants.{Echo, Open, Rawmode, OtherMode, Send, SendRtr, SendFd, Filter, Join, Loopback, RecvOwn, FdFrames, ErrMask, ErrData, Stats, Status, Restart, Close}
 
--- The commands' first words and the modes that have them (socketcand's raw mode; filter and what follows it is own choice).
+-- The commands' first words and the modes that have them (socketcand's raw mode; sendfd, and filter and what follows it, is own choice).
 
 -- the two words are one, byte for byte
 abbrev pub is_word : List ℕ → List ℕ → Bool
@@ -21,6 +21,7 @@ abbrev pub named : List ℕ → Option Verb
 named word =
     if is_word word (codes "send") then Some Send else
     if is_word word (codes "sendrtr") then Some SendRtr else
+    if is_word word (codes "sendfd") then Some SendFd else
     if is_word word (codes "echo") then Some Echo else
     if is_word word (codes "open") then Some Open else
     if is_word word (codes "rawmode") then Some Rawmode else
@@ -28,6 +29,7 @@ named word =
     if is_word word (codes "join") then Some Join else
     if is_word word (codes "loopback") then Some Loopback else
     if is_word word (codes "recvown") then Some RecvOwn else
+    if is_word word (codes "fdframes") then Some FdFrames else
     if is_word word (codes "errmask") then Some ErrMask else
     if is_word word (codes "errdata") then Some ErrData else
     if is_word word (codes "stats") then Some Stats else

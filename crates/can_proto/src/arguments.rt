@@ -5,7 +5,7 @@ ghost use Rattle.can_proto.specs.Commands.{Gives, GivesBut, takes_memory, mask_o
 use crate::commands::{Command, WantedName};
 use crate::faults::ProtoFault;
 use crate::filtering::read_set;
-use crate::sending::{read_remote, read_send};
+use crate::sending::{read_remote, read_send, read_send_fd};
 use crate::verbs::Verb;
 use crate::words::next_word;
 use can_event::Opt;
@@ -96,11 +96,13 @@ pub fn read_arguments(alloc: Global, verb: Verb, rest: &[u8]) -> Result<Command,
         Verb::OtherMode => Err(ProtoFault::ModeNotSupported),
         Verb::Send => read_send(rest),
         Verb::SendRtr => read_remote(rest),
+        Verb::SendFd => read_send_fd(rest),
         Verb::Filter => read_set(alloc, rest),
         Verb::Join => Ok(Command::SetOption(Opt::Join(read_switch(rest)?))),
         Verb::Loopback => Ok(Command::SetOption(Opt::Loopback(read_switch(rest)?))),
         Verb::RecvOwn => Ok(Command::SetOption(Opt::RecvOwn(read_switch(rest)?))),
         Verb::ErrMask => read_mask(rest),
+        Verb::FdFrames => Ok(Command::SetOption(Opt::FdFrames(read_switch(rest)?))),
         Verb::ErrData => Ok(Command::ErrData(read_switch(rest)?)),
         Verb::Stats => read_alone(Command::Stats, rest),
         Verb::Status => read_alone(Command::Status, rest),

@@ -66,7 +66,7 @@ pub enum Command {
     Open(WantedName),
     /// To enter raw mode.
     Rawmode,
-    /// To send a data frame or a remote frame.
+    /// To send a data frame, a remote frame or an FD frame.
     Send(Frame),
     /// To receive what these filters let pass.
     SetFilters(FilterSet),

@@ -23,6 +23,7 @@ pub mod spelling;
 mod stored;
 pub mod stream;
 pub mod texts;
+mod usual_sends;
 mod verbs;
 mod words;
 

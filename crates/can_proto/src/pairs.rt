@@ -3,23 +3,31 @@ ghost use Rattle.can_proto.specs.Words.{is_blank, words_of};
 ghost use Rattle.can_frame.specs.Numbers.{hex_digit, number_in};
 ghost use Rattle.can_proto.specs.Pairs.{IsFirstByte};
 
-use can_frame::read_digit;
-
 /// What a byte that is no digit stands for.
 const NO_DIGIT: u8 = 16;
 
 /// What a hexadecimal digit stands for, or else 16.
+#[inline(always)]
 fn digit_or_16(byte: u8) -> u8
     ensures value { MatchOption (hex_digit byte) (result ≡ 16) (λ v. (result ≡ v) × (v < 16)) }
     ensures solid { result < 16 → is_blank byte ≡ false }
 {
-    match read_digit(byte, 16) {
-        Some(value) => value as u8,
-        None => NO_DIGIT,
+    let number = byte.wrapping_sub(b'0');
+    let upper = byte.wrapping_sub(b'A');
+    let lower = byte.wrapping_sub(b'a');
+    if number < 10 {
+        number
+    } else if upper < 6 {
+        upper + 10
+    } else if lower < 6 {
+        lower + 10
+    } else {
+        NO_DIGIT
     }
 }
 
 /// The byte of two hexadecimal digits.
+#[inline(always)]
 fn byte_of(high: u8, low: u8) -> Option<u8>
     ensures value { result ≡ number_in 16 2 (high ∷ low ∷ []) }
     ensures solid { IfSome result (λ _. (is_blank high ≡ false) × (is_blank low ≡ false)) }
@@ -34,6 +42,7 @@ fn byte_of(high: u8, low: u8) -> Option<u8>
 
 /// The byte that the first word spells, and what follows it, where the word has two digits between two
 /// spaces, as data mostly has.
+#[inline(always)]
 pub fn next_pair(text: &[u8]) -> Option<(u8, &[u8])>
     ensures { IfSome result (λ found. IsFirstByte found.0 (words_of text.now) (words_of found.1.now)) }
 {

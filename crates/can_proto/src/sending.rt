@@ -1,14 +1,15 @@
-ghost use Rattle.std.specs.Prelude.{◌≡◌, ◌==◌, ◌≤◌, ◌+◌, true, if◌then◌else◌, Ok, Err, length, take, IfOk, IfErr};
+ghost use Rattle.std.specs.Prelude.{IsTrue, ◌≡◌, ◌==◌, ◌≤◌, ◌+◌, true, if◌then◌else◌, Ok, Err, length, take, IfOk, IfErr};
+ghost use Rattle.can_frame.specs.Frames.{is_fd_length};
 ghost use Rattle.can_frame.specs.Numbers.{number_in};
 ghost use Rattle.can_proto.specs.Words.{words_of};
 ghost use Rattle.can_proto.specs.Pairs.{IsFirstByte};
-ghost use Rattle.can_proto.specs.Commands.{Gives, id_of, length_of, bytes_of, IsDataFault, send_of, remote_of};
+ghost use Rattle.can_proto.specs.Commands.{Gives, id_of, length_of, fd_length_of, bytes_of, IsDataFault, asked, send_of, send_fd_of, remote_of};
 
 use crate::commands::Command;
 use crate::faults::ProtoFault;
 use crate::pairs::next_pair;
 use crate::words::{has_words, next_word};
-use can_frame::{CanId, Frame, read_hexadecimal};
+use can_frame::{CanId, Frame, is_fd_length, read_decimal, read_hexadecimal};
 
 /// An identifier of 8 digits (29 bits) or of 1 to 3 (11 bits).
 #[tactic(auto, unfolding(crate::specs::Commands::id_of))]
@@ -51,6 +52,25 @@ fn read_length(word: &[u8]) -> Result<u8, ProtoFault>
     }
 }
 
+/// A length of an FD frame, in decimal without leading zeros.
+#[tactic(auto, unfolding(crate::specs::Commands::fd_length_of))]
+fn read_fd_length(word: &[u8]) -> Result<usize, ProtoFault>
+    ensures value { Gives result (fd_length_of word.now) }
+    ensures length { IfOk result (λ n. IsTrue (is_fd_length n)) }
+    ensures small { IfOk result (λ n. n ≤ 64) }
+{
+    let Some(len) = read_decimal(word, 2) else {
+        return Err(ProtoFault::BadLength);
+    };
+    let len = len as usize;
+    let digits = if len < 10 { 1 } else { 2 };
+    if is_fd_length(len) && word.len() == digits {
+        Ok(len)
+    } else {
+        Err(ProtoFault::BadLength)
+    }
+}
+
 /// The byte that 1 or 2 hexadecimal digits stand for.
 fn read_byte(word: &[u8]) -> Option<u8>
     ensures { result ≡ number_in 16 2 word.now }
@@ -59,15 +79,15 @@ fn read_byte(word: &[u8]) -> Option<u8>
     Some(number as u8)
 }
 
-/// The bytes that so many words spell, in the first places of eight. A wrong count comes before a word
+/// The bytes that so many words spell, in the first places of `N`. A wrong count comes before a word
 /// that spells no byte.
-fn read_bytes(rest: &[u8], len: usize) -> Result<[u8; 8], ProtoFault>
-    requires small { len ≤ 8 }
+fn read_bytes<const N: usize>(rest: &[u8], len: usize) -> Result<[u8; N], ProtoFault>
+    requires small { len ≤ N }
     ensures count { IfOk result (λ bytes. (length (words_of rest.now) == len) ≡ true) }
     ensures value { IfOk result (λ bytes. bytes_of (words_of rest.now) ≡ Ok (take len bytes)) }
     ensures fault { IfErr result (IsDataFault len (words_of rest.now)) }
 {
-    let mut bytes = [0u8; 8];
+    let mut bytes = [0u8; N];
     let mut rest = rest;
     for i in 0..len {
         let (byte, after) = next_byte(rest, len - i - 1)?;
@@ -81,13 +101,22 @@ fn read_bytes(rest: &[u8], len: usize) -> Result<[u8; 8], ProtoFault>
 }
 
 /// The byte that the first word spells, and what follows it, where so many words should follow.
+#[inline(always)]
 fn next_byte(text: &[u8], left: usize) -> Result<(u8, &[u8]), ProtoFault>
     ensures value { IfOk result (λ found. IsFirstByte found.0 (words_of text.now) (words_of found.1.now)) }
     ensures fault { IfErr result (IsDataFault (left + 1) (words_of text.now)) }
 {
-    if let Some(found) = next_pair(text) {
-        return Ok(found);
+    match next_pair(text) {
+        Some(found) => Ok(found),
+        None => spelled_byte(text, left),
     }
+}
+
+/// The same, however the word stands in the text.
+fn spelled_byte(text: &[u8], left: usize) -> Result<(u8, &[u8]), ProtoFault>
+    ensures value { IfOk result (λ found. IsFirstByte found.0 (words_of text.now) (words_of found.1.now)) }
+    ensures fault { IfErr result (IsDataFault (left + 1) (words_of text.now)) }
+{
     let Some((word, after)) = next_word(text) else {
         return Err(ProtoFault::BadCount);
     };
@@ -109,9 +138,16 @@ fn bad_byte(after: &[u8], left: usize) -> ProtoFault
 }
 
 /// The words of `send ID LEN b ..`.
-#[tactic(auto, unfolding(crate::specs::Commands::send_of))]
 pub fn read_send(rest: &[u8]) -> Result<Command, ProtoFault>
     ensures { Gives result (send_of (words_of rest.now)) }
+{
+    Ok(Command::Send(read_frame(rest)?))
+}
+
+/// The data frame that these words ask to be sent.
+#[tactic(auto, unfolding(crate::specs::Commands::send_of))]
+pub fn read_frame(rest: &[u8]) -> Result<Frame, ProtoFault>
+    ensures { Gives (asked result) (send_of (words_of rest.now)) }
 {
     let Some((id_word, rest)) = next_word(rest) else {
         return Err(ProtoFault::BadCount);
@@ -121,8 +157,28 @@ pub fn read_send(rest: &[u8]) -> Result<Command, ProtoFault>
     };
     let id = read_id(id_word)?;
     let len = read_length(len_word)? as usize;
-    let bytes = read_bytes(rest, len)?;
+    let bytes = read_bytes::<8>(rest, len)?;
     match Frame::data(id, &bytes[..len]) {
+        Ok(frame) => Ok(frame),
+        Err(_) => Err(ProtoFault::BadLength),
+    }
+}
+
+/// The words of `sendfd ID LEN b ..`.
+#[tactic(auto, unfolding(crate::specs::Commands::send_fd_of))]
+pub fn read_send_fd(rest: &[u8]) -> Result<Command, ProtoFault>
+    ensures { Gives result (send_fd_of (words_of rest.now)) }
+{
+    let Some((id_word, rest)) = next_word(rest) else {
+        return Err(ProtoFault::BadCount);
+    };
+    let Some((len_word, rest)) = next_word(rest) else {
+        return Err(ProtoFault::BadCount);
+    };
+    let id = read_id(id_word)?;
+    let len = read_fd_length(len_word)?;
+    let bytes = read_bytes::<64>(rest, len)?;
+    match Frame::fd(id, &bytes[..len]) {
         Ok(frame) => Ok(Command::Send(frame)),
         Err(_) => Err(ProtoFault::BadLength),
     }

@@ -1,6 +1,9 @@
-ghost use Rattle.std.specs.Prelude.{◌≡◌, ◌≤◌, ◌<◌, ◌+◌, ◌^◌, ◌++◌, length};
+ghost use Rattle.std.specs.Prelude.{◌≡◌, ◌≤◌, ◌<◌, ◌+◌, ◌^◌, ◌++◌, length, true, codes};
 ghost use Rattle.std.specs.Fmt.{decimal};
-ghost use Rattle.can_proto.specs.Spelling.{class_width, class_text, data_text, remote_text, error_text, item_text, stats_text, state_word, status_text, reply_text};
+ghost use Rattle.can_frame.specs.Frames.{is_remote, payload_bytes};
+ghost use Rattle.can_frame.specs.FrameText.{id_text, pairs};
+ghost use Rattle.can_frame.specs.Moments.{moment_text};
+ghost use Rattle.can_proto.specs.Spelling.{class_width, class_text, data_text, fd_text, remote_text, error_text, item_text, stats_text, state_word, status_text, reply_text};
 ghost use Rattle.can_proto.specs.declared.answers.Answer.TheVariants.{Refused};
 
 use crate::answers::{Answer, Cause};
@@ -13,18 +16,22 @@ use can_frame::{ErrorFrame, Frame, Item, Moment};
 /// where `errdata` asks for them.
 pub fn item_text(item: Item, moment: Moment, errdata: bool) -> ItemText
     ensures text { result ≡ item_text errdata item moment }
-    ensures short { length result ≤ 53 }
+    ensures short { length result ≤ 167 }
 {
+    let mut text = ItemText::new();
     match item {
         Item::Data(frame) => {
             if frame.is_remote() {
-                remote_text(frame, moment)
+                push_remote(&mut text, &frame, moment);
+            } else if frame.is_fd() {
+                push_fd(&mut text, &frame, moment);
             } else {
-                data_text(frame, moment)
+                push_classic(&mut text, &frame, moment);
             }
         }
-        Item::Error(error) => error_text(error, moment, errdata),
+        Item::Error(error) => push_error(&mut text, error, moment, errdata),
     }
+    text
 }
 
 /// What a client is answered.
@@ -91,64 +98,83 @@ fn class_width(class: u32) -> usize
 
 /// Adds an error class.
 fn push_class(text: &mut ItemText, class: u32)
-    requires { length text.old + 8 ≤ 64 }
+    requires { length text.old + 8 ≤ 192 }
     ensures text { text.new ≡ text.old ++ class_text class }
     ensures len { length text.new ≤ length text.old + 8 }
 {
     text.push_hex(class_width(class), u64::from(class));
 }
 
-/// A data frame. Without data two spaces stand together.
-fn data_text(frame: Frame, moment: Moment) -> ItemText
-    ensures text { result ≡ data_text frame moment }
-    ensures short { length result ≤ 53 }
+/// Adds a data frame. Without data two spaces stand together.
+fn push_classic(text: &mut ItemText, frame: &Frame, moment: Moment)
+    requires { length text.old + 167 ≤ 192 }
+    ensures text { text.new ≡ text.old ++ data_text frame.now moment }
+    ensures len { length text.new ≤ length text.old + 167 }
 {
-    prove!(frame.len() <= 8);
-    let mut text = ItemText::new();
     text.push_all(b"< frame ");
+    push_data(text, frame, moment);
+    text.push_all(b" >");
+}
+
+/// Adds an FD frame, in the same way.
+fn push_fd(text: &mut ItemText, frame: &Frame, moment: Moment)
+    requires { length text.old + 167 ≤ 192 }
+    ensures text { text.new ≡ text.old ++ fd_text frame.now moment }
+    ensures len { length text.new ≤ length text.old + 167 }
+{
+    text.push_all(b"< fdframe ");
+    push_data(text, frame, moment);
+    text.push_all(b" >");
+}
+
+/// Adds the identifier, the moment and the data of a frame.
+fn push_data(text: &mut ItemText, frame: &Frame, moment: Moment)
+    requires { length text.old + 155 ≤ 192 }
+    ensures text { text.new ≡ text.old ++ id_text frame.now.id ++ codes " " ++ moment_text moment ++ codes " " ++ pairs (payload_bytes frame.now.payload) }
+    ensures len { length text.new ≤ length text.old + 155 }
+{
+    prove!(frame.len() <= 64);
     text.push_id(frame.id());
     text.push_all(b" ");
     text.push_moment(moment);
     text.push_all(b" ");
     text.push_pairs(frame.bytes());
-    text.push_all(b" >");
-    text
 }
 
-/// A remote frame.
-fn remote_text(frame: Frame, moment: Moment) -> ItemText
-    ensures text { result ≡ remote_text frame moment }
-    ensures short { length result ≤ 53 }
+/// Adds a remote frame.
+fn push_remote(text: &mut ItemText, frame: &Frame, moment: Moment)
+    requires remote { is_remote frame.now.payload ≡ true }
+    requires room { length text.old + 53 ≤ 192 }
+    ensures text { text.new ≡ text.old ++ remote_text frame.now moment }
+    ensures len { length text.new ≤ length text.old + 53 }
 {
-    let mut text = ItemText::new();
     text.push_all(b"< remote ");
     text.push_id(frame.id());
     text.push_all(b" ");
     text.push_moment(moment);
     text.push_all(b" ");
-    push_length(&mut text, frame.len());
+    push_length(text, frame.len());
     text.push_all(b" >");
-    text
 }
 
 /// Adds the length that a remote frame asks for.
 fn push_length(text: &mut ItemText, len: u8)
     requires small { len ≤ 8 }
-    requires room { length text.old < 64 }
+    requires room { length text.old < 192 }
     ensures text { text.new ≡ text.old ++ decimal len }
     ensures len { length text.new ≡ length text.old + 1 }
 {
     text.push(b'0' + len);
 }
 
-/// An error message frame.
-fn error_text(error: ErrorFrame, moment: Moment, errdata: bool) -> ItemText
-    ensures text { result ≡ error_text errdata error moment }
-    ensures short { length result ≤ 53 }
+/// Adds an error message frame.
+fn push_error(text: &mut ItemText, error: ErrorFrame, moment: Moment, errdata: bool)
+    requires { length text.old + 53 ≤ 192 }
+    ensures text { text.new ≡ text.old ++ error_text errdata error moment }
+    ensures len { length text.new ≤ length text.old + 53 }
 {
-    let mut text = ItemText::new();
     text.push_all(b"< error ");
-    push_class(&mut text, error.class());
+    push_class(text, error.class());
     text.push_all(b" ");
     text.push_moment(moment);
     if errdata {
@@ -156,7 +182,6 @@ fn error_text(error: ErrorFrame, moment: Moment, errdata: bool) -> ItemText
         text.push_pairs(&error.data());
     }
     text.push_all(b" >");
-    text
 }
 
 /// The eight counts of `stats`.

@@ -1,8 +1,11 @@
-ghost use Rattle.std.specs.Prelude.{◌≡◌, ◌≤◌, ◌+◌, ◌++◌, [], length, IfOk, OnOk, OnErr, vec_capacity};
+ghost use Rattle.std.specs.Prelude.{◌≡◌, ◌≤◌, ◌+◌, ◌++◌, [], length, IfOk, IfSome, OnOk, OnErr, vec_capacity};
 ghost use Rattle.can_proto.specs.Messages.{messages_of, kept_of};
+ghost use Rattle.can_proto.specs.Commands.{IsLoneSend};
 
 use crate::messages::Incoming;
 use crate::scanning::{LIMIT, Place, scan};
+use crate::usual_sends::lone_send;
+use can_frame::Frame;
 use std::alloc::{AllocError, Global};
 use std::marker::Model;
 
@@ -59,6 +62,18 @@ impl Reader {
             }
         }
         Ok(out)
+    }
+
+    /// The frame that a piece asks to be sent in raw mode, where it is one whole `send` in its usual spelling and
+    /// no message was begun before it. The reader stays as it is, and this is all that the piece gives.
+    pub fn lone_send(&self, piece: &[u8]) -> Option<Frame>
+        ensures sends { IfSome result (λ frame. IsLoneSend (self.now ++ piece.now) frame) }
+        ensures keeps { IfSome result (λ _. kept_of (self.now ++ piece.now) ≡ self.now) }
+    {
+        if self.is_open {
+            return None;
+        }
+        lone_send(piece)
     }
 }
 

@@ -4,9 +4,9 @@ ghost use Rattle.std.specs.Fmt.{decimal};
 /// A text that a client is answered, kept in place. The longest, `stats`, has 177 bytes.
 pub type Text = can_frame::Text<256>;
 
-/// The text of an item or of a refusal, kept in place. The longest, an error message frame with its data, has 53
+/// The text of an item or of a refusal, kept in place. The longest, an FD frame of 64 bytes, has 167
 /// bytes.
-pub type ItemText = can_frame::Text<64>;
+pub type ItemText = can_frame::Text<192>;
 
 /// Adds a space and a number of any size in decimal.
 pub(crate) fn push_next(text: &mut Text, number: u64)

@@ -14,10 +14,12 @@ pub enum Verb {
     OtherMode,
     Send,
     SendRtr,
+    SendFd,
     Filter,
     Join,
     Loopback,
     RecvOwn,
+    FdFrames,
     ErrMask,
     ErrData,
     Stats,
@@ -40,6 +42,8 @@ pub fn verb_of(word: &[u8]) -> Option<Verb>
         Some(Verb::Send)
     } else if matches(word, b"sendrtr") {
         Some(Verb::SendRtr)
+    } else if matches(word, b"sendfd") {
+        Some(Verb::SendFd)
     } else if matches(word, b"echo") {
         Some(Verb::Echo)
     } else if matches(word, b"open") {
@@ -54,6 +58,8 @@ pub fn verb_of(word: &[u8]) -> Option<Verb>
         Some(Verb::Loopback)
     } else if matches(word, b"recvown") {
         Some(Verb::RecvOwn)
+    } else if matches(word, b"fdframes") {
+        Some(Verb::FdFrames)
     } else if matches(word, b"errmask") {
         Some(Verb::ErrMask)
     } else if matches(word, b"errdata") {

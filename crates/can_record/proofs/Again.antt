@@ -1,5 +1,5 @@
 -- A line that was written is read again.
-use Rattle.std.proofs.Common.{◌≡◌, ℕ, ◌^◌, ◌<◌, ◌≤◌, ◌==◌, Bool, true, false, if◌then◌else◌, List, [], ◌∷◌, ◌++◌, length, Option, Some, None, Err, append_assoc, refl, sym, ap, ◌∙◌, arith}
+use Rattle.std.proofs.Common.{◌≡◌, ℕ, ◌^◌, ◌<◌, ◌≤◌, ◌==◌, Bool, true, false, List, [], ◌∷◌, ◌++◌, length, Option, Some, None, Err, append_assoc, refl, sym, ap, ◌∙◌, arith}
 use Rattle.std.specs.Prelude.{All, codes, decimal}
 use Rattle.std.proofs.lemmas.Bool.{lt-ltb, eqb-true, cond-true, cond-false}
 use Rattle.std.proofs.lemmas.List.{append-nil}
@@ -34,18 +34,18 @@ use Rattle.can_event.specs.declared.events.Tried.{Tried}
 use Rattle.can_event.specs.declared.events.Reply.{Reply}
 use Rattle.can_event.specs.declared.events.Reply.TheVariants as reply
 use Rattle.can_event.specs.declared.events.Entry.{Entry}
-use Rattle.can_event.specs.Spelled.{LeavesEntry, IsNumberOf, FitsReply}
+use Rattle.can_event.specs.Spelled.{LeavesEntry, MayRefuse, IsNumberOf, FitsReply}
 use Rattle.std.proofs.lemmas.Option.{none-some, same_Some}
 use Rattle.can_record.specs.declared.faults.Unread.{Unread}
 use Rattle.can_record.specs.declared.faults.Unread.TheVariants as unread
 use Rattle.can_record.specs.declared.versions.Version.{Version}
 use Rattle.can_record.specs.declared.versions.Version.TheVariants as version
 use Rattle.can_record.specs.inner.Words.{is_gap, is_word, word, after}
-use Rattle.can_record.specs.Spelling.{gap_before, spell, set_word, mask_word, moment_word, flag_word, verdict_word, option_words, filter_words, refusal_words, received_words, event_words, restarted_words, reply_words, entry_line, ack_word, version_of, auto_restart_words, bus_words, end_words}
+use Rattle.can_record.specs.Spelling.{gap_before, spell, set_word, mask_word, moment_word, flag_word, verdict_word, option_words, filter_words, refusal_words, received_words, event_words, restarted_words, reply_words, entry_line, ack_word, auto_restart_words, bus_words, end_words}
 use Rattle.can_frame.specs.Numbers.{number_in}
 use Rattle.can_record.specs.Values.{HoldsFilter, HoldsOption, HoldsVerdict, HoldsEvent, HoldsTried, HoldsReply, HasLine, HasBusLine}
-use Rattle.can_record.specs.inner.Reading.{Gives, number_at, long_at, mask_at, moment_at, socket_at, set_at, flag_at, item_at, frame_at, option_at, set_behind, verdict_at, class_at, refusal_in, closed_at, data_at, error_at, tried_at, fixed_in, reply_at, moment_of, with_reply}
-use Rattle.can_record.specs.inner.Reading.{behind_word, restarted_at, filter_at, filters_at, set_filters_at, set_option_at, setting_at, plain_at, entry_at, ack_at, auto_restart_at, config_at}
+use Rattle.can_record.specs.inner.Reading.{Gives, number_at, long_at, mask_at, moment_at, socket_at, set_at, flag_at, item_at, frame_at, option_at, set_behind, verdict_at, class_at, refusal_in, closed_at, data_at, error_at, tried_at, fixed_in, reply_at, moment_of}
+use Rattle.can_record.specs.inner.Reading.{behind_word, restarted_at, filter_at, filters_at, set_filters_at, setting_at, plain_at, event_at, entry_at, ack_at, auto_restart_at, config_at}
 use Rattle.can_frame.proofs.Numerals.{value-digits}
 use Rattle.can_record.proofs.Wording.{word-spelled, after-spelled}
 use Rattle.can_record.proofs.Digits.{number_again, long_again, is_word-decimal, is_word-digits, moment_again, is_word-moment}
@@ -126,6 +126,7 @@ option_again : (o : Opt) (w : List ℕ) (ws : List (List ℕ)) (rest : List ℕ)
 unfolding option_at word after
 option_again (opt.Loopback on) w ws rest h = rw (flag_field on (spell (w ∷ ws) rest)) refl
 option_again (opt.RecvOwn on) w ws rest h = rw (flag_field on (spell (w ∷ ws) rest)) refl
+option_again (opt.FdFrames on) w ws rest h = rw (flag_field on (spell (w ∷ ws) rest)) refl
 option_again (opt.Join on) w ws rest h = rw (flag_field on (spell (w ∷ ws) rest)) refl
 option_again (opt.ErrMask mask) w ws rest h = rw (mask_field mask 32 (spell (w ∷ ws) rest) h refl) refl
 
@@ -252,15 +253,27 @@ received_number (SetOption s o) r h = absurd h
 received_number (Send s f) r h = absurd h
 received_number (Restart i m) r h = absurd h
 
+may_leave : (e : Event) (why : Refusal) → MayRefuse e why → LeavesEntry why
+may_leave e refusal.FdOff h = tt
+may_leave e refusal.NoInterface h = h
+may_leave e refusal.BadCapacity h = h
+may_leave e refusal.TooManySockets h = h
+may_leave e refusal.NoSocket h = h
+may_leave e refusal.BusOff h = h
+may_leave e refusal.NoBuffers h = h
+may_leave e refusal.NotBusOff h = h
+may_leave e refusal.RecordFull h = h
+may_leave e refusal.NoMemory h = h
+
 pub leaves : (e : Event) (why : Refusal) → FitsReply e (reply.Refused why) → LeavesEntry why
-leaves (Receive s) why h = h
-leaves (Attempt m v) why h = h
-leaves (Open i c) why h = h
-leaves (Close s) why h = h
-leaves (SetFilters s fs) why h = h
-leaves (SetOption s o) why h = h
-leaves (Send s f) why h = h
-leaves (Restart i m) why h = h
+leaves (Receive s) why h = may_leave (Receive s) why h
+leaves (Attempt m v) why h = may_leave (Attempt m v) why h
+leaves (Open i c) why h = may_leave (Open i c) why h
+leaves (Close s) why h = may_leave (Close s) why h
+leaves (SetFilters s fs) why h = may_leave (SetFilters s fs) why h
+leaves (SetOption s o) why h = may_leave (SetOption s o) why h
+leaves (Send s f) why h = may_leave (Send s f) why h
+leaves (Restart i m) why h = may_leave (Restart i m) why h
 
 received_again : (i : Item) (from n m : ℕ) (moment : Option ℕ) (rest : List ℕ) → IsNumberOf i n → IsItem i → from < 16 → n < 2 ^ 64 → m < 10 ^ 16
     → reply_at moment (spell (received_words i (record { item = i; from = from; number = n; moment = m })) rest) ≡ Some (reply.Received (Some (record { item = i; from = from; number = n; moment = m })), rest)
@@ -274,6 +287,7 @@ refused_again refusal.NoInterface moment rest h = refl
 refused_again refusal.BadCapacity moment rest h = refl
 refused_again refusal.TooManySockets moment rest h = refl
 refused_again refusal.NoSocket moment rest h = refl
+refused_again refusal.FdOff moment rest h = refl
 refused_again refusal.BusOff moment rest h = refl
 refused_again refusal.NoBuffers moment rest h = refl
 refused_again refusal.NotBusOff moment rest h = refl
@@ -292,45 +306,44 @@ reply_again e (reply.Idle set) rest fits h = idle_again (moment_of e) set rest h
 reply_again e (reply.Tried t) rest fits h = rw (tried_moment e t fits) (tried_again t rest h)
 reply_again e (reply.Refused why) rest fits h = refused_again why (moment_of e) rest (leaves e why fits)
 
--- ---- entries
+-- ---- events, with the words that follow them
 
-with_reply_again : (e : Event) (r : Reply) (rest : List ℕ) → FitsReply e r → HoldsReply r → with_reply e (spell (codes "=" ∷ reply_words r) rest) ≡ Some (record { event = e; reply = r })
-unfolding with_reply
-with_reply_again e r rest fits h = rw (after-spelled (codes "=") (spell (reply_words r) rest) (gap_before (reply_words r)) refl (gap_is (reply_words r)), reply_again e r rest fits h) refl
-
-set_filters_again : (s : SocketId) (fs : List CanFilter) (r : Reply) (rest : List ℕ) → HoldsEvent (SetFilters s fs) → FitsReply (SetFilters s fs) r → HoldsReply r
-    → set_filters_at (decimal s.0 ++ 32 ∷ (decimal (length fs) ++ gap_before (filter_words fs ++ codes "=" ∷ reply_words r) ∷ spell (filter_words fs ++ codes "=" ∷ reply_words r) rest)) ≡ Some (record { event = SetFilters s fs; reply = r })
+set_filters_again : (s : SocketId) (fs : List CanFilter) (w : List ℕ) (ws : List (List ℕ)) (rest : List ℕ) → HoldsEvent (SetFilters s fs)
+    → set_filters_at (decimal s.0 ++ 32 ∷ (decimal (length fs) ++ gap_before (filter_words fs ++ w ∷ ws) ∷ spell (filter_words fs ++ w ∷ ws) rest)) ≡ Some (SetFilters s fs, spell (w ∷ ws) rest)
 unfolding set_filters_at
-set_filters_again s fs r rest holds fits h =
-    let behind = filter_words fs ++ codes "=" ∷ reply_words r in
+set_filters_again s fs w ws rest holds =
+    let behind = filter_words fs ++ w ∷ ws in
     rw (
       socket_field s 32 (decimal (length fs) ++ gap_before behind ∷ spell behind rest) holds.0 refl,
       number_field 513 (length fs) (gap_before behind) (spell behind rest) (omega (arith, holds.1)) (omega arith) (gap_is behind),
-      filters_again fs [] (codes "=") (reply_words r) rest holds.2,
-    )
-    (with_reply_again (SetFilters s fs) r rest fits h)
+      filters_again fs [] w ws rest holds.2,
+    ) refl
 
-set_option_again : (s : SocketId) (o : Opt) (r : Reply) (rest : List ℕ) → HoldsEvent (SetOption s o) → FitsReply (SetOption s o) r → HoldsReply r
-    → set_option_at (decimal s.0 ++ gap_before (option_words o ++ codes "=" ∷ reply_words r) ∷ spell (option_words o ++ codes "=" ∷ reply_words r) rest) ≡ Some (record { event = SetOption s o; reply = r })
-unfolding set_option_at
-set_option_again s o r rest holds fits h =
-    let behind = option_words o ++ codes "=" ∷ reply_words r in
-    rw (socket_field s (gap_before behind) (spell behind rest) holds.0 (gap_is behind), option_again o (codes "=") (reply_words r) rest holds.1) (with_reply_again (SetOption s o) r rest fits h)
+event_again : (e : Event) (w : List ℕ) (ws : List (List ℕ)) (rest : List ℕ) → HoldsEvent e → event_at (spell (event_words e ++ w ∷ ws) rest) ≡ Some (e, spell (w ∷ ws) rest)
+unfolding event_at plain_at setting_at word after
+event_again (Open i c) w ws rest h = rw (number_field 16 i 32 (decimal c ++ 32 ∷ spell (w ∷ ws) rest) h.0 (omega arith) refl, number_field (2 ^ 32) c 32 (spell (w ∷ ws) rest) h.1 (omega arith) refl) refl
+event_again (Close s) w ws rest h = rw (socket_field s 32 (spell (w ∷ ws) rest) h refl) refl
+event_again (SetFilters s fs) w ws rest h = set_filters_again s fs w ws rest h
+event_again (SetOption s o) w ws rest h =
+    let behind = option_words o ++ w ∷ ws in
+    rw (socket_field s (gap_before behind) (spell behind rest) h.0 (gap_is behind), option_again o w ws rest h.1) refl
+event_again (Send s f) w ws rest h = rw (socket_field s 32 (frame_spelling (item.Data f) ++ 32 ∷ spell (w ∷ ws) rest) h.0 refl, frame_field f 32 (spell (w ∷ ws) rest) h.1 refl) refl
+event_again (Receive s) w ws rest h = rw (socket_field s 32 (spell (w ∷ ws) rest) h refl) refl
+event_again (Attempt m v) w ws rest h = rw (moment_field m 32 (verdict_word v ++ 32 ∷ spell (w ∷ ws) rest) h.0 refl, verdict_again v (spell (w ∷ ws) rest) h.1) refl
+event_again (Restart i m) w ws rest h = rw (number_field 16 i 32 (moment_word m ++ 32 ∷ spell (w ∷ ws) rest) h.0 (omega arith) refl, moment_field m 32 (spell (w ∷ ws) rest) h.1 refl) refl
 
-entry_kinds : (e : Event) (r : Reply) (rest : List ℕ) → FitsReply e r → HoldsEvent e → HoldsReply r → entry_at (spell (event_words e ++ codes "=" ∷ reply_words r) rest) ≡ Some (record { event = e; reply = r })
-unfolding entry_at plain_at setting_at word after
-entry_kinds (Open i c) r rest fits holds h = rw (number_field 16 i 32 (decimal c ++ 32 ∷ spell (codes "=" ∷ reply_words r) rest) holds.0 (omega arith) refl, number_field (2 ^ 32) c 32 (spell (codes "=" ∷ reply_words r) rest) holds.1 (omega arith) refl) (with_reply_again (Open i c) r rest fits h)
-entry_kinds (Close s) r rest fits holds h = rw (socket_field s 32 (spell (codes "=" ∷ reply_words r) rest) holds refl) (with_reply_again (Close s) r rest fits h)
-entry_kinds (SetFilters s fs) r rest fits holds h = set_filters_again s fs r rest holds fits h
-entry_kinds (SetOption s o) r rest fits holds h = set_option_again s o r rest holds fits h
-entry_kinds (Send s f) r rest fits holds h = rw (socket_field s 32 (frame_spelling (item.Data f) ++ 32 ∷ spell (codes "=" ∷ reply_words r) rest) holds.0 refl, frame_field f 32 (spell (codes "=" ∷ reply_words r) rest) holds.1 refl) (with_reply_again (Send s f) r rest fits h)
-entry_kinds (Receive s) r rest fits holds h = rw (socket_field s 32 (spell (codes "=" ∷ reply_words r) rest) holds refl) (with_reply_again (Receive s) r rest fits h)
-entry_kinds (Attempt m v) r rest fits holds h = rw (moment_field m 32 (verdict_word v ++ 32 ∷ spell (codes "=" ∷ reply_words r) rest) holds.0 refl, verdict_again v (spell (codes "=" ∷ reply_words r) rest) holds.1) (with_reply_again (Attempt m v) r rest fits h)
-entry_kinds (Restart i m) r rest fits holds h = rw (number_field 16 i 32 (moment_word m ++ 32 ∷ spell (codes "=" ∷ reply_words r) rest) holds.0 (omega arith) refl, moment_field m 32 (spell (codes "=" ∷ reply_words r) rest) holds.1 refl) (with_reply_again (Restart i m) r rest fits h)
+-- ---- entries
 
 -- the entry of a line
-pub entry_again : (c : BusConfig) (e : Entry) (rest : List ℕ) → HasLine c e → entry_at (entry_line e rest) ≡ Some e
-entry_again c e rest h = entry_kinds e.event e.reply rest h.spelled.fits h.event h.reply
+pub entry_again : (v : Version) (c : BusConfig) (e : Entry) (rest : List ℕ) → HasLine v c e → entry_at (entry_line e rest) ≡ Some e
+unfolding entry_at
+entry_again v c e rest h =
+    let ws = reply_words e.reply in
+    rw (
+      event_again e.event (codes "=") ws rest h.event,
+      after-spelled (codes "=") (spell ws rest) (gap_before ws) refl (gap_is ws),
+      reply_again e.event e.reply rest h.spelled.fits h.reply,
+    ) refl
 
 -- ---- the bus and the end
 
@@ -339,18 +352,11 @@ unfolding ack_at word after
 ack_field ack.Always rest = refl
 ack_field ack.Peers rest = refl
 
--- in version 1 no interface is restarted automatically
-never_restarted : (c : BusConfig) → version_of c ≡ version.One → c.auto_restart ≡ 0
-never_restarted c is = when (c.auto_restart == 0) refl is
-  where
-    when : (b : Bool) → (c.auto_restart == 0) ≡ b → (if b then version.One else version.Two) ≡ version.One → c.auto_restart ≡ 0
-    when true zero h = eqb-true c.auto_restart 0 zero
-    when false some h = absurd cc
-
 auto_restart_again : (v : Version) (c : BusConfig) (rest : List ℕ) → HasBusLine v c → auto_restart_at v (spell (auto_restart_words v c) rest) ≡ Some (c.auto_restart, rest)
 unfolding auto_restart_at
-auto_restart_again version.One c rest h = ap (λ (n : ℕ). Some (n, rest)) (sym (never_restarted c h.version))
+auto_restart_again version.One c rest h = ap (λ (n : ℕ). Some (n, rest)) (sym h.restarts)
 auto_restart_again version.Two c rest h = number_field (2 ^ 32) c.auto_restart 10 rest (omega (arith, h.proper.few_attempts)) (omega arith) refl
+auto_restart_again version.Three c rest h = number_field (2 ^ 32) c.auto_restart 10 rest (omega (arith, h.proper.few_attempts)) (omega arith) refl
 
 -- the configuration of a bus's line
 pub config_again : (v : Version) (c : BusConfig) (rest : List ℕ) → HasBusLine v c → config_at v (spell (bus_words v c) rest) ≡ Some c
@@ -372,17 +378,17 @@ config_again v c rest h =
 
 -- the end's line is no entry's
 pub end_is_none : (count : ℕ) (rest : List ℕ) → entry_at (spell (end_words count) rest) ≡ None
-unfolding entry_at plain_at setting_at word after
+unfolding entry_at event_at plain_at setting_at word after
 end_is_none count rest = refl
 
 -- where a line stands, nothing but want of memory keeps it from being read
-pub refused : (u : Unread) (text : List ℕ) → Gives (Err u) (entry_at text) → (c : BusConfig) (e : Entry) (rest : List ℕ) → HasLine c e → text ≡ entry_line e rest → u ≡ unread.NoMemory
-refused unread.NoMemory text h c e rest spelled is = refl
-refused unread.Bad text h c e rest spelled is = absurd (none-some e (sym h ∙ ap entry_at is ∙ entry_again c e rest spelled))
+pub refused : (u : Unread) (text : List ℕ) → Gives (Err u) (entry_at text) → (v : Version) (c : BusConfig) (e : Entry) (rest : List ℕ) → HasLine v c e → text ≡ entry_line e rest → u ≡ unread.NoMemory
+refused unread.NoMemory text h v c e rest spelled is = refl
+refused unread.Bad text h v c e rest spelled is = absurd (none-some e (sym h ∙ ap entry_at is ∙ entry_again v c e rest spelled))
 
 -- one text begins with one line
-pub same_entry : (read : Entry) (text : List ℕ) → entry_at text ≡ Some read → (c : BusConfig) (e : Entry) (rest : List ℕ) → HasLine c e → text ≡ entry_line e rest → e ≡ read
-same_entry read text h c e rest spelled is = same_Some e read (sym (ap entry_at is ∙ entry_again c e rest spelled) ∙ h)
+pub same_entry : (read : Entry) (text : List ℕ) → entry_at text ≡ Some read → (v : Version) (c : BusConfig) (e : Entry) (rest : List ℕ) → HasLine v c e → text ≡ entry_line e rest → e ≡ read
+same_entry read text h v c e rest spelled is = same_Some e read (sym (ap entry_at is ∙ entry_again v c e rest spelled) ∙ h)
 
 -- a line, and what follows it
 pub spell-rest : (ws : List (List ℕ)) (rest : List ℕ) → spell ws [] ++ rest ≡ spell ws rest
@@ -402,9 +408,9 @@ pub same_config : (v : Version) (read : BusConfig) (text : List ℕ) → Some re
 same_config v read text h c rest good is = same_Some c read (sym (ap (config_at v) is ∙ config_again v c rest good) ∙ sym h)
 
 nothing_is_none : entry_at [] ≡ None
-unfolding entry_at plain_at setting_at word after
+unfolding entry_at event_at plain_at setting_at word after
 nothing_is_none = refl
 
 -- a line is not empty
-pub line_some : (c : BusConfig) (e : Entry) → HasLine c e → entry_line e [] ≡ [] → ⊥
-line_some c e h is = none-some e (sym (sym (entry_again c e [] h) ∙ ap entry_at is ∙ nothing_is_none))
+pub line_some : (v : Version) (c : BusConfig) (e : Entry) → HasLine v c e → entry_line e [] ≡ [] → ⊥
+line_some v c e h is = none-some e (sym (sym (entry_again v c e [] h) ∙ ap entry_at is ∙ nothing_is_none))

@@ -2,7 +2,7 @@
 use Rattle.std.proofs.Common.{◌≡◌, inl, ℕ, ◌+◌, ◌^◌, ◌≤◌, true, false, cond, eqb, List, [], ◌∷◌, Some, refl, arith}
 use Rattle.std.specs.Prelude.{decimal}
 use Rattle.can_frame.specs.Frames.{Payload}
-use Rattle.can_frame.specs.Frames.Payload.{Data, Remote}
+use Rattle.can_frame.specs.Frames.Payload.{Data, Remote, Fd}
 use Rattle.can_frame.specs.declared.items.Item.{Item}
 use Rattle.can_frame.specs.declared.items.Item.TheVariants as item
 use Rattle.can_frame.specs.FrameText.{digits, pairs, id_text, payload_text, frame_spelling, IsPayload, IsItem}
@@ -30,6 +30,7 @@ word-request len h = elim (eqb len 0) as (λ t. is_word (35 ∷ 82 ∷ cond t []
 word-payload : (p : Payload) → IsPayload p → is_word (35 ∷ payload_text p) ≡ true
 word-payload (Data bytes) h = word-pairs bytes
 word-payload (Remote len) h = word-request len h
+word-payload (Fd bytes) h = word-pairs bytes
 
 pub is_word-item : (i : Item) → IsItem i → is_word (frame_spelling i) ≡ true
 unfolding frame_spelling

@@ -5,6 +5,7 @@ pub mod FilterLists
 pub mod Again
 pub mod Written
 pub mod LineLists
+pub mod Versioning
 pub mod Whole
 pub mod Growing
 pub mod Carrying

@@ -3,6 +3,7 @@ use Rattle.std.proofs.Common.{◌≡◌, ℕ, ◌<◌, ◌≤◌, List, [], ◌�
 use Rattle.std.proofs.lemmas.List.{length-drop}
 use Rattle.can_event.specs.declared.events.BusConfig.{BusConfig}
 use Rattle.can_event.specs.declared.events.Entry.{Entry}
+use Rattle.can_record.specs.declared.versions.Version.{Version}
 use Rattle.can_record.specs.Values.{HasLine}
 use Rattle.can_record.specs.Spelling.{entry_words, entry_line, entry_lines}
 use Rattle.can_record.proofs.Again.{spell-rest, line_some}
@@ -40,8 +41,8 @@ pub not_zero : (xs : List ℕ) → (xs ≡ [] → ⊥) → 0 < length xs
 not_zero [] h = absurd (h refl)
 not_zero (x ∷ xs) h = omega arith
 
-pub line_shorter : (text buffer : List ℕ) (c : BusConfig) (e : Entry) → HasLine c e → buffer ≡ entry_line e [] → length buffer ≤ length text → length (drop (length buffer) text) < length text
-line_shorter text buffer c e good b within = omega (arith, length-drop (length buffer) text, ap length b, not_zero (entry_line e []) (line_some c e good), within)
+pub line_shorter : (text buffer : List ℕ) (v : Version) (c : BusConfig) (e : Entry) → HasLine v c e → buffer ≡ entry_line e [] → length buffer ≤ length text → length (drop (length buffer) text) < length text
+line_shorter text buffer v c e good b within = omega (arith, length-drop (length buffer) text, ap length b, not_zero (entry_line e []) (line_some v c e good), within)
 
 pub lines_go_on : (text rest buffer : List ℕ) (es more : List Entry) (e : Entry) → text ≡ entry_lines es rest → buffer ≡ entry_line e [] → rest ≡ entry_line e [] ++ drop (length (entry_line e [])) rest → more ≡ es ++ e ∷ [] → text ≡ entry_lines more (drop (length buffer) rest)
 lines_go_on text rest buffer es more e so_far b is kept =

@@ -1,8 +1,9 @@
 -- A line in the parts in which it is written.
-use Rattle.std.proofs.Common.{◌≡◌, ℕ, List, [], ◌∷◌, ◌++◌, length, Some, None, append_assoc, refl, sym, ap, ◌∙◌}
+use Rattle.std.proofs.Common.{◌≡◌, ◌<◌, ◌+◌, ℕ, List, [], ◌∷◌, ◌++◌, length, Some, None, append_assoc, refl, sym, ap, ◌∙◌}
 use Rattle.std.specs.Prelude.{codes, decimal}
 use Rattle.std.specs.List.{flat_map}
 use Rattle.std.proofs.lemmas.List.{append-nil}
+use Rattle.std.proofs.lemmas.Fmt.{decimal_digit}
 use Rattle.can_filter.specs.Filters.{CanFilter}
 use Rattle.can_frame.specs.declared.items.Item.{Item}
 use Rattle.can_frame.specs.declared.items.Item.TheVariants as item
@@ -31,6 +32,10 @@ filters_of fs out mid new front back = back ∙ rw (front, filters_words fs) (ap
 pub two_words : (out mid new a b : List ℕ) → mid ≡ out ++ (a ++ 32 ∷ []) → new ≡ mid ++ (b ++ 32 ∷ []) → new ≡ out ++ spaced (a ∷ b ∷ [])
 two_words out mid new a b front back = back ∙ rw (front) (append_assoc out (a ++ 32 ∷ []) (b ++ 32 ∷ []) ∙ ap (λ (x : List ℕ). out ++ ((a ++ 32 ∷ []) ++ x)) (sym (append-nil (b ++ 32 ∷ []))))
 
+-- a number of one digit, and the byte that ends it
+pub one_digit : (out mid new : List ℕ) (n gap : ℕ) → n < 10 → mid ≡ out ++ (48 + n) ∷ [] → new ≡ mid ++ gap ∷ [] → new ≡ out ++ (decimal n ++ gap ∷ [])
+one_digit out mid new n gap small front back = back ∙ rw (front, decimal_digit n small) (append_assoc out ((48 + n) ∷ []) (gap ∷ []))
+
 -- a word, the byte that ends it, and what follows
 pub last_word : (out mid new w rest : List ℕ) (g h : ℕ) → mid ≡ out ++ (w ++ g ∷ []) → g ≡ h → new ≡ mid ++ rest → new ≡ out ++ (w ++ h ∷ rest)
 last_word out mid new w rest g h front gap back = back ∙ rw (front, gap) (append_assoc out (w ++ h ∷ []) rest ∙ ap (λ (x : List ℕ). out ++ x) (append_assoc w (h ∷ []) rest))
@@ -58,6 +63,7 @@ ended e (reply.Refused why) h = refused_ended why (leaves e why h)
     refused_ended refusal.BadCapacity h = refl
     refused_ended refusal.TooManySockets h = refl
     refused_ended refusal.NoSocket h = refl
+    refused_ended refusal.FdOff h = refl
     refused_ended refusal.BusOff h = refl
     refused_ended refusal.NoBuffers h = refl
     refused_ended refusal.NotBusOff h = refl

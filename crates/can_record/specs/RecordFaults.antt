@@ -1,12 +1,14 @@
-use Rattle.std.specs.Prelude.{◌≡◌, ◌≢◌, ℕ, ◌+◌, ◌⊎◌, List, [], ◌++◌, length, reverse, Result, Ok, Err}
+use Rattle.std.specs.Prelude.{◌≡◌, ◌≢◌, false, ℕ, ◌+◌, ◌⊎◌, List, [], ◌++◌, length, reverse, Result, Ok, Err}
+use Rattle.std.specs.List.{list_any}
 use Rattle.can_event.specs.declared.events.BusConfig.{BusConfig}
 use Rattle.can_event.specs.declared.events.Entry.{Entry}
 use Rattle.can_bus.specs.Journal.{Kept}
 use Rattle.can_record.specs.declared.faults.ReadFault.{ReadFault}
 use Rattle.can_record.specs.declared.faults.ReadFault.TheVariants as fault
 use Rattle.can_record.specs.declared.versions.Version.{Version}
-use Rattle.can_record.specs.Spelling.{spell, first_line, bus_words, end_words, entry_line, entry_lines, front_lines, record_spelling}
-use Rattle.can_record.specs.Values.{HasLine, HasBusLine, HasText}
+use Rattle.can_record.specs.declared.versions.Version.TheVariants as version
+use Rattle.can_record.specs.Spelling.{spell, first_line, bus_words, end_words, entry_line, entry_lines, front_lines, text_in, has_fd, record_spelling}
+use Rattle.can_record.specs.Values.{HasLine, HasBusLine, HasLines, HasText}
 
 -- What is wrong with a text that is no record's (own choice).
 
@@ -18,13 +20,25 @@ IsTextOf text c entries = HasText c entries × (text ≡ record_spelling c entri
 abbrev pub LacksFirst : List ℕ → Type 0
 LacksFirst text = (v : Version) (rest : List ℕ) → text ≢ first_line v ++ rest
 
+-- the text is right line by line in version 3, and has nothing that takes this version
+pub record NeedsNoThree (text : List ℕ) : Type 0 where
+  pub config : BusConfig
+  pub entries : List Entry
+  pub whole : HasLines version.Three config entries
+  pub none : list_any has_fd entries ≡ false
+  pub is_text : text ≡ text_in version.Three config entries
+
+-- the text is of no version
+abbrev pub IsOfNoVersion : List ℕ → Type 0
+IsOfNoVersion text = LacksFirst text ⊎ NeedsNoThree text
+
 -- no line of a bus stands here, in this version
 abbrev pub LacksBus : Version → List ℕ → Type 0
 LacksBus v rest = (c : BusConfig) (more : List ℕ) → HasBusLine v c → rest ≢ spell (bus_words v c) more
 
--- no line of an entry of this bus stands here
-abbrev pub LacksEntry : BusConfig → List ℕ → Type 0
-LacksEntry c rest = (e : Entry) (more : List ℕ) → HasLine c e → rest ≢ entry_line e more
+-- no line of an entry of this bus stands here, in this version
+abbrev pub LacksEntry : Version → BusConfig → List ℕ → Type 0
+LacksEntry v c rest = (e : Entry) (more : List ℕ) → HasLine v c e → rest ≢ entry_line e more
 
 -- no end after so many entries stands here
 abbrev pub LacksEnd : ℕ → List ℕ → Type 0
@@ -40,22 +54,24 @@ pub record BusIsWrong (text : List ℕ) (n : ℕ) : Type 0 where
 
 -- behind the lines of a bus and of entries stands neither an entry's line nor the end
 pub record LineIsWrong (text : List ℕ) (n : ℕ) : Type 0 where
+  pub version : Version
   pub config : BusConfig
   pub entries : List Entry
   pub rest : List ℕ
-  pub whole : HasText config entries
-  pub begins : text ≡ front_lines config (entry_lines entries rest)
+  pub whole : HasLines version config entries
+  pub begins : text ≡ front_lines version config (entry_lines entries rest)
   pub next : n ≡ length entries + 3
-  pub wrong : LacksEntry config rest
+  pub wrong : LacksEntry version config rest
   pub open_end : LacksEnd (length entries) rest
 
--- the text is a record's, and goes on
+-- the text is right line by line up to its end, and goes on
 pub record GoesOn (text : List ℕ) (n : ℕ) : Type 0 where
+  pub version : Version
   pub config : BusConfig
   pub entries : List Entry
   pub rest : List ℕ
-  pub whole : HasText config entries
-  pub begins : text ≡ record_spelling config entries ++ rest
+  pub whole : HasLines version config entries
+  pub begins : text ≡ text_in version config entries ++ rest
   pub behind : n ≡ length entries + 4
   pub more : rest ≢ []
 
@@ -73,7 +89,7 @@ Ends count rest (Err fault.BadVersion) = ⊥
 -- what reading a text answers
 abbrev pub Reads : List ℕ → Result Kept ReadFault → Type 0
 Reads text (Ok r) = IsTextOf text r.config (reverse r.history)
-Reads text (Err fault.BadVersion) = LacksFirst text
+Reads text (Err fault.BadVersion) = IsOfNoVersion text
 Reads text (Err (fault.BadLine n)) = IsFirstWrong text n
 Reads text (Err fault.NoMemory) = Unit {0}
 

@@ -1,4 +1,6 @@
-use Rattle.std.specs.Prelude.{ℕ, ◌==◌, Bool, true, false, List, [], ◌∷◌, ◌++◌, length, codes, decimal, Some, None, if◌then◌else◌}
+use Rattle.std.specs.Prelude.{ℕ, ◌==◌, ◌||◌, Bool, true, false, List, [], ◌∷◌, ◌++◌, length, codes, decimal, Some, None, if◌then◌else◌}
+use Rattle.std.specs.List.{list_any}
+use Rattle.can_frame.specs.Frames.{is_fd}
 use Rattle.can_frame.specs.declared.ifaces.IfaceSet.{IfaceSet}
 use Rattle.can_frame.specs.declared.items.Item.{Item}
 use Rattle.can_frame.specs.declared.items.Item.TheVariants as item
@@ -67,6 +69,7 @@ option_words (opt.Loopback on) = codes "loopback" ∷ flag_word on ∷ []
 option_words (opt.RecvOwn on) = codes "recvown" ∷ flag_word on ∷ []
 option_words (opt.Join on) = codes "join" ∷ flag_word on ∷ []
 option_words (opt.ErrMask mask) = codes "errmask" ∷ mask_word mask ∷ []
+option_words (opt.FdFrames on) = codes "fd" ∷ flag_word on ∷ []
 
 -- a local fault and a colon
 abbrev pub local_front : LocalKind → List ℕ
@@ -93,6 +96,7 @@ refusal_words refusal.NoInterface = codes "no-interface" ∷ []
 refusal_words refusal.BadCapacity = codes "bad-capacity" ∷ []
 refusal_words refusal.TooManySockets = codes "too-many-sockets" ∷ []
 refusal_words refusal.NoSocket = codes "no-socket" ∷ []
+refusal_words refusal.FdOff = codes "fd-off" ∷ []
 refusal_words refusal.BusOff = codes "bus-off" ∷ []
 refusal_words refusal.NoBuffers = codes "no-buffers" ∷ []
 refusal_words refusal.NotBusOff = codes "not-bus-off" ∷ []
@@ -143,27 +147,55 @@ entry_line e rest = spell (entry_words e) rest
 abbrev pub answered_line : Event → Reply → List ℕ → List ℕ
 answered_line e r rest = entry_line (record { event = e; reply = r }) rest
 
--- the version of a record's text: 2 exactly where interfaces are restarted automatically
-abbrev pub version_of : BusConfig → Version
-version_of c = if c.auto_restart == 0 then version.One else version.Two
+-- an FD frame that was received
+abbrev pub is_fd_item : Item → Bool
+is_fd_item (item.Data f) = is_fd f.payload
+is_fd_item (item.Error e) = false
+
+-- an event that asks to send an FD frame, or sets the option for such
+abbrev pub asks_for_fd : Event → Bool
+asks_for_fd (SetOption s (opt.FdFrames on)) = true
+asks_for_fd (Send s frame) = is_fd frame.payload
+asks_for_fd _ = false
+
+-- a reply with an FD frame
+abbrev pub answers_with_fd : Reply → Bool
+answers_with_fd (reply.Received (Some r)) = is_fd_item r.item
+answers_with_fd (reply.Tried t) = is_fd t.frame.payload
+answers_with_fd _ = false
+
+-- an entry that version 3 alone has a line for
+abbrev pub has_fd : Entry → Bool
+has_fd e = asks_for_fd e.event || answers_with_fd e.reply
+
+-- the version for a bus: 3 where an FD frame or the option for such stands in its record, and else 2 exactly where interfaces
+-- are restarted automatically
+abbrev pub version_for : BusConfig → Bool → Version
+version_for c fd = if fd then version.Three else if c.auto_restart == 0 then version.One else version.Two
+
+-- the version of a record's text
+abbrev pub version_of : BusConfig → List Entry → Version
+version_of c entries = version_for c (list_any has_fd entries)
 
 -- the first line: the version
 abbrev pub first_line : Version → List ℕ
 first_line version.One = codes "canbus record 1" ++ 10 ∷ []
 first_line version.Two = codes "canbus record 2" ++ 10 ∷ []
+first_line version.Three = codes "canbus record 3" ++ 10 ∷ []
 
--- from version 2 on: how many attempts after it went off an interface is restarted
+-- from version 2 on: how many attempts after it went off an interface is restarted; in version 3 this may be 0
 abbrev pub auto_restart_words : Version → BusConfig → List (List ℕ)
 auto_restart_words version.One c = []
 auto_restart_words version.Two c = decimal c.auto_restart ∷ []
+auto_restart_words version.Three c = decimal c.auto_restart ∷ []
 
 -- the bus: how many interfaces, who acknowledges, the interfaces with reporting on, the room of a transmit queue, the limit
 abbrev pub bus_words : Version → BusConfig → List (List ℕ)
 bus_words v c = codes "bus" ∷ decimal c.ifaces ∷ ack_word c.ack ∷ set_word c.reporting ∷ decimal c.tx_capacity ∷ decimal c.limit ∷ auto_restart_words v c
 
--- the first two lines, and what follows them
-abbrev pub front_lines : BusConfig → List ℕ → List ℕ
-front_lines c rest = first_line (version_of c) ++ spell (bus_words (version_of c) c) rest
+-- the first two lines of a version, and what follows them
+abbrev pub front_lines : Version → BusConfig → List ℕ → List ℕ
+front_lines v c rest = first_line v ++ spell (bus_words v c) rest
 
 -- the end: how many entries there were
 abbrev pub end_words : ℕ → List (List ℕ)
@@ -174,6 +206,10 @@ unfoldable pub entry_lines : List Entry → List ℕ → List ℕ
 entry_lines [] rest = rest
 entry_lines (e ∷ es) rest = entry_line e (entry_lines es rest)
 
--- the text of a record: its version, the line of the bus, one for each entry, the oldest first, and that of the end
+-- the text of a record in a version: the line of the bus, one for each entry, the oldest first, and that of the end
+abbrev pub text_in : Version → BusConfig → List Entry → List ℕ
+text_in v c entries = front_lines v c (entry_lines entries (spell (end_words (length entries)) []))
+
+-- the text of a record, in its version
 abbrev pub record_spelling : BusConfig → List Entry → List ℕ
-record_spelling c entries = front_lines c (entry_lines entries (spell (end_words (length entries)) []))
+record_spelling c entries = text_in (version_of c entries) c entries

@@ -1,4 +1,4 @@
-use Rattle.std.specs.Prelude.{◌≡◌, ◌^◌, ◌<◌, ◌≤◌, List, length, Some, None, All, bit_and}
+use Rattle.std.specs.Prelude.{◌≡◌, ◌≢◌, ◌^◌, ◌<◌, ◌≤◌, true, List, length, Some, None, All, bit_and}
 use Rattle.can_frame.specs.declared.items.Item.TheVariants as item
 use Rattle.can_filter.specs.Filters.{CanFilter}
 use Rattle.can_fault.specs.declared.verdicts.Verdict.{Verdict}
@@ -16,7 +16,8 @@ use Rattle.can_frame.specs.FrameText.{IsItem}
 use Rattle.can_event.specs.Events.{IsConfig}
 use Rattle.can_event.specs.Spelled.{IsSpelled}
 use Rattle.can_record.specs.declared.versions.Version.{Version}
-use Rattle.can_record.specs.Spelling.{version_of}
+use Rattle.can_record.specs.declared.versions.Version.TheVariants as version
+use Rattle.can_record.specs.Spelling.{has_fd, version_of}
 
 -- The values that the types of an entry hold: a clause that ranges over all entries has to say so.
 
@@ -32,6 +33,7 @@ HoldsOption (opt.Loopback on) = Unit {0}
 HoldsOption (opt.RecvOwn on) = Unit {0}
 HoldsOption (opt.Join on) = Unit {0}
 HoldsOption (opt.ErrMask mask) = mask < 2 ^ 32
+HoldsOption (opt.FdFrames on) = Unit {0}
 
 -- a set of 16 interfaces
 abbrev pub HoldsVerdict : Verdict → Type 0
@@ -73,19 +75,30 @@ HoldsReply (reply.Idle restarted) = restarted.0 < 2 ^ 16
 HoldsReply (reply.Tried t) = HoldsTried t
 HoldsReply (reply.Refused why) = Unit {0}
 
--- an entry that has a line in the record of this bus, of such values
-pub record HasLine (c : BusConfig) (e : Entry) : Type 0 where
+-- an entry that has a line in the record of this bus in this version, of such values
+pub record HasLine (v : Version) (c : BusConfig) (e : Entry) : Type 0 where
   pub spelled : IsSpelled c e
+  pub version : has_fd e ≡ true → v ≡ version.Three
   pub event : HoldsEvent e.event
   pub reply : HoldsReply e.reply
+
+-- interfaces are restarted automatically in version 2, in version 1 by a call alone, and in version 3 either way
+abbrev pub Restarts : Version → BusConfig → Type 0
+Restarts version.One c = c.auto_restart ≡ 0
+Restarts version.Two c = c.auto_restart ≢ 0
+Restarts version.Three c = Unit {0}
 
 -- a configuration that has a line in this version
 pub record HasBusLine (v : Version) (c : BusConfig) : Type 0 where
   pub proper : IsConfig c
   pub reporting : c.reporting.0 < 2 ^ 16
-  pub version : version_of c ≡ v
+  pub restarts : Restarts v c
+
+-- a configuration and entries that have lines in this version
+pub record HasLines (v : Version) (c : BusConfig) (entries : List Entry) : Type 0 where
+  pub bus : HasBusLine v c
+  pub lines : All (HasLine v c) entries
 
 -- a configuration and entries that a text can spell
-pub record HasText (c : BusConfig) (entries : List Entry) : Type 0 where
-  pub bus : HasBusLine (version_of c) c
-  pub lines : All (HasLine c) entries
+abbrev pub HasText : BusConfig → List Entry → Type 0
+HasText c entries = HasLines (version_of c entries) c entries

@@ -1,25 +1,24 @@
 ghost use Rattle.std.specs.Prelude.{IsTrue, IfOk, OnOk, ◌++◌, ◌∷◌, [], ◌+◌, ◌≡◌, ◌≤◌, ◌<◌, length};
 ghost use Rattle.std.specs.Option.{option_map};
 ghost use Rattle.std.specs.Result.{result_map_both};
-ghost use Rattle.can_record.specs.inner.Reading.{Gives, moment_of, GivesFilters, option_at, verdict_at, filter_at, filters_at, with_reply, set_filters_at, set_option_at, setting_at, plain_at, entry_at};
+ghost use Rattle.can_record.specs.inner.Reading.{Gives, GivesFilters, option_at, verdict_at, filter_at, filters_at, set_filters_at, setting_at, plain_at, event_at};
 
 use crate::faults::Unread;
 use crate::fields::{
     begins_with, count_field, flag_field, frame_field, iface_field, mask_field, moment_field,
     set_behind, short_field, socket_field,
 };
-use crate::reply_reading::reply_field;
 use crate::words::{next_word, same_word};
-use can_bus::{Entry, Event, Opt, Received};
+use can_bus::{Event, Opt};
 use can_fault::{GlobalKind, LocalKind, Verdict};
 use can_filter::{Filter, FilterError, FilterSet};
-use can_frame::{IfaceSet, Item, Moment};
+use can_frame::IfaceSet;
 use std::alloc::{AllocError, Global};
 
-/// An entry as its line seems to spell it: the line has to be written again and compared.
-#[tactic(auto, unfolding(crate::specs::inner::Reading::entry_at))]
-pub(crate) fn guess_entry(alloc: Global, text: &[u8]) -> Result<Entry, Unread>
-    ensures { Gives result (entry_at text.now) }
+/// The event of a line as it seems to be spelled, and what follows it: the line has to be written again and compared.
+#[tactic(auto, unfolding(crate::specs::inner::Reading::event_at))]
+pub fn guess_event(alloc: Global, text: &[u8]) -> Result<(Event, &[u8]), Unread>
+    ensures { Gives (result_map_both (λ x. (x.0, x.1.now)) (λ why. why) result) (event_at text.now) }
 {
     let (word, rest) = next_word(text);
     if same_word(word, b"filters") {
@@ -28,50 +27,52 @@ pub(crate) fn guess_entry(alloc: Global, text: &[u8]) -> Result<Entry, Unread>
     guess_plain(word, rest).ok_or(Unread::Bad)
 }
 
-/// An entry whose line begins with this word and goes on with this text; of all events but those that set filters.
+/// An event whose line begins with this word and goes on with this text; of all but those that set filters.
 #[tactic(auto, unfolding(crate::specs::inner::Reading::plain_at))]
-fn guess_plain(word: &[u8], text: &[u8]) -> Option<Entry>
-    ensures { result ≡ plain_at word.now text.now }
+fn guess_plain<'a>(word: &[u8], text: &'a [u8]) -> Option<(Event, &'a [u8])>
+    ensures { option_map (λ x. (x.0, x.1.now)) result ≡ plain_at word.now text.now }
 {
     if same_word(word, b"attempt") {
         let Some((moment, rest)) = moment_field(text) else {
             return None;
         };
         let (verdict, rest) = verdict_field(rest)?;
-        return with_reply(Event::Attempt(moment, verdict), rest);
+        return Some((Event::Attempt(moment, verdict), rest));
     }
     if same_word(word, b"receive") {
         let (id, rest) = socket_field(text)?;
-        return with_reply(Event::Receive(id), rest);
+        return Some((Event::Receive(id), rest));
     }
     if same_word(word, b"send") {
         let (id, rest) = socket_field(text)?;
         let Some((frame, rest)) = frame_field(rest) else {
             return None;
         };
-        return with_reply(Event::Send(id, frame), rest);
+        return Some((Event::Send(id, frame), rest));
     }
     guess_setting(word, text)
 }
 
 /// The same of the events that set a bus up.
 #[tactic(auto, unfolding(crate::specs::inner::Reading::setting_at))]
-fn guess_setting(word: &[u8], text: &[u8]) -> Option<Entry>
-    ensures { result ≡ setting_at word.now text.now }
+fn guess_setting<'a>(word: &[u8], text: &'a [u8]) -> Option<(Event, &'a [u8])>
+    ensures { option_map (λ x. (x.0, x.1.now)) result ≡ setting_at word.now text.now }
 {
     if same_word(word, b"open") {
         let Some((iface, rest)) = iface_field(text) else {
             return None;
         };
         let (capacity, rest) = short_field(rest)?;
-        return with_reply(Event::Open(iface, capacity), rest);
+        return Some((Event::Open(iface, capacity), rest));
     }
     if same_word(word, b"close") {
         let (id, rest) = socket_field(text)?;
-        return with_reply(Event::Close(id), rest);
+        return Some((Event::Close(id), rest));
     }
     if same_word(word, b"option") {
-        return guess_option(text);
+        let (id, rest) = socket_field(text)?;
+        let (option, rest) = option_field(rest)?;
+        return Some((Event::SetOption(id, option), rest));
     }
     if same_word(word, b"restart") {
         let Some((iface, rest)) = iface_field(text) else {
@@ -80,49 +81,15 @@ fn guess_setting(word: &[u8], text: &[u8]) -> Option<Entry>
         let Some((moment, rest)) = moment_field(rest) else {
             return None;
         };
-        return with_reply(Event::Restart(iface, moment), rest);
+        return Some((Event::Restart(iface, moment), rest));
     }
     None
 }
 
-/// An entry, once its event is read.
-#[tactic(auto, unfolding(crate::specs::inner::Reading::with_reply))]
-fn with_reply(event: Event, text: &[u8]) -> Option<Entry>
-    ensures { result ≡ with_reply event text.now }
-{
-    // The checker has to meet the types inside a reply before an entry is made.
-    let _types: Option<(Item, Received)> = None;
-    let (_, rest) = next_word(text);
-    let Some((reply, _)) = reply_field(moment_of(&event), rest) else {
-        return None;
-    };
-    Some(Entry { event, reply })
-}
-
-/// The moment of an attempt.
-fn moment_of(event: &Event) -> Option<Moment>
-    ensures { result ≡ moment_of event.now }
-{
-    match event {
-        Event::Attempt(moment, _) => Some(*moment),
-        _ => None,
-    }
-}
-
-/// An option of a socket.
-#[tactic(auto, unfolding(crate::specs::inner::Reading::set_option_at))]
-fn guess_option(text: &[u8]) -> Option<Entry>
-    ensures { result ≡ set_option_at text.now }
-{
-    let (id, rest) = socket_field(text)?;
-    let (option, rest) = option_field(rest)?;
-    with_reply(Event::SetOption(id, option), rest)
-}
-
 /// The filters of a socket.
 #[tactic(auto, unfolding(crate::specs::inner::Reading::set_filters_at))]
-fn guess_filters(alloc: Global, text: &[u8]) -> Result<Entry, Unread>
-    ensures { Gives result (set_filters_at text.now) }
+fn guess_filters(alloc: Global, text: &[u8]) -> Result<(Event, &[u8]), Unread>
+    ensures { Gives (result_map_both (λ x. (x.0, x.1.now)) (λ why. why) result) (set_filters_at text.now) }
 {
     let Some((id, rest)) = socket_field(text) else {
         return Err(Unread::Bad);
@@ -136,7 +103,7 @@ fn guess_filters(alloc: Global, text: &[u8]) -> Result<Entry, Unread>
         Err(why) => return Err(why),
     };
     match FilterSet::from_slice(alloc, &filters) {
-        Ok(set) => with_reply(Event::SetFilters(id, set), rest).ok_or(Unread::Bad),
+        Ok(set) => Ok((Event::SetFilters(id, set), rest)),
         Err(FilterError::TooManyFilters) => Err(Unread::Bad),
         Err(FilterError::NoMemory) => Err(Unread::NoMemory),
     }
@@ -209,6 +176,10 @@ fn option_field(text: &[u8]) -> Option<(Opt, &[u8])>
     if same_word(word, b"join") {
         let (on, rest) = flag_field(rest)?;
         return Some((Opt::Join(on), rest));
+    }
+    if same_word(word, b"fd") {
+        let (on, rest) = flag_field(rest)?;
+        return Some((Opt::FdFrames(on), rest));
     }
     if same_word(word, b"errmask") {
         let (mask, rest) = mask_field(rest)?;

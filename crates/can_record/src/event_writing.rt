@@ -91,6 +91,10 @@ fn put_option(out: &mut Vec<u8>, option: Opt) -> Result<(), AllocError>
             put_word(out, b"join", b' ')?;
             put_flag(out, on)
         }
+        Opt::FdFrames(on) => {
+            put_word(out, b"fd", b' ')?;
+            put_flag(out, on)
+        }
         Opt::ErrMask(mask) => {
             put_word(out, b"errmask", b' ')?;
             put_mask(out, mask, b' ')

@@ -4,22 +4,24 @@ ghost use Rattle.can_event.specs.declared.events.Entry.{Entry as AnEntry};
 ghost use Rattle.can_event.specs.declared.events.BusConfig.{BusConfig as AConfig};
 ghost use Rattle.can_event.specs.Spelled.{FitsReply};
 ghost use Rattle.can_record.specs.declared.faults.Unread.TheVariants as unread;
-ghost use Rattle.can_record.specs.Spelling.{spell, ack_word, answered_line, bus_words, end_words, entry_line, first_line, version_of};
+ghost use Rattle.can_record.specs.Spelling.{spell, ack_word, answered_line, bus_words, end_words, entry_line, first_line};
 ghost use Rattle.can_record.specs.Values.{HasLine, HasBusLine};
 ghost use Rattle.can_record.specs.RecordFaults.{LacksFirst};
-ghost use Rattle.can_record.specs.inner.Reading.{ack_at, auto_restart_at, config_at};
+ghost use Rattle.can_record.specs.inner.Reading.{Gives, ack_at, auto_restart_at, config_at, entry_at, moment_of};
 
-use crate::event_reading::guess_entry;
+use crate::event_reading::guess_event;
 use crate::event_writing::put_event;
 use crate::faults::Unread;
 use crate::fields::{byte_field, set_field, short_field};
+use crate::reply_reading::reply_field;
 use crate::reply_writing::put_reply;
 use crate::values::{hold_event, hold_reply};
-use crate::versions::Version;
+use crate::versions::{Version, has_fd};
 use crate::words::{next_word, same_word};
 use crate::writing::{put_count, put_set, put_word};
 use can_attempt::AckMode;
 use can_bus::{BusConfig, Entry, Event, Reply, is_spelled};
+use can_frame::Moment;
 use std::alloc::{AllocError, Global};
 
 /// The line of an entry.
@@ -56,7 +58,7 @@ pub(crate) fn put_bus(
     put_count(out, u64::from(config.tx_capacity), b' ')?;
     match version {
         Version::One => put_count(out, u64::from(config.limit), b'\n')?,
-        Version::Two => {
+        Version::Two | Version::Three => {
             put_count(out, u64::from(config.limit), b' ')?;
             put_count(out, u64::from(config.auto_restart), b'\n')?;
         }
@@ -100,14 +102,14 @@ pub fn behind(text: &[u8], count: usize) -> &[u8]
     &text[count..]
 }
 
-/// Whether an entry has a line in the record of this bus.
-fn has_line(config: BusConfig, entry: &Entry) -> bool
-    ensures yes { IsTrue result → HasLine config entry.now }
-    ensures no { HasLine config entry.now → IsTrue result }
+/// Whether an entry has a line in the record of this bus in this version.
+fn has_line(version: Version, config: BusConfig, entry: &Entry) -> bool
+    ensures yes { IsTrue result → HasLine version config entry.now }
+    ensures no { HasLine version config entry.now → IsTrue result }
 {
     hold_event(&entry.event);
     hold_reply(&entry.reply);
-    is_spelled(config, entry)
+    is_spelled(config, entry) && (version == Version::Three || !has_fd(&entry.event, &entry.reply))
 }
 
 /// The version whose first line the text begins with.
@@ -121,24 +123,28 @@ pub(crate) fn read_version(text: &[u8]) -> Option<Version>
     if begins(text, Version::Two.first_line()) {
         return Some(Version::Two);
     }
+    if begins(text, Version::Three.first_line()) {
+        return Some(Version::Three);
+    }
     None
 }
 
-/// The entry of this bus's record whose line the text begins with. The line is left in the buffer.
+/// The entry of this bus's record whose line in this version the text begins with. The line is left in the buffer.
 pub(crate) fn read_line(
     buffer: &mut Vec<u8>,
     alloc: Global,
+    version: Version,
     config: BusConfig,
     text: &[u8],
 ) -> Result<Entry, Unread>
-    ensures found { IfOk result (λ e. HasLine config e × (buffer.new.items ≡ entry_line e []) × (text.now ≡ entry_line e [] ++ drop (length (entry_line e [])) text.now)) }
-    ensures only { (e : AnEntry) (rest : List ℕ) → HasLine config e → text.now ≡ entry_line e rest → IfErr result (λ u. u ≡ unread.NoMemory) }
+    ensures found { IfOk result (λ e. HasLine version config e × (buffer.new.items ≡ entry_line e []) × (text.now ≡ entry_line e [] ++ drop (length (entry_line e [])) text.now)) }
+    ensures only { (e : AnEntry) (rest : List ℕ) → HasLine version config e → text.now ≡ entry_line e rest → IfErr result (λ u. u ≡ unread.NoMemory) }
 {
     let read = match guess_entry(alloc, text) {
         Ok(read) => read,
         Err(why) => return Err(why),
     };
-    if !has_line(config, &read) {
+    if !has_line(version, config, &read) {
         return Err(Unread::Bad);
     }
     buffer.clear();
@@ -150,6 +156,32 @@ pub(crate) fn read_line(
         return Err(Unread::Bad);
     }
     Ok(read)
+}
+
+/// An entry as its line seems to spell it.
+#[tactic(auto, unfolding(crate::specs::inner::Reading::entry_at))]
+fn guess_entry(alloc: Global, text: &[u8]) -> Result<Entry, Unread>
+    ensures { Gives result (entry_at text.now) }
+{
+    let (event, rest) = match guess_event(alloc, text) {
+        Ok(found) => found,
+        Err(why) => return Err(why),
+    };
+    let (_, rest) = next_word(rest);
+    match reply_field(moment_of(&event), rest) {
+        Some((reply, _)) => Ok(Entry { event, reply }),
+        None => Err(Unread::Bad),
+    }
+}
+
+/// The moment of an attempt.
+fn moment_of(event: &Event) -> Option<Moment>
+    ensures { result ≡ moment_of event.now }
+{
+    match event {
+        Event::Attempt(moment, _) => Some(*moment),
+        _ => None,
+    }
 }
 
 /// The configuration whose line in this version the text begins with. The line is left in the buffer.
@@ -183,7 +215,7 @@ fn has_bus_line(version: Version, config: BusConfig) -> bool
     ensures yes { IsTrue result → HasBusLine version config }
     ensures no { HasBusLine version config → IsTrue result }
 {
-    config.is_proper() && Version::of(config) == version
+    config.is_proper() && version.restarts(config)
 }
 
 /// A configuration as its line seems to spell it in this version.
@@ -215,7 +247,7 @@ fn auto_restart_field(version: Version, text: &[u8]) -> Option<(u32, &[u8])>
 {
     match version {
         Version::One => Some((0, text)),
-        Version::Two => short_field(text),
+        Version::Two | Version::Three => short_field(text),
     }
 }
 

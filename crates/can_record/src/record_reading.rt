@@ -8,6 +8,7 @@ ghost use Rattle.can_record.specs.inner.Stepping.{HasFront};
 
 use crate::faults::{ReadFault, Unread};
 use crate::lines::{begins, behind, put_end, read_bus, read_line, read_version};
+use crate::versions::Version;
 use can_bus::{BusConfig, Entry, Received, Record};
 use can_frame::Item;
 use std::alloc::{AllocError, Global};
@@ -15,7 +16,8 @@ use std::alloc::{AllocError, Global};
 /// The record of a text, as `record_text` writes it: no other text is taken.
 ///
 /// `BadVersion` where the text does not begin with the first line of a version, and otherwise `BadLine` with the first
-/// line that is wrong or missing, from 1; where the text goes on behind its end, that is the line behind the end.
+/// line that is wrong or missing, from 1; where the text goes on behind its end, that is the line behind the end. Last,
+/// `BadVersion` where a text of version 3 has neither an FD frame nor the option for such.
 /// The time is linear in the text, and nothing is allocated for a line but the filters that it sets.
 pub fn read_record(alloc: Global, text: &str) -> Result<Record, ReadFault>
     ensures reads { Reads text.now result }
@@ -36,27 +38,30 @@ fn read_text(alloc: Global, text: &[u8]) -> Result<Record, ReadFault>
     ensures { Reads text.now result }
 {
     let mut buffer = Vec::new(alloc);
-    let (config, rest) = match read_front(&mut buffer, text) {
+    let (version, config, rest) = match read_front(&mut buffer, text) {
         Ok(front) => front,
         Err(why) => return Err(why),
     };
     let mut entries = Vec::new(alloc);
-    let Ok(rest) = read_lines(alloc, config, &mut buffer, &mut entries, rest) else {
+    let Ok(rest) = read_lines(alloc, version, config, &mut buffer, &mut entries, rest) else {
         return Err(ReadFault::NoMemory);
     };
     match read_end(&mut buffer, entries.len(), rest) {
         Ok(()) => {}
         Err(why) => return Err(why),
     }
+    if !version.is_needed(&entries) {
+        return Err(ReadFault::BadVersion);
+    }
     Ok(Record::from_spelled(config, entries))
 }
 
-/// The bus of the first two lines, and what follows them.
+/// The version and the bus of the first two lines, and what follows them.
 pub(crate) fn read_front<'a>(
     buffer: &mut Vec<u8>,
     text: &'a [u8],
-) -> Result<(BusConfig, &'a [u8]), ReadFault>
-    ensures front { IfOk result (λ x. HasFront text.now x.0 x.1.now) }
+) -> Result<(Version, BusConfig, &'a [u8]), ReadFault>
+    ensures front { IfOk result (λ x. HasFront text.now x.0 x.1 x.2.now) }
     ensures fault { IfErr result (λ why. Reads text.now (Err why)) }
 {
     let Some(version) = read_version(text) else {
@@ -68,7 +73,7 @@ pub(crate) fn read_front<'a>(
         Err(Unread::Bad) => return Err(ReadFault::BadLine(2)),
         Err(Unread::NoMemory) => return Err(ReadFault::NoMemory),
     };
-    Ok((config, behind(rest, buffer.len())))
+    Ok((version, config, behind(rest, buffer.len())))
 }
 
 /// Whether the text ends here, after so many entries.
@@ -91,10 +96,11 @@ pub(crate) fn read_end(buffer: &mut Vec<u8>, count: usize, text: &[u8]) -> Resul
     Ok(())
 }
 
-/// The entries of the lines that stand here in the record of this bus, up to the first place where none does, and what
-/// follows there.
+/// The entries of the lines that stand here in the record of this bus in this version, up to the first place where none
+/// does, and what follows there.
 fn read_lines<'a>(
     alloc: Global,
+    version: Version,
     config: BusConfig,
     buffer: &mut Vec<u8>,
     entries: &mut Vec<Entry>,
@@ -102,14 +108,14 @@ fn read_lines<'a>(
 ) -> Result<&'a [u8], AllocError>
     requires { entries.old.items ≡ [] }
     ensures lines { IfOk result (λ rest. text.now ≡ entry_lines entries.new.items rest.now) }
-    ensures have { IfOk result (λ rest. All (HasLine config) entries.new.items) }
-    ensures stops { IfOk result (λ rest. LacksEntry config rest.now) }
+    ensures have { IfOk result (λ rest. All (HasLine version config) entries.new.items) }
+    ensures stops { IfOk result (λ rest. LacksEntry version config rest.now) }
 {
     // The checker has to meet the types inside an entry before a vector takes one.
     let _types: Option<(Item, Received)> = None;
     let mut rest = text;
     loop {
-        match read_line(buffer, alloc, config, rest) {
+        match read_line(buffer, alloc, version, config, rest) {
             Ok(entry) => entries.push(entry)?,
             Err(Unread::Bad) => return Ok(rest),
             Err(Unread::NoMemory) => return Err(AllocError),

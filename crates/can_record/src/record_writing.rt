@@ -1,18 +1,23 @@
-ghost use Rattle.std.specs.Prelude.{◌≡◌, ◌++◌, [], IfOk, OnOk, reverse};
+ghost use Rattle.std.specs.Prelude.{◌≡◌, ◌≤◌, ◌++◌, [], length, IfOk, OnOk, reverse};
 ghost use Rattle.std.specs.Io.KnownBytes.{Appends};
 ghost use Rattle.can_event.specs.Spelled.{FitsReply};
+ghost use Rattle.can_packed.specs.Kept.{entry_in, frames_needed, IsSmall};
+ghost use Rattle.can_packed.specs.Stored.{entry_stored, IsStored};
 ghost use Rattle.can_record.specs.Spelling.{answered_line, entry_line, entry_lines, front_lines, record_spelling};
 
 use crate::lines::{put_answered, put_bus, put_end, put_line};
-use crate::versions::Version;
-use can_bus::{BusConfig, Entry, Event, Record, Reply};
+use crate::versions::{Version, record_has_fd};
+use can_bus::{BusConfig, Event, Received, Record, Reply, Stored};
+use can_frame::{Frame, Item};
+use can_packed::{Kept, event_in, frame_in, reply_in, stamp_moment, tried_in, verdict_in};
 use std::alloc::{AllocError, Global};
 use std::io;
 use std::io::Write;
 
 /// The text of a record: a first line that names its version, a line of the bus, one for each entry, the
 /// oldest first, and one that says how many entries there were. Each ends with LF, and the bytes are ASCII.
-/// The version is 2 where interfaces are restarted automatically, and else 1.
+/// The version is 3 where an FD frame or the option for such stands in the record; else 2 where interfaces are restarted
+/// automatically, and else 1.
 ///
 /// One record has one text, and one text has one record. The text takes some 40 bytes an entry; it grows in
 /// place, and the time is linear in it.
@@ -44,7 +49,9 @@ pub fn write_record<W: Write>(alloc: Global, record: &Record, writer: &mut W) ->
     ensures { OnOk result (Appends (W.contents writer.old) (W.contents writer.new) (record_spelling «record».now.config (reverse «record».now.history))) }
 {
     let mut line = Vec::new(alloc);
-    put_front(&mut line, record.config())?;
+    let config = record.config();
+    let version = Version::of(config, record_has_fd(record));
+    put_front(&mut line, version, config)?;
     writer.write_all(&line)?;
     write_lines(&mut line, record, writer)?;
     line.clear();
@@ -54,10 +61,9 @@ pub fn write_record<W: Write>(alloc: Global, record: &Record, writer: &mut W) ->
 }
 
 /// The first two lines.
-fn put_front(out: &mut Vec<u8>, config: BusConfig) -> Result<(), AllocError>
-    ensures { OnOk result (out.new.items ≡ out.old.items ++ front_lines config []) }
+fn put_front(out: &mut Vec<u8>, version: Version, config: BusConfig) -> Result<(), AllocError>
+    ensures { OnOk result (out.new.items ≡ out.old.items ++ front_lines version config []) }
 {
-    let version = Version::of(config);
     out.extend_from_slice(version.first_line())?;
     put_bus(out, version, config)
 }
@@ -67,19 +73,70 @@ fn write_lines<W: Write>(line: &mut Vec<u8>, record: &Record, writer: &mut W) ->
     ensures { OnOk result (Appends (W.contents writer.old) (W.contents writer.new) (entry_lines (reverse «record».now.history) [])) }
 {
     for place in 0..record.len() {
-        let looked = record.entry(place).unwrap();
-        write_line(line, looked.entry(), writer)?;
+        let stored = record.stored(place).unwrap();
+        write_line(line, &stored, writer)?;
     }
     Ok(())
 }
 
 /// Writes the line of an entry.
-fn write_line<W: Write>(line: &mut Vec<u8>, entry: &Entry, writer: &mut W) -> io::Result<()>
-    requires { FitsReply entry.now.event entry.now.reply }
-    ensures { OnOk result (Appends (W.contents writer.old) (W.contents writer.new) (entry_line entry.now [])) }
+fn write_line<W: Write>(line: &mut Vec<u8>, stored: &Stored<'_>, writer: &mut W) -> io::Result<()>
+    requires stored { IsStored stored.now }
+    requires fits { FitsReply (entry_stored stored.now).event (entry_stored stored.now).reply }
+    ensures { OnOk result (Appends (W.contents writer.old) (W.contents writer.new) (entry_line (entry_stored stored.now) [])) }
 {
     line.clear();
-    put_line(line, entry)?;
+    put_stored(line, stored)?;
     writer.write_all(line)?;
     Ok(())
+}
+
+/// The line of an entry as it is stored.
+fn put_stored(out: &mut Vec<u8>, stored: &Stored<'_>) -> Result<(), AllocError>
+    requires stored { IsStored stored.now }
+    requires fits { FitsReply (entry_stored stored.now).event (entry_stored stored.now).reply }
+    ensures { OnOk result (out.new.items ≡ out.old.items ++ entry_line (entry_stored stored.now) []) }
+{
+    match stored {
+        Stored::Packed(frames, kept) => put_kept(out, frames, kept),
+        Stored::Whole(entry) => put_line(out, entry),
+    }
+}
+
+/// The line of a packed entry. Each of the usual kinds is made where it is used, which is far cheaper than any entry.
+fn put_kept(out: &mut Vec<u8>, frames: &[Frame], kept: &Kept) -> Result<(), AllocError>
+    requires small { IsSmall kept.now }
+    requires within { frames_needed kept.now ≤ length frames.now }
+    requires fits { FitsReply (entry_in frames.now kept.now).event (entry_in frames.now kept.now).reply }
+    ensures { OnOk result (out.new.items ≡ out.old.items ++ entry_line (entry_in frames.now kept.now) []) }
+{
+    match kept {
+        Kept::Sent(len, id, word, number, bytes) => {
+            let event = Event::Send(*id, frame_in(*word, *len, bytes));
+            put_answered(out, &event, &Reply::Sent(u64::from(*number)))
+        }
+        Kept::NothingReceived(id) => {
+            put_answered(out, &Event::Receive(*id), &Reply::Received(None))
+        }
+        Kept::FrameReceived(from, len, id, word, number, bytes, moment) => {
+            let received = Received {
+                item: Item::Data(frame_in(*word, *len, bytes)),
+                from: *from,
+                number: u64::from(*number),
+                moment: *moment,
+            };
+            put_answered(out, &Event::Receive(*id), &Reply::Received(Some(received)))
+        }
+        Kept::Idle(restarted, verdict, moment) => {
+            let event = Event::Attempt(*moment, *verdict);
+            put_answered(out, &event, &Reply::Idle(*restarted))
+        }
+        Kept::Tried(end, named, word, number, accepted, restarted, bytes, stamp) => {
+            let event = Event::Attempt(stamp_moment(*stamp), verdict_in(*end / 4, *named));
+            let words = (*end, *word, *number);
+            let tried = tried_in(words, *accepted, *restarted, bytes, *stamp);
+            put_answered(out, &event, &Reply::Tried(tried))
+        }
+        kept => put_answered(out, &event_in(frames, kept), &reply_in(frames, kept)),
+    }
 }

@@ -197,6 +197,9 @@ fn refusal_of(word: &[u8]) -> Option<Refusal>
     if same_word(word, b"no-socket") {
         return Some(Refusal::NoSocket);
     }
+    if same_word(word, b"fd-off") {
+        return Some(Refusal::FdOff);
+    }
     if same_word(word, b"bus-off") {
         return Some(Refusal::BusOff);
     }

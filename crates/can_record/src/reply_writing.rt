@@ -113,6 +113,7 @@ fn put_refusal(out: &mut Vec<u8>, why: Refusal) -> Result<(), AllocError>
         Refusal::BadCapacity => put_word(out, b"bad-capacity", b'\n'),
         Refusal::TooManySockets => put_word(out, b"too-many-sockets", b'\n'),
         Refusal::NoSocket => put_word(out, b"no-socket", b'\n'),
+        Refusal::FdOff => put_word(out, b"fd-off", b'\n'),
         Refusal::BusOff => put_word(out, b"bus-off", b'\n'),
         Refusal::NoBuffers => put_word(out, b"no-buffers", b'\n'),
         Refusal::NotBusOff => put_word(out, b"not-bus-off", b'\n'),

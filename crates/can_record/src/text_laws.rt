@@ -3,9 +3,10 @@ ghost use Rattle.can_event.specs.declared.events.BusConfig.{BusConfig as AConfig
 ghost use Rattle.can_event.specs.declared.events.Entry.{Entry as AnEntry};
 ghost use Rattle.can_event.specs.Events.{IsConfig};
 ghost use Rattle.can_event.specs.Spelled.{IsSpelled};
+ghost use Rattle.can_record.specs.declared.versions.Version.TheVariants as version;
 ghost use Rattle.can_record.specs.Values.{HasBusLine, HasLine, HasText};
-ghost use Rattle.can_record.specs.Spelling.{record_spelling, version_of};
-ghost use Rattle.can_record.specs.RecordFaults.{IsTextOf, LacksFirst, IsFirstWrong};
+ghost use Rattle.can_record.specs.Spelling.{record_spelling};
+ghost use Rattle.can_record.specs.RecordFaults.{IsTextOf, IsOfNoVersion, IsFirstWrong};
 
 use crate::faults::ReadFault;
 use crate::record_reading::read_record_bytes;
@@ -19,11 +20,11 @@ pub fn record_texts_tell_records_apart()
     ensures { (c d : AConfig) (es ds : List AnEntry) → HasText c es → HasText d ds → record_spelling c es ≡ record_spelling d ds → (c ≡ d) × (es ≡ ds) }
 {}
 
-/// A text is a record's, or lacks the first line, or has one line that is the first wrong one: no two of these.
+/// A text is a record's, or is of no version, or has one line that is the first wrong one: no two of these.
 pub fn a_text_is_at_fault_in_one_way()
     ensures whole { (text : List ℕ) (n : ℕ) (c : AConfig) (es : List AnEntry) → IsTextOf text c es → IsFirstWrong text n → ⊥ }
-    ensures first { (text : List ℕ) (c : AConfig) (es : List AnEntry) → IsTextOf text c es → LacksFirst text → ⊥ }
-    ensures version { (text : List ℕ) (n : ℕ) → LacksFirst text → IsFirstWrong text n → ⊥ }
+    ensures first { (text : List ℕ) (c : AConfig) (es : List AnEntry) → IsTextOf text c es → IsOfNoVersion text → ⊥ }
+    ensures version { (text : List ℕ) (n : ℕ) → IsOfNoVersion text → IsFirstWrong text n → ⊥ }
     ensures line { (text : List ℕ) (n m : ℕ) → IsFirstWrong text n → IsFirstWrong text m → n ≡ m }
 {}
 
@@ -41,17 +42,17 @@ pub fn read_back(alloc: Global, kept: &Record) -> Result<Record, AllocError>
     }
 }
 
-/// A configuration within the limits has a line.
+/// A configuration within the limits has a line in version 3.
 fn hold_config(config: BusConfig)
     requires { IsConfig config }
-    ensures { HasBusLine (version_of config) config }
+    ensures { HasBusLine version.Three config }
 {
     let _bits = config.reporting.0;
 }
 
-/// Entries of a record have lines.
+/// Entries of a record have lines in version 3.
 fn hold_lines(kept: &Record)
-    ensures { All (HasLine «kept».now.config) (reverse «kept».now.history) }
+    ensures { All (HasLine version.Three «kept».now.config) (reverse «kept».now.history) }
 {
     let config = kept.config();
     for place in 0..kept.len() {
@@ -62,7 +63,7 @@ fn hold_lines(kept: &Record)
 
 fn hold_line(config: BusConfig, entry: &Entry)
     requires { IsSpelled config entry.now }
-    ensures { HasLine config entry.now }
+    ensures { HasLine version.Three config entry.now }
 {
     hold_event(&entry.event);
     hold_reply(&entry.reply);

@@ -1,8 +1,9 @@
-ghost use Rattle.std.specs.Prelude.{◌≡◌, ◌++◌, ◌∷◌, [], decimal, OnOk};
+ghost use Rattle.std.specs.Prelude.{◌≡◌, ◌<◌, ◌++◌, ◌∷◌, [], decimal, OnOk};
 ghost use Rattle.can_frame.specs.FrameText.{frame_spelling};
 ghost use Rattle.can_record.specs.Spelling.{mask_word, moment_word, set_word};
 
 use can_frame::{IfaceSet, Item, Moment, Text, frame_text};
+use itoa::Buffer;
 use std::alloc::AllocError;
 
 /// A word, and the byte that ends it.
@@ -18,10 +19,22 @@ pub fn put_word(out: &mut Vec<u8>, word: &[u8], gap: u8) -> Result<(), AllocErro
 pub fn put_count(out: &mut Vec<u8>, n: u64, gap: u8) -> Result<(), AllocError>
     ensures { OnOk result (out.new.items ≡ out.old.items ++ (decimal n ++ gap ∷ [])) }
 {
-    let mut word: Text<24> = Text::new();
-    word.push_count(n);
-    word.push(gap);
-    out.extend_from_slice(word.as_bytes())
+    if n < 10 {
+        return put_digit(out, n as u8, gap);
+    }
+    let mut buffer = Buffer::new();
+    put_word(out, buffer.format(n).as_bytes(), gap)
+}
+
+/// A number of one digit, and the byte that ends it.
+#[tactic(auto, using(crate::proofs::Written::one_digit))]
+fn put_digit(out: &mut Vec<u8>, n: u8, gap: u8) -> Result<(), AllocError>
+    requires { n < 10 }
+    ensures { OnOk result (out.new.items ≡ out.old.items ++ (decimal n ++ gap ∷ [])) }
+{
+    out.push(b'0' + n)?;
+    out.push(gap)?;
+    Ok(())
 }
 
 /// Seconds, a point and six digits of microseconds, and the byte that ends it.

@@ -16,9 +16,9 @@ use Rattle.can_event.specs.declared.events.Reply.TheVariants as reply
 use Rattle.can_event.specs.declared.events.Refusal.TheVariants as refusal
 use Rattle.can_event.specs.declared.events.SocketId.{SocketId}
 use Rattle.can_bus.specs.Counters.{state_at}
-use Rattle.can_bus.specs.Legal.{legal_reply}
+use Rattle.can_bus.specs.Legal.{lacks_fd, legal_reply}
 use Rattle.can_bus.specs.Queues.{queued_to, dropped_at, taken_from}
-use Rattle.can_bus.specs.Sockets.{Place, places, open_sockets, is_open, iface_of, iface_in}
+use Rattle.can_bus.specs.Sockets.{Place, places, open_sockets, is_open, iface_of, options_of, iface_in}
 use Rattle.can_bus.specs.State.{kept_nodes}
 use Rattle.can_bus.specs.Transmit.{sent_by, gone_count}
 use Rattle.can_bus.proofs.OffFacts.{is_open-iface}
@@ -80,14 +80,17 @@ few-on c past s i h on = omega (arith, on.iface, is_open-iface c past h.legal s 
 abbrev send_as : BusConfig → List Entry → ℕ → Reply
 send_as c past i = if is_off (state_at c past i) then reply.Refused refusal.BusOff else if length (sent_by past i) - gone_count past i == c.tx_capacity then reply.Refused refusal.NoBuffers else reply.Sent (length (sent_by past i))
 
-on-open : (c : BusConfig) (past : List Entry) (s : SocketId) (f : CanFrame) (i : ℕ) → IsOn past s.0 i → send_as c past i ≡ legal_reply c past (event.Send s f)
-on-open c past s f i on = ap (send_as c past) on.iface ∙ sym (cond-true (is_open past s.0) _ _ on.there)
+on-open : (c : BusConfig) (past : List Entry) (s : SocketId) (f : CanFrame) (i : ℕ) → IsOn past s.0 i → lacks_fd f (options_of past s.0) ≡ false → send_as c past i ≡ legal_reply c past (event.Send s f)
+on-open c past s f i on may = ap (send_as c past) on.iface ∙ sym (cond-true (is_open past s.0) _ _ on.there ∙ cond-false (lacks_fd f (options_of past s.0)) _ _ may)
 
-pub sent-off : (c : BusConfig) (past : List Entry) (s : SocketId) (f : CanFrame) (i : ℕ) (nodes : Nodes) (off : Bool) → IsHistory c past → IsOn past s.0 i
+pub sent-fd-off : (c : BusConfig) (past : List Entry) (s : SocketId) (f : CanFrame) → is_open past s.0 ≡ true → lacks_fd f (options_of past s.0) ≡ true → reply.Refused refusal.FdOff ≡ legal_reply c past (event.Send s f)
+sent-fd-off c past s f there lacks = sym (cond-true (is_open past s.0) _ _ there ∙ cond-true (lacks_fd f (options_of past s.0)) _ _ lacks)
+
+pub sent-off : (c : BusConfig) (past : List Entry) (s : SocketId) (f : CanFrame) (i : ℕ) (nodes : Nodes) (off : Bool) → IsHistory c past → IsOn past s.0 i → lacks_fd f (options_of past s.0) ≡ false
     → nodes ≡ kept_nodes c past → off ≡ is_off (state_of (counts_at nodes i)) → off ≡ true → reply.Refused refusal.BusOff ≡ legal_reply c past (event.Send s f)
-sent-off c past s f i nodes off h on are is is_true =
+sent-off c past s f i nodes off h on may are is is_true =
     let here : is_off (state_at c past i) ≡ true = sym (off-kept c past nodes i off (few-on c past s.0 i h on) are is) ∙ is_true in
-    sym (cond-true (is_off (state_at c past i)) _ _ here) ∙ on-open c past s f i on
+    sym (cond-true (is_off (state_at c past i)) _ _ here) ∙ on-open c past s f i on may
 
 -- what is there to send, and how much of it has left
 pub record IsQueue (past : List Entry) (i sent gone : ℕ) : Type 0 where
@@ -98,21 +101,21 @@ waiting : (past : List Entry) (i sent gone n : ℕ) → IsQueue past i sent gone
 waiting past i sent gone n queue is = is ∙ ap (λ (k : ℕ). k - gone) queue.sent_is ∙ ap (λ (k : ℕ). length (sent_by past i) - k) queue.gone_is
 
 pub sent-full : (c : BusConfig) (past : List Entry) (s : SocketId) (f : CanFrame) (i : ℕ) (nodes : Nodes) (off : Bool) (sent gone n : ℕ) → IsHistory c past
-    → IsOn past s.0 i → nodes ≡ kept_nodes c past → off ≡ is_off (state_of (counts_at nodes i)) → off ≡ false → IsQueue past i sent gone → n ≡ sent - gone
+    → IsOn past s.0 i → lacks_fd f (options_of past s.0) ≡ false → nodes ≡ kept_nodes c past → off ≡ is_off (state_of (counts_at nodes i)) → off ≡ false → IsQueue past i sent gone → n ≡ sent - gone
     → n ≡ c.tx_capacity → reply.Refused refusal.NoBuffers ≡ legal_reply c past (event.Send s f)
-sent-full c past s f i nodes off sent gone n h on are is live queue room full =
+sent-full c past s f i nodes off sent gone n h on may are is live queue room full =
     let here : is_off (state_at c past i) ≡ false = sym (off-kept c past nodes i off (few-on c past s.0 i h on) are is) ∙ live in
     let is_full : (length (sent_by past i) - gone_count past i == c.tx_capacity) ≡ true = eq-eqb _ _ (sym (waiting past i sent gone n queue room) ∙ full) in
-    sym (cond-false (is_off (state_at c past i)) _ _ here ∙ cond-true (length (sent_by past i) - gone_count past i == c.tx_capacity) _ _ is_full) ∙ on-open c past s f i on
+    sym (cond-false (is_off (state_at c past i)) _ _ here ∙ cond-true (length (sent_by past i) - gone_count past i == c.tx_capacity) _ _ is_full) ∙ on-open c past s f i on may
 
 pub sent-taken : (c : BusConfig) (past : List Entry) (s : SocketId) (f : CanFrame) (i : ℕ) (nodes : Nodes) (off : Bool) (sent gone n : ℕ) → IsHistory c past
-    → IsOn past s.0 i → nodes ≡ kept_nodes c past → off ≡ is_off (state_of (counts_at nodes i)) → off ≡ false → IsQueue past i sent gone → n ≡ sent - gone
+    → IsOn past s.0 i → lacks_fd f (options_of past s.0) ≡ false → nodes ≡ kept_nodes c past → off ≡ is_off (state_of (counts_at nodes i)) → off ≡ false → IsQueue past i sent gone → n ≡ sent - gone
     → n ≢ c.tx_capacity → reply.Sent sent ≡ legal_reply c past (event.Send s f)
-sent-taken c past s f i nodes off sent gone n h on are is live queue room free =
+sent-taken c past s f i nodes off sent gone n h on may are is live queue room free =
     let here : is_off (state_at c past i) ≡ false = sym (off-kept c past nodes i off (few-on c past s.0 i h on) are is) ∙ live in
     let is_free : (length (sent_by past i) - gone_count past i == c.tx_capacity) ≡ false = ne_eqb _ _ (λ e. free (waiting past i sent gone n queue room ∙ e)) in
     ap (λ (k : ℕ). reply.Sent k) queue.sent_is
-    ∙ sym (cond-false (is_off (state_at c past i)) _ _ here ∙ cond-false (length (sent_by past i) - gone_count past i == c.tx_capacity) _ _ is_free) ∙ on-open c past s f i on
+    ∙ sym (cond-false (is_off (state_at c past i)) _ _ here ∙ cond-false (length (sent_by past i) - gone_count past i == c.tx_capacity) _ _ is_free) ∙ on-open c past s f i on may
 
 -- ---- one event after another
 

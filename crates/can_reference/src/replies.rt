@@ -1,7 +1,7 @@
 ghost use Rattle.std.specs.Prelude.{◌≡◌, ℕ, ◌≤◌, ◌<◌, ◌↔◌, [], ◌∷◌, ◌++◌, reverse, length, IfOk, OnOk, Err};
-ghost use Rattle.can_frame.specs.Frames.{CanFrame};
 ghost use Rattle.can_event.specs.Events.{IsConfig};
-ghost use Rattle.can_bus.specs.Legal.{legal_reply, if_open};
+ghost use Rattle.can_bus.specs.Legal.{lacks_fd, legal_reply, if_open};
+ghost use Rattle.can_bus.specs.Sockets.{options_of};
 ghost use Rattle.can_event.specs.declared.events.Event.TheVariants as event;
 ghost use Rattle.can_event.specs.declared.events.Reply.TheVariants as reply;
 ghost use Rattle.can_replay.specs.Histories.{IsHistory};
@@ -10,10 +10,10 @@ ghost use Rattle.can_replay.specs.Replies.{replies_after, reply_after, entries_a
 use crate::attempts::attempt_reply;
 use crate::counters::nodes_of;
 use crate::queues::{arrivals_at, item_at, taken_from};
-use crate::sockets::sockets_of;
+use crate::sockets::{options_of, sockets_of};
 use crate::transmit::{gone_count, sent_by};
 use can_bus::{BusConfig, Closed, Entry, Event, Received, Refusal, Reply, SocketId};
-use can_frame::{Iface, Item};
+use can_frame::{Frame, Iface, Item};
 use std::alloc::{AllocError, Global};
 use thiserror::Error;
 
@@ -82,18 +82,29 @@ fn set_reply(alloc: Global, past: &[Entry], id: SocketId) -> Result<Reply, Alloc
     Ok(Reply::Done)
 }
 
+/// Whether it is an FD frame, and the socket's option for such is off.
+fn lacks_fd(past: &[Entry], id: SocketId, frame: Frame) -> bool
+    ensures { result ≡ lacks_fd frame (options_of (reverse past.now) id.0) }
+{
+    frame.is_fd() && !options_of(past, id).fd
+}
+
 /// The reply of a send.
 fn send_reply(
     alloc: Global,
     config: BusConfig,
     past: &[Entry],
     id: SocketId,
+    frame: Frame,
 ) -> Result<Reply, AllocError>
-    ensures { (f : CanFrame) → IsHistory config (reverse past.now) → IfOk result (λ r. r ≡ legal_reply config (reverse past.now) (event.Send id f)) }
+    ensures { IsHistory config (reverse past.now) → IfOk result (λ r. r ≡ legal_reply config (reverse past.now) (event.Send id frame)) }
 {
     let sockets = sockets_of(alloc, past)?;
     if !sockets.is_open(id) {
         return Ok(Reply::Refused(Refusal::NoSocket));
+    }
+    if lacks_fd(past, id, frame) {
+        return Ok(Reply::Refused(Refusal::FdOff));
     }
     let iface = sockets.iface_of(id);
     if nodes_of(config, past).is_off(iface) {
@@ -153,7 +164,7 @@ fn legal_reply(
         Event::Close(id) => close_reply(alloc, config, past, *id),
         Event::SetFilters(id, _) => set_reply(alloc, past, *id),
         Event::SetOption(id, _) => set_reply(alloc, past, *id),
-        Event::Send(id, _) => send_reply(alloc, config, past, *id),
+        Event::Send(id, frame) => send_reply(alloc, config, past, *id, *frame),
         Event::Receive(id) => receive_reply(alloc, config, past, *id),
         Event::Attempt(moment, verdict) => { attempt_reply(alloc, config, past, *moment, *verdict) }
         Event::Restart(iface, _) => Ok(restart_reply(config, past, *iface)),

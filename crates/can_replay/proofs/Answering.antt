@@ -32,6 +32,7 @@ answers c past e (reply.Refused refusal.NoInterface) h memory = noted c past e _
 answers c past e (reply.Refused refusal.BadCapacity) h memory = noted c past e _ h.0 h.1 refl
 answers c past e (reply.Refused refusal.TooManySockets) h memory = noted c past e _ h.0 h.1 refl
 answers c past e (reply.Refused refusal.NoSocket) h memory = noted c past e _ h.0 h.1 refl
+answers c past e (reply.Refused refusal.FdOff) h memory = noted c past e _ h.0 h.1 refl
 answers c past e (reply.Refused refusal.BusOff) h memory = noted c past e _ h.0 h.1 refl
 answers c past e (reply.Refused refusal.NoBuffers) h memory = noted c past e _ h.0 h.1 refl
 answers c past e (reply.Refused refusal.NotBusOff) h memory = noted c past e _ h.0 h.1 refl

@@ -1,4 +1,4 @@
-use Rattle.std.proofs.Common.{◌≡◌, ℕ, ◌+◌, ◌-◌, ◌==◌, ◌<◌, ◌≤◌, not, ◌&&◌, nat_le, List, [], ◌∷◌, ◌++◌, length, min, take, drop, filter, find, slice_get, Option, Some, None, is_some, if◌then◌else◌, inl, inr, arith, refl, sym, ap, ◌∙◌}
+use Rattle.std.proofs.Common.{◌≡◌, ℕ, ◌+◌, ◌-◌, ◌==◌, ◌<◌, ◌≤◌, not, ◌&&◌, nat_le, Bool, List, [], ◌∷◌, ◌++◌, length, min, take, drop, filter, find, slice_get, Option, Some, None, is_some, if◌then◌else◌, inl, inr, arith, refl, sym, ap, ◌∙◌}
 use mathlib.Core.Path.{fun_ext}
 use Rattle.std.specs.List.{list_any, range_with_len}
 use Rattle.std.proofs.lemmas.Bool.{cond-true, cond-false, le-leb, lt-leb, cases_lt}
@@ -22,7 +22,7 @@ use Rattle.can_bus.specs.AutoRestart.{restarted_next}
 use Rattle.can_bus.specs.Attempts.{beats, winner, attempt_reply, tried_head}
 use Rattle.can_bus.specs.Posts.{Post, posts_of, attempt_posts, auto_restart_posts}
 use Rattle.can_bus.specs.Queues.{passing, candidates_of, queued_to, dropped_at, taken_from}
-use Rattle.can_bus.specs.Legal.{legal_reply, if_open, IsLegal}
+use Rattle.can_bus.specs.Legal.{lacks_fd, legal_reply, if_open, IsLegal}
 use Rattle.can_replay.specs.Audits.{IsFirstWrong, IsToldWrong, allowed}
 use Rattle.can_replay.specs.Histories.{before}
 
@@ -110,10 +110,11 @@ attempt-narrow c n past m v (Some w) = tried-narrow c n past m v w (head_of past
 
 -- ---- replies
 
--- the reply of a send on an interface by these error counts
-abbrev sent_on : BusConfig → List Entry → ℕ → (ℕ → ErrorCounts) → Reply
-sent_on c past i k =
-    if is_off (state_of (k i)) then reply.Refused refusal.BusOff
+-- the reply of a send on an interface, by whether FD frames are off and by these error counts
+abbrev sent_on : BusConfig → List Entry → Bool → ℕ → (ℕ → ErrorCounts) → Reply
+sent_on c past fd_off i k =
+    if fd_off then reply.Refused refusal.FdOff
+    else if is_off (state_of (k i)) then reply.Refused refusal.BusOff
     else if length (sent_by past i) - gone_count past i == c.tx_capacity then reply.Refused refusal.NoBuffers
     else reply.Sent (length (sent_by past i))
 
@@ -124,7 +125,7 @@ reply-narrow c n past (Close s) =
     ∙ ap (λ (ds : List Received). if_open past s.0 (reply.Closed (record { unread = length (queued_to c past s.0) - length (taken_from past s.0); dropped = length ds }))) (dropped-narrow c n past s.0)
 reply-narrow c n past (SetFilters s filters) = refl
 reply-narrow c n past (SetOption s option) = refl
-reply-narrow c n past (Send s frame) = ap (λ (k : ℕ → ErrorCounts). if_open past s.0 (sent_on c past (iface_of past s.0) k)) (counts-narrow c n past)
+reply-narrow c n past (Send s frame) = ap (λ (k : ℕ → ErrorCounts). if_open past s.0 (sent_on c past (lacks_fd frame (options_of past s.0)) (iface_of past s.0) k)) (counts-narrow c n past)
 reply-narrow c n past (Receive s) = ap (λ (qs : List Received). if_open past s.0 (reply.Received (slice_get qs (length (taken_from past s.0))))) (queued-narrow c n past s.0)
 reply-narrow c n past (Attempt m v) = ap (attempt_reply (narrow c n) past m v) (winner-narrow c n past) ∙ attempt-narrow c n past m v (winner c past)
 reply-narrow c n past (Restart i m) = ap (λ (k : ℕ → ErrorCounts). if nat_le c.ifaces i then reply.Refused refusal.NoInterface else if is_off (state_of (k i)) then reply.Done else reply.Refused refusal.NotBusOff) (counts-narrow c n past)

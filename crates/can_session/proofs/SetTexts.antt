@@ -1,9 +1,10 @@
-use Rattle.std.proofs.Common.{◌≡◌, ℕ, ◌+◌, ◌<◌, Bool, true, false, if◌then◌else◌, List, [], ◌∷◌, ◌++◌, length, drop, get_or, slice_get, refl, sym, ap, ◌∙◌, append_assoc}
+use Rattle.std.proofs.Common.{◌≡◌, ℕ, ◌+◌, ◌==◌, ◌<◌, Bool, true, false, if◌then◌else◌, List, [], ◌∷◌, ◌++◌, length, drop, get_or, slice_get, codes, refl, sym, ap, ◌∙◌, arith, append_assoc}
+use Rattle.std.proofs.lemmas.Nat.Bits.{bit_at_above}
 use Rattle.std.proofs.lemmas.List.{drop_more}
 use Rattle.std.proofs.lemmas.Option.{slice_get-get_or}
-use Rattle.can_frame.specs.Sets.{is_in}
+use Rattle.can_frame.specs.Sets.{is_in, no_ifaces}
 use Rattle.can_frame.specs.declared.ifaces.IfaceSet.{IfaceSet}
-use Rattle.can_session.specs.AttemptLines.{names_from, after_commas, member_text, joined, name_text}
+use Rattle.can_session.specs.AttemptLines.{names_from, after_commas, member_text, joined, name_text, set_text}
 
 -- what is still to be written of names
 abbrev pub rest_text : Bool → List (List ℕ) → List ℕ
@@ -61,3 +62,13 @@ other_kept names set i k first next said more whole lt at is_not last same h =
     ap (λ (b : Bool). more ++ rest_text b (to_come names set (i + 1))) last
     ∙ ap (λ (t : List ℕ). t ++ rest_text first (to_come names set (i + 1))) same
     ∙ ap (λ (t : List ℕ). said ++ t) (sym (other_step names set i first lt (ap (λ (j : ℕ). is_in j set) (sym at) ∙ is_not))) ∙ h
+
+none_named : (i : ℕ) (names : List (List ℕ)) → names_from i names no_ifaces ≡ []
+none_named i [] = refl
+none_named i (name ∷ names) =
+    let out : is_in i no_ifaces ≡ false = ap (λ (b : ℕ). b == 1) (bit_at_above 0 0 i (omega arith) (omega arith)) in
+    rw out (none_named (i + 1) names)
+
+-- the text of no interface
+pub none_text : (names : List (List ℕ)) → set_text names no_ifaces ≡ codes "-"
+none_text names = ap joined (none_named 0 names)

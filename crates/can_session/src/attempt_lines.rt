@@ -83,6 +83,9 @@ fn put_name(said: &mut Vec<u8>, names: &Names, iface: Iface) -> Result<(), Alloc
 fn put_set(said: &mut Vec<u8>, names: &Names, set: IfaceSet) -> Result<(), AllocError>
     ensures { OnOk result (said.new.items ≡ said.old.items ++ set_text names.now set) }
 {
+    if set == IfaceSet::empty() {
+        return said.extend_from_slice(b"-");
+    }
     let mut is_first = true;
     for number in 0..names.count() {
         let Some(iface) = Iface::new(number) else {

@@ -55,8 +55,8 @@ pub struct BenchConfig<F> {
 
 /// Carries out the lines of an input on one bus, and writes what they put out: the bus's record.
 ///
-/// Each line's output is written in one call, so a writer that is slow for small writes wants a buffer around it.
-/// Before each read the writer is flushed, so that whoever writes the input has the answers to all lines so far.
+/// The output of each line that has any is written in one call, so a writer that is slow for small writes wants a
+/// buffer around it. Before each read the writer is flushed, so that whoever writes the input has the answers to all lines so far.
 /// Of the input no more than 8,192 bytes are kept, at any length. The time grows with the lines and with what they
 /// do on the bus. `NoMemory` comes before the first line or in place of a line; what the lines before it put out was
 /// written. `bench_lines` tells more of how far the input was read.
@@ -194,11 +194,14 @@ fn next_line<R: Read + Drop, W: Write>(
     }
 }
 
-/// Writes what a line puts out.
+/// Writes what a line puts out, if it puts out anything.
 fn put<W: Write>(out: &mut W, said: &[u8]) -> Result<(), BenchFault>
     ensures wrote { OnOk result (Appends (W.contents out.old) (W.contents out.new) said.now) }
     ensures fault { OnErr result (result ≡ Err BenchFault.Write) }
 {
+    if said.is_empty() {
+        return Ok(());
+    }
     match out.write_all(said) {
         Ok(()) => Ok(()),
         Err(_) => Err(BenchFault::Write),

@@ -120,6 +120,7 @@ impl Bench {
     }
 
     /// Has a session act, if it was started, and puts what it says behind its number: whether it was.
+    #[inline(always)]
     pub fn speak(
         &mut self,
         session: SessionNumber,

@@ -64,6 +64,7 @@ fn greeted(alloc: Global, capacity: u32, said: &mut Vec<u8>) -> Result<Session, 
 }
 
 /// Has a session act, and adds what it says.
+#[inline(always)]
 pub fn carry_out(
     session: &mut Session,
     alloc: Global,

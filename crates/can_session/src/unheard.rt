@@ -1,6 +1,5 @@
 //! What sessions are fed that is in no message, so that a run can tell of it.
 use crate::orders::SessionNumber;
-use memchr::memchr2;
 
 /// Which sessions of a run were fed bytes outside messages, and which a message that was not ended. Spaces, tabs, CR and
 /// LF outside messages do not count.
@@ -60,12 +59,17 @@ impl Unheard {
     }
 }
 
-// Whether the bytes are one message and no more, as they mostly are.
+// Whether the bytes are one message and no more, as they mostly are. No byte decides early, so that the compiler can
+// compare many at once.
 fn is_message(bytes: &[u8]) -> bool {
-    match bytes {
-        [b'<', inside @ .., b'>'] => memchr2(b'<', b'>', inside).is_none(),
-        _ => false,
+    let [b'<', inside @ .., b'>'] = bytes else {
+        return false;
+    };
+    let mut has_mark = false;
+    for byte in inside {
+        has_mark = has_mark | (*byte == b'<') | (*byte == b'>');
     }
+    !has_mark
 }
 
 fn bit_of(session: SessionNumber) -> u64 {

@@ -1,5 +1,6 @@
 mod bench;
 mod dialogue;
+mod fd_frames;
 mod lines;
 mod restarts;
 mod sessions;

@@ -56,7 +56,9 @@ booked_more roll ms places j p e h below = record {
 
 booked_as : (b : Bool) (roll : RollSeen) (ms : List ℕ) (places : ℕ) (j : Journal) (p : ℕ) (e : Event) (r : Reply) → enters r ≡ b → IsBooked roll ms places j → (enters r ≡ true → p < length roll.lists)
     → IsBooked (roll_seen roll.number (if b then added roll.lists p (entry e r) else roll.lists) roll.called) (if b then p ∷ ms else ms) places (record { config = j.config; history = history_after e r j.history })
-booked_as true roll ms places j p e r is h below = subst (λ (past : List Entry). IsBooked (roll_seen roll.number (added roll.lists p (entry e r)) roll.called) (p ∷ ms) places (record { config = j.config; history = past })) (sym (after-entered e r j.history is)) (booked_more roll ms places j p (entry e r) h (below is))
+booked_as true roll ms places j p e r is h below =
+    subst (λ (past : List Entry). IsBooked (roll_seen roll.number (added roll.lists p (entry e r)) roll.called) (p ∷ ms) places (record { config = j.config; history = past }))
+    (sym (after-entered e r j.history is)) (booked_more roll ms places j p (entry e r) h (below is))
 booked_as false roll ms places j p e r is h below = subst (λ (past : List Entry). IsBooked (roll_seen roll.number roll.lists roll.called) ms places (record { config = j.config; history = past })) (sym (after-kept e r j.history is)) h
 
 -- what lies under the lock, one call later

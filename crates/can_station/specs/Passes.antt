@@ -1,4 +1,4 @@
-use Rattle.std.specs.Prelude.{◌≡◌, ℕ, ◌⊎◌, List, length, map, All, Result, Ok, Err, Option}
+use Rattle.std.specs.Prelude.{◌≡◌, ℕ, ◌+◌, ◌<◌, ◌⊎◌, true, List, length, map, All, Result, Ok, Err}
 use Rattle.can_event.specs.declared.events.Entry.{Entry}
 use Rattle.can_event.specs.declared.events.Event.{Event}
 use Rattle.can_event.specs.declared.events.Event.TheVariants as event
@@ -11,6 +11,7 @@ use Rattle.can_fault.specs.declared.verdicts.Verdict.{Verdict}
 use Rattle.can_bus.specs.Answer.{told_attempt}
 use Rattle.can_bus.specs.Legal.{IsLegal}
 use Rattle.can_bus.specs.Run.{history_after}
+use Rattle.can_packed.specs.Records.{ListedEntries}
 use Rattle.can_event.specs.Spelled.{FitsReply}
 use Rattle.can_roll.specs.Lists.{row, Distinct, AllBelow}
 use Rattle.can_roll.specs.Seen.{SlipSeen}
@@ -35,6 +36,20 @@ pass_after e r p = record p { calls = history_after e r p.calls }
 abbrev pub Suits : Event → Reply → Type 0
 Suits e (reply.Refused why) = Unit {0}
 Suits e r = FitsReply e r
+
+-- the memory for a call that is no close: a place, one that is left for a close, and what a wide entry takes
+abbrev pub IsReady : ListedEntries → Type 0
+IsReady calls = (length calls.entries + 1 < calls.room) × (calls.spare ≡ true)
+
+-- the memory for a call: a close takes one place, and is never wide
+abbrev pub IsReadyFor : Event → ListedEntries → Type 0
+IsReadyFor (event.Close s) calls = length calls.entries < calls.room
+IsReadyFor e calls = IsReady calls
+
+-- there is a place left for a close
+abbrev pub CanClose : Event → ListedEntries → Type 0
+CanClose (event.Close s) calls = length calls.entries < calls.room
+CanClose e calls = ⊥
 
 -- what a call of the station with this number answers, and what it leaves of the caller's pass
 abbrev pub Called : {A : Type 0} → (A → Reply) → ℕ → PassSeen → Event → Result A StationRefusal → PassSeen → Type 0

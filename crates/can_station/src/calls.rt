@@ -96,7 +96,7 @@ impl<N: RollName + MeterName, F: FaultSource + Drop, G: Gate + Drop> Station<N, 
     }
 
     /// Sends a frame on a socket, and answers its number at the interface. Refusals of the bus: `RecordFull`,
-    /// `NoSocket`, `BusOff`, `NoBuffers`.
+    /// `NoSocket`, `FdOff`, `BusOff`, `NoBuffers`.
     pub fn send<R: Wait>(
         &self,
         rt: &R,

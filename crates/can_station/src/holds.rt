@@ -1,20 +1,21 @@
-ghost use Rattle.std.specs.Prelude.{◌≡◌, ◌<◌, reverse, vec_len, vec_capacity, IfOk};
+ghost use Rattle.std.specs.Prelude.{◌≡◌, reverse, IfOk};
 ghost use Rattle.can_event.specs.declared.events.Event.TheVariants as event;
 ghost use Rattle.can_event.specs.declared.events.Reply.TheVariants as reply;
 ghost use Rattle.can_bus.specs.Run.{history_after};
 ghost use Rattle.can_station.specs.Held.{slip_after};
-ghost use Rattle.can_station.specs.Passes.{Attempted, Suits, Called, Stepped, same};
+ghost use Rattle.can_station.specs.Passes.{Attempted, IsReady, IsReadyFor, Suits, Called, Stepped, same};
 
 use crate::gates::{Gate, Point};
-use crate::passes::{Pass, keep};
+use crate::passes::{Pass, keep, make_ready, make_ready_for};
 use crate::refusals::StationRefusal;
 use crate::state::StationState;
-use crate::stations::{Station, places_for};
+use crate::stations::Station;
 use crate::waits::News;
-use can_bus::{Attempt, Entry, Event, Received, Refusal, Reply, SocketId};
+use can_bus::{Attempt, Event, Received, Refusal, Reply, SocketId};
 use can_fault::FaultSource;
 use can_frame::{Frame, Moment};
 use can_meter::MeterName;
+use can_packed::PackedList;
 use can_roll::{RollName, Slip};
 use std::alloc::Global;
 use std::marker::Model;
@@ -65,7 +66,7 @@ impl<'s, N: RollName + MeterName, F: FaultSource + Drop, G: Gate + Drop> Hold<'s
         ensures called { Called same self.old pass.old event result pass.new }
         ensures suits { IfOk result (λ r. Suits event r) }
     {
-        if pass.calls.reserve(places_for(&event)).is_err() {
+        if make_ready_for(&mut pass.calls, alloc, &event).is_err() {
             return Err(StationRefusal::Bus(Refusal::NoMemory));
         }
         if pass.slip.number() != self.state.number() {
@@ -79,14 +80,14 @@ impl<'s, N: RollName + MeterName, F: FaultSource + Drop, G: Gate + Drop> Hold<'s
         &mut self,
         alloc: Global,
         slip: &mut Slip<N>,
-        calls: &mut Vec<Entry>,
+        calls: &mut PackedList,
         event: Event,
     ) -> Reply
         requires own { slip.old.number ≡ self.old }
-        requires room { vec_len calls.old < vec_capacity calls.old }
+        requires ready { IsReadyFor event calls.old }
         ensures number { self.new ≡ self.old }
         ensures slip { slip.new ≡ slip_after event result slip.old }
-        ensures calls { reverse calls.new.items ≡ history_after event result (reverse calls.old.items) }
+        ensures calls { reverse calls.new.entries ≡ history_after event result (reverse calls.old.entries) }
         ensures suits { Suits event result }
     {
         let reply = self.state.call(alloc, slip, &event);
@@ -140,7 +141,7 @@ impl<'s, N: RollName + MeterName, F: FaultSource + Drop, G: Gate + Drop> Hold<'s
         ensures number { self.new ≡ self.old }
         ensures stepped { Stepped self.old pass.old moment result pass.new }
     {
-        if pass.calls.reserve(1).is_err() {
+        if make_ready(&mut pass.calls, alloc).is_err() {
             return Err(StationRefusal::Bus(Refusal::NoMemory));
         }
         if pass.slip.number() != self.state.number() {
@@ -159,13 +160,13 @@ impl<'s, N: RollName + MeterName, F: FaultSource + Drop, G: Gate + Drop> Hold<'s
         &mut self,
         alloc: Global,
         slip: &mut Slip<N>,
-        calls: &mut Vec<Entry>,
+        calls: &mut PackedList,
         moment: Moment,
     ) -> Reply
         requires own { slip.old.number ≡ self.old }
-        requires room { vec_len calls.old < vec_capacity calls.old }
+        requires ready { IsReady calls.old }
         ensures number { self.new ≡ self.old }
-        ensures attempted { Attempted moment slip.old (reverse calls.old.items) result slip.new (reverse calls.new.items) }
+        ensures attempted { Attempted moment slip.old (reverse calls.old.entries) result slip.new (reverse calls.new.entries) }
     {
         let station = self.station;
         station.gate.at(Point::InStep);

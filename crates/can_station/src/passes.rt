@@ -1,20 +1,21 @@
-ghost use Rattle.std.specs.Prelude.{◌≡◌, ◌<◌, ◌≤◌, [], length, reverse, vec_len, vec_capacity, IsTrue, ◌↔◌};
+ghost use Rattle.std.specs.Prelude.{◌≡◌, ◌<◌, ◌≤◌, [], length, reverse, ◌==◌, slice_get, IsTrue, IsOk, OnOk, ◌↔◌};
 ghost use Rattle.can_bus.specs.Run.{history_after};
 ghost use Rattle.can_roll.specs.Seen.{roll_seen};
 ghost use Rattle.can_roll.specs.Lists.{Distinct, AllBelow};
 ghost use Rattle.can_station.specs.Held.{enters};
-ghost use Rattle.can_station.specs.Passes.{AllOf, AllMatch, numbers_of};
+ghost use Rattle.can_station.specs.Passes.{AllOf, AllMatch, CanClose, IsReady, IsReadyFor, Suits, numbers_of};
 
-use can_bus::{Entry, Event, Received, Record, Refusal, Reply};
-use can_frame::Item;
+use can_bus::{Event, Looked, Record, Refusal, Reply};
+use can_packed::PackedList;
 use can_roll::{Roll, RollName, Slip};
+use std::alloc::{AllocError, Global};
 use std::marker::Model;
 
-/// A caller's pass, with the calls that were made with it.
+/// A caller's pass, with the calls that were made with it, in 32 bytes each.
 #[derive(Drop)]
 pub struct Pass<N: RollName> {
     pub(crate) slip: Slip<N>,
-    pub(crate) calls: Vec<Entry>,
+    pub(crate) calls: PackedList,
 }
 
 impl<N: RollName> Model for Pass<N> {
@@ -25,7 +26,7 @@ impl<N: RollName> Model for Pass<N> {
 
     ghost view = { λ p. record { number = p.slip.number; pass = p.slip.pass; calls = p.slip.calls } };
 
-    ghost invariant = { λ p. reverse p.calls.items ≡ p.slip.calls };
+    ghost invariant = { λ p. reverse p.calls.entries ≡ p.slip.calls };
 }
 
 impl<N: RollName> Pass<N> {
@@ -36,11 +37,33 @@ impl<N: RollName> Pass<N> {
         self.slip.number()
     }
 
-    /// The calls made with it, each with its answer, the oldest first.
-    pub fn calls(&self) -> &[Entry]
-        ensures { reverse result.now ≡ self.now.calls }
+    /// How many calls were made with it.
+    pub fn len(&self) -> usize
+        ensures { result ≡ length self.now.calls }
     {
-        &self.calls
+        self.calls.len()
+    }
+
+    /// Whether no call was made with it.
+    pub fn is_empty(&self) -> bool
+        ensures { result ≡ (length self.now.calls == 0) }
+    {
+        self.calls.is_empty()
+    }
+
+    /// The call at a place with its answer, from 0 for the oldest, if there is one. No memory is taken.
+    pub fn call(&self, place: usize) -> Option<Looked<'_>>
+        ensures { result ≡ slice_get (reverse self.now.calls) place }
+    {
+        self.calls.look(place)
+    }
+
+    /// Its slip alone.
+    fn into_slip(self) -> Slip<N>
+        ensures { record { number = result.number; pass = result.pass; calls = result.calls } ≡ self }
+    {
+        let Pass { slip, calls: _ } = self;
+        slip
     }
 }
 
@@ -61,16 +84,40 @@ pub(crate) fn enters(reply: &Reply) -> bool
     )
 }
 
-/// Keeps a call with its answer, where it is an entry.
-pub(crate) fn keep(calls: &mut Vec<Entry>, event: Event, reply: &Reply)
-    requires { vec_len calls.old < vec_capacity calls.old }
-    ensures { reverse calls.new.items ≡ history_after event reply.now (reverse calls.old.items) }
+/// Takes the memory for a call that is no close. A place is left for a close, so the close of a socket that the pass
+/// opened is never refused for memory.
+pub(crate) fn make_ready(calls: &mut PackedList, alloc: Global) -> Result<(), AllocError>
+    ensures same { calls.new.entries ≡ calls.old.entries }
+    ensures ready { OnOk result (IsReady calls.new) }
 {
-    // The checker has to meet the types inside a reply before a vector takes one.
-    let _types: Option<(Item, Received)> = None;
+    calls.reserve(2)?;
+    calls.reserve_spare(alloc)
+}
+
+/// Takes the memory for a call. A close takes what is left for it.
+pub(crate) fn make_ready_for(
+    calls: &mut PackedList,
+    alloc: Global,
+    event: &Event,
+) -> Result<(), AllocError>
+    ensures same { calls.new.entries ≡ calls.old.entries }
+    ensures ready { OnOk result (IsReadyFor event.now calls.new) }
+    ensures close { CanClose event.now calls.old → IsOk result }
+{
+    match event {
+        Event::Close(_) => calls.reserve(1),
+        _ => make_ready(calls, alloc),
+    }
+}
+
+/// Keeps a call with its answer, where it is an entry. No memory is taken.
+pub(crate) fn keep(calls: &mut PackedList, event: Event, reply: &Reply)
+    requires ready { IsReadyFor event calls.old }
+    requires suits { Suits event reply.now }
+    ensures { reverse calls.new.entries ≡ history_after event reply.now (reverse calls.old.entries) }
+{
     if enters(reply) {
-        let reply = *reply;
-        calls.push_reserved(Entry { event, reply });
+        calls.push(event, *reply);
     }
 }
 
@@ -91,7 +138,6 @@ pub(crate) fn recall_all<N: RollName>(roll: &mut Roll<N>, passes: Vec<Pass<N>>)
     ensures below { AllBelow (length roll.old.lists) (numbers_of passes.items) }
 {
     for pass in passes {
-        let Pass { slip, calls: _ } = pass;
-        roll.recall(slip);
+        roll.recall(pass.into_slip());
     }
 }

@@ -1,21 +1,20 @@
-ghost use Rattle.std.specs.Prelude.{◌≡◌, ◌<◌, ◌≤◌, ◌⊎◌, [], reverse, vec_len, vec_capacity, IfOk, MatchResult, ◌↔◌};
+ghost use Rattle.std.specs.Prelude.{◌≡◌, ◌<◌, ◌≤◌, ◌⊎◌, [], IfOk, MatchResult, ◌↔◌};
 ghost use Rattle.std.specs.Sync.Mutex.{mutex_guard_value};
 ghost use Rattle.can_event.specs.Events.{IsConfig};
-ghost use Rattle.can_bus.specs.Run.{history_after};
-ghost use Rattle.can_station.specs.Held.{slip_after};
-ghost use Rattle.can_station.specs.Passes.{Attempted, AllOf, SomeOther, Settles, Suits, Called, Stepped, same};
+ghost use Rattle.can_station.specs.Passes.{AllOf, SomeOther, Settles, Suits, Called, Stepped, same};
 ghost use Rattle.can_station.specs.Published.{AllTrue, GaugesOf, SomeOtherGauge};
 
 use crate::gates::{Gate, Point};
 use crate::holds::Hold;
-use crate::passes::{Pass, Settled, keep};
+use crate::passes::{Pass, Settled, make_ready, make_ready_for};
 use crate::refusals::{StationRefusal, TooManyPasses, WrongStation};
 use crate::state::StationState;
 use crate::waits::{News, ROOM};
-use can_bus::{Attempt, BusConfig, BusFault, Entry, Event, Refusal, Reply, RingBus};
+use can_bus::{Attempt, BusConfig, BusFault, Event, Refusal, Reply, RingBus};
 use can_fault::FaultSource;
 use can_frame::Moment;
 use can_meter::{Gauge, MeterBlank, MeterName, meter, meter_blank};
+use can_packed::PackedList;
 use can_roll::{RollBlank, RollName, Slip, roll_blank};
 use std::alloc::{AllocError, Global};
 use std::marker::Model;
@@ -159,7 +158,7 @@ impl<N: RollName + MeterName, F: FaultSource + Drop, G: Gate + Drop> Station<N, 
         let slip = self.hold(rt).enter()?;
         Ok(Pass {
             slip,
-            calls: Vec::new(alloc),
+            calls: PackedList::new(alloc),
         })
     }
 
@@ -182,7 +181,7 @@ impl<N: RollName + MeterName, F: FaultSource + Drop, G: Gate + Drop> Station<N, 
         ensures called { Called same self.now pass.old event result pass.new }
         ensures suits { IfOk result (λ r. Suits event r) }
     {
-        if pass.calls.reserve(places_for(&event)).is_err() {
+        if make_ready_for(&mut pass.calls, alloc, &event).is_err() {
             return Err(StationRefusal::Bus(Refusal::NoMemory));
         }
         if pass.slip.number() != self.number {
@@ -208,7 +207,7 @@ impl<N: RollName + MeterName, F: FaultSource + Drop, G: Gate + Drop> Station<N, 
     ) -> Result<Attempt, StationRefusal>
         ensures { Stepped self.now pass.old moment result pass.new }
     {
-        if pass.calls.reserve(1).is_err() {
+        if make_ready(&mut pass.calls, alloc).is_err() {
             return Err(StationRefusal::Bus(Refusal::NoMemory));
         }
         if self.number != pass.slip.number() {
@@ -254,16 +253,5 @@ impl<N: RollName + MeterName, F: FaultSource + Drop, G: Gate + Drop> Station<N, 
             unreachable!()
         }
         state.settle(passes, gauges)
-    }
-}
-
-/// How many places a pass's list has to have before a call: one for the call, and but for a close one that is left
-/// for a close. So the close of a socket that the pass opened is never refused for memory.
-pub(crate) fn places_for(event: &Event) -> usize
-    ensures { 1 ≤ result }
-{
-    match event {
-        Event::Close(_) => 1,
-        _ => 2,
     }
 }

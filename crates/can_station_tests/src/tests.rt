@@ -1,5 +1,6 @@
 ghost use Rattle.std.specs.Prelude.{◌≡◌};
 
+mod fd_frames;
 mod full_records;
 mod gates;
 mod gauges;
@@ -158,7 +159,10 @@ impl<N: RollName + MeterName, F: FaultSource + Drop, G: Gate + Drop, R: Wait + A
     }
 
     fn send(&mut self, socket: SocketId, id: u16) -> Result<u64, StationRefusal> {
-        let frame = frame(self.rt, id);
+        self.send_frame(socket, frame(self.rt, id))
+    }
+
+    fn send_frame(&mut self, socket: SocketId, frame: Frame) -> Result<u64, StationRefusal> {
         self.station
             .send(self.rt, self.alloc, &mut self.pass, socket, frame)
     }
@@ -192,7 +196,7 @@ impl<N: RollName + MeterName, F: FaultSource + Drop, G: Gate + Drop, R: Wait + A
 
     /// How many calls its pass keeps.
     fn calls(&self) -> usize {
-        self.pass.calls().len()
+        self.pass.len()
     }
 
     fn leave(self) -> Pass<N> {

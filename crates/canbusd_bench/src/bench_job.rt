@@ -150,7 +150,7 @@ fn bench_note<R: Read + Drop>(
         BenchFault::Write => Ok(String::new(alloc)),
         BenchFault::NoMemory => fixed_note(
             alloc,
-            "a run takes 32 bytes of memory for each event of --limit",
+            "a run reserves 108 bytes of memory for each event of --limit",
         ),
     }
 }

@@ -26,10 +26,12 @@ Messages of a session (socketcand's raw mode), in the order of a first run:
   < rawmode >                Get a socket there; the messages below need one
   < send ID LEN BYTE .. >    Send a frame: ID of 1 to 3 hexadecimal digits for 11 bits, of 8 for 29 bits
   < sendrtr ID LEN >         Send a remote frame
+  < sendfd ID LEN BYTE .. >  Send an FD frame of 0 to 8, 12, 16, 20, 24, 32, 48 or 64 bytes; needs < fdframes 1 >
   < filter N ID MASK .. >    Receive what matches one of N filters, in words of linux/can.h; at first everything
   < join 0|1 >               Receive what matches all filters, not one of them (0)
   < loopback 0|1 >           Give frames to other sockets of the interface too (1)
   < recvown 0|1 >            Receive own frames too (0)
+  < fdframes 0|1 >           Send and receive FD frames too (0)
   < errmask HEX >            Receive error message frames of these classes (0)
   < errdata 0|1 >            Write error message frames with their data (0)
   < stats >                  Write < stats QUEUED DROPPED TAKEN SENT DONE WAITING LOST REFUSED >
@@ -38,7 +40,8 @@ Messages of a session (socketcand's raw mode), in the order of a first run:
   < close >                  Close the socket, and write < closed UNREAD DROPPED >
 What is done is answered < ok >, a send nothing, what is refused < error TEXT >. < echo > is answered at any time.
 
-What is received: < frame ID MOMENT DATA >, < remote ID MOMENT LEN >, < error CLASS MOMENT > or with DATA.
+What is received: < frame ID MOMENT DATA >, < remote ID MOMENT LEN >, < fdframe ID MOMENT DATA >,
+< error CLASS MOMENT > or with DATA.
 What an attempt writes: tried NAME NUMBER CLASS ACCEPTED OFF, or idle, or record full. NUMBER counts the frames of
 NAME from 0; CLASS is done, or lastbit, destroyed or noack, and then the frame is sent again; ACCEPTED and OFF are
 the interfaces that accepted it and that went bus off, or -. Where --auto-restart brought interfaces back, the line ends
@@ -67,7 +70,7 @@ or with --until-eof standard input has ended, it prints for each bus, by its fir
 writes DIR/NAME.log, which candump's readers take, and DIR/NAME.rec, which `canbusd audit` checks. DIR must exist.
 
 --limit is for each bus, and it is how long a run can be. Each send, each attempt and each receive of a session is an
-entry. It takes 32 bytes in the record, and up to 208 in the list of the session that made it: 1000 frames a
+entry. It takes 32 bytes in the record, and up to 64 in the list of the session that made it: 1000 frames a
 second to 4 sessions fill 1000000 entries in less than 3 minutes. When a bus is full each of its calls answers
 `record full`, and standard error says so once. With --auto-restart attempts go on, MS milliseconds apart, while an
 interface waits for its restart, and each is an entry.

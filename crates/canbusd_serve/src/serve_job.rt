@@ -145,7 +145,7 @@ impl<'r, 'a, H: ServerRuntime> ServerRun<'r, 'a, H> {
             }
             BusFault::NoMemory => fixed_note(
                 self.alloc,
-                "each bus takes 32 bytes of memory for each event of --limit",
+                "each bus reserves 112 bytes of memory for each event of --limit",
             ),
         };
         Failure::with(self.alloc, Fault::Buses(fault), notes)

@@ -24,7 +24,7 @@ fn counted(rt: &impl AllocGlobal, events: &[Event], config: BusConfig) -> Result
 }
 
 /// Compares every reply, and gives them.
-fn compared(
+pub fn compared(
     rt: &(impl Abort + AllocGlobal),
     events: &[Event],
     config: BusConfig,

@@ -43,7 +43,7 @@ fn read_bytes(rt: &impl AllocGlobal, text: &[u8]) -> Result<Record, ReadFault> {
     read_record_bytes(rt.alloc(), text)
 }
 
-fn legal_lines(rt: &impl AllocGlobal, text: &str) -> Option<usize> {
+pub fn legal_lines(rt: &impl AllocGlobal, text: &str) -> Option<usize> {
     count_legal(rt.alloc(), text.as_bytes())
 }
 
@@ -51,16 +51,16 @@ fn written(rt: &impl AllocGlobal, record: &Record) -> Result<Vec<u8>, Fail> {
     Ok(record_text(rt.alloc(), record)?)
 }
 
-fn made(rt: &impl AllocGlobal, config: BusConfig) -> Result<ListBus, Fail> {
+pub fn made(rt: &impl AllocGlobal, config: BusConfig) -> Result<ListBus, Fail> {
     Ok(Bus::new(rt.alloc(), config)?)
 }
 
-fn carried_out(rt: &impl AllocGlobal, bus: &mut ListBus, events: &[Event]) -> Result<(), Fail> {
+pub fn carried_out(rt: &impl AllocGlobal, bus: &mut ListBus, events: &[Event]) -> Result<(), Fail> {
     let _ = run(bus, rt.alloc(), events)?;
     Ok(())
 }
 
-fn bus_text(rt: &impl AllocGlobal, bus: &ListBus) -> Result<Vec<u8>, Fail> {
+pub fn bus_text(rt: &impl AllocGlobal, bus: &ListBus) -> Result<Vec<u8>, Fail> {
     written(rt, bus.record())
 }
 

@@ -11,7 +11,8 @@ fn asked(events: &mut Vec<Event>, event: Event) {
 fn calls(rt: &impl AllocGlobal) -> Result<Vec<Event>, Fail> {
     let filters = FilterSet::from_slice(rt.alloc(), &[Filter::new(0x123, 0x7FF)?])?;
     let more = filters.try_copy(rt.alloc())?;
-    let mut events = Vec::with_capacity(rt.alloc(), 20)?;
+    let fd = Frame::fd(CanId::standard(0x123)?, &[7; 64])?;
+    let mut events = Vec::with_capacity(rt.alloc(), 23)?;
     asked(&mut events, Event::Open(iface(0)?, 2));
     asked(&mut events, Event::Open(iface(1)?, 65_536));
     asked(&mut events, Event::Open(iface(2)?, 1));
@@ -30,7 +31,15 @@ fn calls(rt: &impl AllocGlobal) -> Result<Vec<Event>, Fail> {
     asked(&mut events, Event::Receive(SocketId(1)));
     asked(&mut events, Event::Receive(SocketId(1)));
     asked(&mut events, Event::Receive(SocketId(2)));
-    asked(&mut events, Event::Restart(iface(0)?, Moment::new(4)?));
+    asked(&mut events, Event::Send(SocketId(1), fd));
+    asked(
+        &mut events,
+        Event::SetOption(SocketId(1), Opt::FdFrames(true)),
+    );
+    asked(&mut events, Event::Send(SocketId(1), fd));
+    asked(&mut events, Event::Attempt(Moment::new(4)?, Verdict::Good));
+    asked(&mut events, Event::Receive(SocketId(1)));
+    asked(&mut events, Event::Restart(iface(0)?, Moment::new(5)?));
     asked(&mut events, Event::Close(SocketId(0)));
     asked(&mut events, Event::Close(SocketId(0)));
     Ok(events)
@@ -94,7 +103,7 @@ fn a_full_record_gives_every_kind_of_entry_back(rt: HostRuntime) -> Result<(), F
     let mut bus = made(
         &rt,
         BusConfig {
-            limit: 18,
+            limit: 23,
             ..config(2)
         },
     )?;
@@ -103,7 +112,7 @@ fn a_full_record_gives_every_kind_of_entry_back(rt: HostRuntime) -> Result<(), F
     same(&rt, one_more, Reply::Refused(Refusal::RecordFull));
     let record = bus.into_record();
     let entries = copied(&rt, &record)?;
-    same(&rt, entries.len(), 18);
+    same(&rt, entries.len(), 23);
     assert!(rt; are_of(&entries, &events, &replies));
     assert!(rt; shows(&record, &entries));
     let again = Record::from_entries(record.config(), entries).ok_or("no record")?;

@@ -102,6 +102,7 @@ option_at t =
     if bytes_eq (word t) (codes "loopback") then (flag_at (after t) >>= λ on. Some (opt.Loopback on.0, on.1))
     else if bytes_eq (word t) (codes "recvown") then (flag_at (after t) >>= λ on. Some (opt.RecvOwn on.0, on.1))
     else if bytes_eq (word t) (codes "join") then (flag_at (after t) >>= λ on. Some (opt.Join on.0, on.1))
+    else if bytes_eq (word t) (codes "fd") then (flag_at (after t) >>= λ on. Some (opt.FdFrames on.0, on.1))
     else if bytes_eq (word t) (codes "errmask") then (mask_at (after t) >>= λ m. Some (opt.ErrMask m.0, m.1))
     else None
 
@@ -141,6 +142,7 @@ refusal_in w =
     else if bytes_eq w (codes "bad-capacity") then Some refusal.BadCapacity
     else if bytes_eq w (codes "too-many-sockets") then Some refusal.TooManySockets
     else if bytes_eq w (codes "no-socket") then Some refusal.NoSocket
+    else if bytes_eq w (codes "fd-off") then Some refusal.FdOff
     else if bytes_eq w (codes "bus-off") then Some refusal.BusOff
     else if bytes_eq w (codes "no-buffers") then Some refusal.NoBuffers
     else if bytes_eq w (codes "not-bus-off") then Some refusal.NotBusOff
@@ -214,10 +216,6 @@ abbrev pub moment_of : Event → Option ℕ
 moment_of (Attempt m v) = Some m
 moment_of _ = None
 
--- an entry, once its event is read
-unfoldable pub with_reply : Event → List ℕ → Option Entry
-with_reply e t = reply_at (moment_of e) (after t) >>= λ r. Some (record { event = e; reply = r.0 })
-
 -- one filter more
 unfoldable pub filter_at : List CanFilter → List ℕ → Option (List CanFilter × List ℕ)
 filter_at fs t = do
@@ -237,40 +235,40 @@ GivesFilters (Err unread.NoMemory) filters read = Unit {0}
 GivesFilters (Err unread.Bad) filters read = read ≡ None
 
 -- the filters of a socket
-unfoldable pub set_filters_at : List ℕ → Option Entry
+unfoldable pub set_filters_at : List ℕ → Option (Event × List ℕ)
 set_filters_at t = do
   s ← socket_at t
   n ← number_at 513 s.1
   fs ← filters_at [] n.0 n.1
-  with_reply (SetFilters s.0 fs.0) fs.1
+  Some (SetFilters s.0 fs.0, fs.1)
 
--- an option of a socket
-unfoldable pub set_option_at : List ℕ → Option Entry
-set_option_at t = do
-  s ← socket_at t
-  o ← option_at s.1
-  with_reply (SetOption s.0 o.0) o.1
-
--- an entry whose line begins with this word and goes on with this text: of the events that set a bus up
-unfoldable pub setting_at : List ℕ → List ℕ → Option Entry
+-- an event whose line begins with this word and goes on with this text: of those that set a bus up
+unfoldable pub setting_at : List ℕ → List ℕ → Option (Event × List ℕ)
 setting_at w t =
-    if bytes_eq w (codes "open") then (number_at 16 t >>= λ i. number_at (2 ^ 32) i.1 >>= λ c. with_reply (Open i.0 c.0) c.1)
-    else if bytes_eq w (codes "close") then (socket_at t >>= λ s. with_reply (Close s.0) s.1)
-    else if bytes_eq w (codes "option") then set_option_at t
-    else if bytes_eq w (codes "restart") then (number_at 16 t >>= λ i. moment_at i.1 >>= λ m. with_reply (Restart i.0 m.0) m.1)
+    if bytes_eq w (codes "open") then (number_at 16 t >>= λ i. number_at (2 ^ 32) i.1 >>= λ c. Some (Open i.0 c.0, c.1))
+    else if bytes_eq w (codes "close") then (socket_at t >>= λ s. Some (Close s.0, s.1))
+    else if bytes_eq w (codes "option") then (socket_at t >>= λ s. option_at s.1 >>= λ o. Some (SetOption s.0 o.0, o.1))
+    else if bytes_eq w (codes "restart") then (number_at 16 t >>= λ i. moment_at i.1 >>= λ m. Some (Restart i.0 m.0, m.1))
     else None
 
 -- of the other events, but for one that sets filters
-unfoldable pub plain_at : List ℕ → List ℕ → Option Entry
+unfoldable pub plain_at : List ℕ → List ℕ → Option (Event × List ℕ)
 plain_at w t =
-    if bytes_eq w (codes "attempt") then (moment_at t >>= λ m. verdict_at m.1 >>= λ v. with_reply (Attempt m.0 v.0) v.1)
-    else if bytes_eq w (codes "receive") then (socket_at t >>= λ s. with_reply (Receive s.0) s.1)
-    else if bytes_eq w (codes "send") then (socket_at t >>= λ s. frame_at s.1 >>= λ f. with_reply (Send s.0 f.0) f.1)
+    if bytes_eq w (codes "attempt") then (moment_at t >>= λ m. verdict_at m.1 >>= λ v. Some (Attempt m.0 v.0, v.1))
+    else if bytes_eq w (codes "receive") then (socket_at t >>= λ s. Some (Receive s.0, s.1))
+    else if bytes_eq w (codes "send") then (socket_at t >>= λ s. frame_at s.1 >>= λ f. Some (Send s.0 f.0, f.1))
     else setting_at w t
+
+-- the event of a line as it seems to be spelled, and what follows it
+unfoldable pub event_at : List ℕ → Option (Event × List ℕ)
+event_at t = if bytes_eq (word t) (codes "filters") then set_filters_at (after t) else plain_at (word t) (after t)
 
 -- an entry as its line seems to spell it
 unfoldable pub entry_at : List ℕ → Option Entry
-entry_at t = if bytes_eq (word t) (codes "filters") then set_filters_at (after t) else plain_at (word t) (after t)
+entry_at t = do
+  e ← event_at t
+  r ← reply_at (moment_of e.0) (after e.1)
+  Some (record { event = e.0; reply = r.0 })
 
 -- who acknowledges
 unfoldable pub ack_at : List ℕ → Option (AckMode × List ℕ)
@@ -283,6 +281,7 @@ ack_at t =
 unfoldable pub auto_restart_at : Version → List ℕ → Option (ℕ × List ℕ)
 auto_restart_at version.One t = Some (0, t)
 auto_restart_at version.Two t = number_at (2 ^ 32) t
+auto_restart_at version.Three t = number_at (2 ^ 32) t
 
 -- the configuration of a bus
 unfoldable pub config_at : Version → List ℕ → Option BusConfig

@@ -26,7 +26,7 @@ fn attaches<N: RollName + MeterName, R: Wait + Abort>(
     let Some(pass) = port.into_pass() else {
         panic!(rt; "no pass");
     };
-    assert!(rt; pass.number() == 1 && pass.calls().is_empty());
+    assert!(rt; pass.number() == 1 && pass.is_empty());
 }
 
 #[test]

@@ -161,7 +161,7 @@ const STARTED: &str =
 const GREETED: &str = "1 < hi >\n2 < hi >\n1 < ok >< ok >\n2 < ok >< ok >\n";
 
 /// Two sessions in raw mode, one on each interface, and what follows.
-fn two_write(
+pub fn two_write(
     rt: &(impl Abort + AllocGlobal),
     script: &str,
     rest: &str,

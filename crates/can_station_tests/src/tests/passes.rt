@@ -15,7 +15,7 @@ fn enter_often<N: RollName + MeterName, R: Wait + Abort>(rt: &R, alloc: Global, 
     let station = made::<N, _, _, _>(rt, alloc, blanks, 0, config(), Perfect, Open);
     for _ in 0..4096 {
         let pass = entered(rt, alloc, &station).leave();
-        assert!(rt; pass.number() == 0 && pass.calls().is_empty());
+        assert!(rt; pass.number() == 0 && pass.is_empty());
     }
     for _ in 0..2 {
         assert!(rt; matches!(station.enter(rt, alloc), Err(TooManyPasses)));

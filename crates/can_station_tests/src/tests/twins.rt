@@ -3,7 +3,7 @@
 ghost use Rattle.std.specs.Prelude.{◌≡◌};
 
 use super::*;
-use can_bus::{Event, Reply, RingBus, answer};
+use can_bus::{Event, Record, Reply, RingBus, answer};
 use can_fault::Verdict;
 use can_filter::{Filter, FilterSet};
 use can_station::{Open, Wake};
@@ -238,16 +238,30 @@ fn are_answered_alike<N: RollName + MeterName, R: Wait + Abort>(
     bus: &RingBus,
     run: Run,
 ) {
-    let rt = caller.rt;
-    let (calls, record) = (caller.pass.calls(), bus.record());
-    assert!(rt; calls.len() == 200 && record.len() == 200);
+    let (rt, pass, record) = (caller.rt, &caller.pass, bus.record());
+    assert!(rt; pass.len() == 200 && record.len() == 200);
     for place in 0..200 {
-        assert!(rt;
-            matches!(record.entry(place), Some(looked) if looked.entry().reply == calls[place].reply)
-        );
+        let answered = is_answered(pass, place, record);
+        assert!(rt; answered);
     }
-    let is_restarted = calls[43].reply == Reply::Idle(IfaceSet(1));
+    let is_restarted = is_idle(pass, 43, IfaceSet(1));
     assert!(rt; is_restarted == (run.auto_restart == 3 && !run.by_call));
+}
+
+/// Whether the call of a pass at this place has the reply of the record's entry there.
+fn is_answered<N: RollName>(pass: &Pass<N>, place: usize, record: &Record) -> bool {
+    match (pass.call(place), record.entry(place)) {
+        (Some(call), Some(entry)) => call.entry().reply == entry.entry().reply,
+        _ => false,
+    }
+}
+
+/// Whether the call of a pass at this place was an idle attempt that restarted these.
+fn is_idle<N: RollName>(pass: &Pass<N>, place: usize, restarted: IfaceSet) -> bool {
+    match pass.call(place) {
+        Some(call) => call.entry().reply == Reply::Idle(restarted),
+        None => false,
+    }
 }
 
 #[test]

@@ -126,8 +126,10 @@ fn own_frames_and_error_masks(rt: HostRuntime) -> Result<(), Fail> {
     let filters = FilterSet::all(rt.alloc())?;
     let frame = Item::Data(Frame::data(CanId::standard(0x123)?, &[])?);
     let error = Item::Error(ErrorFrame::new(0x204, [0; 8])?);
+    let wide = Item::Data(Frame::fd(CanId::standard(0x123)?, &[0; 12])?);
     let opened = Options::at_open();
     same(&rt, opened, Options::default());
+    let fd = Options { fd: true, ..opened };
     let own = Options {
         recv_own: true,
         ..opened
@@ -147,6 +149,11 @@ fn own_frames_and_error_masks(rt: HostRuntime) -> Result<(), Fail> {
         (opened, error, false, false),
         (marks, error, false, false),
         (counts, error, false, true),
+        (opened, wide, false, false),
+        (own, wide, true, false),
+        (fd, wide, false, true),
+        (fd, wide, true, false),
+        (fd, frame, false, true),
     ] {
         same(&rt, wants(&filters, &options, &item, is_own), want);
     }

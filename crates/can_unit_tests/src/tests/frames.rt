@@ -1,7 +1,7 @@
 use super::{same, same_at};
 use can_frame::{
     CanId, ErrorFrame, Frame, Iface, Item, Moment, Names, NamesError, Text, frame_text, guess_item,
-    is_name, read_decimal, read_frame_text, read_hexadecimal,
+    is_fd_length, is_name, read_decimal, read_frame_text, read_hexadecimal,
 };
 
 #[test]
@@ -57,6 +57,10 @@ fn extended_remote(number: u32, len: u8) -> Option<Item> {
     Some(Item::Data(Frame::remote(CanId::extended(number).ok()?, len).ok()?))
 }
 
+fn fd(number: u16, bytes: &[u8]) -> Option<Item> {
+    Some(Item::Data(Frame::fd(CanId::standard(number).ok()?, bytes).ok()?))
+}
+
 fn error(class: u32, bytes: [u8; 8]) -> Option<Item> {
     Some(Item::Error(ErrorFrame::new(class, bytes).ok()?))
 }
@@ -72,6 +76,9 @@ fn is_written(item: Option<Item>, text: &str) -> bool {
     }
 }
 
+const LONGEST_FD: &str =
+    "7FF##0A5A5A5A5A5A5A5A5A5A5A5A5A5A5A5A5A5A5A5A5A5A5A5A5A5A5A5A5A5A5A5A5A5A5A5A5A5A5A5A5A5A5A5A5A5A5A5A5A5A5A5A5A5A5A5A5A5A5A5A5A5A5A5A5";
+
 #[test]
 fn every_kind_of_item_goes_there_and_back(rt: HostRuntime) {
     let items = [
@@ -85,6 +92,12 @@ fn every_kind_of_item_goes_there_and_back(rt: HostRuntime) {
         ("123#R", remote(0x123, 0)),
         ("00A#R8", remote(0xA, 8)),
         ("12345678#R4", extended_remote(0x1234_5678, 4)),
+        ("123##0", fd(0x123, b"")),
+        (
+            "123##00102030405060708090A0B0C",
+            fd(0x123, b"\x01\x02\x03\x04\x05\x06\x07\x08\x09\x0A\x0B\x0C"),
+        ),
+        (LONGEST_FD, fd(0x7FF, &[0xA5; 64])),
         (
             "20000204#0008000000006000",
             error(0x204, [0, 8, 0, 0, 0, 0, 0x60, 0]),
@@ -135,10 +148,45 @@ fn other_texts_are_bad(rt: HostRuntime) {
         "A0000080#0000000000000000",
         "12345678#00112233445566778899aabbccdd",
         "123#é",
+        "123##",
+        "123##1",
+        "123##R",
+        "123###0",
+        "123##0010203040506070809",
+        "20000080##00000000000000000",
     ];
     for text in texts {
         same_at(&rt, text, read_frame_text(text).is_err(), true);
     }
+}
+
+#[test]
+fn fd_frames_have_their_lengths(rt: HostRuntime) {
+    let id = CanId::standard(0x123).expect(&rt, "11 bits");
+    let bytes = [7; 80];
+    let lengths: [usize; 16] = [0, 1, 2, 3, 4, 5, 6, 7, 8, 12, 16, 20, 24, 32, 48, 64];
+    for len in 0..=80 {
+        let frame = Frame::fd(id, &bytes[..len]);
+        same_at(&rt, len, frame.is_ok(), lengths.contains(&len));
+        same_at(&rt, len, is_fd_length(len), lengths.contains(&len));
+        if let Ok(frame) = frame {
+            same_at(&rt, len, frame.bytes(), &bytes[..len]);
+            same_at(&rt, len, (frame.len() as usize, frame.is_fd()), (len, true));
+            same_at(&rt, len, frame.is_remote(), false);
+        }
+    }
+}
+
+#[test]
+fn fd_frames_are_other_items_than_data_frames(rt: HostRuntime) {
+    same(&rt, fd(0x123, b"") == data(0x123, b""), false);
+    same(&rt, fd(0x123, b"\x01") == fd(0x123, b"\x01"), true);
+    same(&rt, fd(0x123, b"\x01") == fd(0x123, b"\x02"), false);
+    let id = CanId::extended(0x1234_5678).expect(&rt, "29 bits");
+    let frame = Frame::data(id, b"").expect(&rt, "a frame");
+    let wide = Frame::fd(id, &[0; 64]).expect(&rt, "a frame");
+    same(&rt, wide.word(), frame.word());
+    same(&rt, wide.arbitration_key(), frame.arbitration_key());
 }
 
 fn is_decimal(word: &str, number: Option<u64>) -> bool {

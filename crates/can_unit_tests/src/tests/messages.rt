@@ -1,7 +1,7 @@
 use super::{same, same_at};
-use can_bus::{Closed, Opt};
+use can_bus::{Closed, Opt, Refusal};
 use can_confine::Counters;
-use can_frame::{CanId, ErrorFrame, Frame, Item, Moment, TooLong};
+use can_frame::{BadFdLength, CanId, ErrorFrame, Frame, Item, Moment, TooLong};
 use can_proto::{
     Answer, Cause, Command, Incoming, Mode, ProtoFault, Reader, item_text, reply_text,
 };
@@ -59,7 +59,7 @@ fn a_message_has_at_most_1024_bytes(rt: HostRuntime) {
 #[test]
 fn faults_are_told_in_their_order(rt: HostRuntime) {
     let raw = Mode::Raw;
-    let cases: [(Mode, &[u8], ProtoFault); 26] = [
+    let cases: [(Mode, &[u8], ProtoFault); 34] = [
         (raw, b"< >", ProtoFault::EmptyMessage),
         (Mode::Ended, b"<>", ProtoFault::EmptyMessage),
         (raw, b"< statuses >", ProtoFault::UnknownCommand),
@@ -83,6 +83,14 @@ fn faults_are_told_in_their_order(rt: HostRuntime) {
         (raw, b"< send 123 1 >", ProtoFault::BadCount),
         (raw, b"< send 123 1 123 >", ProtoFault::BadByte),
         (raw, b"< sendrtr 123 3 1 >", ProtoFault::BadCount),
+        (Mode::Opened, b"< sendfd 123 0 >", ProtoFault::WrongState),
+        (raw, b"< sendfd 1234 9 >", ProtoFault::BadId),
+        (raw, b"< sendfd 123 9 >", ProtoFault::BadLength),
+        (raw, b"< sendfd 123 08 >", ProtoFault::BadLength),
+        (raw, b"< sendfd 123 128 >", ProtoFault::BadLength),
+        (raw, b"< sendfd 123 12 1 x >", ProtoFault::BadCount),
+        (raw, b"< sendfd 123 2 1 x >", ProtoFault::BadByte),
+        (raw, b"< fdframes on >", ProtoFault::BadNumber),
         (raw, b"< status 1 >", ProtoFault::BadCount),
         (raw, b"< filter 513 >", ProtoFault::TooManyFilters),
         (raw, b"< filter 1 123 >", ProtoFault::BadCount),
@@ -131,9 +139,41 @@ fn frames_are_read(rt: HostRuntime) {
 }
 
 #[test]
+fn fd_frames_are_read(rt: HostRuntime) {
+    let short = CanId::standard(0x123).expect(&rt, "an id");
+    let long = CanId::extended(0x1FFF_FFFF).expect(&rt, "an id");
+    let cases: [(&[u8], Result<Frame, BadFdLength>); 4] = [
+        (b"< sendfd 123 0 >", Frame::fd(short, b"")),
+        (b"< sendfd 123 1 fF >", Frame::fd(short, b"\xFF")),
+        (
+            b"< sendfd 123 12 1 2 3 4 5 6 7 8 9 a b c >",
+            Frame::fd(short, b"\x01\x02\x03\x04\x05\x06\x07\x08\x09\x0A\x0B\x0C"),
+        ),
+        (
+            b"< sendfd 1FFFFFFF 64 a5 a5 a5 a5 a5 a5 a5 a5 a5 a5 a5 a5 a5 a5 a5 a5 a5 a5 a5 a5 a5 a5 a5 a5 a5 a5 a5 a5 a5 a5 a5 a5 a5 a5 a5 a5 a5 a5 a5 a5 a5 a5 a5 a5 a5 a5 a5 a5 a5 a5 a5 a5 a5 a5 a5 a5 a5 a5 a5 a5 a5 a5 a5 a5 >",
+            Frame::fd(long, &[0xA5; 64]),
+        ),
+    ];
+    for (text, frame) in cases {
+        let mut reader = Reader::new(rt.alloc()).expect(&rt, "memory");
+        let given = reader.feed(rt.alloc(), text).expect(&rt, "memory");
+        let [Incoming::Message(message)] = given.as_slice() else {
+            panic!(rt; "no message");
+        };
+        let Ok(command) = Command::read(rt.alloc(), Mode::Raw, message) else {
+            panic!(rt; "refused");
+        };
+        let Command::Send(read) = &command else {
+            panic!(rt; "no frame");
+        };
+        same_at(&rt, text, Ok(*read), frame);
+    }
+}
+
+#[test]
 fn commands_are_read(rt: HostRuntime) {
     let stream =
-        b"< open can0 >< filter 2 123 C00007FF 0 0 >< join 1 >< loopback 0 >< recvown 1 >< errmask 204 >< errdata 1 >< stats >< status >< restart >< echo >< rawmode >< close >";
+        b"< open can0 >< filter 2 123 C00007FF 0 0 >< join 1 >< loopback 0 >< recvown 1 >< errmask 204 >< errdata 1 >< stats >< status >< restart >< echo >< rawmode >< fdframes 1 >< close >";
     let mut reader = Reader::new(rt.alloc()).expect(&rt, "memory");
     let given = reader.feed(rt.alloc(), stream).expect(&rt, "memory");
     let mut read = 0;
@@ -160,13 +200,14 @@ fn commands_are_read(rt: HostRuntime) {
             | (9, Command::Restart)
             | (10, Command::Echo)
             | (11, Command::Rawmode)
-            | (12, Command::Close) => true,
+            | (13, Command::Close) => true,
+            (12, Command::SetOption(option)) => option == Opt::FdFrames(true),
             _ => false,
         };
         assert!(rt; right, "at {read}");
         read += 1;
     }
-    same(&rt, read, 13);
+    same(&rt, read, 14);
 }
 
 #[test]
@@ -179,7 +220,10 @@ fn items_are_written(rt: HostRuntime) {
     let bytes = [0, 8, 0, 0, 0, 0, 0x60, 0];
     let state = ErrorFrame::new(0x204, bytes).expect(&rt, "a class");
     let off = ErrorFrame::new(0x40, [0; 8]).expect(&rt, "a class");
-    let cases: [(Item, u64, bool, &[u8]); 6] = [
+    let wide = [1, 2, 3, 4, 5, 6, 7, 8, 9, 10, 11, 12];
+    let fd = Frame::fd(standard, &wide).expect(&rt, "a frame");
+    let short_fd = Frame::fd(standard, b"").expect(&rt, "a frame");
+    let cases: [(Item, u64, bool, &[u8]); 8] = [
         (
             Item::Data(data),
             23_424_242,
@@ -206,6 +250,13 @@ fn items_are_written(rt: HostRuntime) {
         ),
         (Item::Error(state), 12, false, b"< error 204 0.000012 >"),
         (Item::Error(off), 32, false, b"< error 040 0.000032 >"),
+        (
+            Item::Data(fd),
+            1,
+            false,
+            b"< fdframe 123 0.000001 0102030405060708090A0B0C >",
+        ),
+        (Item::Data(short_fd), 1, true, b"< fdframe 123 0.000001  >"),
     ];
     for (item, micros, errdata, text) in cases {
         let moment = Moment::new(micros).expect(&rt, "a moment");
@@ -220,7 +271,7 @@ fn answers_are_written(rt: HostRuntime) {
         dropped: 18_446_744_073_709_551_615,
     };
     let counters = |tec, rec| Counters::new(tec, rec).expect(&rt, "counters");
-    let cases: [(Answer, &[u8]); 10] = [
+    let cases: [(Answer, &[u8]); 11] = [
         (Answer::Greeting, b"< hi >"),
         (Answer::Done, b"< ok >"),
         (Answer::Echo, b"< echo >"),
@@ -245,6 +296,10 @@ fn answers_are_written(rt: HostRuntime) {
         (
             Answer::Refused(Cause::MessageTooLong),
             b"< error message too long >",
+        ),
+        (
+            Answer::Refused(Cause::from(Refusal::FdOff)),
+            b"< error fd frames off >",
         ),
     ];
     for (answer, text) in cases {

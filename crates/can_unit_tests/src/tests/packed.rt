@@ -1,10 +1,13 @@
+ghost use Rattle.std.specs.Prelude.{◌≡◌, ◌≤◌, false};
+ghost use Rattle.can_packed.specs.Wide.{is_wide};
+
 use super::{same, same_at};
 use can_attempt::Class;
-use can_event::{Closed, Event, Opt, Received, Refusal, Reply, SocketId, Tried};
+use can_event::{Closed, Entry, Event, Opt, Received, Refusal, Reply, SocketId, Tried};
 use can_fault::{GlobalKind, LocalKind, Verdict};
 use can_filter::{Filter, FilterSet};
 use can_frame::{CanId, ErrorFrame, Frame, Iface, IfaceSet, Item, Moment};
-use can_packed::{Looked, Packed, PackedRecord};
+use can_packed::PackedRecord;
 use std::alloc::AllocGlobal;
 use std::process::Abort;
 use std::test::Fail;
@@ -19,10 +22,20 @@ fn moment(rt: &impl Abort, micros: u64) -> Moment {
 
 const LAST_MOMENT: u64 = 9_999_999_999_999_999;
 
-const LAST_NUMBER: u64 = 0xFFFF_FFFF;
+/// An FD frame of so many bytes, which differ.
+fn fd(rt: &impl Abort, len: usize) -> Frame
+    requires { len ≤ 64 }
+{
+    let id = CanId::extended(0x1FFF_FFFF).expect(rt, "29 bits");
+    let mut bytes = [0; 64];
+    for place in 0..64 {
+        bytes[place] = 255 - place as u8;
+    }
+    Frame::fd(id, &bytes[..len]).expect(rt, "a length of FD frames")
+}
 
-/// Frames with the least and the greatest parts.
-fn frames(rt: &impl Abort) -> [Frame; 6] {
+/// Frames with the least and the greatest parts, and FD frames of each length.
+fn frames(rt: &impl Abort) -> [Frame; 22] {
     let least = CanId::standard(0).expect(rt, "11 bits");
     let greatest = CanId::standard(0x7FF).expect(rt, "11 bits");
     let short = CanId::extended(0).expect(rt, "29 bits");
@@ -34,6 +47,22 @@ fn frames(rt: &impl Abort) -> [Frame; 6] {
         Frame::data(short, &[0, 0, 1]).expect(rt, "8 bytes"),
         Frame::data(long, &[1, 2, 3, 4, 5, 6, 7, 8]).expect(rt, "8 bytes"),
         Frame::remote(long, 0).expect(rt, "8 bytes"),
+        Frame::fd(least, &[]).expect(rt, "0 bytes"),
+        fd(rt, 1),
+        fd(rt, 2),
+        fd(rt, 3),
+        fd(rt, 4),
+        fd(rt, 5),
+        fd(rt, 6),
+        fd(rt, 7),
+        fd(rt, 8),
+        fd(rt, 12),
+        fd(rt, 16),
+        fd(rt, 20),
+        fd(rt, 24),
+        fd(rt, 32),
+        fd(rt, 48),
+        fd(rt, 64),
     ]
 }
 
@@ -65,24 +94,49 @@ fn asks_the_same(one: &Event, other: &Event) -> bool {
     }
 }
 
-/// Whether a packed entry has this event.
-fn asks(packed: &Packed, event: &Event) -> bool {
-    let looked = packed.look();
-    asks_the_same(&looked.entry().event, event)
+/// Whether this entry stands at this place.
+fn holds(record: &PackedRecord, place: usize, event: &Event, reply: &Reply) -> bool {
+    match record.look(place) {
+        Some(looked) => {
+            asks_the_same(&looked.entry().event, event) && looked.entry().reply == *reply
+        }
+        None => false,
+    }
 }
 
-/// Whether a packed entry has this reply.
-fn answers(packed: &Packed, reply: &Reply) -> bool {
-    let looked = packed.look();
-    looked.entry().reply == *reply
-}
-
-/// Packs an entry and compares what is given back.
-fn comes_back(rt: &(impl Abort + AllocGlobal), event: Event, reply: Reply) -> Result<(), Fail> {
+/// Packs an entry between two with FD frames, and compares what is given back.
+fn comes_back(rt: &(impl Abort + AllocGlobal), event: Event, reply: Reply) -> Result<(), Fail>
+    requires { is_wide event reply ≡ false }
+{
     let given = event.try_copy(rt.alloc())?;
-    let packed = Packed::new(rt.alloc(), given, reply)?;
-    same(rt, asks(&packed, &event), true);
-    same(rt, answers(&packed, &reply), true);
+    let (long, short) = (fd(rt, 64), fd(rt, 12));
+    let refused = Reply::Refused(Refusal::FdOff);
+    let mut record = PackedRecord::with_capacity(rt.alloc(), 3)?;
+    record.push(Event::Send(SocketId(1), long), Reply::Sent(5));
+    record.push(given, reply);
+    record.push(Event::Send(SocketId(2), short), refused);
+    let first = Event::Send(SocketId(1), long);
+    same(rt, holds(&record, 0, &first, &Reply::Sent(5)), true);
+    same(rt, holds(&record, 1, &event, &reply), true);
+    let last = Event::Send(SocketId(2), short);
+    same(rt, holds(&record, 2, &last, &refused), true);
+    Ok(())
+}
+
+/// Keeps an entry with memory of its own, and compares what is given back.
+fn boxed_comes_back(
+    rt: &(impl Abort + AllocGlobal),
+    event: Event,
+    reply: Reply,
+) -> Result<(), Fail> {
+    let given = event.try_copy(rt.alloc())?;
+    let mut record = PackedRecord::with_capacity(rt.alloc(), 1)?;
+    let entry = Entry {
+        event: given,
+        reply,
+    };
+    record.push_boxed(Box::new(rt.alloc(), entry)?);
+    same(rt, holds(&record, 0, &event, &reply), true);
     Ok(())
 }
 
@@ -116,6 +170,7 @@ fn calls_of_sockets_come_back(rt: HostRuntime) -> Result<(), Fail> {
         Opt::RecvOwn(true),
         Opt::Join(true),
         Opt::ErrMask(0xFFFF_FFFF),
+        Opt::FdFrames(true),
     ] {
         comes_back(&rt, Event::SetOption(last, option), Reply::Done)?;
         let refused = Reply::Refused(Refusal::NoSocket);
@@ -126,9 +181,10 @@ fn calls_of_sockets_come_back(rt: HostRuntime) -> Result<(), Fail> {
 
 #[test]
 fn frames_and_items_come_back(rt: HostRuntime) -> Result<(), Fail> {
-    let id = SocketId(7);
+    let id = SocketId(0xFFFF_FFFF);
     for frame in frames(&rt) {
-        for number in [0, LAST_NUMBER, LAST_NUMBER + 1, u64::MAX] {
+        for number in [0, u32::MAX] {
+            let number = u64::from(number);
             comes_back(&rt, Event::Send(id, frame), Reply::Sent(number))?;
             let received = Received {
                 item: Item::Data(frame),
@@ -156,26 +212,38 @@ fn frames_and_items_come_back(rt: HostRuntime) -> Result<(), Fail> {
     comes_back(&rt, Event::Receive(id), Reply::Refused(Refusal::NoSocket))
 }
 
+/// A frame that was tried.
+fn tried(moment: Moment, winner: Iface, frame: Frame, class: Class, off: IfaceSet) -> Tried
+    ensures moment { result.moment ≡ moment }
+    ensures winner { result.winner ≡ winner }
+    ensures number { result.number ≡ 4_294_967_295 }
+    ensures off { result.off ≡ off }
+{
+    Tried {
+        moment,
+        winner,
+        number: u64::from(u32::MAX),
+        frame,
+        class,
+        accepted: IfaceSet(0xFFFF),
+        off,
+        restarted: IfaceSet(0x8001),
+    }
+}
+
 #[test]
 fn attempts_come_back(rt: HostRuntime) -> Result<(), Fail> {
     for verdict in VERDICTS {
         for class in CLASSES {
             for frame in frames(&rt) {
                 for (winner, micros) in [(0, 0), (15, LAST_MOMENT), (9, 512)] {
-                    for off in [0, 1 << winner] {
-                        let at = moment(&rt, micros);
-                        let tried = Tried {
-                            moment: at,
-                            winner: iface(&rt, winner),
-                            number: LAST_NUMBER,
-                            frame,
-                            class,
-                            accepted: IfaceSet(0xFFFF),
-                            off: IfaceSet(off),
-                            restarted: IfaceSet(0x8001),
-                        };
-                        comes_back(&rt, Event::Attempt(at, verdict), Reply::Tried(tried))?;
-                    }
+                    let at = moment(&rt, micros);
+                    let winner = iface(&rt, winner);
+                    let stays = tried(at, winner, frame, class, IfaceSet(0));
+                    comes_back(&rt, Event::Attempt(at, verdict), Reply::Tried(stays))?;
+                    let itself = IfaceSet(1 << winner.number());
+                    let goes = tried(at, winner, frame, class, itself);
+                    comes_back(&rt, Event::Attempt(at, verdict), Reply::Tried(goes))?;
                 }
             }
         }
@@ -195,10 +263,11 @@ fn attempts_come_back(rt: HostRuntime) -> Result<(), Fail> {
 fn wide_entries_come_back(rt: HostRuntime) -> Result<(), Fail> {
     let id = SocketId(1);
     let filters = FilterSet::from_slice(rt.alloc(), &[Filter::new(0x2000_0123, 0x7FF)?])?;
-    comes_back(&rt, Event::SetFilters(id, filters), Reply::Done)?;
+    boxed_comes_back(&rt, Event::SetFilters(id, filters), Reply::Done)?;
     // What no bus answers.
-    let [frame, ..] = frames(&rt);
-    for (at, number, off) in [(5, 0, 0), (4, LAST_NUMBER + 1, 0), (4, 0, 2), (4, 0, 5)] {
+    let frame = fd(&rt, 64);
+    boxed_comes_back(&rt, Event::Send(id, frame), Reply::Sent(0x1_0000_0000))?;
+    for (at, number, off) in [(5, 0, 0), (4, u64::MAX, 0), (4, 0, 2), (4, 0, 5)] {
         let tried = Tried {
             moment: moment(&rt, 4),
             winner: iface(&rt, 0),
@@ -210,15 +279,15 @@ fn wide_entries_come_back(rt: HostRuntime) -> Result<(), Fail> {
             restarted: IfaceSet(0),
         };
         let event = Event::Attempt(moment(&rt, at), Verdict::Good);
-        comes_back(&rt, event, Reply::Tried(tried))?;
+        boxed_comes_back(&rt, event, Reply::Tried(tried))?;
     }
-    comes_back(&rt, Event::Close(id), Reply::Done)?;
-    comes_back(&rt, Event::Receive(id), Reply::Opened(id))
+    boxed_comes_back(&rt, Event::Close(id), Reply::Done)?;
+    boxed_comes_back(&rt, Event::Receive(id), Reply::Opened(id))
 }
 
-/// The number of the socket that an entry closes.
-fn closed_in(looked: &Option<Looked<'_>>) -> Option<u32> {
-    match looked {
+/// The number of the socket that the entry at a place closes.
+fn closed_at(record: &PackedRecord, place: usize) -> Option<u32> {
+    match record.look(place) {
         Some(looked) => match &looked.entry().event {
             Event::Close(id) => Some(id.0),
             _ => None,
@@ -227,27 +296,16 @@ fn closed_in(looked: &Option<Looked<'_>>) -> Option<u32> {
     }
 }
 
-/// A close of this socket, which is not open.
-fn refused_close(rt: &impl AllocGlobal, number: u32) -> Result<Packed, Fail> {
-    let event = Event::Close(SocketId(number));
-    let reply = Reply::Refused(Refusal::NoSocket);
-    Ok(Packed::new(rt.alloc(), event, reply)?)
-}
-
 #[test]
 fn a_packed_record_lists_its_entries(rt: HostRuntime) -> Result<(), Fail> {
     let mut record = PackedRecord::with_capacity(rt.alloc(), 3)?;
     same(&rt, record.len(), 0);
-    let fourth = refused_close(&rt, 4)?;
-    let fifth = refused_close(&rt, 5)?;
-    let sixth = refused_close(&rt, 6)?;
-    record.push(fourth);
-    record.push(fifth);
-    record.push(sixth);
+    record.push(Event::Close(SocketId(4)), Reply::Refused(Refusal::NoSocket));
+    record.push(Event::Close(SocketId(5)), Reply::Refused(Refusal::NoSocket));
+    record.push(Event::Close(SocketId(6)), Reply::Refused(Refusal::NoSocket));
     same(&rt, record.len(), 3);
     for (place, number) in [(0, Some(4)), (1, Some(5)), (2, Some(6)), (3, None)] {
-        let got = record.look(place);
-        same_at(&rt, place, closed_in(&got), number);
+        same_at(&rt, place, closed_at(&record, place), number);
     }
     Ok(())
 }

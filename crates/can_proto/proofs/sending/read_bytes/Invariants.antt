@@ -4,8 +4,8 @@ use Rattle.can_proto.specs.Commands.{with_front, bytes_of}
 use Rattle.can_proto.proofs.sending.read_bytes.Given as goal
 
 abbrev pub invariant-loop-i : goal.invariant-loop-i
-invariant-loop-i l = record {
+invariant-loop-i g l = record {
   same : with_front (take l.i l.bytes) (bytes_of (words_of l.rest)) ≡ bytes_of (words_of l.fn.rest);
-  eight : length l.bytes ≡ 8;
+  whole : length l.bytes ≡ g.row.N;
   left : length (words_of l.rest) + l.i ≡ length (words_of l.fn.rest);
 }

@@ -8,7 +8,7 @@ use Rattle.can_record.proofs.record_reading.read_lines.Goals as goal
 pub loop-entry-init : goal.loop-entry-init
 loop-entry-init c = record {
   lines = first_lines c.args.text.now c.args.entries.now.items c.requires;
-  have = All-same (HasLine c.args.config) c.args.entries.now.items [] c.requires (All-nil (HasLine c.args.config));
+  have = All-same (HasLine c.args.version c.args.config) c.args.entries.now.items [] c.requires (All-nil (HasLine c.args.version c.args.config));
 }
 
 pub loop-entry-preserved : goal.loop-entry-preserved
@@ -19,5 +19,5 @@ loop-entry-preserved c =
       lines =
           lines_go_on c.args.text.now c.loop-entry.rest.now c.read_line.new.buffer.items c.loop-entry.entries.items c.push.new.self.items c.in-Ok.entry c.loop-entry.invariant.lines found.1 found.2 pushed
           ∙ ap (entry_lines c.push.new.self.items) (ap (λ (n : ℕ). drop n c.loop-entry.rest.now) (sym (c.len.ensures ∙ c.read_line.new.buffer.ok.0)) ∙ sym c.behind-rest.ensures);
-      have = All-same (HasLine c.args.config) _ _ pushed (All-push (HasLine c.args.config) c.loop-entry.entries.items c.in-Ok.entry c.loop-entry.invariant.have found.0);
+      have = All-same (HasLine c.args.version c.args.config) _ _ pushed (All-push (HasLine c.args.version c.args.config) c.loop-entry.entries.items c.in-Ok.entry c.loop-entry.invariant.have found.0);
     }

@@ -7,7 +7,7 @@ use Rattle.can_record.proofs.record_reading.read_lines.Given as goal
 abbrev pub invariant-loop-entry : goal.invariant-loop-entry
 invariant-loop-entry l = record {
   lines : l.text ≡ entry_lines l.entries.items l.rest;
-  have : All (HasLine l.config) l.entries.items;
+  have : All (HasLine l.version l.config) l.entries.items;
 }
 
 abbrev pub decreases-loop-entry : goal.decreases-loop-entry

@@ -1,19 +1,16 @@
 use Rattle.std.proofs.Common.{◌≡◌, ◌∙◌, List, ap, sym, subst}
 use Rattle.std.specs.Prelude.{reverse}
 use Rattle.std.proofs.lemmas.List.{reverse-reverse}
-use Rattle.can_event.specs.declared.events.BusConfig.{BusConfig}
 use Rattle.can_event.specs.declared.events.Entry.{Entry}
-use Rattle.can_record.specs.Spelling.{version_of}
+use Rattle.can_record.specs.declared.versions.Version.TheVariants as version
 use Rattle.can_record.specs.Values.{HasBusLine, HasText}
+use Rattle.can_record.proofs.Versioning.{has_text}
 use Rattle.can_record.proofs.text_laws.read_back.Goals as goal
 use Rattle.can_record.proofs.text_laws.read_back.Goals.{After-drop-text}
 
 -- the record has a text
 whole : (c : After-drop-text) → HasText c.args.kept.now.config (reverse c.args.kept.now.history)
-whole c = record {
-  bus = subst (λ (x : BusConfig). HasBusLine (version_of x) x) c.config.ensures.config c.hold_config.ensures;
-  lines = c.hold_lines.ensures;
-}
+whole c = has_text c.args.kept.now.config (reverse c.args.kept.now.history) (subst (HasBusLine version.Three) c.config.ensures.config c.hold_config.ensures) c.hold_lines.ensures
 
 same : (c : After-drop-text) → (c.in-Ok.read.config ≡ c.args.kept.now.config) × (reverse c.in-Ok.read.history ≡ reverse c.args.kept.now.history)
 same c = c.in-Ok.ensures.back c.args.kept.now.config (reverse c.args.kept.now.history) (whole c) (c.deref.ensures.value ∙ c.in_ok-text.ensures)

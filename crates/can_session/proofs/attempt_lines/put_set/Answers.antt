@@ -1,6 +1,6 @@
-use Rattle.std.proofs.Common.{sym, ap, subst, ◌∙◌, ◌++◌, ℕ, ◌<◌}
+use Rattle.std.proofs.Common.{◌≡◌, sym, ap, subst, ◌∙◌, ◌++◌, codes, ℕ, ◌<◌, rules}
 use Rattle.can_session.specs.AttemptLines.{set_text}
-use Rattle.can_session.proofs.SetTexts.{member_kept, other_kept}
+use Rattle.can_session.proofs.SetTexts.{member_kept, other_kept, none_text}
 use Rattle.can_session.proofs.attempt_lines.put_set.Goals as goal
 use Rattle.can_session.proofs.attempt_lines.put_set.Goals.{then-contains+in_ok-put_member, else-contains}
 
@@ -15,3 +15,8 @@ loop-number-preserved c =
       | else-contains w ↦ other_kept c.args.names.now c.args.set c.loop-number.number c.in-Some.iface c.loop-number.is_first c.if-contains.is_first c.loop-number.said.items
           c.if-contains.said.items whole lt at (sym c.contains.ensures ∙ w.if-contains.false) w.is_first-is (ap (λ v. v.items) w.said-is) c.loop-number.invariant
     ]
+
+pub returns-then-eq : goal.returns-then-eq
+returns-then-eq c =
+    let text : set_text c.args.names.now c.args.set ≡ codes "-" = ap (set_text c.args.names.now) (search (rules)) ∙ none_text c.args.names.now in
+    rw text (search rules)

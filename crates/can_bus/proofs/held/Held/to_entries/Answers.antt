@@ -2,6 +2,8 @@ use Rattle.std.proofs.Common.{◌≡◌, ℕ, ◌+◌, List, [], ◌∷◌, ◌+
 use Rattle.std.proofs.Math.Seq.{take-suc}
 use Rattle.std.proofs.lemmas.Option.{slice_get_within, get_or_from_slice_get}
 use Rattle.can_event.specs.declared.events.Entry.{Entry}
+use Rattle.std.specs.Option.{option_map}
+use Rattle.can_packed.specs.Stored.{entry_stored}
 use Rattle.can_bus.specs.Held.{entries_in}
 use Rattle.can_bus.proofs.held.Held.to_entries.Goals as goal
 
@@ -13,5 +15,5 @@ one_more es copies new k e before here is =
 
 pub loop-place-preserved : goal.loop-place-preserved
 loop-place-preserved c =
-    let here : slice_get (entries_in c.args.self.now) c.loop-place.place ≡ Some c.in_ok-entry.entry = cc (c.look.ensures, c.unwrap-looked.ensures, c.looked.view_is, c.entry.ensures, c.in_ok-entry.ensures, c.in_ok-entry.was) in
+    let here : slice_get (entries_in c.args.self.now) c.loop-place.place ≡ Some c.in_ok-entry.entry = sym c.stored.ensures.entry ∙ ap (option_map entry_stored) c.unwrap-stored.ensures ∙ ap Some (cc (c.of-looked.ensures, c.entry.ensures, c.in_ok-entry.ensures)) in
     (one_more (entries_in c.args.self.now) c.loop-place.copies.items _ c.loop-place.place c.in_ok-entry.entry c.loop-place.invariant.0 here c.add.ensures.items, omega arith)

@@ -1,5 +1,4 @@
-use Rattle.std.proofs.Common.{All, ◌∙◌, ap, sym, subst}
-use Rattle.std.specs.Prelude.{◌++◌, ◌∷◌, []}
+use Rattle.std.proofs.Common.{All, sym, subst}
 use Rattle.std.proofs.lemmas.List.Elements.{All-push}
 use Rattle.can_event.specs.declared.events.Entry.{Entry}
 use Rattle.can_bus.specs.Held.{entries_in}
@@ -15,5 +14,5 @@ invariant_of-self c =
     let fits : IsSpelled config e = subst (λ (k : Kept). IsSpelled k.config e) (sym c.self.view_is) c.requires.spelled in
     record {
       proper = c.self.invariant.proper;
-      spelled = subst (All (IsSpelled config)) (sym (c.push.ensures.more ∙ ap (λ (x : Entry). es ++ x ∷ []) c.fitting.ensures)) (All-push (IsSpelled config) es e c.self.invariant.spelled fits);
+      spelled = subst (All (IsSpelled config)) (sym c.push.ensures.more) (All-push (IsSpelled config) es e c.self.invariant.spelled fits);
     }

@@ -1,7 +1,5 @@
-use Rattle.std.proofs.Common.{All, ◌∙◌, ap, sym, subst}
-use Rattle.std.specs.Prelude.{◌++◌, ◌∷◌, []}
+use Rattle.std.proofs.Common.{All, sym, subst}
 use Rattle.std.proofs.lemmas.List.Elements.{All-push}
-use Rattle.can_event.specs.declared.events.Entry.{Entry}
 use Rattle.can_bus.specs.Held.{entries_in}
 use Rattle.can_bus.specs.Journal.{Kept}
 use Rattle.can_event.specs.Spelled.{IsSpelled}
@@ -15,5 +13,5 @@ invariant_of-self c =
     let fits : IsSpelled config e = subst (λ (k : Kept). IsSpelled k.config e) (sym c.self.view_is) c.requires.spelled in
     record {
       proper = c.self.invariant.proper;
-      spelled = subst (All (IsSpelled config)) (sym (c.push.ensures.more ∙ ap (λ (x : Entry). es ++ x ∷ []) c.boxed.ensures)) (All-push (IsSpelled config) es e c.self.invariant.spelled fits);
+      spelled = subst (All (IsSpelled config)) (sym c.push_boxed.ensures.more) (All-push (IsSpelled config) es e c.self.invariant.spelled fits);
     }

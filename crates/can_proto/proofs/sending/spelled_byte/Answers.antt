@@ -5,7 +5,7 @@ use Rattle.can_proto.specs.declared.faults.ProtoFault.TheVariants.{BadByte, BadC
 use Rattle.can_proto.specs.Words.{words_of}
 use Rattle.can_frame.specs.Numbers.{number_in}
 use Rattle.can_proto.specs.Commands.{◌>>=◌, bytes_of, or_fault, IsDataFault}
-use Rattle.can_proto.proofs.sending.next_byte.Goals as goal
+use Rattle.can_proto.proofs.sending.spelled_byte.Goals as goal
 
 bad : (word : List ℕ) (after : List (List ℕ)) → None ≡ number_in 16 2 word → bytes_of (word ∷ after) ≡ Err BadByte
 unfolding bytes_of
@@ -27,4 +27,4 @@ spoiled words after word left e whole wrong told =
 
 pub returns-in-None-clause-fault : goal.returns-in-None-clause-fault
 returns-in-None-clause-fault c =
-    spoiled (words_of c.args.text.now) (words_of c.in-Some-next_word.after.now) c.in-Some-next_word.word.now c.args.left _ c.in-Some-next_word.ensures c.in-None.ensures c.bad_byte.ensures
+    spoiled (words_of c.args.text.now) (words_of c.in-Some.after.now) c.in-Some.word.now c.args.left _ c.in-Some.ensures c.in-None.ensures c.bad_byte.ensures

@@ -1,0 +1,50 @@
+use Rattle.std.proofs.Common.{◌≡◌, ℕ, ◌+◌, ◌≤◌, List, [], ◌∷◌, ◌++◌, length, map, refl, arith, length-append}
+use Rattle.std.proofs.Math.ListN.{get_or-append}
+use Rattle.std.proofs.lemmas.List.{map-append}
+use Rattle.std.proofs.lemmas.List.Elements.{All-head, All-tail, All-weaker, All-push}
+use Rattle.can_frame.specs.Frames.{CanFrame}
+use Rattle.can_packed.specs.declared.kept.Kept.{Kept}
+use Rattle.can_packed.specs.declared.kept.Kept.TheVariants as kept
+use Rattle.can_packed.specs.FrameWords.{no_frame}
+use Rattle.can_packed.specs.Kept.{entry_in, frames_needed, AreWithin, fd_frame_at}
+
+-- What is kept gives the same entry where the list of FD frames has grown behind its place.
+
+same_place : (fs more : List CanFrame) (place : ℕ) → place + 1 ≤ length fs → fd_frame_at (fs ++ more) place ≡ fd_frame_at fs place
+same_place fs more place h = get_or-append fs more no_frame place (omega arith)
+
+same_entry : (fs more : List CanFrame) (k : Kept) → frames_needed k ≤ length fs → entry_in (fs ++ more) k ≡ entry_in fs k
+same_entry fs more (kept.FdSent s number place) h = rw (same_place fs more place h)
+same_entry fs more (kept.FdSendRefused why s place) h = rw (same_place fs more place h)
+same_entry fs more (kept.FdReceived from s number place m) h = rw (same_place fs more place h)
+same_entry fs more (kept.FdTried end winner number named accepted off restarted place m) h = rw (same_place fs more place h)
+same_entry fs more (kept.Opened i capacity s) h = refl
+same_entry fs more (kept.OpenRefused i capacity why) h = refl
+same_entry fs more (kept.Closed s counts) h = refl
+same_entry fs more (kept.CloseRefused s why) h = refl
+same_entry fs more (kept.OptionSet s option) h = refl
+same_entry fs more (kept.OptionRefused s option why) h = refl
+same_entry fs more (kept.Sent len s word number bytes) h = refl
+same_entry fs more (kept.SendRefused why len s word bytes) h = refl
+same_entry fs more (kept.NothingReceived s) h = refl
+same_entry fs more (kept.FrameReceived from len s word number bytes m) h = refl
+same_entry fs more (kept.ErrorReceived from s number error m) h = refl
+same_entry fs more (kept.ReceiveRefused s why) h = refl
+same_entry fs more (kept.Idle restarted v m) h = refl
+same_entry fs more (kept.Tried end named word number accepted restarted bytes stamp) h = refl
+same_entry fs more (kept.AttemptRefused v m why) h = refl
+same_entry fs more (kept.Restarted i m) h = refl
+same_entry fs more (kept.RestartRefused i m why) h = refl
+same_entry fs more (kept.Wide entry) h = refl
+
+same_entries : (fs more : List CanFrame) (ks : List Kept) → AreWithin (length fs) ks → map (entry_in (fs ++ more)) ks ≡ map (entry_in fs) ks
+same_entries fs more [] h = refl
+same_entries fs more (k ∷ ks) h = rw (same_entry fs more k (All-head (λ j. frames_needed j ≤ length fs) k ks h), same_entries fs more ks (All-tail (λ j. frames_needed j ≤ length fs) k ks h))
+
+-- so where one more is kept, its entry comes behind the others
+pub entries_pushed : (fs more : List CanFrame) (ks : List Kept) (k : Kept) → AreWithin (length fs) ks → map (entry_in (fs ++ more)) (ks ++ k ∷ []) ≡ map (entry_in fs) ks ++ entry_in (fs ++ more) k ∷ []
+entries_pushed fs more ks k h = rw (map-append (entry_in (fs ++ more)) ks (k ∷ []), same_entries fs more ks h)
+
+-- and all places are within the list
+pub within_pushed : (fs more : List CanFrame) (ks : List Kept) (k : Kept) → AreWithin (length fs) ks → frames_needed k ≤ length (fs ++ more) → AreWithin (length (fs ++ more)) (ks ++ k ∷ [])
+within_pushed fs more ks k h n = All-push (λ j. frames_needed j ≤ length (fs ++ more)) ks k (All-weaker (λ j. frames_needed j ≤ length fs) (λ j. frames_needed j ≤ length (fs ++ more)) (λ j m. omega (arith, m, length-append fs more)) ks h) n

@@ -1,0 +1,42 @@
+ghost use Rattle.std.specs.Prelude.{◌≡◌};
+ghost use Rattle.can_packed.specs.Wide.{is_wide, is_large, is_off_alone};
+
+use can_event::{Event, Reply};
+use can_frame::{Iface, IfaceSet};
+
+/// Whether an entry does not fit in 32 bytes.
+pub fn is_wide(event: &Event, reply: &Reply) -> bool
+    ensures { result ≡ is_wide event.now reply.now }
+{
+    match (event, reply) {
+        (Event::SetFilters(_, _), _) => true,
+        (Event::Open(_, _), Reply::Opened(_))
+        | (Event::Close(_), Reply::Closed(_))
+        | (Event::SetOption(_, _) | Event::Restart(_, _), Reply::Done)
+        | (Event::Receive(_), Reply::Received(None))
+        | (Event::Attempt(_, _), Reply::Idle(_))
+        | (_, Reply::Refused(_)) => false,
+        (Event::Send(_, _), Reply::Sent(number)) => is_large(*number),
+        (Event::Receive(_), Reply::Received(Some(received))) => is_large(received.number),
+        (Event::Attempt(moment, _), Reply::Tried(tried)) => {
+            is_large(tried.number)
+                || tried.moment != *moment
+                || !is_off_alone(tried.winner, tried.off)
+        }
+        _ => true,
+    }
+}
+
+/// Whether the number of a frame does not fit 32 bits.
+fn is_large(number: u64) -> bool
+    ensures { result ≡ is_large number }
+{
+    number >= 0x1_0000_0000
+}
+
+/// Whether at most the winner went bus off.
+fn is_off_alone(winner: Iface, off: IfaceSet) -> bool
+    ensures { result ≡ is_off_alone winner off }
+{
+    off.0 == 0 || off.0 == 1 << winner.number()
+}

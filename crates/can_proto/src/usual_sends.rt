@@ -1,0 +1,35 @@
+//! A piece that is one whole `send`, as most pieces of a session in raw mode are. It is read in place.
+ghost use Rattle.std.specs.Prelude.{◌≡◌, ◌∷◌, ◌++◌, [], IfSome};
+ghost use Rattle.can_proto.specs.Commands.{IsLoneSend};
+
+use crate::sending::read_frame;
+use crate::verbs::after_send;
+use can_frame::Frame;
+
+/// A `send` of eight bytes has 41 bytes between its marks. A piece that is longer has mostly more than one message, and is
+/// not read in vain.
+const USUAL: usize = 48;
+
+/// The frame of a piece `< send ID LEN b .. >` with nothing before or behind it.
+pub fn lone_send(piece: &[u8]) -> Option<Frame>
+    ensures { IfSome result (λ frame. IsLoneSend piece.now frame) }
+{
+    let inside = between_marks(piece)?;
+    if inside.len() > USUAL {
+        return None;
+    }
+    match read_frame(after_send(inside)?) {
+        Ok(frame) => Some(frame),
+        Err(_) => None,
+    }
+}
+
+/// What stands between a `<` and a `>` at the ends of a piece.
+fn between_marks(piece: &[u8]) -> Option<&[u8]>
+    ensures { IfSome result (λ inside. piece.now ≡ 60 ∷ inside.now ++ 62 ∷ []) }
+{
+    match piece {
+        [b'<', inside @ .., b'>'] => Some(inside),
+        _ => None,
+    }
+}

@@ -1,0 +1,83 @@
+// FD frames between callers on two threads.
+
+ghost use Rattle.std.specs.Prelude.{◌≡◌};
+
+use super::*;
+use can_bus::Refusal;
+use can_fault::Perfect;
+use can_frame::Item;
+use can_station::{Open, Wake};
+use std::marker::Brand;
+use std::test::Fail;
+use std::thread::{Threads, join};
+
+type Party<'s, N, R> = Caller<'s, N, Perfect, Open, R>;
+
+const SENDER: SocketId = SocketId(0);
+
+const RECEIVER: SocketId = SocketId(1);
+
+/// An FD frame of 12 bytes.
+fn fd_frame<R: Abort>(rt: &R) -> Frame {
+    let Ok(id) = CanId::standard(0x123) else {
+        panic!(rt; "no identifier");
+    };
+    let Ok(frame) = Frame::fd(id, &[1, 2, 3, 4, 5, 6, 7, 8, 9, 10, 11, 12]) else {
+        panic!(rt; "no frame");
+    };
+    frame
+}
+
+/// Is refused the frame, and sends it once the option is on.
+fn sends<N: RollName + MeterName, R: Wait + Abort>(mut caller: Party<'_, N, R>) -> Pass<N> {
+    let rt = caller.rt;
+    let frame = fd_frame(rt);
+    let refused = caller.send_frame(SENDER, frame);
+    assert!(rt; refused == Err(StationRefusal::Bus(Refusal::FdOff)));
+    assert!(rt; caller.set_option(SENDER, Opt::FdFrames(true)).is_ok());
+    assert!(rt; caller.send_frame(SENDER, frame) == Ok(0));
+    caller.leave()
+}
+
+/// Tries the frame once it waits to be sent, and receives it.
+fn receives<N: RollName + MeterName, R: Wait + Abort>(mut caller: Party<'_, N, R>) -> Pass<N> {
+    let rt = caller.rt;
+    assert!(rt; caller.set_option(RECEIVER, Opt::FdFrames(true)).is_ok());
+    assert!(rt; caller.station.wait_work(rt) == Wake::Ready);
+    assert!(rt; matches!(caller.step(1), Ok(Attempt::Tried(_))));
+    let Ok(Some(received)) = caller.receive(RECEIVER) else {
+        panic!(rt; "no item");
+    };
+    assert!(rt; received.item == Item::Data(fd_frame(rt)));
+    assert!(rt; caller.receive(RECEIVER) == Ok(None));
+    caller.leave()
+}
+
+/// Two opens, three calls of the sender and four of the receiver. The send that was refused is not counted.
+fn two_sides<N: RollName + MeterName + Send + Sync, R: Threads + Wait + Abort + Sync>(
+    rt: &R,
+    alloc: Global,
+    blanks: Blanks,
+)
+    requires { (blanks.roll ≡ N.roll 0) × (blanks.meter ≡ N.meter 0) }
+{
+    let station = made::<N, _, _, _>(rt, alloc, blanks, 0, config(), Perfect, Open);
+    let mut first = entered(rt, alloc, &station);
+    let mut second = entered(rt, alloc, &station);
+    assert!(rt; first.open(0, 1) == SENDER);
+    assert!(rt; second.open(1, 1) == RECEIVER);
+    let (sent, received) = join(rt, || sends(first), || receives(second));
+    let (_, frames) = station.stats(rt, SENDER, iface(rt, 0));
+    assert!(rt; frames.is_some_and(|counts| counts.done == 1 && counts.refused == 0));
+    let passes = two(rt, alloc, sent, received);
+    let settled = settled(rt, station, passes, Vec::new(alloc));
+    assert!(rt; settled.passes == 2);
+    assert!(rt; settled.history.len() == 9);
+}
+
+#[test]
+fn an_fd_frame_goes_from_one_thread_to_another(rt: HostRuntime) -> Result<(), Fail> {
+    let blanks = Blanks::new(rt.alloc(), 2)?;
+    two_sides::<Brand, _>(&rt, rt.alloc(), blanks);
+    Ok(())
+}
