@@ -48,8 +48,9 @@ def gone(client, how):
     if how == "reset":
         reset(client)
     elif how == "half closed":
-        client.shutdown(socket.SHUT_WR)
-        with contextlib.suppress(ConnectionError):
+        # The server may have gone first: shutdown then fails with ENOTCONN.
+        with contextlib.suppress(OSError):
+            client.shutdown(socket.SHUT_WR)
             while client.recv(65536):
                 pass
         client.close()
