@@ -1,0 +1,4 @@
+pub mod PlainWords
+pub mod LineEnds
+pub mod Taking
+pub mod Ending

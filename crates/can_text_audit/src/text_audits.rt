@@ -1,0 +1,82 @@
+ghost use Rattle.std.specs.Prelude.{◌≡◌, ◌++◌, [], Err, IfErr, IfOk, List, OnOk, drop, length, ℕ};
+ghost use Rattle.can_record.specs.RecordFaults.{LacksFirst, Reads};
+ghost use Rattle.can_record.specs.Spelling.{first_line};
+ghost use Rattle.can_text_audit.specs.TextAudits.{AreTaken, IsLine, MayFollow, Tells};
+
+use crate::bodies::Body;
+use crate::faults::TextFault;
+use can_record::ReadFault;
+use can_record::lines::read_version;
+use can_record::versions::Version;
+use std::alloc::Global;
+
+/// How far the lines of a text have come.
+#[derive(Drop)]
+enum Course {
+    /// No line was taken.
+    Start,
+    /// The first one, which names the version.
+    Front(Version),
+    /// The bus's line too, and those behind it.
+    Body(Body),
+}
+
+/// An audit of a text that is told its lines, one after another, and holds none of them.
+///
+/// Contracts name the text so far, as the lines that were taken make it. A line is cut behind its LF, and one without LF
+/// is the text's last. After an `Err` nothing more is to be told: the text is at fault, whatever follows.
+#[derive(Drop)]
+pub struct TextAudit {
+    course: Course,
+    buffer: Vec<u8>,
+}
+
+impl TextAudit {
+    /// An audit that was told nothing yet.
+    pub fn new(alloc: Global) -> TextAudit
+        ensures { AreTaken [] result }
+    {
+        TextAudit {
+            course: Course::Start,
+            buffer: Vec::new(alloc),
+        }
+    }
+
+    /// Takes the next line of the text, with its LF if it has one. A fault of the text is told as soon as its line is
+    /// read, but for those of the whole text, which `finish` tells.
+    ///
+    /// `NoMemory` comes where memory was refused, and past 4,294,967,295 entries; nothing is known of the text then.
+    pub fn carry(&mut self, alloc: Global, line: &[u8]) -> Result<(), ReadFault>
+        ensures taken { OnOk result ((text : List ℕ) → AreTaken text self.old → IsLine line.now → AreTaken (text ++ line.now) self.new) }
+        ensures fault { IfErr result (λ why. (text after : List ℕ) → AreTaken text self.old → IsLine line.now → MayFollow line.now after → Reads (text ++ line.now ++ after) (Err why)) }
+    {
+        let next = match &mut self.course {
+            Course::Start => Course::Front(first_version(line)?),
+            Course::Front(version) => {
+                Course::Body(Body::read(alloc, &mut self.buffer, *version, line)?)
+            }
+            Course::Body(body) => return body.carry(alloc, &mut self.buffer, line),
+        };
+        self.course = next;
+        Ok(())
+    }
+
+    /// The text has ended: how many entries its record has, where it is a legal one.
+    pub fn finish(self) -> Result<usize, TextFault>
+        ensures { (text : List ℕ) → AreTaken text self.entry → Tells text result }
+    {
+        match self.course {
+            Course::Start => Err(TextFault::Read(ReadFault::BadVersion)),
+            Course::Front(_) => Err(TextFault::Read(ReadFault::BadLine(2))),
+            Course::Body(body) => body.finish(),
+        }
+    }
+}
+
+// The version that the first line names.
+fn first_version(line: &[u8]) -> Result<Version, ReadFault>
+    ensures found { IfOk result (λ v. line.now ≡ first_line v ++ drop (length (first_line v)) line.now) }
+    ensures only { IfErr result (λ why. (why ≡ ReadFault.BadVersion) × LacksFirst line.now) }
+{
+    read_version(line).ok_or(ReadFault::BadVersion)
+}
