@@ -39,7 +39,7 @@ use Rattle.can_record.proofs.Digits.{is_word-decimal, is_word-moment}
 use Rattle.can_record.proofs.FrameWords.{is_word-item}
 
 -- each is a word
-pub AreWords : List (List ℕ) → Type 0
+abbrev pub AreWords : List (List ℕ) → Type 0
 AreWords [] = Unit {0}
 AreWords (w ∷ ws) = (is_word w ≡ true) × AreWords ws
 
@@ -51,62 +51,62 @@ flag : (on : Bool) → is_word (flag_word on) ≡ true
 flag false = refl
 flag true = refl
 
-class : (c : Class) → is_word (class_word c) ≡ true
-class class.Done = refl
-class class.LastBit = refl
-class class.Destroyed = refl
-class class.NoAck = refl
+class_is : (c : Class) → is_word (class_word c) ≡ true
+class_is class.Done = refl
+class_is class.LastBit = refl
+class_is class.Destroyed = refl
+class_is class.NoAck = refl
 
-ack : (a : AckMode) → is_word (ack_word a) ≡ true
-ack ack.Always = refl
-ack ack.Peers = refl
+ack_is : (a : AckMode) → is_word (ack_word a) ≡ true
+ack_is ack.Always = refl
+ack_is ack.Peers = refl
 
-verdict : (v : Verdict) → is_word (verdict_word v) ≡ true
-verdict verdict.Good = refl
-verdict (verdict.Global global.Bit) = refl
-verdict (verdict.Global global.Form) = refl
-verdict verdict.LastBit = refl
-verdict (verdict.Local set local.Stuff) = set-plain set
-verdict (verdict.Local set local.Crc) = set-plain set
-verdict (verdict.Local set local.Form) = set-plain set
+verdict_is : (v : Verdict) → is_word (verdict_word v) ≡ true
+verdict_is verdict.Good = refl
+verdict_is (verdict.Global global.Bit) = refl
+verdict_is (verdict.Global global.Form) = refl
+verdict_is verdict.LastBit = refl
+verdict_is (verdict.Local set local.Stuff) = set-plain set
+verdict_is (verdict.Local set local.Crc) = set-plain set
+verdict_is (verdict.Local set local.Form) = set-plain set
 
 options : (o : Opt) → AreWords (option_words o)
-options (opt.Loopback on) = (refl, flag on, tt)
-options (opt.RecvOwn on) = (refl, flag on, tt)
-options (opt.Join on) = (refl, flag on, tt)
-options (opt.FdFrames on) = (refl, flag on, tt)
-options (opt.ErrMask mask) = (refl, mask-plain mask, tt)
+options (opt.Loopback on) = (refl, (flag on, tt))
+options (opt.RecvOwn on) = (refl, (flag on, tt))
+options (opt.Join on) = (refl, (flag on, tt))
+options (opt.FdFrames on) = (refl, (flag on, tt))
+options (opt.ErrMask mask) = (refl, (mask-plain mask, tt))
 
 filters : (fs : List CanFilter) → AreWords (filter_words fs)
 filters [] = tt
-filters (f ∷ fs) = (mask-plain f.id, mask-plain f.mask, filters fs)
+filters (f ∷ fs) = (mask-plain f.id, (mask-plain f.mask, filters fs))
 
 number : (n limit : ℕ) → n < limit → limit < 2 ^ 64 → is_word (decimal n) ≡ true
 number n limit small wide = is_word-decimal n (omega (arith, small, wide))
 
 events : (e : Event) → HoldsEvent e → AreWords (event_words e)
-events (Open i c) h = (refl, number i 16 h.0 (omega arith), number c (2 ^ 32) h.1 (omega arith), tt)
-events (Close s) h = (refl, number s.0 (2 ^ 32) h (omega arith), tt)
-events (SetFilters s fs) h = (refl, number s.0 (2 ^ 32) h.0 (omega arith), is_word-decimal (length fs) (omega (arith, h.1)), filters fs)
-events (SetOption s o) h = (refl, number s.0 (2 ^ 32) h.0 (omega arith), options o)
-events (Send s f) h = (refl, number s.0 (2 ^ 32) h.0 (omega arith), is_word-item (item.Data f) h.1, tt)
-events (Receive s) h = (refl, number s.0 (2 ^ 32) h (omega arith), tt)
-events (Attempt m v) h = (refl, is_word-moment m h.0, verdict v, tt)
-events (Restart i m) h = (refl, number i 16 h.0 (omega arith), is_word-moment m h.1, tt)
+events (Open i c) h = (refl, (number i 16 h.0 (omega arith), (number c (2 ^ 32) h.1 (omega arith), tt)))
+events (Close s) h = (refl, (number s.0 (2 ^ 32) h (omega arith), tt))
+events (SetFilters s fs) h = (refl, (number s.0 (2 ^ 32) h.0 (omega arith), (is_word-decimal (length fs) (omega (arith, h.1)), filters fs)))
+events (SetOption s o) h = (refl, (number s.0 (2 ^ 32) h.0 (omega arith), options o))
+events (Send s f) h = (refl, (number s.0 (2 ^ 32) h.0 (omega arith), (is_word-item (item.Data f) h.1, tt)))
+events (Receive s) h = (refl, (number s.0 (2 ^ 32) h (omega arith), tt))
+events (Attempt m v) h = (refl, (is_word-moment m h.0, (verdict_is v, tt)))
+events (Restart i m) h = (refl, (number i 16 h.0 (omega arith), (is_word-moment m h.1, tt)))
 
 restarted : (set : IfaceSet) → AreWords (restarted_words set)
 restarted set = when (set.0 == 0)
   where
     when : (b : Bool) → AreWords (cond b [] (codes "restarted" ∷ set_word set ∷ []))
     when true = tt
-    when false = (refl, set-plain set, tt)
+    when false = (refl, (set-plain set, tt))
 
 received : (i : Item) (r : Received) → IsItem r.item → r.from < 16 → r.number < 2 ^ 64 → r.moment < 10 ^ 16 → AreWords (received_words i r)
-received (item.Data f) r good from n m = (refl, number r.from 16 from (omega arith), is_word-decimal r.number n, is_word-item r.item good, is_word-moment r.moment m, tt)
-received (item.Error e) r good from n m = (refl, number r.from 16 from (omega arith), is_word-item r.item good, is_word-moment r.moment m, tt)
+received (item.Data f) r good from n m = (refl, (number r.from 16 from (omega arith), (is_word-decimal r.number n, (is_word-item r.item good, (is_word-moment r.moment m, tt)))))
+received (item.Error e) r good from n m = (refl, (number r.from 16 from (omega arith), (is_word-item r.item good, (is_word-moment r.moment m, tt))))
 
 tried : (t : Tried) → HoldsTried t → AreWords (reply_words (reply.Tried t))
-tried t h = (refl, number t.winner 16 h.winner (omega arith), is_word-decimal t.number h.number, is_word-item (item.Data t.frame) h.frame, class t.class, set-plain t.accepted, set-plain t.off, restarted t.restarted)
+tried t h = (refl, (number t.winner 16 h.winner (omega arith), (is_word-decimal t.number h.number, (is_word-item (item.Data t.frame) h.frame, (class_is t.class, (set-plain t.accepted, (set-plain t.off, restarted t.restarted)))))))
 
 refused : (why : Refusal) → AreWords (refusal_words why)
 refused refusal.NoInterface = (refl, tt)
@@ -121,10 +121,10 @@ refused refusal.RecordFull = tt
 refused refusal.NoMemory = tt
 
 replies : (r : Reply) → HoldsReply r → AreWords (reply_words r)
-replies (reply.Opened s) h = (refl, number s.0 (2 ^ 32) h (omega arith), tt)
-replies (reply.Closed c) h = (refl, is_word-decimal c.unread h.0, is_word-decimal c.dropped h.1, tt)
+replies (reply.Opened s) h = (refl, (number s.0 (2 ^ 32) h (omega arith), tt))
+replies (reply.Closed c) h = (refl, (is_word-decimal c.unread h.0, (is_word-decimal c.dropped h.1, tt)))
 replies reply.Done h = (refl, tt)
-replies (reply.Sent n) h = (refl, is_word-decimal n h, tt)
+replies (reply.Sent n) h = (refl, (is_word-decimal n h, tt))
 replies (reply.Received None) h = (refl, tt)
 replies (reply.Received (Some r)) h = received r.item r h.0 h.1 h.2 h.3
 replies (reply.Idle set) h = (refl, restarted set)
@@ -140,15 +140,7 @@ restarts version.Two c h = (is_word-decimal c.auto_restart (omega (arith, h.prop
 restarts version.Three c h = (is_word-decimal c.auto_restart (omega (arith, h.proper.few_attempts)), tt)
 
 pub bus_are_words : (v : Version) (c : BusConfig) → HasBusLine v c → AreWords (bus_words v c)
-bus_are_words v c h = (
-  refl,
-  is_word-decimal c.ifaces (omega (arith, h.proper.few_ifaces)),
-  ack c.ack,
-  set-plain c.reporting,
-  is_word-decimal c.tx_capacity (omega (arith, h.proper.few_frames)),
-  is_word-decimal c.limit (omega (arith, h.proper.few_entries)),
-  restarts v c h,
-)
+bus_are_words v c h = (refl, (is_word-decimal c.ifaces (omega (arith, h.proper.few_ifaces)), (ack_is c.ack, (set-plain c.reporting, (is_word-decimal c.tx_capacity (omega (arith, h.proper.few_frames)), (is_word-decimal c.limit (omega (arith, h.proper.few_entries)), restarts v c h))))))
 
 pub end_are_words : (n : ℕ) → n < 2 ^ 64 → AreWords (end_words n)
-end_are_words n h = (refl, is_word-decimal n h, tt)
+end_are_words n h = (refl, (is_word-decimal n h, tt))

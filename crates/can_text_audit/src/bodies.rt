@@ -1,4 +1,4 @@
-ghost use Rattle.std.specs.Prelude.{◌≡◌, ◌+◌, ◌||◌, ◌++◌, Err, IfErr, IfOk, IsSome, List, None, OnOk, true, ℕ};
+ghost use Rattle.std.specs.Prelude.{◌≡◌, ◌≢◌, ◌+◌, ◌-◌, ◌^◌, ◌<◌, ◌||◌, ◌++◌, Err, IfErr, IfOk, IsSome, IsTrue, List, None, OnOk, false, true, ℕ};
 ghost use Rattle.can_record.specs.RecordFaults.{Reads};
 ghost use Rattle.can_record.specs.Spelling.{first_line};
 ghost use Rattle.can_text_audit.specs.TextAudits.{IsLine, MayFollow, Tells};
@@ -38,7 +38,7 @@ impl Body {
         line: &[u8],
     ) -> Result<Body, ReadFault>
         ensures taken { IfOk result (λ body. IsLine line.now → IsGoing (first_line version ++ line.now) body) }
-        ensures fault { IfErr result (λ why. (after : List ℕ) → MayFollow line.now after → Reads (first_line version ++ line.now ++ after) (Err why)) }
+        ensures fault { IfErr result (λ why. (after : List ℕ) → MayFollow line.now after → Reads (first_line version ++ (line.now ++ after)) (Err why)) }
     {
         let config = match read_bus(buffer, version, line) {
             Ok(config) => config,
@@ -67,10 +67,13 @@ impl Body {
         line: &[u8],
     ) -> Result<(), ReadFault>
         ensures taken { OnOk result ((text : List ℕ) → IsGoing text self.old → IsLine line.now → IsGoing (text ++ line.now) self.new) }
-        ensures fault { IfErr result (λ why. (text after : List ℕ) → IsGoing text self.old → IsLine line.now → MayFollow line.now after → Reads (text ++ line.now ++ after) (Err why)) }
+        ensures fault { IfErr result (λ why. (text after : List ℕ) → IsGoing text self.old → IsLine line.now → MayFollow line.now after → Reads (text ++ (line.now ++ after)) (Err why)) }
     {
         if self.is_ended {
             return Err(ReadFault::BadLine(u64::from(self.count) + 4));
+        }
+        if self.count == u32::MAX {
+            return Err(ReadFault::NoMemory);
         }
         match self.carry_entry(alloc, buffer, line) {
             Ok(()) => Ok(()),
@@ -86,6 +89,7 @@ impl Body {
         buffer: &mut Vec<u8>,
         line: &[u8],
     ) -> Result<(), Unread>
+        requires { self.old.count < 2 ^ 32 - 1 }
         ensures { Takes self.old self.new line.now result }
     {
         if self.wrong.is_some() {
@@ -102,15 +106,20 @@ impl Body {
         buffer: &mut Vec<u8>,
         line: &[u8],
     ) -> Result<(), Unread>
-        requires { self.old.wrong ≡ None }
+        requires legal { self.old.wrong ≡ None }
+        requires few { self.old.count < 2 ^ 32 - 1 }
         ensures { Takes self.old self.new line.now result }
     {
-        match carry_line(alloc, &mut self.bus, buffer, line) {
-            Ok(Carried::Legal(fd)) if fd && self.version != Version::Three => Err(Unread::Bad),
-            Ok(Carried::Legal(fd)) => self.add(fd),
-            Ok(Carried::Other(legal)) => self.blame(alloc, buffer, line, legal),
-            Err(why) => Err(why),
+        let fd = match carry_line(alloc, &mut self.bus, buffer, line) {
+            Ok(Carried::Legal(fd)) => fd,
+            Ok(Carried::Other(legal)) => return self.blame(alloc, buffer, line, legal),
+            Err(why) => return Err(why),
+        };
+        if !may_stand(self.version, fd) {
+            return Err(Unread::Bad);
         }
+        self.add(fd);
+        Ok(())
     }
 
     // The first entry's line that is not legal.
@@ -121,13 +130,14 @@ impl Body {
         line: &[u8],
         legal: Option<Reply>,
     ) -> Result<(), Unread>
-        requires { self.old.wrong ≡ None }
+        requires legal { self.old.wrong ≡ None }
+        requires few { self.old.count < 2 ^ 32 - 1 }
         ensures { Blames self.old self.new line.now legal result }
     {
         let entry = read_line(buffer, alloc, self.version, self.config, line)?;
         let fd = has_fd(&entry.event, &entry.reply);
         let place = self.count as usize;
-        self.add(fd)?;
+        self.add(fd);
         self.wrong = Some(WrongLine {
             place,
             entry,
@@ -144,30 +154,29 @@ impl Body {
         buffer: &mut Vec<u8>,
         line: &[u8],
     ) -> Result<(), Unread>
-        requires { IsSome self.old.wrong }
+        requires wrong { IsSome self.old.wrong }
+        requires few { self.old.count < 2 ^ 32 - 1 }
         ensures { Takes self.old self.new line.now result }
     {
         let entry = read_line(buffer, alloc, self.version, self.config, line)?;
-        self.add(has_fd(&entry.event, &entry.reply))
+        self.add(has_fd(&entry.event, &entry.reply));
+        Ok(())
     }
 
     // One entry more.
-    fn add(&mut self, fd: bool) -> Result<(), Unread>
-        ensures added { OnOk result (self.new ≡ record self.old { count = self.old.count + 1; fd = self.old.fd || fd }) }
-        ensures memory { IfErr result (λ why. why ≡ Unread.NoMemory) }
+    fn add(&mut self, fd: bool)
+        requires { self.old.count < 2 ^ 32 - 1 }
+        ensures { self.new ≡ record self.old { count = self.old.count + 1; fd = self.old.fd || fd } }
     {
-        let Some(count) = self.count.checked_add(1) else {
-            return Err(Unread::NoMemory);
-        };
-        self.count = count;
+        self.count += 1;
         self.fd |= fd;
-        Ok(())
     }
 
     // The line of the end.
     fn end(&mut self, buffer: &mut Vec<u8>, line: &[u8]) -> Result<(), ReadFault>
         ensures ended { OnOk result ((self.new ≡ record self.old { is_ended = true }) × StandsEnd self.old.count line.now) }
         ensures fault { IfErr result (λ why. IsUnended self.old.count line.now why) }
+        ensures few { self.old.count < 2 ^ 64 }
     {
         buffer.clear();
         match put_end(buffer, u64::from(self.count)) {
@@ -183,18 +192,41 @@ impl Body {
 
     /// The text has ended.
     pub fn finish(self) -> Result<usize, TextFault>
-        ensures { (text : List ℕ) → IsGoing text self.entry → Tells text result }
+        ensures { (text : List ℕ) → IsGoing text self → Tells text result }
     {
-        if !self.is_ended {
-            let line = u64::from(self.count) + 3;
-            return Err(TextFault::Read(ReadFault::BadLine(line)));
+        let Body {
+            version,
+            count,
+            fd,
+            wrong,
+            is_ended,
+            ..
+        } = self;
+        if !is_ended {
+            return Err(TextFault::Read(ReadFault::BadLine(u64::from(count) + 3)));
         }
-        if self.version == Version::Three && !self.fd {
+        if is_needless(version, fd) {
             return Err(TextFault::Read(ReadFault::BadVersion));
         }
-        match self.wrong {
-            None => Ok(self.count as usize),
+        match wrong {
+            None => Ok(count as usize),
             Some(wrong) => Err(TextFault::Wrong(wrong)),
         }
     }
+}
+
+/// Whether a line with an FD frame or the option for such, or one without, may stand in this version.
+fn may_stand(version: Version, fd: bool) -> bool
+    ensures yes { IsTrue result → fd ≡ true → version ≡ Version.Three }
+    ensures no { result ≡ false → (fd ≡ true) × (version ≢ Version.Three) }
+{
+    !fd || version == Version::Three
+}
+
+/// Whether a text of this version, with an FD frame or the option for such, or without, has nothing that takes it.
+fn is_needless(version: Version, fd: bool) -> bool
+    ensures yes { IsTrue result → (version ≡ Version.Three) × (fd ≡ false) }
+    ensures no { result ≡ false → version ≡ Version.Three → fd ≡ true }
+{
+    version == Version::Three && !fd
 }

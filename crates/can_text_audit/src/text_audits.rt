@@ -48,24 +48,33 @@ impl TextAudit {
     /// `NoMemory` comes where memory was refused, and past 4,294,967,295 entries; nothing is known of the text then.
     pub fn carry(&mut self, alloc: Global, line: &[u8]) -> Result<(), ReadFault>
         ensures taken { OnOk result ((text : List ℕ) → AreTaken text self.old → IsLine line.now → AreTaken (text ++ line.now) self.new) }
-        ensures fault { IfErr result (λ why. (text after : List ℕ) → AreTaken text self.old → IsLine line.now → MayFollow line.now after → Reads (text ++ line.now ++ after) (Err why)) }
+        ensures fault { IfErr result (λ why. (text after : List ℕ) → AreTaken text self.old → IsLine line.now → MayFollow line.now after → Reads (text ++ (line.now ++ after)) (Err why)) }
     {
-        let next = match &mut self.course {
-            Course::Start => Course::Front(first_version(line)?),
-            Course::Front(version) => {
-                Course::Body(Body::read(alloc, &mut self.buffer, *version, line)?)
-            }
-            Course::Body(body) => return body.carry(alloc, &mut self.buffer, line),
-        };
-        self.course = next;
-        Ok(())
+        match &mut self.course {
+            Course::Start => match first_version(line) {
+                Ok(version) => {
+                    self.course = Course::Front(version);
+                    Ok(())
+                }
+                Err(why) => Err(why),
+            },
+            Course::Front(version) => match Body::read(alloc, &mut self.buffer, *version, line) {
+                Ok(body) => {
+                    self.course = Course::Body(body);
+                    Ok(())
+                }
+                Err(why) => Err(why),
+            },
+            Course::Body(body) => body.carry(alloc, &mut self.buffer, line),
+        }
     }
 
     /// The text has ended: how many entries its record has, where it is a legal one.
     pub fn finish(self) -> Result<usize, TextFault>
-        ensures { (text : List ℕ) → AreTaken text self.entry → Tells text result }
+        ensures { (text : List ℕ) → AreTaken text self → Tells text result }
     {
-        match self.course {
+        let TextAudit { course, .. } = self;
+        match course {
             Course::Start => Err(TextFault::Read(ReadFault::BadVersion)),
             Course::Front(_) => Err(TextFault::Read(ReadFault::BadLine(2))),
             Course::Body(body) => body.finish(),

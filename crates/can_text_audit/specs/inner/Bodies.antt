@@ -41,5 +41,5 @@ pub record IsRead (text : List ℕ) (b : Body) : Type 0 where
 -- and while all were legal, the bus carried them out
 pub record IsGoing (text : List ℕ) (b : Body) : Type 0 where
   pub read : IsRead text b
-  pub config : b.bus.config ≡ b.config
-  pub stands : b.wrong ≡ None → b.is_ended ≡ false → Stands b.bus (reverse read.entries)
+  pub config : b.is_ended ≡ false → b.bus.config ≡ b.config
+  pub stands : b.is_ended ≡ false → b.wrong ≡ None → Stands b.bus (reverse read.entries)
