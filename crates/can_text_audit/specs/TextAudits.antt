@@ -4,6 +4,7 @@ use Rattle.std.specs.Io.BufRead.{take_through}
 use Rattle.can_event.specs.declared.events.BusConfig.{BusConfig}
 use Rattle.can_event.specs.declared.events.Entry.{Entry}
 use Rattle.can_bus.specs.Legal.{IsLegal}
+use Rattle.can_record.specs.declared.faults.ReadFault.{ReadFault}
 use Rattle.can_record.specs.RecordFaults.{IsTextOf, Reads}
 use Rattle.can_record.specs.Spelling.{first_line}
 use Rattle.can_replay.specs.Audits.{IsToldWrong}
@@ -52,7 +53,12 @@ abbrev pub HasCome : List ℕ → Course → Type 0
 HasCome text course.Start = text ≡ []
 HasCome text (course.Front v) = text ≡ first_line v
 HasCome text (course.Body b) = IsGoing text b
+HasCome text (course.Failed why) = ⊥
 
 -- the same of an audit
 abbrev pub AreTaken : List ℕ → TextAudit → Type 0
 AreTaken text audit = HasCome text audit.course
+
+-- this fault was told
+abbrev pub HasFailed : ReadFault → TextAudit → Type 0
+HasFailed why audit = audit.course ≡ course.Failed why

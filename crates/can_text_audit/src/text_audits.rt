@@ -1,7 +1,8 @@
 ghost use Rattle.std.specs.Prelude.{◌≡◌, ◌++◌, [], Err, IfErr, IfOk, List, OnOk, drop, length, ℕ};
+ghost use Rattle.can_record.specs.declared.faults.ReadFault.{ReadFault as AFault};
 ghost use Rattle.can_record.specs.RecordFaults.{LacksFirst, Reads};
 ghost use Rattle.can_record.specs.Spelling.{first_line};
-ghost use Rattle.can_text_audit.specs.TextAudits.{AreTaken, IsLine, MayFollow, Tells};
+ghost use Rattle.can_text_audit.specs.TextAudits.{AreTaken, HasFailed, IsLine, MayFollow, Tells};
 
 use crate::bodies::Body;
 use crate::faults::TextFault;
@@ -19,12 +20,14 @@ enum Course {
     Front(Version),
     /// The bus's line too, and those behind it.
     Body(Body),
+    /// A line was at fault.
+    Failed(ReadFault),
 }
 
 /// An audit of a text that is told its lines, one after another, and holds none of them.
 ///
 /// Contracts name the text so far, as the lines that were taken make it. A line is cut behind its LF, and one without LF
-/// is the text's last. After an `Err` nothing more is to be told: the text is at fault, whatever follows.
+/// is the text's last. After a fault each call answers that fault.
 #[derive(Drop)]
 pub struct TextAudit {
     course: Course,
@@ -49,6 +52,23 @@ impl TextAudit {
     pub fn carry(&mut self, alloc: Global, line: &[u8]) -> Result<(), ReadFault>
         ensures taken { OnOk result ((text : List ℕ) → AreTaken text self.old → IsLine line.now → AreTaken (text ++ line.now) self.new) }
         ensures fault { IfErr result (λ why. (text after : List ℕ) → AreTaken text self.old → IsLine line.now → MayFollow line.now after → Reads (text ++ (line.now ++ after)) (Err why)) }
+        ensures failed { IfErr result (λ why. HasFailed why self.new) }
+        ensures again { (why : AFault) → HasFailed why self.old → result ≡ Err why }
+    {
+        match self.take(alloc, line) {
+            Ok(()) => Ok(()),
+            Err(why) => {
+                self.course = Course::Failed(why);
+                Err(why)
+            }
+        }
+    }
+
+    // Takes a line where none was at fault.
+    fn take(&mut self, alloc: Global, line: &[u8]) -> Result<(), ReadFault>
+        ensures taken { OnOk result ((text : List ℕ) → AreTaken text self.old → IsLine line.now → AreTaken (text ++ line.now) self.new) }
+        ensures fault { IfErr result (λ why. (text after : List ℕ) → AreTaken text self.old → IsLine line.now → MayFollow line.now after → Reads (text ++ (line.now ++ after)) (Err why)) }
+        ensures again { (why : AFault) → HasFailed why self.old → result ≡ Err why }
     {
         match &mut self.course {
             Course::Start => match first_version(line) {
@@ -66,18 +86,21 @@ impl TextAudit {
                 Err(why) => Err(why),
             },
             Course::Body(body) => body.carry(alloc, &mut self.buffer, line),
+            Course::Failed(why) => Err(*why),
         }
     }
 
     /// The text has ended: how many entries its record has, where it is a legal one.
     pub fn finish(self) -> Result<usize, TextFault>
-        ensures { (text : List ℕ) → AreTaken text self → Tells text result }
+        ensures told { (text : List ℕ) → AreTaken text self → Tells text result }
+        ensures again { (why : AFault) → HasFailed why self → result ≡ Err (TextFault.Read why) }
     {
         let TextAudit { course, .. } = self;
         match course {
             Course::Start => Err(TextFault::Read(ReadFault::BadVersion)),
             Course::Front(_) => Err(TextFault::Read(ReadFault::BadLine(2))),
             Course::Body(body) => body.finish(),
+            Course::Failed(why) => Err(TextFault::Read(why)),
         }
     }
 }

@@ -5,7 +5,7 @@ use Rattle.can_record.specs.Spelling.{first_line}
 use Rattle.can_text_audit.specs.inner.Bodies.{IsGoing}
 use Rattle.can_text_audit.specs.TextAudits.{HasCome}
 use Rattle.can_text_audit.proofs.LineEnds.{cut_first, lacks_first}
-use Rattle.can_text_audit.proofs.text_audits.TextAudit.carry.Goals as goal
+use Rattle.can_text_audit.proofs.text_audits.TextAudit.take.Goals as goal
 
 on_ok : (P Q : Type 0) (r : Result (Unit {0}) ReadFault) → (P → Q) → OnOk r P → OnOk r Q
 on_ok P Q (Ok u) f h = f h
