@@ -1,20 +1,17 @@
 -- The first lines, the last one, and what is told of a text that has ended.
-use Rattle.std.proofs.Common.{◌≡◌, ◌≢◌, ◌^◌, ◌<◌, ◌+◌, ℕ, Bool, true, false, List, [], ◌∷◌, ◌++◌, length, drop, Option, Some, None, Result, Ok, Err, IfErr, OnOk, inl, inr, append_assoc, refl, sym, ap, subst, ◌∙◌, arith}
-use Rattle.std.specs.Prelude.{reverse}
-use Rattle.std.specs.List.{list_any}
+use Rattle.std.proofs.Common.{◌≡◌, ◌≢◌, ◌^◌, ◌<◌, ◌+◌, ℕ, Bool, true, false, List, [], ◌∷◌, ◌++◌, length, drop, Some, None, Result, Ok, Err, IfErr, OnOk, inl, inr, refl, sym, ap, subst, ◌∙◌}
 use Rattle.std.proofs.lemmas.List.{append-nil}
 use Rattle.std.proofs.lemmas.List.Elements.{All-nil}
 use Rattle.std.proofs.lemmas.Option.{none-some}
 use Rattle.can_event.specs.declared.events.BusConfig.{BusConfig}
 use Rattle.can_event.specs.declared.events.Entry.{Entry}
 use Rattle.can_bus.specs.Lean.{Lean, Stands}
-use Rattle.can_bus.specs.Legal.{IsLegal}
 use Rattle.can_record.specs.declared.faults.ReadFault.{ReadFault}
 use Rattle.can_record.specs.declared.faults.ReadFault.TheVariants as fault
 use Rattle.can_record.specs.declared.versions.Version.{Version}
 use Rattle.can_record.specs.declared.versions.Version.TheVariants as version
 use Rattle.can_record.specs.inner.Reading.{entry_at}
-use Rattle.can_record.specs.Spelling.{bus_words, end_words, entry_line, entry_lines, first_line, front_lines, has_fd, spell, text_in, version_of}
+use Rattle.can_record.specs.Spelling.{bus_words, end_words, entry_lines, first_line, front_lines, spell, text_in}
 use Rattle.can_record.specs.Values.{HasBusLine, HasLine, HasLines}
 use Rattle.can_record.specs.RecordFaults.{IsFirstWrong, IsOfNoVersion, IsTextOf, LacksBus, LacksEnd, LacksEntry, Reads}
 use Rattle.can_record.proofs.Again.{entry_again, nothing_is_none}
@@ -24,7 +21,7 @@ use Rattle.can_record.proofs.Whole.{first_is_wrong, front-then, needs_no_three}
 use Rattle.can_text_audit.specs.declared.bodies.Body.{Body}
 use Rattle.can_text_audit.specs.declared.faults.WrongLine.{WrongLine}
 use Rattle.can_text_audit.specs.TextAudits.{IsLegalText, IsLine, IsWrongText, MayFollow}
-use Rattle.can_text_audit.specs.inner.Bodies.{IsGoing, IsRead, IsSettled, so_far}
+use Rattle.can_text_audit.specs.inner.Bodies.{IsGoing, IsSettled, so_far}
 use Rattle.can_text_audit.specs.inner.Steps.{IsUnended, StandsEnd}
 use Rattle.can_text_audit.proofs.LineEnds.{cut_bus, cut_end, lacks_bus, lacks_end, lacks_entry}
 

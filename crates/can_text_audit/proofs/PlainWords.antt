@@ -1,8 +1,6 @@
 -- The words of a line: no byte of theirs ends a line.
-use Rattle.std.proofs.Common.{◌≡◌, ◌^◌, ◌<◌, ◌==◌, cond, Bool, true, false, List, [], ◌∷◌, ◌++◌, length, Some, None, refl, ap, ◌∙◌, arith}
-use Rattle.std.specs.Prelude.{All, ℕ, codes, decimal}
-use Rattle.std.proofs.lemmas.Bool.{cond-true, cond-false}
-use Rattle.std.proofs.lemmas.List.Elements.{All-head, All-tail}
+use Rattle.std.proofs.Common.{◌≡◌, ◌^◌, ◌<◌, ◌==◌, cond, Bool, true, false, List, [], ◌∷◌, ◌++◌, length, Some, None, refl, arith}
+use Rattle.std.specs.Prelude.{ℕ, codes, decimal}
 use Rattle.can_frame.specs.declared.items.Item.{Item}
 use Rattle.can_frame.specs.declared.items.Item.TheVariants as item
 use Rattle.can_frame.specs.declared.ifaces.IfaceSet.{IfaceSet}
@@ -33,7 +31,7 @@ use Rattle.can_record.specs.declared.versions.Version.{Version}
 use Rattle.can_record.specs.declared.versions.Version.TheVariants as version
 use Rattle.can_record.specs.inner.Words.{is_word}
 use Rattle.can_record.specs.Spelling.{flag_word, option_words, verdict_word, filter_words, refusal_words, received_words, event_words, restarted_words, reply_words, entry_words, ack_word, auto_restart_words, bus_words, end_words, set_word}
-use Rattle.can_record.specs.Values.{HoldsEvent, HoldsOption, HoldsReply, HoldsTried, HasLine, HasBusLine}
+use Rattle.can_record.specs.Values.{HoldsEvent, HoldsReply, HoldsTried, HasLine, HasBusLine}
 use Rattle.can_record.proofs.Again.{mask-plain, set-plain}
 use Rattle.can_record.proofs.Digits.{is_word-decimal, is_word-moment}
 use Rattle.can_record.proofs.FrameWords.{is_word-item}

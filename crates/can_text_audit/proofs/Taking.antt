@@ -1,6 +1,6 @@
 -- One more line is taken.
-use Rattle.std.proofs.Common.{◌≡◌, ◌≢◌, ◌<◌, ◌≤◌, ◌+◌, ◌⊎◌, ◌||◌, nat_le, cond, ℕ, Bool, true, false, List, [], ◌∷◌, ◌++◌, length, take, Option, Some, None, Result, Ok, Err, inl, inr, length-append, refl, sym, ap, subst, ◌∙◌, arith}
-use Rattle.std.specs.Prelude.{All, get_or, reverse, slice_get}
+use Rattle.std.proofs.Common.{◌≡◌, ◌≢◌, ◌≤◌, ◌+◌, ◌⊎◌, ◌||◌, nat_le, cond, ℕ, Bool, true, false, List, [], ◌∷◌, ◌++◌, length, take, Option, Some, None, Result, Ok, Err, length-append, refl, sym, ap, subst, ◌∙◌, arith}
+use Rattle.std.specs.Prelude.{get_or, reverse, slice_get}
 use Rattle.std.specs.List.{list_any}
 use Rattle.std.proofs.Math.Bool.{or-false}
 use Rattle.std.proofs.Math.Seq.{get_or-append_seam, take-append_seam}
@@ -16,14 +16,14 @@ use Rattle.can_bus.specs.Legal.{IsLegal, legal_reply}
 use Rattle.can_record.specs.declared.versions.Version.{Version}
 use Rattle.can_record.specs.declared.versions.Version.TheVariants as version
 use Rattle.can_record.specs.Spelling.{entry_line, entry_lines, front_lines, has_fd}
-use Rattle.can_record.specs.Values.{HasLine, HasLines}
+use Rattle.can_record.specs.Values.{HasLine}
 use Rattle.can_record.specs.inner.Reading.{entry_at}
 use Rattle.can_record.specs.RecordFaults.{LacksEntry}
 use Rattle.can_record.proofs.Again.{entry_again}
-use Rattle.can_record.proofs.LineLists.{lines-more, lines-rest}
+use Rattle.can_record.proofs.LineLists.{lines-more}
 use Rattle.can_record.proofs.Versioning.{line_in}
 use Rattle.can_record.proofs.Whole.{front-then}
-use Rattle.can_replay.specs.Audits.{IsFirstWrong, IsToldWrong}
+use Rattle.can_replay.specs.Audits.{IsToldWrong}
 use Rattle.can_replay.specs.Histories.{before}
 use Rattle.std.proofs.lemmas.Option.{none-some, same_Some}
 use Rattle.can_text_audit.specs.declared.bodies.Body.{Body}

@@ -7,7 +7,6 @@ use Rattle.can_bus.specs.Legal.{IsLegal}
 use Rattle.can_record.specs.declared.faults.ReadFault.{ReadFault}
 use Rattle.can_record.specs.RecordFaults.{IsTextOf, Reads}
 use Rattle.can_record.specs.Spelling.{first_line}
-use Rattle.can_replay.specs.Audits.{IsToldWrong}
 use Rattle.can_text_audit.specs.declared.faults.TextFault.{TextFault}
 use Rattle.can_text_audit.specs.declared.faults.TextFault.TheVariants as fault
 use Rattle.can_text_audit.specs.declared.faults.WrongLine.{WrongLine}

@@ -7,8 +7,7 @@ ghost use Rattle.can_text_audit.specs.inner.Steps.{Blames, IsUnended, StandsEnd,
 
 use crate::carrying::{Carried, carry_line};
 use crate::faults::{TextFault, WrongLine};
-use can_bus::{BusConfig, Entry, LeanRingBus, Received, Reply};
-use can_frame::Item;
+use can_bus::{BusConfig, LeanRingBus, Reply};
 use can_record::ReadFault;
 use can_record::faults::Unread;
 use can_record::lines::{begins, put_end, read_bus, read_line};
@@ -100,12 +99,7 @@ impl Body {
     }
 
     // An entry's line while all were legal.
-    fn carry_out(
-        &mut self,
-        alloc: Global,
-        buffer: &mut Vec<u8>,
-        line: &[u8],
-    ) -> Result<(), Unread>
+    fn carry_out(&mut self, alloc: Global, buffer: &mut Vec<u8>, line: &[u8]) -> Result<(), Unread>
         requires legal { self.old.wrong ≡ None }
         requires few { self.old.count < 2 ^ 32 - 1 }
         ensures { Takes self.old self.new line.now result }
@@ -148,12 +142,7 @@ impl Body {
     }
 
     // An entry's line behind a wrong one.
-    fn read_on(
-        &mut self,
-        alloc: Global,
-        buffer: &mut Vec<u8>,
-        line: &[u8],
-    ) -> Result<(), Unread>
+    fn read_on(&mut self, alloc: Global, buffer: &mut Vec<u8>, line: &[u8]) -> Result<(), Unread>
         requires wrong { IsSome self.old.wrong }
         requires few { self.old.count < 2 ^ 32 - 1 }
         ensures { Takes self.old self.new line.now result }

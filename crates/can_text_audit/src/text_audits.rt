@@ -26,8 +26,8 @@ enum Course {
 
 /// An audit of a text that is told its lines, one after another, and holds none of them.
 ///
-/// Contracts name the text so far, as the lines that were taken make it. A line is cut behind its LF, and one without LF
-/// is the text's last. After a fault each call answers that fault.
+/// Contracts name the text so far, as the lines that were taken make it. A line is cut behind its LF, and one without
+/// LF is the text's last. After a fault each call answers that fault.
 #[derive(Drop)]
 pub struct TextAudit {
     course: Course,

@@ -1,9 +1,8 @@
-use Rattle.std.proofs.Common.{◌≡◌, ◌∙◌, IsTrue, Bool, true, false, [], drop, length, refl, subst, sym, arith, List, ℕ}
+use Rattle.std.proofs.Common.{◌≡◌, IsTrue, Bool, true, false, [], drop, length, refl, subst, arith}
 use Rattle.can_event.specs.declared.events.Entry.{Entry}
 use Rattle.can_bus.specs.Lean.{Enters, Stands}
 use Rattle.can_record.specs.Spelling.{entry_line}
 use Rattle.can_text_audit.proofs.Answering.{entered, not_an_entry, other_reply}
-use Rattle.can_record.specs.declared.faults.Unread.TheVariants as unread
 use Rattle.can_text_audit.proofs.carrying.carry_line.Goals as goal
 
 never : (b : Bool) → IsTrue b → b ≡ false → ⊥
@@ -32,4 +31,4 @@ returns-in-Ok-false-clause-carried c = λ past stands v e rest good is.
     let test : IsTrue c.enters.result = grind (arith, c.if-not-enters.false) in
     let enters : Enters c.answer-reply.result = c.enters.ensures test in
     other_reply v c.args.bus.now.config past c.args.line.now rest c.in-Ok.field-0-1.now e c.in-Ok.event c.answer-reply.result good is c.in-Ok.ensures enters (c.answer-reply.ensures.answer past stands)
-        (λ same. never c.in-Ok-false.field-0 (c.in-Ok-false.ensures.no rest same) c.in-Ok-false.field-0-test)
+    (λ same. never c.in-Ok-false.field-0 (c.in-Ok-false.ensures.no rest same) c.in-Ok-false.field-0-test)
