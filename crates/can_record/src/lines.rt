@@ -44,7 +44,7 @@ pub fn put_answered(out: &mut Vec<u8>, event: &Event, reply: &Reply) -> Result<(
 }
 
 /// The line of a bus.
-pub(crate) fn put_bus(
+pub fn put_bus(
     out: &mut Vec<u8>,
     version: Version,
     config: BusConfig,
@@ -113,7 +113,7 @@ fn has_line(version: Version, config: BusConfig, entry: &Entry) -> bool
 }
 
 /// The version whose first line the text begins with.
-pub(crate) fn read_version(text: &[u8]) -> Option<Version>
+pub fn read_version(text: &[u8]) -> Option<Version>
     ensures found { IfSome result (λ v. text.now ≡ first_line v ++ drop (length (first_line v)) text.now) }
     ensures only { IsNone result → LacksFirst text.now }
 {
@@ -130,7 +130,7 @@ pub(crate) fn read_version(text: &[u8]) -> Option<Version>
 }
 
 /// The entry of this bus's record whose line in this version the text begins with. The line is left in the buffer.
-pub(crate) fn read_line(
+pub fn read_line(
     buffer: &mut Vec<u8>,
     alloc: Global,
     version: Version,
@@ -185,7 +185,7 @@ fn moment_of(event: &Event) -> Option<Moment>
 }
 
 /// The configuration whose line in this version the text begins with. The line is left in the buffer.
-pub(crate) fn read_bus(
+pub fn read_bus(
     buffer: &mut Vec<u8>,
     version: Version,
     text: &[u8],
