@@ -47,7 +47,7 @@ pub fn legal_lines(rt: &impl AllocGlobal, text: &str) -> Option<usize> {
     count_legal(rt.alloc(), text.as_bytes())
 }
 
-fn written(rt: &impl AllocGlobal, record: &Record) -> Result<Vec<u8>, Fail> {
+pub fn written(rt: &impl AllocGlobal, record: &Record) -> Result<Vec<u8>, Fail> {
     Ok(record_text(rt.alloc(), record)?)
 }
 

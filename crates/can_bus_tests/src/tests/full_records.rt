@@ -87,13 +87,13 @@ fn is_seen(looked: &Option<Looked<'_>>, entry: &Entry) -> bool {
 }
 
 /// Whether a record gives these entries one by one, and no other.
-fn shows(record: &Record, entries: &[Entry]) -> bool {
+pub fn shows(record: &Record, entries: &[Entry]) -> bool {
     let mut places = entries.iter().enumerate();
     places.all(|(place, entry)| is_seen(&looked_at(record, place), entry))
         && looked_at(record, entries.len()).is_none()
 }
 
-fn copied(rt: &impl AllocGlobal, record: &Record) -> Result<Vec<Entry>, Fail> {
+pub fn copied(rt: &impl AllocGlobal, record: &Record) -> Result<Vec<Entry>, Fail> {
     Ok(record.to_entries(rt.alloc())?)
 }
 

@@ -1,5 +1,6 @@
-// Transmit and receive queues, and the order on the bus.
+// Transmit and receive queues, and the order on the bus, on both pairs of types.
 
+use super::pairs::{Scenario, on_both};
 use super::*;
 use can_attempt::Class;
 
@@ -19,6 +20,23 @@ fn built(head: Head) -> Result<Frame, Fail> {
     Ok(Frame::data(id, &[])?)
 }
 
+/// Of two interfaces that have these frames to send, this one goes first.
+fn goes_first(
+    rt: &(impl Abort + AllocGlobal),
+    on_can0: Head,
+    on_can1: Head,
+    winner: u8,
+) -> Result<(), Fail> {
+    let mut asked = Scenario::new(rt, &[0, 1])?;
+    let _ = asked.send_frame(0, built(on_can0)?)?;
+    let _ = asked.send_frame(1, built(on_can1)?)?;
+    let attempt = asked.attempt(1, Verdict::Good)?;
+    let told = on_both(rt, config(2), &asked)?;
+    same(rt, told.tried(attempt)?.winner.number(), winner);
+    same(rt, told.attempts(attempt)?, 1);
+    Ok(())
+}
+
 // Bosch CAN Specification 2.0, arbitration: the bits of identifier, RTR or SRR, and IDE, 0 winning.
 #[test]
 fn lowest_bits_win_the_bus(rt: HostRuntime) -> Result<(), Fail> {
@@ -30,73 +48,39 @@ fn lowest_bits_win_the_bus(rt: HostRuntime) -> Result<(), Fail> {
         ((false, 0x124, false), (true, 0x048C0000, true), 1),
     ];
     for (on_can0, on_can1, winner) in rows {
-        let mut bus = bus(&rt, config(2), &[0, 1])?;
-        let _ = try_send(&mut bus, 0, built(on_can0)?)?;
-        let _ = try_send(&mut bus, 1, built(on_can1)?)?;
-        let tried = attempt(&mut bus, 1, Verdict::Good)?;
-        same(&rt, tried.winner.number(), winner);
-        same(&rt, attempts(&bus), 1);
+        goes_first(&rt, on_can0, on_can1, winner)?;
     }
     Ok(())
 }
 
 /// What a full receive queue leaves: its oldest item, and a count of what it dropped.
 fn drops_the_newest(rt: &(impl Abort + AllocGlobal)) -> Result<(), Fail> {
-    let mut bus = bus(rt, config(2), &[0])?;
-    let _ = open(rt, &mut bus, 1, 1)?;
-    for number in 0..3 {
-        same(rt, send(&mut bus, 0, 0x123)?, number);
-    }
-    let _ = attempt(&mut bus, 1, Verdict::Good)?;
-    let _ = attempt(&mut bus, 2, Verdict::Good)?;
-    gets_frame(rt, &mut bus, 1, 0, 1)?;
-    let _ = attempt(&mut bus, 3, Verdict::Good)?;
-    gets_frame(rt, &mut bus, 1, 2, 3)?;
-    gets_nothing(rt, &mut bus, 1)?;
-    same(rt, items(&bus, 1)?, [2, 1, 2]);
-    let closed = close(&mut bus, 1)?;
-    same(rt, closed.dropped, 1);
-    same(rt, closed.unread, 0);
-    Ok(())
-}
-
-/// The number of the frame that a reply hands out, if any.
-fn received_in(replies: &[Reply], place: usize) -> Option<u64> {
-    match replies.get(place)? {
-        Reply::Received(received) => Some((*received)?.number),
-        _ => None,
-    }
-}
-
-/// The same as one list of events.
-fn drops_the_newest_in_a_run(rt: &(impl Abort + AllocGlobal)) -> Result<(), Fail> {
-    let mut bus = bus(rt, config(2), &[])?;
-    let (can0, can1) = (iface(0)?, iface(1)?);
-    let (sent, now) = (frame(0x123)?, Moment::new(5)?);
-    let events = [
-        Event::Open(can0, 4),
-        Event::Open(can1, 1),
-        Event::Send(SocketId(0), sent),
-        Event::Send(SocketId(0), sent),
-        Event::Send(SocketId(0), sent),
-        Event::Attempt(now, Verdict::Good),
-        Event::Attempt(now, Verdict::Good),
-        Event::Receive(SocketId(1)),
-        Event::Attempt(now, Verdict::Good),
-        Event::Receive(SocketId(1)),
-        Event::Receive(SocketId(1)),
-        Event::Close(SocketId(1)),
+    let mut asked = Scenario::new(rt, &[0])?;
+    let _ = asked.open(1, 1)?;
+    let sends = [
+        asked.send(0, 0x123)?,
+        asked.send(0, 0x123)?,
+        asked.send(0, 0x123)?,
     ];
-    let replies = carried_out(rt, &mut bus, &events)?;
-    same(rt, received_in(&replies, 7), Some(0));
-    same(rt, received_in(&replies, 9), Some(2));
-    same(rt, received_in(&replies, 10), None);
-    let last = Closed {
+    let _ = asked.attempts(1..=2, Verdict::Good)?;
+    let oldest = asked.receive(1)?;
+    let _ = asked.attempt(3, Verdict::Good)?;
+    let (newest, nothing) = (asked.receive(1)?, asked.receive(1)?);
+    let close = asked.close(1)?;
+    let told = on_both(rt, config(2), &asked)?;
+    for (place, number) in sends.into_iter().zip(0..3) {
+        told.replies(rt, place, Reply::Sent(number))?;
+    }
+    told.gives_frame(rt, oldest, 0, 1)?;
+    told.gives_frame(rt, newest, 2, 3)?;
+    told.gives_nothing(rt, nothing)?;
+    same(rt, told.items(nothing, 1)?, [2, 1, 2]);
+    let closed = Closed {
         unread: 0,
         dropped: 1,
     };
-    same(rt, replies.get(11), Some(&Reply::Closed(last)));
-    same(rt, entries(&bus), 12);
+    told.replies(rt, close, Reply::Closed(closed))?;
+    same(rt, told.entries(close)?, 12);
     Ok(())
 }
 
@@ -106,35 +90,39 @@ fn refuses_where_the_transmit_queue_is_full(rt: &(impl Abort + AllocGlobal)) -> 
         tx_capacity: 1,
         ..config(1)
     };
-    let mut bus = bus(rt, narrow, &[0])?;
-    same(rt, send(&mut bus, 0, 0x123)?, 0);
-    let refused = try_send(&mut bus, 0, frame(0x123)?);
-    same(rt, refused, Err(Refusal::NoBuffers));
-    let _ = attempt(&mut bus, 1, Verdict::Good)?;
-    same(rt, send(&mut bus, 0, 0x123)?, 1);
-    same(rt, frames(&bus, 0)?, [2, 1, 1, 0, 1]);
+    let mut asked = Scenario::new(rt, &[0])?;
+    let (first, refused) = (asked.send(0, 0x123)?, asked.send(0, 0x123)?);
+    let _ = asked.attempt(1, Verdict::Good)?;
+    let second = asked.send(0, 0x123)?;
+    let told = on_both(rt, narrow, &asked)?;
+    told.replies(rt, first, Reply::Sent(0))?;
+    told.refuses(rt, refused, Refusal::NoBuffers)?;
+    told.replies(rt, second, Reply::Sent(1))?;
+    same(rt, told.frames(second, 0)?, [2, 1, 1, 0, 1]);
     Ok(())
 }
 
 /// A frame outlives its socket, and reaches a socket that was opened after it was sent.
 fn frames_outlive_their_socket(rt: &(impl Abort + AllocGlobal), own: bool) -> Result<(), Fail> {
-    let mut bus = bus(rt, config(2), &[0])?;
-    same(rt, send(&mut bus, 0, 0x123)?, 0);
-    let closed = close(&mut bus, 0)?;
-    same(rt, closed.unread, 0);
-    same(rt, closed.dropped, 0);
-    same(
-        rt,
-        try_send(&mut bus, 0, frame(0x123)?),
-        Err(Refusal::NoSocket),
-    );
-    same(rt, try_receive(&mut bus, 0), Err(Refusal::NoSocket));
-    same(rt, open(rt, &mut bus, 0, 4)?, SocketId(1));
-    set(&mut bus, 1, Opt::RecvOwn(own))?;
-    let tried = attempt(&mut bus, 7, Verdict::Good)?;
-    same(rt, tried.class, Class::Done);
-    same(rt, tried.number, 0);
-    gets_frame(rt, &mut bus, 1, 0, 7)
+    let mut asked = Scenario::new(rt, &[0])?;
+    let (send, close) = (asked.send(0, 0x123)?, asked.close(0)?);
+    let (late_send, late_receive) = (asked.send(0, 0x123)?, asked.receive(0)?);
+    let open = asked.open(0, 4)?;
+    let _ = asked.set(1, Opt::RecvOwn(own))?;
+    let attempt = asked.attempt(7, Verdict::Good)?;
+    let receive = asked.receive(1)?;
+    let told = on_both(rt, config(2), &asked)?;
+    told.replies(rt, send, Reply::Sent(0))?;
+    let closed = Closed {
+        unread: 0,
+        dropped: 0,
+    };
+    told.replies(rt, close, Reply::Closed(closed))?;
+    told.refuses(rt, late_send, Refusal::NoSocket)?;
+    told.refuses(rt, late_receive, Refusal::NoSocket)?;
+    told.replies(rt, open, Reply::Opened(SocketId(1)))?;
+    told.tries(rt, attempt, (0, 0, Class::Done, 2, 0))?;
+    told.gives_frame(rt, receive, 0, 7)
 }
 
 /// A full record refuses every call, and nothing changes.
@@ -143,20 +131,21 @@ fn ends_at_its_limit(rt: &(impl Abort + AllocGlobal)) -> Result<(), Fail> {
         limit: 3,
         ..config(1)
     };
-    let mut bus = bus(rt, short, &[0])?;
-    let _ = send(&mut bus, 0, 0x123)?;
-    let _ = attempt(&mut bus, 1, Verdict::Good)?;
-    same(rt, try_receive(&mut bus, 0), Err(Refusal::RecordFull));
-    same(rt, entries(&bus), 3);
-    same(rt, items(&bus, 0)?, [0, 0, 0]);
-    same(rt, frames(&bus, 0)?, [1, 1, 0, 0, 0]);
+    let mut asked = Scenario::new(rt, &[0])?;
+    let _ = asked.send(0, 0x123)?;
+    let _ = asked.attempt(1, Verdict::Good)?;
+    let refused = asked.receive(0)?;
+    let told = on_both(rt, short, &asked)?;
+    told.refuses(rt, refused, Refusal::RecordFull)?;
+    same(rt, told.entries(refused)?, 3);
+    same(rt, told.items(refused, 0)?, [0, 0, 0]);
+    same(rt, told.frames(refused, 0)?, [1, 1, 0, 0, 0]);
     Ok(())
 }
 
 #[test]
 fn queues_lose_nothing_uncounted(rt: HostRuntime) -> Result<(), Fail> {
     drops_the_newest(&rt)?;
-    drops_the_newest_in_a_run(&rt)?;
     refuses_where_the_transmit_queue_is_full(&rt)?;
     frames_outlive_their_socket(&rt, false)?;
     frames_outlive_their_socket(&rt, true)?;
