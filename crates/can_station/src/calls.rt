@@ -17,7 +17,7 @@ use can_roll::RollName;
 use std::alloc::Global;
 use std::sync::Wait;
 
-// The calls of a pass: each is one event of the bus. Before the bus's own refusals come `NoMemory`, where the pass's
+// The eight calls of a pass: each is one event of the bus. Before the bus's own refusals come `NoMemory`, where the pass's
 // list of calls can't grow, and `WrongStation`, where the pass is another station's; neither changes anything.
 impl<N: RollName + MeterName, F: FaultSource + Drop, G: Gate + Drop> Station<N, F, G> {
     /// Opens a socket on an interface, where `capacity` items may wait. Refusals of the bus: `RecordFull`,
