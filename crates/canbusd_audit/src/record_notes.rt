@@ -12,11 +12,11 @@ pub fn record_note(
     let (number, form) = match fault {
         ReadFault::BadVersion => (
             1,
-            "the first line of a record is canbus record 1 or canbus record 2",
+            "the first line of a record is canbus record 1 or 2, or, with an FD frame or the option fd, canbus record 3",
         ),
         ReadFault::BadLine(2) => (
             2,
-            "the second line is bus IFACES ACK REPORTING TXCAPACITY LIMIT, with RESTART behind it in version 2",
+            "the second line is bus IFACES ACK REPORTING TXCAPACITY LIMIT, with RESTART behind it in versions 2 and 3",
         ),
         ReadFault::BadLine(number) => (
             number,

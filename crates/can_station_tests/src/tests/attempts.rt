@@ -44,19 +44,18 @@ impl<N: RollName + MeterName, R: Wait + Abort> Both<'_, N, R> {
     }
 
     /// An attempt with this verdict. Both answer alike.
-    fn attempt(&mut self, micros: u64, verdict: Verdict) -> Attempt {
+    fn attempt(&mut self, micros: u64, verdict: Verdict) -> Option<Attempt> {
         let rt = self.caller.rt;
-        let Ok(attempt) = self.bus.attempt(moment(rt, micros), verdict) else {
-            panic!(rt; "no attempt");
-        };
-        assert!(rt; self.caller.attempt(micros, verdict) == Ok(attempt));
-        attempt
+        let of_bus = self.bus.attempt(moment(rt, micros), verdict).ok();
+        let of_station = self.caller.attempt(micros, verdict).ok();
+        assert!(rt; of_station == of_bus);
+        of_station
     }
 
     /// The frame of can0 is tried, and ends so: the class, and who accepted it.
     fn tries(&mut self, micros: u64, verdict: Verdict) -> (Class, IfaceSet) {
         let rt = self.caller.rt;
-        let Attempt::Tried(tried) = self.attempt(micros, verdict) else {
+        let Some(Attempt::Tried(tried)) = self.attempt(micros, verdict) else {
             panic!(rt; "no frame");
         };
         assert!(rt; tried.moment == moment(rt, micros) && tried.winner == iface(rt, 0));
@@ -81,7 +80,7 @@ fn gives_verdicts<N: RollName + MeterName, R: Wait + Abort>(rt: &R, alloc: Globa
     let mut both = Both { caller, bus };
     both.open(0);
     both.open(1);
-    assert!(rt; both.attempt(1, FORM) == Attempt::Idle(none));
+    assert!(rt; both.attempt(1, FORM) == Some(Attempt::Idle(none)));
     assert!(rt; both.send() == 0);
     assert!(rt; both.tries(2, Verdict::Good) == (Class::Done, can1));
     assert!(rt; reading(rt, &mut gauge, 0) == (0, 0, 0));
@@ -114,7 +113,26 @@ fn steps_with_the_source<N: RollName + MeterName, R: Wait + Abort>(caller: &mut 
     assert!(rt; caller.calls() == 11);
 }
 
-/// An attempt with a pass of another station is refused. The frame that waits is not tried, and no list grows.
+/// An attempt with a pass of another station is refused: the frame that waits is not tried, and no list grows.
+fn is_refused<'s, N: RollName + MeterName, R: Wait + Abort>(
+    rt: &'s R,
+    alloc: Global,
+    station: &'s Station<N, Perfect, Open>,
+    pass: Pass<N>,
+) {
+    let before = station.stats(rt, SocketId(0), iface(rt, 0));
+    let mut stranger = Caller {
+        rt,
+        alloc,
+        station,
+        pass,
+    };
+    assert!(rt; stranger.attempt(1, Verdict::Good) == Err(StationRefusal::WrongStation));
+    assert!(rt; stranger.calls() == 0);
+    assert!(rt; station.stats(rt, SocketId(0), iface(rt, 0)) == before);
+}
+
+/// A station with a frame to send, and an attempt of somebody who entered another.
 fn strange_attempt<N: RollName + MeterName, R: Wait + Abort>(
     rt: &R,
     alloc: Global,
@@ -127,18 +145,9 @@ fn strange_attempt<N: RollName + MeterName, R: Wait + Abort>(
     let station = made::<N, _, _, _>(rt, alloc, here, 0, config(), Perfect, Open);
     let far = made::<N, _, _, _>(rt, alloc, there, 1, config(), Perfect, Open);
     let mut caller = entered(rt, alloc, &station);
-    let socket = caller.open(0, 4);
-    assert!(rt; caller.send(socket, 0x123) == Ok(0));
-    let before = station.stats(rt, socket, iface(rt, 0));
-    let mut stranger = Caller {
-        rt,
-        alloc,
-        station: &station,
-        pass: entered(rt, alloc, &far).leave(),
-    };
-    assert!(rt; stranger.attempt(1, Verdict::Good) == Err(StationRefusal::WrongStation));
-    assert!(rt; stranger.calls() == 0);
-    assert!(rt; station.stats(rt, socket, iface(rt, 0)) == before);
+    assert!(rt; caller.open(0, 4) == SocketId(0));
+    assert!(rt; caller.send(SocketId(0), 0x123) == Ok(0));
+    is_refused(rt, alloc, &station, entered(rt, alloc, &far).leave());
     let passes = one(rt, alloc, caller.leave());
     let settled = settled(rt, station, passes, Vec::new(alloc));
     assert!(rt; settled.history.len() == 2);
