@@ -83,7 +83,7 @@ line_through (x ∷ y ∷ ys) h =
     let rest = All-tail (λ z. z ≢ 10) x (take (length (y ∷ ys) - 1) (y ∷ ys)) all in
     rw (ne_eqb x 10 first) (ap (λ (zs : List ℕ). x ∷ zs) (line_through (y ∷ ys) rest))
 
-nothing_more : (line : List ℕ) → IsLine line → MayFollow line []
+pub nothing_more : (line : List ℕ) → IsLine line → MayFollow line []
 nothing_more line is = ap (take_through 10) (append-nil line) ∙ line_through line is.stops
 
 pub cut_entry : (v : Version) (c : BusConfig) (line rest : List ℕ) (e : Entry) → IsLine line → HasLine v c e → line ≡ entry_line e rest → line ≡ entry_line e []

@@ -1,12 +1,13 @@
+//! The lines of a text that is no record's, as they are told.
 use can_record::ReadFault;
-use canbusd_faults::{Line, line_of};
+use canbusd_faults::Line;
 use std::alloc::{AllocError, Global};
 
-/// The line of a record's text that is wrong, and what stands there in a record.
+/// A line of a record's text that is wrong, and what stands there in a record.
 pub fn record_note(
     alloc: Global,
     path: &str,
-    text: &str,
+    line: &[u8],
     fault: ReadFault,
 ) -> Result<String, AllocError> {
     let (number, form) = match fault {
@@ -24,6 +25,22 @@ pub fn record_note(
         ),
         ReadFault::NoMemory => return Ok(String::new(alloc)),
     };
-    let line = Line::new(path, number, line_of(text, number as usize).as_bytes());
+    let line = Line::new(path, number, bare(line));
     format!(in alloc; "  {line}\n  {form}\n")
+}
+
+/// A line of a file whose bytes are no UTF-8 text.
+pub fn utf8_note(
+    alloc: Global,
+    path: &str,
+    number: u64,
+    line: &[u8],
+) -> Result<String, AllocError> {
+    let line = Line::new(path, number, bare(line));
+    format!(in alloc; "  {line}\n  this line is no UTF-8 text\n")
+}
+
+// A line without its LF.
+fn bare(line: &[u8]) -> &[u8] {
+    line.strip_suffix(b"\n").unwrap_or(line)
 }
