@@ -5,6 +5,7 @@ use crate::ends::tell_end;
 use crate::line_taking::take_lines;
 use can_text_audit::TextAudit;
 use canbusd_faults::{Failure, Fault, reason_note};
+use canbusd_files::{FewReads, MOST_READS};
 use std::alloc::Global;
 use std::fs;
 use std::io::{BufRead, BufReader, Write};
@@ -26,7 +27,7 @@ pub fn audit_file<'a, H: Files, W: Write>(
             return Err(Failure::with(alloc, Fault::CannotOpen(path), reason));
         }
     };
-    let Ok(mut input) = BufReader::new(alloc, file) else {
+    let Ok(mut input) = BufReader::new(alloc, FewReads::new(alloc, file, MOST_READS)) else {
         return Err(Failure::new(alloc, Fault::NoMemory));
     };
     audit_lines(alloc, path, &mut input, output)
