@@ -1,4 +1,4 @@
-use Rattle.std.proofs.Common.{◌++◌, true, Bool, Err, List, ℕ, subst, sym}
+use Rattle.std.proofs.Common.{◌++◌, Bool, Err, List, ℕ, subst, sym}
 use Rattle.can_record.specs.RecordFaults.{Reads}
 use Rattle.can_text_audit.specs.TextAudits.{AreTaken, IsLine, MayFollow}
 use Rattle.canbusd_audit.specs.Audited.{IsNextLine, IsOfReading}
