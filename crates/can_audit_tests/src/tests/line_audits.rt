@@ -84,10 +84,20 @@ fn each_change_of_a_byte_is_told_as_it_is_of_the_whole_text(rt: HostRuntime) -> 
     for place in 0..ONE_FRAME.len() {
         for byte in ["0", "7", " ", "\n"] {
             let mut text = String::from_str(rt.alloc(), &ONE_FRAME[..place])?;
-            same_at(&rt, place, told_by_lines(&rt, &text), told_whole(&rt, &text));
+            same_at(
+                &rt,
+                place,
+                told_by_lines(&rt, &text),
+                told_whole(&rt, &text),
+            );
             text.push_str(byte)?;
             text.push_str(&ONE_FRAME[place + 1..])?;
-            same_at(&rt, place, told_by_lines(&rt, &text), told_whole(&rt, &text));
+            same_at(
+                &rt,
+                place,
+                told_by_lines(&rt, &text),
+                told_whole(&rt, &text),
+            );
         }
     }
     Ok(())
