@@ -1,6 +1,6 @@
 // A text that is audited line by line, against the same text read whole.
 
-use super::texts::{ONE_FRAME, audit_by_lines, read};
+use super::texts::{ONE_FRAME, audit_by_lines, read_bytes};
 use super::{same, same_at};
 use can_audit::{AuditFault, ReadFault, TextAudit, TextFault, audit};
 use can_bus::Reply;
@@ -16,7 +16,7 @@ enum Told {
     Wrong(usize, Option<Reply>),
 }
 
-fn told_by_lines(rt: &impl AllocGlobal, text: &str) -> Told {
+fn told_by_lines(rt: &impl AllocGlobal, text: &[u8]) -> Told {
     match audit_by_lines(rt, text) {
         Ok(count) => Told::Legal(count),
         Err(TextFault::Read(fault)) => Told::Bad(fault),
@@ -24,8 +24,8 @@ fn told_by_lines(rt: &impl AllocGlobal, text: &str) -> Told {
     }
 }
 
-fn told_whole(rt: &impl AllocGlobal, text: &str) -> Told {
-    let record = match read(rt, text) {
+fn told_whole(rt: &impl AllocGlobal, text: &[u8]) -> Told {
+    let record = match read_bytes(rt, text) {
         Ok(record) => record,
         Err(fault) => return Told::Bad(fault),
     };
@@ -44,12 +44,16 @@ fn changed(rt: &impl AllocGlobal, from: &str, to: &str) -> Result<String, Fail> 
 #[test]
 fn the_first_wrong_entry_is_told_where_all_lines_are_good(rt: HostRuntime) -> Result<(), Fail> {
     let text = changed(&rt, "done 0002", "done 0000")?;
-    match audit_by_lines(&rt, &text) {
+    match audit_by_lines(&rt, text.as_bytes()) {
         Err(TextFault::Wrong(wrong)) => same(&rt, (wrong.place, wrong.limit), (3, 100)),
         _ => return Err(Fail::from("no wrong entry")),
     }
     let text = changed(&rt, "10 100", "10 6")?;
-    same(&rt, told_by_lines(&rt, &text), Told::Wrong(6, None));
+    same(
+        &rt,
+        told_by_lines(&rt, text.as_bytes()),
+        Told::Wrong(6, None),
+    );
     Ok(())
 }
 
@@ -59,7 +63,7 @@ fn a_bad_line_goes_before_a_wrong_entry(rt: HostRuntime) -> Result<(), Fail> {
     let text = text.replace(rt.alloc(), "= none", "= nothing")?;
     same(
         &rt,
-        told_by_lines(&rt, &text),
+        told_by_lines(&rt, text.as_bytes()),
         Told::Bad(ReadFault::BadLine(8)),
     );
     Ok(())
@@ -81,17 +85,18 @@ fn a_fault_stays_told(rt: HostRuntime) -> Result<(), Fail> {
 
 #[test]
 fn each_change_of_a_byte_is_told_as_it_is_of_the_whole_text(rt: HostRuntime) -> Result<(), Fail> {
-    for place in 0..ONE_FRAME.len() {
-        for byte in ["0", "7", " ", "\n"] {
-            let mut text = String::from_str(rt.alloc(), &ONE_FRAME[..place])?;
-            same_at(
-                &rt,
-                place,
-                told_by_lines(&rt, &text),
-                told_whole(&rt, &text),
-            );
-            text.push_str(byte)?;
-            text.push_str(&ONE_FRAME[place + 1..])?;
+    let mut text = Vec::from_slice(rt.alloc(), ONE_FRAME.as_bytes())?;
+    for place in 0..text.len() {
+        let front = &text[..place];
+        same_at(
+            &rt,
+            place,
+            told_by_lines(&rt, front),
+            told_whole(&rt, front),
+        );
+        let kept = text[place];
+        for byte in [b'0', b'7', b' ', b'\n', 0xFF] {
+            text[place] = byte;
             same_at(
                 &rt,
                 place,
@@ -99,6 +104,7 @@ fn each_change_of_a_byte_is_told_as_it_is_of_the_whole_text(rt: HostRuntime) -> 
                 told_whole(&rt, &text),
             );
         }
+        text[place] = kept;
     }
     Ok(())
 }

@@ -39,15 +39,15 @@ pub fn read(rt: &impl AllocGlobal, text: &str) -> Result<Record, ReadFault> {
     read_record(rt.alloc(), text)
 }
 
-fn read_bytes(rt: &impl AllocGlobal, text: &[u8]) -> Result<Record, ReadFault> {
+pub fn read_bytes(rt: &impl AllocGlobal, text: &[u8]) -> Result<Record, ReadFault> {
     read_record_bytes(rt.alloc(), text)
 }
 
 /// What is told of a text line by line.
-pub fn audit_by_lines(rt: &impl AllocGlobal, text: &str) -> Result<usize, TextFault> {
+pub fn audit_by_lines(rt: &impl AllocGlobal, text: &[u8]) -> Result<usize, TextFault> {
     let mut audit = TextAudit::new(rt.alloc());
-    for line in text.split_inclusive('\n') {
-        if let Err(fault) = audit.carry(rt.alloc(), line.as_bytes()) {
+    for line in text.split_inclusive(|byte| *byte == b'\n') {
+        if let Err(fault) = audit.carry(rt.alloc(), line) {
             return Err(TextFault::Read(fault));
         }
     }
@@ -55,7 +55,7 @@ pub fn audit_by_lines(rt: &impl AllocGlobal, text: &str) -> Result<usize, TextFa
 }
 
 pub fn legal_lines(rt: &impl AllocGlobal, text: &str) -> Option<usize> {
-    audit_by_lines(rt, text).ok()
+    audit_by_lines(rt, text.as_bytes()).ok()
 }
 
 pub fn written(rt: &impl AllocGlobal, record: &Record) -> Result<Vec<u8>, Fail> {
