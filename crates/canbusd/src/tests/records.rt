@@ -158,7 +158,7 @@ fn tells_what_is_wrong_with_records(rt: HostRuntime) -> Result<(), Fail> {
         (
             "record 1\nbus 2 always 0000 10 100\n",
             "record 3\nbus 2 always 0000 10 100 0\n",
-            "canbusd: bad version\n  damaged.rec:1: canbus record 3\n  the first line of a record is canbus record 1 or canbus record 2\n",
+            "canbusd: bad version\n  damaged.rec:1: canbus record 3\n  the first line of a record is canbus record 1 or 2, or, with an FD frame or the option fd, canbus record 3\n",
         ),
         (
             "end 7\n",
