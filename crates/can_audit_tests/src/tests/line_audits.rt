@@ -3,10 +3,14 @@
 use super::texts::{ONE_FRAME, audit_by_lines, read_bytes};
 use super::{same, same_at};
 use can_audit::{AuditFault, ReadFault, TextAudit, TextFault, audit};
-use can_bus::Reply;
+use can_bus::{Received, Reply, Tried};
+use can_frame::Item;
 use std::alloc::AllocGlobal;
 use std::process::Abort;
 use std::test::Fail;
+
+/// What a reply holds: the checker has to meet these types before a function is handed a reply.
+type Parts = (Item, Received, Tried);
 
 /// What is told of a text.
 #[derive(Debug, Clone, Copy, PartialEq, Eq)]
@@ -59,6 +63,7 @@ fn the_first_wrong_entry_is_told_where_all_lines_are_good(rt: HostRuntime) -> Re
 
 #[test]
 fn a_bad_line_goes_before_a_wrong_entry(rt: HostRuntime) -> Result<(), Fail> {
+    let _types: Option<Parts> = None;
     let text = changed(&rt, "done 0002", "done 0000")?;
     let text = text.replace(rt.alloc(), "= none", "= nothing")?;
     same(
@@ -85,6 +90,7 @@ fn a_fault_stays_told(rt: HostRuntime) -> Result<(), Fail> {
 
 #[test]
 fn each_change_of_a_byte_is_told_as_it_is_of_the_whole_text(rt: HostRuntime) -> Result<(), Fail> {
+    let _types: Option<Parts> = None;
     let mut text = Vec::from_slice(rt.alloc(), ONE_FRAME.as_bytes())?;
     for place in 0..text.len() {
         let front = &text[..place];
