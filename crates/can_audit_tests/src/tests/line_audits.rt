@@ -10,7 +10,7 @@ use std::process::Abort;
 use std::test::Fail;
 
 /// What a reply holds: the checker has to meet these types before a function is handed a reply.
-type Parts = (Item, Received, Tried);
+type Parts = (Reply, Item, Received, Tried);
 
 /// What is told of a text.
 #[derive(Debug, Clone, Copy, PartialEq, Eq)]
