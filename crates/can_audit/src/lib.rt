@@ -4,7 +4,8 @@
 #![tactic(auto)]
 
 pub use can_record::{
-    ReadFault, count_legal, line_text, read_record, read_record_bytes, record_text, write_record,
+    ReadFault, line_text, read_record, read_record_bytes, record_text, write_record,
 };
 pub use can_reference::{ReplayFault, candidates, projected, queued, replies_of};
 pub use can_replay::{AuditFault, audit};
+pub use can_text_audit::{TextAudit, TextFault, WrongLine};

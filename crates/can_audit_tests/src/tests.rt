@@ -1,6 +1,7 @@
 mod auditing;
 mod events;
 mod fd_frames;
+mod line_audits;
 mod reaching;
 mod replying;
 mod restarting;

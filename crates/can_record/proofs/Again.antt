@@ -66,7 +66,7 @@ long_field n g rest lt gap =
     let plain = is_word-decimal n lt in
     rw (word-spelled (decimal n) rest g plain gap, after-spelled (decimal n) rest g plain gap, long_again n lt) refl
 
-mask-plain : (n : ℕ) → is_word (mask_word n) ≡ true
+pub mask-plain : (n : ℕ) → is_word (mask_word n) ≡ true
 unfolding mask_word
 mask-plain n = is_word-digits 16 8 n
 
@@ -78,7 +78,7 @@ mask_field : (n g : ℕ) (rest : List ℕ) → n < 2 ^ 32 → is_gap g ≡ true 
 unfolding mask_at
 mask_field n g rest lt gap = rw (word-spelled (mask_word n) rest g (mask-plain n) gap, after-spelled (mask_word n) rest g (mask-plain n) gap, mask-again n lt) refl
 
-set-plain : (set : IfaceSet) → is_word (set_word set) ≡ true
+pub set-plain : (set : IfaceSet) → is_word (set_word set) ≡ true
 unfolding set_word
 set-plain set = is_word-digits 16 4 set.0
 
@@ -407,7 +407,7 @@ config_refused v text h c rest good is = none-some c (h ∙ ap (config_at v) is 
 pub same_config : (v : Version) (read : BusConfig) (text : List ℕ) → Some read ≡ config_at v text → (c : BusConfig) (rest : List ℕ) → HasBusLine v c → text ≡ spell (bus_words v c) rest → c ≡ read
 same_config v read text h c rest good is = same_Some c read (sym (ap (config_at v) is ∙ config_again v c rest good) ∙ sym h)
 
-nothing_is_none : entry_at [] ≡ None
+pub nothing_is_none : entry_at [] ≡ None
 unfolding entry_at event_at plain_at setting_at word after
 nothing_is_none = refl
 

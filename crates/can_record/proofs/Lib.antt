@@ -8,4 +8,3 @@ pub mod LineLists
 pub mod Versioning
 pub mod Whole
 pub mod Growing
-pub mod Carrying

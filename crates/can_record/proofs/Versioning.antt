@@ -64,7 +64,7 @@ version_is version.Two c es whole needed = rw (none_has_fd version.Two c es no_t
 version_is version.Three c es whole needed = rw (needed refl) refl
 
 -- an entry that has a line in version 3 has one in each version, if it has no FD
-line_in : (v : Version) (c : BusConfig) (e : Entry) → HasLine version.Three c e → (has_fd e ≡ true → v ≡ version.Three) → HasLine v c e
+pub line_in : (v : Version) (c : BusConfig) (e : Entry) → HasLine version.Three c e → (has_fd e ≡ true → v ≡ version.Three) → HasLine v c e
 line_in v c e h needed = record { spelled = h.spelled; version = needed; event = h.event; reply = h.reply }
 
 lines_in : (v : Version) (c : BusConfig) (es : List Entry) → All (HasLine version.Three c) es → (list_any has_fd es ≡ true → v ≡ version.Three) → All (HasLine v c) es

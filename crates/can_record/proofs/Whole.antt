@@ -26,17 +26,17 @@ spell-then : (ws : List (List ℕ)) (rest more : List ℕ) → spell ws rest ++ 
 spell-then [] rest more = refl
 spell-then (w ∷ ws) rest more = append_assoc w (gap_before ws ∷ spell ws rest) more ∙ ap (λ (x : List ℕ). w ++ gap_before ws ∷ x) (spell-then ws rest more)
 
-lines-then : (es : List Entry) (rest more : List ℕ) → entry_lines es rest ++ more ≡ entry_lines es (rest ++ more)
+pub lines-then : (es : List Entry) (rest more : List ℕ) → entry_lines es rest ++ more ≡ entry_lines es (rest ++ more)
 unfolding entry_lines
 lines-then [] rest more = refl
 lines-then (e ∷ es) rest more = spell-then (entry_words e) (entry_lines es rest) more ∙ ap (λ (x : List ℕ). entry_line e x) (lines-then es rest more)
 
 -- the first two lines, and what follows them
-front-then : (v : Version) (c : BusConfig) (rest more : List ℕ) → front_lines v c rest ++ more ≡ front_lines v c (rest ++ more)
+pub front-then : (v : Version) (c : BusConfig) (rest more : List ℕ) → front_lines v c rest ++ more ≡ front_lines v c (rest ++ more)
 front-then v c rest more = append_assoc (first_line v) (spell (bus_words v c) rest) more
     ∙ ap (λ (x : List ℕ). first_line v ++ x) (spell-then (bus_words v c) rest more)
 
-text-then : (v : Version) (c : BusConfig) (es : List Entry) (more : List ℕ) → text_in v c es ++ more ≡ front_lines v c (entry_lines es (spell (end_words (length es)) more))
+pub text-then : (v : Version) (c : BusConfig) (es : List Entry) (more : List ℕ) → text_in v c es ++ more ≡ front_lines v c (entry_lines es (spell (end_words (length es)) more))
 text-then v c es more = front-then v c (entry_lines es (spell (end_words (length es)) [])) more
     ∙ ap (front_lines v c) (lines-then es (spell (end_words (length es)) []) more ∙ ap (entry_lines es) (spell-rest (end_words (length es)) more))
 
@@ -144,7 +144,7 @@ lines_meet v s (x ∷ es) (d ∷ ds) a b hes hds na nb e =
     let rest = lines_meet v s es ds a b (All-tail (HasLine v s) x es hes) (All-tail (HasLine v s) d ds hds) na nb (behind_line v s x d (entry_lines es a) (entry_lines ds b) hx hd e) in
     (ap (λ (y : Entry). y ∷ es) one ∙ ap (λ (ys : List Entry). d ∷ ys) rest.0, rest.1)
 
-end_lacks : (v : Version) (c : BusConfig) (count : ℕ) (more : List ℕ) → LacksEntry v c (spell (end_words count) more)
+pub end_lacks : (v : Version) (c : BusConfig) (count : ℕ) (more : List ℕ) → LacksEntry v c (spell (end_words count) more)
 end_lacks v c count more e rest h is = none-some e (sym (end_is_none count more) ∙ ap entry_at is ∙ entry_again v c e rest h)
 
 -- two texts' lines are the same, and so is what follows them

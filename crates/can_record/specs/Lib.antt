@@ -1,5 +1,4 @@
 pub mod Spelling
 pub mod Values
 pub mod RecordFaults
-pub mod TextAudits
 pub mod inner

@@ -1,4 +1,4 @@
 pub mod Numerals
 pub mod Reading
 pub mod Words
-pub mod Stepping
+pub mod Fronts

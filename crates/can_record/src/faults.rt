@@ -17,7 +17,7 @@ pub enum ReadFault {
 
 /// Why a line was not read.
 #[derive(Debug, Clone, Copy, PartialEq, Eq)]
-pub(crate) enum Unread {
+pub enum Unread {
     /// It spells nothing.
     Bad,
     /// Memory was refused.

@@ -1,25 +1,25 @@
 //! The text of a record, both ways: `record_text` writes a record as text and `read_record` reads it back. A record has
 //! one text, in one version, and a text is of one record at most.
+//!
+//! The readers and writers of single lines are public for can_text_audit, which reads a text line by line.
 #![tactic(auto)]
 
-mod event_reading;
+pub mod event_reading;
 mod event_writing;
 pub mod faults;
 mod fields;
-mod lines;
+pub mod lines;
 mod numbers;
 pub mod record_reading;
 pub mod record_writing;
 mod reply_reading;
 mod reply_writing;
-pub mod text_audits;
 pub mod text_laws;
-mod values;
-mod versions;
+pub mod values;
+pub mod versions;
 mod words;
 mod writing;
 
 pub use faults::ReadFault;
 pub use record_reading::{read_record, read_record_bytes};
 pub use record_writing::{line_text, record_text, write_record};
-pub use text_audits::count_legal;

@@ -44,11 +44,7 @@ pub fn put_answered(out: &mut Vec<u8>, event: &Event, reply: &Reply) -> Result<(
 }
 
 /// The line of a bus.
-pub(crate) fn put_bus(
-    out: &mut Vec<u8>,
-    version: Version,
-    config: BusConfig,
-) -> Result<(), AllocError>
+pub fn put_bus(out: &mut Vec<u8>, version: Version, config: BusConfig) -> Result<(), AllocError>
     ensures { OnOk result (out.new.items ≡ out.old.items ++ spell (bus_words version config) []) }
 {
     put_word(out, b"bus", b' ')?;
@@ -113,7 +109,7 @@ fn has_line(version: Version, config: BusConfig, entry: &Entry) -> bool
 }
 
 /// The version whose first line the text begins with.
-pub(crate) fn read_version(text: &[u8]) -> Option<Version>
+pub fn read_version(text: &[u8]) -> Option<Version>
     ensures found { IfSome result (λ v. text.now ≡ first_line v ++ drop (length (first_line v)) text.now) }
     ensures only { IsNone result → LacksFirst text.now }
 {
@@ -130,7 +126,7 @@ pub(crate) fn read_version(text: &[u8]) -> Option<Version>
 }
 
 /// The entry of this bus's record whose line in this version the text begins with. The line is left in the buffer.
-pub(crate) fn read_line(
+pub fn read_line(
     buffer: &mut Vec<u8>,
     alloc: Global,
     version: Version,
@@ -185,11 +181,7 @@ fn moment_of(event: &Event) -> Option<Moment>
 }
 
 /// The configuration whose line in this version the text begins with. The line is left in the buffer.
-pub(crate) fn read_bus(
-    buffer: &mut Vec<u8>,
-    version: Version,
-    text: &[u8],
-) -> Result<BusConfig, Unread>
+pub fn read_bus(buffer: &mut Vec<u8>, version: Version, text: &[u8]) -> Result<BusConfig, Unread>
     ensures found { IfOk result (λ c. HasBusLine version c × (buffer.new.items ≡ spell (bus_words version c) []) × (text.now ≡ spell (bus_words version c) [] ++ drop (length (spell (bus_words version c) [])) text.now)) }
     ensures only { (c : AConfig) (rest : List ℕ) → HasBusLine version c → text.now ≡ spell (bus_words version c) rest → IfErr result (λ u. u ≡ unread.NoMemory) }
 {

@@ -4,7 +4,7 @@ ghost use Rattle.can_event.specs.declared.events.Entry.{Entry as AnEntry};
 ghost use Rattle.can_record.specs.Values.{HasLine, HasText};
 ghost use Rattle.can_record.specs.Spelling.{entry_lines, record_spelling};
 ghost use Rattle.can_record.specs.RecordFaults.{LacksEntry, Ends, Reads, ReadsBack};
-ghost use Rattle.can_record.specs.inner.Stepping.{HasFront};
+ghost use Rattle.can_record.specs.inner.Fronts.{HasFront};
 
 use crate::faults::{ReadFault, Unread};
 use crate::lines::{begins, behind, put_end, read_bus, read_line, read_version};
@@ -57,7 +57,7 @@ fn read_text(alloc: Global, text: &[u8]) -> Result<Record, ReadFault>
 }
 
 /// The version and the bus of the first two lines, and what follows them.
-pub(crate) fn read_front<'a>(
+fn read_front<'a>(
     buffer: &mut Vec<u8>,
     text: &'a [u8],
 ) -> Result<(Version, BusConfig, &'a [u8]), ReadFault>
@@ -77,7 +77,7 @@ pub(crate) fn read_front<'a>(
 }
 
 /// Whether the text ends here, after so many entries.
-pub(crate) fn read_end(buffer: &mut Vec<u8>, count: usize, text: &[u8]) -> Result<(), ReadFault>
+fn read_end(buffer: &mut Vec<u8>, count: usize, text: &[u8]) -> Result<(), ReadFault>
     requires { count < 2 ^ 63 }
     ensures { Ends count text.now result }
 {

@@ -12,7 +12,7 @@ use can_packed::Kept;
 
 /// A version of the text of a record. Each record is written in one.
 #[derive(Debug, Clone, Copy, PartialEq, Eq)]
-pub(crate) enum Version {
+pub enum Version {
     /// The record of a bus whose interfaces are restarted by a call alone.
     One,
     /// The record of a bus with automatic restart.
@@ -23,7 +23,7 @@ pub(crate) enum Version {
 
 impl Version {
     /// The version of the record of this bus, where an FD frame or the option for such stands in it, or none does.
-    pub(crate) fn of(config: BusConfig, fd: bool) -> Version
+    pub fn of(config: BusConfig, fd: bool) -> Version
         ensures { result ≡ version_for config fd }
     {
         if fd {
@@ -36,7 +36,7 @@ impl Version {
     }
 
     /// The first line, with its LF.
-    pub(crate) fn first_line(self) -> &'static [u8]
+    pub fn first_line(self) -> &'static [u8]
         ensures { result.now ≡ first_line self }
     {
         match self {
@@ -48,7 +48,7 @@ impl Version {
 
     /// Whether a bus may restart its interfaces as this one does: by a call alone in version 1, automatically in version 2,
     /// and either way in version 3.
-    pub(crate) fn restarts(self, config: BusConfig) -> bool
+    pub fn restarts(self, config: BusConfig) -> bool
         ensures yes { IsTrue result → Restarts self config }
         ensures no { Restarts self config → IsTrue result }
     {
@@ -60,7 +60,7 @@ impl Version {
     }
 
     /// Whether a record of these entries needs the version: version 3 is for an FD frame, or for the option for such.
-    pub(crate) fn is_needed(self, entries: &[Entry]) -> bool
+    pub fn is_needed(self, entries: &[Entry]) -> bool
         ensures yes { IsTrue result → self ≡ version.Three → list_any has_fd entries.now ≡ true }
         ensures no { result ≡ false → (self ≡ version.Three) × (list_any has_fd entries.now ≡ false) }
     {
@@ -69,7 +69,7 @@ impl Version {
 }
 
 /// Whether an FD frame or the option for such stands in a record.
-pub(crate) fn record_has_fd(record: &Record) -> bool
+pub fn record_has_fd(record: &Record) -> bool
     ensures { result ≡ list_any has_fd (reverse «record».now.history) }
 {
     for place in 0..record.len() {
@@ -119,7 +119,7 @@ fn entries_have_fd(entries: &[Entry]) -> bool
 }
 
 /// Whether an FD frame or the option for such stands in the line of an event with this reply: version 3 alone has one.
-pub(crate) fn has_fd(event: &Event, reply: &Reply) -> bool
+pub fn has_fd(event: &Event, reply: &Reply) -> bool
     ensures { result ≡ has_fd (record { event = event.now; reply = reply.now }) }
 {
     asks_for_fd(event) || answers_with_fd(reply)

@@ -37,6 +37,16 @@ abbrev pub Suits : Event → Reply → Type 0
 Suits e (reply.Refused why) = Unit {0}
 Suits e r = FitsReply e r
 
+-- an answer that a bus may give of an attempt
+abbrev pub SuitsAttempt : Reply → Type 0
+SuitsAttempt r = (moment : ℕ) × (verdict : Verdict) × Suits (event.Attempt moment verdict) r
+
+-- what the caller is told of a reply: the answer, or why the bus refuses
+abbrev pub Tells : {A : Type 0} → (A → Reply) → Result A StationRefusal → Reply → Type 0
+Tells told (Ok a) r = r ≡ told a
+Tells told (Err (station.Bus why)) r = r ≡ reply.Refused why
+Tells told (Err station.WrongStation) r = ⊥
+
 -- the memory for a call that is no close: a place, one that is left for a close, and what a wide entry takes
 abbrev pub IsReady : ListedEntries → Type 0
 IsReady calls = (length calls.entries + 1 < calls.room) × (calls.spare ≡ true)

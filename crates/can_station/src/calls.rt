@@ -1,14 +1,15 @@
-ghost use Rattle.can_bus.specs.Answer.{done_reply};
+ghost use Rattle.can_bus.specs.Answer.{done_reply, told_attempt};
 ghost use Rattle.can_event.specs.declared.events.Event.TheVariants as event;
 ghost use Rattle.can_event.specs.declared.events.Reply.TheVariants as reply;
 ghost use Rattle.can_station.specs.Passes.{Called};
 
+use crate::attempts::attempt_in;
 use crate::gates::Gate;
 use crate::passes::Pass;
 use crate::refusals::StationRefusal;
 use crate::stations::Station;
-use can_bus::{Closed, Event, Opt, Received, Refusal, Reply, SocketId};
-use can_fault::FaultSource;
+use can_bus::{Attempt, Closed, Event, Opt, Received, Refusal, Reply, SocketId};
+use can_fault::{FaultSource, Verdict};
 use can_filter::FilterSet;
 use can_frame::{Frame, Iface, Moment};
 use can_meter::MeterName;
@@ -16,7 +17,7 @@ use can_roll::RollName;
 use std::alloc::Global;
 use std::sync::Wait;
 
-// The calls of a pass: each is one event of the bus. Before the bus's own refusals come `NoMemory`, where the pass's
+// The eight calls of a pass: each is one event of the bus. Before the bus's own refusals come `NoMemory`, where the pass's
 // list of calls can't grow, and `WrongStation`, where the pass is another station's; neither changes anything.
 impl<N: RollName + MeterName, F: FaultSource + Drop, G: Gate + Drop> Station<N, F, G> {
     /// Opens a socket on an interface, where `capacity` items may wait. Refusals of the bus: `RecordFull`,
@@ -129,6 +130,23 @@ impl<N: RollName + MeterName, F: FaultSource + Drop, G: Gate + Drop> Station<N, 
             Reply::Refused(why) => Err(StationRefusal::Bus(why)),
             _ => unreachable!(),
         }
+    }
+
+    /// Tries the frame that wins the bus, with this verdict and not the source's: `Idle` where no live interface has a
+    /// frame to send. Interfaces whose count has run out are restarted. A frame that is tried takes the next attempt's
+    /// number, and the source's verdict for it is never used. Refusal of the bus: `RecordFull`.
+    pub fn attempt<R: Wait>(
+        &self,
+        rt: &R,
+        alloc: Global,
+        pass: &mut Pass<N>,
+        moment: Moment,
+        verdict: Verdict,
+    ) -> Result<Attempt, StationRefusal>
+        ensures { Called told_attempt self.now pass.old (event.Attempt moment verdict) result pass.new }
+    {
+        let reply = self.call(rt, alloc, pass, Event::Attempt(moment, verdict))?;
+        attempt_in(reply)
     }
 
     /// Brings an interface that is bus off back, at a moment. Refusals of the bus: `RecordFull`, `NoInterface`,

@@ -5,6 +5,7 @@ ghost use Rattle.can_bus.specs.Run.{history_after};
 ghost use Rattle.can_station.specs.Held.{slip_after};
 ghost use Rattle.can_station.specs.Passes.{Attempted, IsReady, IsReadyFor, Suits, Called, Stepped, same};
 
+use crate::attempts::attempt_in;
 use crate::gates::{Gate, Point};
 use crate::passes::{Pass, keep, make_ready, make_ready_for};
 use crate::refusals::StationRefusal;
@@ -147,16 +148,12 @@ impl<'s, N: RollName + MeterName, F: FaultSource + Drop, G: Gate + Drop> Hold<'s
         if pass.slip.number() != self.state.number() {
             return Err(StationRefusal::WrongStation);
         }
-        match self.attempt(alloc, &mut pass.slip, &mut pass.calls, moment) {
-            Reply::Tried(tried) => Ok(Attempt::Tried(tried)),
-            Reply::Idle(restarted) => Ok(Attempt::Idle(restarted)),
-            Reply::Refused(why) => Err(StationRefusal::Bus(why)),
-            _ => unreachable!(),
-        }
+        let reply = self.carry_out_step(alloc, &mut pass.slip, &mut pass.calls, moment);
+        attempt_in(reply)
     }
 
-    /// Carries out an attempt at a moment, with the source's verdict.
-    pub(crate) fn attempt(
+    /// Carries out an attempt at a moment, with the source's verdict, for the pass of this slip.
+    pub(crate) fn carry_out_step(
         &mut self,
         alloc: Global,
         slip: &mut Slip<N>,

@@ -11,6 +11,7 @@
 //! Not promised of threads: how long a call waits for the lock, who comes first, that no two wait for each other.
 #![tactic(auto)]
 
+mod attempts;
 mod calls;
 pub mod gates;
 mod gauges;

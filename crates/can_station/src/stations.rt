@@ -4,6 +4,7 @@ ghost use Rattle.can_event.specs.Events.{IsConfig};
 ghost use Rattle.can_station.specs.Passes.{AllOf, SomeOther, Settles, Suits, Called, Stepped, same};
 ghost use Rattle.can_station.specs.Published.{AllTrue, GaugesOf, SomeOtherGauge};
 
+use crate::attempts::attempt_in;
 use crate::gates::{Gate, Point};
 use crate::holds::Hold;
 use crate::passes::{Pass, Settled, make_ready, make_ready_for};
@@ -215,12 +216,8 @@ impl<N: RollName + MeterName, F: FaultSource + Drop, G: Gate + Drop> Station<N, 
         }
         self.gate.at(Point::BeforeStep);
         let mut hold = self.lock(rt);
-        match hold.attempt(alloc, &mut pass.slip, &mut pass.calls, moment) {
-            Reply::Tried(tried) => Ok(Attempt::Tried(tried)),
-            Reply::Idle(restarted) => Ok(Attempt::Idle(restarted)),
-            Reply::Refused(why) => Err(StationRefusal::Bus(why)),
-            _ => unreachable!(),
-        }
+        let reply = hold.carry_out_step(alloc, &mut pass.slip, &mut pass.calls, moment);
+        attempt_in(reply)
     }
 
     /// Takes passes and gauges back, and hands out the record: a legal history whose entries can be marked with

@@ -1,5 +1,6 @@
 ghost use Rattle.std.specs.Prelude.{◌≡◌};
 
+mod attempts;
 mod fd_frames;
 mod full_records;
 mod gates;
@@ -13,7 +14,7 @@ mod waits;
 
 use can_attempt::AckMode;
 use can_bus::{Attempt, BusConfig, Closed, Opt, Received, SocketId};
-use can_fault::{FaultSource, Script};
+use can_fault::{FaultSource, Script, Verdict};
 use can_frame::{CanId, Frame, Iface, IfaceSet, Moment, Names};
 use can_meter::{Gauge, MeterName, Status};
 use can_roll::RollName;
@@ -176,6 +177,12 @@ impl<N: RollName + MeterName, F: FaultSource + Drop, G: Gate + Drop, R: Wait + A
         let moment = moment(self.rt, micros);
         self.station
             .step(self.rt, self.alloc, &mut self.pass, moment)
+    }
+
+    fn attempt(&mut self, micros: u64, verdict: Verdict) -> Result<Attempt, StationRefusal> {
+        let moment = moment(self.rt, micros);
+        self.station
+            .attempt(self.rt, self.alloc, &mut self.pass, moment, verdict)
     }
 
     fn close(&mut self, socket: SocketId) -> Result<Closed, StationRefusal> {

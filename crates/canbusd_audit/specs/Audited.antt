@@ -1,10 +1,18 @@
-use Rattle.std.specs.Prelude.{ℕ, List, [], ◌∷◌, ◌++◌, length, reverse, codes, decimal, Option, Err}
-use Rattle.std.specs.Io.KnownBytes.{Appends}
+use Rattle.std.specs.Prelude.{◌≡◌, ◌⊎◌, ℕ, Bool, true, false, List, [], ◌∷◌, ◌++◌, length, reverse, codes, decimal, Option, Some, None, Result, Ok, Err}
+use Rattle.std.specs.Io.KnownBytes.{Appends, Consumes, IsAtEnd}
 use Rattle.can_event.specs.declared.events.BusConfig.{BusConfig}
 use Rattle.can_event.specs.declared.events.Entry.{Entry}
+use Rattle.can_event.specs.declared.events.Reply.{Reply}
+use Rattle.can_event.specs.Spelled.{FitsReply}
 use Rattle.can_bus.specs.Legal.{IsLegal}
+use Rattle.can_record.specs.declared.faults.ReadFault.{ReadFault}
 use Rattle.can_record.specs.RecordFaults.{IsTextOf, Reads}
 use Rattle.can_replay.specs.Audits.{IsFirstWrong}
+use Rattle.can_text_audit.specs.declared.faults.TextFault.{TextFault}
+use Rattle.can_text_audit.specs.declared.faults.TextFault.TheVariants as found
+use Rattle.can_text_audit.specs.declared.faults.WrongLine.{WrongLine}
+use Rattle.can_text_audit.specs.declared.text_audits.TextAudit.{TextAudit}
+use Rattle.can_text_audit.specs.TextAudits.{AreTaken, IsLine, MayFollow}
 use Rattle.canbusd_faults.specs.declared.faults.Fault.{Fault}
 use Rattle.canbusd_faults.specs.declared.faults.Fault.TheVariants as fault
 
@@ -36,8 +44,67 @@ pub record IsBlamed (text : List ℕ) (why : Fault) : Type 0 where
   pub whole : IsTextOf text config entries
   pub says : SaysOf config entries why
 
--- what a fault says of a text: it is no record's, or a record's that is wrong
+-- what a fault says of a text: it is no record's, or a record's that is wrong; of reading and of memory it says nothing
 abbrev pub Faults : List ℕ → Fault → Type 0
 Faults text (fault.Record why) = Reads text (Err why)
+Faults text fault.Read = Unit {0}
 Faults text fault.NoMemory = Unit {0}
 Faults text why = IsBlamed text why
+
+-- the text is what a reader had, where that is known
+abbrev pub IsTextIn : Option (List ℕ) → List ℕ → Type 0
+IsTextIn None text = Unit {0}
+IsTextIn (Some all) text = text ≡ all
+
+-- a fault of reading or of memory
+abbrev pub IsOfReading : Fault → Type 0
+IsOfReading fault.Read = Unit {0}
+IsOfReading fault.NoMemory = Unit {0}
+IsOfReading why = ⊥
+
+-- the fault of a line, or one of reading or of memory
+abbrev pub IsOfLine : ReadFault → Fault → Type 0
+IsOfLine what why = (why ≡ fault.Record what) ⊎ IsOfReading why
+
+-- what a reader has left may follow the line, where it is known
+abbrev pub IsBefore : Option (List ℕ) → List ℕ → Option (List ℕ) → Type 0
+IsBefore (Some all) line (Some rest) = MayFollow line rest
+IsBefore _ line _ = Unit {0}
+
+-- the next line was read
+pub record IsRead (old new : Option (List ℕ)) (line : List ℕ) : Type 0 where
+  pub is_line : IsLine line
+  pub consumed : Consumes old new line
+  pub before : IsBefore old line new
+
+-- the next line was read, or there is none
+abbrev pub IsNextLine : Bool → Option (List ℕ) → Option (List ℕ) → List ℕ → Type 0
+IsNextLine true old new line = IsRead old new line
+IsNextLine false old new line = IsAtEnd old
+
+-- the lines of a text were read and taken
+pub record IsUnderway (first now : Option (List ℕ)) (audit : TextAudit) : Type 0 where
+  pub text : List ℕ
+  pub consumed : Consumes first now text
+  pub taken : AreTaken text audit
+
+-- a wrong entry has a line, and so has its event with the legal reply
+pub record FitsLines (w : WrongLine) : Type 0 where
+  pub entry : FitsReply w.entry.event w.entry.reply
+  pub legal : (r : Reply) → w.legal ≡ Some r → FitsReply w.entry.event r
+
+-- what was found can be told
+abbrev pub HasNote : TextFault → Type 0
+HasNote (found.Read why) = Unit {0}
+HasNote (found.Wrong w) = FitsLines w
+
+-- how many entries a legal record has was written
+abbrev pub IsWritten : Result ℕ TextFault → Option (List ℕ) → Option (List ℕ) → Type 0
+IsWritten (Ok count) old new = Appends old new (entries_line count)
+IsWritten (Err why) old new = ⊥
+
+-- a fault is that which was found, or of the writer
+abbrev pub IsTold : Result ℕ TextFault → Fault → Type 0
+IsTold (Ok count) why = why ≡ fault.Write
+IsTold (Err (found.Read what)) why = why ≡ fault.Record what
+IsTold (Err (found.Wrong w)) why = why ≡ fault.WrongEntry w.place

@@ -1,37 +1,30 @@
-ghost use Rattle.std.specs.Prelude.{reverse};
 ghost use Rattle.can_event.specs.Spelled.{FitsReply};
-ghost use Rattle.can_replay.specs.Audits.{IsToldWrong};
+ghost use Rattle.canbusd_audit.specs.Audited.{FitsLines};
 
-use can_bus::{Event, Record, Reply};
+use can_bus::{Event, Reply};
 use can_record::line_text;
+use can_text_audit::WrongLine;
 use canbusd_faults::{Line, Shown};
 use std::alloc::{AllocError, Global};
 
 /// How many lines of a record's text stand before those of its entries.
 const HEAD: u64 = 2;
 
-/// The line of a wrong entry in the text of a record, and the one that would be legal there: `None` past the limit.
-pub fn wrong_note(
-    alloc: Global,
-    path: &str,
-    record: &Record,
-    place: usize,
-    legal: Option<Reply>,
-) -> Result<String, AllocError>
-    requires { IsToldWrong «record».now.config (reverse «record».now.history) place legal }
+/// The line of a wrong entry in the text of a record, and the one that would be legal there.
+pub fn wrong_note(alloc: Global, path: &str, wrong: &WrongLine) -> Result<String, AllocError>
+    requires { FitsLines wrong.now }
 {
-    let looked = record.entry(place).unwrap();
-    let entry = looked.entry();
-    let text = shown_line(alloc, &entry.event, &entry.reply)?;
-    let line = Line::new(path, (place as u64).saturating_add(HEAD + 1), &text);
-    match legal {
+    let event = &wrong.entry.event;
+    let text = shown_line(alloc, event, &wrong.entry.reply)?;
+    let line = Line::new(path, (wrong.place as u64).saturating_add(HEAD + 1), &text);
+    match &wrong.legal {
         Some(reply) => {
-            let legal = shown_line(alloc, &entry.event, &reply)?;
+            let legal = shown_line(alloc, event, reply)?;
             let legal = Shown::cut(&legal);
             format!(in alloc; "  {line}\n  legal is: {legal}\n")
         }
         None => {
-            let limit = record.config().limit;
+            let limit = wrong.limit;
             format!(in alloc; "  {line}\n  line 2 allows at most {limit} entries\n")
         }
     }

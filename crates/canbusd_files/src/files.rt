@@ -2,6 +2,7 @@
 ghost use Rattle.std.specs.Prelude.{◌≡◌};
 ghost use Rattle.canbusd_faults.specs.declared.faults.Fault.TheVariants as fault;
 
+use crate::few_reads::MOST_READS;
 use can_session::count_of;
 use canbusd_faults::{Failure, Fault, Line, Shown, reason_note};
 use std::alloc::{AllocError, Global};
@@ -14,8 +15,6 @@ pub const INPUT: &str = "standard input";
 
 /// What standard output is called where it fails.
 pub const OUTPUT: &str = "standard output";
-
-const MOST_READS: u32 = 16_777_216;
 
 /// The text of the file with this path. The file is opened, then read in at most 16,777,216 reads.
 pub fn read_file<'a, H: Files>(

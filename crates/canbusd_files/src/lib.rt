@@ -6,12 +6,14 @@
 #![tactic(auto)]
 
 mod buses;
+mod few_reads;
 mod files;
 mod names;
 mod saved;
 mod scripts;
 
 pub use buses::{Source, bus_config, limits_note, read_source};
+pub use few_reads::{FewReads, MOST_READS};
 pub use files::{INPUT, OUTPUT, read_file, read_text, write_failure};
 pub use names::{has_name, read_names};
 pub use saved::{save_log, save_record, without};

@@ -160,7 +160,8 @@ pub fn with_bus_options<'a>(alloc: Global, command: Command<'a>) -> Result<Comma
 {
     let tx_help = "Frames that an interface keeps to be sent, 1 to 1024";
     let rx_help = "Frames that a socket keeps to be received, 1 to 65536";
-    let limit_help = "Calls and attempts of the run, 1 to 16777216, of 32 bytes of memory each";
+    let limit_help =
+        "Calls and attempts of the run, 1 to 16777216, of 32 bytes of memory each, 108 with an FD frame";
     let restart_help =
         "Restart an interface in the Nth attempt after it went bus off, 1 to 1000000, or never (0)";
     command

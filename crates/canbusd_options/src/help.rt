@@ -70,10 +70,10 @@ or with --until-eof standard input has ended, it prints for each bus, by its fir
 writes DIR/NAME.log, which candump's readers take, and DIR/NAME.rec, which `canbusd audit` checks. DIR must exist.
 
 --limit is for each bus, and it is how long a run can be. Each send, each attempt and each receive of a session is an
-entry. It takes 32 bytes in the record, and up to 64 in the list of the session that made it: 1000 frames a
-second to 4 sessions fill 1000000 entries in less than 3 minutes. When a bus is full each of its calls answers
-`record full`, and standard error says so once. With --auto-restart attempts go on, MS milliseconds apart, while an
-interface waits for its restart, and each is an entry.
+entry. It takes 32 bytes in the record, and up to 64 in the list of the session that made it; with an FD frame 76 more
+in the record, and up to 152 more in the list. 1000 frames a second to 4 sessions fill 1000000 entries in less than
+3 minutes. When a bus is full each of its calls answers `record full`, and standard error says so once. With
+--auto-restart attempts go on, MS milliseconds apart, while an interface waits for its restart, and each is an entry.
 
 Example, with a client in Python (package python3-can):
   $ canbusd serve --out . can0,can1@faults.script &

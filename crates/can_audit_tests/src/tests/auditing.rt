@@ -1,5 +1,6 @@
 // Whether records are legal histories.
 
+use super::texts::{again, legal_lines, read, written};
 use super::*;
 use can_attempt::Class;
 use can_audit::{AuditFault, audit};
@@ -7,6 +8,7 @@ use can_bus::{Closed, Entry, ListBus, Received, Record, Reply, Tried, run};
 use can_frame::Item;
 use std::alloc::AllocGlobal;
 use std::process::Abort;
+use std::str::from_utf8;
 
 /// A bus of two interfaces, without reports of faults.
 fn made_for(limit: u32) -> BusConfig {
@@ -128,15 +130,34 @@ fn carried_out(rt: &impl AllocGlobal, events: &[Event]) -> Result<Record, Fail> 
     Ok(bus.into_record())
 }
 
-fn audits_what_a_bus_did(rt: &(impl Abort + AllocGlobal)) -> Result<(), Fail> {
-    let record = carried_out(rt, &events::mixed(rt, 4, 300)?)?;
-    same(rt, audited(rt, &record), Ok(()));
-    let nothing = carried_out(rt, &[])?;
-    same(rt, audited(rt, &nothing), Ok(()));
+/// The text of a legal record tells it again: so many lines, in the same words.
+fn is_told_again(rt: &(impl Abort + AllocGlobal), text: &str, count: usize) -> Result<(), Fail> {
+    same(rt, audited(rt, &read(rt, text)?), Ok(()));
+    same(rt, legal_lines(rt, text), Some(count));
+    assert!(rt; again(rt, text)?.as_slice() == text.as_bytes());
     Ok(())
+}
+
+/// What a bus did is legal, and its text, which begins so, is read as a legal record.
+fn is_legal(
+    rt: &(impl Abort + AllocGlobal),
+    events: &[Event],
+    first_line: &str,
+) -> Result<(), Fail> {
+    let record = carried_out(rt, events)?;
+    same(rt, audited(rt, &record), Ok(()));
+    let text = written(rt, &record)?;
+    assert!(rt; text.starts_with(first_line.as_bytes()));
+    is_told_again(rt, from_utf8(&text)?, events.len())
 }
 
 #[test]
 fn what_a_bus_did_is_legal(rt: HostRuntime) -> Result<(), Fail> {
-    audits_what_a_bus_did(&rt)
+    is_legal(&rt, &events::mixed(&rt, 4, 300)?, "canbus record 1\n")?;
+    is_legal(
+        &rt,
+        &events::mixed_with_fd(&rt, 27, 500)?,
+        "canbus record 3\n",
+    )?;
+    is_legal(&rt, &[], "canbus record 1\n")
 }

@@ -1,10 +1,17 @@
-// A long list of mixed events, the same at each run.
+// Long lists of mixed events, the same at each run.
 
 use super::*;
 use can_bus::Opt;
 use can_fault::{GlobalKind, LocalKind, Verdict};
 use can_filter::{Filter, FilterSet};
 use std::alloc::{AllocGlobal, Global};
+
+/// What an FD frame carries behind its first byte.
+const BYTES: [u8; 64] = [
+    0, 1, 2, 3, 4, 5, 6, 7, 8, 9, 10, 11, 12, 13, 14, 15, 16, 17, 18, 19, 20, 21, 22, 23, 24, 25,
+    26, 27, 28, 29, 30, 31, 32, 33, 34, 35, 36, 37, 38, 39, 40, 41, 42, 43, 44, 45, 46, 47, 48, 49,
+    50, 51, 52, 53, 54, 55, 56, 57, 58, 59, 60, 61, 62, 63,
+];
 
 /// A row of numbers that look random (Knuth, MMIX), from its seed.
 #[derive(Drop)]
@@ -90,6 +97,29 @@ fn some_event(alloc: Global, dice: &mut Dice, micros: u64) -> Result<Event, Fail
     })
 }
 
+/// An FD frame of 64, 12 or no bytes.
+fn fd_frame(dice: &mut Dice) -> Result<Frame, Fail> {
+    let id = CanId::standard(dice.roll(8) as u16)?;
+    let mut bytes = BYTES;
+    bytes[0] = dice.roll(200);
+    Ok(match dice.roll(3) {
+        0 => Frame::fd(id, &bytes)?,
+        1 => Frame::fd(id, &bytes[..12])?,
+        _ => Frame::fd(id, &[])?,
+    })
+}
+
+/// FD frames among the others: they are asked for or not, sent, tried and received.
+fn some_event_with_fd(alloc: Global, dice: &mut Dice, micros: u64) -> Result<Event, Fail> {
+    Ok(match dice.roll(16) {
+        0 => Event::SetOption(dice.socket(), Opt::FdFrames(dice.is_one_of(2))),
+        1..=3 => Event::Send(dice.socket(), fd_frame(dice)?),
+        4 | 5 => Event::Attempt(moment(micros)?, Verdict::Good),
+        6..=8 => Event::Receive(dice.socket()),
+        _ => some_event(alloc, dice, micros)?,
+    })
+}
+
 /// Six sockets, two on each of three interfaces, that hold few items and are told of errors.
 fn opened(alloc: Global) -> Result<Vec<Event>, Fail> {
     let mut events = Vec::new(alloc);
@@ -108,6 +138,19 @@ pub fn mixed(rt: &impl AllocGlobal, seed: u64, count: u64) -> Result<Vec<Event>,
     let mut events = opened(rt.alloc())?;
     for micros in 0..count {
         events.push(some_event(rt.alloc(), &mut dice, micros)?)?;
+    }
+    Ok(events)
+}
+
+/// The same with FD frames among the others. At first one socket on each interface asks for them, and one does not.
+pub fn mixed_with_fd(rt: &impl AllocGlobal, seed: u64, count: u64) -> Result<Vec<Event>, Fail> {
+    let mut dice = Dice { state: seed };
+    let mut events = opened(rt.alloc())?;
+    for number in 0..3u32 {
+        events.push(Event::SetOption(SocketId(number), Opt::FdFrames(true)))?;
+    }
+    for micros in 0..count {
+        events.push(some_event_with_fd(rt.alloc(), &mut dice, micros)?)?;
     }
     Ok(events)
 }

@@ -48,6 +48,8 @@ enum Kind {
     GoesOff,
     Refused(Refusal),
     Data,
+    /// An FD frame of so many bytes.
+    Fd(u8),
     Error,
     /// A close that counts items without room.
     Dropped,
@@ -55,6 +57,14 @@ enum Kind {
 
 fn is_error(received: &Received) -> bool {
     matches!(&received.item, Item::Error(_))
+}
+
+/// Whether an FD frame of so many bytes was received.
+fn is_fd(received: &Received, len: u8) -> bool {
+    match &received.item {
+        Item::Data(frame) => frame.is_fd() && frame.len() == len,
+        Item::Error(_) => false,
+    }
 }
 
 /// Whether an attempt restarted an interface.
@@ -74,6 +84,7 @@ fn is_of(reply: &Reply, kind: Kind) -> bool {
         Kind::GoesOff => matches!(reply, Reply::Tried(tried) if tried.off != IfaceSet(0)),
         Kind::Refused(why) => matches!(reply, Reply::Refused(refusal) if *refusal == why),
         Kind::Data => matches!(reply, Reply::Received(Some(received)) if !is_error(received)),
+        Kind::Fd(len) => matches!(reply, Reply::Received(Some(received)) if is_fd(received, len)),
         Kind::Error => matches!(reply, Reply::Received(Some(received)) if is_error(received)),
         Kind::Dropped => matches!(reply, Reply::Closed(counts) if counts.dropped > 0),
     }
@@ -108,7 +119,7 @@ fn is_telling(rt: &impl Abort, replies: &[Reply]) {
     has(rt, replies, Kind::Error, 10);
 }
 
-/// It has every refusal that one bus gives, but for too many sockets and no memory.
+/// It has every refusal that one bus gives, but for too many sockets, FD frames and no memory.
 fn refuses(rt: &impl Abort, replies: &[Reply]) {
     has(rt, replies, Kind::Refused(Refusal::BusOff), 3);
     has(rt, replies, Kind::Refused(Refusal::NoBuffers), 15);
@@ -129,6 +140,37 @@ fn compare_mixed(rt: &(impl Abort + AllocGlobal)) -> Result<(), Fail> {
     is_telling(rt, &replies);
     refuses(rt, &replies);
     Ok(())
+}
+
+/// FD frames of each length are received among the others, and some are refused where nobody asked for them.
+fn tells_of_fd(rt: &impl Abort, replies: &[Reply]) {
+    has(rt, replies, Kind::Tried(Class::Done), 30);
+    has(rt, replies, Kind::Tried(Class::LastBit), 5);
+    has(rt, replies, Kind::Tried(Class::Destroyed), 10);
+    has(rt, replies, Kind::Data, 20);
+    has(rt, replies, Kind::Error, 10);
+    for len in [0, 12, 64] {
+        has(rt, replies, Kind::Fd(len), 3);
+    }
+    has(rt, replies, Kind::Refused(Refusal::FdOff), 10);
+    has(rt, replies, Kind::Refused(Refusal::NoBuffers), 3);
+    has(rt, replies, Kind::Refused(Refusal::RecordFull), 12);
+}
+
+fn compare_mixed_with_fd(rt: &(impl Abort + AllocGlobal)) -> Result<(), Fail> {
+    let events = events::mixed_with_fd(rt, 44, 200)?;
+    let config = BusConfig {
+        ack: AckMode::Peers,
+        ..config(3, 200)
+    };
+    let replies = compared(rt, &events, config)?;
+    tells_of_fd(rt, &replies);
+    Ok(())
+}
+
+#[test]
+fn fd_frames_among_others_are_answered_as_the_entries_say(rt: HostRuntime) -> Result<(), Fail> {
+    compare_mixed_with_fd(&rt)
 }
 
 /// Interface 0 goes bus off and is restarted in one of the next attempts.

@@ -3,7 +3,7 @@
 use super::{same, same_at};
 use can_attempt::AckMode;
 use can_audit::{
-    ReadFault, count_legal, read_record, read_record_bytes, record_text, write_record,
+    ReadFault, TextAudit, TextFault, read_record, read_record_bytes, record_text, write_record,
 };
 use can_bus::{Bus, BusConfig, Event, ListBus, Record, SocketId, run};
 use can_fault::Verdict;
@@ -16,7 +16,7 @@ use std::process::Abort;
 use std::test::Fail;
 
 /// A frame goes from interface 0 to interface 1, and is taken there.
-const ONE_FRAME: &str = "canbus record 1
+pub const ONE_FRAME: &str = "canbus record 1
 bus 2 always 0000 10 100
 open 0 256 = socket 0
 open 1 1 = socket 1
@@ -39,15 +39,26 @@ pub fn read(rt: &impl AllocGlobal, text: &str) -> Result<Record, ReadFault> {
     read_record(rt.alloc(), text)
 }
 
-fn read_bytes(rt: &impl AllocGlobal, text: &[u8]) -> Result<Record, ReadFault> {
+pub fn read_bytes(rt: &impl AllocGlobal, text: &[u8]) -> Result<Record, ReadFault> {
     read_record_bytes(rt.alloc(), text)
 }
 
-pub fn legal_lines(rt: &impl AllocGlobal, text: &str) -> Option<usize> {
-    count_legal(rt.alloc(), text.as_bytes())
+/// What is told of a text line by line.
+pub fn audit_by_lines(rt: &impl AllocGlobal, text: &[u8]) -> Result<usize, TextFault> {
+    let mut audit = TextAudit::new(rt.alloc());
+    for line in text.split_inclusive(|byte| *byte == b'\n') {
+        if let Err(fault) = audit.carry(rt.alloc(), line) {
+            return Err(TextFault::Read(fault));
+        }
+    }
+    audit.finish()
 }
 
-fn written(rt: &impl AllocGlobal, record: &Record) -> Result<Vec<u8>, Fail> {
+pub fn legal_lines(rt: &impl AllocGlobal, text: &str) -> Option<usize> {
+    audit_by_lines(rt, text.as_bytes()).ok()
+}
+
+pub fn written(rt: &impl AllocGlobal, record: &Record) -> Result<Vec<u8>, Fail> {
     Ok(record_text(rt.alloc(), record)?)
 }
 

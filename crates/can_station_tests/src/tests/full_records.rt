@@ -70,9 +70,10 @@ fn count_if_refused<N: RollName + MeterName, R: Wait + Abort>(
     refused
 }
 
-/// A step finds the record full.
+/// A step finds the record full, and so does an attempt.
 fn finds_it_full<N: RollName + MeterName, R: Wait + Abort>(mut caller: Party<'_, N, R>) {
     assert!(caller.rt; caller.step(1) == Err(FULL));
+    assert!(caller.rt; caller.attempt(2, Verdict::Good) == Err(FULL));
     assert!(caller.rt; caller.calls() == 0);
 }
 

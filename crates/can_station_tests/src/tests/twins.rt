@@ -4,7 +4,6 @@ ghost use Rattle.std.specs.Prelude.{◌≡◌};
 
 use super::*;
 use can_bus::{Event, Record, Reply, RingBus, answer};
-use can_fault::Verdict;
 use can_filter::{Filter, FilterSet};
 use can_station::{Open, Wake};
 use std::marker::Brand;

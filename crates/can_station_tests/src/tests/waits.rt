@@ -28,6 +28,7 @@ pub enum Awaited {
 pub enum Act {
     Send(SocketId),
     Step,
+    Attempt,
     Restart,
     Close(SocketId),
     Stop,
@@ -40,6 +41,7 @@ fn make_call<N: RollName + MeterName, R: Wait + Abort>(caller: &mut Party<'_, N,
     let is_done = match act {
         Act::Send(socket) => caller.send(socket, 0x123).is_ok(),
         Act::Step => caller.step(1).is_ok(),
+        Act::Attempt => caller.attempt(1, Verdict::Good).is_ok(),
         Act::Restart => caller.restart(0, 40).is_ok(),
         Act::Close(socket) => caller.close(socket).is_ok(),
         Act::Stop => {

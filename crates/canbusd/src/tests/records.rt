@@ -122,12 +122,12 @@ fn tells_what_is_wrong_with_records(rt: HostRuntime) -> Result<(), Fail> {
         (
             "record 1",
             "record 9",
-            "canbusd: bad version\n  damaged.rec:1: canbus record 9\n  the first line of a record is canbus record 1 or canbus record 2\n",
+            "canbusd: bad version\n  damaged.rec:1: canbus record 9\n  the first line of a record is canbus record 1 or 2, or, with an FD frame or the option fd, canbus record 3\n",
         ),
         (
             "bus 2",
             "bus 17",
-            "canbusd: line 2: bad line\n  damaged.rec:2: bus 17 always 0000 10 100\n  the second line is bus IFACES ACK REPORTING TXCAPACITY LIMIT, with RESTART behind it in version 2\n",
+            "canbusd: line 2: bad line\n  damaged.rec:2: bus 17 always 0000 10 100\n  the second line is bus IFACES ACK REPORTING TXCAPACITY LIMIT, with RESTART behind it in versions 2 and 3\n",
         ),
         (
             "send 0 123#01FF",
@@ -146,6 +146,22 @@ fn tells_what_is_wrong_with_records(rt: HostRuntime) -> Result<(), Fail> {
         ),
         (
             "end 7\n",
+            "",
+            "canbusd: line 10: bad line\n  damaged.rec:10: \n  a line is EVENT = REPLY, and the last is end COUNT; each ends with LF\n",
+        ),
+        // A line that cannot be read goes before an entry that is wrong.
+        (
+            "done 0002 0000\nreceive 1 = data",
+            "done 0000 0000\nreceive 1 = date",
+            "canbusd: line 7: bad line\n  damaged.rec:7: receive 1 = date 0 0 123#01FF 0.000001\n  a line is EVENT = REPLY, and the last is end COUNT; each ends with LF\n",
+        ),
+        (
+            "record 1\nbus 2 always 0000 10 100\n",
+            "record 3\nbus 2 always 0000 10 100 0\n",
+            "canbusd: bad version\n  damaged.rec:1: canbus record 3\n  the first line of a record is canbus record 1 or 2, or, with an FD frame or the option fd, canbus record 3\n",
+        ),
+        (
+            "end 7\n",
             "end 7\n\n",
             "canbusd: line 11: bad line\n  damaged.rec:11: \n  a line is EVENT = REPLY, and the last is end COUNT; each ends with LF\n",
         ),
@@ -161,6 +177,17 @@ fn tells_what_is_wrong_with_records(rt: HostRuntime) -> Result<(), Fail> {
             ("", told, 1),
         )?;
     }
+    // Bytes that are no text go before a line that cannot be read, wherever they stand.
+    fs::write(&rt, "damaged.rec", b"canbus record 9\n\xFF\n")?;
+    let told = "canbusd: read fault\n  damaged.rec:2: ?\n  this line is no UTF-8 text\n";
+    let told = ("", told, 1);
+    runs(
+        &rt,
+        alloc,
+        "canbusd audit damaged.rec",
+        b"".as_slice(),
+        told,
+    )?;
     fs::write(&rt, "damaged.rec", b"\xFF")?;
     let told = "canbusd: read fault\n  damaged.rec:1: ?\n  this line is no UTF-8 text\n";
     let told = ("", told, 1);

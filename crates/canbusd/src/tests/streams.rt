@@ -1,9 +1,11 @@
 //! Streams and files that fail.
 use super::support::{Sockets, run_over, runs, same};
 use can_test_streams::{Closed, Pieces};
+use canbusd_audit::audit_lines;
 use canbusd_faults::Fault;
-use canbusd_files::read_text;
+use canbusd_files::{FewReads, read_text};
 use std::fs;
+use std::io::BufReader;
 use std::test::Fail;
 
 #[test]
@@ -70,6 +72,31 @@ fn reads_files_in_so_many_reads(rt: HostRuntime) -> Result<(), Fail> {
                 same(&rt, failure.notes.as_str(), told);
             }
         }
+    }
+    Ok(())
+}
+
+#[test]
+fn reads_records_in_so_many_reads(rt: HostRuntime) -> Result<(), Fail> {
+    let alloc = rt.alloc();
+    // These 44 bytes take 44 reads, and one more finds the end. What is told where it does not.
+    let record = b"canbus record 1\nbus 1 always 0000 1 1\nend 0\n";
+    for (most_reads, told) in [(45, ""), (44, "  f.rec: it is not read in 44 reads\n")] {
+        let file = Pieces {
+            rest: record,
+            size: 1,
+            is_broken: false,
+        };
+        let mut input = BufReader::new(alloc, FewReads::new(alloc, file, most_reads))?;
+        let mut output = Vec::new(alloc);
+        match audit_lines(alloc, "f.rec", &mut input, &mut output) {
+            Ok(()) => same(&rt, output.as_slice(), b"ok 0 entries\n"),
+            Err(failure) => {
+                same(&rt, failure.fault, Fault::Read);
+                same(&rt, failure.notes.as_str(), told);
+            }
+        }
+        assert!(rt; output.is_empty() != told.is_empty());
     }
     Ok(())
 }

@@ -1,0 +1,62 @@
+-- A line against what a bus answers.
+use Rattle.std.proofs.Common.{◌≡◌, ◌<◌, nat_le, ℕ, List, ◌∷◌, length, Option, Some, None, Err, inr, refl, sym, ap, ◌∙◌}
+use Rattle.std.proofs.lemmas.Bool.{cond-false, lt-leb}
+use Rattle.std.proofs.lemmas.Option.{none-some, same_Some}
+use Rattle.can_event.specs.declared.events.BusConfig.{BusConfig}
+use Rattle.can_event.specs.declared.events.Entry.{Entry}
+use Rattle.can_event.specs.declared.events.Event.{Event}
+use Rattle.can_event.specs.declared.events.Reply.{Reply}
+use Rattle.can_event.specs.declared.events.Reply.TheVariants as reply
+use Rattle.can_event.specs.declared.events.Refusal.TheVariants as refusal
+use Rattle.can_bus.specs.Lean.{Enters}
+use Rattle.can_bus.specs.Legal.{legal_reply}
+use Rattle.can_bus.specs.Run.{IsAnswer, history_after}
+use Rattle.can_record.specs.declared.faults.Unread.{Unread}
+use Rattle.can_record.specs.declared.faults.Unread.TheVariants as unread
+use Rattle.can_record.specs.declared.versions.Version.{Version}
+use Rattle.can_record.specs.inner.Words.{after}
+use Rattle.can_record.specs.inner.Reading.{Gives, entry_at, event_at, moment_of, reply_at, ◌>>=◌}
+use Rattle.can_record.specs.Spelling.{answered_line, entry_line}
+use Rattle.can_record.specs.Values.{HasLine}
+use Rattle.can_record.proofs.Again.{entry_again}
+use Rattle.can_text_audit.specs.inner.Carried.{IsWrongNext}
+
+-- what spells no event spells no entry
+pub not_an_entry : (u : Unread) (text : List ℕ) → Gives {X = Event × List ℕ} (Err u) (event_at text) → u ≡ unread.Bad → entry_at text ≡ None
+unfolding entry_at
+not_an_entry unread.Bad text h is = rw h refl
+not_an_entry unread.NoMemory text h is = absurd cc
+
+-- the entry of a line has the event that the line seems to spell
+event_is : (text : List ℕ) (e : Entry) (ev : Event) (rest : List ℕ) → entry_at text ≡ Some e → event_at text ≡ Some (ev, rest) → e.event ≡ ev
+unfolding entry_at
+event_is text e ev rest whole is = when (reply_at (moment_of ev) (after rest)) (sym (ap (λ (o : Option (Event × List ℕ)). o >>= λ x. reply_at (moment_of x.0) (after x.1) >>= λ r. Some (record { event = x.0; reply = r.0 })) is) ∙ whole)
+  where
+    when : (o : Option (Reply × List ℕ)) → (o >>= λ r. Some (record { event = ev; reply = r.0 })) ≡ Some e → e.event ≡ ev
+    when None h = absurd (none-some e h)
+    when (Some r) h = sym (ap (λ (d : Entry). d.event) (same_Some (record { event = ev; reply = r.0 }) e h))
+
+-- what enters the record is the legal reply
+answered : (c : BusConfig) (past : List Entry) (e : Event) (r : Reply) → Enters r → IsAnswer c past e r → (length past < c.limit) × (r ≡ legal_reply c past e)
+answered c past e (reply.Refused refusal.RecordFull) enters h = absurd enters
+answered c past e (reply.Refused refusal.NoMemory) enters h = absurd enters
+answered c past e r enters h = h
+
+-- what enters the record is noted
+pub entered : (e : Event) (r : Reply) (past : List Entry) → Enters r → history_after e r past ≡ record { event = e; reply = r } ∷ past
+entered e (reply.Refused refusal.RecordFull) past enters = absurd enters
+entered e (reply.Refused refusal.NoMemory) past enters = absurd enters
+entered e r past enters = refl
+
+-- an entry whose line is not that of its event with the legal reply is wrong
+pub other_reply : (v : Version) (c : BusConfig) (past : List Entry) (line rest more : List ℕ) (e : Entry) (ev : Event) (r : Reply) → HasLine v c e → line ≡ entry_line e rest → event_at line ≡ Some (ev, more)
+    → Enters r → IsAnswer c past ev r → (line ≡ answered_line ev r rest → ⊥) → IsWrongNext c past e (Some r)
+other_reply v c past line rest more e ev r good is guessed enters answer other =
+    let same : e.event ≡ ev = event_is line e ev more (ap entry_at is ∙ entry_again v c e rest good) guessed in
+    let lawful = answered c past ev r enters answer in
+    let law : r ≡ legal_reply c past e.event = lawful.1 ∙ ap (legal_reply c past) (sym same) in
+    record {
+      wrong = inr (λ right.
+          other (is ∙ ap (λ (x : Event). answered_line x e.reply rest) same ∙ ap (λ (x : Reply). answered_line ev x rest) (right ∙ sym law)));
+      is_allowed = ap Some law ∙ sym (cond-false (nat_le c.limit (length past)) None (Some (legal_reply c past e.event)) (lt-leb c.limit (length past) lawful.0));
+    }

@@ -1,0 +1,5 @@
+pub mod PlainWords
+pub mod LineEnds
+pub mod Answering
+pub mod Taking
+pub mod Ending

@@ -1,0 +1,2 @@
+pub mod TextAudits
+pub mod inner

@@ -1,0 +1,63 @@
+use Rattle.std.specs.Prelude.{◌≡◌, ◌≢◌, ℕ, List, [], ◌++◌, length, reverse, Result, Ok, Err}
+use Rattle.std.specs.Io.{StopsAt}
+use Rattle.std.specs.Io.BufRead.{take_through}
+use Rattle.can_event.specs.declared.events.BusConfig.{BusConfig}
+use Rattle.can_event.specs.declared.events.Entry.{Entry}
+use Rattle.can_bus.specs.Legal.{IsLegal}
+use Rattle.can_record.specs.declared.faults.ReadFault.{ReadFault}
+use Rattle.can_record.specs.RecordFaults.{IsTextOf, Reads}
+use Rattle.can_record.specs.Spelling.{first_line}
+use Rattle.can_text_audit.specs.declared.faults.TextFault.{TextFault}
+use Rattle.can_text_audit.specs.declared.faults.TextFault.TheVariants as fault
+use Rattle.can_text_audit.specs.declared.faults.WrongLine.{WrongLine}
+use Rattle.can_text_audit.specs.declared.text_audits.Course.{Course}
+use Rattle.can_text_audit.specs.declared.text_audits.Course.TheVariants as course
+use Rattle.can_text_audit.specs.declared.text_audits.TextAudit.{TextAudit}
+use Rattle.can_text_audit.specs.inner.Bodies.{IsGoing, IsWrongIn}
+
+-- What an audit of a text answers (own choice).
+
+-- the text is that of a legal record with so many entries
+pub record IsLegalText (text : List ℕ) (count : ℕ) : Type 0 where
+  pub config : BusConfig
+  pub entries : List Entry
+  pub whole : IsTextOf text config entries
+  pub legal : IsLegal config (reverse entries)
+  pub counted : count ≡ length entries
+
+-- the text is that of a record whose first wrong entry is this one
+pub record IsWrongText (text : List ℕ) (w : WrongLine) : Type 0 where
+  pub config : BusConfig
+  pub entries : List Entry
+  pub whole : IsTextOf text config entries
+  pub wrong : IsWrongIn config entries w
+
+-- what is told of a text that has ended
+abbrev pub Tells : List ℕ → Result ℕ TextFault → Type 0
+Tells text (Ok count) = IsLegalText text count
+Tells text (Err (fault.Read why)) = Reads text (Err why)
+Tells text (Err (fault.Wrong w)) = IsWrongText text w
+
+-- a line: LF stands at its end alone, or nowhere
+pub record IsLine (line : List ℕ) : Type 0 where
+  pub some : line ≢ []
+  pub stops : StopsAt line 10
+
+-- what may follow a line in a text: where it has no LF, nothing
+abbrev pub MayFollow : List ℕ → List ℕ → Type 0
+MayFollow line after = take_through 10 (line ++ after) ≡ line
+
+-- the lines that were taken make this text
+abbrev pub HasCome : List ℕ → Course → Type 0
+HasCome text course.Start = text ≡ []
+HasCome text (course.Front v) = text ≡ first_line v
+HasCome text (course.Body b) = IsGoing text b
+HasCome text (course.Failed why) = ⊥
+
+-- the same of an audit
+abbrev pub AreTaken : List ℕ → TextAudit → Type 0
+AreTaken text audit = HasCome text audit.course
+
+-- this fault was told
+abbrev pub HasFailed : ReadFault → TextAudit → Type 0
+HasFailed why audit = audit.course ≡ course.Failed why

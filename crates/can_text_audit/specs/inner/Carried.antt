@@ -1,0 +1,42 @@
+use Rattle.std.specs.Prelude.{◌≡◌, ◌≢◌, ◌≤◌, ℕ, ◌⊎◌, nat_le, Bool, List, ◌∷◌, length, Option, Some, None, if◌then◌else◌}
+use Rattle.can_event.specs.declared.events.BusConfig.{BusConfig}
+use Rattle.can_event.specs.declared.events.Entry.{Entry}
+use Rattle.can_event.specs.declared.events.Event.{Event}
+use Rattle.can_event.specs.declared.events.Reply.{Reply}
+use Rattle.can_bus.specs.Lean.{Lean, Stands}
+use Rattle.can_bus.specs.Legal.{legal_reply}
+use Rattle.can_record.specs.declared.versions.Version.{Version}
+use Rattle.can_record.specs.declared.versions.Version.TheVariants as version
+use Rattle.can_record.specs.Spelling.{entry_line, has_fd}
+use Rattle.can_record.specs.Values.{HasLine}
+use Rattle.can_text_audit.specs.declared.carrying.Carried.{Carried}
+use Rattle.can_text_audit.specs.declared.carrying.Carried.TheVariants as carried
+
+-- One entry's line against what a bus answers.
+
+-- the line of the next legal entry stands here, of one with FD or without, and the bus carried its event out
+pub record IsNext (c : BusConfig) (past : List Entry) (line : List ℕ) (fd : Bool) (bus : Lean) : Type 0 where
+  pub entry : Entry
+  pub rest : List ℕ
+  pub good : HasLine version.Three c entry
+  pub is_fd : fd ≡ has_fd entry
+  pub stands : line ≡ entry_line entry rest
+  pub after : Stands bus (entry ∷ past)
+
+-- the reply that would be legal after these entries: none where no entry may follow them
+abbrev pub allowed_after : BusConfig → List Entry → Event → Option Reply
+allowed_after c past e = if nat_le c.limit (length past) then None else Some (legal_reply c past e)
+
+-- the entry is wrong after these, where this reply would be legal
+pub record IsWrongNext (c : BusConfig) (past : List Entry) (e : Entry) (legal : Option Reply) : Type 0 where
+  pub wrong : (c.limit ≤ length past) ⊎ (e.reply ≢ legal_reply c past e.event)
+  pub is_allowed : legal ≡ allowed_after c past e.event
+
+-- where an entry's line stands here, the entry is wrong
+abbrev pub IsOther : BusConfig → List Entry → List ℕ → Option Reply → Type 0
+IsOther c past line legal = (v : Version) (e : Entry) (rest : List ℕ) → HasLine v c e → line ≡ entry_line e rest → IsWrongNext c past e legal
+
+-- what became of a line
+abbrev pub IsCarried : BusConfig → List Entry → List ℕ → Carried → Lean → Type 0
+IsCarried c past line (carried.Legal fd) bus = IsNext c past line fd bus
+IsCarried c past line (carried.Other legal) bus = IsOther c past line legal

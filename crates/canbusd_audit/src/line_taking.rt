@@ -1,0 +1,111 @@
+ghost use Rattle.std.specs.Prelude.{[], List, ℕ, IfErr, IfOk, OnOk};
+ghost use Rattle.can_text_audit.specs.TextAudits.{AreTaken};
+ghost use Rattle.canbusd_audit.specs.Audited.{Faults, IsNextLine, IsOfLine, IsOfReading, IsTextIn};
+
+use crate::notes::{record_note, utf8_note};
+use can_record::ReadFault;
+use can_text_audit::TextAudit;
+use canbusd_faults::{Failure, Fault, reason_note};
+use std::alloc::Global;
+use std::io::{BufRead, Error, ErrorKind};
+use std::str;
+
+/// Takes the lines of an input to its end: how many there were.
+///
+/// Where a line is at fault, what follows is read all the same: an input that is no UTF-8 text is told as such, wherever
+/// it is not.
+pub fn take_lines<'a, R: BufRead>(
+    alloc: Global,
+    path: &str,
+    input: &mut R,
+    audit: &mut TextAudit,
+) -> Result<u64, Failure<'a>>
+    requires { AreTaken [] audit.old }
+    ensures taken { OnOk result ((text : List ℕ) × IsTextIn (R.remaining input.old) text × AreTaken text audit.new) }
+    ensures fault { IfErr result (λ failure. (text : List ℕ) × IsTextIn (R.remaining input.old) text × Faults text failure.fault) }
+{
+    let mut line = Vec::new(alloc);
+    for number in 1..u64::MAX {
+        match next_line(alloc, path, input, &mut line) {
+            Ok(true) => {}
+            Ok(false) => return Ok(number - 1),
+            Err(failure) => return Err(failure),
+        }
+        match audit.carry(alloc, &line) {
+            Ok(()) => {}
+            Err(fault) => {
+                return Err(line_failure(alloc, path, number, input, &mut line, fault));
+            }
+        }
+    }
+    Err(Failure::new(alloc, Fault::Read))
+}
+
+// What is told of a line that is at fault.
+fn line_failure<'a, R: BufRead>(
+    alloc: Global,
+    path: &str,
+    number: u64,
+    input: &mut R,
+    line: &mut Vec<u8>,
+    fault: ReadFault,
+) -> Failure<'a>
+    ensures { IsOfLine fault result.fault }
+{
+    let note = record_note(alloc, path, line, fault);
+    match read_rest(alloc, path, number, input, line) {
+        Ok(()) => Failure::with(alloc, Fault::Record(fault), note),
+        Err(failure) => failure,
+    }
+}
+
+// Reads on from a line that is at fault: whether this line and all behind it are UTF-8 text.
+fn read_rest<'a, R: BufRead>(
+    alloc: Global,
+    path: &str,
+    first: u64,
+    input: &mut R,
+    line: &mut Vec<u8>,
+) -> Result<(), Failure<'a>>
+    ensures { IfErr result (λ failure. IsOfReading failure.fault) }
+{
+    for number in first..u64::MAX {
+        if str::from_utf8(line).is_err() {
+            let note = utf8_note(alloc, path, number, line);
+            return Err(Failure::with(alloc, Fault::Read, note));
+        }
+        if !next_line(alloc, path, input, line)? {
+            return Ok(());
+        }
+    }
+    Err(Failure::new(alloc, Fault::Read))
+}
+
+// Reads the next line, with its LF if it has one: whether there is one.
+fn next_line<'a, R: BufRead>(
+    alloc: Global,
+    path: &str,
+    input: &mut R,
+    line: &mut Vec<u8>,
+) -> Result<bool, Failure<'a>>
+    ensures read { IfOk result (λ is. IsNextLine is (R.remaining input.old) (R.remaining input.new) line.new.items) }
+    ensures fault { IfErr result (λ failure. IsOfReading failure.fault) }
+{
+    line.clear();
+    match input.read_until(b'\n', line) {
+        Ok(0) => Ok(false),
+        Ok(_) => Ok(true),
+        Err(error) => Err(read_failure(alloc, path, &error)),
+    }
+}
+
+// What a fault of reading is told as.
+fn read_failure<'a>(alloc: Global, path: &str, error: &Error) -> Failure<'a>
+    ensures { IsOfReading result.fault }
+{
+    if error.kind() == ErrorKind::OutOfMemory {
+        Failure::new(alloc, Fault::NoMemory)
+    } else {
+        Failure::with(alloc, Fault::Read, reason_note(alloc, path, error))
+    }
+}

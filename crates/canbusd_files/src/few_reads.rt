@@ -1,0 +1,47 @@
+//! Readers that are read a bounded number of times, so that none is read for ever.
+
+use std::alloc::Global;
+use std::io;
+use std::io::{Error, ErrorKind, Read};
+
+/// How often a file is read at most: the last read finds its end.
+pub const MOST_READS: u32 = 16_777_216;
+
+/// A reader that is read at most so many times. A read more is a fault that says how many were made.
+#[derive(Drop)]
+pub struct FewReads<R> {
+    reader: R,
+    alloc: Global,
+    most: u32,
+    made: u32,
+}
+
+impl<R> FewReads<R> {
+    /// The reader, before its first read.
+    pub fn new(alloc: Global, reader: R, most: u32) -> FewReads<R> {
+        FewReads {
+            reader,
+            alloc,
+            most,
+            made: 0,
+        }
+    }
+}
+
+impl<R: Read> Read for FewReads<R> {
+    fn read(&mut self, buf: &mut [u8]) -> io::Result<usize> {
+        if self.made >= self.most {
+            return Err(too_many(self.alloc, self.most));
+        }
+        self.made += 1;
+        self.reader.read(buf)
+    }
+}
+
+// The fault of a read that is one too many.
+fn too_many(alloc: Global, most: u32) -> Error {
+    match format!(in alloc; "it is not read in {most} reads") {
+        Ok(words) => Error::other(&words),
+        Err(_) => Error::from(ErrorKind::OutOfMemory),
+    }
+}
