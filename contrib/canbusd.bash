@@ -1,4 +1,4 @@
-# Completions of canbusd for bash.
+# Completions of canbusd and its tools for bash.
 _canbusd() {
     local text=$2 before=$3
     COMPREPLY=()
@@ -54,3 +54,14 @@ _canbusd_files() {
     done
 }
 complete -F _canbusd canbusd
+
+# The tools: the options that their help has, and files.
+_canbusd_tool() {
+    local text=$2
+    COMPREPLY=()
+    case $text in
+    -*) _canbusd_offer "$("$1" --help 2>/dev/null | grep -oE -- '--[a-z-]+')" ;;
+    *) compopt -o default ;;
+    esac
+}
+complete -F _canbusd_tool canbusd-report candump2bench

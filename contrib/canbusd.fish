@@ -1,4 +1,4 @@
-# Completions of canbusd for fish.
+# Completions of canbusd and its tools for fish.
 
 # The file of faults behind the `@` of a bus.
 function __canbusd_scripts
@@ -37,3 +37,9 @@ complete -c canbusd -n $serves -x -l sessions -d "How many sessions before the e
 complete -c canbusd -n $serves -x -l pace -d "Milliseconds of rest after each attempt"
 complete -c canbusd -n $serves -x -l out -a "(__fish_complete_directories)" -d "Where logs and records go"
 complete -c canbusd -n $serves -l until-eof -d "End at the end of standard input"
+
+# The tools: the options that their help has, and files.
+for tool in canbusd-report candump2bench
+    complete -c $tool -n "string match --quiet -- '-*' (commandline --current-token)" \
+        -a "($tool --help | string match --all --regex -- '--[a-z-]+' | sort --unique)"
+end

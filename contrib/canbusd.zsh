@@ -1,7 +1,12 @@
-#compdef canbusd
-# Completions of canbusd for zsh.
+#compdef canbusd canbusd-report candump2bench
+# Completions of canbusd and its tools for zsh.
 
 _canbusd() {
+    # The tools: the options that their help has, and files.
+    if [[ $service != canbusd ]]; then
+        _gnu_generic
+        return
+    fi
     local curcontext=$curcontext state line
     typeset -A opt_args
     _arguments -C \

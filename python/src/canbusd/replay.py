@@ -1,13 +1,15 @@
-"""Replays the events of a record by the rules of docs/DEFINITIONS.md, and keeps what there is to draw.
+"""Replays the events of a record by the rules of docs/DEFINITIONS.md, and keeps what happened.
 
-The program is not asked. Each reply is compared with the one that the rules give. scripts/replay.py, which the checks of
-the audit use, is another replay that shares nothing with this one: both are to stay.
+The program is not asked, and nothing of it is used: each reply in the record is compared with the one that the rules give.
+So a replay that comes to its end is an audit of the record by a second implementation.
 """
 
 from collections import deque
+from dataclasses import dataclass
+from typing import Deque, Dict, List, Optional, Sequence, Set, Tuple
 
-from canbusd_tools.frames import Frame, error_frame
-from canbusd_tools.record import BadRecord
+from canbusd.frames import EXTENDED, REMOTE, Frame, error_frame, is_fd
+from canbusd.record import Attempt, BadRecord, Item, Record
 
 OFF, PASSIVE, WARNING = 256, 128, 96
 MOST_SOCKETS = 64
@@ -17,36 +19,70 @@ AT_THE_HIT = {"stuff": (0x04, 0x0A), "crc": (0x00, 0x08), "form": (0x02, 0x1B)}
 # A change of state's byte 1, by the severity of a side: active, warning, passive.
 TRANSMIT_CODES, RECEIVE_CODES = (0x40, 0x08, 0x20), (0x40, 0x04, 0x10)
 
+Counts = Tuple[int, int]
 
-def severity(count):
+
+def severity(count: int) -> int:
     """How bad a count is: 0 active, 1 warning, 2 passive, 3 off."""
     return (count >= WARNING) + (count >= PASSIVE) + (count >= OFF)
 
 
-class Item:
-    """What an interface put to a socket: a frame, and what became of it."""
+class Spelled:
+    """A data, remote or FD frame as the record spells it, with what arbitration and filters look at."""
+
+    __slots__ = ("text", "word", "bits", "is_fd")
+
+    def __init__(self, text: str) -> None:
+        identifier, payload = text.split("#", 1)
+        remote = payload.startswith("R")
+        self.text = text
+        self.is_fd = is_fd(text)
+        self.word = int(identifier, 16) | (EXTENDED if len(identifier) == 8 else 0) | (REMOTE if remote else 0)
+        self.bits = arbitration_bits(identifier, "1" if remote else "0")
+
+
+def arbitration_bits(identifier: str, rtr: str) -> str:
+    """The bits that arbitration compares (Bosch CAN 2.0), with blanks between fields, at the same places in all frames.
+
+    An FD frame has those of a data frame.
+    """
+    number = int(identifier, 16)
+    if len(identifier) == 3:
+        return f"{number:011b} {rtr}0"
+    bits = f"{number:029b}"
+    return f"{bits[:11]} 11 {bits[11:]} {rtr}"
+
+
+class Delivery:
+    """What an interface handed to a socket: a frame, and what became of it."""
 
     __slots__ = ("socket", "step", "text", "sender", "number", "moment", "fate", "taken_after")
 
-    def __init__(self, socket, step, text, sender, number, moment):
+    def __init__(
+        self, socket: "Socket", step: int, text: str, sender: int, number: Optional[int], moment: str
+    ) -> None:
         self.socket, self.step, self.text = socket, step, text
+        # Its number at its sender; None for an error message frame.
         self.sender, self.number, self.moment = sender, number, moment
         # waiting, taken, unread (at the close) or dropped.
         self.fate = "waiting"
         # The last step before it was taken or its socket closed.
-        self.taken_after = None
+        self.taken_after: Optional[int] = None
 
 
 class Socket:
-    def __init__(self, number, iface, capacity, opened_after):
+    """A raw socket: its filters, its options, and what waits in it."""
+
+    def __init__(self, number: int, iface: int, capacity: int, opened_after: int) -> None:
         self.number, self.iface, self.capacity = number, iface, capacity
-        self.opened_after, self.closed_after = opened_after, None
+        self.opened_after = opened_after
+        self.closed_after: Optional[int] = None
         self.filters = [(0, 0)]
         self.options = {"loopback": 1, "recvown": 0, "join": 0, "errmask": 0, "fd": 0}
-        self.queue = deque()
+        self.queue: Deque[Delivery] = deque()
         self.queued = self.dropped = self.taken = 0
 
-    def passes(self, frame):
+    def passes(self, frame: Spelled) -> bool:
         """Whether a frame passes the filters, and an FD frame the option for such."""
         if frame.is_fd and not self.options["fd"]:
             return False
@@ -55,7 +91,8 @@ class Socket:
         ]
         return bool(matches) and (all(matches) if self.options["join"] else any(matches))
 
-    def put(self, item):
+    def put(self, item: Delivery) -> None:
+        """Queues an item, or drops it where there is no room."""
         if len(self.queue) == self.capacity:
             item.fate = "dropped"
             self.dropped += 1
@@ -69,40 +106,49 @@ class Sent:
 
     __slots__ = ("number", "frame", "socket", "loops_back")
 
-    def __init__(self, number, frame, socket, loops_back):
+    def __init__(self, number: int, frame: Spelled, socket: Socket, loops_back: int) -> None:
         self.number, self.frame, self.socket, self.loops_back = number, frame, socket, loops_back
 
 
 class Interface:
-    def __init__(self):
+    """An interface: its error counters, its transmit queue and its counts."""
+
+    def __init__(self) -> None:
         self.tec = self.rec = 0
-        self.waiting = deque()
+        self.waiting: Deque[Sent] = deque()
         self.sent = self.done = self.lost = self.refused = 0
         # How many attempts there were since it went bus off; None where it is not off.
-        self.attempts_off = None
+        self.attempts_off: Optional[int] = None
 
-    def is_off(self):
+    def is_off(self) -> bool:
+        """Whether it is bus off."""
         return self.tec >= OFF
 
-    def is_passive(self):
+    def is_passive(self) -> bool:
+        """Whether it is error passive."""
         return self.state() == 2
 
-    def state(self):
+    def state(self) -> int:
+        """0 active, 1 warning, 2 passive, 3 off."""
         return severity(max(self.tec, self.rec))
 
-    def restart(self):
+    def restart(self) -> None:
+        """Back from bus off."""
         self.tec = self.rec = 0
         self.attempts_off = None
 
-    def receive_error(self):
+    def receive_error(self) -> None:
+        """Counts a fault that it saw as a receiver."""
         self.rec = min(self.rec + 1, 255)
 
-    def good_reception(self):
+    def good_reception(self) -> None:
+        """Counts a frame that it received."""
         self.rec = 127 if self.rec > 127 else max(self.rec - 1, 0)
 
 
+@dataclass
 class Step:
-    """A tried attempt or a restart: `kind` is done, lastbit, destroyed, noack or restart.
+    """A tried attempt or a restart. Interfaces are numbers here.
 
     An attempt that restarts interfaces is followed by a step for each, with the same entry.
     """
@@ -122,70 +168,88 @@ class Step:
         "contenders",
         "counts",
         "waiting",
+        "idle",
     )
-
-    def __init__(self, kind, entry, moment, iface):
-        self.kind, self.entry, self.moment, self.iface = kind, entry, moment, iface
-        # Its number among the attempts; of a restart that of the next attempt.
-        self.attempt = 0
-        self.number, self.text, self.verdict = 0, "", ""
-        self.accepted, self.off, self.hit = [], [], []
-        # The frame of each interface that takes part, as pairs.
-        self.contenders = []
-        # Behind the step: transmit and receive count of each interface. Before it: how many frames wait at each.
-        self.counts, self.waiting = [], []
+    #: done, lastbit, destroyed, noack or restart.
+    kind: str
+    entry: int
+    moment: str
+    #: The winner, or who was restarted.
+    iface: int
+    #: Its number among the attempts; of a restart that of the next attempt.
+    attempt: int
+    number: int
+    text: str
+    verdict: str
+    accepted: List[int]
+    off: List[int]
+    hit: List[int]
+    #: The frame of each interface that takes part.
+    contenders: List[Tuple[int, Spelled]]
+    #: After the step: transmit and receive count of each interface.
+    counts: List[Counts]
+    #: Before the step: how many frames wait at each interface.
+    waiting: List[int]
+    #: How many attempts were idle since the step before. One that restarts interfaces counts for the first of them.
+    idle: int
 
 
 class Run:
     """The replay of a record: its steps, its items, and its interfaces and sockets as they are in the end."""
 
-    def __init__(self, record):
+    def __init__(self, record: Record) -> None:
         self.record = record
         self.ifaces = [Interface() for _ in range(record.ifaces)]
-        self.sockets, self.steps, self.items = [], [], []
-        self.open_sockets = [[] for _ in self.ifaces]
-        self.frames = {}
+        self.sockets: List[Socket] = []
+        self.steps: List[Step] = []
+        self.items: List[Delivery] = []
+        self.open_sockets: List[List[Socket]] = [[] for _ in self.ifaces]
+        self.frames: Dict[str, Spelled] = {}
         self.attempts = self.idle = 0
-        self.moment = None
+        # How many attempts were idle since the last step.
+        self.idle_since = 0
+        self.moment = ""
         for number, (event, reply) in enumerate(record.entries()):
             if number >= record.limit:
-                raise BadRecord(f"entry {number}: past the limit of {record.limit} entries")
-            legal = getattr(self, "on_" + event[0])(number, *event[1:])
+                raise wrong(number, f"past the limit of {record.limit} entries")
+            legal: List[str] = getattr(self, "on_" + event[0])(number, *event[1:])
             if legal != reply:
-                raise BadRecord(f"entry {number}: wrong: `{' '.join(reply)}`; legal is `{' '.join(legal)}`")
+                raise wrong(number, f"wrong: `{' '.join(reply)}`; legal is `{' '.join(legal)}`")
 
-    def frame(self, text):
-        """The frame of this text, one for all places where it stands."""
+    def frame(self, text: str) -> Spelled:
+        """The frame of this text, one for all places where it is."""
         if text not in self.frames:
-            self.frames[text] = Frame(text)
+            self.frames[text] = Spelled(text)
         return self.frames[text]
 
-    def open_socket(self, number):
+    def open_socket(self, number: str) -> Optional[Socket]:
         """The socket of this number, if it is open."""
         if int(number) < len(self.sockets):
             socket = self.sockets[int(number)]
             return socket if socket.closed_after is None else None
         return None
 
-    def last_step(self):
+    def last_step(self) -> int:
+        """The number of the last step."""
         return len(self.steps) - 1
 
-    # Calls of sockets: each answers the words of its reply.
+    # Calls of sockets: each returns the words of its reply.
 
-    def on_open(self, _entry, iface, capacity):
-        iface, capacity = int(iface), int(capacity)
-        if iface >= len(self.ifaces):
+    def on_open(self, _entry: int, iface: str, capacity: str) -> List[str]:
+        """A socket is opened."""
+        if int(iface) >= len(self.ifaces):
             return ["no-interface"]
-        if not 1 <= capacity <= 65536:
+        if not 1 <= int(capacity) <= 65536:
             return ["bad-capacity"]
         if sum(map(len, self.open_sockets)) == MOST_SOCKETS:
             return ["too-many-sockets"]
-        socket = Socket(len(self.sockets), iface, capacity, self.last_step())
+        socket = Socket(len(self.sockets), int(iface), int(capacity), self.last_step())
         self.sockets.append(socket)
-        self.open_sockets[iface].append(socket)
+        self.open_sockets[int(iface)].append(socket)
         return ["socket", str(socket.number)]
 
-    def on_close(self, _entry, number):
+    def on_close(self, _entry: int, number: str) -> List[str]:
+        """A socket is closed; what waits in it stays unread."""
         socket = self.open_socket(number)
         if socket is None:
             return ["no-socket"]
@@ -197,7 +261,8 @@ class Run:
         self.open_sockets[socket.iface].remove(socket)
         return ["closed", str(unread), str(socket.dropped)]
 
-    def on_filters(self, _entry, number, _count, *words):
+    def on_filters(self, _entry: int, number: str, _count: str, *words: str) -> List[str]:
+        """A socket gets other filters."""
         socket = self.open_socket(number)
         if socket is None:
             return ["no-socket"]
@@ -205,14 +270,16 @@ class Run:
         socket.filters = list(zip(numbers[::2], numbers[1::2]))
         return ["ok"]
 
-    def on_option(self, _entry, number, kind, value):
+    def on_option(self, _entry: int, number: str, kind: str, value: str) -> List[str]:
+        """An option of a socket is set."""
         socket = self.open_socket(number)
         if socket is None:
             return ["no-socket"]
         socket.options[kind] = int(value, 16)
         return ["ok"]
 
-    def on_send(self, _entry, number, text):
+    def on_send(self, _entry: int, number: str, text: str) -> List[str]:
+        """A frame goes into a transmit queue."""
         socket = self.open_socket(number)
         if socket is None:
             return ["no-socket"]
@@ -228,7 +295,8 @@ class Run:
         iface.sent += 1
         return ["number", str(iface.sent - 1)]
 
-    def on_receive(self, _entry, number):
+    def on_receive(self, _entry: int, number: str) -> List[str]:
+        """A socket takes its oldest item."""
         socket = self.open_socket(number)
         if socket is None:
             return ["no-socket"]
@@ -241,31 +309,33 @@ class Run:
             return ["error", str(item.sender), item.text, item.moment]
         return ["data", str(item.sender), str(item.number), item.text, item.moment]
 
-    def on_restart(self, entry, number, moment):
-        number = int(number)
-        if number >= len(self.ifaces):
+    def on_restart(self, entry: int, number: str, moment: str) -> List[str]:
+        """An interface is restarted by hand."""
+        if int(number) >= len(self.ifaces):
             return ["no-interface"]
-        if not self.ifaces[number].is_off():
+        if not self.ifaces[int(number)].is_off():
             return ["not-bus-off"]
-        self.restart(entry, number, moment)
+        self.restart(entry, int(number), moment)
         return ["ok"]
 
-    def restart(self, entry, number, moment):
-        step = self.begin(Step("restart", entry, moment, number))
+    def restart(self, entry: int, number: int, moment: str) -> None:
+        """Restarts an interface."""
+        step = self.begin("restart", entry, moment, number)
         self.ifaces[number].restart()
         self.post_error(number, 0x100, bytes(8))
         self.end(step)
 
     # Attempts.
 
-    def on_attempt(self, entry, moment, verdict):
+    def on_attempt(self, entry: int, moment: str, verdict: str) -> List[str]:
+        """An attempt, and the restarts in its end."""
         due = self.count_attempt()
         reply = self.attempt(entry, moment, verdict)
         for number in due:
             self.restart(entry, number, moment)
         return [*reply, "restarted", shown(due)] if due else reply
 
-    def count_attempt(self):
+    def count_attempt(self) -> List[int]:
         """One attempt more for each interface that is off; those that it restarts in the end."""
         due = []
         for number, iface in enumerate(self.ifaces):
@@ -275,7 +345,8 @@ class Run:
                     due.append(number)
         return due
 
-    def attempt(self, entry, moment, verdict):
+    def attempt(self, entry: int, moment: str, verdict: str) -> List[str]:
+        """The frame that wins arbitration is tried."""
         contenders = [
             (number, iface.waiting[0].frame)
             for number, iface in enumerate(self.ifaces)
@@ -283,11 +354,12 @@ class Run:
         ]
         if not contenders:
             self.idle += 1
+            self.idle_since += 1
             return ["idle"]
         # Of equal bits the first, which is the lower number, wins.
         winner = min(contenders, key=lambda contender: contender[1].bits)[0]
         sent = self.ifaces[winner].waiting[0]
-        step = self.begin(Step("", entry, moment, winner))
+        step = self.begin("", entry, moment, winner)
         step.number, step.text, step.verdict, step.contenders = sent.number, sent.frame.text, verdict, contenders
         before = [(iface.tec, iface.rec) for iface in self.ifaces]
         receivers = [i for i, iface in enumerate(self.ifaces) if i != winner and not iface.is_off()]
@@ -300,31 +372,31 @@ class Run:
         self.end(step)
         return ["tried", str(winner), str(step.number), step.text, step.kind, shown(step.accepted), shown(step.off)]
 
-    def judge(self, step, receivers):
+    def judge(self, step: Step, receivers: List[int]) -> None:
         """What becomes of an attempt, and of the error counters."""
         winner, verdict = self.ifaces[step.iface], step.verdict.split(":")
         if len(verdict) > 1:
             named = int(verdict[1], 16)
             step.hit = [i for i in receivers if named >> i & 1]
         unhurt = [i for i in receivers if i not in step.hit]
-        wrong, good = step.hit, []
+        wrong_ones, good_ones = step.hit, []
         if verdict[0].startswith("global") or not all(self.ifaces[i].is_passive() for i in step.hit):
-            step.kind, wrong = "destroyed", receivers
+            step.kind, wrong_ones = "destroyed", receivers
             winner.tec += 8
         elif not self.record.always and not unhurt:
             step.kind = "noack"
             winner.tec += 0 if winner.is_passive() else 8
         else:
             step.kind = "lastbit" if verdict[0] == "lastbit" else "done"
-            step.accepted = good = unhurt
+            step.accepted = good_ones = unhurt
             winner.tec = winner.tec + 8 if step.kind == "lastbit" else max(winner.tec - 1, 0)
-        for i in wrong:
+        for i in wrong_ones:
             self.ifaces[i].receive_error()
-        for i in good:
+        for i in good_ones:
             self.ifaces[i].good_reception()
         step.off = [step.iface] if winner.is_off() else []
 
-    def leave_queue(self, step):
+    def leave_queue(self, step: Step) -> None:
         """A frame that is done leaves its queue; a winner that goes off loses all of its frames."""
         winner = self.ifaces[step.iface]
         if step.kind == "done":
@@ -335,15 +407,15 @@ class Run:
             winner.waiting.clear()
             winner.attempts_off = 0
 
-    def post_frame(self, step, sent):
+    def post_frame(self, step: Step, sent: Sent) -> None:
         """Puts the frame to the sockets where it was accepted, and looped back."""
         looped = [step.iface] if step.kind == "done" and sent.loops_back else []
         for number in sorted(step.accepted + looped):
             for socket in self.open_sockets[number]:
                 if socket.passes(sent.frame) and (socket is not sent.socket or socket.options["recvown"]):
-                    self.put(Item(socket, len(self.steps), step.text, step.iface, step.number, step.moment))
+                    self.put(Delivery(socket, len(self.steps), step.text, step.iface, step.number, step.moment))
 
-    def post_fault(self, step, number, is_receiver):
+    def post_fault(self, step: Step, number: int, is_receiver: bool) -> None:
         """An error message frame for the fault that an interface saw in the attempt, where faults are reported."""
         kind, _, local = step.verdict.partition(":")[0].partition("-")
         place = None
@@ -362,7 +434,7 @@ class Run:
             nobody = step.kind == "noack" and number == step.iface
             self.post_error(number, 0x0A0 if nobody else 0x088, (0, 0, *place, 0, 0, 0, 0))
 
-    def post_state(self, number, before):
+    def post_state(self, number: int, before: Counts) -> None:
         """An error message frame for a change of an interface's state."""
         iface = self.ifaces[number]
         if iface.state() == severity(max(before)):
@@ -376,29 +448,96 @@ class Run:
         )
         self.post_error(number, 0x204, (0, code, 0, 0, 0, 0, iface.tec, iface.rec))
 
-    def post_error(self, number, error_class, data):
+    def post_error(self, number: int, error_class: int, data: Sequence[int]) -> None:
+        """Puts an error message frame to the sockets that ask for its class."""
         text = None
         for socket in self.open_sockets[number]:
             if socket.options["errmask"] & error_class:
                 text = text or error_frame(error_class, data)
-                self.put(Item(socket, len(self.steps), text, number, None, self.moment))
+                self.put(Delivery(socket, len(self.steps), text, number, None, self.moment))
 
-    def put(self, item):
+    def put(self, item: Delivery) -> None:
+        """Keeps an item, and puts it to its socket."""
         self.items.append(item)
         item.socket.put(item)
 
-    def begin(self, step):
-        self.moment = step.moment
-        step.attempt = self.attempts
-        step.waiting = [len(iface.waiting) for iface in self.ifaces]
-        return step
+    def begin(self, kind: str, entry: int, moment: str, iface: int) -> Step:
+        """A new step."""
+        self.moment = moment
+        waiting = [len(one.waiting) for one in self.ifaces]
+        idle, self.idle_since = self.idle_since, 0
+        return Step(kind, entry, moment, iface, self.attempts, 0, "", "", [], [], [], [], [], waiting, idle)
 
-    def end(self, step):
+    def end(self, step: Step) -> None:
+        """Keeps a step that has happened."""
         step.counts = [(iface.tec, iface.rec) for iface in self.ifaces]
         self.steps.append(step)
         self.attempts += step.kind != "restart"
 
+    # What happened, with the names of interfaces.
 
-def shown(numbers):
+    def named(self, numbers: Sequence[int]) -> Tuple[str, ...]:
+        """The names of these interfaces."""
+        return tuple(self.record.names[number] for number in numbers)
+
+    def fault_named(self, verdict: str) -> str:
+        """A verdict of the record in the words of a fault script: `local crc can1` for `local-crc:0002`."""
+        kind, _, digits = verdict.partition(":")
+        members = [name for i, name in enumerate(self.record.names) if digits and int(digits, 16) >> i & 1]
+        return " ".join([*kind.split("-"), *([",".join(members)] if digits else [])])
+
+    def attempts_told(self) -> List[Attempt]:
+        """The attempts of the run, with the restarts in the end of each."""
+        restarts: Dict[int, List[int]] = {}
+        for step in self.steps:
+            if step.kind == "restart":
+                restarts.setdefault(step.entry, []).append(step.iface)
+        attempts: List[Attempt] = []
+        seen: Set[int] = set()
+        for step in self.steps:
+            again = restarts.get(step.entry, [])
+            if step.kind != "restart":
+                attempts.append(self.told(step, again))
+            elif step.entry not in seen and self.record.lines[step.entry].startswith("attempt "):
+                fault = self.fault_named(self.record.lines[step.entry].split(" ")[2])
+                attempts.append(Attempt(float(step.moment), "", 0, "", "idle", fault, (), (), self.named(again)))
+            seen.add(step.entry)
+        return attempts
+
+    def told(self, step: Step, restarted: Sequence[int] = ()) -> Attempt:
+        """A step that is an attempt."""
+        return Attempt(
+            float(step.moment),
+            self.record.names[step.iface],
+            step.number,
+            step.text,
+            step.kind,
+            self.fault_named(step.verdict),
+            self.named(step.accepted),
+            self.named(step.off),
+            self.named(restarted),
+        )
+
+    def items_told(self) -> List[Item]:
+        """What each socket received or lost."""
+        names = self.record.names
+        return [
+            Item(
+                names[item.socket.iface],
+                item.socket.number,
+                names[item.sender],
+                Frame.parse(item.text, float(item.moment)),
+                item.fate,
+            )
+            for item in self.items
+        ]
+
+
+def wrong(entry: int, message: str) -> BadRecord:
+    """The fault of the entry of this number, from 0."""
+    return BadRecord(f"entry {entry}: {message}", f"entry {entry}: wrong")
+
+
+def shown(numbers: Sequence[int]) -> str:
     """A set of interfaces as a record spells it."""
     return f"{sum(1 << number for number in numbers):04X}"

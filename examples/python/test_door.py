@@ -1,0 +1,108 @@
+"""What a door has to survive: frames that come twice, that it misses, that lose arbitration, and bus off.
+
+    pip install ./python
+    python3 -m pytest examples/python
+
+The fixtures are of the package's plugin for pytest. `canbusd` is a server, here with two nodes, and at the end of each test
+its record is audited. `canbusd_bench` is a bus without clocks, on which nothing happens but in `attempt`.
+"""
+
+import pytest
+from door import COMMAND, REPORT, REQUEST, Door, message, step
+
+from canbusd import Faults
+
+CLOSED, OPEN = 0, 1
+nodes = pytest.mark.canbusd("tester,door")
+
+
+@pytest.fixture
+def tester(canbusd):
+    with canbusd.bus("tester", error_frames=False) as bus:
+        yield bus
+
+
+@pytest.fixture
+def door_bus(canbusd):
+    with canbusd.bus("door") as bus:
+        yield bus
+
+
+def expect(bus, identifier, *data):
+    """The next message has to be this one."""
+    received = bus.recv(timeout=5)
+    assert (received.arbitration_id, tuple(received.data)) == (identifier, data)
+
+
+@nodes
+def test_it_opens(tester, door_bus):
+    door = Door()
+    tester.send(message(COMMAND, 0, OPEN))
+    step(door, door_bus)
+    expect(tester, REPORT, 0, OPEN)
+    assert door.is_open
+
+
+# The tester's first frame fails in its last bit: the door has it, the tester sends it again.
+@pytest.mark.canbusd("tester,door", faults=Faults().last_bit(0))
+def test_a_command_that_arrives_twice_is_obeyed_once(tester, door_bus):
+    door = Door()
+    tester.send(message(COMMAND, 0, OPEN))
+    step(door, door_bus)
+    step(door, door_bus)
+    expect(tester, REPORT, 0, OPEN)
+    # One report, and no more.
+    assert door_bus.stats().sent == 1
+    assert door.moves == 1
+
+
+# 17 failed attempts make the door error passive. So it can't destroy the command that it sees wrongly, and misses it.
+@pytest.mark.canbusd("tester,door", faults=Faults().destroyed(range(17)).local("crc", ["door"], 18))
+def test_a_missed_command_is_asked_for(canbusd, tester, door_bus):
+    door = Door()
+    door_bus.send(door.report())
+    expect(tester, REPORT, 255, CLOSED)
+    for number, wanted in enumerate([OPEN, CLOSED]):
+        tester.send(message(COMMAND, number, wanted))
+    # It hears of warning and passive, and then the second command.
+    for _ in range(3):
+        step(door, door_bus)
+    expect(tester, REQUEST, 0)
+    for number, wanted in enumerate([OPEN, CLOSED]):
+        tester.send(message(COMMAND, number, wanted))
+        step(door, door_bus)
+        expect(tester, REPORT, number, wanted)
+    assert (door.moves, door.is_open) == (2, False)
+
+
+# The door's first report is destroyed 32 times: 32 times 8 is 256, and the door is bus off.
+@pytest.mark.canbusd("tester,door", faults=Faults().destroyed(range(1, 33)))
+def test_it_comes_back_from_bus_off(canbusd, tester, door_bus):
+    door = Door()
+    tester.send(message(COMMAND, 0, OPEN))
+    # The command; then error warning, error passive and bus off; then its restart.
+    for _ in range(5):
+        step(door, door_bus)
+    expect(tester, REPORT, 0, OPEN)
+    assert door_bus.error_counters().state == "active"
+
+    canbusd.stop()
+    attempts = canbusd.record("tester").attempts
+    assert [attempt.outcome for attempt in attempts] == ["done"] + 32 * ["destroyed"] + ["done"]
+    assert attempts[32].off == ("door",)
+
+
+@pytest.mark.canbusd("tester,door,other")
+def test_a_report_that_loses_arbitration_is_sent_in_the_end(canbusd_bench):
+    tester, door_session, other = (canbusd_bench.open(name) for name in canbusd_bench.names)
+    door = Door()
+    tester.send(message(COMMAND, 0, OPEN))
+    canbusd_bench.attempt()
+    for received in door_session.receive():
+        for answer in door.handle(received):
+            door_session.send(answer)
+    # While the report waits others have more urgent things to say.
+    for number in range(3):
+        other.send(0x0FF, bytes([number]))
+    assert [attempt.winner for attempt in canbusd_bench.run()] == ["other", "other", "other", "door"]
+    assert [str(frame) for frame in tester.receive()] == ["0FF#00", "0FF#01", "0FF#02", "200#0001"]

@@ -1,0 +1,139 @@
+#!/usr/bin/env python3
+"""Measures the interface `canbusd` beside python-can's `virtual` and its `socketcand` client, in one run.
+
+    CANBUSD=/path/to/canbusd PYTHONPATH=python/src python3 python/benchmarks/speed.py
+
+Round trips: a frame there and one back, in one thread. Latency: half of such a round trip, its median and its 99th
+percentile. Bursts: frames that one thread sends and another receives, in parts, the next once the last frame of a part has
+arrived; the run ends at the first loss. Of several runs the best counts, and all losses.
+"""
+
+import argparse
+import statistics
+import threading
+import time
+from contextlib import contextmanager
+
+import can
+
+from canbusd.server import Server
+
+RUNS = 3
+# As many as python-can's client of socketcand loses none of, and more.
+FEW, SOME = 15, 1000
+
+
+def frame(number):
+    return can.Message(arbitration_id=number & 0x7FF, data=number.to_bytes(8, "big"), is_extended_id=False)
+
+
+@contextmanager
+def virtual():
+    with can.Bus(interface="virtual", channel="speed") as one, can.Bus(interface="virtual", channel="speed") as other:
+        yield one, other
+
+
+@contextmanager
+def serving():
+    with Server("can0,can1", pace_ms=0, txqueue=1024, rxqueue=65536, limit=1 << 23) as server:
+        yield server
+
+
+@contextmanager
+def socketcand():
+    with serving() as server:
+        host, port = server.address.split(":")
+        where = {"interface": "socketcand", "host": host, "port": int(port)}
+        with can.Bus(channel="can0", **where) as one, can.Bus(channel="can1", **where) as other:
+            yield one, other
+
+
+@contextmanager
+def canbusd():
+    with serving() as server, server.bus("can0") as one, server.bus("can1") as other:
+        yield one, other
+
+
+def round_trips(one, other, count):
+    """How long each of these round trips takes."""
+    took = []
+    for number in range(count):
+        begun = time.perf_counter()
+        one.send(frame(number))
+        other.send(other.recv(10))
+        assert one.recv(10) is not None
+        took.append(time.perf_counter() - begun)
+    return took
+
+
+def send_each(bus, frames):
+    for one in frames:
+        bus.send(one)
+
+
+def send_together(bus, frames):
+    bus.send_many(frames)
+
+
+def burst(one, other, count, part, send):
+    """How many frames a second arrived, and how many were lost."""
+    frames = [frame(number) for number in range(count)]
+    got = sent = 0
+    arrived = threading.Semaphore(0)
+
+    def receive():
+        nonlocal got
+        while got < count and other.recv(2) is not None:
+            got += 1
+            if got % part == 0:
+                arrived.release()
+
+    receiver = threading.Thread(target=receive)
+    receiver.start()
+    begun = time.perf_counter()
+    for start in range(0, count, part):
+        send(one, frames[start : start + part])
+        sent += part
+        if not arrived.acquire(timeout=3):
+            break
+    took = time.perf_counter() - begun
+    receiver.join()
+    return got / took, sent - got
+
+
+def measured(interface, count, part, send):
+    """The best of several runs: round trips a second, latencies, frames a second, and the frames lost in all."""
+    rows, lost = [], 0
+    for _ in range(RUNS):
+        with interface() as (one, other):
+            took = sorted(round_trips(one, other, count // 10))
+            rate, missed = burst(one, other, count // part * part, part, send)
+            lost += missed
+            half = statistics.median(took) / 2, took[len(took) * 99 // 100] / 2
+            rows.append((len(took) / sum(took), *(seconds * 1e6 for seconds in half), rate))
+    best = max(row[0] for row in rows), min(row[1] for row in rows), min(row[2] for row in rows), max(row[3] for row in rows)
+    return *best, lost
+
+
+def main():
+    parser = argparse.ArgumentParser(description=__doc__, formatter_class=argparse.RawDescriptionHelpFormatter)
+    parser.add_argument("--frames", type=int, default=30000, metavar="N", help="frames of a burst (default 30000)")
+    count = parser.parse_args().frames
+    ways = [
+        ("virtual", virtual, count, send_each),
+        ("socketcand", socketcand, FEW, send_each),
+        ("socketcand", socketcand, SOME, send_each),
+        ("canbusd, send", canbusd, FEW, send_each),
+        ("canbusd, send", canbusd, count, send_each),
+        ("canbusd, send_many", canbusd, FEW, send_together),
+        ("canbusd, send_many", canbusd, count, send_together),
+    ]
+    print("| Interface | Round trips/s | Latency, median / 99% | Frames/s | in parts of | Lost |")
+    print("|---|---|---|---|---|---|")
+    for name, interface, part, send in ways:
+        trips, half, worst, rate, lost = measured(interface, count, part, send)
+        print(f"| {name} | {trips:,.0f} | {half:.0f} / {worst:.0f} µs | {rate:,.0f} | {part:,} | {lost} |", flush=True)
+
+
+if __name__ == "__main__":
+    main()

@@ -1,0 +1,69 @@
+"""canbusd from Python: simulated CAN buses with faults, error frames and bus off.
+
+    with canbusd.Server("can0,can1", faults=canbusd.Faults().last_bit(0)) as server:
+        with server.bus("can0") as can0, server.bus("can1") as can1:
+            can0.send(can.Message(arbitration_id=0x123, data=[1, 2], is_extended_id=False))
+            first, again = can1.recv(5), can1.recv(5)
+
+What is named here is imported when it is first used: only CanbusdBus and logs need python-can, and nothing needs pytest.
+"""
+
+import importlib
+from typing import TYPE_CHECKING, Any, List
+
+if TYPE_CHECKING:
+    from canbusd._program import ProgramNotFound
+    from canbusd._protocol import ErrorCounters, Stats
+    from canbusd.bench import Bench, BenchError, Refused, Session
+    from canbusd.bus import CanbusdBus
+    from canbusd.faults import Faults
+    from canbusd.frames import BadFrame, Frame
+    from canbusd.record import Attempt, BadRecord, Item, Record, read_record
+    from canbusd.server import Result, Server, ServerError
+
+__version__ = "0.1.0"
+
+__all__ = [
+    "Attempt",
+    "BadFrame",
+    "BadRecord",
+    "Bench",
+    "BenchError",
+    "CanbusdBus",
+    "ErrorCounters",
+    "Faults",
+    "Frame",
+    "Item",
+    "ProgramNotFound",
+    "Record",
+    "Refused",
+    "Result",
+    "Server",
+    "ServerError",
+    "Session",
+    "Stats",
+    "read_record",
+]
+
+_HOMES = {
+    "_program": ["ProgramNotFound"],
+    "_protocol": ["ErrorCounters", "Stats"],
+    "bench": ["Bench", "BenchError", "Refused", "Session"],
+    "bus": ["CanbusdBus"],
+    "faults": ["Faults"],
+    "frames": ["BadFrame", "Frame"],
+    "record": ["Attempt", "BadRecord", "Item", "Record", "read_record"],
+    "server": ["Result", "Server", "ServerError"],
+}
+
+
+def __getattr__(name: str) -> Any:
+    for module, names in _HOMES.items():
+        if name in names:
+            globals()[name] = found = getattr(importlib.import_module(f"canbusd.{module}"), name)
+            return found
+    raise AttributeError(f"module {__name__!r} has no attribute {name!r}")
+
+
+def __dir__() -> List[str]:
+    return sorted([*globals(), *__all__])

@@ -1,0 +1,68 @@
+"""What the commands share: how a fault is reported, and the words that name a record and its interfaces."""
+
+import argparse
+import gc
+import os
+import signal
+import sys
+from typing import Callable, Optional, Sequence, Tuple
+
+from canbusd.record import BadRecord, read_record
+from canbusd.replay import Run
+
+
+def carry_out(work: Callable[[], Optional[int]], name: str) -> None:
+    """Calls a command's work, and exits. A fault is reported in one line on standard error, with status 1.
+
+    Where the reader of standard output goes, as `head` does, and at Ctrl-C the command ends silently, as others do.
+    """
+    signal.signal(signal.SIGINT, signal.SIG_DFL)
+    # A long run is many objects and no cycles.
+    gc.disable()
+    try:
+        status = work()
+        sys.stdout.flush()
+    except BrokenPipeError:
+        forget_output()
+        sys.exit(128 + signal.SIGPIPE)
+    except OSError as fault:
+        forget_output()
+        sys.exit(f"{name}: {f'{fault.filename}: ' if fault.filename else ''}{fault.strerror or fault}")
+    except ValueError as fault:
+        sys.exit(f"{name}: {fault}")
+    except Exception as fault:
+        if not is_can_error(fault):
+            raise
+        sys.exit(f"{name}: {fault}")
+    sys.exit(status)
+
+
+def forget_output() -> None:
+    """What could not be written is not tried again."""
+    os.dup2(os.open(os.devnull, os.O_WRONLY), sys.stdout.fileno())
+
+
+def is_can_error(fault: Exception) -> bool:
+    """Whether this is a fault of python-can, which is imported only where a command needs it."""
+    can = sys.modules.get("can")
+    return can is not None and isinstance(fault, can.CanError)
+
+
+def record_words(parser: argparse.ArgumentParser) -> None:
+    """Adds the words that name a record and its interfaces."""
+    parser.add_argument("record", metavar="RECORD", help="what `canbusd bench --record` or `canbusd serve --out` wrote")
+    parser.add_argument(
+        "--names",
+        metavar="NAME,..",
+        help="the names of the interfaces; without them those in the log beside the "
+        "record (can0.log beside can0.rec), if there is one",
+    )
+
+
+def replayed(path: str, names: Optional[str]) -> Tuple[Run, Sequence[str]]:
+    """The replay of the record in this file, and the names of its interfaces."""
+    try:
+        record = read_record(path, names)
+        return record.run, record.names
+    except BadRecord as fault:
+        raise BadRecord(f"{path}: {fault}") from None

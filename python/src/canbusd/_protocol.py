@@ -1,0 +1,111 @@
+"""The words of a session: its options, its filters and its answers, as the bench and the server read and write them.
+
+Frames are in canbusd.frames: `command_of` and `frame_of`. Nothing here needs python-can.
+"""
+
+from typing import Any, List, Mapping, NamedTuple, Optional, Sequence, Tuple, Union
+
+# What may stand between `<` and `>`.
+LONGEST_MESSAGE = 1024
+ALL_CLASSES = 0x1FFFFFFF
+EXTENDED, INVERTED = 0x80000000, 0x20000000
+
+Filters = Sequence[Mapping[str, Any]]
+
+
+class ErrorCounters(NamedTuple):
+    """How an interface is: its state and its error counts."""
+
+    #: `active`, `warning`, `passive` or `off`.
+    state: str
+    #: The transmit error count.
+    tec: int
+    #: The receive error count.
+    rec: int
+
+
+class Stats(NamedTuple):
+    """Counts of a socket and of its interface."""
+
+    #: Of the socket: frames and error message frames that found room in its receive queue.
+    queued: int
+    #: Of the socket: those that found no room.
+    dropped: int
+    #: Of the socket: those that were received.
+    taken: int
+    #: Of the interface: frames that were accepted for sending; `sent = done + waiting + lost`.
+    sent: int
+    #: Of the interface: frames that were put on the bus.
+    done: int
+    #: Of the interface: frames that wait in the transmit queue.
+    waiting: int
+    #: Of the interface: frames that were lost at bus off.
+    lost: int
+    #: Of the interface: frames that a full transmit queue refused.
+    refused: int
+
+
+def counters_of(answer: str) -> Optional[ErrorCounters]:
+    """Returns what the answer `status passive 128 0` says; None for another message."""
+    words = answer.split()
+    if len(words) != 4 or words[0] != "status":
+        return None
+    return ErrorCounters(words[1], int(words[2]), int(words[3]))
+
+
+def stats_of(answer: str) -> Optional[Stats]:
+    """Returns what the answer `stats 1 0 1 0 0 0 0 0` says; None for another message."""
+    words = answer.split()
+    if len(words) != 9 or words[0] != "stats":
+        return None
+    return Stats(*map(int, words[1:]))
+
+
+def options(
+    *,
+    fd: bool = False,
+    receive_own_messages: bool = False,
+    local_loopback: bool = True,
+    error_frames: Union[bool, int] = True,
+    join_filters: bool = False,
+) -> List[str]:
+    """Returns the messages that give a new session these options.
+
+    `error_frames` is whether error message frames are received, or the mask of their classes.
+    """
+    if error_frames is True:
+        error_frames = ALL_CLASSES
+    if not 0 <= error_frames <= 0xFFFFFFFF:
+        raise ValueError(f"error_frames is a truth value or a mask of 32 bits, not {error_frames!r}")
+    messages = ["errdata 1"]
+    messages += [f"errmask {error_frames:X}"] if error_frames else []
+    messages += ["fdframes 1"] if fd else []
+    messages += ["recvown 1"] if receive_own_messages else []
+    messages += ["loopback 0"] if not local_loopback else []
+    messages += ["join 1"] if join_filters else []
+    return messages
+
+
+def filter_words(one: Mapping[str, Any]) -> Tuple[int, int]:
+    """Returns the identifier word and the mask of a filter of python-can, in the words of linux/can.h.
+
+    Where the filter says `extended`, only frames of that kind pass; data and remote frames pass alike.
+    """
+    identifier, mask = one.get("can_id"), one.get("can_mask")
+    for name, word in (("can_id", identifier), ("can_mask", mask)):
+        if not isinstance(word, int) or not 0 <= word <= 0xFFFFFFFF:
+            raise ValueError(f"{name} of a filter is a number of 32 bits, not {word!r}")
+    assert isinstance(identifier, int) and isinstance(mask, int)
+    if "extended" in one:
+        mask |= EXTENDED
+        identifier = identifier | EXTENDED if one["extended"] else identifier & ~EXTENDED
+    # As candump does: bit 29 is no part of a mask.
+    return identifier, mask & ~INVERTED
+
+
+def filter_message(filters: Optional[Filters]) -> Optional[str]:
+    """Returns the message that sets these filters; None where they don't fit into one. No filters: everything passes."""
+    pairs = [filter_words(one) for one in filters] if filters else [(0, 0)]
+    words = " ".join(f"{identifier:X} {mask:X}" for identifier, mask in pairs)
+    message = f"filter {len(pairs)} {words}"
+    return message if len(message) + 2 <= LONGEST_MESSAGE else None

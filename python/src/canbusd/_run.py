@@ -1,0 +1,90 @@
+"""What Server and Bench share: a folder of its own, and an end."""
+
+import os
+import shutil
+import signal
+import subprocess
+import tempfile
+import weakref
+from pathlib import Path
+from types import TracebackType
+from typing import Optional, Type, TypeVar, Union
+
+from canbusd._program import find_program
+
+Self = TypeVar("Self", bound="Run")
+
+
+class Run:
+    """A run of the program, which leaves its logs and records in `out`, else in a folder that is kept as long as it is."""
+
+    _child: "subprocess.Popen[bytes]"
+
+    def __init__(self, out: Union[str, "os.PathLike[str]", None]) -> None:
+        if out is not None and not os.path.isdir(out):
+            raise ValueError(f"out is a folder that exists, not {os.fspath(out)!r}")
+        self._folder = Path(tempfile.mkdtemp(prefix="canbusd-"))
+        self._remove = weakref.finalize(self, shutil.rmtree, self._folder, ignore_errors=True)
+        self._out = Path(out) if out is not None else self._folder
+
+    @property
+    def said(self) -> str:
+        """What the program has written to standard error so far, such as `canbusd: bus can0: record full`."""
+        return (self._folder / "stderr").read_text(errors="replace").strip()
+
+    def _start(self, *words: str) -> None:
+        """Starts the program with these words; its input and its output are pipes."""
+        with open(self._folder / "stderr", "wb") as errors:
+            # Not in the terminal's foreground: Ctrl-C is this process's, which then ends the program as it should be.
+            self._child = subprocess.Popen(
+                [find_program(), *words],
+                stdin=subprocess.PIPE,
+                stdout=subprocess.PIPE,
+                stderr=errors,
+                bufsize=0,
+                start_new_session=True,
+            )
+        RUNNING.add(self)
+
+    def stop(self) -> object:
+        """Ends the run; logs and records are written."""
+        raise NotImplementedError
+
+    def _close_input(self) -> None:
+        """The end of its input ends the program."""
+        if self._child.stdin is not None:
+            self._child.stdin.close()
+            self._child.stdin = None
+
+    def _signal(self) -> None:
+        """Kills the program, and its launcher where it has one; both are in a session of their own."""
+        try:
+            os.killpg(self._child.pid, signal.SIGKILL)
+        except ProcessLookupError:
+            pass
+
+    def __enter__(self: Self) -> Self:
+        return self
+
+    def __exit__(
+        self, kind: Optional[Type[BaseException]], fault: Optional[BaseException], _: Optional[TracebackType]
+    ) -> None:
+        try:
+            self.stop()
+        except RuntimeError:
+            # What went wrong first is what is raised.
+            if kind is None:
+                raise
+
+
+RUNNING: "weakref.WeakSet[Run]" = weakref.WeakSet()
+
+
+def forget_runs() -> None:
+    """A process that was forked holds no input of a program open, which would keep it from its end."""
+    for run in list(RUNNING):
+        run._close_input()
+    RUNNING.clear()
+
+
+os.register_at_fork(after_in_child=forget_runs)

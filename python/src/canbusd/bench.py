@@ -1,0 +1,348 @@
+"""The bench in a dialogue: a bus without sockets, threads or clocks, so that each run gives the same result.
+
+    with Bench("can0,can1", faults=Faults().last_bit(0)) as bench:
+        sender, receiver = bench.open("can0"), bench.open("can1")
+        sender.send(0x123, b"\\x11\\x22")
+        while bench.attempt():
+            pass
+        assert len(receiver.receive()) == 2
+
+Nothing happens on the bus but in `attempt`. python-can is not needed.
+"""
+
+import os
+import re
+import select
+from pathlib import Path
+from typing import TYPE_CHECKING, Dict, List, Optional, Sequence, Tuple, Union
+
+from canbusd._program import audited
+from canbusd._protocol import ErrorCounters, Filters, Stats, counters_of, filter_message, options, stats_of
+from canbusd._run import RUNNING, Run
+from canbusd._summary import write_page
+from canbusd.faults import Script, script_text, verdicts_of
+from canbusd.frames import Frame, MessageLike, command_of, frame_of, frame_like
+from canbusd.record import Attempt, Record, read_log, read_record
+
+if TYPE_CHECKING:
+    from can.message import Message
+
+#: Seconds after which a bench that says nothing is given up.
+PATIENCE = 30.0
+MOST_SESSIONS = 64
+MESSAGES = re.compile(r"< (.*?) >")
+MOMENT = re.compile(r"[0-9]{1,10}\.[0-9]{6}")
+TRIED = re.compile(
+    r"(?:idle|tried (?P<winner>\S+) (?P<number>\d+) (?P<outcome>\w+) (?P<accepted>\S+) (?P<off>\S+))"
+    r"(?: restarted (?P<restarted>\S+))?"
+)
+
+
+class BenchError(RuntimeError):
+    """The bench ended with a fault; the text is what canbusd said of it."""
+
+
+class Refused(RuntimeError):
+    """The bus or the session refused what it was asked; the text is canbusd's, such as `no buffers` or `bus off`."""
+
+
+def moment_text(at: Union[str, float]) -> str:
+    """Returns a moment as the bench reads it: seconds with six digits after the point."""
+    text = at if isinstance(at, str) else f"{at:.6f}"
+    if not MOMENT.fullmatch(text):
+        raise ValueError(f"at is a number of seconds from 0 to 9999999999.999999, not {at!r}")
+    return text
+
+
+def set_of(names: Optional[str]) -> Tuple[str, ...]:
+    """The interfaces that the bench names; `-` is none."""
+    return tuple(names.split(",")) if names and names != "-" else ()
+
+
+class Session:
+    """A client of the bus with a raw socket on one interface, made by `Bench.open`."""
+
+    def __init__(self, bench: "Bench", number: int, channel: str) -> None:
+        self._bench, self._number = bench, number
+        self._closed = False
+        #: The name of its interface.
+        self.channel = channel
+
+    def send(
+        self,
+        frame: Union[int, MessageLike],
+        data: bytes = b"",
+        *,
+        is_extended_id: Optional[bool] = None,
+        is_remote_frame: bool = False,
+        is_fd: bool = False,
+        dlc: int = 0,
+    ) -> None:
+        """Puts a frame into the transmit queue of the interface, or raises Refused.
+
+        `frame` is a Frame, a message of python-can, or an identifier, which has 11 bits up to 7FF unless
+        `is_extended_id` says otherwise. `dlc` is the length that a remote frame asks for.
+        """
+        if isinstance(frame, int):
+            extended = frame > 0x7FF if is_extended_id is None else is_extended_id
+            sent = Frame(frame, data, extended, is_remote_frame, is_fd=is_fd, dlc=dlc)
+        else:
+            sent = frame_like(frame)
+        self.call(command_of(sent))
+        self._bench._accepted(self.channel, sent)
+
+    def receive(self) -> List[Frame]:
+        """Takes what the socket has received, oldest first; error message frames too, if they were asked for."""
+        frames = (frame_of(message) for message in self._bench._ask(f"drain {self._live()}", self._number))
+        return [frame for frame in frames if frame is not None]
+
+    def status(self) -> ErrorCounters:
+        """Returns the state of the interface and its error counts."""
+        counters = counters_of(self.call("status")[0])
+        assert counters is not None
+        return counters
+
+    def stats(self) -> Stats:
+        """Returns the counts of the socket and of its interface."""
+        stats = stats_of(self.call("stats")[0])
+        assert stats is not None
+        return stats
+
+    def set_filters(self, filters: Optional[Filters] = None) -> None:
+        """Sets the filters of the socket, in python-can's form; None receives everything."""
+        message = filter_message(filters)
+        if message is None:
+            raise ValueError("filters are more than fit into one message of 1,024 bytes")
+        self.call(message)
+
+    def restart(self, at: Union[str, float, None] = None) -> None:
+        """Brings the interface back from bus off, at this moment if one is given."""
+        self._bench._set_moment(at)
+        self.call("restart")
+
+    def call(self, message: str) -> List[str]:
+        """Feeds a message of the protocol, such as `recvown 1`, and returns the answers to it; a refusal is raised."""
+        if re.search(r"[<>\n]|^\s*close\b", message):
+            raise ValueError(f"message is one message without < and >, and not close: {message!r}")
+        return self._bench._ask(f"feed {self._live()} < {message} >", self._number)
+
+    def close(self) -> Tuple[int, int]:
+        """Closes the socket; returns how many frames it had not read, and how many it dropped."""
+        number = self._live()
+        self._closed = True
+        words = self._bench._line_after(f"feed {number} < close >").split()
+        return int(words[3]), int(words[4])
+
+    def _live(self) -> int:
+        if self._closed:
+            raise ValueError(f"the session on {self.channel} is closed")
+        return self._number
+
+
+class Bench(Run):
+    """A bus with these interfaces, as `"can0,can1"` or a list, and the options of `canbusd bench`.
+
+    `faults` is a script: Faults, a path, or a text. `out` is a folder for the log and the record, which are written at
+    the end and are called after the first interface; without it they are kept as long as the bench is.
+    """
+
+    def __init__(
+        self,
+        names: Union[str, Sequence[str]],
+        *,
+        faults: Optional[Script] = None,
+        ack: str = "always",
+        report: bool = False,
+        auto_restart: int = 0,
+        txqueue: int = 10,
+        rxqueue: int = 256,
+        limit: int = 1_000_000,
+        out: Union[str, "os.PathLike[str]", None] = None,
+    ) -> None:
+        super().__init__(out)
+        self.names = tuple(names.split(",") if isinstance(names, str) else names)
+        script = script_text(faults)
+        self._verdicts = verdicts_of(script)
+        self._attempts = self._sessions = 0
+        self._sent: Dict[str, List[Frame]] = {name: [] for name in self.names}
+        self._moment = "0.000000"
+        self._rest = b""
+        words = ["--ack", ack, *(["--report"] if report else []), "--auto-restart", str(auto_restart)]
+        words += ["--txqueue", str(txqueue), "--rxqueue", str(rxqueue), "--limit", str(limit)]
+        words += ["--record", str(self._path("rec")), "--log", str(self._path("log")), "--"]
+        bus = ",".join(self.names)
+        if script:
+            (self._folder / "faults").write_text(script, encoding="utf-8")
+            bus += f"@{self._folder / 'faults'}"
+        self._start("bench", *words, bus)
+        # What is wrong with the words shows before the first session is used.
+        self._greet()
+
+    def open(
+        self,
+        channel: str,
+        can_filters: Optional[Filters] = None,
+        *,
+        fd: bool = False,
+        receive_own_messages: bool = False,
+        local_loopback: bool = True,
+        error_frames: Union[bool, int] = True,
+        join_filters: bool = False,
+    ) -> Session:
+        """Opens a session with a raw socket on this interface; the options are those of CanbusdBus."""
+        if self._sessions > MOST_SESSIONS:
+            raise Refused("too many sessions")
+        messages = options(
+            fd=fd,
+            receive_own_messages=receive_own_messages,
+            local_loopback=local_loopback,
+            error_frames=error_frames,
+            join_filters=join_filters,
+        )
+        session = Session(self, self._sessions, channel)
+        try:
+            for message in [f"open {channel}", "rawmode", *messages]:
+                session.call(message)
+            if can_filters is not None:
+                session.set_filters(can_filters)
+        except (Refused, ValueError):
+            self._write(f"end {self._sessions}\n")
+            raise
+        finally:
+            self._greet()
+        return session
+
+    def attempt(self, at: Union[str, float, None] = None) -> Optional[Attempt]:
+        """Puts the frame that wins arbitration on the bus, at this moment if one is given; None if no frame waits.
+
+        A moment stays until the next is given, and is 0 at first. An attempt without a frame that restarts an interface
+        is returned with the outcome `idle`.
+        """
+        self._set_moment(at)
+        line = self._line_after("attempt")
+        words = TRIED.fullmatch(line)
+        if not words:
+            raise Refused(line)
+        restarted = set_of(words["restarted"])
+        if words["winner"] is None:
+            return Attempt(float(self._moment), "", 0, "", "idle", "good", (), (), restarted) if restarted else None
+        number, winner = int(words["number"]), words["winner"]
+        self._attempts += 1
+        return Attempt(
+            float(self._moment),
+            winner,
+            number,
+            str(self._sent[winner][number]),
+            words["outcome"],
+            self._verdicts.get(self._attempts - 1, "good"),
+            set_of(words["accepted"]),
+            set_of(words["off"]),
+            restarted,
+        )
+
+    def run(self, most: int = 100_000) -> List[Attempt]:
+        """Makes attempts until none has a frame, and returns them; RuntimeError if after `most` frames still wait."""
+        attempts: List[Attempt] = []
+        for _ in range(most):
+            attempt = self.attempt()
+            if attempt is None:
+                return attempts
+            attempts.append(attempt)
+        raise RuntimeError(f"frames still wait after {most} attempts")
+
+    def stop(self) -> None:
+        """Ends the run; its record and its log are written. The sessions can't be used any more."""
+        if self._child.stdin is None:
+            return
+        self._close_input()
+        while self._more():
+            pass
+        self._finish()
+
+    def record(self) -> Record:
+        """Ends the run and returns its record."""
+        self.stop()
+        return read_record(self._path("rec"), self.names)
+
+    def log(self) -> "List[Message]":
+        """Ends the run and returns what was on the bus, as messages of python-can; those that failed are error frames."""
+        self.stop()
+        return read_log(self._path("log"))
+
+    def report(self) -> Path:
+        """Ends the run, writes its page, and returns the path of that."""
+        return write_page(self.record(), self._path("html"))
+
+    def audit(self) -> str:
+        """Ends the run and has its record audited by the program; returns what that said, `ok 7 entries`."""
+        self.stop()
+        return audited(self._path("rec"))
+
+    def _path(self, ending: str) -> Path:
+        return self._out / f"{self.names[0]}.{ending}"
+
+    def _greet(self) -> None:
+        """Starts the session of the next `open`, while there is room for one."""
+        self._sessions += 1
+        if self._sessions <= MOST_SESSIONS:
+            self._line_after(f"session {self._sessions}")
+
+    def _accepted(self, channel: str, frame: Frame) -> None:
+        self._sent[channel].append(frame)
+
+    def _set_moment(self, at: Union[str, float, None]) -> None:
+        if at is not None:
+            self._moment = moment_text(at)
+            self._write(f"at {self._moment}\n")
+
+    def _ask(self, line: str, session: int) -> List[str]:
+        """Carries out a line, and returns what the session writes; a refusal is raised."""
+        self._write(f"{line}\nfeed {session} < echo >\n")
+        messages: List[str] = []
+        while not messages or messages[-1] != "echo":
+            messages += MESSAGES.findall(self._line())
+        for message in messages:
+            if message.startswith("error ") and frame_of(message) is None:
+                raise Refused(message[len("error ") :])
+        return messages[:-1]
+
+    def _line_after(self, line: str) -> str:
+        self._write(f"{line}\n")
+        return self._line()
+
+    def _write(self, text: str) -> None:
+        if self._child.stdin is None:
+            raise ValueError("the bench has ended")
+        try:
+            self._child.stdin.write(text.encode())
+        except BrokenPipeError:
+            self._finish()
+
+    def _line(self) -> str:
+        while b"\n" not in self._rest:
+            if not self._more():
+                self._finish()
+                raise BenchError("the bench ended")
+        line, _, self._rest = self._rest.partition(b"\n")
+        return line.decode()
+
+    def _more(self) -> bool:
+        """Reads what the bench wrote; False at its end."""
+        assert self._child.stdout is not None
+        output = self._child.stdout.fileno()
+        if not select.select([output], [], [], PATIENCE)[0]:
+            self._signal()
+            self._finish(f"the bench said nothing for {PATIENCE:.0f} seconds")
+        piece = os.read(output, 65536)
+        self._rest += piece
+        return bool(piece)
+
+    def _finish(self, fault: str = "") -> None:
+        """Waits for the end of the program, and raises this fault, or what the program said if it ended with one."""
+        self._close_input()
+        status = self._child.wait(PATIENCE)
+        assert self._child.stdout is not None
+        self._child.stdout.close()
+        RUNNING.discard(self)
+        if status != 0:
+            raise BenchError("\n".join(filter(None, [fault, self.said])) or f"the bench ended with status {status}")

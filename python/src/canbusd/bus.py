@@ -1,0 +1,393 @@
+"""The interface `canbusd` of python-can.
+
+    with can.Bus(interface="canbusd", channel="can0", address="127.0.0.1:29536") as bus:
+        bus.send(can.Message(arbitration_id=0x123, data=[1, 2], is_extended_id=False))
+"""
+
+import errno
+import functools
+import logging
+import os
+import threading
+import time
+from typing import Any, Iterable, List, Mapping, Optional, Sequence, Tuple, Union, cast
+
+import can
+from can.broadcastmanager import CyclicSendTaskABC, ThreadBasedCyclicSendTask
+from can.bus import BusABC, BusState
+from can.exceptions import CanInitializationError, CanOperationError, CanTimeoutError
+from can.message import Message
+
+from canbusd._connection import DEFAULT_ADDRESS, Connection, NoAnswer, SessionRefused, parse_address
+from canbusd._protocol import (
+    EXTENDED,
+    INVERTED,
+    ErrorCounters,
+    Filters,
+    Stats,
+    counters_of,
+    filter_message,
+    filter_words,
+    options,
+    stats_of,
+)
+from canbusd._words import NAME
+from canbusd.frames import REMOTE, command_of, received
+
+LOG = logging.getLogger("can.canbusd")
+NO_BUFFERS, BUS_OFF, NOT_BUS_OFF = "no buffers", "bus off", "not bus off"
+# What the system's own CAN sockets report.
+ERROR_CODES = {NO_BUFFERS: errno.ENOBUFS, BUS_OFF: errno.ENETDOWN}
+STATES = {
+    "active": BusState.ACTIVE,
+    "warning": BusState.ACTIVE,
+    "passive": BusState.PASSIVE,
+    "off": BusState.ERROR,
+}
+TRUTHS = {"1": True, "true": True, "yes": True, "on": True, "0": False, "false": False, "no": False, "off": False}
+# Seconds between two looks at a full transmit queue: at first, and at most.
+LOOK, LONGEST_LOOK = 0.0002, 0.01
+
+
+def truth(name: str, value: object) -> bool:
+    """Returns a truth value, which may be given as a text."""
+    found = TRUTHS.get(str(value).lower())
+    if found is None:
+        raise ValueError(f"{name} is true or false, not {value!r}")
+    return found
+
+
+def mask_or_truth(name: str, value: object) -> Union[bool, int]:
+    """Returns a mask of error classes, or whether to receive all; 0 and 1 are truth values."""
+    if str(value).lower() in TRUTHS:
+        return truth(name, value)
+    try:
+        mask = int(str(value), 0)
+    except ValueError:
+        mask = -1
+    if not 0 <= mask <= 0xFFFFFFFF:
+        raise ValueError(f"{name} is true, false or a mask of error classes, not {value!r}")
+    return mask
+
+
+def seconds(name: str, value: object) -> float:
+    """Returns a number of seconds above 0, which may be given as a text."""
+    try:
+        found = float(str(value))
+    except ValueError:
+        found = 0.0
+    if not 0 < found < float("inf"):
+        raise ValueError(f"{name} is a number of seconds above 0, not {value!r}")
+    return found
+
+
+def server_address(given: Optional[str], others: Mapping[str, Any]) -> str:
+    """Returns the address of the server; ValueError where it is none, or where it is given as other interfaces take it."""
+    if "host" in others or "port" in others:
+        raise ValueError("host and port are not taken; give address='HOST:PORT'")
+    address = str(given or os.environ.get("CANBUSD_ADDRESS") or DEFAULT_ADDRESS)
+    parse_address(address)
+    return address
+
+
+def refusal(text: str, after: str = "") -> CanOperationError:
+    """The exception for what the server refused; its `error_code` is that of the system's own CAN sockets."""
+    return CanOperationError(text + after, ERROR_CODES.get(text))
+
+
+def goes_on(fault: Exception) -> bool:
+    """Whether a periodic task goes on after this, as one of the system's own CAN sockets does."""
+    return isinstance(fault, CanOperationError) and fault.error_code in ERROR_CODES.values()
+
+
+class CanbusdBus(BusABC):
+    """A raw socket on an interface of a canbusd server.
+
+    :param channel: the name of the interface, such as ``can0``
+    :param can_filters: see :meth:`can.BusABC.set_filters`; the server filters, if they fit into one message
+    :param address: ``HOST:PORT``, ``[V6]:PORT``, or a Unix path that begins with ``/`` or ``.``; by default
+        ``$CANBUSD_ADDRESS``, else ``127.0.0.1:29536``
+    :param fd: send and receive CAN FD frames too
+    :param receive_own_messages: receive what was sent here
+    :param local_loopback: what is sent here reaches other sockets of the same interface
+    :param error_frames: receive error message frames; true, false or a mask of their classes
+    :param join_filters: receive what matches all filters, not only one
+    :param timeout: seconds in which the server has to answer
+    :param kwargs: what python-can hands to all interfaces, such as a bit rate, which has no meaning here
+
+    It may be used by several threads at once. Each value may be a text, as in can.conf.
+    """
+
+    def __init__(
+        self,
+        channel: str,
+        can_filters: Optional[Filters] = None,
+        *,
+        address: Optional[str] = None,
+        fd: Union[bool, str] = False,
+        receive_own_messages: Union[bool, str] = False,
+        local_loopback: Union[bool, str] = True,
+        error_frames: Union[bool, int, str] = True,
+        join_filters: Union[bool, str] = False,
+        timeout: Union[float, str] = 5.0,
+        **kwargs: Any,
+    ) -> None:
+        # python-can 4.3 warns of a bus that is not shut down, also where it never came to be.
+        self._is_shutdown = True
+        self.channel = str(channel)
+        if not NAME.fullmatch(self.channel):
+            raise ValueError(f"channel is the name of an interface, such as can0, not {channel!r}")
+        self.address = server_address(address, kwargs)
+        self._fd = truth("fd", fd)
+        self._join = truth("join_filters", join_filters)
+        self._timeout = seconds("timeout", timeout)
+        messages = options(
+            fd=self._fd,
+            receive_own_messages=truth("receive_own_messages", receive_own_messages),
+            local_loopback=truth("local_loopback", local_loopback),
+            error_frames=mask_or_truth("error_frames", error_frames),
+            join_filters=self._join,
+        )
+        #: How many of its frames `send_many` lets wait in the transmit queue; at most as many as have room there.
+        self.window = 10
+        self.channel_info = f"canbusd: channel '{self.channel}' of the server at {self.address}"
+        # From version 4.3 on.
+        protocols = getattr(can, "CanProtocol", None)
+        if protocols is not None:
+            self._can_protocol = protocols.CAN_FD if self._fd else protocols.CAN_20
+        self._make = functools.partial(Message, channel=self.channel)
+        self._pairs: List[Tuple[int, int]] = []
+        self._filters_here = False
+        self._unfiltered = 0
+        self._warned_of_flags = False
+        self._lock_send_periodic = threading.Lock()
+        self._connection = self._open(messages)
+        try:
+            super().__init__(channel=self.channel, can_filters=can_filters)  # type: ignore[arg-type]
+        except CanOperationError as fault:
+            self._connection.close()
+            raise CanInitializationError(f"{self.channel_info}: {fault}") from None
+        except BaseException:
+            self._connection.close()
+            raise
+        self._is_shutdown = False
+
+    def send(self, msg: Message, timeout: Optional[float] = None) -> None:
+        """Puts a message into the transmit queue of the interface.
+
+        Where this returns, the server has accepted it; it goes out once it wins arbitration.
+
+        :param timeout: seconds in which a full transmit queue may make room; none: a full one is an error at once
+        :raises ~can.exceptions.CanOperationError: where the server refuses it; the ``error_code`` of ``no buffers`` is
+            ``ENOBUFS``, of ``bus off`` ``ENETDOWN``
+        :raises ~can.exceptions.CanTimeoutError: where the queue was full until the timeout, or no answer came
+        :raises ValueError: where this is no message that can be sent here
+        """
+        command = self._command(msg)
+        answer = self._call(command)
+        if answer == NO_BUFFERS and timeout is not None and timeout > 0:
+            deadline = time.monotonic() + timeout
+            before: Optional[Stats] = None
+            while answer == NO_BUFFERS:
+                before = self._departure(before, deadline)
+                answer = self._call(command)
+        if answer:
+            raise refusal(answer)
+
+    def send_many(self, msgs: Iterable[Message], timeout: Optional[float] = None) -> None:
+        """Sends messages in their order, as many in one write as the transmit queue has room for.
+
+        Where this returns, the server has accepted all of them. At most :attr:`window` of them wait in the transmit queue
+        at once. If it is full all the same, since others send by the same interface or it has less room, what it refused
+        is sent again, behind what it accepted of the same write.
+
+        :param timeout: seconds for all messages; none: as long as some are accepted within the timeout of the bus
+        :raises: what :meth:`send` raises; the text says how many messages were accepted
+        """
+        rest = [self._command(msg) for msg in msgs]
+        total, window = len(rest), self.window
+        stats = self.stats()
+        deadline = time.monotonic() + (self._timeout if timeout is None else timeout)
+        while rest:
+            room = window - stats.waiting
+            if room < 1:
+                stats = self._departure(stats, deadline, f" after {total - len(rest)} of {total} messages")
+                room = max(1, window - stats.waiting)
+            answers = self._calls([*rest[:room], "stats"])
+            stats = self._stats(answers.pop())
+            refused = [command for command, answer in zip(rest, answers) if answer]
+            rest[: len(answers)] = refused
+            fault = next((answer for answer in answers if answer not in ("", NO_BUFFERS)), None)
+            if fault is not None:
+                raise refusal(fault, f" after {total - len(rest)} of {total} messages")
+            if len(refused) < len(answers) and timeout is None:
+                deadline = time.monotonic() + self._timeout
+            window = max(1, stats.waiting) if refused else min(self.window, window + 1)
+
+    def set_filters(self, filters: Optional[Filters] = None) -> None:
+        """Receives what matches one of these filters, by the rules of linux/can.h; without any, everything.
+
+        Where a filter has ``extended``, only frames of 29 bits match it, or only those of 11 bits; remote frames match as
+        data frames do. Bit 29 of ``can_id`` inverts a filter. Error message frames are not filtered.
+        """
+        super().set_filters(filters)  # type: ignore[arg-type]
+
+    @property
+    def state(self) -> BusState:
+        """The state of the interface: ACTIVE up to error warning, PASSIVE, or ERROR where it is bus off.
+
+        Setting ACTIVE brings it back from bus off; no other state can be set.
+        """
+        return STATES[self.error_counters().state]
+
+    @state.setter
+    def state(self, new_state: BusState) -> None:
+        if new_state is not BusState.ACTIVE:
+            raise NotImplementedError(f"{new_state} can't be set: there is no listen-only mode, and no switching off")
+        answer = self._call("restart")
+        if answer not in ("", NOT_BUS_OFF):
+            raise refusal(answer)
+
+    def restart(self) -> None:
+        """Brings the interface back from bus off; CanOperationError where it is not bus off."""
+        answer = self._call("restart")
+        if answer:
+            raise refusal(answer)
+
+    def error_counters(self) -> ErrorCounters:
+        """Returns the state of the interface and its error counts."""
+        answer = self._call("status")
+        counters = counters_of(answer)
+        if counters is None:
+            raise refusal(answer)
+        return counters
+
+    def stats(self) -> Stats:
+        """Returns the counts of this socket and of its interface."""
+        return self._stats(self._call("stats"))
+
+    def fileno(self) -> int:
+        """Returns a file descriptor that is readable where `recv` has something to return or to raise.
+
+        It is none that may be read: a frame that was read from the server already counts too.
+        """
+        try:
+            return self._connection.fileno()
+        except ConnectionError as fault:
+            raise CanOperationError(str(fault)) from None
+
+    def flush_tx_buffer(self) -> None:
+        """Not offered: frames in the transmit queue of an interface can't be taken back."""
+        raise NotImplementedError("frames in the transmit queue of an interface can't be taken back")
+
+    def shutdown(self) -> None:
+        """Ends the session; who waits in another thread gets a CanOperationError. It may be called again."""
+        super().shutdown()
+        self._connection.close()
+
+    def _recv_internal(self, timeout: Optional[float]) -> Tuple[Optional[Message], bool]:
+        deadline = None if timeout is None else time.monotonic() + timeout
+        while True:
+            message = self._next(timeout)
+            if message is None or self._passes(message):
+                return message, True
+            if deadline is not None:
+                timeout = max(0.0, deadline - time.monotonic())
+
+    def _send_periodic_internal(self, *args: Any, **kwargs: Any) -> CyclicSendTaskABC:
+        # Its thread sends under this lock, so not before it knows what to do where a send is refused.
+        with self._lock_send_periodic:
+            task = super()._send_periodic_internal(*args, **kwargs)
+            cast(ThreadBasedCyclicSendTask, task).on_error = goes_on
+        return task
+
+    def _apply_filters(self, filters: Any) -> None:
+        message = filter_message(filters)
+        self._pairs = [filter_words(one) for one in filters or ()]
+        # More than fit into one message are applied here.
+        self._filters_here = message is None
+        answer = self._call(message or str(filter_message(None)))
+        if answer:
+            raise refusal(answer)
+        self._unfiltered = self._connection.frames_at_hand() if self._pairs else 0
+
+    def _next(self, timeout: Optional[float]) -> Optional[Message]:
+        try:
+            text = self._connection.frame(timeout)
+            return None if text is None else received(self._make, *text.split()[1:])
+        except ConnectionError as fault:
+            raise CanOperationError(str(fault)) from None
+        except (TypeError, ValueError):
+            raise CanOperationError(f"no message of canbusd: {text} >") from None
+
+    def _passes(self, message: Message) -> bool:
+        """Whether a message passes the filters, where the server did not apply them to it."""
+        if not self._filters_here:
+            if not self._unfiltered:
+                return True
+            self._unfiltered -= 1
+        if message.is_error_frame:
+            return True
+        word = message.arbitration_id
+        word |= EXTENDED * message.is_extended_id | REMOTE * message.is_remote_frame
+        matches = ((word & mask == wanted & mask) != bool(wanted & INVERTED) for wanted, mask in self._pairs)
+        return all(matches) if self._join else any(matches)
+
+    def _command(self, msg: Message) -> str:
+        """The command that sends this message; ValueError where none does."""
+        if msg.is_fd:
+            if not self._fd:
+                raise ValueError("an FD frame needs a bus with fd=True")
+            if (msg.bitrate_switch or msg.error_state_indicator) and not self._warned_of_flags:
+                self._warned_of_flags = True
+                LOG.warning("bitrate_switch and error_state_indicator are left out: a bus of canbusd has no such flags")
+        return command_of(msg)
+
+    def _open(self, messages: Sequence[str]) -> Connection:
+        connection = None
+        try:
+            connection = Connection(self.address, self._timeout)
+            answers = connection.ask([f"open {self.channel}", "rawmode", *messages])
+            faults = [answer for answer in answers if answer != "ok"]
+            if faults:
+                raise SessionRefused(faults[0].replace("error ", "", 1))
+        except (OSError, SessionRefused) as fault:
+            if connection is not None:
+                connection.close()
+            reason = getattr(fault, "strerror", None) or fault
+            raise CanInitializationError(f"{self.channel_info}: {reason}") from None
+        return connection
+
+    def _calls(self, commands: Sequence[str]) -> List[str]:
+        """Gives these commands, and returns the answer to each: the text of a refusal, and nothing for `ok`."""
+        try:
+            answers = self._connection.ask(commands)
+        except NoAnswer as fault:
+            raise CanTimeoutError(str(fault)) from None
+        except ConnectionError as fault:
+            raise CanOperationError(str(fault)) from None
+        return ["" if answer == "ok" else answer.replace("error ", "", 1) for answer in answers]
+
+    def _call(self, command: str) -> str:
+        return self._calls([command])[0]
+
+    def _stats(self, answer: str) -> Stats:
+        stats = stats_of(answer)
+        if stats is None:
+            raise refusal(answer)
+        return stats
+
+    def _departure(self, before: Optional[Stats], deadline: float, after: str = "") -> Stats:
+        """Waits until a frame has left the transmit queue since these counts, and returns the counts then.
+
+        A refused send is an entry of the record; looking at the counts is none.
+        """
+        look = LOOK
+        while True:
+            now = self.stats()
+            if time.monotonic() >= deadline:
+                raise CanTimeoutError(f"{NO_BUFFERS}{after}: the transmit queue stayed full", errno.ENOBUFS)
+            if before is None or now.done + now.lost != before.done + before.lost:
+                return now
+            time.sleep(min(look, max(0.0, deadline - time.monotonic())))
+            look = min(2 * look, LONGEST_LOOK)

@@ -1,0 +1,197 @@
+"""Prints the frames that interfaces of a server receive, as candump does, until Ctrl-C."""
+
+import argparse
+import re
+import select
+import sys
+import time
+from typing import Any, Callable, Dict, List, Optional, Tuple
+
+from canbusd._protocol import ALL_CLASSES
+from canbusd.bus import CanbusdBus
+from canbusd.commands import address_words
+from canbusd.frames import ERROR, Frame, frame_like
+
+EPILOG = """\
+An interface is a name, followed by filters as candump has them: ID:MASK, ID~MASK for all others, #MASK for classes of
+error message frames, and j where frames have to pass all of them. With -e each error message frame is explained in words.
+
+  python3 -m canbusd dump -e can0
+  python3 -m canbusd dump can0,123:7FF can1,#FFFFFFFF
+  python3 -m canbusd dump -L can0 can1 > run.log
+"""
+FILTER = re.compile("([0-9A-Fa-f]{1,8})([:~])([0-9A-Fa-f]{1,8})")
+EXTENDED, INVERTED = 0x80000000, 0x20000000
+# How many frames of an interface are printed before the others have their turn.
+BATCH = 1000
+
+
+class View:
+    """How frames are written."""
+
+    def __init__(self, options: argparse.Namespace, width: int) -> None:
+        self.is_log, self.explains = options.log, options.explain
+        self.width, self.has_seen_extended = width, False
+        self.stamp: Callable[[float], str] = STAMPS[options.timestamps](options.timestamps)
+
+    def lines(self, name: str, frame: Frame) -> List[str]:
+        """Returns the lines of a frame."""
+        if self.is_log:
+            return [f"({frame.timestamp:017.6f}) {name} {frame}"]
+        lines = [f" {self.stamp(frame.timestamp)} {name:>{self.width}}  {self.long(frame)}"]
+        if self.explains and frame.is_error_frame:
+            lines.append(f"\t{frame.meaning or 'no class that canbusd knows'}")
+        return lines
+
+    def long(self, frame: Frame) -> str:
+        """A frame as candump writes it on a screen."""
+        if frame.is_error_frame:
+            digits = f"{frame.arbitration_id | ERROR:08X}"
+        elif frame.is_extended_id:
+            digits = f"{frame.arbitration_id:08X}"
+            # As candump does: once there was one, those of 11 bits are written below their low digits.
+            self.has_seen_extended = True
+        else:
+            digits = f"{frame.arbitration_id:03X}".rjust(8 if self.has_seen_extended else 3)
+        length = f"[{frame.dlc:02}]" if frame.is_fd else f" [{frame.dlc}]"
+        data = "remote request" if frame.is_remote_frame else " ".join(f"{byte:02X}" for byte in frame.data)
+        if frame.is_error_frame:
+            data = data.ljust(23) + "   ERRORFRAME"
+        return f"{digits}  {length}  {data}".rstrip()
+
+
+def no_stamp(_: str) -> Callable[[float], str]:
+    """Without timestamps."""
+    return lambda moment: ""
+
+
+def absolute(_: str) -> Callable[[float], str]:
+    """Seconds since 1970."""
+    return lambda moment: f"({moment:017.6f}) "
+
+
+def dated(_: str) -> Callable[[float], str]:
+    """Date and time of day."""
+
+    def stamp(moment: float) -> str:
+        seconds, micros = divmod(round(moment * 1e6), 1000000)
+        return f"({time.strftime('%Y-%m-%d %H:%M:%S', time.localtime(seconds))}.{micros:06}) "
+
+    return stamp
+
+
+def since(kind: str) -> Callable[[float], str]:
+    """Seconds since the last frame, or since the first."""
+    start: List[float] = []
+
+    def stamp(moment: float) -> str:
+        start[:] = start or [moment]
+        passed = max(moment - start[0], 0.0)
+        if kind == "d":
+            start[0] = moment
+        return f"({passed:010.6f}) "
+
+    return stamp
+
+
+STAMPS: Dict[Optional[str], Callable[[str], Callable[[float], str]]] = {
+    None: no_stamp,
+    "a": absolute,
+    "A": dated,
+    "d": since,
+    "z": since,
+}
+
+
+def words(parser: argparse.ArgumentParser) -> None:
+    """Adds the words of the command."""
+    parser.add_argument("interfaces", nargs="+", metavar="INTERFACE[,FILTER..]", help="an interface of the server")
+    parser.add_argument("-e", dest="explain", action="store_true", help="error message frames too, explained in words")
+    parser.add_argument("-L", dest="log", action="store_true", help="write the format of log files")
+    parser.add_argument(
+        "-t",
+        dest="timestamps",
+        choices=("a", "A", "d", "z"),
+        help="timestamps: absolute, absolute with date, delta, or from zero",
+    )
+    parser.add_argument("-n", dest="count", type=int, metavar="COUNT", help="end after so many frames")
+    parser.add_argument("-T", dest="patience", type=float, metavar="MS", help="end after so many milliseconds without a frame")
+    address_words(parser)
+
+
+def opened(text: str, options: argparse.Namespace) -> Tuple[str, CanbusdBus]:
+    """Opens an interface with its filters; its name, and the bus."""
+    name, *parts = text.split(",")
+    filters: List[Dict[str, Any]] = []
+    errors, join = (ALL_CLASSES if options.explain else 0), False
+    for part in parts:
+        pair = FILTER.fullmatch(part)
+        if pair:
+            identifier = int(pair[1], 16) | (EXTENDED if len(pair[1]) == 8 else 0)
+            identifier |= INVERTED if pair[2] == "~" else 0
+            filters.append({"can_id": identifier, "can_mask": int(pair[3], 16)})
+        elif re.fullmatch("#[0-9A-Fa-f]{1,8}", part):
+            errors = int(part[1:], 16)
+        elif part in ("j", "J"):
+            join = True
+        else:
+            raise ValueError(f"{text}: `{part}` is no filter such as 123:7FF, 123~7FF, #1FFFFFFF or j")
+    bus = CanbusdBus(
+        name, filters or None, address=options.address, fd=True, error_frames=errors, join_filters=join
+    )
+    return name, bus
+
+
+class Drops:
+    """Reports what found no room in the receive queues of the sessions, at most once in so many seconds."""
+
+    INTERVAL = 1.0
+
+    def __init__(self, buses: List[Tuple[str, CanbusdBus]]) -> None:
+        self.buses, self.dropped = buses, [0] * len(buses)
+        self.next_look, self.has_received = time.monotonic() + self.INTERVAL, False
+
+    def look(self, has_received: bool) -> None:
+        """Asks the server, if there were frames since it was asked."""
+        self.has_received |= has_received
+        if not self.has_received or time.monotonic() < self.next_look:
+            return
+        for place, (name, bus) in enumerate(self.buses):
+            dropped = bus.stats().dropped
+            if dropped > self.dropped[place]:
+                more = dropped - self.dropped[place]
+                print(f"canbusd dump: {name}: {more} frames dropped, {dropped} in all: they came too fast", file=sys.stderr)
+            self.dropped[place] = dropped
+        self.next_look, self.has_received = time.monotonic() + self.INTERVAL, False
+
+
+def run(options: argparse.Namespace) -> None:
+    """Prints frames as they come."""
+    buses = [opened(text, options) for text in options.interfaces]
+    view = View(options, max(len(name) for name, _ in buses))
+    drops = Drops(buses)
+    left = sys.maxsize if options.count is None else options.count
+    patience = float("inf") if options.patience is None else options.patience / 1000
+    last = time.monotonic()
+    while left > 0:
+        wait = max(0.0, min(drops.INTERVAL, last + patience - time.monotonic()))
+        ready = select.select([bus for _, bus in buses], [], [], wait)[0]
+        for name, bus in buses:
+            if bus in ready:
+                left -= print_frames(name, bus, view, left)
+        sys.stdout.flush()
+        drops.look(bool(ready))
+        if ready:
+            last = time.monotonic()
+        elif time.monotonic() >= last + patience:
+            return
+
+
+def print_frames(name: str, bus: CanbusdBus, view: View, most: int) -> int:
+    """Prints the frames that are at hand, but no more than so many; how many there were."""
+    for count in range(min(most, BATCH)):
+        message = bus.recv(0)
+        if message is None:
+            return count
+        sys.stdout.writelines(f"{line}\n" for line in view.lines(name, frame_like(message)))
+    return min(most, BATCH)

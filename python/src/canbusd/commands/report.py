@@ -1,0 +1,59 @@
+"""Shows the run of a record: as a page for a browser, or drawn as text for a terminal."""
+
+import argparse
+import io
+import os
+import sys
+from typing import Iterable
+
+from canbusd import _summary, drawings
+from canbusd._command import record_words, replayed
+
+EPILOG = """\
+The page is one file, which needs no network. It shows the attempts by interface, with winner, outcome and faults;
+the arbitration of a chosen attempt bit by bit; the error counters with their limits; queues and losses; and each item
+that a socket received or lost. The record is replayed by the rules of the bus, and one that breaks them is refused.
+
+  canbusd bench --record run.rec can0,can1 < first_frame.bench
+  python3 -m canbusd report --names can0,can1 run.rec > run.html
+  python3 -m canbusd report --counters --names can0,can1 run.rec
+"""
+MOST_EVENTS = 1000
+
+
+def words(parser: argparse.ArgumentParser) -> None:
+    """Adds the words of the command."""
+    record_words(parser)
+    parser.add_argument(
+        "--items", type=int, default=1000000, metavar="N", help="items on the page at most (default 1000000)"
+    )
+    parser.add_argument("--text", action="store_true", help="write events as text, and both of the following")
+    parser.add_argument("--counters", action="store_true", help="draw the error counters after each attempt and restart")
+    parser.add_argument(
+        "--arbitration", action="store_true", help="draw the bits of each attempt in which several interfaces took part"
+    )
+    parser.add_argument("--first", type=int, default=0, metavar="N", help="the first attempt to draw, from 0")
+    parser.add_argument("--last", type=int, default=1 << 24, metavar="N", help="the last attempt to draw")
+
+
+def run(options: argparse.Namespace) -> None:
+    """Writes the page, or the drawings, on standard output."""
+    replay, names = replayed(options.record, options.names)
+    if options.text or options.counters or options.arbitration:
+        if options.text:
+            write(_summary.story(replay, MOST_EVENTS))
+        if options.text or options.arbitration:
+            write(drawings.arbitration(replay, options.first, options.last))
+        if options.text or options.counters:
+            write(drawings.counters(replay, options.first, options.last))
+        return
+    from canbusd.report import page
+
+    if isinstance(sys.stdout, io.TextIOWrapper):
+        sys.stdout.reconfigure(encoding="utf-8")
+    sys.stdout.write(page(replay, names, os.path.basename(options.record), max(options.items, 0)))
+
+
+def write(lines: Iterable[str]) -> None:
+    """Writes lines on standard output."""
+    sys.stdout.writelines(f"{line}\n" for line in lines)

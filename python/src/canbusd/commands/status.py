@@ -1,0 +1,59 @@
+"""Prints a table of the state and the counts of a server's interfaces."""
+
+import argparse
+import sys
+import time
+from typing import List
+
+from canbusd._summary import Row, table
+from canbusd.bus import CanbusdBus
+from canbusd.commands import NOTHING, address_words
+
+EPILOG = """\
+TEC and REC are the transmit and the receive error count: error warning from 96, error passive from 128, bus off from 256.
+`sent` is what was accepted for sending: done, waiting, or lost at bus off. `refused` found the transmit queue full.
+
+  python3 -m canbusd status can0 can1
+  python3 -m canbusd status --watch can0 can1
+"""
+HOME, CLEAR_LINE, CLEAR_BELOW = "\x1b[H", "\x1b[K", "\x1b[J"
+
+
+def words(parser: argparse.ArgumentParser) -> None:
+    """Adds the words of the command."""
+    parser.add_argument("interfaces", nargs="+", metavar="INTERFACE", help="an interface of the server")
+    parser.add_argument("--watch", action="store_true", help="keep the table on the screen until Ctrl-C")
+    parser.add_argument(
+        "--interval", type=float, default=0.5, metavar="S", help="seconds between two looks with --watch (default 0.5)"
+    )
+    address_words(parser)
+
+
+def run(options: argparse.Namespace) -> None:
+    """Prints the table, once or again and again."""
+    if options.interval <= 0:
+        raise ValueError("--interval is a number of seconds above 0")
+    names = options.interfaces
+    buses = [CanbusdBus(name, NOTHING, address=options.address, error_frames=False) for name in names]
+    on_screen = options.watch and sys.stdout.isatty()
+    if on_screen:
+        sys.stdout.write(HOME + CLEAR_BELOW)
+    while True:
+        lines = table([row_of(name, bus) for name, bus in zip(names, buses)])
+        if on_screen:
+            sys.stdout.write(HOME + "".join(f"{line}{CLEAR_LINE}\n" for line in lines) + CLEAR_BELOW)
+        else:
+            sys.stdout.writelines(f"{line}\n" for line in lines)
+        sys.stdout.flush()
+        if not options.watch:
+            break
+        time.sleep(options.interval)
+    for bus in buses:
+        bus.shutdown()
+
+
+def row_of(name: str, bus: CanbusdBus) -> Row:
+    """The row of an interface."""
+    counters, stats = bus.error_counters(), bus.stats()
+    counts: List[int] = [stats.sent, stats.done, stats.waiting, stats.lost, stats.refused]
+    return (name, counters.state, counters.tec, counters.rec, *counts)

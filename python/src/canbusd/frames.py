@@ -1,0 +1,245 @@
+"""Frames: their fields, candump's spelling of them, and error message frames in words."""
+
+import re
+from dataclasses import dataclass, field
+from typing import Callable, List, Optional, Protocol, Sequence, TypeVar, Union
+
+EXTENDED, REMOTE, ERROR = 0x80000000, 0x40000000, 0x20000000
+# What a class of an error message frame says (linux/can/error.h), as far as a bus of canbusd makes it.
+CLASSES = [(0x040, "bus off"), (0x100, "restarted"), (0x080, "bus error"), (0x020, "no acknowledgement")]
+# The states in byte 1, with class 004.
+STATES = [(0x40, "error active"), (0x0C, "error warning"), (0x30, "error passive")]
+# The kinds of bus errors in byte 2, and their places in byte 3.
+FAULTS = [(0x01, "bit error"), (0x02, "form error"), (0x04, "stuff error")]
+SENDING = 0x80
+PLACES = {
+    0x08: "CRC sequence",
+    0x0A: "data section",
+    0x19: "ACK slot",
+    0x1A: "end of frame",
+    0x1B: "ACK delimiter",
+}
+# How many bytes an FD frame may have.
+FD_LENGTHS = (*range(9), 12, 16, 20, 24, 32, 48, 64)
+# Regular expressions of a data or remote frame, of an FD frame and of an error message frame, as a record spells them.
+IDENTIFIER = "(?:[0-7][0-9A-F]{2}|[01][0-9A-F]{7})"
+FRAME = f"{IDENTIFIER}#(?:(?:[0-9A-F]{{2}}){{0,8}}|R[1-8]?)"
+FD_FRAME = f"{IDENTIFIER}##0(?:{'|'.join(f'[0-9A-F]{{{2 * length}}}' for length in FD_LENGTHS)})"
+ERROR_FRAME = "[23][0-9A-F]{7}#[0-9A-F]{16}"
+
+# cansend's spelling: an FD frame has a second # and a digit of flags.
+SPELLING = re.compile("([0-9A-Fa-f]+)#(?:#([0-9A-Fa-f]))?([0-9A-Fa-fRr.]*)")
+# A session's message with a frame or an error message frame. In answers `error` stands before no moment.
+MESSAGE = re.compile(
+    "(frame|fdframe|remote|error) ([0-9A-F]+) ([0-9]+[.][0-9]{6})(?: +([0-9A-F]*))?"
+)
+
+
+Made = TypeVar("Made")
+
+
+class BadFrame(ValueError):
+    """Why a text or its fields are no frame."""
+
+
+@dataclass(frozen=True)
+class Frame:
+    """A frame that is sent or was received, with the names that python-can's `Message` has.
+
+    `str()` of it is candump's spelling, `123#1122`, which `Frame.parse` reads. Unlike a `Message` it has an 11-bit
+    identifier unless told otherwise. Two frames are equal whatever their timestamps are.
+    """
+
+    arbitration_id: int
+    data: bytes = b""
+    is_extended_id: bool = False
+    is_remote_frame: bool = False
+    is_error_frame: bool = False
+    is_fd: bool = False
+    #: The number of bytes; of a remote frame the number that it asks for.
+    dlc: int = 0
+    timestamp: float = field(default=0.0, compare=False)
+
+    def __post_init__(self) -> None:
+        object.__setattr__(self, "data", bytes(self.data))
+        if not self.is_remote_frame:
+            object.__setattr__(self, "dlc", len(self.data))
+        check_frame(self)
+
+    @classmethod
+    def parse(cls, text: str, timestamp: float = 0.0) -> "Frame":
+        """Returns the frame that cansend's spelling names: `123#11.22`, `00000123#R4`, `123##01122`.
+
+        The flags of an FD frame are left out, since canbusd has none.
+        """
+        words = SPELLING.fullmatch(text)
+        if not words:
+            raise BadFrame("no frame such as 123#1122, 00000123#R4 or 123##01122")
+        digits, flags, payload = words[1], words[2], words[3].upper().replace(".", "")
+        number = int(digits, 16)
+        is_error = len(digits) == 8 and number >> 29 == 1
+        if len(digits) not in (3, 8) or (number > (0x7FF if len(digits) == 3 else 0x1FFFFFFF) and not is_error):
+            raise BadFrame("no identifier of 11 bits in 3 digits or of 29 bits in 8")
+        is_extended = len(digits) == 8 and not is_error
+        if payload.startswith("R") and flags is None:
+            if not re.fullmatch("R[0-8]?", payload):
+                raise BadFrame("no remote frame of length 0 to 8")
+            dlc = int(payload[1:] or "0")
+            return cls(number, b"", is_extended, is_remote_frame=True, dlc=dlc, timestamp=timestamp)
+        if not re.fullmatch("(?:[0-9A-F]{2})*", payload):
+            raise BadFrame("the bytes of data are not pairs of digits")
+        return cls(
+            number & 0x1FFFFFFF,
+            bytes.fromhex(payload),
+            is_extended_id=is_extended,
+            is_error_frame=is_error,
+            is_fd=flags is not None,
+            timestamp=timestamp,
+        )
+
+    def __str__(self) -> str:
+        if self.is_error_frame:
+            return f"{self.arbitration_id | ERROR:08X}#{self.data.hex().upper()}"
+        digits = f"{self.arbitration_id:08X}" if self.is_extended_id else f"{self.arbitration_id:03X}"
+        if self.is_remote_frame:
+            return f"{digits}#R{self.dlc or ''}"
+        return f"{digits}#{'#0' if self.is_fd else ''}{self.data.hex().upper()}"
+
+    @property
+    def meaning(self) -> str:
+        """What an error message frame says, in words; the empty text for another frame."""
+        return meaning(str(self))
+
+
+class MessageLike(Protocol):
+    """What a frame and python-can's Message have in common."""
+
+    @property
+    def arbitration_id(self) -> int: ...
+
+    @property
+    def data(self) -> Union[bytes, bytearray]: ...
+
+    @property
+    def is_extended_id(self) -> bool: ...
+
+    @property
+    def is_remote_frame(self) -> bool: ...
+
+    @property
+    def is_error_frame(self) -> bool: ...
+
+    @property
+    def is_fd(self) -> bool: ...
+
+    @property
+    def dlc(self) -> int: ...
+
+    @property
+    def timestamp(self) -> float: ...
+
+
+def frame_like(message: MessageLike) -> Frame:
+    """Returns the frame that a message of python-can is."""
+    if isinstance(message, Frame):
+        return message
+    return Frame(
+        message.arbitration_id,
+        bytes(message.data),
+        message.is_extended_id,
+        message.is_remote_frame,
+        message.is_error_frame,
+        message.is_fd,
+        message.dlc,
+        message.timestamp,
+    )
+
+
+def check_frame(message: MessageLike) -> None:
+    """Raises BadFrame where no frame has these fields."""
+    most = 0x1FFFFFFF if message.is_extended_id or message.is_error_frame else 0x7FF
+    if not 0 <= message.arbitration_id <= most:
+        raise BadFrame(f"arbitration_id {message.arbitration_id:#x} is not in 0 to {most:X}")
+    length = len(message.data)
+    if message.is_remote_frame:
+        if length or message.is_fd or not 0 <= message.dlc <= 8:
+            raise BadFrame("a remote frame has no data, is no FD frame, and has a dlc of 0 to 8")
+    elif length > 8 and not message.is_fd or length not in FD_LENGTHS:
+        lengths = "0 to 8, 12, 16, 20, 24, 32, 48 or 64" if message.is_fd else "0 to 8"
+        raise BadFrame(f"data has {length} bytes, not {lengths}")
+    elif message.dlc != length:
+        raise BadFrame(f"dlc {message.dlc} is not the length of data, which has {length} bytes")
+
+
+def command_of(message: MessageLike) -> str:
+    """Returns the message by which a session sends a frame or a message of python-can, without `<` and `>`."""
+    check_frame(message)
+    if message.is_error_frame:
+        raise BadFrame("an error message frame, which nobody sends")
+    digits = f"{message.arbitration_id:08X}" if message.is_extended_id else f"{message.arbitration_id:03X}"
+    if message.is_remote_frame:
+        return f"sendrtr {digits} {message.dlc}"
+    words = f"{'sendfd' if message.is_fd else 'send'} {digits} {message.dlc}"
+    return f"{words} {message.data.hex(' ').upper()}" if message.dlc else words
+
+
+def received(make: Callable[..., Made], kind: str, digits: str, moment: str, payload: str = "") -> Made:
+    """Returns what `make` makes of the words of a message that hands over a frame."""
+    is_remote, is_error = kind == "remote", kind == "error"
+    data = b"" if is_remote else bytes.fromhex(payload)
+    return make(
+        timestamp=float(moment),
+        arbitration_id=int(digits, 16),
+        is_extended_id=len(digits) == 8 and not is_error,
+        is_remote_frame=is_remote,
+        is_error_frame=is_error,
+        dlc=int(payload) if is_remote else len(data),
+        data=data,
+        is_fd=kind == "fdframe",
+    )
+
+
+def frame_of(message: str) -> Optional[Frame]:
+    """Returns the frame that a session's message, without `<` and `>`, hands over; None for an answer."""
+    words = MESSAGE.fullmatch(message.strip())
+    return received(Frame, *words.groups(default="")) if words else None
+
+
+def error_frame(error_class: int, data: Union[bytes, Sequence[int]]) -> str:
+    """Returns the text of an error message frame: its class with the error flag, and 8 bytes."""
+    return f"{error_class | ERROR:08X}#{bytes(data).hex().upper()}"
+
+
+def is_fd(text: str) -> bool:
+    """Whether this is the text of an FD frame."""
+    return "##" in text
+
+
+def is_error(text: str) -> bool:
+    """Whether this is the text of an error message frame."""
+    return text[0] in "23" and text.find("#") == 8
+
+
+def meaning(text: str) -> str:
+    """Returns what an error message frame says, in words; the empty text for another frame."""
+    if not is_error(text):
+        return ""
+    number, data = int(text[:8], 16), bytes.fromhex(text[9:]).ljust(8, b"\0")
+    words = [name for bit, name in CLASSES if number & bit]
+    if number & 0x080:
+        words += fault_words(data)
+    if number & 0x004:
+        words += [name for bits, name in STATES if data[1] & bits]
+    if number & 0x200:
+        words.append(f"transmit count {data[6]}, receive count {data[7]}")
+    return ", ".join(words)
+
+
+def fault_words(data: bytes) -> List[str]:
+    """The kind and the place of a bus error."""
+    words = [name for bit, name in FAULTS if data[2] & bit]
+    if data[2] & SENDING:
+        words.append("while sending")
+    if data[3] in PLACES:
+        words.append(f"in the {PLACES[data[3]]}")
+    return [" ".join(words)] if words else []

@@ -1,0 +1,203 @@
+"""The pytest plugin: a server or a bench for a test, whose records are audited when the test ends.
+
+    @pytest.mark.canbusd("can0,can1", auto_restart=100)
+    def test_a_node(canbusd):
+        with canbusd.bus("can0") as tester, canbusd.bus("can1") as node:
+            ...
+"""
+
+import os
+import re
+import shutil
+from pathlib import Path
+from typing import TYPE_CHECKING, Any, Dict, Iterator, List, Protocol, Tuple, Union
+
+import pytest
+
+from canbusd import _summary
+from canbusd._program import audited
+from canbusd.bench import Bench
+from canbusd.record import BadRecord, read_record
+
+if TYPE_CHECKING:
+    from canbusd.server import Server
+
+#: The buses of the fixture `canbusd` where no marker names others.
+BUSES = ("can0,can1",)
+FAILED = pytest.StashKey[bool]()
+PROGRAM = pytest.StashKey[bool]()
+
+
+def pytest_addoption(parser: pytest.Parser) -> None:
+    """Adds `--canbusd-keep` and `canbusd_program`."""
+    parser.addini("canbusd_program", "path of the program canbusd, from the ini file; $CANBUSD goes before it")
+    parser.getgroup("canbusd").addoption(
+        "--canbusd-keep",
+        choices=("failed", "all", "none"),
+        default="failed",
+        help="of which tests the logs, records and pages are kept (default: failed)",
+    )
+
+
+def pytest_configure(config: pytest.Config) -> None:
+    """Describes the marker, and takes the program from the ini file."""
+    config.addinivalue_line(
+        "markers",
+        "canbusd(*buses, **options): the buses of the fixtures canbusd and canbusd_bench, and their options, as of "
+        "canbusd.Server and canbusd.Bench",
+    )
+    program = str(config.getini("canbusd_program"))
+    if program and "CANBUSD" not in os.environ:
+        folder = config.inipath.parent if config.inipath else config.rootpath
+        os.environ["CANBUSD"] = str(folder / program)
+        config.stash[PROGRAM] = True
+
+
+def pytest_unconfigure(config: pytest.Config) -> None:
+    """Forgets the program of the ini file."""
+    if config.stash.get(PROGRAM, False):
+        os.environ.pop("CANBUSD", None)
+
+
+def pytest_runtest_makereport(item: pytest.Item, call: "pytest.CallInfo[None]") -> None:
+    """Keeps whether the test failed, for the end of its fixtures."""
+    if call.excinfo is not None and not call.excinfo.errisinstance(pytest.skip.Exception):
+        item.stash[FAILED] = True
+
+
+class StartsServer(Protocol):
+    """What the fixture `canbusd_server` is: it starts a server with these buses and the options of Server."""
+
+    def __call__(self, *buses: str, **options: Any) -> "Server":
+        """Starts a server."""
+
+
+class Runs:
+    """The servers and benches of a test, and the folder with their logs and records."""
+
+    def __init__(self, request: pytest.FixtureRequest, factory: pytest.TempPathFactory) -> None:
+        self._item: pytest.Item = request.node
+        self._keep = str(request.config.getoption("--canbusd-keep"))
+        name = re.sub(r"\W+", "-", self._item.name)[:40]
+        self._folder = factory.mktemp(f"canbusd-{name}")
+        self._runs: List[Union["Server", Bench]] = []
+        #: By the path of each record its run, and the names of its interfaces.
+        self._records: Dict[Path, Tuple[Union["Server", Bench], List[str]]] = {}
+
+    def server(self, *buses: str, **options: Any) -> "Server":
+        """Starts a server whose logs and records are in a folder of the test."""
+        from canbusd.server import Server
+
+        out = self._folder_of(options)
+        server = Server(*buses, **options)
+        self._add(server, out, [bus.partition("@")[0].split(",") for bus in buses])
+        return server
+
+    def bench(self, names: str, **options: Any) -> Bench:
+        """Starts a bench whose log and record are in a folder of the test."""
+        out = self._folder_of(options)
+        bench = Bench(names, **options)
+        self._add(bench, out, [list(bench.names)])
+        return bench
+
+    def _folder_of(self, options: Dict[str, Any]) -> Path:
+        if options.get("out") is None:
+            options["out"] = self._folder / str(len(self._runs))
+            options["out"].mkdir()
+        return Path(options["out"])
+
+    def _add(self, run: Union["Server", Bench], out: Path, buses: List[List[str]]) -> None:
+        self._runs.append(run)
+        for names in buses:
+            self._records[out / f"{names[0]}.rec"] = run, names
+
+    def end(self) -> None:
+        """Ends the runs and audits their records; a fault of one of them fails the test."""
+        faults = [*self._stop(), *self._audit()]
+        failed = bool(faults) or self._item.stash.get(FAILED, False)
+        if failed:
+            sections = [self._section(path, names) for path, (_, names) in self._records.items() if path.exists()]
+            self._item.add_report_section("teardown", "canbusd", "\n\n".join(sections))
+        if self._keep == "none" or (self._keep == "failed" and not failed):
+            shutil.rmtree(self._folder, ignore_errors=True)
+        if faults:
+            pytest.fail("\n".join(faults), pytrace=False)
+
+    def _stop(self) -> Iterator[str]:
+        """Ends what still runs; yields what went wrong."""
+        for run in self._runs:
+            if self._was_killed(run):
+                # The test knows of it, and of a killed server there are no records.
+                self._records = {path: of for path, of in self._records.items() if of[0] is not run}
+                continue
+            try:
+                result = run.stop()
+                if result is not None and result.status != 0:
+                    yield f"the server ended with status {result.status}"
+            except (RuntimeError, OSError) as fault:
+                yield str(fault)
+
+    @staticmethod
+    def _was_killed(run: Union["Server", Bench]) -> bool:
+        """Whether the test itself has killed the server."""
+        return not isinstance(run, Bench) and run._result is not None and run._result.status < 0
+
+    def _audit(self) -> Iterator[str]:
+        """Audits the records; yields what is wrong."""
+        for path in self._records:
+            said = audited(path) if path.exists() else "there is none"
+            if not re.fullmatch(r"ok \d+ entries", said):
+                yield f"the record {path}: {said}"
+
+    def _section(self, path: Path, names: List[str]) -> str:
+        """What a failed test shows of a bus: the end of its log, states and counts, and the path of the page."""
+        lines = _summary.end_of_log(path.with_suffix(".log"))
+        try:
+            record = read_record(path, names)
+            lines[:0] = _summary.story(record.run)
+            lines += _summary.table(_summary.interfaces(record.run))
+            if self._keep != "none":
+                page = _summary.write_page(record, path.with_suffix(".html"))
+                lines.append(f"page: {page}")
+        except BadRecord as fault:
+            lines.append(f"{path}: {fault}")
+        return "\n".join(lines)
+
+
+@pytest.fixture
+def _canbusd_runs(
+    request: pytest.FixtureRequest, tmp_path_factory: pytest.TempPathFactory
+) -> Iterator[Runs]:
+    runs = Runs(request, tmp_path_factory)
+    yield runs
+    runs.end()
+
+
+def marked(request: pytest.FixtureRequest) -> Tuple[Tuple[str, ...], Dict[str, Any]]:
+    """The buses and the options of the test's marker."""
+    marker = request.node.get_closest_marker("canbusd")
+    if marker is None:
+        return BUSES, {}
+    return tuple(marker.args) or BUSES, dict(marker.kwargs)
+
+
+@pytest.fixture
+def canbusd_server(_canbusd_runs: Runs) -> StartsServer:
+    """Starts servers: `canbusd_server("can0,can1", faults=..)`. Each is ended after the test, and its records audited."""
+    return _canbusd_runs.server
+
+
+@pytest.fixture
+def canbusd(request: pytest.FixtureRequest, _canbusd_runs: Runs) -> "Server":
+    """A server for the test, with the buses of the marker `canbusd`, else with can0 and can1 on one bus."""
+    buses, options = marked(request)
+    return _canbusd_runs.server(*buses, **options)
+
+
+@pytest.fixture
+def canbusd_bench(request: pytest.FixtureRequest, _canbusd_runs: Runs) -> Bench:
+    """A bench for the test, with the bus of the marker `canbusd`, else with can0 and can1."""
+    buses, options = marked(request)
+    if len(buses) != 1:
+        raise pytest.UsageError(f"canbusd_bench has one bus, and the marker canbusd names {len(buses)}")
+    return _canbusd_runs.bench(buses[0], **options)

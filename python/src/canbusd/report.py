@@ -1,0 +1,310 @@
+"""Makes a page that shows a run: what its replay gives as columns of numbers, in one file with its style and script."""
+
+import base64
+import functools
+import json
+import operator
+import os
+import struct
+import sys
+import zlib
+from array import array
+from typing import Any, Dict, Iterable, List, Sequence, Tuple
+
+from canbusd.frames import meaning
+from canbusd.replay import OFF, Delivery, Run, Socket, Step
+from canbusd.story import Event, events_of, facts_of, heading_of, verdict_words
+
+# By their numbers on the page.
+KINDS = ["done", "lastbit", "destroyed", "noack", "restart", "idle"]
+FATES = ["taken", "waiting", "unread", "dropped"]
+STATES = ["active", "warning", "passive", "off"]
+# Where there are more steps than pixels the page draws from sums over this many steps. Short runs need none.
+CELL = 256
+FEWEST_FOR_CELLS = 4096
+
+Json = Dict[str, Any]
+Column = List[Any]
+
+
+class Block:
+    """The columns of the page, each at a multiple of 8 bytes, lowest byte first."""
+
+    def __init__(self) -> None:
+        self.parts: List[bytes] = []
+        self.size = 0
+
+    def column(self, code: str, numbers: Iterable[float]) -> Column:
+        """Adds a column, and returns its type, its place and its length."""
+        column = array(code, numbers)
+        if sys.byteorder == "big":
+            column.byteswap()
+        data = column.tobytes()
+        place = self.size
+        self.parts.append(data + bytes(-len(data) % 8))
+        self.size += len(self.parts[-1])
+        return [code, place, len(column)]
+
+    def rising(self, numbers: Sequence[int]) -> Column:
+        """Adds a column of numbers that never fall, as their differences."""
+        return [*self.column("I", map(operator.sub, numbers, [0, *numbers])), "rising"]
+
+    def packed(self, header: Json) -> str:
+        """Returns the header and the columns: compressed, in base64."""
+        text = json.dumps(header, separators=(",", ":")).encode()
+        text += b" " * (-(len(text) + 8) % 8)
+        whole = zlib.compress(b"".join([struct.pack("<II", len(text), 0), text, *self.parts]), 6)
+        return base64.b64encode(whole).decode()
+
+
+class Texts:
+    """Each text once, by its place."""
+
+    def __init__(self) -> None:
+        self.places: Dict[str, int] = {}
+
+    def place(self, text: str) -> int:
+        """Returns the place of a text."""
+        return self.places.setdefault(text, len(self.places))
+
+    def all(self) -> List[str]:
+        """Returns the texts by their places."""
+        return list(self.places)
+
+
+def members(numbers: Iterable[int]) -> int:
+    """A set of interfaces, bit i for interface i."""
+    return sum(1 << number for number in numbers)
+
+
+class Timeline:
+    """The steps of a run with its idle attempts between them, in columns."""
+
+    def __init__(self, run: Run) -> None:
+        self.ifaces = len(run.ifaces)
+        # How many idle attempts in a row it is, shown as one step; for 0 the step itself. Those go with the step after them.
+        self.rows: List[Tuple[int, Step]] = []
+        # Where each step of the run is among the rows.
+        self.places: List[int] = []
+        for step in run.steps:
+            if step.idle:
+                self.rows.append((step.idle, step))
+            self.places.append(len(self.rows))
+            self.rows.append((0, step))
+        if run.idle_since:
+            self.rows.append((run.idle_since, run.steps[-1] if run.steps else blank_step(self.ifaces)))
+        self.kinds = bytes(KINDS.index("idle" if idle else step.kind) for idle, step in self.rows)
+        self.counts = self.counts_of()
+        self.waiting = [[0 if idle else step.waiting[i] for idle, step in self.rows] for i in range(self.ifaces)]
+
+    def counts_of(self) -> List[Tuple[List[int], List[int]]]:
+        """Transmit and receive counts of each interface after each row."""
+        now = [(0, 0)] * self.ifaces
+        whole = []
+        for idle, step in self.rows:
+            now = now if idle else step.counts
+            whole.append(now)
+        return [([row[i][0] for row in whole], [row[i][1] for row in whole]) for i in range(self.ifaces)]
+
+    def steps(self, block: Block, texts: Texts, verdicts: Texts) -> Json:
+        """The columns of the rows; those of an idle one say only how many attempts it was."""
+        rows = self.rows
+        tried = [None if idle else step for idle, step in rows]
+        entries = [step.entry for _, step in rows]
+        return {
+            "kind": block.column("B", self.kinds),
+            "entry": block.rising(list(accumulated_most(entries))),
+            "iface": block.column("B", (step.iface if step else 0 for step in tried)),
+            "number": block.column("I", (idle or step.number for idle, step in rows)),
+            "frame": block.column("I", (texts.place(step.text) if step else 0 for step in tried)),
+            "verdict": block.column("I", (verdicts.place(step.verdict) if step else 0 for step in tried)),
+            "accepted": block.column("H", (members(step.accepted) if step else 0 for step in tried)),
+            "hit": block.column("H", (members(step.hit) if step else 0 for step in tried)),
+            "off": block.column("H", (members(step.off) if step else 0 for step in tried)),
+            "seconds": block.column("d", (float(step.moment.split(".")[0]) for _, step in rows)),
+            "micros": block.column("I", (int(step.moment.split(".")[1]) for _, step in rows)),
+            # How many took part where it was more than one.
+            "met": block.column("B", (taking_part(step) if step else 0 for step in tried)),
+        }
+
+    def contenders(self, block: Block, texts: Texts) -> Json:
+        """Who took part in arbitration, where it was more than one."""
+        met = [one for idle, step in self.rows if not idle and taking_part(step) for one in step.contenders]
+        return {
+            "ifaces": block.column("B", (number for number, _ in met)),
+            "frames": block.column("I", (texts.place(frame.text) for _, frame in met)),
+        }
+
+    def lines(self, block: Block) -> Json:
+        """The counts and the waiting frames of each interface, by rows, with the extremes of each cell."""
+        found: Json = {"tec": [], "rec": [], "waiting": []}
+        for (tec, rec), waiting in zip(self.counts, self.waiting):
+            for name, numbers in (("tec", tec), ("rec", rec), ("waiting", waiting)):
+                found[name].append(
+                    {
+                        "all": block.column("H", numbers),
+                        "high": block.column("H", map(max, cells(numbers))),
+                        "low": block.column("H", map(min, cells(numbers))),
+                    }
+                )
+        return found
+
+    def cells(self, block: Block) -> Json:
+        """For each cell: how many attempts of each kind each interface won, and in how many rows it was off."""
+        codes = bytes((0 if idle else step.iface) << 4 | kind for (idle, step), kind in zip(self.rows, self.kinds))
+        return {
+            "size": CELL,
+            "wins": [
+                [block.column("H", (cell.count(i << 4 | kind) for cell in cells(codes))) for kind in range(5)]
+                for i in range(self.ifaces)
+            ],
+            "idle": block.column("H", (cell.count(5) for cell in cells(self.kinds))),
+            "away": [
+                block.column("H", (sum(count >= OFF for count in cell) for cell in cells(tec))) for tec, _ in self.counts
+            ],
+        }
+
+
+def blank_step(ifaces: int) -> Step:
+    """What idle attempts are shown with in a run that tried nothing."""
+    return Step("idle", 0, "0.000000", 0, 0, 0, "", "", [], [], [], [], [(0, 0)] * ifaces, [0] * ifaces, 0)
+
+
+def accumulated_most(numbers: Iterable[int]) -> Iterable[int]:
+    """Each number, or a greater one before it."""
+    most = 0
+    for number in numbers:
+        most = max(most, number)
+        yield most
+
+
+def taking_part(step: Step) -> int:
+    """How many frames met in arbitration; 0 for one."""
+    return len(step.contenders) if len(step.contenders) > 1 else 0
+
+
+def cells(numbers: Any) -> Iterable[Any]:
+    """The parts of a column of which the page draws sums; none where it is short."""
+    if len(numbers) < FEWEST_FOR_CELLS:
+        return
+    for first in range(0, len(numbers), CELL):
+        yield numbers[first : first + CELL]
+
+
+def items_of(items: Sequence[Delivery], places: Sequence[int], block: Block, texts: Texts) -> Json:
+    """The items: their sender and number are those of their step, unless they are error message frames."""
+    steps = [places[item.step] for item in items]
+    gone = [0 if item.taken_after is None or item.taken_after < 0 else places[item.taken_after] + 1 for item in items]
+    return {
+        "socket": block.column("I", (item.socket.number for item in items)),
+        "step": block.rising(steps),
+        # 0 for the frame of the step, else the place of an error message frame.
+        "error": block.column("I", (0 if item.number is not None else texts.place(item.text) for item in items)),
+        "fate": block.column("B", (FATES.index(item.fate) for item in items)),
+        # How many steps later it was no longer in its queue.
+        "later": block.column("I", (max(0, after - step) for step, after in zip(steps, gone))),
+    }
+
+
+def bits_of(run: Run) -> Dict[str, str]:
+    """The arbitration bits of frames that met others, by the part of their text that says which."""
+    met = {frame.text: frame.bits for step in run.steps if taking_part(step) for _, frame in step.contenders}
+    return {arbitrating(text): bits for text, bits in met.items()}
+
+
+def arbitrating(text: str) -> str:
+    """The part of a frame's text on which arbitration depends: `123#` or `123#R`."""
+    identifier, payload = text.split("#", 1)
+    return f"{identifier}#{'R' if payload.startswith('R') else ''}"
+
+
+def ifaces_of(run: Run) -> List[Json]:
+    """The interfaces at the end of the run."""
+    return [
+        {
+            "sent": one.sent,
+            "done": one.done,
+            "waiting": len(one.waiting),
+            "lost": one.lost,
+            "refused": one.refused,
+            "tec": one.tec,
+            "rec": one.rec,
+            "state": STATES[one.state()],
+        }
+        for one in run.ifaces
+    ]
+
+
+def socket_of(socket: Socket) -> Json:
+    """A socket at the end of the run."""
+    waiting = len(socket.queue)
+    return {
+        "number": socket.number,
+        "iface": socket.iface,
+        "capacity": socket.capacity,
+        "queued": socket.queued,
+        "taken": socket.taken,
+        "waiting": waiting,
+        "unread": socket.queued - socket.taken - waiting,
+        "dropped": socket.dropped,
+        "open": "to the end" if socket.closed_after is None else "closed",
+    }
+
+
+def event_of(event: Event, places: Sequence[int]) -> Column:
+    """An event: its place, its kind and its words."""
+    return [places[event.step] if event.step >= 0 and places else 0, event.kind, event.words]
+
+
+def data_of(run: Run, names: Sequence[str], title: str, most_items: int) -> str:
+    """The data of a page, as its script reads it."""
+    block, texts, verdicts = Block(), Texts(), Texts()
+    # Place 0 is no error message frame.
+    texts.place("")
+    timeline = Timeline(run)
+    events = events_of(run, names)
+    heading, first = heading_of(run, names, events)
+    worst = max(run.sockets, key=lambda socket: (socket.dropped, socket.queued), default=None)
+    header = {
+        "title": title,
+        "heading": heading,
+        "first": timeline.places[first] if timeline.places else 0,
+        "facts": facts_of(run),
+        "names": list(names),
+        "steps": timeline.steps(block, texts, verdicts),
+        "contenders": timeline.contenders(block, texts),
+        **timeline.lines(block),
+        "cells": timeline.cells(block),
+        "items": items_of(run.items[:most_items], timeline.places, block, texts),
+        "itemsInAll": len(run.items),
+        "events": [event_of(event, timeline.places) for event in events],
+        "ifaces": ifaces_of(run),
+        "sockets": [socket_of(socket) for socket in run.sockets],
+        "socket": worst.number if worst else 0,
+        "bits": bits_of(run),
+        "texts": texts.all(),
+        "meanings": {place: meaning(text) for place, text in enumerate(texts.all()) if text and meaning(text)},
+        "verdicts": [verdict_words(verdict, names) for verdict in verdicts.all()],
+    }
+    return block.packed(header)
+
+
+def page(run: Run, names: Sequence[str], title: str, most_items: int = 1000000) -> str:
+    """Returns the page of a run, with its first items."""
+    return filled("page.html", ["draw.js", "page.js"]).replace("/*RUN*/", data_of(run, names, title, most_items))
+
+
+def filled(name: str, scripts: Sequence[str]) -> str:
+    """Returns a page without its data."""
+    parts = {"BODY": part(name), "STYLE": part("page.css"), "SCRIPT": "".join(part(one) for one in scripts)}
+    text = part("shell.html")
+    for place, content in parts.items():
+        text = text.replace(f"/*{place}*/", content.rstrip("\n"))
+    return text
+
+
+@functools.lru_cache(maxsize=None)
+def part(name: str) -> str:
+    """Returns a file of the page."""
+    with open(os.path.join(os.path.dirname(os.path.abspath(__file__)), "page", name), encoding="utf-8") as file:
+        return file.read()

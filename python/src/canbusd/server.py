@@ -1,0 +1,209 @@
+"""A server for a test: it is started, used and ended, and leaves logs and records.
+
+    with Server("can0,can1", faults=Faults().last_bit(0)) as server:
+        with server.bus("can0") as can0, server.bus("can1") as can1:
+            ...
+    assert len(server.log("can0")) == 2
+"""
+
+import os
+import re
+import select
+import subprocess
+import time
+from pathlib import Path
+from typing import TYPE_CHECKING, Any, Dict, List, Mapping, NamedTuple, Optional, Tuple, Union
+
+from canbusd._program import audited
+from canbusd._run import RUNNING, Run
+from canbusd.faults import Script, script_text
+from canbusd.record import Record, read_log, read_record
+
+if TYPE_CHECKING:
+    from can.message import Message
+
+    from canbusd.bus import CanbusdBus
+
+#: Seconds in which a server has to listen, and to end. Long records take their time.
+START, END = 10.0, 60.0
+ENTRIES = re.compile(r"bus (\S+) entries (\d+)")
+
+
+class ServerError(RuntimeError):
+    """The server could not be started, or ended with a fault; the text is what canbusd said of it."""
+
+
+class Result(NamedTuple):
+    """How a server ended."""
+
+    #: The status of the program: 0 if all went well, below 0 if a signal killed it.
+    status: int
+    #: How many entries the record of each bus has, by the name of its first interface.
+    entries: Dict[str, int]
+
+
+def bus_words(
+    buses: Tuple[str, ...], faults: Union[Script, Mapping[str, Script], None], folder: Path
+) -> Dict[str, List[str]]:
+    """Returns the interfaces of each bus by the first of them, after the fault scripts were written into this folder.
+
+    The last word of each list is what the program is given: `can0,can1@FILE`.
+    """
+    by_bus: Dict[str, List[str]] = {}
+    for bus in buses:
+        names = bus.partition("@")[0].split(",")
+        by_bus[names[0]] = [*names, bus]
+    if faults is None:
+        return by_bus
+    if not isinstance(faults, Mapping):
+        if len(by_bus) != 1:
+            raise ValueError("faults of several buses are a dict, by the name of a bus's first interface")
+        faults = {next(iter(by_bus)): faults}
+    for given, script in faults.items():
+        name = given.split(",")[0]
+        if name not in by_bus:
+            raise ValueError(f"faults are of {given!r}, which is no bus of this server")
+        if "@" in by_bus[name][-1]:
+            raise ValueError(f"faults of {given!r} are given twice")
+        file = folder / f"{name}.faults"
+        file.write_text(script_text(script), encoding="utf-8")
+        by_bus[name][-1] += f"@{file}"
+    return by_bus
+
+
+class Server(Run):
+    """`canbusd serve` with these buses, each the names of its interfaces: ``Server("can0,can1", "car0")``.
+
+    The options are those of the program. ``faults`` is a script for the one bus there is (:class:`canbusd.Faults`, a path
+    or a text), or a dict of them by the name of a bus's first interface. ``out`` is a folder for logs and records; without
+    it they are kept as long as the server is. The server runs when the constructor returns, and is ended by :meth:`stop`,
+    by the end of a ``with`` block, and by the end of this process, whatever ends it.
+    """
+
+    def __init__(
+        self,
+        *buses: str,
+        faults: Union[Script, Mapping[str, Script], None] = None,
+        ack: str = "always",
+        report: bool = False,
+        auto_restart: int = 0,
+        pace_ms: int = 1,
+        txqueue: int = 10,
+        rxqueue: int = 256,
+        limit: int = 1_000_000,
+        out: Union[str, "os.PathLike[str]", None] = None,
+        listen: str = "127.0.0.1:0",
+    ) -> None:
+        if not buses:
+            raise ValueError("buses are missing: give the names of interfaces, such as 'can0,can1'")
+        super().__init__(out)
+        self._txqueue = txqueue
+        self._by_bus = bus_words(buses, faults, self._folder)
+        self._result: Optional[Result] = None
+        words = ["--listen", listen, "--ack", ack, *(["--report"] if report else [])]
+        words += ["--auto-restart", str(auto_restart), "--pace", str(pace_ms), "--txqueue", str(txqueue)]
+        words += ["--rxqueue", str(rxqueue), "--limit", str(limit), "--out", str(self._out)]
+        self._start("serve", "--until-eof", *words, "--", *(bus[-1] for bus in self._by_bus.values()))
+        #: Where clients connect: HOST:PORT, or a Unix path.
+        self.address = self._listening()
+
+    def bus(self, channel: str, **kwargs: Any) -> "CanbusdBus":
+        """Returns a bus of python-can on the interface of this name; the arguments are those of CanbusdBus."""
+        from canbusd.bus import CanbusdBus
+
+        bus = CanbusdBus(channel, address=self.address, **kwargs)
+        bus.window = self._txqueue
+        return bus
+
+    def stop(self) -> Result:
+        """Ends the server; logs and records are written. Called again it returns the same."""
+        if self._result is None:
+            self._close_input()
+            status, written = self._ended()
+            self._result = Result(status, {name: int(number) for name, number in ENTRIES.findall(written)})
+            if status > 0:
+                raise ServerError(self.said or f"the server ended with status {status}")
+        return self._result
+
+    def kill(self) -> Result:
+        """Ends the server as a crash would: no logs or records are written."""
+        if self._result is None:
+            self._signal()
+            self._close_input()
+            self._result = Result(self._ended()[0], {})
+        return self._result
+
+    def log(self, name: Optional[str] = None) -> List["Message"]:
+        """Ends the server, and returns the frames that were put on the bus of this interface, oldest first.
+
+        The channel of each is the interface that sent it. A frame that was destroyed or not acknowledged is an error
+        message frame. The name may be left out where there is one bus.
+        """
+        return read_log(self._file(name, "log"))
+
+    def record(self, name: Optional[str] = None) -> Record:
+        """Ends the server, and returns the record of the bus of this interface."""
+        return read_record(self._file(name, "rec"), self._by_bus[self._first(name)][:-1])
+
+    def audit(self) -> Dict[str, str]:
+        """Ends the server, and returns what `canbusd audit` says of each record, by its bus: `ok 7 entries` or a fault."""
+        return {name: audited(self._file(name, "rec")) for name in self._by_bus}
+
+    def report(self, name: Optional[str] = None) -> Path:
+        """Ends the server, and returns the path of a page for the browser that shows the run of this interface's bus."""
+        from canbusd._summary import write_page
+
+        return Path(write_page(self.record(name), self._file(name, "html")))
+
+    def _first(self, name: Optional[str]) -> str:
+        """The first interface of the bus that has this one."""
+        found = [first for first, names in self._by_bus.items() if name in names[:-1] or name is None]
+        if len(found) != 1:
+            raise ValueError(f"name is that of an interface of the server, not {name!r}")
+        return found[0]
+
+    def _file(self, name: Optional[str], ending: str) -> Path:
+        first = self._first(name)
+        self.stop()
+        return self._out / f"{first}.{ending}"
+
+    def _listening(self) -> str:
+        """Waits until the server listens, and returns its address."""
+        line = self._line(time.monotonic() + START)
+        if line.startswith("listening "):
+            return line[len("listening ") :].rstrip("\n")
+        self._close_input()
+        if line:
+            self._signal()
+        status, _ = self._ended()
+        self._result = Result(status, {})
+        raise ServerError(self.said or f"the server does not listen: {line!r}, status {status}")
+
+    def _line(self, deadline: float) -> str:
+        """The first line that the server writes; what there is of it at its end, and at the deadline."""
+        assert self._child.stdout is not None
+        output = self._child.stdout.fileno()
+        line = b""
+        while not line.endswith(b"\n"):
+            left = max(0.0, deadline - time.monotonic())
+            if not select.select([output], [], [], left)[0]:
+                self._signal()
+                break
+            piece = os.read(output, 1)
+            if not piece:
+                break
+            line += piece
+        return line.decode()
+
+    def _ended(self) -> Tuple[int, str]:
+        """Waits for the end of the server; its status, and what it wrote."""
+        try:
+            written, _ = self._child.communicate(timeout=END)
+        except subprocess.TimeoutExpired:
+            self._signal()
+            self._child.communicate()
+            self._result = Result(self._child.returncode, {})
+            raise ServerError(f"the server did not end within {END:.0f} seconds, and was killed") from None
+        finally:
+            RUNNING.discard(self)
+        return self._child.returncode, written.decode()

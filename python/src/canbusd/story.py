@@ -1,0 +1,184 @@
+"""A run in words: its heading, its facts, and the events that a reader looks for."""
+
+import bisect
+import re
+from typing import Dict, Iterable, Iterator, List, NamedTuple, Sequence, Tuple
+
+from canbusd.replay import Run, Step, severity
+
+OUTCOMES = {"done": "done", "lastbit": "failed in the last bit", "destroyed": "destroyed", "noack": "not acknowledged"}
+STATES = ["active", "warning", "passive"]
+# Refusals and drops of one place are one event where no more steps than these are between them.
+GAP = 8
+REFUSED = re.compile("send ([0-9]+) .* = (no-buffers|bus-off)")
+REASONS = {"no-buffers": "its transmit queue was full", "bus-off": "it was bus off"}
+
+
+class Event(NamedTuple):
+    """Something that a reader looks for, at a step of the run; -1 before the first."""
+
+    step: int
+    kind: str
+    iface: int
+    words: str
+
+
+def times(count: int, one: str, many: str = "") -> str:
+    """`1 frame`, `2 frames`."""
+    return f"{count:,} {one if count == 1 else many or one + 's'}"
+
+
+def joined(words: Sequence[str]) -> str:
+    """`a`, `a and b`, `a, b and c`."""
+    return " and ".join([", ".join(words[:-1]), words[-1]] if len(words) > 1 else words)
+
+
+def events_of(run: Run, names: Sequence[str]) -> List[Event]:
+    """The events of a run, by their steps."""
+    found = [*changes_of(run, names), *second_copies(run, names), *refusals_of(run, names), *drops_of(run, names)]
+    return sorted(found, key=lambda event: event.step)
+
+
+def changes_of(run: Run, names: Sequence[str]) -> Iterator[Event]:
+    """Changes of state, frames lost by bus off, and restarts."""
+    before = [(0, 0)] * len(names)
+    for number, step in enumerate(run.steps):
+        if step.kind == "restart":
+            yield Event(number, "restart", step.iface, f"{names[step.iface]} is back on the bus, with both counts 0")
+        elif step.counts != before:
+            for i, (old, new) in enumerate(zip(before, step.counts)):
+                if severity(max(old)) != severity(max(new)):
+                    yield from change_of(number, step, i, names[i])
+        before = step.counts
+
+
+def change_of(number: int, step: Step, i: int, name: str) -> Iterator[Event]:
+    """The change of the state of an interface in a step."""
+    tec, rec = step.counts[i]
+    state = severity(max(tec, rec))
+    if state == 3:
+        yield Event(number, "bus off", i, f"{name} went bus off: its transmit count reached {tec}")
+        lost = times(step.waiting[i], "frame")
+        yield Event(number, "lost", i, f"{name} lost {lost}: bus off empties its transmit queue")
+    else:
+        side = f"transmit count {tec}" if severity(tec) == state and state else f"receive count {rec}"
+        reason = side if state else "both counts below 96"
+        yield Event(number, STATES[state], i, f"{name} is error {STATES[state]}: {reason}")
+
+
+def second_copies(run: Run, names: Sequence[str]) -> Iterator[Event]:
+    """Attempts by which a receiver accepted a frame that it had already: after a fault in the last bit."""
+    had: Dict[int, Tuple[int, Dict[int, int]]] = {}
+    for number, step in enumerate(run.steps):
+        frame, copies = had.get(step.iface, (-1, {}))
+        if step.kind not in ("done", "lastbit") or not step.accepted:
+            continue
+        if frame != step.number:
+            copies = {}
+        again = [i for i in step.accepted if i in copies]
+        for i in step.accepted:
+            copies[i] = copies.get(i, 0) + 1
+        if again:
+            most = max(copies[i] for i in again)
+            who = joined([names[i] for i in again])
+            yield Event(number, "second copy", step.iface, f"{who} accepted {step.text} again: copy {most}")
+        had[step.iface] = (step.number, copies)
+
+
+def refusals_of(run: Run, names: Sequence[str]) -> Iterator[Event]:
+    """Sends that were refused because a queue was full or an interface off."""
+    entries = [step.entry for step in run.steps]
+    places: Dict[Tuple[int, str], List[int]] = {}
+    for number, line in enumerate(run.record.lines):
+        if line.endswith((" = no-buffers", " = bus-off")):
+            words = REFUSED.fullmatch(line)
+            if words:
+                key = run.sockets[int(words[1])].iface, words[2]
+                places.setdefault(key, []).append(bisect.bisect_left(entries, number) - 1)
+    for (iface, reason), steps in places.items():
+        for first, count in groups(steps):
+            yield Event(first, "refused", iface, f"{names[iface]} refused {times(count, 'send')}: {REASONS[reason]}")
+
+
+def drops_of(run: Run, names: Sequence[str]) -> Iterator[Event]:
+    """Items that found no room in the receive queue of a socket."""
+    places: Dict[int, List[int]] = {}
+    for item in run.items:
+        if item.fate == "dropped":
+            places.setdefault(item.socket.number, []).append(item.step)
+    for number, steps in places.items():
+        socket = run.sockets[number]
+        for first, count in groups(steps):
+            words = f"socket {number} on {names[socket.iface]} dropped {times(count, 'item')}: its receive queue was full"
+            yield Event(first, "dropped", socket.iface, words)
+
+
+def groups(steps: Iterable[int]) -> Iterator[Tuple[int, int]]:
+    """The first of each run of steps that are close together, and how many there are."""
+    first = last = count = 0
+    for step in steps:
+        if count and step - last > GAP:
+            yield first, count
+            count = 0
+        first = first if count else step
+        last, count = step, count + 1
+    if count:
+        yield first, count
+
+
+def verdict_words(verdict: str, names: Sequence[str]) -> str:
+    """A verdict of the record in words: `local crc at can1` for `local-crc:0002`."""
+    kind, _, hit = verdict.partition(":")
+    if not hit:
+        return {"good": "none", "lastbit": "last bit, at the sender only"}.get(kind, kind.replace("-", " "))
+    named = [name for number, name in enumerate(names) if int(hit, 16) >> number & 1]
+    return f"{kind.replace('-', ' ')} at {', '.join(named) or 'nobody'}"
+
+
+def counts_by_kind(run: Run) -> Dict[str, int]:
+    """How many steps of each kind there are."""
+    counts = dict.fromkeys([*OUTCOMES, "restart"], 0)
+    for step in run.steps:
+        counts[step.kind] += 1
+    return counts
+
+
+def facts_of(run: Run) -> str:
+    """What there is in the run, in numbers."""
+    counts = counts_by_kind(run)
+    outcomes = [f"{counts[kind]:,} {words}" for kind, words in OUTCOMES.items() if counts[kind]]
+    facts = [f"{times(run.attempts, 'attempt')}: {joined(outcomes)}"] if outcomes else []
+    facts += [times(run.idle, "idle attempt")] if run.idle else []
+    facts += [times(counts["restart"], "restart")] if counts["restart"] else []
+    return ". ".join([*facts, f"{times(len(run.record.lines), 'entry', 'entries')} in the record."])
+
+
+def heading_of(run: Run, names: Sequence[str], events: Sequence[Event]) -> Tuple[str, int]:
+    """The run in one line: how large it is, and the worst that happened; and the step in which it did."""
+    size = f"{times(len(names), 'node')}, {times(run.attempts, 'attempt')}"
+    if not run.attempts:
+        return f"{size}: no frame was tried", 0
+    words, step = worst_of(run, names, events)
+    return f"{size}: {words}", step
+
+
+def worst_of(run: Run, names: Sequence[str], events: Sequence[Event]) -> Tuple[str, int]:
+    """The worst that happened, and the first step in which it did."""
+    firsts = {event.kind: event for event in reversed(events)}
+    if "bus off" in firsts:
+        offs = [run.steps[event.step] for event in events if event.kind == "bus off"]
+        each = [f"{names[step.iface]} went bus off in attempt {step.attempt:,}" for step in offs]
+        many = f"{len(offs):,} times bus off, first {names[offs[0].iface]} in attempt {offs[0].attempt:,}"
+        return joined(each) if len(offs) <= 3 else many, firsts["bus off"].step
+    if "passive" in firsts:
+        first = firsts["passive"]
+        attempt = f"{run.steps[first.step].attempt:,}"
+        return f"{names[first.iface]} became error passive in attempt {attempt}", first.step
+    if "dropped" in firsts:
+        dropped = sum(socket.dropped for socket in run.sockets)
+        return f"{times(dropped, 'item')} dropped, since receive queues were full", firsts["dropped"].step
+    failed = [number for number, step in enumerate(run.steps) if step.kind not in ("done", "restart")]
+    if failed:
+        return f"{len(failed):,} failed", failed[0]
+    refused = sum(iface.refused for iface in run.ifaces)
+    return f"all done, {times(refused, 'send')} refused" if refused else "all done", 0

@@ -1,0 +1,109 @@
+"""A headless Chromium, driven through a pipe by its DevTools protocol."""
+
+import json
+import os
+import shutil
+import subprocess
+import time
+
+PROGRAM = shutil.which("chromium") or shutil.which("chromium-browser") or shutil.which("google-chrome")
+WAIT = 60
+# By the names of keys: their codes, and the text that they type.
+CODES = {"ArrowLeft": 37, "ArrowRight": 39, "ArrowDown": 40, "Home": 36, "End": 35, "Enter": 13}
+TEXTS = {"Enter": "\r"}
+# Python's side of the browser's file descriptors 3 and 4, from which it reads commands and to which it writes replies.
+LAUNCH = 'exec "$0" "$@" 3<&{} 4>&{}'
+
+
+class Browser:
+    """One page of a browser."""
+
+    def __init__(self, folder):
+        read, self.writer = os.pipe()
+        self.reader, write = os.pipe()
+        self.child = subprocess.Popen(
+            ["bash", "-c", LAUNCH.format(read, write), PROGRAM, "--headless=new", "--no-sandbox", "--disable-gpu",
+             "--hide-scrollbars", "--no-first-run", f"--user-data-dir={folder}", "--remote-debugging-pipe", "about:blank"],
+            pass_fds=(read, write), stdin=subprocess.DEVNULL, stdout=subprocess.DEVNULL, stderr=subprocess.DEVNULL,
+        )  # fmt: skip
+        os.close(read)
+        os.close(write)
+        self.rest, self.number, self.page, self.faults = b"", 0, {}, []
+        targets = self.ask("Target.getTargets")["targetInfos"]
+        target = next(one["targetId"] for one in targets if one["type"] == "page")
+        self.page = {"sessionId": self.ask("Target.attachToTarget", targetId=target, flatten=True)["sessionId"]}
+        for domain in ("Page", "Runtime", "Log"):
+            self.ask(f"{domain}.enable")
+
+    def ask(self, method, **params):
+        """Has the browser do something; its reply."""
+        self.number += 1
+        data = json.dumps({"id": self.number, "method": method, "params": params, **self.page}).encode() + b"\0"
+        while data:
+            data = data[os.write(self.writer, data) :]
+        while True:
+            message = self.message()
+            if message.get("method") in ("Runtime.exceptionThrown", "Log.entryAdded"):
+                self.faults.append(message["params"])
+            if message.get("id") == self.number:
+                assert "error" not in message, message
+                return message["result"]
+
+    def message(self):
+        """The next message of the browser."""
+        while b"\0" not in self.rest:
+            data = os.read(self.reader, 1 << 16)
+            assert data, "the browser has ended"
+            self.rest += data
+        message, self.rest = self.rest.split(b"\0", 1)
+        return json.loads(message)
+
+    def size(self, width, height=900, dark=False):
+        """Sets the size of the window, and whether colours are dark."""
+        self.ask("Emulation.setDeviceMetricsOverride", width=width, height=height, deviceScaleFactor=1, mobile=False)
+        scheme = {"name": "prefers-color-scheme", "value": "dark" if dark else "light"}
+        self.ask("Emulation.setEmulatedMedia", features=[scheme])
+        self.settle()
+
+    def open(self, address):
+        """Opens a page, and waits until it has drawn itself."""
+        self.ask("Page.navigate", url="about:blank")
+        self.ask("Page.navigate", url=address)
+        self.until("document.body?.dataset.drawn !== undefined")
+
+    def until(self, condition):
+        """Waits for a condition."""
+        deadline = time.monotonic() + WAIT
+        while not self.run(condition):
+            assert time.monotonic() < deadline, condition
+
+    def run(self, script):
+        """The value of an expression, which may be a promise."""
+        done = self.ask("Runtime.evaluate", expression=script, returnByValue=True, awaitPromise=True)
+        assert "exceptionDetails" not in done, done
+        return done["result"].get("value")
+
+    def settle(self):
+        """Waits for two frames, after which what was due is drawn."""
+        self.run("new Promise(done => requestAnimationFrame(() => requestAnimationFrame(done)))")
+
+    def key(self, key):
+        """Presses a key."""
+        text = TEXTS.get(key, key if len(key) == 1 else "")
+        more = {"key": key, "code": key, "windowsVirtualKeyCode": CODES.get(key, ord(key[0]))}
+        self.ask("Input.dispatchKeyEvent", type="keyDown", **more, **({"text": text} if text else {}))
+        self.ask("Input.dispatchKeyEvent", type="keyUp", **more)
+        self.settle()
+
+    def mouse(self, kind, x, y, **more):
+        """Does something with the mouse."""
+        self.ask("Input.dispatchMouseEvent", type=kind, x=x, y=y, **more)
+        self.settle()
+
+    def close(self):
+        """Ends the browser."""
+        self.page = {}
+        self.ask("Browser.close")
+        self.child.wait(WAIT)
+        os.close(self.writer)
+        os.close(self.reader)

@@ -1,0 +1,373 @@
+"""The bench in a dialogue. What is expected is what the rules of the bus give (Bosch CAN 2.0, linux/can/error.h)."""
+
+import os
+
+import can
+import pytest
+
+from canbusd.bench import Bench, BenchError, Refused
+from canbusd.faults import Faults
+from canbusd.frames import Frame
+
+
+def pair(**options):
+    bench = Bench("can0,can1", **options)
+    return bench, bench.open("can0"), bench.open("can1")
+
+
+def test_a_frame_reaches_the_other_interface():
+    bench, sender, receiver = pair()
+    with bench:
+        sender.send(0x123, bytes.fromhex("11223344"))
+        assert receiver.receive() == []
+        attempt = bench.attempt(at="23.424242")
+        assert (attempt.winner, attempt.number, attempt.frame, attempt.outcome) == ("can0", 0, "123#11223344", "done")
+        assert (attempt.accepted, attempt.off, attempt.fault, attempt.timestamp) == (("can1",), (), "good", 23.424242)
+        (frame,) = receiver.receive()
+        assert (frame, frame.timestamp) == (Frame(0x123, bytes.fromhex("11223344")), 23.424242)
+        assert sender.receive() == []
+        assert receiver.stats() == (1, 0, 1, 0, 0, 0, 0, 0)
+        assert sender.stats() == (0, 0, 0, 1, 1, 0, 0, 0)
+        assert bench.attempt() is None
+
+
+def test_the_last_moment():
+    bench, sender, receiver = pair()
+    with bench:
+        sender.send(0x123)
+        assert bench.attempt("9999999999.999999").outcome == "done"
+        assert [frame.timestamp for frame in receiver.receive()] == [9999999999.999999]
+        for at in ("10000000000.000000", 1e10, -1, "1.5", "now", float("nan")):
+            with pytest.raises(ValueError, match="at is"):
+                bench.attempt(at)
+
+
+def test_all_kinds_of_frames():
+    frames = [
+        Frame(0x7FF, bytes(8)),
+        Frame(0x123, is_extended_id=True),
+        Frame(0x12345, b"\x01", is_extended_id=True),
+        Frame(0x123, is_remote_frame=True),
+        Frame(0x123, is_remote_frame=True, dlc=4),
+        *(Frame(0x123, bytes(range(length)), is_fd=True) for length in (8, 12, 64)),
+    ]
+    with Bench(["can0", "can1"]) as bench:
+        sender, receiver = bench.open("can0", fd=True), bench.open("can1", fd=True)
+        classic = bench.open("can1")
+        for frame in frames:
+            sender.send(frame)
+            assert bench.attempt().outcome == "done"
+        assert receiver.receive() == frames
+        assert classic.receive() == [frame for frame in frames if not frame.is_fd]
+
+
+def test_what_send_takes():
+    bench, sender, receiver = pair()
+    with bench:
+        sender.send(0x123, b"\x01")
+        sender.send(0x800)
+        sender.send(0x123, is_extended_id=True)
+        sender.send(0x123, is_remote_frame=True, dlc=3)
+        sender.send(can.Message(arbitration_id=0x123, data=[1, 2], is_extended_id=False))
+        sender.send(can.Message(arbitration_id=0x123, is_remote_frame=True, dlc=5))
+        bench.run()
+        texts = [str(frame) for frame in receiver.receive()]
+    assert texts == ["123#01", "00000800#", "00000123#", "123#R3", "123#0102", "00000123#R5"]
+
+
+def test_lost_arbitration():
+    """The 29-bit identifier 048C0000 begins with the 11 bits of 123, and its next bit is recessive."""
+    with Bench("can0,can1,can2") as bench:
+        for name, identifier in (("can0", 0x124), ("can1", 0x123), ("can2", 0x48C0000)):
+            bench.open(name).send(identifier)
+        assert [attempt.winner for attempt in bench.run()] == ["can1", "can2", "can0"]
+
+
+def test_a_frame_that_arrives_twice():
+    bench, sender, receiver = pair(faults=Faults().last_bit(0))
+    with bench:
+        other = bench.open("can0")
+        sender.send(0x123)
+        first, second = bench.attempt(at=0.000001), bench.attempt(at=0.000002)
+        assert (first.outcome, first.accepted, first.fault) == ("lastbit", ("can1",), "lastbit")
+        assert (second.outcome, second.accepted, second.fault) == ("done", ("can1",), "good")
+        assert [frame.timestamp for frame in receiver.receive()] == [0.000001, 0.000002]
+        assert [frame.timestamp for frame in other.receive()] == [0.000002]
+        assert sender.receive() == []
+        assert sender.status() == ("active", 7, 0)
+
+
+def test_a_missing_acknowledgement():
+    with Bench("can0", ack="peers") as bench:
+        session = bench.open("can0", error_frames=0x204)
+        session.send(0x123)
+        attempts = [bench.attempt(at=number / 1e6) for number in range(1, 18)]
+        assert {(one.outcome, one.accepted, one.off) for one in attempts} == {("noack", (), ())}
+        texts = [str(frame) for frame in session.receive()]
+        assert texts == ["20000204#0008000000006000", "20000204#0020000000008000"]
+        assert session.status() == ("passive", 128, 0)
+
+
+def test_bus_off_and_restart():
+    bench, sender, _ = pair(faults=Faults().destroyed(range(32)))
+    with bench:
+        for _ in range(3):
+            sender.send(0x123)
+        attempts = [bench.attempt(at=number / 1e6) for number in range(1, 33)]
+        assert {one.outcome for one in attempts} == {"destroyed"}
+        assert [one.off for one in attempts] == [()] * 31 + [("can0",)]
+        assert [frame.arbitration_id for frame in sender.receive()] == [0x204, 0x204, 0x40]
+        assert sender.status().state == "off"
+        with pytest.raises(Refused, match="^bus off$"):
+            sender.send(0x123)
+        assert bench.attempt() is None
+        sender.restart(at=0.00004)
+        (frame,) = sender.receive()
+        assert (frame.arbitration_id, frame.timestamp, frame.meaning) == (0x100, 0.00004, "restarted")
+        assert sender.status() == ("active", 0, 0)
+        assert sender.stats() == (4, 0, 4, 3, 0, 0, 3, 0)
+        with pytest.raises(Refused, match="^not bus off$"):
+            sender.restart()
+        sender.send(0x123)
+        assert (bench.attempt().number, bench.attempt()) == (3, None)
+
+
+def test_an_automatic_restart():
+    bench, sender, _ = pair(faults=Faults().destroyed(range(32)), auto_restart=3)
+    with bench:
+        sender.send(0x123)
+        assert bench.run()[-1].off == ("can0",)
+        # run() ended at the first idle attempt, which is the first of the three.
+        assert bench.attempt() is None
+        back = bench.attempt()
+        assert (back.outcome, back.winner, back.restarted) == ("idle", "", ("can0",))
+        assert sender.status() == ("active", 0, 0)
+
+
+def test_a_fault_that_one_receiver_sees():
+    """can2 becomes error passive, and after that can't destroy the frame that it misses."""
+    faults = Faults().local("crc", ["can2"], range(200))
+    with Bench("can0,can1,can2", faults=faults, ack="peers") as bench:
+        sender, other, victim = (bench.open(name, error_frames=False) for name in bench.names)
+        for _ in range(4):
+            # Each destroyed frame is a fault for the sender too.
+            sender.send(0x100)
+            attempts = bench.run()
+            assert [attempt.outcome for attempt in attempts] == ["destroyed"] * 32
+            sender.restart()
+        assert victim.status() == ("passive", 0, 128)
+        sender.send(0x100)
+        attempt = bench.attempt()
+        assert (attempt.outcome, attempt.accepted, attempt.fault) == ("done", ("can1",), "local crc can2")
+        assert victim.status() == ("passive", 0, 129)
+        assert [str(frame) for frame in other.receive()] == ["100#"]
+        assert victim.receive() == []
+
+
+def test_reported_faults():
+    bench, sender, receiver = pair(faults=Faults().destroyed(0), report=True)
+    with bench:
+        sender.send(0x123)
+        bench.attempt()
+        assert [str(frame) for frame in sender.receive()] == ["20000088#0000810A00000000"]
+        assert [str(frame) for frame in receiver.receive()] == ["20000088#0000040000000000"]
+
+
+@pytest.mark.parametrize(
+    "filters, passing",
+    [
+        (None, ["123#", "124#", "00000123#", "123#R"]),
+        ([{"can_id": 0x123, "can_mask": 0x7FF}], ["123#", "00000123#", "123#R"]),
+        ([{"can_id": 0x123, "can_mask": 0x7FF, "extended": False}], ["123#", "123#R"]),
+        ([{"can_id": 0x123, "can_mask": 0x7FF, "extended": True}], ["00000123#"]),
+        ([{"can_id": 0x20000123, "can_mask": 0x7FF}], ["124#"]),
+        ([{"can_id": 0x123, "can_mask": 0xC00007FF}, {"can_id": 0x124, "can_mask": 0xFFFFFFFF}], ["123#", "124#"]),
+    ],
+)
+def test_filters(filters, passing):
+    with Bench("can0,can1") as bench:
+        sender, receiver = bench.open("can0"), bench.open("can1", filters)
+        for text in ("123#", "124#", "00000123#", "123#R"):
+            sender.send(Frame.parse(text))
+        bench.run()
+        assert sorted(map(str, receiver.receive())) == sorted(passing)
+
+
+def test_options_of_a_session():
+    with Bench("can0") as bench:
+        quiet = bench.open("can0", local_loopback=False)
+        own = bench.open("can0", receive_own_messages=True)
+        filters = [{"can_id": 0x20000123, "can_mask": 0x7FF}, {"can_id": 0x20000124, "can_mask": 0x7FF}]
+        joined = bench.open("can0", filters, join_filters=True)
+        quiet.send(0x100)
+        own.send(0x123)
+        own.send(0x200)
+        bench.run()
+        assert [str(frame) for frame in own.receive()] == ["123#", "200#"]
+        assert [str(frame) for frame in quiet.receive()] == ["123#", "200#"]
+        assert [str(frame) for frame in joined.receive()] == ["200#"]
+
+
+def test_refusals():
+    # An open and an option of each session, and a refused open is no event.
+    bench, sender, receiver = pair(limit=4)
+    with bench:
+        with pytest.raises(Refused, match="^no such interface$"):
+            bench.open("can7")
+        for call in (lambda: bench.open("can1"), receiver.receive):
+            with pytest.raises(Refused, match="^record full$"):
+                call()
+        with pytest.raises(Refused, match="^record full$"):
+            sender.send(0x123)
+
+
+def test_a_full_queue():
+    bench, sender, _ = pair(txqueue=1)
+    with bench:
+        sender.send(0x123)
+        with pytest.raises(Refused, match="^no buffers$"):
+            sender.send(0x124)
+        assert sender.stats().refused == 1
+        assert [attempt.frame for attempt in bench.run()] == ["123#"]
+        with pytest.raises(Refused, match="^fd frames off$"):
+            sender.send(0x123, is_fd=True)
+
+
+def test_a_receive_queue_that_overflows():
+    bench, sender, receiver = pair(rxqueue=1)
+    with bench:
+        for identifier in (1, 2):
+            sender.send(identifier)
+            bench.attempt()
+        assert [frame.arbitration_id for frame in receiver.receive()] == [1]
+        assert receiver.close() == (0, 1)
+
+
+def test_64_sessions_and_no_more():
+    with Bench("can0") as bench:
+        sessions = [bench.open("can0") for _ in range(64)]
+        with pytest.raises(Refused, match="too many sessions"):
+            bench.open("can0")
+        sessions[0].send(0x123)
+        bench.attempt()
+        assert [len(session.receive()) for session in sessions] == [0] + [1] * 63
+
+
+def test_a_closed_session():
+    bench, sender, receiver = pair()
+    with bench:
+        sender.send(0x123)
+        bench.attempt()
+        assert receiver.close() == (1, 0)
+        for call in (receiver.receive, receiver.status, receiver.close, lambda: receiver.send(1)):
+            with pytest.raises(ValueError, match="closed"):
+                call()
+
+
+def test_messages_of_the_protocol():
+    bench, sender, _ = pair()
+    with bench:
+        assert sender.call("recvown 1") == ["ok"]
+        with pytest.raises(Refused, match="^unknown command$"):
+            sender.call("dance")
+        for message in ("ok >< ok", "echo\nattempt", "close"):
+            with pytest.raises(ValueError, match="message"):
+                sender.call(message)
+
+
+@pytest.mark.parametrize(
+    "words, said",
+    [
+        ({"names": "can0,can0"}, "bad bus"),
+        ({"names": ""}, "bad bus"),
+        ({"names": "can0", "txqueue": 0}, "bad bus"),
+        ({"names": "can0", "faults": "0 nonsense\n"}, "script line 1: bad line"),
+        ({"names": "can0", "faults": Faults().local("crc", "can7", 0)}, "unknown interface"),
+        ({"names": "can0", "ack": "nobody"}, "nobody"),
+        ({"names": "can0", "limit": "many"}, "many"),
+    ],
+)
+def test_a_start_that_fails(words, said):
+    with pytest.raises(BenchError, match=said):
+        Bench(**words)
+
+
+def test_a_folder_that_is_missing(tmp_path):
+    with pytest.raises(ValueError, match="out is a folder that exists"):
+        Bench("can0", out=tmp_path / "none")
+
+
+def test_a_bench_that_is_killed():
+    bench, sender, _ = pair()
+    bench._child.kill()
+    with pytest.raises(BenchError):
+        for _ in range(1000):
+            sender.status()
+    with pytest.raises((BenchError, ValueError)):
+        bench.attempt()
+
+
+def test_a_forked_process_does_not_keep_a_bench_from_its_end():
+    bench, sender, _ = pair()
+    reader, writer = os.pipe()
+    child = os.fork()
+    if child == 0:
+        # It lives until the bench has ended.
+        os.close(writer)
+        os.read(reader, 1)
+        os._exit(0)
+    try:
+        bench.stop()
+    finally:
+        os.close(writer)
+        os.waitpid(child, 0)
+        os.close(reader)
+
+
+def test_a_bench_that_says_nothing_is_given_up(monkeypatch, tmp_path):
+    program = tmp_path / "canbusd"
+    program.write_text("#!/bin/sh\necho working >&2\nsleep 1000\n")
+    program.chmod(0o755)
+    monkeypatch.setenv("CANBUSD", str(program))
+    monkeypatch.setattr("canbusd.bench.PATIENCE", 0.5)
+    with pytest.raises(BenchError, match="said nothing for .* seconds\nworking"):
+        Bench("can0")
+
+
+def test_a_bench_that_has_ended():
+    bench, sender, _ = pair()
+    bench.stop()
+    bench.stop()
+    with pytest.raises(ValueError, match="ended"):
+        sender.send(0x123)
+
+
+def test_record_audit_and_log(tmp_path):
+    """What the replay of the record gives is what the program said while it ran."""
+    runs = []
+    for run in ("one", "two"):
+        out = tmp_path / run
+        out.mkdir()
+        faults = Faults().last_bit(0).destroyed([1, 2]).local("form", "can1", 3)
+        bench = Bench("can0,can1", faults=faults, auto_restart=5, out=out)
+        with bench:
+            sender, receiver = bench.open("can0"), bench.open("can1")
+            for number in range(5):
+                sender.send(0x100 + number, bytes([number]))
+            attempts = bench.run()
+            received = receiver.receive()
+        record = bench.record()
+        assert record.names == ("can0", "can1")
+        assert record.attempts == attempts
+        taken = [item.frame for item in record.items if item.interface == "can1" and item.fate == "taken"]
+        assert taken == received
+        assert bench.audit() == f"ok {len(record.lines)} entries"
+        # What failed is an error frame in the log; what arrived twice is in it twice.
+        logged = [(one.is_error_frame, 0 if one.is_error_frame else one.arbitration_id) for one in bench.log()]
+        assert logged == [
+            (attempt.outcome == "destroyed", 0 if attempt.outcome == "destroyed" else int(attempt.frame[:3], 16))
+            for attempt in attempts
+        ]
+        assert bench.report() == out / "can0.html" and (out / "can0.html").stat().st_size > 10000
+        runs.append([(out / name).read_bytes() for name in ("can0.rec", "can0.log")])
+    assert runs[0] == runs[1]

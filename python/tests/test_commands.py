@@ -1,0 +1,377 @@
+"""python3 -m canbusd: dump, send, status, report and replay, each as a process."""
+
+import contextlib
+import os
+import re
+import select
+import subprocess
+import sys
+from pathlib import Path
+
+import can
+import pytest
+
+import canbusd
+from canbusd.bench import Bench
+from canbusd.commands.dump import View
+from canbusd.faults import Faults
+from canbusd.frames import Frame
+from canbusd.server import Server
+
+WAIT = 30
+READY, END = 0x7FF, 0x7FE
+
+
+def environment(server=None):
+    """The environment of a command, which imports the same package as this test."""
+    address = {"CANBUSD_ADDRESS": server.address} if server else {}
+    places = [str(Path(canbusd.__file__).parents[1]), *filter(None, [os.environ.get("PYTHONPATH")])]
+    return {**os.environ, "PYTHONPATH": os.pathsep.join(places), "PYTHONDONTWRITEBYTECODE": "1", "TZ": "UTC", **address}
+
+
+def words_of(*words):
+    return [sys.executable, "-m", "canbusd", *map(str, words)]
+
+
+def call(*words, server=None, **more):
+    """Runs a command to its end; its status, what it wrote, and its faults."""
+    done = subprocess.run(
+        words_of(*words), env=environment(server), stdin=subprocess.DEVNULL, stdout=subprocess.PIPE,
+        stderr=subprocess.PIPE, text=True, timeout=WAIT, **more,
+    )  # fmt: skip
+    return done.returncode, done.stdout, done.stderr
+
+
+def message(identifier, data=b"", **more):
+    return can.Message(arbitration_id=identifier, data=data, is_extended_id=more.pop("is_extended_id", False), **more)
+
+
+@contextlib.contextmanager
+def dumping(server, sender, *words, names=("can1",)):
+    """A dump that receives from these interfaces; `sender` sends until it has written a frame of each."""
+    child = subprocess.Popen(
+        words_of("dump", *words), env=environment(server), stdout=subprocess.PIPE, stderr=subprocess.PIPE, bufsize=0
+    )
+    try:
+        seen = b""
+        for _ in range(200):
+            sender.send(message(READY), timeout=5)
+            if select.select([child.stdout], [], [], 0.1)[0]:
+                seen += os.read(child.stdout.fileno(), 65536)
+            if all(re.search(rf"{name} .*{READY:X}.*\n".encode(), seen) for name in names):
+                break
+        else:
+            raise AssertionError(f"no frame: {seen!r} {child.stderr.read() if child.poll() is not None else ''}")
+        yield child
+    finally:
+        child.kill()
+        child.communicate()
+
+
+def dumped(child, sender, names=1):
+    """What a dump writes up to the last frame, without the frames that showed that it is ready."""
+    written = b""
+    for _ in range(10 * WAIT):
+        # Again, since the frame may be one that finds no room.
+        sender.send(message(END), timeout=5)
+        while select.select([child.stdout], [], [], 0.1)[0]:
+            piece = os.read(child.stdout.fileno(), 65536)
+            assert piece, child.stderr.read()
+            written += piece
+        if len(set(re.findall(rf"(can\d) +(?:[0-9A-F]+# *)?{END:X}\b".encode(), written))) == names:
+            break
+    else:
+        raise AssertionError(f"no last frame: {written[-1000:]!r}")
+    lines = written.decode().splitlines(True)
+    return [line for line in lines if not re.search(rf"\b(?:{READY:X}|{END:X})\b", line)]
+
+
+@pytest.mark.parametrize(
+    "text, line",
+    [
+        ("123#11223344", "  can0  123   [4]  11 22 33 44\n"),
+        ("123#", "  can0  123   [0]\n"),
+        ("123#R4", "  can0  123   [4]  remote request\n"),
+        ("12345678#0102030405060708", "  can0  12345678   [8]  01 02 03 04 05 06 07 08\n"),
+        ("123##0" + "AB" * 12, "  can0  123  [12]  " + " ".join(["AB"] * 12) + "\n"),
+        ("123##011", "  can0  123  [01]  11\n"),
+        ("20000004#0004000000000000", "  can0  20000004   [8]  00 04 00 00 00 00 00 00   ERRORFRAME\n"),
+    ],
+)
+def test_frames_on_the_screen_are_those_of_candump(text, line):
+    """Lines as candump of can-utils writes them."""
+    import argparse
+
+    view = View(argparse.Namespace(log=False, explain=False, timestamps=None), 4)
+    assert "".join(f"{one}\n" for one in view.lines("can0", Frame.parse(text))) == line
+
+
+def test_timestamps_of_candump():
+    import argparse
+
+    frame = Frame.parse("123#11", 1436509052.249713)
+    later = Frame.parse("123#11", 1436509053.25)
+    for kind, first, second in [
+        ("a", " (1436509052.249713)  can0", " (1436509053.250000)  can0"),
+        ("d", " (000.000000)  can0", " (001.000287)  can0"),
+        ("z", " (000.000000)  can0", " (001.000287)  can0"),
+    ]:
+        view = View(argparse.Namespace(log=False, explain=False, timestamps=kind), 4)
+        assert [view.lines("can0", one)[0].split("  123")[0] for one in (frame, later)] == [first, second]
+
+
+def test_dump_of_several_interfaces():
+    with Server("can0,can1,can2") as server, server.bus("can0", fd=True) as sender:
+        with dumping(server, sender, "can1", "can2", names=("can1", "can2")) as child:
+            for text in ("123#11", "00000123#", "123#R2", "123##0" + "00" * 12):
+                frame = Frame.parse(text)
+                sender.send(
+                    message(frame.arbitration_id, frame.data, is_extended_id=frame.is_extended_id, is_fd=frame.is_fd,
+                            is_remote_frame=frame.is_remote_frame, dlc=frame.dlc),
+                    timeout=5,
+                )  # fmt: skip
+            lines = dumped(child, sender, names=2)
+    for name in ("can1", "can2"):
+        assert [line for line in lines if name in line] == [
+            f"  {name}  123   [1]  11\n",
+            f"  {name}  00000123   [0]\n",
+            f"  {name}       123   [2]  remote request\n",
+            f"  {name}       123  [12]  00 00 00 00 00 00 00 00 00 00 00 00\n",
+        ]
+
+
+def test_dump_with_filters():
+    with Server("can0,can1") as server, server.bus("can0") as sender:
+        with dumping(server, sender, "can1,123:C00007FF,7FE:7FE") as child:
+            for identifier, extended in ((0x122, False), (0x123, True), (0x123, False), (0x124, False)):
+                sender.send(message(identifier, is_extended_id=extended), timeout=5)
+            assert dumped(child, sender) == ["  can1  123   [0]\n"]
+        status, written, said = call("dump", "can1,abc", server=server)
+        assert (status, written) == (1, "") and "`abc` is no filter" in said
+
+
+def test_dump_of_error_message_frames_in_words():
+    first = 100
+    with Server("can0,can1", faults=Faults().destroyed(range(first, first + 32)), auto_restart=5) as server:
+        with server.bus("can0", error_frames=False) as sender, server.bus("can0") as watcher:
+            with dumping(server, watcher, "-e", "can0", names=("can0",)) as child:
+                while watcher.stats().sent < first:
+                    watcher.send(message(READY), timeout=5)
+                sender.send(message(0x123), timeout=5)
+                received = (watcher.recv(WAIT) for _ in range(1000))
+                assert any(one.is_error_frame and one.arbitration_id == 0x100 for one in received)
+                lines = dumped(child, sender)
+    assert lines == [
+        "  can0  20000204   [8]  00 08 00 00 00 00 60 00   ERRORFRAME\n",
+        "\terror warning, transmit count 96, receive count 0\n",
+        "  can0  20000204   [8]  00 20 00 00 00 00 80 00   ERRORFRAME\n",
+        "\terror passive, transmit count 128, receive count 0\n",
+        "  can0  20000040   [8]  00 00 00 00 00 00 00 00   ERRORFRAME\n",
+        "\tbus off\n",
+        "  can0  20000100   [8]  00 00 00 00 00 00 00 00   ERRORFRAME\n",
+        "\trestarted\n",
+    ]
+
+
+def test_dump_as_a_log(tmp_path):
+    with Server("can0,can1") as server, server.bus("can0") as sender:
+        with dumping(server, sender, "-L", "can1") as child:
+            sender.send(message(0x123, b"\x01\x02"), timeout=5)
+            sender.send(message(0x123, is_extended_id=True), timeout=5)
+            lines = dumped(child, sender)
+    log = tmp_path / "run.log"
+    log.write_text("".join(lines))
+    assert [(one.arbitration_id, one.is_extended_id, bytes(one.data), one.channel) for one in can.LogReader(log)] == [
+        (0x123, False, b"\x01\x02", "can1"),
+        (0x123, True, b"", "can1"),
+    ]
+
+
+def test_dump_that_counts_and_dump_that_waits():
+    with Server("can0,can1") as server, server.bus("can0") as sender:
+        with dumping(server, sender, "-n", "3", "can1") as child:
+            for _ in range(3):
+                sender.send(message(READY), timeout=5)
+            assert child.wait(WAIT) == 0
+        assert call("dump", "-T", "10", "can1", server=server) == (0, "", "")
+
+
+def test_dump_says_what_found_no_room():
+    """The receive queue has room for one frame; each of a burst is written, or is one of those that were dropped."""
+    frames = 20000
+    with Server("can0,can1", pace_ms=0, txqueue=1024, rxqueue=1) as server, server.bus("can0") as sender:
+        with dumping(server, sender, "-L", "can1") as child:
+            sender.send_many(message(0x123, number.to_bytes(4, "big")) for number in range(frames))
+            lines = dumped(child, sender)
+            assert 0 < len(lines) < frames
+            said = ""
+            while sum(map(int, re.findall(r"^canbusd dump: can1: (\d+) frames dropped, ", said, re.M))) < frames - len(lines):
+                assert select.select([child.stderr], [], [], WAIT)[0], said
+                said += os.read(child.stderr.fileno(), 65536).decode()
+                sender.send(message(END), timeout=5)
+
+
+def test_dump_into_a_pipe_that_closes():
+    with Server("can0,can1") as server, server.bus("can0") as sender:
+        with dumping(server, sender, "can1") as child:
+            child.stdout.close()
+            for _ in range(1000):
+                sender.send(message(READY), timeout=5)
+                if child.poll() is not None:
+                    break
+            child.wait(WAIT)
+            assert child.stderr.read() == b""
+
+
+def test_dump_when_the_server_ends():
+    with Server("can0,can1") as server, server.bus("can0") as sender:
+        with dumping(server, sender, "can1") as child:
+            server.stop()
+            assert child.wait(WAIT) == 1
+            said = child.stderr.read().decode()
+            assert re.fullmatch(r"canbusd dump: [^\n]+\n", said)
+
+
+@pytest.mark.parametrize(
+    "text, spelled",
+    [
+        ("123#DEADBEEF", "123#DEADBEEF"),
+        ("7ff#de.ad", "7FF#DEAD"),
+        ("00000123#", "00000123#"),
+        ("123#R", "123#R"),
+        ("1FFFFFFF#R4", "1FFFFFFF#R4"),
+        ("123##0" + "01" * 64, "123##0" + "01" * 64),
+    ],
+)
+def test_send_in_the_spelling_of_cansend(text, spelled):
+    with Server("can0,can1") as server, server.bus("can1", fd=True) as receiver:
+        assert call("send", "can0", text, server=server) == (0, "", "")
+        received = receiver.recv(WAIT)
+    frame = Frame.parse(spelled)
+    assert bytes(received.data) == frame.data
+    for field in ("arbitration_id", "is_extended_id", "is_remote_frame", "is_fd", "dlc"):
+        assert getattr(received, field) == getattr(frame, field)
+
+
+def test_send_of_several_frames_and_flags():
+    with Server("can0,can1") as server, server.bus("can1", fd=True) as receiver:
+        frames = [f"1{number:02}#{number:02}" for number in range(30)]
+        status, written, said = call("send", "can0", *frames, "123##5FF", server=server)
+        assert (status, written) == (0, "") and "flags are left out" in said
+        assert [receiver.recv(WAIT).arbitration_id for _ in range(31)] == [*(int(text[:3], 16) for text in frames), 0x123]
+
+
+@pytest.mark.parametrize(
+    "words, fault",
+    [
+        (("can0", "123"), "canbusd send: 123: no frame such as"),
+        (("can0", "800#"), "canbusd send: 800#: no identifier"),
+        (("can0", "20000040#0000000000000000"), "nobody sends"),
+        (("can7", "123#"), "no such interface"),
+        (("--address", "nowhere", "can0", "123#"), "address"),
+    ],
+)
+def test_send_refuses_in_one_line(words, fault):
+    with Server("can0,can1") as server:
+        status, written, said = call("send", *words, server=server)
+    assert (status, written) == (1, "") and fault in said and said.count("\n") == 1
+
+
+def test_no_server(tmp_path):
+    for words in (("send", "can0", "123#"), ("dump", "can0"), ("status", "can0")):
+        status, written, said = call(*words, "--address", str(tmp_path / "socket"))
+        assert (status, written) == (1, "") and said.startswith(f"canbusd {words[0]}: ") and said.count("\n") == 1
+
+
+def test_status_of_interfaces():
+    with Server("can0,can1", faults=Faults().destroyed(range(32))) as server, server.bus("can0") as sender:
+        sender.send(message(0x123), timeout=5)
+        while sender.recv(WAIT).arbitration_id != 0x40:
+            pass
+        status, written, said = call("status", "can0", "can1", server=server)
+    assert (status, said) == (0, "")
+    assert written.splitlines() == [
+        "interface  state   TEC  REC  sent  done  waiting  lost  refused",
+        "can0       off     256    0     1     0        0     1        0",
+        "can1       active    0   32     0     0        0     0        0",
+    ]
+
+
+def test_status_that_watches():
+    with Server("can0") as server:
+        child = subprocess.Popen(
+            words_of("status", "--watch", "--interval", "0.01", "can0"), env=environment(server), text=True,
+            stdout=subprocess.PIPE, stderr=subprocess.PIPE,
+        )  # fmt: skip
+        lines = [child.stdout.readline() for _ in range(6)]
+        child.stdout.close()
+        said = child.stderr.read()
+        child.wait(WAIT)
+        child.stderr.close()
+    assert lines[::2] == [lines[0]] * 3 and lines[1].startswith("can0")
+    assert said == ""
+
+
+@pytest.fixture
+def record(tmp_path):
+    """The record of a frame that is destroyed once, and of one that loses arbitration."""
+    with Bench("can0,can1", faults=Faults().destroyed(0), out=tmp_path) as bench:
+        for name, identifier in (("can0", 0x124), ("can1", 0x123)):
+            bench.open(name).send(identifier)
+        bench.run()
+    return tmp_path / "can0.rec"
+
+
+def test_replay_of_a_record(record):
+    status, written, said = call("replay", record)
+    assert (status, said) == (0, "")
+    lines = written.splitlines()
+    assert lines[:-1] == [
+        "(0.000000) can1 123# destroyed (global bit) accepted by nobody, counts 8/0",
+        "(0.000000) can1 123# done accepted by can0, counts 7/0",
+        "(0.000000) can0 124# done accepted by can1, counts 0/0",
+    ]
+    assert re.fullmatch(r"ok \d+ entries", lines[-1])
+    assert call("replay", "--quiet", record)[1] == lines[-1] + "\n"
+    record.write_text(record.read_text().replace("done 0002", "done 0000"))
+    status, written, said = call("replay", record)
+    assert (status, written) == (1, "")
+    assert re.fullmatch(r"canbusd replay: .*can0\.rec: entry \d+: wrong: `tried .*`; legal is `tried .*`\n", said)
+
+
+def test_report_of_a_record(record):
+    status, page, said = call("report", record)
+    assert (status, said) == (0, "") and page.endswith("</html>\n")
+    drawn = call("report", "--text", record)[1]
+    story = "2 nodes, 3 attempts: 1 failed\n"
+    assert drawn == story + call("report", "--arbitration", record)[1] + call("report", "--counters", record)[1]
+    # 124 has a recessive bit where 123 has a dominant one.
+    assert "attempt 1: can1 wins with 123#, done\n  can0 001001001<- loses here\n  can1 00100100011 00\n" in drawn
+    assert "can1: transmit count #, receive count o, over 3 steps\n" in drawn
+    assert call("report", record.with_name("none"))[::2] == (1, f"canbusd report: {record.with_name('none')}: No such file or directory\n")
+
+
+def test_commands_and_their_help():
+    status, written, _ = call("--help")
+    assert status == 0
+    names = re.findall(r"^  (\w+) +\w", written.split("commands:")[1], re.M)
+    assert {"dump", "send", "status", "report", "replay"} <= set(names)
+    for name in ("dump", "send", "status", "report", "replay"):
+        assert call(name, "--help")[0] == 0
+    assert call("dance")[0] == 2
+
+
+def test_reports_need_no_python_can(record):
+    """Nothing but buses and logs needs python-can, and nothing of it needs pytest."""
+    program = (
+        "import sys; sys.modules['can'] = sys.modules['pytest'] = None\n"
+        "import canbusd\n"
+        "from canbusd import Bench, Faults, Frame, read_record\n"
+        "from canbusd.__main__ import main\n"
+        "with Bench('can0,can1') as bench:\n"
+        "    bench.open('can0').send(0x123)\n"
+        "    assert bench.run()[0].outcome == 'done'\n"
+        f"main(['replay', {str(record)!r}])\n"
+    )
+    done = subprocess.run([sys.executable, "-c", program], env=environment(), capture_output=True, text=True, timeout=WAIT)
+    assert (done.returncode, done.stderr) == (0, "") and "ok " in done.stdout

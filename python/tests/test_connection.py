@@ -1,0 +1,266 @@
+"""CanbusdBus against a server that is played here: messages cut anywhere, answers that come late or never, and an end."""
+
+import asyncio
+import contextlib
+import select
+import socket
+import threading
+
+import can
+import pytest
+from conftest import WAIT, message, shape
+
+from canbusd.bus import CanbusdBus
+from canbusd.server import Server
+
+
+class Played:
+    """A server of one session on a Unix path, which answers each message as `answer` says."""
+
+    def __init__(self, path, greeting=b"< hi >", cut=False):
+        self.address, self._greeting, self._cut = str(path), greeting, cut
+        self.answers = {}
+        self.seen = []
+        self.peer = None
+        self._listener = socket.socket(socket.AF_UNIX)
+        self._listener.bind(self.address)
+        self._listener.listen()
+        self._thread = threading.Thread(target=self._serve, daemon=True)
+        self._thread.start()
+
+    def tell(self, text):
+        step = 1 if self._cut else len(text) or 1
+        for start in range(0, len(text), step):
+            self.peer.sendall(text[start : start + step])
+
+    def _serve(self):
+        with contextlib.suppress(OSError):
+            self.peer, _ = self._listener.accept()
+            self.tell(self._greeting)
+            rest = b""
+            while True:
+                piece = self.peer.recv(4096)
+                if not piece:
+                    break
+                *messages, rest = (rest + piece).split(b">")
+                for one in messages:
+                    self._answer(one.split(b"<")[1].strip().decode())
+        if self.peer is not None:
+            self.peer.close()
+
+    def _answer(self, one):
+        self.seen.append(one)
+        word = one.split()[0]
+        answer = self.answers.get(word, {"echo": "< echo >", "send": ""}.get(word, "< ok >"))
+        if answer:
+            self.tell(answer.encode())
+
+    def close(self):
+        self._listener.close()
+        if self.peer is not None:
+            with contextlib.suppress(OSError):
+                self.peer.shutdown(socket.SHUT_RDWR)
+        self._thread.join(WAIT)
+
+
+@pytest.fixture
+def play(tmp_path):
+    """Plays servers until the end of the test."""
+    played = []
+
+    def start(**how):
+        played.append(Played(tmp_path / f"socket{len(played)}", **how))
+        return played[-1]
+
+    yield start
+    for one in played:
+        one.close()
+
+
+STREAM = (
+    b"< frame 123 23.424242 11223344 >< frame 00000123 23.000001  >< remote 7FF 1.000000 4 >\r\n"
+    b"< fdframe 12345678 0.000001 000102030405060708090A0B >< error 204 0.000012 0008000000006000 >< frame 7FF 1764041234.123456 FF >"
+)
+READ = [
+    (0x123, b"\x11\x22\x33\x44", 4, False, False, False, False),
+    (0x123, b"", 0, True, False, False, False),
+    (0x7FF, b"", 4, False, True, False, False),
+    (0x12345678, bytes(range(12)), 12, True, False, False, True),
+    (0x204, bytes.fromhex("0008000000006000"), 8, False, False, True, False),
+    (0x7FF, b"\xff", 1, False, False, False, False),
+]
+MOMENTS = [23.424242, 23.000001, 1.0, 0.000001, 0.000012, 1764041234.123456]
+
+
+def test_messages_cut_at_each_byte(play):
+    played = play()
+    with CanbusdBus("can0", address=played.address) as bus:
+        for cut in range(len(STREAM) + 1):
+            whole = STREAM[:cut].count(b">")
+            played.tell(STREAM[:cut])
+            got = [bus.recv(WAIT) for _ in range(whole)]
+            # What is cut off is nothing yet.
+            assert bus.recv(0) is None
+            played.tell(STREAM[cut:])
+            got += [bus.recv(WAIT) for _ in range(len(READ) - whole)]
+            assert list(map(shape, got)) == READ
+            assert [one.timestamp for one in got] == MOMENTS
+
+
+def test_answers_cut_at_each_byte_among_frames(play):
+    played = play(cut=True)
+    played.answers["status"] = "< frame 123 1.000000 01 >< status passive 128 7 >< error 040 1.000000 0000000000000000 >"
+    played.answers["send"] = "< error no buffers >< frame 124 1.000000  >"
+    with CanbusdBus("can0", address=played.address) as bus:
+        assert bus.error_counters() == ("passive", 128, 7)
+        with pytest.raises(can.CanOperationError, match="no buffers"):
+            bus.send(message(1))
+        assert [bus.recv(WAIT).arbitration_id for _ in range(3)] == [0x123, 0x040, 0x124]
+
+
+def test_what_is_written(play):
+    played = play()
+    with CanbusdBus("can0", address=played.address, fd=True, receive_own_messages=True) as bus:
+        assert [one for one in played.seen if one != "echo"] == [
+            "open can0", "rawmode", "errdata 1", "errmask 1FFFFFFF", "fdframes 1", "recvown 1", "filter 1 0 0"
+        ]  # fmt: skip
+        del played.seen[:]
+        bus.send(message(0x12345, b"\x01\xab", extended=True))
+        bus.send(message(0x123, is_remote_frame=True, dlc=4))
+        bus.set_filters([{"can_id": 0x123, "can_mask": 0x7FF, "extended": False}])
+        assert played.seen == ["send 00012345 2 01 AB", "echo", "sendrtr 123 4", "echo", "filter 1 123 800007FF", "echo"]
+
+
+@pytest.mark.parametrize(
+    "greeting, said",
+    [(b"< error too many sessions >", "too many sessions"), (b"< hello >", "`hello`"), (b"", "nothing within 0.2 seconds")],
+)
+def test_another_greeting(play, greeting, said):
+    played = play(greeting=greeting)
+    with pytest.raises(can.CanInitializationError, match=said):
+        CanbusdBus("can0", address=played.address, timeout=0.2)
+
+
+@pytest.mark.parametrize("refused", ["open", "rawmode", "errmask", "filter"])
+def test_a_refusal_at_the_start(play, refused):
+    played = play()
+    played.answers[refused] = "< error no memory >"
+    with pytest.raises(can.CanInitializationError, match="no memory"):
+        CanbusdBus("can0", address=played.address)
+
+
+def test_an_answer_that_comes_too_late(play):
+    played = play()
+    with CanbusdBus("can0", address=played.address, timeout=0.2) as bus:
+        played.answers["echo"] = ""
+        with pytest.raises(can.CanTimeoutError, match="no answer within 0.2 seconds"):
+            bus.send(message(1))
+        del played.answers["echo"]
+        # It belongs to no later question.
+        played.tell(b"< error bus off >< echo >")
+        bus.send(message(2))
+        played.answers["status"] = "< status active 1 2 >"
+        assert bus.error_counters() == ("active", 1, 2)
+
+
+@pytest.mark.parametrize("junk", ["< frame 123 >", "< frame XYZ 1.000000 11 >", "< frame 123 1.000000 1 >"])
+def test_what_is_no_message_is_a_fault(play, junk):
+    played = play()
+    with CanbusdBus("can0", address=played.address) as bus:
+        played.tell(junk.encode())
+        with pytest.raises(can.CanOperationError, match="no message of canbusd"):
+            bus.recv(WAIT)
+
+
+@pytest.mark.parametrize("said, reason", [(b"< error no memory >", "no memory"), (b"x" * 5000, "without its end")])
+def test_what_nobody_asked_for_ends_the_connection(play, said, reason):
+    played = play()
+    with CanbusdBus("can0", address=played.address) as bus:
+        played.tell(said)
+        for _ in range(2):
+            with pytest.raises(can.CanOperationError, match=reason):
+                bus.recv(WAIT)
+
+
+def test_a_server_that_takes_nothing(play):
+    played = play()
+    with CanbusdBus("can0", address=played.address, timeout=0.3) as bus:
+        stop, done = threading.Event(), []
+        answer = played._answer
+        played._answer = lambda one: (done.append(one), stop.wait(WAIT), answer(one))
+        bus.window = 1024
+        played.answers["stats"] = "< stats 0 0 0 0 0 0 0 0 >"
+        with pytest.raises(can.CanTimeoutError):
+            bus.send_many([message(1, bytes(8))] * 100_000)
+        stop.set()
+
+
+def ends_of(bus):
+    """What a bus says once its server is gone: in a call that waits, and in later ones."""
+    for call in (lambda: bus.recv(WAIT), lambda: bus.recv(0), bus.recv, lambda: bus.send(message(1)), bus.stats):
+        with pytest.raises(can.CanOperationError, match="the server closed the connection|the connection broke"):
+            call()
+
+
+def test_frames_before_the_end_are_received(play):
+    played = play()
+    with CanbusdBus("can0", address=played.address) as bus:
+        played.tell(STREAM)
+        played.close()
+        assert [shape(bus.recv(WAIT)) for _ in READ] == READ
+        ends_of(bus)
+
+
+@pytest.mark.parametrize("how", ["stop", "kill"])
+def test_a_server_that_ends(how):
+    with Server("can0,can1") as server:
+        can0, can1 = server.bus("can0"), server.bus("can1")
+        seen = []
+
+        def wait():
+            try:
+                can0.recv()
+            except can.CanOperationError as fault:
+                seen.append(fault)
+
+        waiting = [threading.Thread(target=wait) for _ in range(2)]
+        for thread in waiting:
+            thread.start()
+        getattr(server, how)()
+        for thread in waiting:
+            thread.join(WAIT)
+        assert len(seen) == 2
+        ends_of(can1)
+        for bus in (can0, can1):
+            bus.shutdown()
+
+
+def test_a_server_that_dies_is_told_once_to_asyncio():
+    faults = []
+
+    class Listener(can.Listener):
+        def on_message_received(self, msg):
+            faults.append(msg)
+
+        def on_error(self, exc):
+            faults.append(exc)
+
+    async def run():
+        loop = asyncio.get_running_loop()
+        loop.set_exception_handler(lambda _, context: faults.append(context.get("exception")))
+        with Server("can0,can1") as server:
+            bus = server.bus("can0")
+            notifier = can.Notifier(bus, [Listener()], loop=loop)
+            server.kill()
+            for _ in range(100):
+                await asyncio.sleep(0.01)
+                if faults:
+                    break
+            # As long again, in which a file descriptor that stayed readable would make thousands of them.
+            await asyncio.sleep(0.1)
+            notifier.stop()
+            assert not select.select([bus], [], [], 0)[0]
+            bus.shutdown()
+
+    asyncio.run(run())
+    assert [type(fault) for fault in faults] == [can.CanOperationError]

@@ -1,0 +1,197 @@
+"""The pytest plugin, by tests that run pytest."""
+
+import os
+import re
+from pathlib import Path
+
+import pytest
+
+import canbusd
+
+pytest_plugins = ["pytester"]
+
+PASSES = """
+    def test_it(canbusd):
+        with canbusd.bus("can0") as sender, canbusd.bus("can1") as receiver:
+            sender.send(can.Message(arbitration_id=0x123, is_extended_id=False))
+            assert receiver.recv(10).arbitration_id == 0x123
+"""
+FAILS = """
+    @pytest.mark.canbusd("body,door", faults=canbusd.Faults().destroyed(range(32)))
+    def test_it(canbusd):
+        with canbusd.bus("body") as sender:
+            sender.send(can.Message(arbitration_id=0x123, is_extended_id=False))
+            while sender.recv(10).arbitration_id != 0x40:
+                pass
+            assert False, "on purpose"
+"""
+
+
+@pytest.fixture
+def run(pytester, monkeypatch):
+    """Runs pytest on a test, in another process with this package."""
+    monkeypatch.setenv("PYTHONPATH", str(Path(canbusd.__file__).parents[1]), prepend=os.pathsep)
+    monkeypatch.setenv("PYTHONDONTWRITEBYTECODE", "1")
+
+    def run(text, *words):
+        body = "\n".join(line[4:] for line in text.split("\n"))
+        pytester.makepyfile("import can, canbusd, pytest\n" + body)
+        # Where the package is installed this names what is loaded already.
+        words = ("-p", "canbusd.pytest_plugin", "-p", "no:cacheprovider", f"--basetemp={pytester.path / 'kept'}", *words)
+        return pytester.runpytest_subprocess(*words)
+
+    return run
+
+
+def kept(pytester):
+    """The names of the files that are left of the runs."""
+    return sorted(path.name for path in (pytester.path / "kept").rglob("*") if path.is_file())
+
+
+def test_a_test_that_passes_leaves_nothing(run, pytester):
+    run(PASSES).assert_outcomes(passed=1)
+    assert kept(pytester) == []
+
+
+def test_a_test_that_fails_says_what_was_on_the_bus(run, pytester):
+    result = run(FAILS)
+    result.assert_outcomes(failed=1)
+    result.stdout.fnmatch_lines(
+        [
+            "*Captured canbusd teardown*",
+            "2 nodes, 32 attempts: body went bus off in attempt 31",
+            "  attempt 11: *",
+            "*/body.log ends:",
+            "*) body 20000080#0000000000000000",
+            "interface  state *",
+            "body       off     256    0     1     0        0     1        0",
+            "door       active    0   32     0     0        0     0        0",
+            "page: *body.html",
+        ]
+    )
+    assert kept(pytester) == ["body.html", "body.log", "body.rec"]
+    page = re.search(r"^page: (.*)$", result.stdout.str(), re.M)[1]
+    assert Path(page).read_text(encoding="utf-8").endswith("</html>\n")
+
+
+def test_what_is_kept(run, pytester):
+    run(PASSES, "--canbusd-keep=all").assert_outcomes(passed=1)
+    assert kept(pytester) == ["can0.log", "can0.rec"]
+    result = run(FAILS, "--canbusd-keep=none")
+    result.assert_outcomes(failed=1)
+    assert kept(pytester) == [] and "body       off " in result.stdout.str() and "page:" not in result.stdout.str()
+
+
+def test_a_record_that_is_wrong_fails_the_test(run):
+    result = run(
+        """
+    def test_it(canbusd_server, tmp_path):
+        server = canbusd_server("can0,can1", out=tmp_path)
+        with server.bus("can0") as sender, server.bus("can1") as receiver:
+            sender.send(can.Message(arbitration_id=0x123, is_extended_id=False))
+            assert receiver.recv(10)
+        server.stop()
+        record = tmp_path / "can0.rec"
+        record.write_text(record.read_text().replace("done 0002", "done 0000"))
+    """
+    )
+    result.assert_outcomes(passed=1, errors=1)
+    result.stdout.fnmatch_lines(["*the record */can0.rec: canbusd: entry *: wrong"])
+
+
+def test_the_marker_and_the_factory(run):
+    run(
+        """
+    @pytest.mark.canbusd("a,b", "c", auto_restart=3, txqueue=1)
+    def test_a_marker(canbusd):
+        for name in ("a", "b", "c"):
+            canbusd.bus(name).shutdown()
+        with pytest.raises(can.CanError, match="no such interface"):
+            canbusd.bus("can0")
+
+    def test_two_servers(canbusd_server):
+        one, two = canbusd_server("can0"), canbusd_server("can0", "can1", pace_ms=0)
+        assert one.address != two.address
+
+    @pytest.mark.canbusd("a,b", faults=canbusd.Faults().last_bit(0))
+    def test_a_bench(canbusd_bench):
+        canbusd_bench.open("a").send(1)
+        assert [attempt.outcome for attempt in canbusd_bench.run()] == ["lastbit", "done"]
+
+    def test_a_bench_without_a_marker(canbusd_bench):
+        assert canbusd_bench.names == ("can0", "can1")
+    """,
+        "--strict-markers",
+    ).assert_outcomes(passed=4)
+
+
+def test_a_server_that_dies(run):
+    """One that a test kills is the test's own business; one that crashes fails the test."""
+    result = run(
+        """
+    def test_it_is_killed(canbusd):
+        with canbusd.bus("can0") as bus:
+            canbusd.kill()
+            with pytest.raises(can.CanError):
+                bus.recv(10)
+
+    def test_it_crashes(canbusd):
+        canbusd._signal()
+    """
+    )
+    result.assert_outcomes(passed=2, errors=1)
+    result.stdout.fnmatch_lines(["*ERROR at teardown of test_it_crashes*", "*the server ended with status -9*"])
+
+
+def test_what_a_marker_may_not_say(run):
+    result = run(
+        """
+    @pytest.mark.canbusd("a", colour="red")
+    def test_an_option(canbusd):
+        pass
+
+    @pytest.mark.canbusd("a,a")
+    def test_a_name(canbusd):
+        pass
+
+    @pytest.mark.canbusd("a", "b")
+    def test_a_bench(canbusd_bench):
+        pass
+    """
+    )
+    result.assert_outcomes(errors=3)
+    result.stdout.fnmatch_lines(["*colour*"])
+    result.stdout.fnmatch_lines(["*bad bus*"])
+    result.stdout.fnmatch_lines(["*one bus*names 2*"])
+
+
+def test_a_bench_that_is_not_ended_is_audited_too(run, pytester):
+    run(
+        """
+    def test_it(canbusd_bench):
+        canbusd_bench.open("can0").send(0x123)
+        canbusd_bench.attempt()
+        assert False
+    """
+    ).stdout.fnmatch_lines(["*Captured canbusd teardown*", "*/can0.log ends:", "*) can0 123#", "can0 *active *1     1 *"])
+    assert kept(pytester) == ["can0.html", "can0.log", "can0.rec"]
+
+
+def test_the_program_of_the_ini_file(run, pytester, monkeypatch):
+    program = os.path.realpath(canbusd._program.find_program())
+    (pytester.path / "the program").symlink_to(program)
+    monkeypatch.delenv("CANBUSD")
+    monkeypatch.setenv("PATH", "/nowhere")
+    pytester.makeini("[pytest]\ncanbusd_program = the program\n")
+    run(PASSES).assert_outcomes(passed=1)
+    monkeypatch.setenv("CANBUSD", "/nowhere/canbusd")
+    result = run(PASSES)
+    result.assert_outcomes(errors=1)
+    result.stdout.fnmatch_lines(["*CANBUSD names no program: /nowhere/canbusd*"])
+
+
+def test_with_xdist(run, pytester):
+    pytest.importorskip("xdist")
+    tests = "".join(PASSES.replace("test_it", f"test_{number}") for number in range(6))
+    run(tests, "-n", "2").assert_outcomes(passed=6)
+    assert kept(pytester) == []

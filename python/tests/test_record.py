@@ -1,0 +1,166 @@
+"""Records: what docs/RECORD.md says of them, and their replay."""
+
+import re
+from pathlib import Path
+
+import pytest
+
+from canbusd.bench import Bench
+from canbusd.frames import Frame
+from canbusd.record import Attempt, BadRecord, Item, audit, parse_record, read_record
+
+ROOT = Path(__file__).parents[2]
+# The worked example of docs/RECORD.md.
+EXAMPLE = """\
+canbus record 1
+bus 2 always 0000 10 100
+open 0 256 = socket 0
+open 1 1 = socket 1
+send 0 123#01FF = number 0
+attempt 0.000001 good = tried 0 0 123#01FF done 0002 0000
+receive 1 = data 0 0 123#01FF 0.000001
+receive 1 = none
+close 1 = closed 0 0
+end 7
+"""
+# An interface that goes bus off and is restarted in the second attempt after that.
+RESTARTED = "\n".join(
+    [
+        "canbus record 2",
+        "bus 2 always 0000 10 100 2",
+        "open 0 256 = socket 0",
+        "option 0 errmask 00000140 = ok",
+        "send 0 123# = number 0",
+        *(
+            f"attempt 0.0000{number:02} global-bit = tried 0 0 123# destroyed 0000 {number // 32:04}"
+            for number in range(1, 33)
+        ),
+        "attempt 0.000033 good = idle",
+        "attempt 0.000034 good = idle restarted 0001",
+        "receive 0 = error 0 20000040#0000000000000000 0.000032",
+        "end 38",
+        "",
+    ]
+)
+WITH_FD = """\
+canbus record 3
+bus 2 always 0000 10 100 0
+open 0 256 = socket 0
+send 0 123##0 = fd-off
+option 0 fd 1 = ok
+send 0 123##00102030405060708090A0B0C = number 0
+end 4
+"""
+
+
+def test_the_example_is_the_one_of_the_documents():
+    with open(ROOT / "docs" / "RECORD.md", encoding="utf-8") as page:
+        assert "".join(f"    {line}\n" for line in EXAMPLE.splitlines()) in page.read()
+
+
+@pytest.mark.parametrize(
+    "text, said",
+    [
+        (EXAMPLE, "ok 7 entries"),
+        (RESTARTED, "ok 38 entries"),
+        (WITH_FD, "ok 4 entries"),
+        ("", "bad version"),
+        ("canbus record 1\n", "line 2: bad line"),
+        (EXAMPLE.replace("record 1", "record 9"), "bad version"),
+        (EXAMPLE.replace("\n", "\r\n"), "bad version"),
+        (EXAMPLE.replace("bus 2", "bus 17"), "line 2: bad line"),
+        (EXAMPLE.replace("bus 2", "bus 02"), "line 2: bad line"),
+        (EXAMPLE.replace("open 1 1", "open 16 1"), "line 4: bad line"),
+        (EXAMPLE.replace("open 1 1 = socket 1", "open 15 1 = no-interface"), "entry 4: wrong"),
+        (EXAMPLE.replace("open 1 1", "open 1 4294967296"), "line 4: bad line"),
+        (EXAMPLE.replace("number 0", "number 18446744073709551616"), "line 5: bad line"),
+        (EXAMPLE.replace("number 0", "number 18446744073709551615"), "entry 2: wrong"),
+        (EXAMPLE.replace("send 0 123#01FF", "send 0 123#01ff"), "line 5: bad line"),
+        ("".join(EXAMPLE.splitlines(True)[:5]), "line 6: bad line"),
+        (EXAMPLE[:-1], "line 10: bad line"),
+        (EXAMPLE.replace("end 7", "end 8"), "line 10: bad line"),
+        (EXAMPLE + "x", "line 11: bad line"),
+        (EXAMPLE.replace("10 100", "10 6"), "entry 6: wrong"),
+        (EXAMPLE.replace("done 0002", "done 0000"), "entry 3: wrong"),
+        (RESTARTED.replace("10 100 2", "10 100 0"), "line 2: bad line"),
+        (RESTARTED.replace("10 100 2", "10 100 1"), "entry 35: wrong"),
+        (RESTARTED.replace(" restarted 0001", ""), "entry 36: wrong"),
+        (RESTARTED.replace("restarted 0001", "restarted 0000"), "line 39: bad line"),
+        (WITH_FD.replace("123##0 = fd-off", "123# = fd-off"), "line 4: bad line"),
+        (WITH_FD.replace("0A0B0C", "0A0B"), "line 6: bad line"),
+        (WITH_FD.replace("record 3", "record 2").replace("100 0", "100 7"), "line 4: bad line"),
+        (EXAMPLE.replace("record 1", "record 3").replace("10 100", "10 100 0"), "bad version"),
+    ],
+)
+def test_an_audit_names_the_first_fault(text, said):
+    assert audit(text.encode()) == (said if said.startswith("ok ") else f"canbusd: {said}")
+
+
+def test_bytes_that_are_no_text():
+    assert audit(b"canbus record 1\n\xff") == "canbusd: read fault"
+    with pytest.raises(BadRecord, match="UTF-8"):
+        parse_record(b"\xff")
+
+
+@pytest.mark.parametrize("text", [EXAMPLE, RESTARTED, WITH_FD])
+def test_a_record_cut_anywhere_is_refused(text):
+    for end in range(len(text)):
+        with pytest.raises(BadRecord) as fault:
+            parse_record(text[:end].encode())
+        assert re.fullmatch(r"bad version|line \d+: bad line", fault.value.verdict)
+
+
+def test_attempts_and_items():
+    record = parse_record(EXAMPLE.encode(), names="can0,can1")
+    assert record.names == ("can0", "can1")
+    assert record.attempts == [Attempt(0.000001, "can0", 0, "123#01FF", "done", "good", ("can1",), (), ())]
+    assert record.items == [Item("can1", 1, "can0", Frame(0x123, b"\x01\xff"), "taken")]
+    assert record.items[0].frame.timestamp == 0.000001
+
+
+def test_attempts_of_an_automatic_restart():
+    attempts = parse_record(RESTARTED.encode(), names=["a", "b"]).attempts
+    assert [attempt.outcome for attempt in attempts] == ["destroyed"] * 32 + ["idle"]
+    assert (attempts[31].off, attempts[31].fault) == (("a",), "global bit")
+    assert (attempts[32].restarted, attempts[32].timestamp) == (("a",), 0.000034)
+
+
+def test_what_became_of_items():
+    with Bench("can0,can1", rxqueue=1) as bench:
+        sender, taken, unread, waiting = (bench.open(name) for name in ("can0", "can1", "can1", "can1"))
+        for identifier in (1, 2):
+            sender.send(identifier)
+            bench.attempt()
+        taken.receive()
+        unread.close()
+    fates = [(item.socket, item.frame.arbitration_id, item.fate) for item in bench.record().items]
+    assert fates == [
+        (1, 1, "taken"), (2, 1, "unread"), (3, 1, "waiting"), (1, 2, "dropped"), (2, 2, "dropped"), (3, 2, "dropped"),
+    ]  # fmt: skip
+
+
+def test_names_of_interfaces(tmp_path):
+    path, log = tmp_path / "can0.rec", tmp_path / "can0.log"
+    path.write_text(EXAMPLE)
+    assert read_record(path).names == ("interface 0", "interface 1")
+    log.write_text("(0000000000.000001) body 123#01FF\n")
+    assert read_record(path).names == ("body", "interface 1")
+    assert read_record(str(path), ["x", "y"]).names == ("x", "y")
+    log.write_text("(0000000000.000002) body 123#01FF\n")
+    assert read_record(path).names == ("interface 0", "interface 1")
+    for names in ("a", "a,b,c", "a,a", "a,", "a,b c"):
+        with pytest.raises(BadRecord, match="names"):
+            read_record(path, names)
+
+
+def test_idle_attempts_are_counted():
+    with Bench("can0") as bench:
+        session = bench.open("can0")
+        for idle in (2, 0, 1):
+            for _ in range(idle):
+                assert bench.attempt() is None
+            session.send(0x123)
+            bench.attempt()
+        bench.attempt()
+    run = bench.record().run
+    assert ([step.idle for step in run.steps], run.idle_since, run.idle) == ([2, 0, 1], 1, 4)

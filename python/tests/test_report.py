@@ -1,0 +1,194 @@
+"""The page of a run: its words, and the data that its script draws."""
+
+import base64
+import json
+import re
+import struct
+import zlib
+from array import array
+
+from canbusd.record import parse_record
+from canbusd.report import KINDS, page, part
+from canbusd.story import events_of, facts_of, heading_of
+
+NAMES = ("can0", "can1")
+
+
+def record_of(*entries, bus="2 always 0000 10 10000", version=1):
+    """The replay of these entries."""
+    text = "\n".join([f"canbus record {version}", f"bus {bus}", *entries, f"end {len(entries)}", ""])
+    return parse_record(text.encode(), names=NAMES).run
+
+
+def bus_off():
+    """can0's frame is destroyed 32 times, each of which adds 8; it is restarted in the second attempt after that."""
+    return record_of(
+        "open 0 256 = socket 0",
+        "send 0 123# = number 0",
+        "send 0 124# = number 1",
+        *(f"attempt 0.{k:06} global-bit = tried 0 0 123# destroyed 0000 000{k // 32}" for k in range(1, 33)),
+        "send 0 125# = bus-off",
+        "send 0 125# = bus-off",
+        "attempt 0.000033 good = idle",
+        "attempt 0.000034 good = idle restarted 0001",
+        bus="2 always 0000 10 100 2",
+        version=2,
+    )
+
+
+def events_in(run):
+    return [(event.step, event.kind, event.words) for event in events_of(run, NAMES)]
+
+
+def data_of(text):
+    """The data of a page: its header, and a function that reads a column."""
+    coded = re.search(r'<script type="text/plain" id="run">([^<]*)</script>', text)[1]
+    whole = zlib.decompress(base64.b64decode(coded))
+    size = struct.unpack_from("<I", whole)[0]
+    header = json.loads(whole[8 : 8 + size])
+
+    def column(one):
+        code, place, length = one[:3]
+        numbers = array(code)
+        numbers.frombytes(whole[8 + size + place : 8 + size + place + length * numbers.itemsize])
+        for k in range(1, length if one[3:] else 0):
+            numbers[k] += numbers[k - 1]
+        return list(numbers)
+
+    return header, column
+
+
+def test_the_events_of_bus_off():
+    run = bus_off()
+    assert events_in(run) == [
+        (11, "warning", "can0 is error warning: transmit count 96"),
+        (15, "passive", "can0 is error passive: transmit count 128"),
+        (31, "bus off", "can0 went bus off: its transmit count reached 256"),
+        (31, "lost", "can0 lost 2 frames: bus off empties its transmit queue"),
+        (31, "refused", "can0 refused 2 sends: it was bus off"),
+        (32, "restart", "can0 is back on the bus, with both counts 0"),
+    ]
+    assert heading_of(run, NAMES, events_of(run, NAMES)) == (
+        "2 nodes, 32 attempts: can0 went bus off in attempt 31",
+        31,
+    )
+    assert facts_of(run) == "32 attempts: 32 destroyed. 2 idle attempts. 1 restart. 39 entries in the record."
+
+
+def test_a_fault_in_the_last_bit_gives_a_second_copy():
+    run = record_of(
+        "open 0 256 = socket 0",
+        "send 0 123#11 = number 0",
+        "attempt 0.000001 lastbit = tried 0 0 123#11 lastbit 0002 0000",
+        "attempt 0.000002 lastbit = tried 0 0 123#11 lastbit 0002 0000",
+        "attempt 0.000003 good = tried 0 0 123#11 done 0002 0000",
+    )
+    assert events_in(run) == [
+        (1, "second copy", "can1 accepted 123#11 again: copy 2"),
+        (2, "second copy", "can1 accepted 123#11 again: copy 3"),
+    ]
+
+
+def test_refusals_and_drops_that_are_close_together_are_one_event():
+    entries = ["open 0 256 = socket 0", "open 1 1 = socket 1"]
+    for number in range(3):
+        entries += [f"send 0 123# = number {number}", *["send 0 123# = no-buffers"] * 2]
+        entries += [f"attempt 0.{number:06} good = tried 0 {number} 123# done 0002 0000"]
+    run = record_of(*entries, bus="2 always 0000 1 100")
+    assert events_in(run) == [
+        (-1, "refused", "can0 refused 6 sends: its transmit queue was full"),
+        (1, "dropped", "socket 1 on can1 dropped 2 items: its receive queue was full"),
+    ]
+    assert heading_of(run, NAMES, events_of(run, NAMES))[0] == (
+        "2 nodes, 3 attempts: 2 items dropped, since receive queues were full"
+    )
+
+
+def test_a_run_without_events():
+    run = record_of("open 0 1 = socket 0", "attempt 0.000001 good = idle")
+    assert events_in(run) == []
+    assert heading_of(run, NAMES, [])[0] == "2 nodes, 0 attempts: no frame was tried"
+    header, column = data_of(page(run, NAMES, "run.rec"))
+    assert column(header["steps"]["kind"]) == [KINDS.index("idle")]
+
+
+def test_idle_attempts_are_steps_between_the_others():
+    header, column = data_of(page(bus_off(), NAMES, "run.rec"))
+    kinds = column(header["steps"]["kind"])
+    assert [KINDS[kind] for kind in kinds] == ["destroyed"] * 32 + ["idle", "restart"]
+    assert column(header["steps"]["number"])[32] == 2
+    assert column(header["tec"][0]["all"]) == [8 * k for k in range(1, 33)] + [256, 0]
+    # Events name places among these steps.
+    assert [(step, kind) for step, kind, _ in header["events"]][-1] == (33, "restart")
+    assert header["first"] == 31
+
+
+def test_items_say_what_became_of_them():
+    run = record_of(
+        "open 0 256 = socket 0",
+        "open 1 1 = socket 1",
+        "send 0 123#11 = number 0",
+        "send 0 123#22 = number 1",
+        "attempt 0.000001 good = tried 0 0 123#11 done 0002 0000",
+        "attempt 0.000002 good = tried 0 1 123#22 done 0002 0000",
+        "receive 1 = data 0 0 123#11 0.000001",
+    )
+    header, column = data_of(page(run, NAMES, "run.rec"))
+    assert column(header["items"]["step"]) == [0, 1]
+    assert [["taken", "waiting", "unread", "dropped"][fate] for fate in column(header["items"]["fate"])] == ["taken", "dropped"]
+    # The first was in its queue until after the second step.
+    assert column(header["items"]["later"])[0] == 2
+    header, column = data_of(page(run, NAMES, "run.rec", most_items=1))
+    assert (column(header["items"]["step"]), header["itemsInAll"]) == ([0], 2)
+
+
+def test_cells_are_sums_over_256_steps():
+    entries, count = ["open 0 1 = socket 0"], 5000
+    number = -1
+    for k in range(count):
+        if k % 10 != 1:
+            number += 1
+            entries.append(f"send 0 123# = number {number}")
+        verdict, kind, accepted = ("global-bit", "destroyed", "0000") if k % 10 == 0 else ("good", "done", "0002")
+        entries.append(f"attempt {k}.000000 {verdict} = tried 0 {number} 123# {kind} {accepted} 0000")
+    header, column = data_of(page(record_of(*entries), NAMES, "run.rec"))
+    kinds, tec = column(header["steps"]["kind"]), column(header["tec"][0]["all"])
+    parts = [range(first, min(first + 256, count)) for first in range(0, count, 256)]
+    for kind in (0, 2):
+        assert column(header["cells"]["wins"][0][kind]) == [sum(kinds[k] == kind for k in part) for part in parts]
+    assert column(header["tec"][0]["high"]) == [max(tec[k] for k in part) for part in parts]
+    assert column(header["tec"][0]["low"]) == [min(tec[k] for k in part) for part in parts]
+    assert column(header["steps"]["seconds"]) == list(range(count))
+
+
+def test_no_title_ends_the_data():
+    text = page(bus_off(), NAMES, "</script><b>.rec")
+    assert "</script><b>" not in text
+    assert data_of(text)[0]["title"] == "</script><b>.rec"
+    assert not re.search(r"https?://|/\*(RUN|STYLE|SCRIPT)\*/", text)
+
+
+def luminance(colour):
+    """The relative luminance of a colour, as WCAG 2 defines it."""
+    digits = "".join(2 * digit for digit in colour[1:]) if len(colour) == 4 else colour[1:]
+    parts = [int(digits[k : k + 2], 16) / 255 for k in (0, 2, 4)]
+    red, green, blue = [part / 12.92 if part <= 0.03928 else ((part + 0.055) / 1.055) ** 2.4 for part in parts]
+    return 0.2126 * red + 0.7152 * green + 0.0722 * blue
+
+
+def contrast(one, other):
+    dark, light = sorted([luminance(one), luminance(other)])
+    return (light + 0.05) / (dark + 0.05)
+
+
+def test_contrast_is_at_least_4_5_in_light_and_dark():
+    light, dark = re.split(r"@media \(prefers-color-scheme: dark\)", part("page.css").split("* {")[0])
+    kinds = ["done", "lastbit", "destroyed", "noack", "restart"]
+    colours = {}
+    for style in (light, dark):
+        colours = {**colours, **dict(re.findall(r"--(\w+): (#[0-9a-f]+)", style))}
+        pairs = [("on", kind) for kind in kinds]
+        pairs += [(name, "page") for name in [*kinds, "idle", "accepted", "hit", "off", "tec", "rec", "text", "soft"]]
+        pairs += [(name, back) for name in ("text", "soft", "tec", "destroyed") for back in ("chosen", "hover", "panel")]
+        weak = {pair: contrast(*(colours[name] for name in pair)) for pair in pairs}
+        assert {pair: ratio for pair, ratio in weak.items() if ratio < 4.5} == {}

@@ -1,0 +1,251 @@
+"""Server: how it starts and ends, and what it leaves."""
+
+import errno
+import multiprocessing
+import os
+import shutil
+import signal
+import subprocess
+import sys
+import time
+from pathlib import Path
+
+import can
+import pytest
+from conftest import WAIT, message, shape
+
+import canbusd
+from canbusd._program import find_program
+from canbusd.faults import Faults
+from canbusd.server import Server, ServerError
+
+CLONE = Path(__file__).resolve().parents[2]
+
+
+def send_one(server, channel="can0", other="can1"):
+    """Sends a frame from one interface to the other."""
+    with server.bus(channel) as sender, server.bus(other) as receiver:
+        sender.send(message(0x123, b"\x11\x22"))
+        assert receiver.recv(WAIT).arbitration_id == 0x123
+
+
+def test_what_a_server_leaves(tmp_path):
+    with Server("can0,can1", "car0,car1", faults={"can0,can1": Faults().last_bit(0)}, out=tmp_path) as server:
+        send_one(server)
+        send_one(server, "car1", "car0")
+    result = server.stop()
+    assert result == server.stop()
+    assert (result.status, list(result.entries)) == (0, ["can0", "car0"])
+    assert {path.name for path in tmp_path.iterdir()} == {"can0.log", "can0.rec", "car0.log", "car0.rec"}
+    # A fault in the last bit: the receiver has the frame already when it is sent again.
+    assert [(one.channel, one.arbitration_id) for one in server.log("can1")] == [("can0", 0x123)] * 2
+    assert [attempt.outcome for attempt in server.record("can0").attempts] == ["lastbit", "done"]
+    assert [(one.channel, bytes(one.data)) for one in server.log("car0")] == [("car1", b"\x11\x22")]
+    assert server.record("car1").names == ("car0", "car1")
+    assert server.audit() == {name: f"ok {count} entries" for name, count in result.entries.items()}
+    page = server.report("can1")
+    assert page == tmp_path / "can0.html"
+    assert page.read_text(encoding="utf-8").startswith("<!DOCTYPE html>")
+    for wrong in (None, "can7"):
+        with pytest.raises(ValueError, match="name"):
+            server.log(wrong)
+
+
+def test_the_log_has_all_kinds_of_frames(server):
+    sent = [
+        message(0x123, is_remote_frame=True, dlc=4), message(0x12345, b"\x01", extended=True),
+        message(0x7FF, bytes(12), is_fd=True), message(1),
+    ]  # fmt: skip
+    with server.bus("can0", fd=True) as can0, server.bus("can1", fd=True) as can1:
+        can0.send_many(sent)
+        while shape(can1.recv(WAIT)) != shape(sent[-1]):
+            pass
+    assert [shape(one) for one in server.log()] == [shape(one) for one in sent]
+
+
+def test_faults_are_told_apart_in_the_log():
+    with Server("can0,can1", faults=Faults().destroyed(0), ack="peers") as server:
+        send_one(server)
+    # BUSERROR.
+    destroyed, done = server.log()
+    assert shape(destroyed) == (0x080, bytes(8), 8, False, False, True, False)
+    assert done.arbitration_id == 0x123
+
+
+@pytest.mark.parametrize("form", ["path", "text", "faults", "dict"])
+def test_ways_to_give_faults(tmp_path, form):
+    faults = Faults().destroyed(range(3))
+    (tmp_path / "script").write_text(str(faults))
+    given = {"path": tmp_path / "script", "text": str(faults), "faults": faults, "dict": {"can0": faults}}[form]
+    with Server("can0,can1", faults=given) as server:
+        send_one(server)
+    assert [attempt.outcome for attempt in server.record().attempts] == [*["destroyed"] * 3, "done"]
+
+
+@pytest.mark.parametrize(
+    "buses, options, name",
+    [
+        ([], {}, "buses"),
+        (["can0"], {"out": "/no/such/folder"}, "out"),
+        (["can0", "can1"], {"faults": Faults()}, "faults"),
+        (["can0"], {"faults": {"can1": Faults()}}, "faults"),
+    ],
+)
+def test_a_wrong_argument_is_named(buses, options, name):
+    with pytest.raises(ValueError, match=name):
+        Server(*buses, **options)
+
+
+@pytest.mark.parametrize(
+    "buses, options, said",
+    [
+        (["can0,can0"], {}, "bad bus"),
+        (["can 0"], {}, "bad bus"),
+        (["can0"], {"txqueue": 0}, "--txqueue 0"),
+        (["can0"], {"limit": 1 << 25}, "--limit"),
+        (["can0"], {"ack": "nobody"}, "invalid value 'nobody' for '--ack'"),
+        (["can0"], {"faults": "0 bad\n"}, "script line 1: bad line"),
+        (["can0"], {"faults": "0 local crc can1\n"}, "unknown interface"),
+        (["can0"], {"listen": "/no/such/folder/socket"}, "cannot listen"),
+    ],
+)
+def test_a_start_that_fails_says_why(buses, options, said):
+    with pytest.raises(ServerError, match=said):
+        Server(*buses, **options)
+
+
+def test_a_port_in_use(server):
+    with pytest.raises(ServerError, match="cannot listen"):
+        Server("can0", listen=server.address)
+
+
+def test_no_program(monkeypatch):
+    monkeypatch.setenv("CANBUSD", "/no/such/program")
+    with pytest.raises(FileNotFoundError, match="CANBUSD"):
+        Server("can0")
+
+
+def test_the_program_of_the_clone(monkeypatch):
+    monkeypatch.delenv("CANBUSD")
+    monkeypatch.setattr("canbusd._program.__file__", str(CLONE / "python" / "src" / "canbusd" / "_program.py"))
+    assert find_program() == str(CLONE / "canbusd")
+
+
+def test_the_options_reach_the_program():
+    with Server("can0,can1", txqueue=3, pace_ms=60000, rxqueue=1, auto_restart=7, limit=500, report=True) as server:
+        with server.bus("can0") as can0:
+            assert can0.window == 3
+            can0.send(message(1))
+            while can0.stats().waiting:
+                pass
+            can0.send_many([message(1)] * 3)
+            with pytest.raises(can.CanOperationError) as refused:
+                can0.send(message(1))
+            assert refused.value.error_code == errno.ENOBUFS
+    record = server.record()
+    assert (record.tx_capacity, record.auto_restart, record.limit, record.reporting) == (3, 7, 500, 3)
+
+
+def test_what_a_server_says_of_a_full_record():
+    with Server("can0,can1", limit=4) as server, server.bus("can0") as can0:
+        with pytest.raises(can.CanOperationError, match="record full"):
+            for _ in range(10):
+                can0.send(message(1), timeout=WAIT)
+    assert "record full" in server.said
+
+
+def test_a_server_that_is_killed_leaves_nothing(tmp_path):
+    with Server("can0,can1", out=tmp_path) as server:
+        assert server.kill().status == -signal.SIGKILL
+    assert server.stop() == (-signal.SIGKILL, {})
+    assert list(tmp_path.iterdir()) == []
+
+
+def test_the_fault_of_a_test_is_not_hidden():
+    with pytest.raises(KeyError), Server("can0,can1"):
+        raise KeyError
+
+
+def test_files_and_processes_are_gone_in_the_end():
+    before = set(os.listdir("/proc/self/fd"))
+    server = Server("can0,can1")
+    folder = server._folder
+    server.stop()
+    assert set(os.listdir("/proc/self/fd")) == before
+    assert folder.exists()
+    del server
+    assert not folder.exists()
+
+
+@pytest.mark.parametrize("how", ["os.kill(os.getpid(), 9)", "raise KeyboardInterrupt"])
+def test_the_end_of_its_process_ends_a_server(tmp_path, how):
+    (tmp_path / "out").mkdir()
+    program = f"""
+import os
+from canbusd.server import Server
+server = Server("can0,can1", out={str(tmp_path / 'out')!r})
+{how}
+"""
+    package = str(Path(canbusd.__file__).parents[1])
+    environment = {**os.environ, "PYTHONPATH": package, "TMPDIR": str(tmp_path)}
+    subprocess.run([sys.executable, "-c", program], env=environment, capture_output=True, timeout=WAIT, check=False)
+    # It ends by itself, with log and record.
+    record = tmp_path / "out" / "can0.rec"
+    for _ in range(WAIT * 100):
+        if record.exists() and record.read_text().endswith("end 0\n"):
+            break
+        time.sleep(0.01)
+    else:
+        pytest.fail("it still runs")
+
+
+def test_a_forked_process_keeps_no_server_from_its_end(tmp_path):
+    context = multiprocessing.get_context("fork")
+    with Server("can0,can1", out=tmp_path) as server:
+        release = context.Event()
+        child = context.Process(target=release.wait, args=(WAIT,), daemon=True)
+        child.start()
+        assert server.stop().status == 0
+        assert child.is_alive()
+        release.set()
+        child.join(WAIT)
+
+
+@pytest.fixture
+def launcher(tmp_path):
+    """The program as it is installed: a script in bin/, which starts servers by another one."""
+    place = tmp_path / "libexec" / "canbusd"
+    place.mkdir(parents=True)
+    (tmp_path / "bin").mkdir()
+    shutil.copy(CLONE / "contrib" / "canbusd.sh", tmp_path / "bin" / "canbusd")
+    (tmp_path / "bin" / "canbusd").chmod(0o755)
+    (place / "canbusd").symlink_to(find_program())
+    (place / "serve").symlink_to(CLONE / "scripts" / "serve")
+    return tmp_path / "bin"
+
+
+@pytest.mark.parametrize("found_by", ["variable", "path"])
+def test_the_launcher(launcher, monkeypatch, found_by):
+    if found_by == "variable":
+        monkeypatch.setenv("CANBUSD", str(launcher / "canbusd"))
+    else:
+        monkeypatch.delenv("CANBUSD")
+        monkeypatch.setenv("PATH", str(launcher), prepend=os.pathsep)
+        monkeypatch.setattr("canbusd._program.__file__", "/a/b/c/d/_program.py")
+    assert find_program() == str(launcher / "canbusd")
+    with Server("can0,can1") as server:
+        send_one(server)
+    assert server.stop().status == 0
+    assert [one.arbitration_id for one in server.log()] == [0x123]
+    assert server.audit() == {"can0": f"ok {server.stop().entries['can0']} entries"}
+    killed = Server("can0,can1")
+    group = killed._child.pid
+    killed.kill()
+    for _ in range(WAIT * 100):
+        states = subprocess.run(["ps", "-o", "stat=", "-s", str(group)], capture_output=True, text=True, check=False).stdout
+        # Nobody may be there to bury them.
+        if all(state.startswith("Z") for state in states.split()):
+            break
+        time.sleep(0.01)
+    else:
+        pytest.fail(f"some of its processes still run: {states}")

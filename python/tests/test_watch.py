@@ -1,0 +1,182 @@
+"""python3 -m canbusd watch: what pages get, the page in a browser, and how it ends."""
+
+import http.client
+import json
+import os
+import subprocess
+import sys
+import threading
+from pathlib import Path
+
+import can
+import pytest
+from browser import PROGRAM, Browser
+
+import canbusd
+from canbusd.faults import Faults
+from canbusd.frames import Frame
+from canbusd.server import Server
+from canbusd.watch import MOST_TICKS, Board, fault_of
+
+WAIT = 30
+
+
+def numbered(first, last):
+    return [{"number": number} for number in range(first, last)]
+
+
+def test_a_page_that_comes_later_begins_with_all_that_is_kept():
+    board = Board()
+    for tick in numbered(0, MOST_TICKS + 5):
+        board.add(tick, [])
+    news = board.news()
+    start = next(news)
+    assert (start["start"], start["ticks"]) == (True, numbered(5, MOST_TICKS + 5))
+    board.add({"number": -1}, [["row"]])
+    assert next(news) == {"ticks": [{"number": -1}], "frames": [["row"]]}
+
+
+def test_a_page_that_reads_slowly_begins_anew():
+    board = Board()
+    board.add({"number": 0}, [])
+    news = board.news()
+    next(news)
+    for tick in numbered(1, 3):
+        board.add(tick, [])
+    again = next(news)
+    assert (again["start"], again["ticks"]) == (True, numbered(0, 3))
+
+
+def test_a_page_gets_the_end():
+    board = Board()
+    news = []
+    reader = threading.Thread(target=lambda: news.extend(board.news()))
+    board.add({"number": 0}, [])
+    reader.start()
+    while not news:
+        reader.join(0.01)
+    board.end("gone")
+    reader.join(WAIT)
+    assert news[-1] == {"end": "gone"}
+
+
+@pytest.mark.parametrize(
+    ("text", "fault"),
+    [
+        # As linux/can/error.h has them: a bit error while sending, in the end of frame a form error, no acknowledgement.
+        ("20000088#0000810A00000000", 1),
+        ("20000088#0000821A00000000", 0),
+        ("200000A0#0000801900000000", 2),
+        # A receiver's, a change of state, bus off, and a data frame.
+        ("20000088#0000040000000000", None),
+        ("20000204#0008000000006000", None),
+        ("20000040#0000000000000000", None),
+        ("123#0000810A00000000", None),
+    ],
+)
+def test_faults_of_the_sender(text, fault):
+    assert fault_of(Frame.parse(text)) == fault
+
+
+class Watch:
+    """The command as a process."""
+
+    def __init__(self, server, *names):
+        package = str(Path(canbusd.__file__).parents[1])
+        self.child = subprocess.Popen(
+            [sys.executable, "-m", "canbusd", "watch", "--port", "0", "--interval", "0.05", "-a", server.address, *names],
+            env={**os.environ, "PYTHONPATH": package, "PYTHONDONTWRITEBYTECODE": "1"},
+            stdout=subprocess.PIPE, stderr=subprocess.PIPE, text=True,
+        )  # fmt: skip
+        said = self.child.stdout.readline()
+        assert said.startswith(f"watching {', '.join(names)} on http://127.0.0.1:"), said + self.child.stderr.read()
+        self.url = said.split()[-1]
+        self.port = int(self.url.rsplit(":", 1)[1].rstrip("/"))
+
+    def get(self, path, host=None):
+        """The answer to a request."""
+        connection = http.client.HTTPConnection("127.0.0.1", self.port, timeout=WAIT)
+        connection.request("GET", path, headers={"Host": host or f"127.0.0.1:{self.port}"})
+        return connection.getresponse()
+
+    def __enter__(self):
+        return self
+
+    def __exit__(self, *_):
+        self.child.kill()
+        self.child.communicate()
+
+
+def message(identifier):
+    return can.Message(arbitration_id=identifier, data=[1], is_extended_id=False)
+
+
+def test_news_have_the_frames_and_counts_of_both_interfaces():
+    # The first frame is destroyed once: its sender's transmit count is 8, and then 7.
+    with Server("can0,can1", report=True, faults=Faults().destroyed(0)) as server, Watch(server, "can0", "can1") as watch:
+        answer = watch.get("/news")
+        assert answer.getheader("Content-Type") == "text/event-stream"
+        with server.bus("can0") as bus:
+            bus.send(message(0x123))
+        frames, faults, now = [], 0, []
+        for _ in range(1000):
+            line = answer.readline()
+            if line.startswith(b"data: "):
+                news = json.loads(line[6:])
+                frames += [frame[1:] for frame in news["frames"]]
+                faults += sum(tick["faults"][0][1] for tick in news["ticks"])
+                now = news["ticks"][-1]["ifaces"][0] if news["ticks"] else now
+            if len(frames) == 4:
+                break
+    assert sorted(frames) == [
+        ["123#01", 0, ""],
+        ["123#01", 1, ""],
+        ["20000088#0000040000000000", 1, "bus error, stuff error"],
+        ["20000088#0000810A00000000", 0, "bus error, bit error while sending in the data section"],
+    ]
+    assert faults == 1
+    assert now == ["active", 7, 0, 1, 1, 0, 0, 0]
+
+
+def test_other_sites_and_paths_are_refused():
+    with Server("can0,can1") as server, Watch(server, "can0") as watch:
+        assert watch.get("/").status == 200
+        assert watch.get("/", host=f"localhost:{watch.port}").status == 200
+        assert watch.get("/", host="example.org").status == 403
+        assert watch.get("/", host=f"example.org:{watch.port}").status == 403
+        assert watch.get("/../watch.py").status == 404
+
+
+def test_it_ends_with_the_server():
+    with Server("can0,can1") as server:
+        with Watch(server, "can0") as watch:
+            answer = watch.get("/news")
+            server.stop()
+            assert '"end":' in answer.read().decode().splitlines()[-2]
+            assert watch.child.wait(WAIT) == 1
+            assert watch.child.stderr.read().startswith("canbusd watch: ")
+
+
+@pytest.mark.skipif(PROGRAM is None, reason="no chromium on the PATH")
+def test_the_page(tmp_path):
+    # can0 sends, and goes bus off.
+    with Server("can0,can1", faults=Faults().destroyed(range(32))) as server, Watch(server, "can0", "can1") as watch:
+        browser = Browser(tmp_path)
+        try:
+            browser.size(1200)
+            browser.open(watch.url)
+            with server.bus("can0") as can0, server.bus("can1") as can1:
+                can0.send(message(0x123))
+                browser.until("at('facts').textContent.endsWith('Bus off: can0.')")
+                can1.send(message(0x124))
+                browser.until("byIdentifier.has('124')")
+            shown = browser.run("at('ifaces').innerText").split("\n")
+            assert shown[1].split() == ["can0", "off", "256", "0", "1", "0", "0", "1", "0"]
+            assert "bus off" in browser.run("at('events').innerText")
+            browser.size(500, dark=True)
+            assert browser.run("document.documentElement.scrollWidth") == 500
+            server.stop()
+            browser.until("at('facts').textContent.startsWith('The server has ended')")
+            assert browser.faults == []
+        finally:
+            browser.close()
