@@ -167,7 +167,7 @@ impl<T: BoundedQueue<Pending>, R: BoundedQueue<Received>, A: Arbiter> Bus<T, R, 
         if self.record.is_full() {
             return Err(Refusal::RecordFull);
         }
-        let Ok(kept) = filters.try_copy(alloc) else {
+        let Ok(kept) = filters.try_compile(alloc) else {
             return Err(Refusal::NoMemory);
         };
         let Ok(noted) = filters.try_copy(alloc) else {

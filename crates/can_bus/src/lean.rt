@@ -95,7 +95,7 @@ impl<T: BoundedQueue<Pending>, R: BoundedQueue<Received>, A: Arbiter> State<T, R
         match event {
             Event::Open(iface, capacity) => self.carry_open(alloc, config, *iface, *capacity),
             Event::Close(id) => closed_reply(&self.close(*id)),
-            Event::SetFilters(id, filters) => match filters.try_copy(alloc) {
+            Event::SetFilters(id, filters) => match filters.try_compile(alloc) {
                 Ok(kept) => done_reply(&self.set_filters(*id, kept)),
                 Err(_) => Reply::Refused(Refusal::NoMemory),
             },

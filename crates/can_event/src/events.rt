@@ -92,7 +92,7 @@ impl Opt {
 }
 
 /// One call on a bus.
-#[derive(Debug, Drop)]
+#[derive(Debug, PartialEq, Eq, Drop)]
 pub enum Event {
     /// Open a socket on an interface, where so many items may wait, 1 to 65,536.
     Open(Iface, u32),
@@ -243,7 +243,7 @@ pub enum Reply {
 
 /// A call with its answer. It takes 208 bytes: the event is as wide as `Send` with its frame, and the
 /// reply as wide as `Tried`.
-#[derive(Debug, Drop)]
+#[derive(Debug, PartialEq, Eq, Drop)]
 pub struct Entry {
     pub event: Event,
     pub reply: Reply,

@@ -1,4 +1,4 @@
-use Rattle.std.specs.Prelude.{◌≡◌, ◌≢◌, ℕ, Bool, List, [], Option, Some, None}
+use Rattle.std.specs.Prelude.{◌≡◌, ℕ, Bool, List, Option, Some, None}
 use Rattle.std.specs.Global.{Box}
 use Rattle.can_filter.specs.Filters.{CanFilter}
 use Rattle.can_filter.specs.Lookups.{is_found, is_matched}
@@ -10,7 +10,7 @@ use Rattle.can_filter.specs.declared.compiled.Compiled.{Compiled}
 abbrev pub finds : Compiled → ℕ → Bool
 finds compiled word = is_found compiled.parts.standard compiled.parts.extended.items compiled.parts.masked.items compiled.parts.inverted.items word
 
--- what a set has beside its filters: nothing where there are none
+-- what a set may have beside its filters
 abbrev pub IsCompiledOf : Option (Box Compiled) → List CanFilter → Type 0
-IsCompiledOf None filters = filters ≡ []
-IsCompiledOf (Some compiled) filters = (filters ≢ []) × ((word : ℕ) → finds compiled.value word ≡ is_matched filters word)
+IsCompiledOf None filters = Unit {0}
+IsCompiledOf (Some compiled) filters = (word : ℕ) → finds compiled.value word ≡ is_matched filters word

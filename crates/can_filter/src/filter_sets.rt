@@ -3,7 +3,7 @@ ghost use Rattle.can_filter.specs.Filters.{receives_all, passes};
 
 use crate::compiled::Compiled;
 use crate::filters::Filter;
-use crate::joining::all_match;
+use crate::joining::{all_match, some_match};
 use std::alloc::{AllocError, Global};
 use std::fmt;
 use std::marker::Model;
@@ -23,11 +23,11 @@ pub enum FilterError {
     NoMemory,
 }
 
-/// The filters of a socket, at most 512, in the order given.
+/// The filters of a socket, at most 512, in the order given: 8 bytes a filter. Who asks often whether frames pass has
+/// them compiled as well.
 #[derive(Drop)]
 pub struct FilterSet {
     filters: Vec<Filter>,
-    // Where there are filters.
     compiled: Option<Box<Compiled>>,
 }
 
@@ -49,12 +49,36 @@ impl fmt::Debug for FilterSet {
     }
 }
 
+// Of the same filters, in the same order.
+impl PartialEq for FilterSet {
+    ghost use Rattle.std.proofs.Common.{rules};
+    ghost use Rattle.std.specs.Cmp.Rules.{comparing};
+    ghost use Rattle.std.specs.Ordering.{on, eq_of_both};
+    ghost use Rattle.std.specs.Cmp.Lexicographic.{pointwise};
+    ghost use Rattle.std.specs.Prelude.{◌==◌};
+
+    ghost eq = { pointwise (eq_of_both (on (λ f. f.id) ◌==◌) (on (λ f. f.mask) ◌==◌)) };
+
+    ghost laws = { Prim.search (comparing, rules) };
+
+    fn eq(&self, other: &FilterSet) -> bool {
+        self.filters() == other.filters()
+    }
+}
+
+impl Eq for FilterSet {
+    ghost use Rattle.std.proofs.Common.{rules};
+    ghost use Rattle.std.specs.Cmp.Rules.{comparing};
+
+    ghost laws = { Prim.search (comparing, rules) };
+}
+
 impl FilterSet {
     /// The one filter that receives everything, as a socket has it when it is opened.
     pub fn all(alloc: Global) -> Result<FilterSet, AllocError>
         ensures { IfOk result (λ set. set ≡ receives_all) }
     {
-        FilterSet::compile(alloc, &[Filter::everything()])
+        FilterSet::list(alloc, &[Filter::everything()])
     }
 
     /// No filters, so that no data frame passes. It takes no memory.
@@ -67,16 +91,25 @@ impl FilterSet {
         }
     }
 
-    /// These filters, at most 512. `NoMemory` comes only where memory was really refused. The time grows with
-    /// their number `n` as `n log n`.
+    /// These filters, at most 512, compiled, so that `passes` is quick: some 2,200 bytes and at most 16 a filter.
+    /// `NoMemory` comes only where memory was really refused. The time grows with their number `n` as `n log n`.
     pub fn from_slice(alloc: Global, filters: &[Filter]) -> Result<FilterSet, FilterError>
+        ensures ok { IfOk result (λ set. set ≡ filters.now) }
+        ensures too_many { (result ≡ Err FilterError.TooManyFilters) ↔ (512 < length filters.now) }
+    {
+        let set = FilterSet::listed(alloc, filters)?;
+        set.compiled(alloc).map_err(|_| FilterError::NoMemory)
+    }
+
+    /// The same, as a list only, to be kept: 8 bytes a filter.
+    pub fn listed(alloc: Global, filters: &[Filter]) -> Result<FilterSet, FilterError>
         ensures ok { IfOk result (λ set. set ≡ filters.now) }
         ensures too_many { (result ≡ Err FilterError.TooManyFilters) ↔ (512 < length filters.now) }
     {
         if filters.len() > MAX_FILTERS {
             return Err(FilterError::TooManyFilters);
         }
-        FilterSet::compile(alloc, filters).map_err(|_| FilterError::NoMemory)
+        FilterSet::list(alloc, filters).map_err(|_| FilterError::NoMemory)
     }
 
     /// The filters, at most 512.
@@ -87,42 +120,52 @@ impl FilterSet {
         &self.filters
     }
 
-    /// Another set of the same filters.
+    /// Another set of the same filters, as a list only.
     pub fn try_copy(&self, alloc: Global) -> Result<FilterSet, AllocError>
         ensures { IfOk result (λ set. set ≡ self.now) }
     {
-        FilterSet::compile(alloc, &self.filters)
+        FilterSet::list(alloc, &self.filters)
+    }
+
+    /// Another set of the same filters, compiled as by `from_slice`.
+    pub fn try_compile(&self, alloc: Global) -> Result<FilterSet, AllocError>
+        ensures { IfOk result (λ set. set ≡ self.now) }
+    {
+        self.try_copy(alloc)?.compiled(alloc)
     }
 
     /// Whether a data frame with this identifier word passes the filters, which are joined by AND where
-    /// `join` says so and else by OR. Joined by OR, filters that single out one data identifier each are looked
-    /// up all at once; else the time grows with the number of filters.
+    /// `join` says so and else by OR. The time grows with the number of filters; joined by OR, compiled filters that
+    /// single out one data identifier each are looked up all at once.
     #[inline]
     pub fn passes(&self, word: u32, join: bool) -> bool
         ensures { result ≡ passes self.now join word }
     {
-        let Some(compiled) = &self.compiled else {
-            return false;
-        };
         if join {
-            all_match(&self.filters, word)
-        } else {
-            compiled.finds(word)
+            return !self.filters.is_empty() && all_match(&self.filters, word);
+        }
+        match &self.compiled {
+            Some(compiled) => compiled.finds(word),
+            None => some_match(&self.filters, word),
         }
     }
 
-    fn compile(alloc: Global, filters: &[Filter]) -> Result<FilterSet, AllocError>
+    fn list(alloc: Global, filters: &[Filter]) -> Result<FilterSet, AllocError>
         requires { length filters.now ≤ 512 }
         ensures { IfOk result (λ set. set ≡ filters.now) }
     {
-        if filters.is_empty() {
-            return Ok(FilterSet::none(alloc));
-        }
-        let compiled = Box::new(alloc, Compiled::of(alloc, filters)?)?;
-        let filters = Vec::from_slice(alloc, filters)?;
         Ok(FilterSet {
-            filters,
-            compiled: Some(compiled),
+            filters: Vec::from_slice(alloc, filters)?,
+            compiled: None,
         })
+    }
+
+    // The set with its filters compiled.
+    fn compiled(mut self, alloc: Global) -> Result<FilterSet, AllocError>
+        ensures { IfOk result (λ set. set ≡ self) }
+    {
+        let compiled = Compiled::of(alloc, &self.filters)?;
+        self.compiled = Some(Box::new(alloc, compiled)?);
+        Ok(self)
     }
 }

@@ -72,7 +72,7 @@ pub fn read_set(alloc: Global, rest: &[u8]) -> Result<Command, ProtoFault>
         return Err(ProtoFault::BadCount);
     }
     let filters = read_filters(rest, count)?;
-    match FilterSet::from_slice(alloc, &filters[..count]) {
+    match FilterSet::listed(alloc, &filters[..count]) {
         Ok(set) => Ok(Command::SetFilters(set)),
         Err(_) => Err(ProtoFault::NoMemory),
     }

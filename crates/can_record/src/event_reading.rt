@@ -102,7 +102,7 @@ fn guess_filters(alloc: Global, text: &[u8]) -> Result<(Event, &[u8]), Unread>
         Ok(rest) => rest,
         Err(why) => return Err(why),
     };
-    match FilterSet::from_slice(alloc, &filters) {
+    match FilterSet::listed(alloc, &filters) {
         Ok(set) => Ok((Event::SetFilters(id, set), rest)),
         Err(FilterError::TooManyFilters) => Err(Unread::Bad),
         Err(FilterError::NoMemory) => Err(Unread::NoMemory),

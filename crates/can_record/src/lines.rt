@@ -25,7 +25,7 @@ use can_frame::Moment;
 use std::alloc::{AllocError, Global};
 
 /// The line of an entry.
-pub fn put_line(out: &mut Vec<u8>, entry: &Entry) -> Result<(), AllocError>
+pub(crate) fn put_line(out: &mut Vec<u8>, entry: &Entry) -> Result<(), AllocError>
     requires { FitsReply entry.now.event entry.now.reply }
     ensures { OnOk result (out.new.items ≡ out.old.items ++ entry_line entry.now []) }
 {
@@ -44,7 +44,11 @@ pub fn put_answered(out: &mut Vec<u8>, event: &Event, reply: &Reply) -> Result<(
 }
 
 /// The line of a bus.
-pub fn put_bus(out: &mut Vec<u8>, version: Version, config: BusConfig) -> Result<(), AllocError>
+pub(crate) fn put_bus(
+    out: &mut Vec<u8>,
+    version: Version,
+    config: BusConfig,
+) -> Result<(), AllocError>
     ensures { OnOk result (out.new.items ≡ out.old.items ++ spell (bus_words version config) []) }
 {
     put_word(out, b"bus", b' ')?;
@@ -91,7 +95,7 @@ pub fn begins(text: &[u8], front: &[u8]) -> bool
 
 /// What follows so many bytes.
 #[tactic(auto, using(crate::proofs::Wording::rest_of))]
-pub fn behind(text: &[u8], count: usize) -> &[u8]
+pub(crate) fn behind(text: &[u8], count: usize) -> &[u8]
     requires { count ≤ length text.now }
     ensures { result.now ≡ drop count text.now }
 {

@@ -23,7 +23,7 @@ pub enum Version {
 
 impl Version {
     /// The version of the record of this bus, where an FD frame or the option for such stands in it, or none does.
-    pub fn of(config: BusConfig, fd: bool) -> Version
+    pub(crate) fn of(config: BusConfig, fd: bool) -> Version
         ensures { result ≡ version_for config fd }
     {
         if fd {
@@ -36,7 +36,7 @@ impl Version {
     }
 
     /// The first line, with its LF.
-    pub fn first_line(self) -> &'static [u8]
+    pub(crate) fn first_line(self) -> &'static [u8]
         ensures { result.now ≡ first_line self }
     {
         match self {
@@ -48,7 +48,7 @@ impl Version {
 
     /// Whether a bus may restart its interfaces as this one does: by a call alone in version 1, automatically in version 2,
     /// and either way in version 3.
-    pub fn restarts(self, config: BusConfig) -> bool
+    pub(crate) fn restarts(self, config: BusConfig) -> bool
         ensures yes { IsTrue result → Restarts self config }
         ensures no { Restarts self config → IsTrue result }
     {
@@ -60,7 +60,7 @@ impl Version {
     }
 
     /// Whether a record of these entries needs the version: version 3 is for an FD frame, or for the option for such.
-    pub fn is_needed(self, entries: &[Entry]) -> bool
+    pub(crate) fn is_needed(self, entries: &[Entry]) -> bool
         ensures yes { IsTrue result → self ≡ version.Three → list_any has_fd entries.now ≡ true }
         ensures no { result ≡ false → (self ≡ version.Three) × (list_any has_fd entries.now ≡ false) }
     {
@@ -69,7 +69,7 @@ impl Version {
 }
 
 /// Whether an FD frame or the option for such stands in a record.
-pub fn record_has_fd(record: &Record) -> bool
+pub(crate) fn record_has_fd(record: &Record) -> bool
     ensures { result ≡ list_any has_fd (reverse «record».now.history) }
 {
     for place in 0..record.len() {

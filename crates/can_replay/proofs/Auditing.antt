@@ -1,103 +1,125 @@
-use Rattle.std.proofs.Common.{◌≡◌, ◌≢◌, ℕ, ◌+◌, ◌<◌, ◌≤◌, zero, suc, nat_le, List, [], ◌∷◌, length, min, get_or, take, reverse, Some, None, Result, Ok, Err, OnOk, IfErr, inl, inr, arith, refl, sym, ap, ◌∙◌, subst}
+use Rattle.std.proofs.Common.{◌≡◌, ◌≢◌, ℕ, ◌+◌, ◌<◌, ◌≤◌, zero, suc, nat_le, List, [], ◌∷◌, length, get_or, take, reverse, Some, None, inl, inr, arith, refl, sym, ap, ◌∙◌, subst}
 use Rattle.std.proofs.lemmas.Bool.{cond-true, cond-false, le-leb, lt-leb, cases_lt}
 use Rattle.std.proofs.lemmas.List.{length-reverse, length-take-le, reverse-reverse, take_all}
-use Rattle.std.proofs.lemmas.Option.{slice_get_read, slice_get_cases, slice_get_within, get_or_from_slice_get}
+use Rattle.std.proofs.lemmas.Option.{slice_get_read, slice_get_within, get_or_from_slice_get}
 use Rattle.can_event.specs.declared.events.BusConfig.{BusConfig}
 use Rattle.can_event.specs.declared.events.Entry.{Entry}
 use Rattle.can_event.specs.declared.events.Event.{Event}
 use Rattle.can_event.specs.declared.events.Reply.{Reply}
 use Rattle.can_event.specs.declared.events.Reply.TheVariants as reply
 use Rattle.can_event.specs.declared.events.Refusal.TheVariants as refusal
-use Rattle.can_bus.specs.Headline.{Headline}
-use Rattle.can_bus.specs.Journal.{Journal}
+use Rattle.can_bus.specs.Lean.{Lean, Stands}
 use Rattle.can_event.specs.Events.{IsConfig}
+use Rattle.can_event.specs.Spelled.{FitsReply}
 use Rattle.can_bus.specs.Legal.{legal_reply, IsLegal}
 use Rattle.can_bus.specs.Run.{IsAnswer, history_after}
-use Rattle.can_bus.proofs.Headlines.{headline}
 use Rattle.can_replay.specs.declared.audits.AuditFault.{AuditFault}
 use Rattle.can_replay.specs.declared.audits.AuditFault.TheVariants as fault
-use Rattle.can_replay.specs.Audits.{IsFirstWrong, IsToldWrong, Blames}
+use Rattle.can_replay.specs.Audits.{IsFirstWrong, IsToldWrong, Blames, fault_at}
 use Rattle.can_replay.specs.Histories.{before}
-use Rattle.can_replay.proofs.Answering.{answers}
 use Rattle.can_replay.proofs.Before.{before_more, history-before}
-use Rattle.can_replay.proofs.Narrowing.{narrow, legal-narrow, told-narrow}
 
 -- A bus carries out the entries one after another, as far as they are legal.
 
--- the bus has carried out the first k entries
-abbrev pub replayed : BusConfig → List Entry → ℕ → Journal
-replayed c es k = record { config = c; history = before es k }
-
--- within the limit, the bus answers as the entries give, and notes it
-record Carried (c : BusConfig) (past : List Entry) (e : Event) (r : Reply) : Type 0 where
-  reply : r ≡ legal_reply c past e
-  entries : history_after e r past ≡ record { event = e; reply = r } ∷ past
-
-carried : (c : BusConfig) (past : List Entry) (e : Event) (r : Reply) → length past < c.limit → IsAnswer c past e r → r ≢ reply.Refused refusal.NoMemory → Carried c past e r
-carried c past e r room is memory =
-    let a = answers c past e r is memory in
-    let within = lt-leb c.limit (length past) room in
-    let lawful = a.reply ∙ cond-false (nat_le c.limit (length past)) _ _ within in
-    record {
-      reply = lawful;
-      entries = a.entries ∙ cond-false (nat_le c.limit (length past)) _ _ within ∙ ap (λ (k : Reply). record { event = e; reply = k } ∷ past) (sym lawful);
-    }
-
--- one entry: its event was answered with r
-pub record Turn (c : BusConfig) (es : List Entry) (k : ℕ) (e : Entry) (bus : Journal) (r : Reply) : Type 0 where
-  pub below : k < length es
-  pub room : k < c.limit
-  pub read : e ≡ get_or es k e
-  pub so_far : bus ≡ replayed c es k
-  pub answer : IsAnswer bus.config bus.history e.event r
-  pub memory : r ≢ reply.Refused refusal.NoMemory
-
-carried-turn : (c : BusConfig) (es : List Entry) (k : ℕ) (e : Entry) (bus : Journal) (r : Reply) → Turn c es k e bus r → Carried c (before es k) e.event r
-carried-turn c es k e bus r t =
-    carried c (before es k) e.event r (omega (arith, length-reverse (take k es), length-take-le k es (omega (arith, t.below)), t.room)) (subst (λ (b : Journal). IsAnswer b.config b.history e.event r) t.so_far t.answer) t.memory
+-- entry k is read
+record Read (c : BusConfig) (es : List Entry) (k : ℕ) (e : Entry) : Type 0 where
+  below : k < length es
+  read : e ≡ get_or es k e
+  legal : IsLegal c (before es k)
 
 -- no entry may stand past the limit
-pub past_limit : (c : BusConfig) (es : List Entry) (k : ℕ) (bus : Journal) → k < length es → bus ≡ replayed c es k → IsLegal bus.config bus.history → c.limit ≤ k → IsToldWrong c es k None
-past_limit c es k bus below so_far legal past =
-    elim (slice_get_cases es k).1 [
-      | inl (e, inside, there, read) ↦ record {
-        first = record {
-          entry = e;
-          there = there;
-          legal_before = subst (λ (b : Journal). IsLegal b.config b.history) so_far legal;
-          wrong = inl past;
-        };
-        is_allowed = sym (cond-true (nat_le c.limit k) _ _ (le-leb c.limit k past));
-      }
-      | inr (beyond, there) ↦ absurd (omega (arith, below, beyond))
-    ]
+past_limit : (c : BusConfig) (es : List Entry) (k : ℕ) (e : Entry) → Read c es k e → c.limit ≤ k → IsToldWrong c es k None
+past_limit c es k e at past = record {
+  first = record {
+    entry = e;
+    there = slice_get_read es (length es) k e refl at.below at.read;
+    legal_before = at.legal;
+    wrong = inl past;
+  };
+  is_allowed = sym (cond-true (nat_le c.limit k) _ _ (le-leb c.limit k past));
+}
 
--- another reply than the entry's
-pub first_wrong : (c : BusConfig) (es : List Entry) (k : ℕ) (e : Entry) (bus : Journal) (r : Reply) → Turn c es k e bus r → IsLegal bus.config bus.history → r ≢ e.reply → IsToldWrong c es k (Some r)
-first_wrong c es k e bus r t legal other =
-    let lawful = (carried-turn c es k e bus r t).reply in
-    record {
-      first = record {
-        entry = e;
-        there = slice_get_read es (length es) k e refl t.below t.read;
-        legal_before = subst (λ (b : Journal). IsLegal b.config b.history) t.so_far legal;
-        wrong = inr (λ same. other (lawful ∙ sym same));
-      };
-      is_allowed = ap Some lawful ∙ sym (cond-false (nat_le c.limit k) _ _ (lt-leb c.limit k t.room));
-    }
+-- another reply than the legal one
+other_reply : (c : BusConfig) (es : List Entry) (k : ℕ) (e : Entry) (r : Reply) → Read c es k e → k < c.limit → r ≡ legal_reply c (before es k) e.event → r ≢ e.reply → IsToldWrong c es k (Some r)
+other_reply c es k e r at room lawful other = record {
+  first = record {
+    entry = e;
+    there = slice_get_read es (length es) k e refl at.below at.read;
+    legal_before = at.legal;
+    wrong = inr (λ same. other (lawful ∙ sym same));
+  };
+  is_allowed = ap Some lawful ∙ sym (cond-false (nat_le c.limit k) _ _ (lt-leb c.limit k room));
+}
 
--- the entry's reply
-pub replayed_more : (c : BusConfig) (es : List Entry) (k : ℕ) (e : Entry) (bus after : Journal) (r : Reply) → Turn c es k e bus r → after ≡ record bus { history = history_after e.event r bus.history } → r ≡ e.reply → after ≡ replayed c es (k + 1)
-replayed_more c es k e bus after r t noted same =
-    noted
-    ∙ ap (λ (b : Journal). record b { history = history_after e.event r b.history }) t.so_far
-    ∙ ap (λ (h : List Entry). record { config = c; history = h }) ((carried-turn c es k e bus r t).entries ∙ ap (λ (q : Reply). record { event = e.event; reply = q } ∷ before es k) same ∙ sym (before_more es k e t.below t.read))
+count_before : (es : List Entry) (k : ℕ) → k < length es → length (before es k) ≡ k
+count_before es k lt = length-reverse (take k es) ∙ length-take-le k es (omega (arith, lt))
+
+blamed_at : (c : BusConfig) (es : List Entry) (k : ℕ) (e : Entry) (r : Reply) → Read c es k e → IsAnswer c (before es k) e.event r → r ≢ e.reply → Blames c es (fault_at k r)
+blamed_at c es k e (reply.Refused refusal.RecordFull) at is other = past_limit c es k e at (omega (arith, is, count_before es k at.below))
+blamed_at c es k e (reply.Refused refusal.NoMemory) at is other = tt
+blamed_at c es k e (reply.Refused refusal.NoInterface) at is other = other_reply c es k e _ at (omega (arith, is.0, count_before es k at.below)) is.1 other
+blamed_at c es k e (reply.Refused refusal.BadCapacity) at is other = other_reply c es k e _ at (omega (arith, is.0, count_before es k at.below)) is.1 other
+blamed_at c es k e (reply.Refused refusal.TooManySockets) at is other = other_reply c es k e _ at (omega (arith, is.0, count_before es k at.below)) is.1 other
+blamed_at c es k e (reply.Refused refusal.NoSocket) at is other = other_reply c es k e _ at (omega (arith, is.0, count_before es k at.below)) is.1 other
+blamed_at c es k e (reply.Refused refusal.FdOff) at is other = other_reply c es k e _ at (omega (arith, is.0, count_before es k at.below)) is.1 other
+blamed_at c es k e (reply.Refused refusal.BusOff) at is other = other_reply c es k e _ at (omega (arith, is.0, count_before es k at.below)) is.1 other
+blamed_at c es k e (reply.Refused refusal.NoBuffers) at is other = other_reply c es k e _ at (omega (arith, is.0, count_before es k at.below)) is.1 other
+blamed_at c es k e (reply.Refused refusal.NotBusOff) at is other = other_reply c es k e _ at (omega (arith, is.0, count_before es k at.below)) is.1 other
+blamed_at c es k e (reply.Opened s) at is other = other_reply c es k e _ at (omega (arith, is.0, count_before es k at.below)) is.1 other
+blamed_at c es k e (reply.Closed n) at is other = other_reply c es k e _ at (omega (arith, is.0, count_before es k at.below)) is.1 other
+blamed_at c es k e reply.Done at is other = other_reply c es k e _ at (omega (arith, is.0, count_before es k at.below)) is.1 other
+blamed_at c es k e (reply.Sent n) at is other = other_reply c es k e _ at (omega (arith, is.0, count_before es k at.below)) is.1 other
+blamed_at c es k e (reply.Received x) at is other = other_reply c es k e _ at (omega (arith, is.0, count_before es k at.below)) is.1 other
+blamed_at c es k e (reply.Idle set) at is other = other_reply c es k e _ at (omega (arith, is.0, count_before es k at.below)) is.1 other
+blamed_at c es k e (reply.Tried t) at is other = other_reply c es k e _ at (omega (arith, is.0, count_before es k at.below)) is.1 other
+
+-- entry k was carried out: the bus answered its event with this reply
+pub record Turn (c : BusConfig) (es : List Entry) (k : ℕ) (e : Entry) (bus : Lean) (r : Reply) : Type 0 where
+  pub below : k < length es
+  pub read : e ≡ get_or es k e
+  pub config : bus.config ≡ c
+  pub stands : Stands bus (before es k)
+  pub answer : (past : List Entry) → Stands bus past → IsAnswer bus.config past e.event r
+
+-- the bus answers otherwise
+pub blamed : (c : BusConfig) (es : List Entry) (k : ℕ) (e : Entry) (bus : Lean) (r : Reply) → Turn c es k e bus r → r ≢ e.reply → Blames c es (fault_at k r)
+blamed c es k e bus r t other =
+    let at : Read c es k e = record { below = t.below; read = t.read; legal = subst (λ (d : BusConfig). IsLegal d (before es k)) t.config t.stands.kept.legal } in
+    blamed_at c es k e r at (subst (λ (d : BusConfig). IsAnswer d (before es k) e.event r) t.config (t.answer (before es k) t.stands)) other
+
+-- an entry of a record enters a history
+entered : (v : Event) (r : Reply) (past : List Entry) → FitsReply v r → history_after v r past ≡ record { event = v; reply = r } ∷ past
+entered v (reply.Refused refusal.RecordFull) past fits = absurd fits
+entered v (reply.Refused refusal.NoMemory) past fits = absurd fits
+entered v (reply.Refused refusal.NoInterface) past fits = refl
+entered v (reply.Refused refusal.BadCapacity) past fits = refl
+entered v (reply.Refused refusal.TooManySockets) past fits = refl
+entered v (reply.Refused refusal.NoSocket) past fits = refl
+entered v (reply.Refused refusal.FdOff) past fits = refl
+entered v (reply.Refused refusal.BusOff) past fits = refl
+entered v (reply.Refused refusal.NoBuffers) past fits = refl
+entered v (reply.Refused refusal.NotBusOff) past fits = refl
+entered v (reply.Opened s) past fits = refl
+entered v (reply.Closed n) past fits = refl
+entered v reply.Done past fits = refl
+entered v (reply.Sent n) past fits = refl
+entered v (reply.Received x) past fits = refl
+entered v (reply.Idle set) past fits = refl
+entered v (reply.Tried t) past fits = refl
+
+-- the bus answers as the entry says
+pub replayed_more : (es : List Entry) (k : ℕ) (e : Entry) (bus after : Lean) (r : Reply) → k < length es → e ≡ get_or es k e → FitsReply e.event e.reply → r ≡ e.reply → Stands bus (before es k)
+    → ((past : List Entry) → Stands bus past → Stands after (history_after e.event r past)) → Stands after (before es (k + 1))
+replayed_more es k e bus after r below read fits same so_far more =
+    let noted : history_after e.event r (before es k) ≡ before es (k + 1) =
+    ap (λ (q : Reply). history_after e.event q (before es k)) same ∙ entered e.event e.reply (before es k) fits ∙ sym (before_more es k e below read) in
+    subst (Stands after) noted (more (before es k) so_far)
 
 -- all entries are carried out
-pub all_replayed : (c : BusConfig) (past : List Entry) (k : ℕ) (bus : Journal) → length past ≤ k → bus ≡ replayed c (reverse past) k → IsLegal bus.config bus.history → IsLegal c past
-all_replayed c past k bus end so_far legal =
+pub all_legal : (c : BusConfig) (past : List Entry) (k : ℕ) (bus : Lean) → length past ≤ k → bus.config ≡ c → Stands bus (before (reverse past) k) → IsLegal c past
+all_legal c past k bus end config so_far =
     let whole : before (reverse past) k ≡ past = ap reverse (take_all k (reverse past) (omega (arith, length-reverse past, end))) ∙ reverse-reverse past in
-    subst (IsLegal c) whole (subst (λ (b : Journal). IsLegal b.config b.history) so_far legal)
+    subst (IsLegal c) whole (subst (λ (d : BusConfig). IsLegal d (before (reverse past) k)) config so_far.kept.legal)
 
 -- ---- the answer
 
@@ -139,24 +161,7 @@ one-first c es j k proper f g =
       ]
     ]
 
--- what an audit answers of this history
-pub record Audits (c : BusConfig) (past : List Entry) (r : Result (Unit {0}) AuditFault) : Type 0 where
-  pub legal : OnOk r (IsLegal c past)
-  pub headline : OnOk r (Headline c past)
-  pub wrong : IfErr r (Blames c (reverse past))
-  pub spared : IsLegal c past → IfErr r (λ why. why ≡ fault.NoMemory)
-
--- a bus made for no more entries than there are tells the same
-pub audited : (c : BusConfig) (n : ℕ) (past : List Entry) (r : Result (Unit {0}) AuditFault) → IsConfig c → n ≡ min c.limit (length past) → OnOk r (IsLegal (narrow c n) past) → IfErr r (Blames (narrow c n) (reverse past)) → Audits c past r
-audited c n past (Ok u) proper is legal wrong =
-    let whole = legal-narrow c n past (omega (arith, is)) legal in
-    record { legal = whole; headline = headline c past proper whole; wrong = tt; spared = λ h. tt }
-audited c n past (Err (fault.Wrong k reply)) proper is legal wrong =
-    let told = told-narrow c n (reverse past) k reply (is ∙ ap (min c.limit) (sym (length-reverse past))) wrong in
-    record {
-      legal = tt;
-      headline = tt;
-      wrong = told;
-      spared = λ h. absurd (none-wrong c (reverse past) k proper (subst (IsLegal c) (sym (reverse-reverse past)) h) told.first);
-    }
-audited c n past (Err fault.NoMemory) proper is legal wrong = record { legal = tt; headline = tt; wrong = tt; spared = λ h. refl }
+-- a fault of a legal history is want of memory
+pub spared : (c : BusConfig) (past : List Entry) (why : AuditFault) → IsConfig c → Blames c (reverse past) why → IsLegal c past → why ≡ fault.NoMemory
+spared c past (fault.Wrong k legal) proper told h = absurd (none-wrong c (reverse past) k proper (subst (IsLegal c) (sym (reverse-reverse past)) h) told.first)
+spared c past fault.NoMemory proper told h = refl

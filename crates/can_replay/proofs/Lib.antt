@@ -1,4 +1,3 @@
 pub mod Answering
 pub mod Auditing
-pub mod Narrowing
 pub mod Before

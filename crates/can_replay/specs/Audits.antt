@@ -3,6 +3,8 @@ use Rattle.can_event.specs.declared.events.BusConfig.{BusConfig}
 use Rattle.can_event.specs.declared.events.Entry.{Entry}
 use Rattle.can_event.specs.declared.events.Event.{Event}
 use Rattle.can_event.specs.declared.events.Reply.{Reply}
+use Rattle.can_event.specs.declared.events.Reply.TheVariants.{Refused}
+use Rattle.can_event.specs.declared.events.Refusal.TheVariants.{NoMemory, RecordFull}
 use Rattle.can_bus.specs.Legal.{legal_reply, IsLegal}
 use Rattle.can_replay.specs.declared.audits.AuditFault.{AuditFault}
 use Rattle.can_replay.specs.declared.audits.AuditFault.TheVariants as fault
@@ -31,3 +33,9 @@ pub record IsToldWrong (c : BusConfig) (entries : List Entry) (k : ℕ) (legal :
 abbrev pub Blames : BusConfig → List Entry → AuditFault → Type 0
 Blames c entries (fault.Wrong k legal) = IsToldWrong c entries k legal
 Blames c entries fault.NoMemory = Unit {0}
+
+-- the fault of entry k, whose event a bus answers with this reply, which is not the entry's
+abbrev pub fault_at : ℕ → Reply → AuditFault
+fault_at k (Refused NoMemory) = fault.NoMemory
+fault_at k (Refused RecordFull) = fault.Wrong k None
+fault_at k r = fault.Wrong k (Some r)

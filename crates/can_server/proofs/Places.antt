@@ -32,6 +32,10 @@ index_default (x ∷ xs) (suc k) d e lt = index_default xs k d e (omega (arith, 
 pub named_at : (buses : List BusSeen) (k : ℕ) (d e : BusSeen) (name : List ℕ) → k < length buses → place_of (slice_index_or buses k d).names name ≡ place_of (slice_index_or buses k e).names name
 named_at buses k d e name lt = ap (λ (b : BusSeen). place_of b.names name) (index_default buses k d e lt)
 
+-- how long a bus's driver sleeps, whatever stands for a missing bus
+pub pace_at : (buses : List BusSeen) (k : ℕ) (d e : BusSeen) → k < length buses → (slice_index_or buses k d).pace_ms ≡ (slice_index_or buses k e).pace_ms
+pace_at buses k d e lt = ap (λ (b : BusSeen). b.pace_ms) (index_default buses k d e lt)
+
 -- how many items a socket holds on the bus at a place
 pub items_at : (buses : List BusSeen) (k : ℕ) (b d : BusSeen) → k < length buses → b ≡ slice_index_or buses k d → b.rx_capacity ≡ items_on (slice_get buses k)
 items_at [] k b d lt same = absurd (omega (arith, lt))

@@ -60,7 +60,7 @@ fn hold_of<'a, N: RollName + MeterName, F: FaultSource + Drop, G: Gate + Drop, R
     station: &'a Station<N, F, G>,
     taken: Option<Hold<'a, N, F, G>>,
 ) -> Hold<'a, N, F, G>
-    ensures { result ≡ station.now }
+    ensures { result.number ≡ station.now }
 {
     let Some(hold) = taken else {
         return station.lock(rt);

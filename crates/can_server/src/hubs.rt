@@ -150,8 +150,10 @@ impl<N: RollName + MeterName, F: FaultSource + Drop, G: Gate + Drop> Hub<N, F, G
     }
 
     /// How many milliseconds the driver of a bus sleeps after each step.
+    #[tactic(auto, using(crate::proofs::Places::pace_at))]
     pub fn pace_ms(&self, bus: usize) -> u32
         requires { bus < length self.now }
+        ensures { (d : BusSeen) → result ≡ (slice_index_or self.now bus d).pace_ms }
     {
         self.wires[bus].pace_ms
     }

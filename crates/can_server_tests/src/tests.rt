@@ -2,8 +2,10 @@ ghost use Rattle.std.specs.Prelude.{◌≡◌, length};
 ghost use Rattle.can_server.specs.Benches.{NamedFrom};
 
 mod clients;
+mod counts;
 mod dialogues;
 mod ends;
+mod guests;
 mod held;
 mod hubs;
 mod limits;

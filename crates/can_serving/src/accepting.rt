@@ -1,13 +1,14 @@
 use crate::conns::{Conn, Out};
 use crate::doors::Door;
-use crate::guests::Guest;
+use crate::guests::NotAdmitted;
 use crate::server::Server;
-use crate::serving::{Clock, Watch};
+use crate::serving::Clock;
 use can_fault::FaultSource;
 use can_meter::MeterName;
 use can_proto::{Cause, refusal_text};
 use can_roll::RollName;
 use can_station::Gate;
+use std::alloc::Global;
 use std::io::Write;
 use std::sync::{Arc, Wait};
 use std::thread::Threads;
@@ -19,6 +20,13 @@ const AFTER_A_FAULT_MS: u64 = 100;
 
 /// How often a door tries before this counts as a session: for some 6 seconds.
 const TRIES: u32 = 64;
+
+/// A session's connection, and its place among the guests.
+#[derive(Drop)]
+pub struct Guest {
+    pub conn: Arc<Conn, Global>,
+    pub place: usize,
+}
 
 /// Who comes in at a door.
 #[derive(Drop)]
@@ -36,11 +44,11 @@ impl<
     N: RollName + MeterName + Send + Sync,
     F: FaultSource + Drop + Send,
     G: Gate + Drop + Send + Sync,
-    C: Clock + Watch + Sync,
+    C: Clock + Sync,
     R: Threads + Wait + time::Clock + Sync,
 > Server<'a, N, F, G, C, R> {
-    /// Accepts as many connections as the door has sessions, each served by a thread of its own, and waits for their
-    /// ends. It accepts no more once the server is closed.
+    /// Accepts as many connections as the door has sessions, each served by a thread of its own, closes the door and
+    /// waits for their ends. It accepts no more once the server is closed.
     pub fn accept_all(&self, door: &Door) {
         thread::scope(thread::scope_env(), self.rt, |scope| {
             for _ in 0..door.sessions() {
@@ -55,6 +63,8 @@ impl<
                     Next::Closed => break,
                 }
             }
+            door.close();
+            door.turn_away();
         });
     }
 }
@@ -64,19 +74,16 @@ impl<
     N: RollName + MeterName,
     F: FaultSource + Drop,
     G: Gate + Drop,
-    C: Clock + Watch,
+    C: Clock,
     R: Wait + time::Clock,
 > Server<'a, N, F, G, C, R> {
     /// Waits at a door for the next connection, and takes it in. After one that could not be accepted the door rests, and
     /// tries again.
     fn next_guest(&self, door: &Door) -> Next {
         for _ in 0..TRIES {
-            let accepted = door.accept();
-            if self.guests.lock(self.rt).is_closed() {
-                return Next::Closed;
-            }
-            match accepted {
-                Ok(conn) => return self.admit(conn).map_or(Next::Nobody, Next::Guest),
+            match door.accept() {
+                Ok(conn) => return self.admit(conn),
+                Err(_) if self.guests.lock(self.rt).is_closed() => return Next::Closed,
                 Err(_) => thread::sleep(self.rt, Duration::from_millis(AFTER_A_FAULT_MS)),
             }
         }
@@ -88,15 +95,25 @@ impl<
         self.guests.lock(self.rt).leave(place);
     }
 
-    /// Takes a connection in. Where as many sessions are at work as a server has, the client is told so.
-    fn admit(&self, conn: Conn) -> Option<Guest> {
-        let conn = Arc::new(self.alloc, conn).ok()?;
-        let guest = self.guests.lock(self.rt).admit(&conn);
-        if guest.is_none() {
-            let text = refusal_text(Cause::TooManySessions);
-            let _ = Out(&conn).write_all(text.as_bytes());
-            conn.shutdown();
+    /// Takes a connection in, if the server is not closed. Where as many sessions are at work as a server has, the
+    /// client is told so.
+    fn admit(&self, conn: Conn) -> Next {
+        let Ok(conn) = Arc::new(self.alloc, conn) else {
+            return Next::Nobody;
+        };
+        let Ok(shared) = Arc::try_clone(&conn) else {
+            return Next::Nobody;
+        };
+        let admitted = self.guests.lock(self.rt).admit(shared);
+        match admitted {
+            Ok(place) => Next::Guest(Guest { conn, place }),
+            Err(NotAdmitted::Closed) => Next::Closed,
+            Err(NotAdmitted::Full) => {
+                let text = refusal_text(Cause::TooManySessions);
+                let _ = Out(&conn).write_all(text.as_bytes());
+                conn.shutdown();
+                Next::Nobody
+            }
         }
-        guest
     }
 }

@@ -4,6 +4,9 @@ use std::net::{TcpListener, TcpStream};
 use std::os::fd::OwnedFd;
 use std::os::unix::net::{UnixListener, UnixStream};
 
+/// The most connections that wait at a listener: Linux's `somaxconn`, as it mostly is.
+const MOST_WAITING: u32 = 4096;
+
 /// Where connections come in.
 #[derive(Drop)]
 pub enum Listener {
@@ -24,6 +27,14 @@ impl Listener {
                 let (stream, _) = listener.accept()?;
                 Ok(Conn::Unix(stream))
             }
+        }
+    }
+
+    /// From now on `accept` is a fault where no connection waits.
+    fn never_waits(&self) -> io::Result<()> {
+        match self {
+            Listener::Tcp(listener) => listener.set_nonblocking(true),
+            Listener::Unix(listener) => listener.set_nonblocking(true),
         }
     }
 
@@ -71,9 +82,22 @@ impl Door {
         self.listener.accept()
     }
 
-    /// Lets nobody in any more. A thread that waits for a connection returns: Linux refuses an `accept` on a listening
-    /// socket that was shut down.
+    /// Lets nobody in any more: who comes later is refused by the system. A thread that waits for a connection returns:
+    /// Linux refuses an `accept` on a listening socket that was shut down.
     pub(crate) fn close(&self) {
         self.latch.shutdown();
+    }
+
+    /// Closes the connections that came before the door was closed and that nobody has accepted. Linux still gives those
+    /// of a Unix path.
+    pub(crate) fn turn_away(&self) {
+        if self.listener.never_waits().is_err() {
+            return;
+        }
+        for _ in 0..MOST_WAITING {
+            if self.accept().is_err() {
+                break;
+            }
+        }
     }
 }

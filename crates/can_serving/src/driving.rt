@@ -1,15 +1,30 @@
 use crate::server::Server;
-use crate::serving::{Clock, Watch};
+use crate::serving::Clock;
+use can_attempt::Class;
+use can_bus::Attempt;
 use can_fault::FaultSource;
+use can_frame::IfaceSet;
 use can_meter::MeterName;
 use can_roll::RollName;
 use can_station::{Gate, Hold, Pass};
 use std::sync::Wait;
+use std::sync::atomic::Ordering;
 use std::time;
 use std::time::Duration;
 
 /// The most steps of a driver in one hold of the lock.
 const MOST_STEPS: u32 = 32;
+
+/// What became of a driver's steps.
+#[derive(Drop)]
+enum Stepped {
+    /// It goes on.
+    On,
+    /// It is over: all sessions are, and no attempt would change what they see.
+    Out,
+    /// A step was refused.
+    Refused,
+}
 
 // The driver of a bus.
 impl<
@@ -17,26 +32,37 @@ impl<
     N: RollName + MeterName,
     F: FaultSource + Drop,
     G: Gate + Drop,
-    C: Clock + Watch,
+    C: Clock,
     R: Wait + time::Clock,
 > Server<'a, N, F, G, C, R> {
     /// Steps a bus while an interface has a frame to send or counts towards its restart, until its station is stopped,
-    /// and hands the pass back.
+    /// and hands the pass back. Then it tells the host of a full record, and of refused memory.
     pub fn drive(&self, bus: usize) {
         if bus >= self.hub.count() {
             return;
         }
         let station = self.hub.station(bus);
-        if let Ok(mut pass) = station.enter(self.rt, self.alloc) {
-            self.step_all(bus, &mut pass);
-            self.returned.lock(self.rt).take(pass);
+        let was_refused = match station.enter(self.rt, self.alloc) {
+            Ok(mut pass) => {
+                let was_refused = self.step_all(bus, &mut pass);
+                self.returned.lock(self.rt).take(pass);
+                was_refused
+            }
+            Err(_) => true,
+        };
+        if station.became_full() {
+            station.stop(self.rt);
+            self.host.bus_is_full(bus);
+        } else if was_refused {
+            self.host.bus_has_no_driver(bus);
         }
     }
 
-    /// Steps a bus with this pass. A full record, refused memory or a pass of another station ends it.
-    fn step_all(&self, bus: usize, pass: &mut Pass<N>) {
+    /// Steps a bus with this pass: whether a step was refused, which ends it: for a full record, for want of memory, or
+    /// since the pass is another station's.
+    fn step_all(&self, bus: usize, pass: &mut Pass<N>) -> bool {
         if bus >= self.hub.count() {
-            return;
+            return false;
         }
         let station = self.hub.station(bus);
         let pace = Duration::from_millis(u64::from(self.hub.pace_ms(bus)));
@@ -45,25 +71,40 @@ impl<
             let Some(hold) = station.hold_work(self.rt) else {
                 break;
             };
-            if !self.step_some(hold, most, pass) {
-                self.tell_full(station);
-                break;
+            match self.step_some(hold, most, pass) {
+                Stepped::On => station.rest(self.rt, pace),
+                Stepped::Out => break,
+                Stepped::Refused => return true,
             }
-            station.rest(self.rt, pace);
         }
+        false
     }
 
     /// Steps a bus up to so many times in one hold of its lock, while an interface has a frame to send or counts towards
-    /// its restart: whether no step was refused.
-    fn step_some(&self, mut hold: Hold<'_, N, F, G>, most: u32, pass: &mut Pass<N>) -> bool {
+    /// its restart.
+    fn step_some(&self, mut hold: Hold<'_, N, F, G>, most: u32, pass: &mut Pass<N>) -> Stepped {
         for _ in 0..most {
             if !hold.has_work() {
                 break;
             }
-            if hold.step(self.alloc, pass, self.host.now()).is_err() {
-                return false;
+            match hold.step(self.alloc, pass, self.host.now()) {
+                Err(_) => return Stepped::Refused,
+                Ok(attempt) if is_in_vain(&attempt) && self.is_ending.load(Ordering::SeqCst) => {
+                    return Stepped::Out;
+                }
+                Ok(_) => {}
             }
         }
-        true
+        Stepped::On
+    }
+}
+
+/// Whether an attempt neither sent a frame nor restarted an interface. Once all sessions are over, more of these only fill
+/// the record.
+fn is_in_vain(attempt: &Attempt) -> bool {
+    match attempt {
+        Attempt::Idle(restarted) => *restarted == IfaceSet::empty(),
+        Attempt::Tried(tried) => tried.class == Class::NoAck
+            && tried.restarted == IfaceSet::empty(),
     }
 }

@@ -5,15 +5,15 @@
 //! an interface has a frame to send or counts towards its restart. At the end all passes are handed back, for the hub to
 //! settle.
 //!
-//! What is proved here: the sessions are can_dialog's, each with a pass of its own, and one list of passes is handed
-//! back for each bus. Not promised: that a peer gets anything, how long anybody waits, that no two wait for each other.
+//! What is proved here: one list of passes is handed back for each bus; a server that is closed lets nobody in
+//! ([`Guests`]). The sessions are can_dialog's, each with a pass of its own. Not promised: that a peer gets anything, how long anybody waits, that no two wait for each other.
 #![tactic(auto)]
 
 mod accepting;
 pub mod conns;
 pub mod doors;
 mod driving;
-mod guests;
+pub mod guests;
 mod returned;
 mod server;
 pub mod serving;
@@ -22,4 +22,5 @@ mod talks;
 
 pub use conns::Conn;
 pub use doors::{Door, Listener};
-pub use serving::{Clock, Watch, serve};
+pub use guests::{Guests, NotAdmitted};
+pub use serving::{Clock, serve};

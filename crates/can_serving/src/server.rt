@@ -1,7 +1,7 @@
 use crate::doors::Door;
 use crate::guests::Guests;
 use crate::returned::Returned;
-use crate::serving::{Clock, Watch};
+use crate::serving::Clock;
 use can_fault::FaultSource;
 use can_meter::MeterName;
 use can_roll::RollName;
@@ -11,6 +11,7 @@ use std::alloc::{AllocError, Global};
 use std::io::Read;
 use std::net::Shutdown;
 use std::os::unix::net::UnixStream;
+use std::sync::atomic::{AtomicBool, Ordering};
 use std::sync::{Mutex, Wait};
 use std::thread::Threads;
 use std::{thread, time};
@@ -24,6 +25,8 @@ pub struct Server<'a, N: RollName + MeterName, F: FaultSource + Drop, G: Gate + 
     pub host: &'a C,
     pub guests: &'a Mutex<Guests>,
     pub returned: &'a Mutex<Returned<N>>,
+    /// All sessions are over.
+    pub is_ending: &'a AtomicBool,
 }
 
 impl<
@@ -31,7 +34,7 @@ impl<
     N: RollName + MeterName + Send + Sync,
     F: FaultSource + Drop + Send,
     G: Gate + Drop + Send + Sync,
-    C: Clock + Watch + Sync,
+    C: Clock + Sync,
     R: Threads + Wait + time::Clock + Sync,
 > Server<'a, N, F, G, C, R> {
     /// Serves to the end: the drivers run until all sessions are over.
@@ -76,7 +79,7 @@ impl<
     N: RollName + MeterName,
     F: FaultSource + Drop,
     G: Gate + Drop,
-    C: Clock + Watch,
+    C: Clock,
     R: Wait + time::Clock,
 > Server<'a, N, F, G, C, R> {
     /// Ends all other threads: no session is at work any more.
@@ -85,6 +88,7 @@ impl<
         if let Some(until) = until {
             let _ = until.shutdown(Shutdown::Both);
         }
+        self.is_ending.store(true, Ordering::SeqCst);
         self.hub.stop_all(self.rt);
     }
 

@@ -12,6 +12,7 @@ use can_server::Hub;
 use can_station::{Gate, Pass};
 use std::alloc::{AllocError, Global};
 use std::os::unix::net::UnixStream;
+use std::sync::atomic::AtomicBool;
 use std::sync::{Mutex, Wait};
 use std::thread::Threads;
 use std::time;
@@ -19,15 +20,17 @@ use std::time;
 /// The most passes of a bus.
 const MOST_PASSES: u32 = 4096;
 
-/// The moment of a call.
+/// What a server asks and tells while it runs. Only the time is asked for; what is told is dropped where the host does not
+/// say otherwise. No lock is held while the host is told something.
 pub trait Clock {
+    /// The moment of a call.
     fn now(&self) -> Moment;
-}
 
-/// Who is told what a server meets.
-pub trait Watch {
-    /// A call was refused since the record of this bus is full. It is told once.
-    fn bus_is_full(&self, bus: usize);
+    /// The record of this bus is full, so its calls are refused from now on. It is told once.
+    fn bus_is_full(&self, _bus: usize) {}
+
+    /// Memory was refused to the driver of this bus, so no frame is tried on it any more. It is told once.
+    fn bus_has_no_driver(&self, _bus: usize) {}
 }
 
 /// Serves the sessions of all doors over the buses of a hub, and hands their passes back, those of each bus in a list
@@ -36,8 +39,8 @@ pub trait Watch {
 /// Each bus has a driver, which steps while an interface has a frame to send or counts towards its restart; each door a
 /// thread that accepts; each session one that reads and, in raw mode, one that delivers. It returns once as many
 /// sessions as the doors have were accepted and all are over, or after the end of `until`: then nobody comes in any
-/// more, and the sessions at work are shut down. The 65th session at once is told so and counts as one that was
-/// accepted. Where no connection can be accepted, as for want of file descriptors, a door tries again each 100 ms; 64
+/// more, and the sessions at work are shut down. After the last of its sessions a door is closed, so that the system refuses
+/// who comes later. The 65th session at once is told so and counts as one that was accepted. Where no connection can be accepted, as for want of file descriptors, a door tries again each 100 ms; 64
 /// tries in vain count as one session.
 ///
 /// A fault of a session's connection, or memory refused to it, ends that session alone. `AllocError` where memory was
@@ -46,7 +49,7 @@ pub fn serve<
     N: RollName + MeterName + Send + Sync,
     F: FaultSource + Drop + Send,
     G: Gate + Drop + Send + Sync,
-    C: Clock + Watch + Sync,
+    C: Clock + Sync,
     R: Threads + Wait + time::Clock + Sync,
 >(
     rt: &R,
@@ -65,6 +68,7 @@ pub fn serve<
         return Err(AllocError);
     };
     let (guests, returned) = (Mutex::new(guests), Mutex::new(returned));
+    let is_ending = AtomicBool::new(false);
     let server = Server {
         rt,
         alloc,
@@ -72,6 +76,7 @@ pub fn serve<
         host,
         guests: &guests,
         returned: &returned,
+        is_ending: &is_ending,
     };
     let served = server.run(doors, until);
     drop(server);

@@ -1,7 +1,7 @@
+use crate::accepting::Guest;
 use crate::conns::Conn;
-use crate::guests::Guest;
 use crate::server::Server;
-use crate::serving::{Clock, Watch};
+use crate::serving::Clock;
 use crate::talks::{Place, Talk};
 use can_fault::FaultSource;
 use can_meter::MeterName;
@@ -35,7 +35,7 @@ impl<
     N: RollName + MeterName + Send + Sync,
     F: FaultSource + Drop + Send,
     G: Gate + Drop + Send + Sync,
-    C: Clock + Watch + Sync,
+    C: Clock + Sync,
     R: Threads + Wait + time::Clock + Sync,
 > Server<'a, N, F, G, C, R> {
     /// Runs a session to its end, and hands its pass back. Its place is free before the client sees the end.
@@ -79,7 +79,7 @@ impl<
     N: RollName + MeterName,
     F: FaultSource + Drop,
     G: Gate + Drop,
-    C: Clock + Watch,
+    C: Clock,
     R: Wait + time::Clock,
 > Server<'a, N, F, G, C, R> {
     /// Reads to the end, if the items are delivered beside, and ends the session.
@@ -94,7 +94,7 @@ impl<
             self.hear_on(talk, conn);
         }
         talk.lock(self.rt).end();
-        self.tell_full(place.station);
+        self.stop_full(place.station);
     }
 
     /// Reads until the session is raw: where its socket is, or none if it ended before.
@@ -132,12 +132,11 @@ impl<
         }
     }
 
-    /// Tells the host of a record that is full, once, and ends the waits of its station: no call changes it any more,
-    /// not even one that closes a socket.
-    pub fn tell_full(&self, station: &Station<N, F, G>) {
-        if station.became_full() {
+    /// Ends the waits of a station whose record is full: no call changes it any more, not even one that closes a socket.
+    /// Its driver ends, and tells the host.
+    fn stop_full(&self, station: &Station<N, F, G>) {
+        if station.is_full() {
             station.stop(self.rt);
-            self.host.bus_is_full(usize::from(station.number()));
         }
     }
 
@@ -151,10 +150,11 @@ impl<
         let moment = self.host.now();
         let mut talk = talk.lock(self.rt);
         let goes_on = talk.feed(self.alloc, &piece[..count], moment, conn);
-        if let Some(station) = talk.station() {
-            self.tell_full(station);
-        }
+        let station = talk.station();
         drop(talk);
+        if let Some(station) = station {
+            self.stop_full(station);
+        }
         if goes_on { Heard::More } else { Heard::Over }
     }
 
@@ -173,7 +173,7 @@ impl<
                 break;
             }
             if !talk.lock(self.rt).deliver(waiting, conn) {
-                self.tell_full(place.station);
+                self.stop_full(place.station);
                 if !place.station.is_full() {
                     talk.lock(self.rt).end();
                     conn.shutdown();

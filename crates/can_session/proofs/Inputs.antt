@@ -19,13 +19,14 @@ joined w bytes (Some x) None h = absurd h
 joined w bytes (Some x) (Some y) h = ap (λ l. w ++ l) h ∙ sym (append_assoc w bytes y)
 
 -- a byte too many
-pub overruns : (old new : Input) (all : List ℕ) (n : ℕ) → Gains old.held all old.coming new.coming n → n ≡ 1 → new.held ≡ old.held → new.given ≡ old.given → new.given + length new.held ≡ 16777216 → Overruns old new
-overruns old new all n gains one held given full =
+pub overruns : (old new : Input) (all : List ℕ) (n : ℕ) → Gains old.held all old.coming new.coming n → n ≡ 1 → new.held ≡ old.held → new.given ≡ old.given → new.reads ≡ old.reads → new.given + length new.held ≡ 16777216 → Overruns old new
+overruns old new all n gains one held given reads full =
     let single = one_of gains.bytes (gains.counted ∙ one) in
     record {
       byte = single.0;
       taken = subst (λ l. Consumes (left_of old) new.coming l) (ap (λ l. old.held ++ l) single.1 ∙ ap (λ l. l ++ single.0 ∷ []) (sym held)) (joined old.held gains.bytes old.coming new.coming gains.taken);
       given = given;
+      reads = (let len : length new.held ≡ length old.held = ap length held in record { more = omega (arith, reads); bytes = omega (arith, reads, len, given) });
       full = full;
     }
 
@@ -47,6 +48,7 @@ takes old mid new len going fine waits at is =
       inl (record {
         taken = passed (left_of old) mid.coming mid.held front (drop (len + 1) mid.held) waits.same split;
         counted = omega (arith, count, waits.given);
+        reads = record { more = waits.reads.more; bytes = omega (arith, waits.reads.bytes, count, ap length split, length-append front (drop (len + 1) mid.held)) };
         fault = fine;
       }),
     )

@@ -7,8 +7,8 @@ use Rattle.std.proofs.lemmas.Bool.{or_parts}
 use Rattle.std.proofs.lemmas.List.Sums.{sum_by-cons}
 use Rattle.std.proofs.lemmas.List.{take-append-drop, take_at, length-append, length-take-le}
 use Rattle.can_session.specs.declared.lines.LineFault.{LineFault}
-use Rattle.can_session.specs.declared.lines.LineFault.TheVariants.{LineTooLong, InputTooLong, Read}
-use Rattle.can_session.specs.Lines.{is_lf, with_byte, lines_of, whole_lines, spelled, Input, left_of, IsLine, IsLong, IsWithin, TakesLine, FindsEnd, Waits, Overruns, Stops, GoesOn, Given, ReadsOn, ReadsOut, ReadsOver, ComesToLong, StopsBehind}
+use Rattle.can_session.specs.declared.lines.LineFault.TheVariants.{LineTooLong, TooLong, Read}
+use Rattle.can_session.specs.Lines.{is_lf, with_byte, lines_of, whole_lines, spelled, Input, left_of, IsLine, IsLong, IsWithin, IsOver, Gives, TakesLine, FindsEnd, Waits, Overruns, Stops, GoesOn, Given, ReadsOn, ReadsOut, ReadsOver, ComesToLong, StopsBehind}
 
 abbrev Unbroken : List ℕ → Type 0
 Unbroken line = list_any is_lf line ≡ false
@@ -121,6 +121,15 @@ long_line (b ∷ bs) rest h long =
     let first = front_line b bs rest h in
     ((b ∷ bs) ++ first.0, first.1, first.2, omega (arith, long, length-append (b ∷ bs) first.0))
 
+-- at the end of an input all of it was given
+pub all_given : (text : List ℕ) (lines : List (List ℕ)) (old new : Input) → GoesOn text lines old → Gives old new new.line → IsOver new → new.given ≡ length text
+all_given text lines old new so gives over =
+    let left = after so.rest new.line (left_of old) (left_of new) so.left gives.taken in
+    let none = nothing_left left.0 new.held new.coming over.held over.coming left.1 in
+    let is : so.rest ≡ new.line = left.2 ∙ ap (λ l. new.line ++ l) none ∙ append-nil new.line in
+    let len : length text ≡ length (spelled lines) + length new.line = ap length (so.split ∙ ap (λ l. spelled lines ++ l) is) ∙ length-append (spelled lines) new.line in
+    omega (arith, len, gives.counted, so.counted)
+
 pub next : (text : List ℕ) (lines : List (List ℕ)) (old new : Input) → Given text lines old → TakesLine old new → Given text (lines ++ new.line ∷ []) new
 next text lines old new (inl so) (going, line, inl gives) =
     let left = after so.rest (new.line ++ 10 ∷ []) (left_of old) (left_of new) so.left gives.taken in
@@ -140,9 +149,7 @@ next text lines old new (inl so) (going, line, inr last) =
     inr (record {
       ended = last.2.ended;
       all = sym (ap lines_of so.split ∙ first_lines lines so.rest so.unbroken ∙ ap (λ l. lines ++ lines_of l) is ∙ ap (λ l. lines ++ l) (last_line new.line line.unbroken last.1));
-      counted =
-          let len : length text ≡ length (spelled lines) + length new.line = ap length (so.split ∙ ap (λ l. spelled lines ++ l) is) ∙ length-append (spelled lines) new.line in
-          omega (arith, len, last.0.counted, so.counted);
+      counted = all_given text lines old new so last.0 last.2;
     })
 next text lines old new (inr done) (going, line, gives) = let no = done.ended in cc
 
@@ -220,8 +227,8 @@ comes_to_long text lines old new so waits long within =
 
 pub stop : (text : List ℕ) (lines : List (List ℕ)) (old new : Input) (fault : LineFault) → Given text lines old → Stops fault old new → IsWithin new → StopsBehind fault text lines new
 stop text lines old new LineTooLong (inl so) (going, told, (waits, long)) within = comes_to_long text lines old new so waits long within
-stop text lines old new InputTooLong (inl so) (going, told, (line, inl spent)) within = inl (reads_out text lines old new so spent.0 spent.1 line within)
-stop text lines old new InputTooLong (inl so) (going, told, (line, inr over)) within = inr (reads_over text lines old new so over line)
+stop text lines old new TooLong (inl so) (going, told, (line, inl spent)) within = inl (reads_out text lines old new so spent.0 spent.1 line within)
+stop text lines old new TooLong (inl so) (going, told, (line, inr over)) within = inr (reads_over text lines old new so over line)
 stop text lines old new Read (inl so) (going, told, (line, failed)) within = (reads_on text lines old new so failed.0 line within, failed.1)
 stop text lines old new fault (inr done) (going, told, stops) within = let no = done.ended in cc
 
@@ -233,7 +240,7 @@ same_length text a b (Some rest) h k =
     let two : length text ≡ length b + length rest = ap length k ∙ length-append b rest in
     omega (arith, one, two)
 
-pub apart : (text : List ℕ) (lines others : List (List ℕ)) (now : Input) → StopsBehind Read text lines now → ¬ StopsBehind InputTooLong text others now
+pub apart : (text : List ℕ) (lines others : List (List ℕ)) (now : Input) → StopsBehind Read text lines now → ¬ StopsBehind TooLong text others now
 apart text lines others now (on, few) (inl out) = omega (arith, few, out.reads)
 apart text lines others now (on, few) (inr over) =
     let same = same_length text on.read (over.read ++ over.byte ∷ []) now.coming on.taken over.taken in

@@ -1,4 +1,4 @@
-use Rattle.std.proofs.Common.{◌≡◌, ◌⊎◌, inl, inr, ℕ, ◌+◌, ◌≤◌, Bool, true, false, arith, List, [], ◌∷◌, ◌++◌, length, Option, Some, None, Result, Ok, Err, refl, sym, ap, subst, ◌∙◌, append_assoc}
+use Rattle.std.proofs.Common.{◌≡◌, ◌⊎◌, inl, inr, ℕ, ◌+◌, ◌<◌, ◌≤◌, Bool, true, false, arith, List, [], ◌∷◌, ◌++◌, length, Option, Some, None, Result, Ok, Err, refl, sym, ap, subst, ◌∙◌, append_assoc}
 use Rattle.std.specs.Io.KnownBytes.{Appends, Keeps, prepend_known}
 use Rattle.std.proofs.KnownBytes.{Appends-nil, Appends-trans, Appends-kept, prepend_known-nil}
 use Rattle.std.specs.List.{All}
@@ -10,12 +10,12 @@ use Rattle.can_fault.specs.Sources.{VerdictMap}
 use Rattle.can_session.specs.declared.lines.LineFault.{LineFault}
 use Rattle.can_session.specs.declared.lines.LineFault.TheVariants as line
 use Rattle.can_session.specs.declared.bench_run.BenchFault.{BenchFault}
-use Rattle.can_session.specs.declared.bench_run.BenchFault.TheVariants.{BadConfig, BadLine, InputTooLong, Read, Write, NoMemory}
+use Rattle.can_session.specs.declared.bench_run.BenchFault.TheVariants.{BadConfig, BadLine, TooLong, Read, Write, NoMemory}
 use Rattle.can_session.specs.Lines.{Input, unread, IsLine, IsWithin, FindsEnd, TakesLine, Given, Stops, Repeats, left_of, lines_of, spelled}
 use Rattle.can_session.specs.Orders.{order_of}
 use Rattle.can_session.specs.Benches.{BenchState, IsCarriedOut, AreCarriedOut, IsRefused}
 use Rattle.can_session.specs.Runs.{AreAll, AreFirst, IsNext, ComeBeforeBad, ComeBeforeStop, Ran, Ends, EndsAt}
-use Rattle.can_session.proofs.LineLaws.{first_lines, next, end, stop}
+use Rattle.can_session.proofs.LineLaws.{first_lines, next, end, stop, all_given}
 
 -- these lines were given of the input, where the reader tells its bytes
 abbrev pub AreOf : Option (List ℕ) → List (List ℕ) → Input → Type 0
@@ -94,10 +94,10 @@ ran_start {W} contents v b out = record { text = []; short = All-nil IsLine; car
 pub short_line : (old new : Input) → TakesLine old new → IsLine new.line
 short_line old new (going, line, gives) = line
 
--- a line is read within the limit
-within_behind : (text : List ℕ) (lines : List (List ℕ)) (old new : Input) → Given text lines old → TakesLine old new → IsWithin new → length (spelled lines) + length new.line ≤ 16777216
-within_behind text lines old new (inl so) (going, line, inl gives) within = omega (arith, so.counted, gives.counted, within.bytes, length-append new.line (10 ∷ []))
-within_behind text lines old new (inl so) (going, line, inr last) within = omega (arith, so.counted, last.0.counted, within.bytes)
+-- a line is read within the limit, and its LF or the end of the text too
+within_behind : (text : List ℕ) (lines : List (List ℕ)) (old new : Input) → Given text lines old → TakesLine old new → IsWithin new → (length (spelled lines) + length new.line < 16777216) ⊎ (length text ≤ 16777216)
+within_behind text lines old new (inl so) (going, line, inl gives) within = inl (omega (arith, so.counted, gives.counted, within.bytes, length-append new.line (10 ∷ [])))
+within_behind text lines old new (inl so) (going, line, inr last) within = inr (omega (arith, all_given text lines old new so last.0 last.2, within.bytes))
 within_behind text lines old new (inr done) (going, line, gives) within = let no = done.ended in cc
 
 -- the next line comes behind the lines given
@@ -121,7 +121,7 @@ pub ends_at : {A W : Type 0} (leaves : A → BenchState → Type 0) (contents : 
     → AreOf input lines old → IsWithin now → number ≡ length lines + 1 → Ran contents v lines b out mid new → EndsAt number fault old now mid → Ends leaves contents v input b out (Err fault) now new
 ends_at {A} {W} leaves contents v input lines number old now b mid out new BadConfig h within is ran why = absurd why
 ends_at {A} {W} leaves contents v input lines number old now b mid out new (BadLine n) h within is ran why = (lines, mid, before_bad input lines old now mid h within why.1, ran, why.0 ∙ is)
-ends_at {A} {W} leaves contents v input lines number old now b mid out new InputTooLong h within is ran why = (lines, mid, before_stop line.InputTooLong input lines old now h within why, ran)
+ends_at {A} {W} leaves contents v input lines number old now b mid out new TooLong h within is ran why = (lines, mid, before_stop line.TooLong input lines old now h within why, ran)
 ends_at {A} {W} leaves contents v input lines number old now b mid out new Read h within is ran why = (lines, mid, before_stop line.Read input lines old now h within why, ran)
 ends_at {A} {W} leaves contents v input lines number old now b mid out new Write h within is ran why = tt
 ends_at {A} {W} leaves contents v input lines number old now b mid out new NoMemory h within is ran why = (lines, mid, of_first input lines old h, ran)
@@ -186,7 +186,7 @@ pub ends_err : {A B W : Type 0} (leaves : A → BenchState → Type 0) (others :
     → Ends leaves contents v input b out (Err fault) now new → Ends others contents v input b out (Err fault) now new
 ends_err {A} {B} {W} leaves others contents v input b out now new BadConfig h = absurd h
 ends_err {A} {B} {W} leaves others contents v input b out now new (BadLine n) h = h
-ends_err {A} {B} {W} leaves others contents v input b out now new InputTooLong h = h
+ends_err {A} {B} {W} leaves others contents v input b out now new TooLong h = h
 ends_err {A} {B} {W} leaves others contents v input b out now new Read h = h
 ends_err {A} {B} {W} leaves others contents v input b out now new Write h = h
 ends_err {A} {B} {W} leaves others contents v input b out now new NoMemory h = h

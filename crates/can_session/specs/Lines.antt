@@ -2,7 +2,7 @@ use Rattle.std.specs.Prelude.{◌≡◌, ℕ, ◌+◌, ◌<◌, ◌≤◌, Bool,
 use Rattle.std.specs.List.{list_any, flat_map, AllByRecursion}
 use Rattle.std.specs.Io.KnownBytes.{Consumes, Keeps, IsAtEnd, prepend_known}
 use Rattle.can_session.specs.declared.lines.LineFault.{LineFault}
-use Rattle.can_session.specs.declared.lines.LineFault.TheVariants.{LineTooLong, InputTooLong, Read}
+use Rattle.can_session.specs.declared.lines.LineFault.TheVariants.{LineTooLong, TooLong, Read}
 
 -- The lines of a text, and an input that is read line by line (own choice).
 
@@ -66,10 +66,20 @@ pub record IsOver (i : Input) : Type 0 where
   pub held : i.held ≡ []
   pub coming : IsAtEnd i.coming
 
+-- how many bytes came of an input: those given as lines, and those held
+abbrev pub came : Input → ℕ
+came i = i.given + length i.held
+
+-- each read in between that counts gave a byte at least
+pub record Counts (old new : Input) : Type 0 where
+  pub more : old.reads ≤ new.reads
+  pub bytes : new.reads + came old ≤ old.reads + came new
+
 -- these bytes were left, and are given now, without a fault
 pub record Gives (old new : Input) (bytes : List ℕ) : Type 0 where
   pub taken : Consumes (left_of old) (left_of new) bytes
   pub counted : new.given ≡ old.given + length bytes
+  pub reads : Counts old new
   pub fault : new.fault ≡ old.fault
 
 -- the input had not ended, and the next line stands: it had its LF, or it is the last and not empty
@@ -84,18 +94,20 @@ FindsEnd old new = Gives old new [] × IsOver new
 pub record Waits (old new : Input) : Type 0 where
   pub same : Keeps (left_of old) (left_of new)
   pub given : new.given ≡ old.given
+  pub reads : Counts old new
 
 -- all the bytes came that an input may have, and one more
 pub record Overruns (old new : Input) : Type 0 where
   pub byte : ℕ
   pub taken : Consumes (left_of old) new.coming (new.held ++ byte ∷ [])
   pub given : new.given ≡ old.given
+  pub reads : Counts old new
   pub full : new.given + length new.held ≡ 16777216
 
 -- a read that was not made or gave nothing of use: no read is left, a byte came too many, or a read that was left failed
 abbrev pub Fails : LineFault → Input → Input → Type 0
 Fails LineTooLong old new = ⊥
-Fails InputTooLong old new = (Waits old new × (new.reads ≡ 16777216)) ⊎ Overruns old new
+Fails TooLong old new = (Waits old new × (new.reads ≡ 16777216)) ⊎ Overruns old new
 Fails Read old new = Waits old new × (new.reads < 16777216)
 
 -- why there is no next line: what is held begins with too long a line, or it is no whole line and no more can be read
@@ -181,5 +193,5 @@ pub record ComesToLong (text : List ℕ) (lines : List (List ℕ)) : Type 0 wher
 -- failed before that
 abbrev pub StopsBehind : LineFault → List ℕ → List (List ℕ) → Input → Type 0
 StopsBehind LineTooLong text lines now = ComesToLong text lines
-StopsBehind InputTooLong text lines now = ReadsOut text lines now ⊎ ReadsOver text lines now
+StopsBehind TooLong text lines now = ReadsOut text lines now ⊎ ReadsOver text lines now
 StopsBehind Read text lines now = ReadsOn text lines now × (now.reads < 16777216)

@@ -1,4 +1,4 @@
-use Rattle.std.specs.Prelude.{◌≡◌, ◌⊎◌, ℕ, ◌+◌, ◌≤◌, List, [], ◌∷◌, ◌++◌, length, replicate, Option, Some, None, Result, Ok, Err}
+use Rattle.std.specs.Prelude.{◌≡◌, ◌⊎◌, ℕ, ◌+◌, ◌<◌, ◌≤◌, List, [], ◌∷◌, ◌++◌, length, replicate, Option, Some, None, Result, Ok, Err}
 use Rattle.std.specs.List.{All}
 use Rattle.std.specs.Io.KnownBytes.{Appends}
 use Rattle.can_fault.specs.Sources.{VerdictMap}
@@ -8,7 +8,7 @@ use Rattle.can_event.specs.Events.{IsConfig}
 use Rattle.can_session.specs.declared.lines.LineFault.{LineFault}
 use Rattle.can_session.specs.declared.lines.LineFault.TheVariants as line
 use Rattle.can_session.specs.declared.bench_run.BenchFault.{BenchFault}
-use Rattle.can_session.specs.declared.bench_run.BenchFault.TheVariants.{BadConfig, BadLine, InputTooLong, Read, Write, NoMemory}
+use Rattle.can_session.specs.declared.bench_run.BenchFault.TheVariants.{BadConfig, BadLine, TooLong, Read, Write, NoMemory}
 use Rattle.can_session.specs.Lines.{Input, IsLine, IsOver, TakesLine, Stops, StopsBehind, lines_of, spelled}
 use Rattle.can_session.specs.Orders.{order_of}
 use Rattle.can_session.specs.Benches.{BenchState, AreCarriedOut, IsRefused}
@@ -38,10 +38,11 @@ abbrev pub AreFirst : Option (List ℕ) → List (List ℕ) → Type 0
 AreFirst None lines = Unit {0}
 AreFirst (Some text) lines = (more : List (List ℕ)) × (lines_of text ≡ lines ++ more)
 
--- these lines, and then this one, are the first lines of the input, within its limit
+-- these lines, and then this one, are the first lines of the input; the LF of the last, or the end of the input, is within
+-- the limit
 abbrev pub IsNext : Option (List ℕ) → List (List ℕ) → List ℕ → Type 0
 IsNext None lines line = Unit {0}
-IsNext (Some text) lines line = (more : List (List ℕ)) × (lines_of text ≡ lines ++ line ∷ more) × (length (spelled lines) + length line ≤ 16777216)
+IsNext (Some text) lines line = (more : List (List ℕ)) × (lines_of text ≡ lines ++ line ∷ more) × ((length (spelled lines) + length line < 16777216) ⊎ (length text ≤ 16777216))
 
 -- behind these lines of the input stands one of at most 4,096 bytes that the bench refuses
 pub record ComesToRefused (input : Option (List ℕ)) (lines : List (List ℕ)) (now : Input) (b : BenchState) : Type 0 where
@@ -72,8 +73,8 @@ Ends {A} {W} leaves contents verdicts input b out (Ok a) now new =
     (lines : List (List ℕ)) × (after : BenchState) × AreAll input lines × IsOver now × (now.fault ≡ None) × Ran contents verdicts lines b out after new × leaves a after
 Ends {A} {W} leaves contents verdicts input b out (Err (BadLine n)) now new =
     (lines : List (List ℕ)) × (after : BenchState) × ComeBeforeBad input lines now after × Ran contents verdicts lines b out after new × (n ≡ length lines + 1)
-Ends {A} {W} leaves contents verdicts input b out (Err InputTooLong) now new =
-    (lines : List (List ℕ)) × (after : BenchState) × ComeBeforeStop line.InputTooLong input lines now × Ran contents verdicts lines b out after new
+Ends {A} {W} leaves contents verdicts input b out (Err TooLong) now new =
+    (lines : List (List ℕ)) × (after : BenchState) × ComeBeforeStop line.TooLong input lines now × Ran contents verdicts lines b out after new
 Ends {A} {W} leaves contents verdicts input b out (Err Read) now new =
     (lines : List (List ℕ)) × (after : BenchState) × ComeBeforeStop line.Read input lines now × Ran contents verdicts lines b out after new
 Ends {A} {W} leaves contents verdicts input b out (Err NoMemory) now new =
@@ -89,13 +90,13 @@ pub record IsRecordOf (r : Kept) (b : BenchState) : Type 0 where
 -- what a fault at the next line, which has this number, is told as
 abbrev pub fault_of : ℕ → LineFault → BenchFault
 fault_of number line.LineTooLong = BadLine number
-fault_of number line.InputTooLong = InputTooLong
+fault_of number line.TooLong = TooLong
 fault_of number line.Read = Read
 
 -- why a run ends at the next line, which has this number
 abbrev pub EndsAt : ℕ → BenchFault → Input → Input → BenchState → Type 0
 EndsAt number (BadLine n) old new b = (n ≡ number) × ((TakesLine old new × IsRefused (order_of new.line) b) ⊎ Stops line.LineTooLong old new)
-EndsAt number InputTooLong old new b = Stops line.InputTooLong old new
+EndsAt number TooLong old new b = Stops line.TooLong old new
 EndsAt number Read old new b = Stops line.Read old new
 EndsAt number NoMemory old new b = TakesLine old new
 EndsAt number Write old new b = Unit {0}

@@ -28,7 +28,7 @@ pub enum BenchFault {
     /// The input has more than 16,777,216 bytes, or takes more reads. All whole lines that were read
     /// were carried out.
     #[error("input too long")]
-    InputTooLong,
+    TooLong,
     /// The reader failed. All whole lines that were read were carried out.
     #[error("read fault")]
     Read,
@@ -214,7 +214,7 @@ fn told(fault: LineFault, number: u32) -> BenchFault
 {
     match fault {
         LineFault::LineTooLong => BenchFault::BadLine(number),
-        LineFault::InputTooLong => BenchFault::InputTooLong,
+        LineFault::TooLong => BenchFault::TooLong,
         LineFault::Read => BenchFault::Read,
     }
 }

@@ -1,7 +1,7 @@
 ghost use Rattle.std.specs.Prelude.{◌≡◌, ◌<◌, ◌∷◌, ◌++◌, [], List, ℕ, Some, length};
 ghost use Rattle.can_session.specs.Lines.{FindsEnd, Given, Input, IsWithin, Stops, StopsBehind, TakesLine, left_of, lines_of};
 ghost use Rattle.can_session.specs.declared.lines.LineFault.{LineFault};
-ghost use Rattle.can_session.specs.declared.lines.LineFault.TheVariants.{InputTooLong, Read};
+ghost use Rattle.can_session.specs.declared.lines.LineFault.TheVariants.{TooLong, Read};
 
 /// What the calls of `Lines` give together are the lines of the text that the reader had, in order. At a fault they
 /// are the lines before too long a line, or those of all that was read which have their LF. Where an input stands tells
@@ -12,5 +12,5 @@ pub fn lines_given_are_those_of_the_text()
     ensures forward { (old new : Input) → TakesLine old new → old.given < new.given }
     ensures end { (text : List ℕ) (lines : List (List ℕ)) (old new : Input) → Given text lines old → FindsEnd old new → (lines ≡ lines_of text) × (new.given ≡ length text) }
     ensures stop { (text : List ℕ) (lines : List (List ℕ)) (old new : Input) (fault : LineFault) → Given text lines old → Stops fault old new → IsWithin new → StopsBehind fault text lines new }
-    ensures apart { (text : List ℕ) (lines others : List (List ℕ)) (now : Input) → StopsBehind Read text lines now → ¬ StopsBehind InputTooLong text others now }
+    ensures apart { (text : List ℕ) (lines others : List (List ℕ)) (now : Input) → StopsBehind Read text lines now → ¬ StopsBehind TooLong text others now }
 {}

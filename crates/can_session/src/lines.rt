@@ -22,7 +22,7 @@ pub enum LineFault {
     /// The line has more than 4,096 bytes.
     LineTooLong,
     /// The input has more bytes than it may have, or needs more reads.
-    InputTooLong,
+    TooLong,
     /// The reader failed.
     Read,
 }
@@ -100,7 +100,7 @@ impl<R: Read + Drop> Lines<R> {
 
     /// Goes on to the next line, of at most 4,096 bytes, and answers whether there is one. It reads only while no
     /// whole line was read, so at a fault all whole lines before it were given: `LineTooLong` at the 4,097th byte
-    /// of a line, `InputTooLong` at the byte or the read past the limit, `Read` where the reader failed. After a
+    /// of a line, `TooLong` at the byte or the read past the limit, `Read` where the reader failed. After a
     /// fault nothing more is read, and each call answers that fault.
     pub fn next_line(&mut self) -> Result<bool, LineFault>
         ensures ok { IfOk result (λ found. MatchBool found (TakesLine self.old self.new) (FindsEnd self.old self.new)) }
@@ -216,7 +216,7 @@ impl<R: Read + Drop> Lines<R> {
         ensures within { IsWithin self.new }
     {
         if self.reads == LONGEST_INPUT {
-            return Err(LineFault::InputTooLong);
+            return Err(LineFault::TooLong);
         }
         self.buffer.consume(self.width);
         self.line = 0;
@@ -228,7 +228,7 @@ impl<R: Read + Drop> Lines<R> {
         };
         if read > left {
             self.buffer.truncate(held);
-            return Err(LineFault::InputTooLong);
+            return Err(LineFault::TooLong);
         }
         if read > 0 {
             self.reads += 1;

@@ -1,3 +1,5 @@
 pub mod Replies
 pub mod Marking
+pub mod Stepping
+pub mod Answering
 pub mod PublishedFacts

@@ -10,12 +10,13 @@ use Rattle.can_event.specs.declared.events.BusConfig.{BusConfig}
 use Rattle.can_fault.specs.declared.verdicts.Verdict.{Verdict}
 use Rattle.can_bus.specs.Answer.{told_attempt}
 use Rattle.can_bus.specs.Legal.{IsLegal}
-use Rattle.can_bus.specs.Run.{history_after}
+use Rattle.can_bus.specs.Run.{IsAnswer, history_after}
+use Rattle.can_bus.specs.Transmit.{tape}
+use Rattle.can_fault.specs.Sources.{VerdictMap, verdict_in}
 use Rattle.can_packed.specs.Records.{ListedEntries}
 use Rattle.can_event.specs.Spelled.{FitsReply}
 use Rattle.can_roll.specs.Lists.{row, Distinct, AllBelow}
-use Rattle.can_roll.specs.Seen.{SlipSeen}
-use Rattle.can_station.specs.Held.{slip_after}
+use Rattle.can_station.specs.Held.{Held, held_after}
 use Rattle.can_station.specs.Marks.{marked}
 use Rattle.can_station.specs.declared.refusals.StationRefusal.{StationRefusal}
 use Rattle.can_station.specs.declared.refusals.StationRefusal.TheVariants as station
@@ -67,16 +68,53 @@ Called told number old e (Ok a) new = (old.number ≡ number) × (new ≡ pass_a
 Called told number old e (Err (station.Bus why)) new = ((why ≡ refusal.NoMemory) ⊎ (old.number ≡ number)) × (new ≡ pass_after e (reply.Refused why) old)
 Called told number old e (Err station.WrongStation) new = ¬ (old.number ≡ number) × (new ≡ old)
 
--- a step: an attempt at the moment, with a verdict
-abbrev pub Stepped : ℕ → PassSeen → ℕ → Result Attempt StationRefusal → PassSeen → Type 0
-Stepped number old moment outcome new = (verdict : Verdict) × Called told_attempt number old (event.Attempt moment verdict) outcome new
+-- the answer to an event in this state of a station
+abbrev pub IsAnsweredIn : {F : Type 0} → Held F → Event → Reply → Type 0
+IsAnsweredIn held e r = IsAnswer held.journal.config held.journal.history e r
 
--- the same, as slip and list of calls
-pub record Attempted (moment : ℕ) (slip : SlipSeen) (calls : List Entry) (r : Reply) (slip' : SlipSeen) (calls' : List Entry) : Type 0 where
-  pub verdict : Verdict
-  pub slip_is : slip' ≡ slip_after (event.Attempt moment verdict) r slip
-  pub calls_are : calls' ≡ history_after (event.Attempt moment verdict) r calls
-  pub suits : Suits (event.Attempt moment verdict) r
+-- a call that is carried out: it is answered from the record, noted there, and in the caller's pass
+pub record IsMade {F : Type 0} (old : Held F) (pass : PassSeen) (e : Event) (r : Reply) (new : Held F) (pass' : PassSeen) : Type 0 where
+  pub own : pass.number ≡ old.number
+  pub answer : IsAnsweredIn old e r
+  pub after : new ≡ held_after pass.pass e r old
+  pub kept : pass' ≡ pass_after e r pass
+
+-- nothing changes
+abbrev pub IsUnchanged : {F : Type 0} → Held F → PassSeen → Held F → PassSeen → Type 0
+IsUnchanged old pass new pass' = (new ≡ old) × (pass' ≡ pass)
+
+-- a call in one hold of the lock: it is carried out, or nothing changes, since the pass's list can't grow, or the pass is
+-- another station's
+abbrev pub Made : {F : Type 0} {A : Type 0} → (A → Reply) → Held F → PassSeen → Event → Result A StationRefusal → Held F → PassSeen → Type 0
+Made told old pass e (Ok a) new pass' = IsMade old pass e (told a) new pass'
+Made told old pass e (Err (station.Bus why)) new pass' = IsMade old pass e (reply.Refused why) new pass' ⊎ ((why ≡ refusal.NoMemory) × IsUnchanged old pass new pass')
+Made told old pass e (Err station.WrongStation) new pass' = ¬ (pass.number ≡ old.number) × IsUnchanged old pass new pass'
+
+-- an attempt at the moment, with the verdict that the source has for its number
+abbrev pub next_attempt : {F : Type 0} → (F → VerdictMap) → Held F → ℕ → Event
+next_attempt verdicts held moment = event.Attempt moment (verdict_in (verdicts held.source) (length (tape held.journal.history)))
+
+-- some state of the station with this number
+abbrev pub InSome : (F : Type 0) → ℕ → (Held F → Type 0) → Type 0
+InSome F number P = (held : Held F) × (held.number ≡ number) × P held
+
+-- what a call answers is the answer in some state of the station, unless memory is refused or the pass is another's
+abbrev pub Answered : (F : Type 0) {A : Type 0} → (A → Reply) → ℕ → Event → Result A StationRefusal → Type 0
+Answered F told number e (Ok a) = InSome F number (λ held. IsAnsweredIn held e (told a))
+Answered F told number e (Err (station.Bus refusal.NoMemory)) = Unit {0}
+Answered F told number e (Err (station.Bus why)) = InSome F number (λ held. IsAnsweredIn held e (reply.Refused why))
+Answered F told number e (Err station.WrongStation) = Unit {0}
+
+-- a step that is carried out in some state of the station: an attempt with the source's verdict
+abbrev pub StepsIn : {F : Type 0} → (F → VerdictMap) → ℕ → PassSeen → ℕ → Reply → PassSeen → Type 0
+StepsIn {F} verdicts number old moment r new = (old.number ≡ number) × InSome F number (λ held. IsAnsweredIn held (next_attempt verdicts held moment) r × (new ≡ pass_after (next_attempt verdicts held moment) r old))
+
+-- a step: it is carried out, or nothing changes, since the pass's list can't grow, or the pass is another station's
+abbrev pub Stepped : {F : Type 0} → (F → VerdictMap) → ℕ → PassSeen → ℕ → Result Attempt StationRefusal → PassSeen → Type 0
+Stepped verdicts number old moment (Ok a) new = StepsIn verdicts number old moment (told_attempt a) new
+Stepped verdicts number old moment (Err (station.Bus refusal.NoMemory)) new = new ≡ old
+Stepped verdicts number old moment (Err (station.Bus why)) new = StepsIn verdicts number old moment (reply.Refused why) new
+Stepped verdicts number old moment (Err station.WrongStation) new = ¬ (old.number ≡ number) × (new ≡ old)
 
 -- the reply itself, for a call that answers the bus's reply
 abbrev pub same : Reply → Reply

@@ -1,7 +1,7 @@
 ghost use Rattle.can_bus.specs.Answer.{done_reply, told_attempt};
 ghost use Rattle.can_event.specs.declared.events.Event.TheVariants as event;
 ghost use Rattle.can_event.specs.declared.events.Reply.TheVariants as reply;
-ghost use Rattle.can_station.specs.Passes.{Called};
+ghost use Rattle.can_station.specs.Passes.{Answered, Called};
 
 use crate::attempts::attempt_in;
 use crate::gates::Gate;
@@ -30,7 +30,8 @@ impl<N: RollName + MeterName, F: FaultSource + Drop, G: Gate + Drop> Station<N, 
         iface: Iface,
         capacity: u32,
     ) -> Result<SocketId, StationRefusal>
-        ensures { Called reply.Opened self.now pass.old (event.Open iface capacity) result pass.new }
+        ensures called { Called reply.Opened self.now pass.old (event.Open iface capacity) result pass.new }
+        ensures answered { Answered F reply.Opened self.now (event.Open iface capacity) result }
     {
         match self.call(rt, alloc, pass, Event::Open(iface, capacity))? {
             Reply::Opened(socket) => Ok(socket),
@@ -48,7 +49,8 @@ impl<N: RollName + MeterName, F: FaultSource + Drop, G: Gate + Drop> Station<N, 
         pass: &mut Pass<N>,
         socket: SocketId,
     ) -> Result<Closed, StationRefusal>
-        ensures { Called reply.Closed self.now pass.old (event.Close socket) result pass.new }
+        ensures called { Called reply.Closed self.now pass.old (event.Close socket) result pass.new }
+        ensures answered { Answered F reply.Closed self.now (event.Close socket) result }
     {
         match self.call(rt, alloc, pass, Event::Close(socket))? {
             Reply::Closed(counts) => Ok(counts),
@@ -66,7 +68,8 @@ impl<N: RollName + MeterName, F: FaultSource + Drop, G: Gate + Drop> Station<N, 
         socket: SocketId,
         filters: &FilterSet,
     ) -> Result<(), StationRefusal>
-        ensures { Called done_reply self.now pass.old (event.SetFilters socket filters.now) result pass.new }
+        ensures called { Called done_reply self.now pass.old (event.SetFilters socket filters.now) result pass.new }
+        ensures answered { Answered F done_reply self.now (event.SetFilters socket filters.now) result }
     {
         let Ok(copy) = filters.try_copy(alloc) else {
             return Err(StationRefusal::Bus(Refusal::NoMemory));
@@ -87,7 +90,8 @@ impl<N: RollName + MeterName, F: FaultSource + Drop, G: Gate + Drop> Station<N, 
         socket: SocketId,
         option: Opt,
     ) -> Result<(), StationRefusal>
-        ensures { Called done_reply self.now pass.old (event.SetOption socket option) result pass.new }
+        ensures called { Called done_reply self.now pass.old (event.SetOption socket option) result pass.new }
+        ensures answered { Answered F done_reply self.now (event.SetOption socket option) result }
     {
         match self.call(rt, alloc, pass, Event::SetOption(socket, option))? {
             Reply::Done => Ok(()),
@@ -106,7 +110,8 @@ impl<N: RollName + MeterName, F: FaultSource + Drop, G: Gate + Drop> Station<N, 
         socket: SocketId,
         frame: Frame,
     ) -> Result<u64, StationRefusal>
-        ensures { Called reply.Sent self.now pass.old (event.Send socket frame) result pass.new }
+        ensures called { Called reply.Sent self.now pass.old (event.Send socket frame) result pass.new }
+        ensures answered { Answered F reply.Sent self.now (event.Send socket frame) result }
     {
         match self.call(rt, alloc, pass, Event::Send(socket, frame))? {
             Reply::Sent(number) => Ok(number),
@@ -123,7 +128,8 @@ impl<N: RollName + MeterName, F: FaultSource + Drop, G: Gate + Drop> Station<N, 
         pass: &mut Pass<N>,
         socket: SocketId,
     ) -> Result<Option<Received>, StationRefusal>
-        ensures { Called reply.Received self.now pass.old (event.Receive socket) result pass.new }
+        ensures called { Called reply.Received self.now pass.old (event.Receive socket) result pass.new }
+        ensures answered { Answered F reply.Received self.now (event.Receive socket) result }
     {
         match self.call(rt, alloc, pass, Event::Receive(socket))? {
             Reply::Received(item) => Ok(item),
@@ -143,7 +149,8 @@ impl<N: RollName + MeterName, F: FaultSource + Drop, G: Gate + Drop> Station<N, 
         moment: Moment,
         verdict: Verdict,
     ) -> Result<Attempt, StationRefusal>
-        ensures { Called told_attempt self.now pass.old (event.Attempt moment verdict) result pass.new }
+        ensures called { Called told_attempt self.now pass.old (event.Attempt moment verdict) result pass.new }
+        ensures answered { Answered F told_attempt self.now (event.Attempt moment verdict) result }
     {
         let reply = self.call(rt, alloc, pass, Event::Attempt(moment, verdict))?;
         attempt_in(reply)
@@ -159,7 +166,8 @@ impl<N: RollName + MeterName, F: FaultSource + Drop, G: Gate + Drop> Station<N, 
         iface: Iface,
         moment: Moment,
     ) -> Result<(), StationRefusal>
-        ensures { Called done_reply self.now pass.old (event.Restart iface moment) result pass.new }
+        ensures called { Called done_reply self.now pass.old (event.Restart iface moment) result pass.new }
+        ensures answered { Answered F done_reply self.now (event.Restart iface moment) result }
     {
         match self.call(rt, alloc, pass, Event::Restart(iface, moment))? {
             Reply::Done => Ok(()),

@@ -2,8 +2,10 @@ ghost use Rattle.std.specs.Prelude.{◌≡◌, reverse, IfOk};
 ghost use Rattle.can_event.specs.declared.events.Event.TheVariants as event;
 ghost use Rattle.can_event.specs.declared.events.Reply.TheVariants as reply;
 ghost use Rattle.can_bus.specs.Run.{history_after};
-ghost use Rattle.can_station.specs.Held.{slip_after};
-ghost use Rattle.can_station.specs.Passes.{Attempted, IsReady, IsReadyFor, Suits, Called, Stepped, same};
+ghost use Rattle.can_bus.specs.Answer.{told_attempt};
+ghost use Rattle.can_station.specs.Held.{held_after, slip_after};
+ghost use Rattle.can_station.specs.Passes.{IsAnsweredIn, IsReady, IsReadyFor, Suits, Called, Made, next_attempt, same};
+ghost use Rattle.can_station.specs.Waits.{has_work};
 
 use crate::attempts::attempt_in;
 use crate::gates::{Gate, Point};
@@ -24,7 +26,7 @@ use std::sync::MutexGuard;
 
 /// A station's lock, taken for several calls. Each is one event of the bus, as a call of the station itself is.
 ///
-/// Contracts see it as the station's number. Whoever the calls have given something to do is woken once the lock is
+/// Contracts see it as the state under the lock. Whoever the calls have given something to do is woken once the lock is
 /// free again.
 pub struct Hold<'s, N: RollName + MeterName, F: FaultSource + Drop, G: Gate + Drop> {
     pub(crate) station: &'s Station<N, F, G>,
@@ -34,24 +36,26 @@ pub struct Hold<'s, N: RollName + MeterName, F: FaultSource + Drop, G: Gate + Dr
 
 impl<'s, N: RollName + MeterName, F: FaultSource + Drop, G: Gate + Drop> Model
     for Hold<'s, N, F, G> {
-    ghost use Rattle.std.specs.Prelude.{ℕ};
     ghost use Rattle.std.specs.Sync.Mutex.{mutex_guard_value};
+    ghost use Rattle.can_station.specs.Held.{Held};
 
-    ghost Value = { ℕ };
+    ghost Value = { Held F };
 
-    ghost view = { λ h. (mutex_guard_value h.state).number };
+    ghost view = { λ h. mutex_guard_value h.state };
 }
 
 impl<'s, N: RollName + MeterName, F: FaultSource + Drop, G: Gate + Drop> Hold<'s, N, F, G> {
     /// The number of the station.
     pub fn number(&self) -> u8
-        ensures { result ≡ self.now }
+        ensures { result ≡ self.now.number }
     {
         self.state.number()
     }
 
     /// Whether a live interface has a frame to send, or an interface counts towards its restart.
-    pub fn has_work(&self) -> bool {
+    pub fn has_work(&self) -> bool
+        ensures { result ≡ has_work self.now.journal }
+    {
         self.state.has_work()
     }
 
@@ -63,8 +67,8 @@ impl<'s, N: RollName + MeterName, F: FaultSource + Drop, G: Gate + Drop> Hold<'s
         pass: &mut Pass<N>,
         event: Event,
     ) -> Result<Reply, StationRefusal>
-        ensures number { self.new ≡ self.old }
-        ensures called { Called same self.old pass.old event result pass.new }
+        ensures made { Made same self.old pass.old event result self.new pass.new }
+        ensures called { Called same self.old.number pass.old event result pass.new }
         ensures suits { IfOk result (λ r. Suits event r) }
     {
         if make_ready_for(&mut pass.calls, alloc, &event).is_err() {
@@ -84,9 +88,10 @@ impl<'s, N: RollName + MeterName, F: FaultSource + Drop, G: Gate + Drop> Hold<'s
         calls: &mut PackedList,
         event: Event,
     ) -> Reply
-        requires own { slip.old.number ≡ self.old }
+        requires own { slip.old.number ≡ self.old.number }
         requires ready { IsReadyFor event calls.old }
-        ensures number { self.new ≡ self.old }
+        ensures answer { IsAnsweredIn self.old event result }
+        ensures after { self.new ≡ held_after slip.old.pass event result self.old }
         ensures slip { slip.new ≡ slip_after event result slip.old }
         ensures calls { reverse calls.new.entries ≡ history_after event result (reverse calls.old.entries) }
         ensures suits { Suits event result }
@@ -105,8 +110,8 @@ impl<'s, N: RollName + MeterName, F: FaultSource + Drop, G: Gate + Drop> Hold<'s
         socket: SocketId,
         frame: Frame,
     ) -> Result<u64, StationRefusal>
-        ensures number { self.new ≡ self.old }
-        ensures called { Called reply.Sent self.old pass.old (event.Send socket frame) result pass.new }
+        ensures made { Made reply.Sent self.old pass.old (event.Send socket frame) result self.new pass.new }
+        ensures called { Called reply.Sent self.old.number pass.old (event.Send socket frame) result pass.new }
     {
         match self.call(alloc, pass, Event::Send(socket, frame))? {
             Reply::Sent(number) => Ok(number),
@@ -122,8 +127,8 @@ impl<'s, N: RollName + MeterName, F: FaultSource + Drop, G: Gate + Drop> Hold<'s
         pass: &mut Pass<N>,
         socket: SocketId,
     ) -> Result<Option<Received>, StationRefusal>
-        ensures number { self.new ≡ self.old }
-        ensures called { Called reply.Received self.old pass.old (event.Receive socket) result pass.new }
+        ensures made { Made reply.Received self.old pass.old (event.Receive socket) result self.new pass.new }
+        ensures called { Called reply.Received self.old.number pass.old (event.Receive socket) result pass.new }
     {
         match self.call(alloc, pass, Event::Receive(socket))? {
             Reply::Received(item) => Ok(item),
@@ -139,8 +144,8 @@ impl<'s, N: RollName + MeterName, F: FaultSource + Drop, G: Gate + Drop> Hold<'s
         pass: &mut Pass<N>,
         moment: Moment,
     ) -> Result<Attempt, StationRefusal>
-        ensures number { self.new ≡ self.old }
-        ensures stepped { Stepped self.old pass.old moment result pass.new }
+        ensures made { Made told_attempt (record self.old { source = self.new.source }) pass.old (next_attempt F.verdicts self.old moment) result self.new pass.new }
+        ensures source { F.verdicts self.new.source ≡ F.verdicts self.old.source }
     {
         if make_ready(&mut pass.calls, alloc).is_err() {
             return Err(StationRefusal::Bus(Refusal::NoMemory));
@@ -160,10 +165,14 @@ impl<'s, N: RollName + MeterName, F: FaultSource + Drop, G: Gate + Drop> Hold<'s
         calls: &mut PackedList,
         moment: Moment,
     ) -> Reply
-        requires own { slip.old.number ≡ self.old }
+        requires own { slip.old.number ≡ self.old.number }
         requires ready { IsReady calls.old }
-        ensures number { self.new ≡ self.old }
-        ensures attempted { Attempted moment slip.old (reverse calls.old.entries) result slip.new (reverse calls.new.entries) }
+        ensures answer { IsAnsweredIn self.old (next_attempt F.verdicts self.old moment) result }
+        ensures after { self.new ≡ held_after slip.old.pass (next_attempt F.verdicts self.old moment) result (record self.old { source = self.new.source }) }
+        ensures source { F.verdicts self.new.source ≡ F.verdicts self.old.source }
+        ensures slip { slip.new ≡ slip_after (next_attempt F.verdicts self.old moment) result slip.old }
+        ensures calls { reverse calls.new.entries ≡ history_after (next_attempt F.verdicts self.old moment) result (reverse calls.old.entries) }
+        ensures suits { Suits (next_attempt F.verdicts self.old moment) result }
     {
         let station = self.station;
         station.gate.at(Point::InStep);

@@ -1,7 +1,7 @@
 ghost use Rattle.std.specs.Prelude.{◌≡◌, ◌<◌, ◌≤◌, ◌⊎◌, [], IfOk, MatchResult, ◌↔◌};
 ghost use Rattle.std.specs.Sync.Mutex.{mutex_guard_value};
 ghost use Rattle.can_event.specs.Events.{IsConfig};
-ghost use Rattle.can_station.specs.Passes.{AllOf, SomeOther, Settles, Suits, Called, Stepped, same};
+ghost use Rattle.can_station.specs.Passes.{AllOf, SomeOther, Settles, Suits, Answered, Called, Stepped, same};
 ghost use Rattle.can_station.specs.Published.{AllTrue, GaugesOf, SomeOtherGauge};
 
 use crate::attempts::attempt_in;
@@ -132,7 +132,8 @@ impl<N: RollName + MeterName, F: FaultSource + Drop, G: Gate + Drop> Station<N, 
         rt: &R,
         state: MutexGuard<'s, StationState<N, F>>,
     ) -> MutexGuard<'s, StationState<N, F>>
-        ensures { (mutex_guard_value result).number ≡ self.now }
+        ensures number { (mutex_guard_value result).number ≡ self.now }
+        ensures same { mutex_guard_value result ≡ mutex_guard_value state.entry }
     {
         if state.number() == self.number {
             return state;
@@ -143,7 +144,7 @@ impl<N: RollName + MeterName, F: FaultSource + Drop, G: Gate + Drop> Station<N, 
 
     /// Takes the lock for several calls. Until the answer is dropped, all other calls of the station wait.
     pub fn lock<R: Wait>(&self, rt: &R) -> Hold<'_, N, F, G>
-        ensures { result ≡ self.now }
+        ensures { result.number ≡ self.now }
     {
         Hold {
             station: self,
@@ -180,6 +181,7 @@ impl<N: RollName + MeterName, F: FaultSource + Drop, G: Gate + Drop> Station<N, 
         event: Event,
     ) -> Result<Reply, StationRefusal>
         ensures called { Called same self.now pass.old event result pass.new }
+        ensures answered { Answered F same self.now event result }
         ensures suits { IfOk result (λ r. Suits event r) }
     {
         if make_ready_for(&mut pass.calls, alloc, &event).is_err() {
@@ -206,7 +208,7 @@ impl<N: RollName + MeterName, F: FaultSource + Drop, G: Gate + Drop> Station<N, 
         pass: &mut Pass<N>,
         moment: Moment,
     ) -> Result<Attempt, StationRefusal>
-        ensures { Stepped self.now pass.old moment result pass.new }
+        ensures { Stepped F.verdicts self.now pass.old moment result pass.new }
     {
         if make_ready(&mut pass.calls, alloc).is_err() {
             return Err(StationRefusal::Bus(Refusal::NoMemory));

@@ -1,4 +1,6 @@
-ghost use Rattle.std.specs.Prelude.{◌≡◌, IfSome};
+ghost use Rattle.std.specs.Prelude.{◌≡◌, true, false, IfSome, IfNone, is_none};
+ghost use Rattle.can_station.specs.Passes.{InSome};
+ghost use Rattle.can_station.specs.Waits.{has_work, work_wake};
 
 use crate::gates::{Gate, Point};
 use crate::holds::Hold;
@@ -108,23 +110,29 @@ impl<N: RollName + MeterName, F: FaultSource + Drop, G: Gate + Drop> Station<N, 
         state.work_wake().unwrap_or(Wake::Stopped)
     }
 
-    /// Waits as `wait_work` does, and keeps the lock for the driver's steps: `None` after `stop`.
+    /// Waits as `wait_work` does, and keeps the lock for the driver's steps: `None` after `stop`, where there is no work.
     pub fn hold_work<R: Wait>(&self, rt: &R) -> Option<Hold<'_, N, F, G>>
-        ensures { IfSome result (λ h. h ≡ self.now) }
+        ensures number { IfSome result (λ h. h.number ≡ self.now) }
+        ensures work { IfSome result (λ h. has_work h.journal ≡ true) }
+        ensures none { IfNone result (InSome F self.now (λ held. (has_work held.journal ≡ false) × (held.stopped ≡ true))) }
     {
         self.gate.at(Point::BeforeStep);
-        let state = self.work.wait_while(rt, self.state.lock(rt), |state| {
-            state.work_wake().is_none()
-        });
+        let state = self.work.wait_while(
+            rt,
+            self.state.lock(rt),
+            |state|
+                ensures { is_none (work_wake state.new) ≡ result }
+            { state.work_wake().is_none() },
+        );
         let state = self.own(rt, state);
-        match state.work_wake() {
-            Some(Wake::Ready) => Some(Hold {
-                station: self,
-                state,
-                news: News::none(),
-            }),
-            _ => None,
+        if !state.has_work() {
+            return None;
         }
+        Some(Hold {
+            station: self,
+            state,
+            news: News::none(),
+        })
     }
 
     /// Waits so long, or until `stop`. Where the duration is 0 it returns at once, without the lock; no call of a

@@ -82,7 +82,7 @@ fn is_past_limit(reply: &Reply) -> bool
 
 /// Whether a record has this reply: no refusal for a full record or for want of memory.
 fn enters(reply: &Reply) -> bool
-    ensures { IsTrue result → Enters reply.now }
+    ensures { IsTrue result ↔ Enters reply.now }
 {
     !matches!(
         reply,

@@ -12,7 +12,8 @@ use Rattle.can_text_audit.specs.TextAudits.{AreTaken, IsLine, MayFollow}
 use Rattle.can_text_audit.proofs.LineEnds.{nothing_more}
 use Rattle.canbusd_faults.specs.declared.faults.Fault.{Fault}
 use Rattle.canbusd_faults.specs.declared.faults.Fault.TheVariants as fault
-use Rattle.canbusd_audit.specs.Audited.{Faults, IsBefore, IsOfLine, IsOfReading, IsRead, IsTextIn, IsUnderway}
+use Rattle.canbusd_files.specs.Files.{IsOfReading}
+use Rattle.canbusd_audit.specs.Audited.{Faults, IsBefore, IsOfLine, IsRead, IsTextIn, IsUnderway}
 
 nothing_read : (o : Option (List ℕ)) → Consumes o o []
 nothing_read None = tt

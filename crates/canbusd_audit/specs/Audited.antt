@@ -15,6 +15,7 @@ use Rattle.can_text_audit.specs.declared.text_audits.TextAudit.{TextAudit}
 use Rattle.can_text_audit.specs.TextAudits.{AreTaken, IsLine, MayFollow}
 use Rattle.canbusd_faults.specs.declared.faults.Fault.{Fault}
 use Rattle.canbusd_faults.specs.declared.faults.Fault.TheVariants as fault
+use Rattle.canbusd_files.specs.Files.{IsOfReading}
 
 -- What an audit of a text answers (own choice).
 
@@ -55,12 +56,6 @@ Faults text why = IsBlamed text why
 abbrev pub IsTextIn : Option (List ℕ) → List ℕ → Type 0
 IsTextIn None text = Unit {0}
 IsTextIn (Some all) text = text ≡ all
-
--- a fault of reading or of memory
-abbrev pub IsOfReading : Fault → Type 0
-IsOfReading fault.Read = Unit {0}
-IsOfReading fault.NoMemory = Unit {0}
-IsOfReading why = ⊥
 
 -- the fault of a line, or one of reading or of memory
 abbrev pub IsOfLine : ReadFault → Fault → Type 0

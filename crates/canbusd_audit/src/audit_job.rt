@@ -4,10 +4,9 @@ ghost use Rattle.canbusd_audit.specs.Audited.{Faults, IsAudited, IsTextIn};
 use crate::ends::tell_end;
 use crate::line_taking::take_lines;
 use can_text_audit::TextAudit;
-use canbusd_faults::{Failure, Fault, reason_note};
-use canbusd_files::{FewReads, MOST_READS};
+use canbusd_faults::{Failure, Fault};
+use canbusd_files::open_file;
 use std::alloc::Global;
-use std::fs;
 use std::io::{BufRead, BufReader, Write};
 use std::rt::Files;
 
@@ -20,14 +19,8 @@ pub fn audit_file<'a, H: Files, W: Write>(
 ) -> Result<(), Failure<'a>>
     ensures { OnOk result ((text : List ℕ) × IsAudited text (W.contents output.old) (W.contents output.new)) }
 {
-    let file = match fs::open(rt, path) {
-        Ok(file) => file,
-        Err(error) => {
-            let reason = reason_note(alloc, path, &error);
-            return Err(Failure::with(alloc, Fault::CannotOpen(path), reason));
-        }
-    };
-    let Ok(mut input) = BufReader::new(alloc, FewReads::new(alloc, file, MOST_READS)) else {
+    let file = open_file(rt, alloc, path)?;
+    let Ok(mut input) = BufReader::new(alloc, file) else {
         return Err(Failure::new(alloc, Fault::NoMemory));
     };
     audit_lines(alloc, path, &mut input, output)

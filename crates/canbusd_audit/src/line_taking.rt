@@ -1,13 +1,15 @@
 ghost use Rattle.std.specs.Prelude.{[], List, ℕ, IfErr, IfOk, OnOk};
 ghost use Rattle.can_text_audit.specs.TextAudits.{AreTaken};
-ghost use Rattle.canbusd_audit.specs.Audited.{Faults, IsNextLine, IsOfLine, IsOfReading, IsTextIn};
+ghost use Rattle.canbusd_audit.specs.Audited.{Faults, IsNextLine, IsOfLine, IsTextIn};
+ghost use Rattle.canbusd_files.specs.Files.{IsOfReading};
 
-use crate::notes::{record_note, utf8_note};
+use crate::notes::record_note;
 use can_record::ReadFault;
 use can_text_audit::TextAudit;
-use canbusd_faults::{Failure, Fault, reason_note};
+use canbusd_faults::{Failure, Fault};
+use canbusd_files::{read_failure, utf8_note};
 use std::alloc::Global;
-use std::io::{BufRead, Error, ErrorKind};
+use std::io::BufRead;
 use std::str;
 
 /// Takes the lines of an input to its end: how many there were.
@@ -96,16 +98,5 @@ fn next_line<'a, R: BufRead>(
         Ok(0) => Ok(false),
         Ok(_) => Ok(true),
         Err(error) => Err(read_failure(alloc, path, &error)),
-    }
-}
-
-// What a fault of reading is told as.
-fn read_failure<'a>(alloc: Global, path: &str, error: &Error) -> Failure<'a>
-    ensures { IsOfReading result.fault }
-{
-    if error.kind() == ErrorKind::OutOfMemory {
-        Failure::new(alloc, Fault::NoMemory)
-    } else {
-        Failure::with(alloc, Fault::Read, reason_note(alloc, path, error))
     }
 }

@@ -1,6 +1,6 @@
 //! The lines of a text that is no record's, as they are told.
 use can_record::ReadFault;
-use canbusd_faults::Line;
+use canbusd_faults::{Line, WITH_CR};
 use std::alloc::{AllocError, Global};
 
 /// A line of a record's text that is wrong, and what stands there in a record.
@@ -19,28 +19,25 @@ pub fn record_note(
             2,
             "the second line is bus IFACES ACK REPORTING TXCAPACITY LIMIT, with RESTART behind it in versions 2 and 3",
         ),
-        ReadFault::BadLine(number) => (
-            number,
-            "a line is EVENT = REPLY, and the last is end COUNT; each ends with LF",
-        ),
+        ReadFault::BadLine(number) => (number, entry_form(line)),
         ReadFault::NoMemory => return Ok(String::new(alloc)),
     };
-    let line = Line::new(path, number, bare(line));
+    let form = if line.ends_with(b"\r\n") {
+        WITH_CR
+    } else {
+        form
+    };
+    let line = Line::new(path, number, line.strip_suffix(b"\n").unwrap_or(line));
     format!(in alloc; "  {line}\n  {form}\n")
 }
 
-/// A line of a file whose bytes are no UTF-8 text.
-pub fn utf8_note(
-    alloc: Global,
-    path: &str,
-    number: u64,
-    line: &[u8],
-) -> Result<String, AllocError> {
-    let line = Line::new(path, number, bare(line));
-    format!(in alloc; "  {line}\n  this line is no UTF-8 text\n")
-}
-
-// A line without its LF.
-fn bare(line: &[u8]) -> &[u8] {
-    line.strip_suffix(b"\n").unwrap_or(line)
+// What stands in a record in place of a line behind the second. A text that has ended there gives none, or one without LF.
+fn entry_form(line: &[u8]) -> &'static str {
+    if line.is_empty() {
+        "the text ends here, before its line end COUNT"
+    } else if line.ends_with(b"\n") {
+        "a line is EVENT = REPLY, and the last is end COUNT; each ends with LF"
+    } else {
+        "the text ends here, in a line without LF"
+    }
 }

@@ -4,7 +4,7 @@ use Rattle.can_event.specs.declared.events.BusConfig.{BusConfig}
 use Rattle.can_bus.specs.Journal.{Kept}
 use Rattle.can_bus.specs.Legal.{IsLegal}
 use Rattle.can_session.specs.declared.bench_run.BenchFault.{BenchFault}
-use Rattle.can_session.specs.declared.bench_run.BenchFault.TheVariants.{BadConfig, BadLine, InputTooLong, Read, Write, NoMemory}
+use Rattle.can_session.specs.declared.bench_run.BenchFault.TheVariants.{BadConfig, BadLine, TooLong, Read, Write, NoMemory}
 use Rattle.can_session.specs.Runs.{IsBench, at_start}
 use Rattle.canbusd_options.specs.declared.bench_options.BenchOptions.{BenchOptions}
 use Rattle.canbusd_faults.specs.declared.faults.Fault.{Fault}
@@ -31,7 +31,7 @@ stops : {W : Type 0} (contents : W → Option (List ℕ)) (o : BenchOptions) (na
     → StopsBy contents o names verdicts input out (fault.Bench why) new
 stops contents o names verdicts input out new BadConfig a = (a.bad.0 refl, a.untouched refl)
 stops contents o names verdicts input out new (BadLine n) a = a.runs (search rules)
-stops contents o names verdicts input out new InputTooLong a = a.runs (search rules)
+stops contents o names verdicts input out new TooLong a = a.runs (search rules)
 stops contents o names verdicts input out new Read a = a.runs (search rules)
 stops contents o names verdicts input out new Write a = a.runs (search rules)
 stops contents o names verdicts input out new NoMemory a = a.runs (search rules)

@@ -15,7 +15,9 @@ use canbusd_files::{
 };
 use canbusd_options::BenchOptions;
 use std::alloc::{AllocError, Global};
+use std::fs;
 use std::io::{Read, Write};
+use std::os::unix::fs::MetadataExt;
 use std::rt::Files;
 
 /// Runs the bench that the options describe, over the lines of an input. The names are looked at first, then the
@@ -61,7 +63,7 @@ fn run_out<'a, H: Files, R: Read + Drop, W: Write>(
     ran
 }
 
-// Writes the record and the log of a run, where they are asked for.
+// Writes the record and the log of a run, where they are asked for. The log never goes where the record is.
 fn save_run<'a, H: Files>(
     rt: &H,
     alloc: Global,
@@ -73,11 +75,28 @@ fn save_run<'a, H: Files>(
         None => Ok(()),
     };
     let logged = match options.log {
+        Some(path) if is_one_file(rt, options.record, path) => {
+            let note = fixed_note(alloc, "--record names this file too");
+            Err(Failure::with(alloc, Fault::CannotOpen(path), note))
+        }
         Some(path) => save_log(rt, alloc, path, options.bus, record),
         None => Ok(()),
     };
     recorded?;
     logged
+}
+
+// Whether two paths lead to one file, by links or in other words. Of files that have no numbers nothing is known.
+fn is_one_file<H: Files>(rt: &H, record: Option<&str>, log: &str) -> bool {
+    let Some(record) = record else {
+        return false;
+    };
+    match (fs::metadata(rt, record), fs::metadata(rt, log)) {
+        (Ok(one), Ok(other)) => {
+            one.is_file() && one.ino() != 0 && one.ino() == other.ino() && one.dev() == other.dev()
+        }
+        _ => false,
+    }
 }
 
 // Runs the bench of these names, with the faults of the script that the options name.
@@ -139,7 +158,7 @@ fn bench_note<R: Read + Drop>(
             Some(line) => input_note(alloc, INPUT, number, line),
             None => Ok(String::new(alloc)),
         },
-        BenchFault::InputTooLong => fixed_note(
+        BenchFault::TooLong => fixed_note(
             alloc,
             "the input has at most 16777216 bytes, and takes at most as many reads",
         ),

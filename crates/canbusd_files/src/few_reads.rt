@@ -5,7 +5,7 @@ use std::io;
 use std::io::{Error, ErrorKind, Read};
 
 /// How often a file is read at most: the last read finds its end.
-pub const MOST_READS: u32 = 16_777_216;
+pub(crate) const MOST_READS: u32 = 16_777_216;
 
 /// A reader that is read at most so many times. A read more is a fault that says how many were made.
 #[derive(Drop)]

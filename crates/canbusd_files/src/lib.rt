@@ -13,7 +13,9 @@ mod saved;
 mod scripts;
 
 pub use buses::{Source, bus_config, limits_note, read_source};
-pub use few_reads::{FewReads, MOST_READS};
-pub use files::{INPUT, OUTPUT, read_file, read_text, write_failure};
+pub use few_reads::FewReads;
+pub use files::{
+    INPUT, OUTPUT, open_file, read_failure, read_file, read_text, utf8_note, write_failure,
+};
 pub use names::{has_name, read_names};
-pub use saved::{save_log, save_record, without};
+pub use saved::{save_log, save_log_at, save_record, save_record_at, without};

@@ -4,18 +4,22 @@ ghost use Rattle.std.specs.Io.KnownBytes.{Appends};
 ghost use Rattle.can_record.specs.Spelling.{record_spelling};
 ghost use Rattle.can_logfile.specs.Log.{joined, log_lines};
 
-use crate::files::write_failure;
+use crate::files::{open_failure, write_failure};
 use crate::names::read_names;
 use can_bus::Record;
 use can_frame::Names;
 use can_logfile::write_tape;
 use can_record::write_record;
-use canbusd_faults::{Failure, Fault, Shown, reason_note};
+use can_session::count_of;
+use canbusd_faults::{Failure, Fault, Shown};
 use canbusd_options::BusWord;
 use std::alloc::{AllocError, Global};
 use std::fs;
 use std::io::{BufWriter, Error, ErrorKind, Write};
 use std::rt::Files;
+
+/// How many bytes of a log go out in one write.
+const LOG_BLOCK: usize = 65_536;
 
 /// Writes the text of a record to the file with this path.
 pub fn save_record<'a, H: Files>(
@@ -24,13 +28,24 @@ pub fn save_record<'a, H: Files>(
     path: &'a str,
     record: &Record,
 ) -> Result<(), Failure<'a>> {
-    let file = create(rt, alloc, path)?;
+    save_record_at(rt, alloc, path, path, record)
+}
+
+/// The same, to the file `at`: its faults are told of `path`, whose file it will be.
+pub fn save_record_at<'a, H: Files>(
+    rt: &H,
+    alloc: Global,
+    path: &'a str,
+    at: &str,
+    record: &Record,
+) -> Result<(), Failure<'a>> {
+    let file = create(rt, alloc, path, at)?;
     let mut file = BufWriter::new(alloc, file).map_err(|_| Failure::new(alloc, Fault::NoMemory))?;
     put_record(alloc, path, record, &mut file)
 }
 
-/// Writes the log of a bus's record to the file with this path, in one write a line, so that a fault tells how many
-/// whole lines the file has. It calls the log by the first name of the bus.
+/// Writes the log of a bus's record to the file with this path. A fault tells how many whole lines the file has. It calls the
+/// log by the first name of the bus.
 pub fn save_log<'a, H: Files>(
     rt: &H,
     alloc: Global,
@@ -38,9 +53,26 @@ pub fn save_log<'a, H: Files>(
     bus: BusWord<'a>,
     record: &Record,
 ) -> Result<(), Failure<'a>> {
+    save_log_at(rt, alloc, path, path, bus, record)
+}
+
+/// The same, to the file `at`: its faults are told of `path`, whose file it will be.
+pub fn save_log_at<'a, H: Files>(
+    rt: &H,
+    alloc: Global,
+    path: &'a str,
+    at: &str,
+    bus: BusWord<'a>,
+    record: &Record,
+) -> Result<(), Failure<'a>> {
     let names = read_names(alloc, bus.names)?;
-    let mut file = create(rt, alloc, path)?;
-    put_log(alloc, bus.first_name(), &names, record, &mut file)
+    let file = create(rt, alloc, path, at)?;
+    let Ok(mut file) = BufWriter::with_capacity(alloc, LOG_BLOCK, file) else {
+        return Err(Failure::new(alloc, Fault::NoMemory));
+    };
+    let put = put_log(&names, record, &mut file);
+    let (_, unwritten) = file.into_parts();
+    put.map_err(|lines| log_failure(alloc, bus.first_name(), lines, &unwritten))
 }
 
 /// A fault of a run that ended before it wrote this file of its own, the record or the log, if it was to write one: with
@@ -77,11 +109,13 @@ fn unwritten_note<H: Files>(
     format!(in alloc; "  no {kind} was written to {file}{old}\n")
 }
 
-fn create<'a, H: Files>(rt: &H, alloc: Global, path: &'a str) -> Result<H::File, Failure<'a>> {
-    fs::create(rt, path).map_err(|error| {
-        let reason = reason_note(alloc, path, &error);
-        Failure::with(alloc, Fault::CannotOpen(path), reason)
-    })
+fn create<'a, H: Files>(
+    rt: &H,
+    alloc: Global,
+    path: &'a str,
+    at: &str,
+) -> Result<H::File, Failure<'a>> {
+    fs::create(rt, at).map_err(|error| open_failure(alloc, path, &error))
 }
 
 // Writes the text of a record, to its last byte.
@@ -98,26 +132,21 @@ fn put_record<'a, W: Write>(
         .map_err(|error| write_failure(alloc, path, &error))
 }
 
-// Writes the lines of a log.
-fn put_log<'a, W: Write>(
-    alloc: Global,
-    name: &'a str,
-    names: &Names,
-    record: &Record,
-    file: &mut W,
-) -> Result<(), Failure<'a>>
+// Writes the lines of a log; on a fault, how many lines the writer took whole.
+fn put_log<W: Write>(names: &Names, record: &Record, file: &mut W) -> Result<(), u64>
     ensures { OnOk result (Appends (W.contents file.old) (W.contents file.new) (joined (log_lines names.now «record».now.history))) }
 {
-    match write_tape(names, record, file) {
-        Ok(_) => Ok(()),
-        Err(fault) => Err(Failure::new(
-            alloc,
-            Fault::Log {
-                name,
-                whole_lines: fault.whole_lines,
-            },
-        )),
-    }
+    let lines = match write_tape(names, record, file) {
+        Ok(lines) => lines,
+        Err(fault) => return Err(fault.whole_lines),
+    };
+    file.flush().map_err(|_| lines)
+}
+
+// What a fault of writing a log is told as: a buffer took so many lines whole, and has these bytes left.
+fn log_failure<'a>(alloc: Global, name: &'a str, lines: u64, unwritten: &[u8]) -> Failure<'a> {
+    let whole_lines = lines.saturating_sub(count_of(unwritten, b'\n') as u64);
+    Failure::new(alloc, Fault::Log { name, whole_lines })
 }
 
 // What a fault of writing a record is told as.

@@ -86,10 +86,30 @@ fn bad_verdict_note(alloc: Global, line: &str) -> Result<String, AllocError> {
             "a line is NUMBER VERDICT, as 0 lastbit: NUMBER has 1 to 8 digits, and one space stands behind it",
         );
     }
-    fixed_note(
-        alloc,
-        "VERDICT is good, lastbit, global bit, global form, local stuff NAMES, local crc NAMES or local form NAMES",
-    )
+    let verdict = line.split_once(' ').map_or("", |(_, verdict)| verdict);
+    fixed_note(alloc, verdict_note(verdict))
+}
+
+// What is wrong with what stands behind the number of a line and a space.
+fn verdict_note(verdict: &str) -> &'static str {
+    if verdict.starts_with(' ') || verdict.contains("  ") {
+        return "one space stands between two words";
+    }
+    let alone = ["good ", "lastbit ", "global bit ", "global form "];
+    if alone.iter().any(|word| verdict.starts_with(*word)) {
+        return "nothing may follow good, lastbit, global bit and global form";
+    }
+    let kinds = ["local stuff", "local crc", "local form"];
+    for kind in kinds {
+        match verdict.strip_prefix(kind) {
+            Some("" | " ") => return "the names of the interfaces that see the fault are missing",
+            Some(names) if names.starts_with(' ') => {
+                return "names of 1 to 15 bytes are joined by commas, without spaces";
+            }
+            _ => {}
+        }
+    }
+    "VERDICT is good, lastbit, global bit, global form, local stuff NAMES, local crc NAMES or local form NAMES"
 }
 
 // Whether a line begins with a number that an attempt may have.

@@ -1,4 +1,4 @@
-use Rattle.std.specs.Prelude.{◌≡◌, ℕ, ◌≤◌, map, true, false, List, [], ◌<◌, ◌^◌, codes, unwrap_or, Some}
+use Rattle.std.specs.Prelude.{◌≡◌, ◌≢◌, ℕ, ◌≤◌, map, true, false, List, [], ◌<◌, ◌^◌, codes, unwrap_or, Some, IfSome}
 use Rattle.std.specs.Option.{option_map}
 use Rattle.std.specs.Str.Parse.{IsNumeral, digits_value}
 use Rattle.can_attempt.specs.declared.acks.AckMode.{AckMode}
@@ -51,6 +51,7 @@ pub record AreBenchOptions (rows : List Row) (o : BenchOptions) : Type 0 where
   pub script : option_map (λ path. path.now) o.bus.script ≡ script_part (given rows (codes "BUS"))
   pub kept : option_map (λ path. path.now) o.record ≡ first_of (codes "record") rows
   pub logged : option_map (λ path. path.now) o.log ≡ first_of (codes "log") rows
+  pub apart : IfSome o.record (λ kept. IfSome o.log (λ logged. kept.now ≢ logged.now))
 
 -- the buses that a server was given
 abbrev pub buses_given : List Row → List (List ℕ)

@@ -1,5 +1,5 @@
 //! The words of bench.
-ghost use Rattle.std.specs.Prelude.{◌≡◌, codes, false, IfErr, IfOk};
+ghost use Rattle.std.specs.Prelude.{◌≡◌, ◌≢◌, codes, false, IfErr, IfOk, IfSome};
 ghost use Rattle.clap.specs.Words.{app_of, rule_of};
 ghost use Rattle.canbusd_options.specs.Help.{RefusesValue};
 ghost use Rattle.canbusd_options.specs.Options.{AreBenchOptions, rows_in};
@@ -31,12 +31,43 @@ pub fn bench_options<'a>(alloc: Global, bench: &ArgMatches<'a>) -> Result<BenchO
     ensures given { IfOk result (λ options. AreBenchOptions (rows_in bench.now) options) }
     ensures refused { IfErr result RefusesValue }
 {
+    let settings = settings_given(alloc, Verb::Bench, bench)?;
+    let record = bench.get_str(RECORD);
+    let log = bench.get_str(LOG);
+    if are_one_file(record, log) {
+        let path = log.unwrap_or("");
+        let message = format!(in alloc;
+            "invalid value '{path}' for '--log': --record names this file"
+        )?;
+        return Err(Verb::Bench.error(alloc, &message)?);
+    }
     Ok(BenchOptions {
-        settings: settings_given(alloc, Verb::Bench, bench)?,
+        settings,
         bus: BusWord::read(bench.get_str(BUS).unwrap_or("")),
-        record: bench.get_str(RECORD),
-        log: bench.get_str(LOG),
+        record,
+        log,
     })
+}
+
+// Whether both are given, and are spellings of one path. Links are not followed.
+fn are_one_file(kept: Option<&str>, log: Option<&str>) -> bool
+    ensures { result ≡ false → IfSome kept.entry (λ k. IfSome log.entry (λ l. k.now ≢ l.now)) }
+{
+    match (kept, log) {
+        (Some(kept), Some(log)) => kept == log || is_spelling_of(kept, log),
+        _ => false,
+    }
+}
+
+// Whether two paths differ at most in what stands for nothing: `.` between slashes, and slashes more than one.
+fn is_spelling_of(path: &str, other: &str) -> bool {
+    let parts = path.split('/').filter(|part| is_step(part));
+    let others = other.split('/').filter(|part| is_step(part));
+    path.starts_with('/') == other.starts_with('/') && parts.eq(others)
+}
+
+fn is_step(part: &str) -> bool {
+    part != "" && part != "."
 }
 
 pub fn bench_command<'a>(alloc: Global) -> Result<Command<'a>, AllocError>

@@ -81,10 +81,10 @@ pub fn settings_given(
     Ok(BusSettings {
         ack: ack_mode(alloc, verb, matches)?,
         is_reporting: matches.get_flag(REPORT),
-        tx_capacity: number_given(alloc, verb, matches, TXQUEUE)?,
-        rx_capacity: number_given(alloc, verb, matches, RXQUEUE)?,
-        limit: number_given(alloc, verb, matches, LIMIT)?,
-        auto_restart: number_given(alloc, verb, matches, AUTO_RESTART)?,
+        tx_capacity: number_given(alloc, verb, matches, TXQUEUE, "1 to 1024")?,
+        rx_capacity: number_given(alloc, verb, matches, RXQUEUE, "1 to 65536")?,
+        limit: number_given(alloc, verb, matches, LIMIT, "1 to 16777216")?,
+        auto_restart: number_given(alloc, verb, matches, AUTO_RESTART, "0 to 1000000")?,
     })
 }
 
@@ -103,16 +103,24 @@ fn ack_mode(alloc: Global, verb: Verb, matches: &ArgMatches<'_>) -> Result<AckMo
     Err(verb.error(alloc, &message)?)
 }
 
+// The number that an option was given, in decimal digits alone. Whether it is within these limits is the bus's to say.
+#[tactic(auto, using(crate::proofs::Rules::text_in_rows))]
 fn number_given(
     alloc: Global,
     verb: Verb,
     matches: &ArgMatches<'_>,
     option: &str,
+    limits: &str,
 ) -> Result<u32, Error>
     ensures given { IfOk result (λ n. IsNumberOf n (given (rows_in matches.now) option.now)) }
+    ensures taken { IfErr result (λ e. IsNumberWithin 0 (2 ^ 32) (given (rows_in matches.now) option.now) → kind_of e ≡ OutOfMemory) }
     ensures refused { IfErr result RefusesValue }
 {
-    number_within(alloc, verb, matches, option, 0, u32::MAX)
+    let text = matches.get_str(option).unwrap_or("");
+    match number_in(text) {
+        Some(number) => Ok(number),
+        None => Err(number_error(alloc, verb, option, text, limits)?),
+    }
 }
 
 /// The number that an option was given, in decimal digits alone, within limits.
@@ -135,12 +143,26 @@ pub fn number_within(
     match number_in(text) {
         Some(number) if least <= number && number <= most => Ok(number),
         _ => {
-            let message = format!(in alloc;
-                "invalid value '{text}' for '--{option}': not a number from {least} to {most} in decimal digits"
-            )?;
-            Err(verb.error(alloc, &message)?)
+            let limits = format!(in alloc; "{least} to {most}")?;
+            Err(number_error(alloc, verb, option, text, &limits)?)
         }
     }
+}
+
+// The fault of an option whose text is no number within limits.
+fn number_error(
+    alloc: Global,
+    verb: Verb,
+    option: &str,
+    text: &str,
+    limits: &str,
+) -> Result<Error, AllocError>
+    ensures { IfOk result (λ e. kind_of e ≡ ValueValidation) }
+{
+    let message = format!(in alloc;
+        "invalid value '{text}' for '--{option}': not a number from {limits} in decimal digits"
+    )?;
+    verb.error(alloc, &message)
 }
 
 // The number that a text of decimal digits alone writes.

@@ -1,4 +1,4 @@
-use Rattle.std.proofs.Common.{◌≡◌, ◌+◌, ◌<◌, ℕ, suc, take, get_or, List, [], ◌∷◌, ◌++◌, length, All, Vec, Result, Ok, Err, Bool, true, false, IfErr, OnOk, IsTrue, refl, ap, ◌∙◌, sym, subst, arith, rules}
+use Rattle.std.proofs.Common.{◌≡◌, ◌+◌, ◌<◌, ℕ, suc, take, get_or, List, [], ◌∷◌, ◌++◌, length, All, Vec, Result, Ok, Err, Bool, false, IfErr, OnOk, IsTrue, refl, ap, ◌∙◌, sym, subst, arith, rules}
 use Rattle.std.proofs.lemmas.List.{take_more}
 use Rattle.std.proofs.lemmas.List.Elements.{All-cons}
 use Rattle.can_frame.specs.Names.{AreNames, names_in}

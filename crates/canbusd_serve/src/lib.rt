@@ -6,9 +6,11 @@
 #![tactic(auto)]
 
 mod buses_notes;
+mod drafts;
 mod hosts;
 mod listening;
 mod serve_files;
 mod serve_job;
+mod socket_files;
 
 pub use serve_job::{ServerRuntime, run_serve};

@@ -1,40 +1,46 @@
 //! Where a server listens: a Unix path, or a host and a port.
 
+use crate::socket_files::SocketFile;
 use can_serving::{Door, Listener};
 use canbusd_faults::{Failure, Fault, reason_note};
 use std::alloc::{AllocError, Global};
-use std::io::{Error, ErrorKind};
+use std::fs::File;
+use std::io;
+use std::io::Error;
 use std::net::{Net, TcpListener, TcpStream};
-use std::os::unix::fs::FileTypeExt;
-use std::os::unix::net::{UnixListener, UnixStream};
 use std::rt::Files;
-use std::{fs, io};
 
 /// A door where a server listens, and the text of its address.
 #[derive(Drop)]
 pub struct Listening {
-    pub door: Door,
+    pub doors: [Door; 1],
     /// The address as it was given; where its port is 0, the address that the listener got.
     pub heard: String,
+    /// The socket's file, where the address is a Unix path.
+    pub file: Option<SocketFile>,
 }
 
-/// Listens at an address, for so many sessions: a Unix path where it begins with `/` or `.`, else host and port. Of a
-/// Unix path a socket that an earlier run left is removed, but nothing else is.
-pub fn listen<'a, H: Files + Net<Listener = TcpListener, Stream = TcpStream>>(
+/// Listens at an address, for so many sessions: a Unix path where it begins with `/` or `.`, else host and port.
+pub fn listen<'a, H: Files<File = File> + Net<Listener = TcpListener, Stream = TcpStream>>(
     rt: &H,
     alloc: Global,
     address: &str,
     sessions: u32,
 ) -> Result<Listening, Failure<'a>> {
-    match bind(rt, address) {
-        Ok(listener) => {
-            let opened = open(alloc, address, listener, sessions);
-            if opened.is_err() {
-                leave(rt, address);
-            }
-            opened
+    let (listener, file) = match bind(rt, alloc, address) {
+        Ok(bound) => bound,
+        Err(error) => return Err(listen_failure(alloc, address, &error)),
+    };
+    match open(alloc, address, listener, sessions) {
+        Ok((door, heard)) => Ok(Listening {
+            doors: [door],
+            heard,
+            file,
+        }),
+        Err(failure) => {
+            leave(rt, file);
+            Err(failure)
         }
-        Err(error) => Err(listen_failure(alloc, address, &error)),
     }
 }
 
@@ -43,12 +49,12 @@ fn open<'a>(
     address: &str,
     listener: Listener,
     sessions: u32,
-) -> Result<Listening, Failure<'a>> {
+) -> Result<(Door, String), Failure<'a>> {
     let Ok(heard) = heard_at(alloc, address, &listener) else {
         return Err(Failure::new(alloc, Fault::NoMemory));
     };
     match Door::new(listener, sessions) {
-        Ok(door) => Ok(Listening { door, heard }),
+        Ok(door) => Ok((door, heard)),
         Err(error) => Err(listen_failure(alloc, address, &error)),
     }
 }
@@ -58,21 +64,23 @@ pub fn listen_failure<'a>(alloc: Global, place: &str, error: &Error) -> Failure<
     Failure::with(alloc, Fault::CannotListen, reason_note(alloc, place, error))
 }
 
-/// Removes the file that listening at this address made.
-pub fn leave<H: Files>(rt: &H, address: &str) {
-    if is_path(address) {
-        let _ = fs::remove_file(rt, address);
+/// Removes the file that listening made.
+pub fn leave<H: Files>(rt: &H, file: Option<SocketFile>) {
+    if let Some(file) = file {
+        file.remove(rt);
     }
 }
 
-fn bind<H: Files + Net<Listener = TcpListener, Stream = TcpStream>>(
+fn bind<H: Files<File = File> + Net<Listener = TcpListener, Stream = TcpStream>>(
     rt: &H,
+    alloc: Global,
     address: &str,
-) -> io::Result<Listener> {
+) -> io::Result<(Listener, Option<SocketFile>)> {
     if is_path(address) {
-        Ok(Listener::Unix(bind_path(rt, address)?))
+        let (listener, file) = SocketFile::listen(rt, alloc, address)?;
+        Ok((Listener::Unix(listener), Some(file)))
     } else {
-        Ok(Listener::Tcp(TcpListener::bind(rt, address)?))
+        Ok((Listener::Tcp(TcpListener::bind(rt, address)?), None))
     }
 }
 
@@ -96,29 +104,5 @@ fn is_port_open(address: &str) -> bool {
     match address.rsplit_once(':') {
         Some((_, port)) => port.parse::<u16>() == Ok(0),
         None => false,
-    }
-}
-
-fn bind_path<H: Files + Net>(rt: &H, path: &str) -> io::Result<UnixListener> {
-    match UnixListener::bind(rt, path) {
-        Err(error) if error.kind() == ErrorKind::AddrInUse && is_left_behind(rt, path) => {
-            fs::remove_file(rt, path)?;
-            UnixListener::bind(rt, path)
-        }
-        bound => bound,
-    }
-}
-
-// Whether the file is a socket at which nobody listens.
-fn is_left_behind<H: Files + Net>(rt: &H, path: &str) -> bool {
-    let Ok(found) = fs::symlink_metadata(rt, path) else {
-        return false;
-    };
-    if !found.file_type().is_socket() {
-        return false;
-    }
-    match UnixStream::connect(rt, path) {
-        Ok(_) => false,
-        Err(error) => error.kind() == ErrorKind::ConnectionRefused,
     }
 }

@@ -1,16 +1,37 @@
-//! The logs and records that a server leaves.
+//! The records and logs that a server leaves.
 ghost use Rattle.std.specs.Prelude.{IsTrue};
 
+use crate::drafts::Draft;
 use can_bus::Record;
 use can_station::Settled;
-use canbusd_faults::{Failure, Fault, Telling};
-use canbusd_files::{save_log, save_record};
+use canbusd_faults::{Failure, Fault, Shown, Telling};
+use canbusd_files::{save_log_at, save_record_at};
 use canbusd_options::BusWord;
-use std::alloc::{AllocError, Global};
+use std::alloc::Global;
 use std::io::Write;
 use std::rt::Files;
 
-/// Writes the log and the record of each bus into a folder. A fault ends its file alone.
+/// Looks whether the folder takes the record of the first bus, and notes it where it does not. It may do so at the end.
+pub fn look_at_folder<H: Files, E: Write>(
+    rt: &H,
+    alloc: Global,
+    folder: &str,
+    buses: &[BusWord<'_>],
+    errors: &mut E,
+) {
+    let Some(bus) = buses.first() else {
+        return;
+    };
+    let Ok(draft) = Draft::new(rt, alloc, folder, bus.first_name(), "rec") else {
+        return;
+    };
+    if let Err(error) = draft.look(rt) {
+        let path = Shown::whole(draft.path());
+        let _ = writeln!(errors, "note: {path} can't be written now: {error}");
+    }
+}
+
+/// Writes the record and the log of each bus into a folder. A fault ends its file alone.
 pub fn save_all<H: Files, E: Write>(
     rt: &H,
     alloc: Global,
@@ -38,17 +59,15 @@ fn save_bus<H: Files, E: Write>(
 {
     let name = bus.first_name();
     match (
-        path_in(alloc, folder, name, "log"),
-        path_in(alloc, folder, name, "rec"),
+        Draft::new(rt, alloc, folder, name, "rec"),
+        Draft::new(rt, alloc, folder, name, "log"),
     ) {
-        (Ok(log), Ok(rec)) => {
-            telling.pass_on(save_log(rt, alloc, &log, *bus, record));
-            telling.pass_on(save_record(rt, alloc, &rec, record));
+        (Ok(rec), Ok(log)) => {
+            let saved = save_record_at(rt, alloc, rec.path(), rec.draft(), record);
+            telling.pass_on(rec.keep(rt, alloc, saved));
+            let saved = save_log_at(rt, alloc, log.path(), log.draft(), *bus, record);
+            telling.pass_on(log.keep_part(rt, alloc, saved));
         }
         _ => telling.pass_on(Err(Failure::new(alloc, Fault::NoMemory))),
     }
-}
-
-fn path_in(alloc: Global, folder: &str, name: &str, kind: &str) -> Result<String, AllocError> {
-    format!(in alloc; "{folder}/{name}.{kind}")
 }

@@ -6,7 +6,7 @@ ghost use Rattle.canbusd_serve.specs.Served.{AreBenches, IsBenchOf, IsLegalEnd, 
 use crate::buses_notes::buses_note;
 use crate::hosts::Host;
 use crate::listening::{Listening, leave, listen, listen_failure};
-use crate::serve_files::save_all;
+use crate::serve_files::{look_at_folder, save_all};
 use can_bus::BusFault;
 use can_meter::MeterName;
 use can_roll::RollName;
@@ -17,18 +17,20 @@ use canbusd_faults::{Failure, Fault, Telling, fixed_note};
 use canbusd_files::{INPUT, OUTPUT, Source, bus_config, read_names, read_source, write_failure};
 use canbusd_options::{BusWord, ServeOptions};
 use std::alloc::Global;
+use std::fs::File;
 use std::io::{ErrorKind, Read, Write};
 use std::marker::Brand;
 use std::net::{Net, Shutdown, TcpListener, TcpStream};
 use std::os::unix::net::UnixStream;
 use std::rt::Files;
+use std::sync::atomic::{AtomicBool, Ordering};
 use std::sync::{Mutex, Wait};
 use std::thread;
 use std::thread::Threads;
 use std::time::Clock;
 
 /// What a server takes of the system: files, the clock, threads and sockets.
-pub trait ServerRuntime: Files
+pub trait ServerRuntime: Files<File = File>
     + Clock
     + Threads
     + Wait
@@ -36,16 +38,21 @@ pub trait ServerRuntime: Files
     + Sync {}
 
 impl<
-    R: Files + Clock + Threads + Wait + Net<Listener = TcpListener, Stream = TcpStream> + Sync,
+    R: Files<File = File>
+        + Clock
+        + Threads
+        + Wait
+        + Net<Listener = TcpListener, Stream = TcpStream>
+        + Sync,
 > ServerRuntime for R {}
 
 /// Serves the buses that the options describe until their sessions have come and ended, or, where that is asked for,
 /// until the input has ended. It puts out where it listens, and at the end how many entries the record of each bus
-/// has; then it writes the logs and records. Answers whether all of that was written: each fault of it is told among
-/// the errors, as is a bus whose record is full.
+/// has; then it writes the records and logs. Returns whether all of that was written and each bus kept its driver: each
+/// fault is told among the errors, as is a bus whose record is full.
 ///
-/// Bus by bus the names are looked at first, then the script; then the limits of the buses, and then it listens. The
-/// input is read only where its end is asked for.
+/// Bus by bus the names are looked at first, then the script; then the limits of the buses, and then it listens. A
+/// folder that takes no files is noted before anybody can connect. The input is read only where its end is asked for.
 pub fn run_serve<'a, H: ServerRuntime, R: Read + Drop + Send + 'static, W: Write, E: Write + Send>(
     rt: &H,
     alloc: Global,
@@ -56,13 +63,21 @@ pub fn run_serve<'a, H: ServerRuntime, R: Read + Drop + Send + 'static, W: Write
 ) -> Result<bool, Failure<'a>>
     ensures { IfOk result (λ whole. IsTrue whole → IsServed W.contents options.now output.old output.new) }
 {
-    let run = ServerRun { rt, alloc, options };
+    let run = ServerRun {
+        rt,
+        alloc,
+        options,
+        has_lost: AtomicBool::new(false),
+    };
     let benches = run.read_benches()?;
     let settled = run.serve_named::<Brand, _, _, _>(benches, input, output, errors)?;
     let mut telling = Telling::new(errors);
     telling.pass_on(put_ends(alloc, &options.buses, &settled, output));
     if let Some(folder) = options.folder {
         save_all(rt, alloc, folder, &options.buses, &settled, &mut telling);
+    }
+    if run.has_lost.load(Ordering::SeqCst) {
+        return Ok(false);
     }
     Ok(!telling.has_told())
 }
@@ -73,6 +88,8 @@ struct ServerRun<'r, 'a, H: ServerRuntime> {
     rt: &'r H,
     alloc: Global,
     options: &'r ServeOptions<'a>,
+    // Whether a bus has lost its driver, which was told.
+    has_lost: AtomicBool,
 }
 
 impl<'r, 'a, H: ServerRuntime> ServerRun<'r, 'a, H> {
@@ -178,39 +195,59 @@ impl<'r, 'a, H: ServerRuntime> ServerRun<'r, 'a, H> {
     {
         let address = self.options.address;
         let sessions = self.options.sessions;
-        let Listening { door, heard } = listen(self.rt, self.alloc, address, sessions)?;
-        let served = match put_listening(self.alloc, &heard, output) {
-            Ok(()) => self.serve_door(hub, door, input, errors),
-            Err(failure) => Err(failure),
-        };
-        leave(self.rt, address);
+        let listening = listen(self.rt, self.alloc, address, sessions)?;
+        let Listening { doors, heard, file } = listening;
+        let served = self.serve_doors(hub, &doors, &heard, input, output, errors);
+        leave(self.rt, file);
         served
     }
 
-    fn serve_door<
+    // Looks at what the server needs besides, puts out where it listens, and serves: the passes of each bus.
+    fn serve_doors<
         N: RollName + MeterName + Send + Sync,
         R: Read + Drop + Send + 'static,
+        W: Write,
         E: Write + Send,
     >(
         &self,
         hub: &Hub<N, Source, Open>,
-        door: Door,
+        doors: &[Door],
+        heard: &str,
         input: R,
+        output: &mut W,
         errors: &mut E,
     ) -> Result<Vec<Vec<Pass<N>>>, Failure<'a>>
-        ensures { IfOk result (λ passes. length passes.items ≡ length hub.now) }
+        ensures passes { IfOk result (λ passes. length passes.items ≡ length hub.now) }
+        ensures listening { OnOk result (IsListening W.contents output.old output.new) }
     {
         let until = if self.options.is_until_eof {
             Some(self.end_of(input)?)
         } else {
             None
         };
+        if let Some(folder) = self.options.folder {
+            look_at_folder(self.rt, self.alloc, folder, &self.options.buses, errors);
+        }
+        put_listening(self.alloc, heard, output)?;
+        self.serve_until(hub, doors, until, errors)
+    }
+
+    fn serve_until<N: RollName + MeterName + Send + Sync, E: Write + Send>(
+        &self,
+        hub: &Hub<N, Source, Open>,
+        doors: &[Door],
+        until: Option<UnixStream>,
+        errors: &mut E,
+    ) -> Result<Vec<Vec<Pass<N>>>, Failure<'a>>
+        ensures { IfOk result (λ passes. length passes.items ≡ length hub.now) }
+    {
         let host = Host {
             rt: self.rt,
             buses: &self.options.buses,
             errors: Mutex::new(errors),
+            has_lost: &self.has_lost,
         };
-        match serve(self.rt, self.alloc, hub, &[door], &host, until.as_ref()) {
+        match serve(self.rt, self.alloc, hub, doors, &host, until.as_ref()) {
             Ok(passes) => Ok(passes),
             Err(_) => Err(Failure::new(self.alloc, Fault::NoMemory)),
         }

@@ -49,7 +49,11 @@ fn changed(rt: &impl AllocGlobal, from: &str, to: &str) -> Result<String, Fail> 
 fn the_first_wrong_entry_is_told_where_all_lines_are_good(rt: HostRuntime) -> Result<(), Fail> {
     let text = changed(&rt, "done 0002", "done 0000")?;
     match audit_by_lines(&rt, text.as_bytes()) {
-        Err(TextFault::Wrong(wrong)) => same(&rt, (wrong.place, wrong.limit), (3, 100)),
+        Err(TextFault::Wrong(wrong)) => {
+            same(&rt, (wrong.place, wrong.limit), (3, 100));
+            let told = format!(in rt.alloc(); "{wrong}")?;
+            same(&rt, told.as_str(), "entry 3: wrong");
+        }
         _ => return Err(Fail::from("no wrong entry")),
     }
     let text = changed(&rt, "10 100", "10 6")?;

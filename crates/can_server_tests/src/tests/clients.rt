@@ -3,7 +3,7 @@
 ghost use Rattle.std.specs.Prelude.{◌≡◌, length};
 
 use super::*;
-use can_serving::{Conn, Door, Listener, Watch, serve};
+use can_serving::{Conn, Door, Listener, serve};
 use can_station::Settled;
 use std::io::Write;
 use std::net::{Net, TcpListener, TcpStream};
@@ -54,9 +54,7 @@ impl can_serving::Clock for Host {
     fn now(&self) -> Moment {
         self.moment
     }
-}
 
-impl Watch for Host {
     fn bus_is_full(&self, _bus: usize) {
         self.told.fetch_add(1, Ordering::SeqCst);
     }
@@ -233,7 +231,7 @@ where
     passes
 }
 
-/// What each bus leaves.
+/// What each bus leaves. All of its passes were handed back.
 pub fn settled<N, F, G, R>(
     rt: &R,
     alloc: Global,
@@ -247,9 +245,16 @@ where
     R: Machine,
 {
     assert!(rt; passes.len() == hub.count());
+    let mut counts = Vec::new(alloc);
+    for own in &passes {
+        assert!(rt; counts.push(own.len()).is_ok());
+    }
     let Ok(buses) = hub.settle(rt, alloc, passes) else {
         panic!(rt; "not settled");
     };
+    for (bus, count) in buses.iter().zip(&counts) {
+        assert!(rt; bus.passes as usize == *count);
+    }
     buses
 }
 

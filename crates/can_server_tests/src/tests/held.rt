@@ -8,8 +8,9 @@ use super::*;
 use can_station::Point;
 use std::marker::Brand;
 use std::sync::atomic::{AtomicBool, AtomicU64, Ordering};
+use std::thread;
 use std::thread::join;
-use std::time::Clock;
+use std::time::{Clock, Duration};
 
 /// What a gate and its test tell each other: how often a thread was held, how often it was let go, and whether the gate
 /// gave up waiting.
@@ -215,4 +216,83 @@ fn two_sessions_are_served_at_once(rt: HostRuntime) {
     let names = names(&rt, alloc, "can0,can1");
     let benches = one(&rt, alloc, held_bench(&rt, alloc, names, Perfect, gate));
     sessions_meet::<Brand, _>(&rt, alloc, benches, Entrance::new(&rt, 2), &signals);
+}
+
+/// How long the first step is held, in milliseconds.
+const HELD_MS: u32 = 200;
+
+/// Holds the first step for a while, and sees whether a call of the same bus is answered meanwhile.
+#[derive(Drop)]
+struct Watching<'s, C: Clock> {
+    clock: &'s C,
+    signals: &'s Signals,
+}
+
+impl<C: Clock> Gate for Watching<'_, C> {
+    fn at(&self, point: Point) {
+        let signals = self.signals;
+        let steps = &signals.held;
+        let answers = &signals.let_go;
+        if point == Point::AfterReply && steps.load(Ordering::SeqCst) > 0 {
+            answers.fetch_add(1, Ordering::SeqCst);
+        }
+        if point == Point::InStep && steps.fetch_add(1, Ordering::SeqCst) == 0 {
+            for _ in 0..HELD_MS {
+                thread::sleep(self.clock, Duration::from_millis(1));
+            }
+            let came_between = answers.load(Ordering::SeqCst) > 0;
+            signals.late.store(came_between, Ordering::SeqCst);
+        }
+    }
+}
+
+/// While the first step is held the other client asks for something that takes the lock.
+fn ask_meanwhile<R: Machine>(
+    rt: &R,
+    signals: &Signals,
+    mut first: Client<'_, R>,
+    mut second: Client<'_, R>,
+) {
+    first.ask("< open can0 >< rawmode >", "< hi >< ok >< ok >");
+    second.hear("< hi >");
+    first.say("< send 123 0 >");
+    assert!(rt; reaches(rt, &signals.held, 1));
+    second.ask("< open can1 >", "< ok >");
+}
+
+/// A server of one bus whose first step is held.
+fn step_has_the_lock<N: RollName + MeterName + Send + Sync, R: Machine>(
+    rt: &R,
+    alloc: Global,
+    benches: Vec<Bench<Perfect, Watching<'_, R>>>,
+    entrance: Entrance,
+    signals: &Signals,
+)
+    requires { NamedFrom N.roll N.meter 0 benches.items }
+{
+    let hub = made::<N, _, _, _>(rt, alloc, benches);
+    let host = Host::new(rt);
+    let (first, second) = (entrance.admit(rt, alloc), entrance.admit(rt, alloc));
+    let doors = entrance.into_doors(rt, alloc);
+    let (passes, ()) = join(
+        rt,
+        || serves(rt, alloc, &hub, &doors, &host, None),
+        || ask_meanwhile(rt, signals, first, second),
+    );
+    assert!(rt; !signals.late.load(Ordering::SeqCst));
+    assert!(rt; settled(rt, alloc, hub, passes).len() == 1);
+}
+
+/// A step that asks its gate before it takes the lock would let the call in.
+#[test]
+fn no_call_is_answered_within_a_step(rt: HostRuntime) {
+    let alloc = rt.alloc();
+    let signals = Signals::new();
+    let gate = Watching {
+        clock: &rt,
+        signals: &signals,
+    };
+    let names = names(&rt, alloc, "can0,can1");
+    let benches = one(&rt, alloc, held_bench(&rt, alloc, names, Perfect, gate));
+    step_has_the_lock::<Brand, _>(&rt, alloc, benches, Entrance::new(&rt, 2), &signals);
 }

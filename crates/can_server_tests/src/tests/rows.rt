@@ -10,6 +10,7 @@ use can_logfile::write_tape;
 use can_test_streams::Output;
 use std::marker::Brand;
 use std::thread::join;
+use std::time::{Duration, Instant};
 use std::{env, fs, io, process};
 
 /// The first client sends once the second listens.
@@ -72,4 +73,52 @@ fn a_frame_crosses_a_server_over_a_unix_path(rt: HostRuntime) -> io::Result<()> 
     let wanted = "(0000000023.424242) can0 123#11223344\n";
     assert!(&rt; log(&rt, alloc, &record).as_slice() == wanted.as_bytes());
     Ok(())
+}
+
+/// How many milliseconds a driver sleeps after each step.
+const PACE_MS: u32 = 100;
+
+/// Two frames that were sent in one piece, and how long it takes until both are there.
+fn time_two<R: Machine>(rt: &R, mut first: Client<'_, R>, mut second: Client<'_, R>) -> Duration {
+    second.ask("< open can1 >< rawmode >", "< hi >< ok >< ok >");
+    first.ask("< open can0 >< rawmode >", "< hi >< ok >< ok >");
+    let Ok(before) = Instant::now(rt) else {
+        panic!(rt; "no clock");
+    };
+    first.say("< send 123 0 >< send 124 0 >");
+    second.hear("< frame 123 23.424242  >< frame 124 23.424242  >");
+    let Ok(taken) = before.elapsed(rt) else {
+        panic!(rt; "no clock");
+    };
+    taken
+}
+
+fn keeps_pace<N: RollName + MeterName + Send + Sync, R: Machine>(
+    rt: &R,
+    alloc: Global,
+    benches: Vec<Bench<Perfect, Open>>,
+    entrance: Entrance,
+)
+    requires { NamedFrom N.roll N.meter 0 benches.items }
+{
+    let hub = made::<N, _, _, _>(rt, alloc, benches);
+    let host = Host::new(rt);
+    let (first, second) = (entrance.admit(rt, alloc), entrance.admit(rt, alloc));
+    let doors = entrance.into_doors(rt, alloc);
+    let (passes, taken) = join(
+        rt,
+        || serves(rt, alloc, &hub, &doors, &host, None),
+        || time_two(rt, first, second),
+    );
+    assert!(rt; taken >= Duration::from_millis(u64::from(PACE_MS)));
+    assert!(rt; settled(rt, alloc, hub, passes).len() == 1);
+}
+
+#[test]
+fn a_driver_rests_after_each_step(rt: HostRuntime) {
+    let alloc = rt.alloc();
+    let mut bench = bench(&rt, alloc, names(&rt, alloc, "can0,can1"));
+    bench.pace_ms = PACE_MS;
+    let benches = one(&rt, alloc, bench);
+    keeps_pace::<Brand, _>(&rt, alloc, benches, Entrance::new(&rt, 2));
 }

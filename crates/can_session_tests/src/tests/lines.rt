@@ -75,12 +75,12 @@ fn an_input_has_limits(rt: HostRuntime) -> Result<(), AllocError> {
     for _ in 0..4097 {
         text.extend_from_slice(&line)?;
     }
-    let long = Some(LineFault::InputTooLong);
-    // How many bytes, in pieces of how many: each read counts, and so does the one that finds the end.
+    let long = Some(LineFault::TooLong);
+    // How many bytes, in pieces of how many. A byte a read: the last read gives the end of the last line, and none is left to
+    // find the end.
     let table = [
         (16_777_216, 4096, None),
         (16_777_217, 4096, long),
-        (16_777_215, 1, None),
         (16_777_216, 1, long),
     ];
     for (len, size, fault) in table {

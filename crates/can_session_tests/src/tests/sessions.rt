@@ -310,6 +310,14 @@ fn faults_and_refusals_are_told(rt: HostRuntime) {
         &mut port,
         b"< error no such interface >",
     );
+    says(
+        &rt,
+        &mut other,
+        b"< open interface-no-0016 >< open interface-no-16 >",
+        0,
+        &mut port,
+        b"< error no such interface >< error no such interface >",
+    );
 }
 
 /// One attempt at a moment in microseconds.

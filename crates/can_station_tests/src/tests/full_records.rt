@@ -5,6 +5,7 @@ ghost use Rattle.std.specs.Prelude.{◌≡◌, ◌≤◌};
 use super::*;
 use can_bus::{IfaceStats, Refusal, SocketStats};
 use can_fault::Perfect;
+use can_filter::FilterSet;
 use can_station::Open;
 use std::marker::Brand;
 use std::test::Fail;
@@ -35,7 +36,7 @@ fn one_caller<N: RollName + MeterName, R: Wait + Abort>(rt: &R, alloc: Global, b
 {
     let station = made::<N, _, _, _>(rt, alloc, blanks, 0, small(), Perfect, Open);
     let mut caller = entered(rt, alloc, &station);
-    let socket = caller.open(0, 4);
+    let socket = caller.open(0, 65_536);
     assert!(rt; caller.send(socket, 0x123) == Ok(0));
     assert!(rt; matches!(caller.step(1), Ok(Attempt::Tried(_))));
     let before = counts(&caller);
@@ -70,11 +71,22 @@ fn count_if_refused<N: RollName + MeterName, R: Wait + Abort>(
     refused
 }
 
-/// A step finds the record full, and so does an attempt.
+/// A step and each of the eight calls find the record full.
 fn finds_it_full<N: RollName + MeterName, R: Wait + Abort>(mut caller: Party<'_, N, R>) {
-    assert!(caller.rt; caller.step(1) == Err(FULL));
-    assert!(caller.rt; caller.attempt(2, Verdict::Good) == Err(FULL));
-    assert!(caller.rt; caller.calls() == 0);
+    let (rt, alloc, station) = (caller.rt, caller.alloc, caller.station);
+    let socket = SocketId(0);
+    assert!(rt; caller.step(1) == Err(FULL));
+    assert!(rt; caller.attempt(2, Verdict::Good) == Err(FULL));
+    assert!(rt; caller.send(socket, 0x123) == Err(FULL));
+    assert!(rt; caller.receive(socket) == Err(FULL));
+    assert!(rt; caller.set_option(socket, Opt::Join(true)) == Err(FULL));
+    assert!(rt; caller.restart(0, 3) == Err(FULL));
+    assert!(rt; caller.close(socket) == Err(FULL));
+    let pass = &mut caller.pass;
+    let none = FilterSet::none(alloc);
+    assert!(rt; station.set_filters(rt, alloc, pass, socket, &none) == Err(FULL));
+    assert!(rt; station.open(rt, alloc, pass, iface(rt, 0), 4) == Err(FULL));
+    assert!(rt; caller.calls() == 0);
 }
 
 /// After an open four sends of two threads: whichever come fourth and fifth find the record full.

@@ -98,6 +98,30 @@ fn strange_gauge<N: RollName + MeterName, R: Wait + Abort>(
     assert!(rt; matches!(outcome, Err(WrongStation)));
 }
 
+/// A gauge, and another after it, of a station with this number.
+fn two_gauges<N: RollName + MeterName, R: Wait + Abort>(
+    rt: &R,
+    alloc: Global,
+    number: u8,
+    blanks: Blanks,
+)
+    requires { (blanks.roll ≡ N.roll number) × (blanks.meter ≡ N.meter number) }
+{
+    let station = made::<N, _, _, _>(rt, alloc, blanks, number, config(), Perfect, Open);
+    let gauges = two(rt, alloc, gauge(rt, &station), gauge(rt, &station));
+    let settled = settled(rt, station, Vec::new(alloc), gauges);
+    assert!(rt; settled.history.is_empty());
+}
+
+#[test]
+fn a_gauge_is_had_of_each_of_16_stations(rt: HostRuntime) -> Result<(), Fail> {
+    for number in 0..16u8 {
+        let blanks = Blanks::new(rt.alloc(), 2)?;
+        two_gauges::<Brand, _>(&rt, rt.alloc(), number, blanks);
+    }
+    Ok(())
+}
+
 #[test]
 fn a_gauge_reads_the_counters(rt: HostRuntime) -> Result<(), Fail> {
     let blanks = Blanks::new(rt.alloc(), 2)?;

@@ -66,6 +66,7 @@ fn event_at<R: Abort>(rt: &R, alloc: Global, turn: u64, run: Run) -> Event {
         150 | 151 => Event::Close(SocketId(1)),
         152 => Event::Open(iface(rt, 1), 70_000),
         153 => Event::Open(iface(rt, 5), 2),
+        154 => Event::Open(iface(rt, 1), 0),
         _ => usual_event(rt, turn),
     }
 }

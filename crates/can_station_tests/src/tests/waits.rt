@@ -139,6 +139,20 @@ fn goes_off<N: RollName + MeterName, R: Wait + Abort>(
     }
 }
 
+/// After a stop a driver still gets the frames that wait, and then is told the end.
+fn drives_to_the_end<N: RollName + MeterName, R: Wait + Abort>(mut caller: Party<'_, N, R>) {
+    let (rt, station) = (caller.rt, caller.station);
+    let socket = caller.open(0, 4);
+    assert!(rt; caller.send(socket, 0x123) == Ok(0));
+    let Some(hold) = station.hold_work(rt) else {
+        panic!(rt; "no work");
+    };
+    assert!(rt; hold.has_work());
+    drop(hold);
+    assert!(rt; matches!(caller.step(1), Ok(Attempt::Tried(_))));
+    assert!(rt; station.hold_work(rt).is_none());
+}
+
 /// A stop ends a wait for frames to send.
 fn stop_wakes<N: RollName + MeterName + Send + Sync, R: Threads + Wait + Abort + Clock + Sync>(
     rt: &R,
@@ -151,6 +165,7 @@ fn stop_wakes<N: RollName + MeterName + Send + Sync, R: Threads + Wait + Abort +
     let station = made::<N, _, _, _>(rt, alloc, blanks, 0, config(), faults, Open);
     let mut caller = entered(rt, alloc, &station);
     assert!(rt; woken(rt, &mut caller, Awaited::Work, Act::Stop) == Wake::Stopped);
+    drives_to_the_end(caller);
 }
 
 #[test]

@@ -37,8 +37,10 @@ fn each_of_many_filters_counts(rt: HostRuntime) -> Result<(), Fail> {
         let mut filters = vec![in rt.alloc(); filter; 11]?;
         filters[place] = other;
         let set = FilterSet::from_slice(rt.alloc(), &filters)?;
-        same_at(&rt, place, set.passes(0x124, false), true);
-        same_at(&rt, place, set.passes(0x123, true), false);
+        for set in [&set, &set.try_compile(rt.alloc())?] {
+            same_at(&rt, place, set.passes(0x124, false), true);
+            same_at(&rt, place, set.passes(0x123, true), false);
+        }
     }
     Ok(())
 }
@@ -52,7 +54,7 @@ fn filters_of_one_identifier_stand_beside_others(rt: HostRuntime) -> Result<(), 
         Filter::new(0x2000_0200, 0x700)?,
     ];
     let set = FilterSet::from_slice(rt.alloc(), &list)?;
-    let copy = set.try_copy(rt.alloc())?;
+    let compiled = set.try_compile(rt.alloc())?;
     let rows = [
         (0x123, true),
         (0x8000_0123, true),
@@ -62,13 +64,10 @@ fn filters_of_one_identifier_stand_beside_others(rt: HostRuntime) -> Result<(), 
         (0x4000_0200, false),
     ];
     for (word, want) in rows {
-        same_at(
-            &rt,
-            word,
-            (set.passes(word, false), set.passes(word, true)),
-            (want, false),
-        );
-        same_at(&rt, word, copy.passes(word, false), want);
+        for set in [&set, &compiled] {
+            let passes = (set.passes(word, false), set.passes(word, true));
+            same_at(&rt, word, passes, (want, false));
+        }
     }
     Ok(())
 }
@@ -81,7 +80,7 @@ fn many_identifiers_are_each_found(rt: HostRuntime) -> Result<(), Fail> {
         list.push(Filter::new(0x7FF - 2 * place, 0xC000_07FF)?)?;
         list.push(Filter::new(0x9FFF_FFFF - 2 * place, 0xDFFF_FFFF)?)?;
     }
-    let set = FilterSet::from_slice(rt.alloc(), &list)?;
+    let set = FilterSet::from_slice(rt.alloc(), &list)?.try_compile(rt.alloc())?;
     for place in 0..256u32 {
         let (standard, extended) = (0x7FF - 2 * place, 0x9FFF_FFFF - 2 * place);
         same_at(
@@ -116,8 +115,26 @@ fn a_set_has_at_most_512_filters(rt: HostRuntime) -> Result<(), Fail> {
     let most = FilterSet::from_slice(rt.alloc(), &many[..512])?;
     same(&rt, most.filters().len(), 512);
     same(&rt, most.try_copy(rt.alloc())?.filters().len(), 512);
+    same(&rt, most.try_compile(rt.alloc())?, most);
     let over = FilterSet::from_slice(rt.alloc(), &many);
     same(&rt, over.err(), Some(FilterError::TooManyFilters));
+    Ok(())
+}
+
+#[test]
+fn sets_of_the_same_filters_are_equal(rt: HostRuntime) -> Result<(), Fail> {
+    let (one, other) = (Filter::new(1, 2)?, Filter::new(1, 3)?);
+    let set = FilterSet::from_slice(rt.alloc(), &[one, other])?;
+    let wants = [
+        (FilterSet::from_slice(rt.alloc(), &[one, other])?, true),
+        (FilterSet::from_slice(rt.alloc(), &[other, one])?, false),
+        (FilterSet::from_slice(rt.alloc(), &[one, one])?, false),
+        (FilterSet::from_slice(rt.alloc(), &[one])?, false),
+        (FilterSet::none(rt.alloc()), false),
+    ];
+    for (of, want) in &wants {
+        same(&rt, set == *of, *want);
+    }
     Ok(())
 }
 

@@ -107,7 +107,11 @@ fn faults_are_told_in_their_order(rt: HostRuntime) {
         };
         match Command::read(rt.alloc(), mode, message) {
             Ok(_) => panic!(rt; "read"),
-            Err(told) => same_at(&rt, text, told, fault),
+            Err(told) => {
+                same_at(&rt, text, told, fault);
+                let shown = format!(in rt.alloc(); "{told}").expect(&rt, "memory");
+                same(&rt, shown.as_bytes(), Cause::from(told).text());
+            }
         }
     }
 }

@@ -41,6 +41,9 @@ fn reads_command_lines(rt: HostRuntime) -> Result<(), Fail> {
         "canbusd bench --report=1 can0",
         "canbusd bench --record",
         "canbusd bench --log",
+        "canbusd bench --record run.rec --log run.rec can0",
+        "canbusd bench --record run.rec --log ./run.rec can0",
+        "canbusd bench --log=/a/./b --record=//a//b can0",
         "canbusd serve --sessions 0 can0",
         "canbusd serve --sessions 4001 can0",
         "canbusd serve --sessions +5 can0",
@@ -64,6 +67,38 @@ fn reads_command_lines(rt: HostRuntime) -> Result<(), Fail> {
     ];
     for line in faulty {
         tells(&rt, alloc, line, ("", "error: ", 2))?;
+    }
+    // Words that are taken: what is told is of the bus.
+    let taken = [
+        "canbusd bench --record run.rec --log /run.rec can0,can0",
+        "canbusd bench --record run.rec --log a/run.rec can0,can0",
+        "canbusd bench --record ../run.rec --log run.rec can0,can0",
+        "canbusd serve --pace 60000 can0,can0",
+        "canbusd serve --sessions 4000 can0,can0",
+    ];
+    for line in taken {
+        tells(&rt, alloc, line, ("", "canbusd: bad bus\n", 1))?;
+    }
+    let texts = [
+        (
+            "canbusd bench --txqueue ten can0",
+            "error: invalid value 'ten' for '--txqueue': not a number from 1 to 1024 in decimal digits\n",
+        ),
+        (
+            "canbusd serve --auto-restart 0.5 can0",
+            "error: invalid value '0.5' for '--auto-restart': not a number from 0 to 1000000 in decimal digits\n",
+        ),
+        (
+            "canbusd serve --pace 60001 can0",
+            "error: invalid value '60001' for '--pace': not a number from 0 to 60000 in decimal digits\n",
+        ),
+        (
+            "canbusd bench --record a --log ./a can0",
+            "error: invalid value './a' for '--log': --record names this file\n",
+        ),
+    ];
+    for (line, text) in texts {
+        tells(&rt, alloc, line, ("", text, 2))?;
     }
     let shown = [
         ("canbusd --version", "canbusd 0.1.0\n"),

@@ -100,7 +100,24 @@ fn writes_logs(rt: HostRuntime) -> Result<(), Fail> {
     let line = "canbusd bench --log none/run.log can0";
     let told =
         "canbusd: cannot open none/run.log\n  none/run.log: No such file or directory (os error 2)\n";
-    runs(&rt, alloc, line, b"".as_slice(), ("", told, 1))
+    runs(&rt, alloc, line, b"".as_slice(), ("", told, 1))?;
+    // A log never goes where the record is, which stays whole.
+    fs::write(&rt, "run.rec", b"old")?;
+    fs::hard_link(&rt, "run.rec", "run.log")?;
+    let line = "canbusd bench --record run.rec --log run.log can0";
+    let told = "canbusd: cannot open run.log\n  --record names this file too\n";
+    runs(
+        &rt,
+        alloc,
+        line,
+        b"attempt\n".as_slice(),
+        ("idle\n", told, 1),
+    )?;
+    let line = "canbusd audit run.log";
+    runs(&rt, alloc, line, b"".as_slice(), ("ok 1 entries\n", "", 0))?;
+    fs::remove_file(&rt, "run.log")?;
+    fs::remove_file(&rt, "run.rec")?;
+    Ok(())
 }
 
 #[test]
@@ -142,12 +159,17 @@ fn tells_what_is_wrong_with_records(rt: HostRuntime) -> Result<(), Fail> {
         (
             "end 7\n",
             "end 7",
-            "canbusd: line 10: bad line\n  damaged.rec:10: end 7\n  a line is EVENT = REPLY, and the last is end COUNT; each ends with LF\n",
+            "canbusd: line 10: bad line\n  damaged.rec:10: end 7\n  the text ends here, in a line without LF\n",
         ),
         (
             "end 7\n",
             "",
-            "canbusd: line 10: bad line\n  damaged.rec:10: \n  a line is EVENT = REPLY, and the last is end COUNT; each ends with LF\n",
+            "canbusd: line 10: bad line\n  damaged.rec:10: \n  the text ends here, before its line end COUNT\n",
+        ),
+        (
+            "record 1\n",
+            "record 1\r\n",
+            "canbusd: bad version\n  damaged.rec:1: canbus record 1?\n  this line ends with CR and LF: lines end with LF alone\n",
         ),
         // A line that cannot be read goes before an entry that is wrong.
         (

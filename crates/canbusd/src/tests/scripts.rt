@@ -114,7 +114,27 @@ fn tells_faults_of_scripts(rt: HostRuntime) -> Result<(), Fail> {
         (
             b"0 good\n5 local crc\n",
             "canbusd bench can0,can1@faulty.script",
-            "canbusd: script line 2: bad line\n  faulty.script:2: 5 local crc\n  VERDICT is good, lastbit, global bit, global form, local stuff NAMES, local crc NAMES or local form NAMES\n",
+            "canbusd: script line 2: bad line\n  faulty.script:2: 5 local crc\n  the names of the interfaces that see the fault are missing\n",
+        ),
+        (
+            b"0 local crc can0 can1",
+            "canbusd bench can0,can1@faulty.script",
+            "canbusd: script line 1: bad line\n  faulty.script:1: 0 local crc can0 can1\n  names of 1 to 15 bytes are joined by commas, without spaces\n",
+        ),
+        (
+            b"0 lastbit can0",
+            "canbusd bench can0,can1@faulty.script",
+            "canbusd: script line 1: bad line\n  faulty.script:1: 0 lastbit can0\n  nothing may follow good, lastbit, global bit and global form\n",
+        ),
+        (
+            b"0  lastbit",
+            "canbusd bench can0,can1@faulty.script",
+            "canbusd: script line 1: bad line\n  faulty.script:1: 0  lastbit\n  one space stands between two words\n",
+        ),
+        (
+            b"0 local bit can0",
+            "canbusd bench can0,can1@faulty.script",
+            "canbusd: script line 1: bad line\n  faulty.script:1: 0 local bit can0\n  VERDICT is good, lastbit, global bit, global form, local stuff NAMES, local crc NAMES or local form NAMES\n",
         ),
         (
             b"0 good\r\n",

@@ -121,14 +121,15 @@ fn tells_files_that_are_not_written(rt: HostRuntime) -> Result<(), Fail> {
     let _sockets: Sockets = None;
     let alloc = rt.alloc();
     let line = "canbusd serve --until-eof --out none --listen ./lost can0 can1";
-    let told = "canbusd: cannot open none/can0.log
-  none/can0.log: No such file or directory (os error 2)
+    let told = "note: none/can0.rec can't be written now: No such file or directory (os error 2)
 canbusd: cannot open none/can0.rec
   none/can0.rec: No such file or directory (os error 2)
-canbusd: cannot open none/can1.log
-  none/can1.log: No such file or directory (os error 2)
+canbusd: cannot open none/can0.log
+  none/can0.log: No such file or directory (os error 2)
 canbusd: cannot open none/can1.rec
   none/can1.rec: No such file or directory (os error 2)
+canbusd: cannot open none/can1.log
+  none/can1.log: No such file or directory (os error 2)
 ";
     let output = "listening ./lost\nbus can0 entries 0\nbus can1 entries 0\n";
     runs(&rt, alloc, line, NOTHING, (output, told, 1))?;
@@ -207,7 +208,7 @@ fn talk<R: Abort + ServerRuntime>(rt: &R) {
 fn serves_two_clients(rt: HostRuntime) -> Result<(), Fail> {
     let _sockets: Sockets = None;
     let alloc = rt.alloc();
-    let line = "canbusd serve --sessions 2 --out . --listen ./talk can0,can1";
+    let line = "canbusd serve --sessions 2 --out . --listen ./talk far0,far1 can0,can1";
     let (ended, ()) = thread::join(
         &rt,
         || {
@@ -221,7 +222,7 @@ fn serves_two_clients(rt: HostRuntime) -> Result<(), Fail> {
     );
     let ended = ended?;
     // Two sockets, a frame, its attempt and what the second socket receives of it, and both are closed.
-    let told = "listening ./talk\nbus can0 entries 7\n";
+    let told = "listening ./talk\nbus far0 entries 0\nbus can0 entries 7\n";
     same(&rt, ended.output.as_slice(), told.as_bytes());
     assert!(&rt; ended.errors.is_empty());
     same(&rt, ended.status, 0);
@@ -230,8 +231,13 @@ fn serves_two_clients(rt: HostRuntime) -> Result<(), Fail> {
     assert!(&rt; has_shape(log.as_bytes(), "(0000000000.000000) can0 123#11223344\n"));
     let legal = ("ok 7 entries\n", "", 0);
     runs(&rt, alloc, "canbusd audit ./can0.rec", NOTHING, legal)?;
-    fs::remove_file(&rt, "./can0.log")?;
-    fs::remove_file(&rt, "./can0.rec")?;
+    // The other bus has no traffic.
+    assert!(&rt; fs::read_to_string(&rt, "./far0.log")?.is_empty());
+    let legal = ("ok 0 entries\n", "", 0);
+    runs(&rt, alloc, "canbusd audit ./far0.rec", NOTHING, legal)?;
+    for path in ["./can0.log", "./can0.rec", "./far0.log", "./far0.rec"] {
+        fs::remove_file(&rt, path)?;
+    }
     Ok(())
 }
 

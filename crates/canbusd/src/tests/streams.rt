@@ -57,12 +57,13 @@ fn reads_files_in_so_many_reads(rt: HostRuntime) -> Result<(), Fail> {
         (3, false, "  f.rec: it is not read in 3 reads\n"),
         (9, true, "  f.rec: timed out\n"),
     ] {
-        let mut file = Pieces {
+        let file = Pieces {
             rest: b"abc",
             size: 1,
             is_broken,
         };
-        match read_text(alloc, "f.rec", &mut file, most_reads) {
+        let mut file = FewReads::new(alloc, file, most_reads);
+        match read_text(alloc, "f.rec", &mut file) {
             Ok(text) => {
                 same(&rt, text.as_str(), "abc");
                 assert!(rt; told.is_empty());

@@ -1,7 +1,8 @@
 use Rattle.std.proofs.Common.{◌++◌, Bool, Err, List, ℕ, subst, sym}
 use Rattle.can_record.specs.RecordFaults.{Reads}
 use Rattle.can_text_audit.specs.TextAudits.{AreTaken, IsLine, MayFollow}
-use Rattle.canbusd_audit.specs.Audited.{IsNextLine, IsOfReading}
+use Rattle.canbusd_files.specs.Files.{IsOfReading}
+use Rattle.canbusd_audit.specs.Audited.{IsNextLine}
 use Rattle.canbusd_audit.proofs.Underway.{fails_so, goes_on, stops}
 use Rattle.canbusd_audit.proofs.line_taking.take_lines.Goals as goal
 

@@ -1,4 +1,4 @@
-use Rattle.std.proofs.Common.{◌≡◌, not, Bool, true, false, length, IsTrue, ap, sym, subst, ◌∙◌, rules}
+use Rattle.std.proofs.Common.{◌≡◌, not, Bool, false, IsTrue, sym, subst, ◌∙◌, rules}
 use Rattle.can_server.proofs.Naming.{named}
 use Rattle.std.specs.Io.KnownBytes.{Appends}
 use Rattle.can_logfile.proofs.Growing.{Appends-then}

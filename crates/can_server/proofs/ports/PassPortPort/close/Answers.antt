@@ -9,4 +9,4 @@ pub returns : goal.returns
 returns g c =
     let now : EnteredSeen = record { number = c.entered.inside.station.now; gauge = c.entered.inside.gauge; pass = c.entered.inside.pass } in
     on_pass (λ x. reply.Closed x) c.args.self.now c.self.inside.hub.now c.self.inside.entered now c.close.new.pass (event.Close c.args.socket) c.close.result
-    c.pass_on.result c.self.view_is (c.in-Some.is ∙ ap Some (sym c.entered.view_is)) c.pass_on.ensures c.close.ensures
+    c.pass_on.result c.self.view_is (c.in-Some.is ∙ ap Some (sym c.entered.view_is)) c.pass_on.ensures c.close.ensures.called

@@ -9,4 +9,4 @@ pub returns : goal.returns
 returns g c =
     let now : EnteredSeen = record { number = c.entered.inside.station.now; gauge = c.entered.inside.gauge; pass = c.entered.inside.pass } in
     on_pass done_reply c.args.self.now c.self.inside.hub.now c.self.inside.entered now c.set_filters.new.pass (event.SetFilters c.args.socket c.args.filters.now) c.set_filters.result
-    c.pass_on.result c.self.view_is (c.in-Some.is ∙ ap Some (sym c.entered.view_is)) c.pass_on.ensures c.set_filters.ensures
+    c.pass_on.result c.self.view_is (c.in-Some.is ∙ ap Some (sym c.entered.view_is)) c.pass_on.ensures c.set_filters.ensures.called

@@ -12,4 +12,4 @@ returns-then-read-left-clause-err g c =
     let len : length c.truncate.new.self ≡ length held = ap length kept in
     let inside : c.self.inside.given + length held ≤ 16777216 = rw c.consume.ensures c.self.invariant.2.bytes in
     let one : c.in-Ok.read ≡ 1 = omega (arith, c.in-Ok.ensures.most, same, inside) in
-    rw (← c.self.view_is) (inr (overruns _ _ c.read_from.new.self c.in-Ok.read (rw c.consume.ensures at gains) one (kept ∙ c.consume.ensures) refl (omega (arith, c.in-Ok.ensures.most, same, inside, len))))
+    rw (← c.self.view_is) (inr (overruns _ _ c.read_from.new.self c.in-Ok.read (rw c.consume.ensures at gains) one (kept ∙ c.consume.ensures) refl refl (omega (arith, c.in-Ok.ensures.most, same, inside, len))))

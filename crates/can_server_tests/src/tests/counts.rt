@@ -1,0 +1,92 @@
+// What a session is told of its counts, and a piece whose calls take the lock by turns.
+
+ghost use Rattle.std.specs.Prelude.{◌≡◌};
+ghost use Rattle.can_server.specs.Benches.{NamedFrom};
+
+use super::*;
+use can_dialog::Session;
+use can_server::HeldPort;
+use can_test_streams::Output;
+use std::marker::Brand;
+
+/// A session over a pass, each of whose pieces goes through one held port, as a server's do.
+#[derive(Drop)]
+struct Talk<'a, N: RollName + MeterName, R: Wait> {
+    rt: &'a R,
+    session: Session,
+    port: PassPort<'a, N, Perfect, Open, R>,
+}
+
+impl<'a, N: RollName + MeterName, R: Wait + Abort> Talk<'a, N, R> {
+    /// A session over a hub that has just begun.
+    fn new(rt: &'a R, alloc: Global, hub: &'a Hub<N, Perfect, Open>) -> Talk<'a, N, R> {
+        let Ok(session) = Session::new(alloc, 16) else {
+            panic!(rt; "session");
+        };
+        let port = PassPort::new(rt, alloc, hub);
+        Talk { rt, session, port }
+    }
+
+    fn is_told(&mut self, alloc: Global, piece: &str, wanted: &str) {
+        let mut out = Output::new(alloc, 1_000);
+        let moment = moment(self.rt, 0);
+        let mut port = HeldPort::new(&mut self.port);
+        let fed = self
+            .session
+            .feed(alloc, piece.as_bytes(), moment, &mut port, &mut out);
+        drop(port);
+        assert!(self.rt; fed.is_ok());
+        let told = str::from_utf8(&out.text).unwrap_or("no text");
+        assert!(self.rt; told == wanted, "{told}");
+    }
+}
+
+/// Two sessions whose counts are all told: of items that are queued, dropped and taken, and of frames that are sent, done,
+/// waiting, lost and refused.
+fn counts<N: RollName + MeterName, R: Wait + Abort>(
+    rt: &R,
+    alloc: Global,
+    benches: Vec<Bench<Perfect, Open>>,
+)
+    requires { NamedFrom N.roll N.meter 0 benches.items }
+{
+    let hub = made::<N, _, _, _>(rt, alloc, benches);
+    let (mut first, mut second) = (Talk::new(rt, alloc, &hub), Talk::new(rt, alloc, &hub));
+    first.is_told(alloc, "< open can0 >< rawmode >", "< ok >< ok >");
+    second.is_told(alloc, "< open can1 >< rawmode >", "< ok >< ok >");
+    // Each call but a send and a receive needs the lock that the send before it has taken.
+    first.is_told(
+        alloc,
+        "< send 123 0 >< stats >< filter 0 >< errmask 0 >< send 123 0 >< restart >< stats >< send 123 0 >",
+        "< stats 0 0 0 1 0 1 0 0 >< ok >< ok >< error not bus off >< stats 0 0 0 2 0 2 0 0 >< error no buffers >",
+    );
+    let Some(station) = first.port.station() else {
+        panic!(rt; "station");
+    };
+    let Ok(mut driver) = station.enter(rt, alloc) else {
+        panic!(rt; "driver");
+    };
+    let moment = moment(rt, 0);
+    assert!(rt; station.step(rt, alloc, &mut driver, moment).is_ok());
+    assert!(rt; station.step(rt, alloc, &mut driver, moment).is_ok());
+    first.is_told(
+        alloc,
+        "< send 123 0 >< stats >",
+        "< stats 0 0 0 3 2 1 0 1 >",
+    );
+    second.is_told(alloc, "< stats >", "< stats 1 1 0 0 0 0 0 0 >");
+    let mut out = Output::new(alloc, 1_000);
+    assert!(rt; second.session.deliver(&mut second.port, &mut out) == Ok(true));
+    second.is_told(alloc, "< stats >", "< stats 1 1 1 0 0 0 0 0 >");
+    first.is_told(alloc, "< send 123 0 >< close >", "< closed 0 0 >");
+}
+
+#[test]
+fn a_session_is_told_its_counts_between_its_sends(rt: HostRuntime) {
+    let alloc = rt.alloc();
+    let mut bench = bench(&rt, alloc, names(&rt, alloc, "can0,can1"));
+    bench.config.tx_capacity = 2;
+    bench.rx_capacity = 1;
+    let benches = one(&rt, alloc, bench);
+    counts::<Brand, _>(&rt, alloc, benches);
+}

@@ -1,0 +1,30 @@
+use Rattle.std.proofs.Common.{◌≡◌, ℕ, Result, Ok, Err, subst, ◌∙◌, ap}
+use Rattle.can_event.specs.declared.events.Attempt.{Attempt}
+use Rattle.can_event.specs.declared.events.Reply.{Reply}
+use Rattle.can_event.specs.declared.events.Refusal.TheVariants as refusal
+use Rattle.can_bus.specs.Answer.{told_attempt}
+use Rattle.can_fault.specs.Sources.{VerdictMap}
+use Rattle.can_station.specs.Held.{Held}
+use Rattle.can_station.specs.Passes.{PassSeen, IsAnsweredIn, StepsIn, Stepped, Tells, next_attempt, pass_after}
+use Rattle.can_station.specs.declared.refusals.StationRefusal.{StationRefusal}
+use Rattle.can_station.specs.declared.refusals.StationRefusal.TheVariants as station
+
+-- A step that was carried out under the lock.
+
+module _ {F : Type 0} (verdicts : F → VerdictMap) (held : Held F) (number : ℕ) (old : PassSeen) (moment : ℕ) (new : PassSeen) (same : held.number ≡ number) (own : old.number ≡ number) where
+  steps : (r told : Reply) → r ≡ told → IsAnsweredIn held (next_attempt verdicts held moment) r → new ≡ pass_after (next_attempt verdicts held moment) r old → StepsIn verdicts number old moment told new
+  steps r told is answer kept = subst (λ (t : Reply). StepsIn verdicts number old moment t new) is (own, (held, same, (answer, kept)))
+
+  pub stepped : (outcome : Result Attempt StationRefusal) (r : Reply) → Tells told_attempt outcome r → IsAnsweredIn held (next_attempt verdicts held moment) r → new ≡ pass_after (next_attempt verdicts held moment) r old → Stepped verdicts number old moment outcome new
+  stepped (Ok a) r is answer kept = steps r (told_attempt a) is answer kept
+  stepped (Err (station.Bus refusal.RecordFull)) r is answer kept = steps r _ is answer kept
+  stepped (Err (station.Bus refusal.NoInterface)) r is answer kept = steps r _ is answer kept
+  stepped (Err (station.Bus refusal.BadCapacity)) r is answer kept = steps r _ is answer kept
+  stepped (Err (station.Bus refusal.TooManySockets)) r is answer kept = steps r _ is answer kept
+  stepped (Err (station.Bus refusal.NoSocket)) r is answer kept = steps r _ is answer kept
+  stepped (Err (station.Bus refusal.FdOff)) r is answer kept = steps r _ is answer kept
+  stepped (Err (station.Bus refusal.BusOff)) r is answer kept = steps r _ is answer kept
+  stepped (Err (station.Bus refusal.NoBuffers)) r is answer kept = steps r _ is answer kept
+  stepped (Err (station.Bus refusal.NotBusOff)) r is answer kept = steps r _ is answer kept
+  stepped (Err (station.Bus refusal.NoMemory)) r is answer kept = kept ∙ ap (λ (t : Reply). pass_after (next_attempt verdicts held moment) t old) is
+  stepped (Err station.WrongStation) r is answer kept = absurd is

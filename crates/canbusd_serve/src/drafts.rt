@@ -1,0 +1,117 @@
+//! Files that are written under another name, and get their own once they are whole. So what an earlier run left stays
+//! as it was until then.
+use canbusd_faults::{Failure, Fault, Shown, reason_note};
+use std::alloc::{AllocError, Global};
+use std::io::Error;
+use std::rt::Files;
+use std::{fs, io};
+
+/// A file of a folder, and where it is written: beside it with `.new` behind the name. Where something is there that is no
+/// plain file, as a device or a folder, it is written in place.
+#[derive(Drop)]
+pub struct Draft {
+    path: String,
+    draft: String,
+}
+
+impl Draft {
+    /// The file of a bus, by the bus's first name and the kind of file. Nothing is written.
+    pub fn new<H: Files>(
+        rt: &H,
+        alloc: Global,
+        folder: &str,
+        name: &str,
+        kind: &str,
+    ) -> Result<Draft, AllocError> {
+        let path = format!(in alloc; "{folder}/{name}.{kind}")?;
+        let is_plain = match fs::symlink_metadata(rt, &path) {
+            Ok(found) => found.is_file(),
+            Err(_) => true,
+        };
+        let end = if is_plain { ".new" } else { "" };
+        let draft = format!(in alloc; "{path}{end}")?;
+        Ok(Draft { path, draft })
+    }
+
+    /// The file's name.
+    pub fn path(&self) -> &str {
+        &self.path
+    }
+
+    /// Where it is written.
+    pub fn draft(&self) -> &str {
+        &self.draft
+    }
+
+    /// Makes the file where it is to be written, and removes it again, unless it is written in place.
+    pub fn look<H: Files>(&self, rt: &H) -> io::Result<()> {
+        if self.is_apart() {
+            let _ = fs::create(rt, &self.draft)?;
+            fs::remove_file(rt, &self.draft)?;
+        }
+        Ok(())
+    }
+
+    /// Gives a file that is whole its name, and removes any other.
+    pub fn keep<'a, H: Files>(
+        &'a self,
+        rt: &H,
+        alloc: Global,
+        saved: Result<(), Failure<'a>>,
+    ) -> Result<(), Failure<'a>> {
+        match saved {
+            Ok(()) => self.rename(rt, alloc),
+            Err(failure) => {
+                if self.is_apart() {
+                    let _ = fs::remove_file(rt, &self.draft);
+                }
+                Err(failure)
+            }
+        }
+    }
+
+    /// Gives a file its name, also where only the first part of it was written; unless another has that name already:
+    /// then the part stays where it was written.
+    pub fn keep_part<'a, H: Files>(
+        &'a self,
+        rt: &H,
+        alloc: Global,
+        saved: Result<(), Failure<'a>>,
+    ) -> Result<(), Failure<'a>> {
+        let Err(failure) = saved else {
+            return self.rename(rt, alloc);
+        };
+        if !self.is_apart() || !matches!(fs::exists(rt, &self.path), Ok(true)) {
+            let _ = self.rename(rt, alloc);
+            return Err(failure);
+        }
+        match self.part_note(alloc) {
+            Ok(note) => Err(failure.and(&note)),
+            Err(_) => Err(failure),
+        }
+    }
+
+    fn part_note(&self, alloc: Global) -> Result<String, AllocError> {
+        let (path, draft) = (Shown::whole(&self.path), Shown::whole(&self.draft));
+        format!(in alloc; "  what was written is in {draft}: the old file {path} stays as it is\n")
+    }
+
+    fn is_apart(&self) -> bool {
+        self.draft != self.path
+    }
+
+    fn rename<H: Files>(&self, rt: &H, alloc: Global) -> Result<(), Failure<'_>> {
+        if !self.is_apart() {
+            return Ok(());
+        }
+        fs::rename(rt, &self.draft, &self.path).map_err(|error| self.failure(alloc, &error))
+    }
+
+    fn failure(&self, alloc: Global, error: &Error) -> Failure<'_> {
+        Failure::with(
+            alloc,
+            Fault::CannotOpen(&self.path),
+            reason_note(alloc, &self.path, error),
+        )
+    }
+}

@@ -1,0 +1,140 @@
+//! The file of a Unix path where a server listens, which no other server can have at the same time.
+//!
+//! Beside the socket PATH a server locks the file PATH.lock, and removes both at its end. A server that was killed leaves
+//! them, unlocked, for the next one. Nobody connects to a server that holds the lock, to see whether it is alive.
+
+use std::alloc::{AllocError, Global};
+use std::fs::{File, Metadata, TryLockError};
+use std::io::{Error, ErrorKind};
+use std::net::Net;
+use std::os::unix::fs::{FileTypeExt, MetadataExt};
+use std::os::unix::net::{UnixListener, UnixStream};
+use std::rt::Files;
+use std::{fs, io};
+
+/// How often a lock is tried, each time at a file that another server has just removed.
+const TRIES: u32 = 16;
+
+/// The file of a socket, with its lock.
+#[derive(Drop)]
+pub struct SocketFile {
+    path: String,
+    lock: Lock,
+    /// Which file of which device the socket is. As long as the socket is open no other file is the same.
+    device: u64,
+    file: u64,
+}
+
+/// A file that is locked.
+#[derive(Drop)]
+struct Lock {
+    path: String,
+    file: File,
+}
+
+impl SocketFile {
+    /// Listens at a path. A socket that a server left there, or any other at which nobody listens, is removed. `AddrInUse`
+    /// where another server has the path, or another file is there.
+    pub fn listen<H: Files<File = File> + Net>(
+        rt: &H,
+        alloc: Global,
+        path: &str,
+    ) -> io::Result<(UnixListener, SocketFile)> {
+        let lock = Lock::take(rt, alloc, path)?;
+        match bind(rt, path) {
+            Ok(listener) => {
+                let found = fs::symlink_metadata(rt, path)?;
+                let file = SocketFile {
+                    path: String::from_str(alloc, path)?,
+                    lock,
+                    device: found.dev(),
+                    file: found.ino(),
+                };
+                Ok((listener, file))
+            }
+            Err(error) => {
+                lock.remove(rt);
+                Err(error)
+            }
+        }
+    }
+
+    /// Removes the socket's file, if it is still this socket's, and frees the path. The socket has to be open.
+    pub fn remove<H: Files>(self, rt: &H) {
+        if let Ok(found) = fs::symlink_metadata(rt, &self.path) {
+            if found.dev() == self.device && found.ino() == self.file {
+                let _ = fs::remove_file(rt, &self.path);
+            }
+        }
+        self.lock.remove(rt);
+    }
+}
+
+impl Lock {
+    /// Locks the file beside a path. `AddrInUse` where another server has it.
+    fn take<H: Files<File = File>>(rt: &H, alloc: Global, path: &str) -> io::Result<Lock> {
+        let path = lock_path(alloc, path)?;
+        for _ in 0..TRIES {
+            let file = File::options()
+                .read(true)
+                .write(true)
+                .create(true)
+                .open(rt, &path)?;
+            match file.try_lock() {
+                Ok(()) => {}
+                Err(TryLockError::WouldBlock) => return Err(Error::from(ErrorKind::AddrInUse)),
+                Err(TryLockError::Error(error)) => return Err(error),
+            }
+            if is_at(rt, &path, &file.metadata()?) {
+                return Ok(Lock { path, file });
+            }
+        }
+        Err(Error::from(ErrorKind::AddrInUse))
+    }
+
+    /// Removes the file, which nobody has written to, and unlocks it.
+    fn remove<H: Files>(self, rt: &H) {
+        let Ok(found) = self.file.metadata() else {
+            return;
+        };
+        if found.len() == 0 && is_at(rt, &self.path, &found) {
+            let _ = fs::remove_file(rt, &self.path);
+        }
+    }
+}
+
+fn lock_path(alloc: Global, path: &str) -> Result<String, AllocError> {
+    format!(in alloc; "{path}.lock")
+}
+
+// Whether this file is the one at a path.
+fn is_at<H: Files>(rt: &H, path: &str, file: &Metadata) -> bool {
+    match fs::symlink_metadata(rt, path) {
+        Ok(found) => found.dev() == file.dev() && found.ino() == file.ino(),
+        Err(_) => false,
+    }
+}
+
+fn bind<H: Files + Net>(rt: &H, path: &str) -> io::Result<UnixListener> {
+    match UnixListener::bind(rt, path) {
+        Err(error) if error.kind() == ErrorKind::AddrInUse && is_left_behind(rt, path) => {
+            fs::remove_file(rt, path)?;
+            UnixListener::bind(rt, path)
+        }
+        bound => bound,
+    }
+}
+
+// Whether the file is a socket at which nobody listens. No server has it, since none has the lock.
+fn is_left_behind<H: Files + Net>(rt: &H, path: &str) -> bool {
+    let Ok(found) = fs::symlink_metadata(rt, path) else {
+        return false;
+    };
+    if !found.file_type().is_socket() {
+        return false;
+    }
+    match UnixStream::connect(rt, path) {
+        Ok(_) => false,
+        Err(error) => error.kind() == ErrorKind::ConnectionRefused,
+    }
+}
