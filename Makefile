@@ -1,9 +1,12 @@
 # make              proves and builds the program
 # make test         the test command: every proof, edit, test, stored run and example, from scratch
 # make quick        every test, stored run and example without proofs, in a few minutes, for work in between
+# make python-test  the tests of the Python package, on the program; needs python-can and pytest
 # make dist         puts the proved program into dist/, with what it was built from
 # make verify-dist  proves and builds it again from scratch, and compares it with dist/ byte for byte
-# make install      puts the program with its launcher, tools, manual page and completions under PREFIX (after DESTDIR)
+# make install      puts the program with its launcher, the Python package, tools, manual page, completions, unit of systemd,
+#                   documents and examples under PREFIX (after DESTDIR); PYTHONDIR is where the package goes, as it is the
+#                   folder below PREFIX in which python3 looks for packages
 # make uninstall    removes them
 # make deb          makes a package for Debian of what make install installs
 # make clean        removes what was built here
@@ -16,7 +19,9 @@ MANDIR = $(DESTDIR)$(PREFIX)/share/man/man1
 COMPLETIONS = $(DESTDIR)$(PREFIX)/share/bash-completion/completions
 ZSH = $(DESTDIR)$(PREFIX)/share/zsh/site-functions
 FISH = $(DESTDIR)$(PREFIX)/share/fish/vendor_completions.d
-# Tools that need python3: in bin/ each is a link to the file beside its modules.
+# Where python3 looks for packages, below PREFIX.
+PYTHONDIR ?= $(shell ./scripts/python-package place "$(PREFIX)")
+# Tools that need python3 and the package: in bin/ each is a link.
 TOOLS = canbusd-report candump2bench
 
 all:
@@ -28,6 +33,9 @@ test:
 quick:
 	./scripts/quick
 
+python-test:
+	./scripts/python-package test
+
 dist:
 	./scripts/program dist
 
@@ -36,13 +44,14 @@ verify-dist:
 
 install:
 	program=$$(./scripts/program choose) && \
-	install -d "$(BINDIR)" "$(LIBEXECDIR)/canbusd_tools" "$(MANDIR)" "$(COMPLETIONS)" "$(ZSH)" "$(FISH)" && \
+	install -d "$(BINDIR)" "$(LIBEXECDIR)" "$(MANDIR)" "$(COMPLETIONS)" "$(ZSH)" "$(FISH)" && \
 	install -m 755 "$$program" "$(LIBEXECDIR)/canbusd"
 	install -m 755 scripts/serve "$(LIBEXECDIR)/serve"
-	install -m 644 contrib/canbusd_tools/*.* "$(LIBEXECDIR)/canbusd_tools"
+	./scripts/python-package install "$(DESTDIR)$(PYTHONDIR)"
 	install -m 755 contrib/canbusd.sh "$(BINDIR)/canbusd"
-	for tool in $(TOOLS); do \
-		install -m 755 "contrib/$$tool" "$(LIBEXECDIR)/$$tool" && \
+	package=$$(realpath -m --relative-to="$(PREFIX)/libexec/canbusd" "$(PYTHONDIR)") && for tool in $(TOOLS); do \
+		sed "s|^PACKAGE = .*|PACKAGE = \"$$package\"|" "contrib/$$tool" >"$(LIBEXECDIR)/$$tool" && \
+		chmod 755 "$(LIBEXECDIR)/$$tool" && \
 		ln -sf "../libexec/canbusd/$$tool" "$(BINDIR)/$$tool" && ln -sf canbusd.1 "$(MANDIR)/$$tool.1" || exit; \
 	done
 	install -m 644 canbusd.1 "$(MANDIR)/canbusd.1"
@@ -53,8 +62,31 @@ install:
 uninstall:
 	rm -f "$(BINDIR)/canbusd" "$(MANDIR)/canbusd.1" "$(COMPLETIONS)/canbusd" "$(ZSH)/_canbusd" "$(FISH)/canbusd.fish"
 	for tool in $(TOOLS); do rm -f "$(BINDIR)/$$tool" "$(MANDIR)/$$tool.1"; done
+	./scripts/python-package remove "$(DESTDIR)$(PYTHONDIR)"
 	rm -rf "$(LIBEXECDIR)"
 	rmdir "$(DESTDIR)$(PREFIX)/libexec" 2>/dev/null || true
+
+# Completions of the tools are those of canbusd's files; the unit of systemd; documents and examples.
+TOOL_COMPLETIONS = $(foreach tool,$(TOOLS),"$(COMPLETIONS)/$(tool)" "$(FISH)/$(tool).fish")
+UNITS = $(DESTDIR)$(PREFIX)/lib/systemd/system
+DOCDIR = $(DESTDIR)$(PREFIX)/share/doc/canbusd
+
+install: install-extras
+install-extras:
+	install -d "$(COMPLETIONS)" "$(FISH)" "$(UNITS)" "$(DOCDIR)"
+	for tool in $(TOOLS); do \
+		ln -sf canbusd "$(COMPLETIONS)/$$tool" && ln -sf canbusd.fish "$(FISH)/$$tool.fish" || exit; \
+	done
+	sed 's|^ExecStart=/usr/bin/canbusd|ExecStart="$(PREFIX)/bin/canbusd"|' contrib/canbusd.service >"$(UNITS)/canbusd.service"
+	chmod 644 "$(UNITS)/canbusd.service"
+	for file in README.md LICENSE docs/*.md docs/pictures/* examples/*.* examples/python/*.*; do \
+		install -D -m 644 "$$file" "$(DOCDIR)/$$file" || exit; \
+	done
+
+uninstall: uninstall-extras
+uninstall-extras:
+	rm -f $(TOOL_COMPLETIONS) "$(UNITS)/canbusd.service"
+	rm -rf "$(DOCDIR)"
 
 deb:
 	./scripts/deb
@@ -62,4 +94,4 @@ deb:
 clean:
 	rm -rf crates/*/out
 
-.PHONY: all test quick dist verify-dist install uninstall deb clean
+.PHONY: all test quick python-test dist verify-dist install install-extras uninstall uninstall-extras deb clean

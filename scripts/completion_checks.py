@@ -14,6 +14,8 @@ import time
 from serving import ROOT, WAIT, check, demand
 
 CONTRIB = os.path.join(ROOT, "contrib")
+# The tools are run for their help.
+PATH = f"{CONTRIB}:{os.environ['PATH']}"
 FILES = ["faults.script", "first.bench", "run.rec", "out.txt", "my faults.script", "logs/kept.rec"]
 # What is typed, and what the tab key adds to it.
 TYPED = [
@@ -41,6 +43,9 @@ TYPED = [
     ("canbusd bench can0 >> ou", "t.txt "),
     ("canbusd bench can0 2> ou", "t.txt "),
     ("canbusd serve can0 >ou", "t.txt "),
+    ("canbusd-report ru", "n.rec "),
+    ("canbusd-report --na", "mes "),
+    ("candump2bench --lis", "ten "),
     ("canbusd bench --until", ""),
     ("canbusd serve --lo", ""),
 ]
@@ -72,7 +77,7 @@ class Shell:
         if self.child == 0:
             os.chdir(folder)
             environment = {
-                "PATH": os.environ["PATH"],
+                "PATH": PATH,
                 "TERM": "dumb",
                 "HOME": folder,
                 "COLUMNS": "200",
@@ -181,7 +186,7 @@ def completion_in_fish():
             done = subprocess.run(
                 ["fish", "--no-config", "-c", f'source {CONTRIB}/canbusd.fish; complete --do-complete "{typed}"'],
                 cwd=folder,
-                env={**os.environ, "HOME": folder},
+                env={**os.environ, "HOME": folder, "PATH": PATH},
                 capture_output=True,
                 text=True,
                 timeout=60,

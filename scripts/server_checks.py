@@ -2,13 +2,15 @@
 
 import contextlib
 import os
+import resource
+import signal
 import socket
 import subprocess
 import tempfile
 import threading
 import time
 
-from serving import WAIT, Plain, Server, check, demand, plain, serving
+from serving import WAIT, Plain, Server, Wrong, check, come_true, demand, plain, serving, serving_alone
 
 
 @check
@@ -172,3 +174,193 @@ def unix_path():
             server.end()
         demand(not os.path.exists(path), "the file is still there")
     return "three times as it should be"
+
+
+def connected(server):
+    """A connection to a server, or None where it is refused."""
+    with contextlib.suppress(ConnectionRefusedError, ConnectionResetError, FileNotFoundError):
+        if ":" in server.address:
+            return socket.create_connection((server.host, server.port), WAIT)
+        one = socket.socket(socket.AF_UNIX)
+        one.settimeout(WAIT)
+        try:
+            one.connect(server.address)
+            return one
+        except BaseException:
+            one.close()
+            raise
+    return None
+
+
+def heard(connection):
+    """All that a connection reads to its end. It says something first: a connection that Linux dropped on the server's side,
+    as it was made, hears of that only then."""
+    text = b""
+    with contextlib.suppress(ConnectionResetError, BrokenPipeError):
+        connection.sendall(b" ")
+        while piece := connection.recv(4096):
+            text += piece
+    return text
+
+
+@check
+def ends_in_bursts():
+    """1,000 servers that are told to end while clients come: each ends, and tells nobody another reason"""
+    came = 0
+    for number in range(1000):
+        path = "./burst.socket" if number % 2 else "127.0.0.1:0"
+        with contextlib.ExitStack() as stack:
+            server = stack.enter_context(serving_alone("can0", address=path))
+            if number % 2:
+                server.address = server.path("burst.socket")
+            burst = [connected(server) for _ in range(number % 24)]
+            server.child.stdin.close()
+            while len(burst) < 60 and burst[-1:] != [None]:
+                burst.append(connected(server))
+            for one in filter(None, burst):
+                stack.enter_context(one)
+            try:
+                demand(server.child.wait(WAIT) == 0, f"burst {number}: status {server.child.returncode}")
+            except subprocess.TimeoutExpired:
+                raise Wrong(f"burst {number}: the server goes on") from None
+            for one in filter(None, burst):
+                demand(heard(one) in (b"", b"< hi >"), f"burst {number}: a client was told something else")
+                came += 1
+    return f"{came} clients came; 1000 servers ended"
+
+
+@check
+def door_after_the_last_session():
+    """who comes once --sessions have come is refused at once, and so is who waited"""
+    for address in ("127.0.0.1:0", "./last.socket"):
+        with serving_alone("--sessions", "1", "can0", address=address) as server:
+            if ":" not in address:
+                server.address = server.path("last.socket")
+            with contextlib.closing(Plain(server)) as first:
+                demand(first.text() == "< hi >", "the session")
+                until = time.monotonic() + WAIT
+                while (late := connected(server)) is not None:
+                    with late:
+                        demand(heard(late) == b"", "a client that came too late was told something")
+                    demand(time.monotonic() < until, "newcomers connect")
+                demand(first.answer("< open can0 >") == "< ok >", "the session goes on")
+            demand(server.child.wait(WAIT) == 0, "the end")
+    return "over TCP and at a path"
+
+
+@check
+def attempts_in_vain_at_the_end():
+    """a frame that nobody acknowledges, and an interface that waits for its restart, do not hold up the end"""
+    told = []
+    with serving("--ack", "peers", "--pace", "0", "can0") as server:
+        plain(server, "can0").tell("< send 123 0 >")
+        began = time.monotonic()
+        server.end()
+        demand(time.monotonic() - began < 2, "the end took its time")
+        told.append(server.audited("can0.rec"))
+    script = "".join(f"{number} global bit\n" for number in range(32))
+    with tempfile.NamedTemporaryFile("w", suffix=".script") as faults:
+        faults.write(script)
+        faults.flush()
+        with serving("--auto-restart", "1000000", f"can0,can1@{faults.name}") as server:
+            one = plain(server, "can0")
+            one.tell("< send 123 0 >")
+            demand(come_true(lambda: one.answer("< status >").startswith("< status off ")), "bus off")
+            began = time.monotonic()
+            server.end()
+            demand(time.monotonic() - began < 2, "the end took its time")
+            told.append(server.audited("can0.rec"))
+    demand(max(told) < 1000000, f"{told}")
+    return f"{told[0]} and {told[1]} entries"
+
+
+@check
+def own_socket_file():
+    """a server removes its own file alone; a path belongs to one server"""
+    with tempfile.TemporaryDirectory() as folder:
+        path = os.path.join(folder, "socket")
+
+        def second(patience=WAIT):
+            return subprocess.run([Server.program, "serve", "--listen", path, "can0"], stdin=subprocess.DEVNULL,
+                                  capture_output=True, text=True, timeout=patience, check=False)
+
+        # Another server that asks for the path is no session of the first, also where the first does not run.
+        with serving_alone("--sessions", "1", "can0", address=path) as server:
+            demand(second().returncode == 1, "two servers have one path")
+            os.kill(server.child.pid, signal.SIGSTOP)
+            waiting = [socket.socket(socket.AF_UNIX) for _ in range(200)]
+            for one in waiting:
+                one.setblocking(False)
+                with contextlib.suppress(BlockingIOError):
+                    one.connect(path)
+            demand(second().returncode == 1, "two servers have one path, one of them stopped")
+            for one in waiting:
+                one.close()
+            os.kill(server.child.pid, signal.SIGCONT)
+            demand(server.child.wait(WAIT) == 0, "the end")
+        demand(os.listdir(folder) == [], f"{os.listdir(folder)} is left")
+        # A file that took the socket's place stays.
+        for kind in ("file", "socket"):
+            with serving_alone("can0", address=path) as server:
+                os.unlink(path)
+                with socket.socket(socket.AF_UNIX) as other:
+                    if kind == "file":
+                        with open(path, "wb") as file:
+                            file.write(b"mine")
+                    else:
+                        other.bind(path)
+                        other.listen()
+                    server.end()
+                    demand(os.listdir(folder) == ["socket"], f"{os.listdir(folder)} is left of a {kind}")
+            os.unlink(path)
+        # A server that was killed leaves its file to the next, and of two that come at once one gets it.
+        for _ in range(100):
+            with serving_alone("can0", address=path) as server:
+                server.child.kill()
+                server.child.wait()
+            demand(os.path.exists(path), "the killed server's file")
+            both = [subprocess.Popen([Server.program, "serve", "--until-eof", "--listen", path, "can0"], text=True,
+                                     stdin=subprocess.PIPE, stdout=subprocess.PIPE, stderr=subprocess.DEVNULL)
+                    for _ in range(2)]
+            lines = [one.stdout.readline() for one in both]
+            for one in both:
+                one.communicate(timeout=WAIT)
+            demand(sorted(lines) == ["", f"listening {path}\n"], f"{lines}")
+    return "a file and a socket in its place, 100 killed servers, 100 pairs"
+
+
+@check
+def folder_of_a_server():
+    """one that takes no files is noted before anybody can connect; files of an earlier run stay until new ones are whole"""
+    with tempfile.TemporaryDirectory() as folder:
+        none = os.path.join(folder, "none")
+        words = [Server.program, "serve", "--listen", "127.0.0.1:0", "--until-eof", "--out"]
+        with subprocess.Popen([*words, none, "can0"], stdin=subprocess.PIPE, stdout=subprocess.PIPE, stderr=subprocess.PIPE,
+                              text=True) as server:
+            note = server.stderr.readline()
+            demand(note.startswith(f"note: {none}/can0.rec can't be written now: "), note)
+            demand(server.stdout.readline().startswith("listening "), "it listens")
+            os.mkdir(none)
+            server.stdin.close()
+            demand((server.wait(WAIT), server.stderr.read()) == (0, ""), "a folder that was made meanwhile")
+            demand(sorted(os.listdir(none)) == ["can0.log", "can0.rec"], f"{os.listdir(none)}")
+        old = {}
+        for name in ("can0.log", "can0.rec"):
+            with open(os.path.join(none, name), "w+", encoding="utf-8") as file:
+                file.write(f"old {name}\n")
+            old[name] = f"old {name}\n"
+
+        def may_not_grow():
+            resource.setrlimit(resource.RLIMIT_FSIZE, (0, 0))
+            signal.signal(signal.SIGXFSZ, signal.SIG_IGN)
+
+        full = subprocess.run([*words, none, "can0"], input="", capture_output=True, text=True, timeout=WAIT, check=False,
+                              preexec_fn=may_not_grow)
+        faults = [line for line in full.stderr.splitlines() if not line.startswith("  ")]
+        demand((full.returncode, faults) == (1, ["canbusd: write fault"]), f"{full}")
+        for name, text in old.items():
+            if name == "can0.rec":
+                with open(os.path.join(none, name), encoding="utf-8") as file:
+                    demand(file.read() == text, name)
+        demand(sorted(os.listdir(none)) == ["can0.log", "can0.rec"], f"{os.listdir(none)}")
+    return "3 runs"
