@@ -81,6 +81,7 @@ fn an_input_has_limits(rt: HostRuntime) -> Result<(), AllocError> {
     let table = [
         (16_777_216, 4096, None),
         (16_777_217, 4096, long),
+        (16_777_215, 1, None),
         (16_777_216, 1, long),
     ];
     for (len, size, fault) in table {
