@@ -41,6 +41,23 @@ impl<'a, N: RollName + MeterName, R: Wait + Abort> Talk<'a, N, R> {
     }
 }
 
+/// Two attempts that a driver makes on the bus of a port.
+fn two_attempts<N: RollName + MeterName, R: Wait + Abort>(
+    rt: &R,
+    alloc: Global,
+    port: &PassPort<'_, N, Perfect, Open, R>,
+) {
+    let Some(station) = port.station() else {
+        panic!(rt; "station");
+    };
+    let Ok(mut driver) = station.enter(rt, alloc) else {
+        panic!(rt; "driver");
+    };
+    let moment = moment(rt, 0);
+    assert!(rt; station.step(rt, alloc, &mut driver, moment).is_ok());
+    assert!(rt; station.step(rt, alloc, &mut driver, moment).is_ok());
+}
+
 /// Two sessions whose counts are all told: of items that are queued, dropped and taken, and of frames that are sent, done,
 /// waiting, lost and refused.
 fn counts<N: RollName + MeterName, R: Wait + Abort>(
@@ -51,7 +68,8 @@ fn counts<N: RollName + MeterName, R: Wait + Abort>(
     requires { NamedFrom N.roll N.meter 0 benches.items }
 {
     let hub = made::<N, _, _, _>(rt, alloc, benches);
-    let (mut first, mut second) = (Talk::new(rt, alloc, &hub), Talk::new(rt, alloc, &hub));
+    let mut first = Talk::new(rt, alloc, &hub);
+    let mut second = Talk::new(rt, alloc, &hub);
     first.is_told(alloc, "< open can0 >< rawmode >", "< ok >< ok >");
     second.is_told(alloc, "< open can1 >< rawmode >", "< ok >< ok >");
     // Each call but a send and a receive needs the lock that the send before it has taken.
@@ -60,15 +78,7 @@ fn counts<N: RollName + MeterName, R: Wait + Abort>(
         "< send 123 0 >< stats >< filter 0 >< errmask 0 >< send 123 0 >< restart >< stats >< send 123 0 >",
         "< stats 0 0 0 1 0 1 0 0 >< ok >< ok >< error not bus off >< stats 0 0 0 2 0 2 0 0 >< error no buffers >",
     );
-    let Some(station) = first.port.station() else {
-        panic!(rt; "station");
-    };
-    let Ok(mut driver) = station.enter(rt, alloc) else {
-        panic!(rt; "driver");
-    };
-    let moment = moment(rt, 0);
-    assert!(rt; station.step(rt, alloc, &mut driver, moment).is_ok());
-    assert!(rt; station.step(rt, alloc, &mut driver, moment).is_ok());
+    two_attempts(rt, alloc, &first.port);
     first.is_told(
         alloc,
         "< send 123 0 >< stats >",
