@@ -343,6 +343,8 @@ def test_a_wrong_filter(pair, server, wrong):
     for call in (pair[0].set_filters, lambda filters: server.bus("can0", can_filters=filters)):
         with pytest.raises(ValueError, match="can_id|can_mask"):
             call([wrong])
+    with pytest.raises(ValueError, match="filter"):
+        pair[0].set_filters(["123:7FF"])
 
 
 def test_own_messages_and_loopback(server):

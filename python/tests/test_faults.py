@@ -65,3 +65,5 @@ def test_a_script_is_faults_a_text_or_a_path(tmp_path):
     assert script_text(None) == script_text("") == ""
     with pytest.raises(FileNotFoundError):
         script_text("no such file")
+    with pytest.raises(ValueError, match="faults"):
+        script_text(range(32))

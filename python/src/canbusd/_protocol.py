@@ -91,6 +91,8 @@ def filter_words(one: Mapping[str, Any]) -> Tuple[int, int]:
 
     Where the filter says `extended`, only frames of that kind pass; data and remote frames pass alike.
     """
+    if not isinstance(one, Mapping):
+        raise ValueError(f"a filter is a dict with can_id and can_mask, not {one!r}")
     identifier, mask = one.get("can_id"), one.get("can_mask")
     for name, word in (("can_id", identifier), ("can_mask", mask)):
         if not isinstance(word, int) or not 0 <= word <= 0xFFFFFFFF:

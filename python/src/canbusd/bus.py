@@ -199,7 +199,7 @@ class CanbusdBus(BusABC):
 
         Where this returns, the server has accepted all of them. At most :attr:`window` of them wait in the transmit queue
         at once. If it is full all the same, since others send by the same interface or it has less room, what it refused
-        is sent again, behind what it accepted of the same write.
+        is sent again, after what it accepted of the same write.
 
         :param timeout: seconds for all messages; none: as long as some are accepted within the timeout of the bus
         :raises: what :meth:`send` raises; the text says how many messages were accepted

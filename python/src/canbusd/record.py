@@ -80,7 +80,7 @@ class Version:
         return {kind: re.compile(line) for kind, line in spelled.items()}
 
 
-# By the first line. From version 2 on a number behind the limit says after how many attempts interfaces are restarted.
+# By the first line. From version 2 on a number after the limit says after how many attempts interfaces are restarted.
 VERSIONS = {
     "canbus record 1": Version(BUS),
     "canbus record 2": Version(f"{BUS} ([1-9][0-9]*)"),
