@@ -290,7 +290,8 @@ def test_a_start_that_fails(words, said):
 
 
 @pytest.mark.parametrize(
-    "options", [{"txqueue": 0}, {"rxqueue": 65537}, {"ack": "nobody"}, {"limit": "many"}, {"faults": 0}, {"out": "/no/such"}]
+    "options",
+    [{"txqueue": 0}, {"rxqueue": 65537}, {"ack": "nobody"}, {"limit": "many"}, {"faults": 0}, {"out": "/no/such"}],
 )
 def test_a_wrong_option_is_named(options):
     with pytest.raises(ValueError, match=f"^{next(iter(options))} "):

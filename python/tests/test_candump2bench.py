@@ -21,7 +21,12 @@ def test_its_first_line_says_how_to_run_it():
 
 
 @pytest.mark.parametrize(
-    "line", ["  vcan0  123   [2]  11 22", " (1.000000)  can0  12345678   [0]", "  can0       7FF  [08]  01 02 03 04 05 06 07 08"]
+    "line",
+    [
+        "  vcan0  123   [2]  11 22",
+        " (1.000000)  can0  12345678   [0]",
+        "  can0       7FF  [08]  01 02 03 04 05 06 07 08",
+    ],
 )
 def test_what_candump_writes_on_a_screen_is_told_apart(line):
     done = converted(f"(1.000000) can0 123#1122\n{line}\n")

@@ -205,7 +205,9 @@ def test_dump_says_what_found_no_room():
             lines = dumped(child, sender)
             assert 0 < len(lines) < frames
             said = ""
-            while sum(map(int, re.findall(r"^canbusd dump: can1: (\d+) frames dropped, ", said, re.M))) < frames - len(lines):
+            while sum(map(int, re.findall(r"^canbusd dump: can1: (\d+) frames dropped, ", said, re.M))) < frames - len(
+                lines
+            ):
                 assert select.select([child.stderr], [], [], WAIT)[0], said
                 said += os.read(child.stderr.fileno(), 65536).decode()
                 sender.send(message(END), timeout=5)
@@ -258,7 +260,10 @@ def test_send_of_several_frames_and_flags():
         frames = [f"1{number:02}#{number:02}" for number in range(30)]
         status, written, said = call("send", "can0", *frames, "123##5FF", server=server)
         assert (status, written) == (0, "") and "flags are left out" in said
-        assert [receiver.recv(WAIT).arbitration_id for _ in range(31)] == [*(int(text[:3], 16) for text in frames), 0x123]
+        assert [receiver.recv(WAIT).arbitration_id for _ in range(31)] == [
+            *(int(text[:3], 16) for text in frames),
+            0x123,
+        ]
 
 
 @pytest.mark.parametrize(
@@ -348,7 +353,10 @@ def test_report_of_a_record(record):
     # 124 has a recessive bit where 123 has a dominant one.
     assert "attempt 1: can1 wins with 123#, done\n  can0 001001001<- loses here\n  can1 00100100011 00\n" in drawn
     assert "can1: transmit count #, receive count o, over 3 steps\n" in drawn
-    assert call("report", record.with_name("none"))[::2] == (1, f"canbusd report: {record.with_name('none')}: No such file or directory\n")
+    assert call("report", record.with_name("none"))[::2] == (
+        1,
+        f"canbusd report: {record.with_name('none')}: No such file or directory\n",
+    )
 
 
 def test_commands_and_their_help():
@@ -373,5 +381,7 @@ def test_reports_need_no_python_can(record):
         "    assert bench.run()[0].outcome == 'done'\n"
         f"main(['replay', {str(record)!r}])\n"
     )
-    done = subprocess.run([sys.executable, "-c", program], env=environment(), capture_output=True, text=True, timeout=WAIT)
+    done = subprocess.run(
+        [sys.executable, "-c", program], env=environment(), capture_output=True, text=True, timeout=WAIT
+    )
     assert (done.returncode, done.stderr) == (0, "") and "ok " in done.stdout

@@ -27,7 +27,9 @@ def test_the_script_of_faults():
 
 def test_a_fault_by_its_attempt():
     assert [script().of(number) for number in (1, 2, 7)] == ["global bit", "good", "local stuff can0,can1"]
-    assert verdicts_of("# a comment\n\n" + SCRIPT) == {int(line.split()[0]): line.split(" ", 1)[1] for line in SCRIPT.splitlines()}
+    assert verdicts_of("# a comment\n\n" + SCRIPT) == {
+        int(line.split()[0]): line.split(" ", 1)[1] for line in SCRIPT.splitlines()
+    }
 
 
 @pytest.mark.parametrize(

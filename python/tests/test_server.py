@@ -261,7 +261,9 @@ def test_the_launcher(launcher, monkeypatch, found_by):
     group = killed._child.pid
     killed.kill()
     for _ in range(WAIT * 100):
-        states = subprocess.run(["ps", "-o", "stat=", "-s", str(group)], capture_output=True, text=True, check=False).stdout
+        states = subprocess.run(
+            ["ps", "-o", "stat=", "-s", str(group)], capture_output=True, text=True, check=False
+        ).stdout
         # Nobody may be there to bury them.
         if all(state.startswith("Z") for state in states.split()):
             break

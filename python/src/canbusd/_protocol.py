@@ -106,7 +106,7 @@ def filter_words(one: Mapping[str, Any]) -> Tuple[int, int]:
 
 
 def filter_message(filters: Optional[Filters]) -> Optional[str]:
-    """Returns the message that sets these filters; None where they don't fit into one. No filters: everything passes."""
+    """Returns the message that sets these filters, None if they don't fit into one. Without any, everything passes."""
     pairs = [filter_words(one) for one in filters] if filters else [(0, 0)]
     words = " ".join(f"{identifier:X} {mask:X}" for identifier, mask in pairs)
     message = f"filter {len(pairs)} {words}"

@@ -38,7 +38,7 @@ def option_words(ack: str, report: bool, **numbers: int) -> List[str]:
 
 
 class Run:
-    """A run of the program, which leaves its logs and records in `out`, else in a folder that is kept as long as it is."""
+    """A run of the program. Its logs and records are in `out`, else in a folder that is kept as long as it is."""
 
     _child: "subprocess.Popen[bytes]"
 

@@ -264,7 +264,7 @@ class Bench(Run):
         return read_record(self._path("rec"), self.names)
 
     def log(self) -> "List[Message]":
-        """Ends the run and returns what was on the bus, as messages of python-can; those that failed are error frames."""
+        """Ends the run and returns what was on the bus, as messages of python-can; what failed is an error frame."""
         self.stop()
         return read_log(self._path("log"))
 

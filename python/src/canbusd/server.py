@@ -76,10 +76,10 @@ def bus_words(
 class Server(Run):
     """`canbusd serve` with these buses, each the names of its interfaces: ``Server("can0,can1", "car0")``.
 
-    The options are those of the program. ``faults`` is a script for the one bus there is (:class:`canbusd.Faults`, a path
-    or a text), or a dict of them by the name of a bus's first interface. ``out`` is a folder for logs and records; without
-    it they are kept as long as the server is. The server runs when the constructor returns, and is ended by :meth:`stop`,
-    by the end of a ``with`` block, and by the end of this process, whatever ends it.
+    The options are those of the program. ``faults`` is a script for the one bus there is (:class:`canbusd.Faults`, a
+    path or a text), or a dict of them by the name of a bus's first interface. ``out`` is a folder for logs and records;
+    without it they are kept as long as the server is. The server runs when the constructor returns, and is ended by
+    :meth:`stop`, by the end of a ``with`` block, and by the end of this process, whatever ends it.
     """
 
     def __init__(
@@ -149,11 +149,11 @@ class Server(Run):
         return read_record(self._file(name, "rec"), self._by_bus[self._first(name)][:-1])
 
     def audit(self) -> Dict[str, str]:
-        """Ends the server, and returns what `canbusd audit` says of each record, by its bus: `ok 7 entries` or a fault."""
+        """Ends the server, and returns what `canbusd audit` says of each bus's record: `ok 7 entries` or a fault."""
         return {name: audited(self._file(name, "rec")) for name in self._by_bus}
 
     def report(self, name: Optional[str] = None) -> Path:
-        """Ends the server, and returns the path of a page for the browser that shows the run of this interface's bus."""
+        """Ends the server, and returns the path of a page for the browser that shows the run of the bus."""
         from canbusd._summary import write_page
 
         return Path(write_page(self.record(name), self._file(name, "html")))
