@@ -140,8 +140,11 @@ function drawBars(plot, buckets, top) {
       if (steps.hit[step] >> i & 1) fill(theme.hit, 0, 3);
       if (steps.off[step] >> i & 1) fill(theme.text, 4 + BAR, 3);
     });
-    if (kind === IDLE) drawWords(plot, [titleOf(step), grouped(steps.number[step])], left, wide, top + ROW / 2, null);
-    else drawWords(plot, wordsOf(step), left, wide, top + steps.iface[step] * ROW + 4 + BAR / 2, kind);
+    if (kind === IDLE) {
+      // Not over the hatching of a node that is off.
+      const row = Math.max(0, names.findIndex((_, i) => tec[i].all[step] < 256));
+      drawWords(plot, [titleOf(step), grouped(steps.number[step])], left, wide, top + row * ROW + ROW / 2, null);
+    } else drawWords(plot, wordsOf(step), left, wide, top + steps.iface[step] * ROW + 4 + BAR / 2, kind);
   }
 }
 const wordsOf = step => steps.kind[step] === RESTART ? ["restart"] : [textOf(step), textOf(step).split("#")[0]];
