@@ -122,7 +122,7 @@ def measured(interface, count, part, send):
 
 def main():
     parser = argparse.ArgumentParser(description=__doc__, formatter_class=argparse.RawDescriptionHelpFormatter)
-    parser.add_argument("--frames", type=int, default=30000, metavar="N", help="frames of a burst (default 30000)")
+    parser.add_argument("--frames", type=int, default=100000, metavar="N", help="frames of a burst (default 100000)")
     count = parser.parse_args().frames
     ways = [
         ("virtual", virtual, count, send_each),
