@@ -164,7 +164,7 @@ class Connection:
             return self._wait(self._next_frame, None if timeout is None else time.monotonic() + timeout)
         except ConnectionError:
             with self._changed:
-                # Who waits for the file descriptor is told of the end once.
+                # Who waits for the file descriptor learns of the end once.
                 if self._readiness is not None and not self._is_closing:
                     self._readiness.show(False)
             raise

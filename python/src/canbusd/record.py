@@ -181,12 +181,12 @@ class Record:
     @property
     def attempts(self) -> List[Attempt]:
         """The attempts of the run; of the idle ones only those that restarted an interface."""
-        return self.run.attempts_told()
+        return self.run.attempts_made()
 
     @property
     def items(self) -> List[Item]:
         """What each socket received or lost, in the order in which the interfaces handed it out."""
-        return self.run.items_told()
+        return self.run.items_handed_out()
 
 
 def read_record(path: Path, names: Optional[Sequence[str]] = None) -> Record:

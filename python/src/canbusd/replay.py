@@ -486,7 +486,7 @@ class Run:
         members = [name for i, name in enumerate(self.record.names) if digits and int(digits, 16) >> i & 1]
         return " ".join([*kind.split("-"), *([",".join(members)] if digits else [])])
 
-    def attempts_told(self) -> List[Attempt]:
+    def attempts_made(self) -> List[Attempt]:
         """The attempts of the run, with the restarts in the end of each."""
         restarts: Dict[int, List[int]] = {}
         for step in self.steps:
@@ -497,14 +497,14 @@ class Run:
         for step in self.steps:
             again = restarts.get(step.entry, [])
             if step.kind != "restart":
-                attempts.append(self.told(step, again))
+                attempts.append(self.attempt_of(step, again))
             elif step.entry not in seen and self.record.lines[step.entry].startswith("attempt "):
                 fault = self.fault_named(self.record.lines[step.entry].split(" ")[2])
                 attempts.append(Attempt(float(step.moment), "", 0, "", "idle", fault, (), (), self.named(again)))
             seen.add(step.entry)
         return attempts
 
-    def told(self, step: Step, restarted: Sequence[int] = ()) -> Attempt:
+    def attempt_of(self, step: Step, restarted: Sequence[int] = ()) -> Attempt:
         """A step that is an attempt."""
         return Attempt(
             float(step.moment),
@@ -518,7 +518,7 @@ class Run:
             self.named(restarted),
         )
 
-    def items_told(self) -> List[Item]:
+    def items_handed_out(self) -> List[Item]:
         """What each socket received or lost."""
         names = self.record.names
         return [

@@ -110,7 +110,7 @@ class Request(BaseHTTPRequestHandler):
     server: Pages
 
     def do_GET(self) -> None:
-        """Answers with the page or the news."""
+        """Sends the page or the news."""
         port = self.server.server_address[1]
         # Another site's name for this address would let that site read the bus.
         if self.headers.get("Host") not in (f"127.0.0.1:{port}", f"localhost:{port}"):
