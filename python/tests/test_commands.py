@@ -106,6 +106,19 @@ def test_frames_on_the_screen_are_those_of_candump(text, line):
     assert "".join(f"{one}\n" for one in view.lines("can0", Frame.parse(text))) == line
 
 
+def test_identifiers_of_11_bits_after_one_of_29():
+    """As candump does: they are written below its low digits."""
+    import argparse
+
+    view = View(argparse.Namespace(log=False, explain=False, timestamps=None), 4)
+    lines = [view.lines("can0", Frame.parse(text))[0] for text in ("00000123#", "123#R2", "123##0" + "00" * 12)]
+    assert lines == [
+        "  can0  00000123   [0]",
+        "  can0       123   [2]  remote request",
+        "  can0       123  [12]  00 00 00 00 00 00 00 00 00 00 00 00",
+    ]
+
+
 def test_timestamps_of_candump():
     import argparse
 
@@ -132,11 +145,12 @@ def test_dump_of_several_interfaces():
                 )  # fmt: skip
             lines = dumped(child, sender, names=2)
     for name in ("can1", "can2"):
-        assert [line for line in lines if name in line] == [
-            f"  {name}  123   [1]  11\n",
-            f"  {name}  00000123   [0]\n",
-            f"  {name}       123   [2]  remote request\n",
-            f"  {name}       123  [12]  00 00 00 00 00 00 00 00 00 00 00 00\n",
+        # How wide an identifier is depends on which interface's frames came first.
+        assert [" ".join(line.split()) for line in lines if name in line] == [
+            f"{name} 123 [1] 11",
+            f"{name} 00000123 [0]",
+            f"{name} 123 [2] remote request",
+            f"{name} 123 [12] 00 00 00 00 00 00 00 00 00 00 00 00",
         ]
 
 
