@@ -1,7 +1,7 @@
 """A door on a CAN bus, as a program of yours might be. It knows nothing of canbusd.
 
-A command, 100, is a number and whether to open; the door obeys those with the next number, and answers with a report, 200.
-Where a command is missing it asks for it by a request, 101.
+A command, 100, is a number and whether to open; the door obeys those with the next number, and answers with a report,
+200. Where a command is missing it asks for it by a request, 101.
 """
 
 import can

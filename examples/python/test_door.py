@@ -3,8 +3,8 @@
     pip install ./python
     python3 -m pytest examples/python
 
-The fixtures are of the package's plugin for pytest. `canbusd` is a server, here with two nodes, and at the end of each test
-its record is audited. `canbusd_bench` is a bus without clocks, on which nothing happens but in `attempt`.
+The fixtures are of the package's plugin for pytest. `canbusd` is a server, here with two nodes, and at the end of each
+test its record is audited. `canbusd_bench` is a bus without clocks, on which nothing happens but in `attempt`.
 """
 
 import pytest

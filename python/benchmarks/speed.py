@@ -4,8 +4,8 @@
     CANBUSD=/path/to/canbusd PYTHONPATH=python/src python3 python/benchmarks/speed.py
 
 Round trips: a frame there and one back, in one thread. Latency: half of such a round trip, its median and its 99th
-percentile. Bursts: frames that one thread sends and another receives, in parts, the next once the last frame of a part has
-arrived; the run ends at the first loss. Of several runs the best counts, and all losses.
+percentile. Bursts: frames that one thread sends and another receives, in parts, the next once the last frame of a part
+has arrived; the run ends at the first loss. Of several runs the best counts, and all losses.
 """
 
 import argparse
@@ -111,13 +111,18 @@ def measured(interface, count, part, send):
             lost += missed
             half = statistics.median(took) / 2, took[len(took) * 99 // 100] / 2
             rows.append((len(took) / sum(took), *(seconds * 1e6 for seconds in half), rate))
-    best = max(row[0] for row in rows), min(row[1] for row in rows), min(row[2] for row in rows), max(row[3] for row in rows)
+    best = (
+        max(row[0] for row in rows),
+        min(row[1] for row in rows),
+        min(row[2] for row in rows),
+        max(row[3] for row in rows),
+    )
     return *best, lost
 
 
 def main():
     parser = argparse.ArgumentParser(description=__doc__, formatter_class=argparse.RawDescriptionHelpFormatter)
-    parser.add_argument("--frames", type=int, default=30000, metavar="N", help="frames of a burst (default 30000)")
+    parser.add_argument("--frames", type=int, default=100000, metavar="N", help="frames of a burst (default 100000)")
     count = parser.parse_args().frames
     ways = [
         ("virtual", virtual, count, send_each),

@@ -23,7 +23,8 @@ class Browser:
         self.reader, write = os.pipe()
         self.child = subprocess.Popen(
             ["bash", "-c", LAUNCH.format(read, write), PROGRAM, "--headless=new", "--no-sandbox", "--disable-gpu",
-             "--hide-scrollbars", "--no-first-run", f"--user-data-dir={folder}", "--remote-debugging-pipe", "about:blank"],
+             "--hide-scrollbars", "--no-first-run", f"--user-data-dir={folder}", "--remote-debugging-pipe",
+             "about:blank"],
             pass_fds=(read, write), stdin=subprocess.DEVNULL, stdout=subprocess.DEVNULL, stderr=subprocess.DEVNULL,
         )  # fmt: skip
         os.close(read)

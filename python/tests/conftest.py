@@ -45,7 +45,9 @@ def installed(tmp_path_factory):
     """The environment of a process that finds the package as pip installs it, with its entry points."""
     folder = tmp_path_factory.mktemp("installed")
     # Not where it is: setuptools builds in the folder that it is given.
-    shutil.copytree(PYTHON, folder / "source", ignore=shutil.ignore_patterns("build", "*.egg-info", "__pycache__", ".*"))
+    shutil.copytree(
+        PYTHON, folder / "source", ignore=shutil.ignore_patterns("build", "*.egg-info", "__pycache__", ".*")
+    )
     done = subprocess.run(
         [sys.executable, "-m", "pip", "install", "--quiet", "--no-deps", "--no-build-isolation", "--no-index",
          "--target", folder / "target", folder / "source"],

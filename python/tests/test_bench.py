@@ -280,11 +280,8 @@ def test_messages_of_the_protocol():
     [
         ({"names": "can0,can0"}, "bad bus"),
         ({"names": ""}, "bad bus"),
-        ({"names": "can0", "txqueue": 0}, "bad bus"),
         ({"names": "can0", "faults": "0 nonsense\n"}, "script line 1: bad line"),
         ({"names": "can0", "faults": Faults().local("crc", "can7", 0)}, "unknown interface"),
-        ({"names": "can0", "ack": "nobody"}, "nobody"),
-        ({"names": "can0", "limit": "many"}, "many"),
     ],
 )
 def test_a_start_that_fails(words, said):
@@ -292,9 +289,13 @@ def test_a_start_that_fails(words, said):
         Bench(**words)
 
 
-def test_a_folder_that_is_missing(tmp_path):
-    with pytest.raises(ValueError, match="out is a folder that exists"):
-        Bench("can0", out=tmp_path / "none")
+@pytest.mark.parametrize(
+    "options",
+    [{"txqueue": 0}, {"rxqueue": 65537}, {"ack": "nobody"}, {"limit": "many"}, {"faults": 0}, {"out": "/no/such"}],
+)
+def test_a_wrong_option_is_named(options):
+    with pytest.raises(ValueError, match=f"^{next(iter(options))} "):
+        Bench("can0", **options)
 
 
 def test_a_bench_that_is_killed():

@@ -162,7 +162,9 @@ def test_automatic_restart():
             assert can0.state is can.BusState.ACTIVE
 
 
-@pytest.mark.parametrize("mask, seen", [(0x40, [0x040]), (0x204, [0x204, 0x204]), (False, []), (True, [0x204, 0x204, 0x40])])
+@pytest.mark.parametrize(
+    "mask, seen", [(0x40, [0x040]), (0x204, [0x204, 0x204]), (False, []), (True, [0x204, 0x204, 0x40])]
+)
 def test_classes_of_error_frames(mask, seen):
     with Server("can0,can1", faults=Faults().destroyed(range(32))) as server:
         with server.bus("can0", error_frames=mask) as can0, server.bus("can0") as watch:
@@ -343,6 +345,8 @@ def test_a_wrong_filter(pair, server, wrong):
     for call in (pair[0].set_filters, lambda filters: server.bus("can0", can_filters=filters)):
         with pytest.raises(ValueError, match="can_id|can_mask"):
             call([wrong])
+    with pytest.raises(ValueError, match="filter"):
+        pair[0].set_filters(["123:7FF"])
 
 
 def test_own_messages_and_loopback(server):
@@ -357,8 +361,16 @@ def test_own_messages_and_loopback(server):
 
 
 def test_values_given_as_texts(server):
-    texts = {"fd": "true", "receive_own_messages": "1", "local_loopback": "yes", "error_frames": "0x40", "timeout": "2.5"}
-    with CanbusdBus("can0", address=server.address, join_filters="off", bitrate=500000, single_handle=True, **texts) as bus:
+    texts = {
+        "fd": "true",
+        "receive_own_messages": "1",
+        "local_loopback": "yes",
+        "error_frames": "0x40",
+        "timeout": "2.5",
+    }
+    with CanbusdBus(
+        "can0", address=server.address, join_filters="off", bitrate=500000, single_handle=True, **texts
+    ) as bus:
         bus.send(message(1, bytes(12), is_fd=True))
         assert bus.recv(WAIT).is_fd
 
@@ -369,7 +381,8 @@ def test_values_given_as_texts(server):
         ("channel", ""), ("channel", "can 0"), ("channel", "> <"), ("address", "nowhere"), ("address", "127.0.0.1"),
         ("address", "127.0.0.1:99999"), ("address", "::1:29536"), ("fd", "maybe"), ("receive_own_messages", 2),
         ("local_loopback", "x"), ("error_frames", "all"), ("error_frames", -1), ("error_frames", 1 << 32),
-        ("join_filters", None), ("timeout", 0), ("timeout", "soon"), ("timeout", -1), ("host", "127.0.0.1"), ("port", 1),
+        ("join_filters", None), ("timeout", 0), ("timeout", "soon"), ("timeout", -1), ("host", "127.0.0.1"),
+        ("port", 1),
     ],
 )  # fmt: skip
 def test_a_wrong_argument_is_named(argument, value):

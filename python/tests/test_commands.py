@@ -106,6 +106,19 @@ def test_frames_on_the_screen_are_those_of_candump(text, line):
     assert "".join(f"{one}\n" for one in view.lines("can0", Frame.parse(text))) == line
 
 
+def test_identifiers_of_11_bits_after_one_of_29():
+    """As candump does: they are written below its low digits."""
+    import argparse
+
+    view = View(argparse.Namespace(log=False, explain=False, timestamps=None), 4)
+    lines = [view.lines("can0", Frame.parse(text))[0] for text in ("00000123#", "123#R2", "123##0" + "00" * 12)]
+    assert lines == [
+        "  can0  00000123   [0]",
+        "  can0       123   [2]  remote request",
+        "  can0       123  [12]  00 00 00 00 00 00 00 00 00 00 00 00",
+    ]
+
+
 def test_timestamps_of_candump():
     import argparse
 
@@ -132,11 +145,12 @@ def test_dump_of_several_interfaces():
                 )  # fmt: skip
             lines = dumped(child, sender, names=2)
     for name in ("can1", "can2"):
-        assert [line for line in lines if name in line] == [
-            f"  {name}  123   [1]  11\n",
-            f"  {name}  00000123   [0]\n",
-            f"  {name}       123   [2]  remote request\n",
-            f"  {name}       123  [12]  00 00 00 00 00 00 00 00 00 00 00 00\n",
+        # How wide an identifier is depends on which interface's frames came first.
+        assert [" ".join(line.split()) for line in lines if name in line] == [
+            f"{name} 123 [1] 11",
+            f"{name} 00000123 [0]",
+            f"{name} 123 [2] remote request",
+            f"{name} 123 [12] 00 00 00 00 00 00 00 00 00 00 00 00",
         ]
 
 
@@ -205,7 +219,9 @@ def test_dump_says_what_found_no_room():
             lines = dumped(child, sender)
             assert 0 < len(lines) < frames
             said = ""
-            while sum(map(int, re.findall(r"^canbusd dump: can1: (\d+) frames dropped, ", said, re.M))) < frames - len(lines):
+            while sum(map(int, re.findall(r"^canbusd dump: can1: (\d+) frames dropped, ", said, re.M))) < frames - len(
+                lines
+            ):
                 assert select.select([child.stderr], [], [], WAIT)[0], said
                 said += os.read(child.stderr.fileno(), 65536).decode()
                 sender.send(message(END), timeout=5)
@@ -258,7 +274,10 @@ def test_send_of_several_frames_and_flags():
         frames = [f"1{number:02}#{number:02}" for number in range(30)]
         status, written, said = call("send", "can0", *frames, "123##5FF", server=server)
         assert (status, written) == (0, "") and "flags are left out" in said
-        assert [receiver.recv(WAIT).arbitration_id for _ in range(31)] == [*(int(text[:3], 16) for text in frames), 0x123]
+        assert [receiver.recv(WAIT).arbitration_id for _ in range(31)] == [
+            *(int(text[:3], 16) for text in frames),
+            0x123,
+        ]
 
 
 @pytest.mark.parametrize(
@@ -348,7 +367,10 @@ def test_report_of_a_record(record):
     # 124 has a recessive bit where 123 has a dominant one.
     assert "attempt 1: can1 wins with 123#, done\n  can0 001001001<- loses here\n  can1 00100100011 00\n" in drawn
     assert "can1: transmit count #, receive count o, over 3 steps\n" in drawn
-    assert call("report", record.with_name("none"))[::2] == (1, f"canbusd report: {record.with_name('none')}: No such file or directory\n")
+    assert call("report", record.with_name("none"))[::2] == (
+        1,
+        f"canbusd report: {record.with_name('none')}: No such file or directory\n",
+    )
 
 
 def test_commands_and_their_help():
@@ -373,5 +395,7 @@ def test_reports_need_no_python_can(record):
         "    assert bench.run()[0].outcome == 'done'\n"
         f"main(['replay', {str(record)!r}])\n"
     )
-    done = subprocess.run([sys.executable, "-c", program], env=environment(), capture_output=True, text=True, timeout=WAIT)
+    done = subprocess.run(
+        [sys.executable, "-c", program], env=environment(), capture_output=True, text=True, timeout=WAIT
+    )
     assert (done.returncode, done.stderr) == (0, "") and "ok " in done.stdout

@@ -1,4 +1,4 @@
-"""CanbusdBus against a server that is played here: messages cut anywhere, answers that come late or never, and an end."""
+"""CanbusdBus against a server that is played here: messages cut anywhere, answers that come late or never, an end."""
 
 import asyncio
 import contextlib
@@ -79,7 +79,8 @@ def play(tmp_path):
 
 STREAM = (
     b"< frame 123 23.424242 11223344 >< frame 00000123 23.000001  >< remote 7FF 1.000000 4 >\r\n"
-    b"< fdframe 12345678 0.000001 000102030405060708090A0B >< error 204 0.000012 0008000000006000 >< frame 7FF 1764041234.123456 FF >"
+    b"< fdframe 12345678 0.000001 000102030405060708090A0B >< error 204 0.000012 0008000000006000 >"
+    b"< frame 7FF 1764041234.123456 FF >"
 )
 READ = [
     (0x123, b"\x11\x22\x33\x44", 4, False, False, False, False),
@@ -109,7 +110,8 @@ def test_messages_cut_at_each_byte(play):
 
 def test_answers_cut_at_each_byte_among_frames(play):
     played = play(cut=True)
-    played.answers["status"] = "< frame 123 1.000000 01 >< status passive 128 7 >< error 040 1.000000 0000000000000000 >"
+    frames = "< frame 123 1.000000 01 >", "< error 040 1.000000 0000000000000000 >"
+    played.answers["status"] = "< status passive 128 7 >".join(frames)
     played.answers["send"] = "< error no buffers >< frame 124 1.000000  >"
     with CanbusdBus("can0", address=played.address) as bus:
         assert bus.error_counters() == ("passive", 128, 7)
@@ -128,12 +130,23 @@ def test_what_is_written(play):
         bus.send(message(0x12345, b"\x01\xab", extended=True))
         bus.send(message(0x123, is_remote_frame=True, dlc=4))
         bus.set_filters([{"can_id": 0x123, "can_mask": 0x7FF, "extended": False}])
-        assert played.seen == ["send 00012345 2 01 AB", "echo", "sendrtr 123 4", "echo", "filter 1 123 800007FF", "echo"]
+        assert played.seen == [
+            "send 00012345 2 01 AB",
+            "echo",
+            "sendrtr 123 4",
+            "echo",
+            "filter 1 123 800007FF",
+            "echo",
+        ]
 
 
 @pytest.mark.parametrize(
     "greeting, said",
-    [(b"< error too many sessions >", "too many sessions"), (b"< hello >", "`hello`"), (b"", "nothing within 0.2 seconds")],
+    [
+        (b"< error too many sessions >", "too many sessions"),
+        (b"< hello >", "`hello`"),
+        (b"", "nothing within 0.2 seconds"),
+    ],
 )
 def test_another_greeting(play, greeting, said):
     played = play(greeting=greeting)

@@ -27,7 +27,9 @@ def test_the_script_of_faults():
 
 def test_a_fault_by_its_attempt():
     assert [script().of(number) for number in (1, 2, 7)] == ["global bit", "good", "local stuff can0,can1"]
-    assert verdicts_of("# a comment\n\n" + SCRIPT) == {int(line.split()[0]): line.split(" ", 1)[1] for line in SCRIPT.splitlines()}
+    assert verdicts_of("# a comment\n\n" + SCRIPT) == {
+        int(line.split()[0]): line.split(" ", 1)[1] for line in SCRIPT.splitlines()
+    }
 
 
 @pytest.mark.parametrize(
@@ -65,3 +67,5 @@ def test_a_script_is_faults_a_text_or_a_path(tmp_path):
     assert script_text(None) == script_text("") == ""
     with pytest.raises(FileNotFoundError):
         script_text("no such file")
+    with pytest.raises(ValueError, match="faults"):
+        script_text(range(32))

@@ -27,8 +27,17 @@ def test_spelling_of_cansend(text, frame):
 
 @pytest.mark.parametrize(
     "text",
-    ["123#", "123#1122", "00000123#01", "123#R", "123#R8", "00000123#R3", "123##0", "123##0" + "00" * 12,
-     "20000040#0000000000000000"],
+    [
+        "123#",
+        "123#1122",
+        "00000123#01",
+        "123#R",
+        "123#R8",
+        "00000123#R3",
+        "123##0",
+        "123##0" + "00" * 12,
+        "20000040#0000000000000000",
+    ],
 )
 def test_a_frame_is_spelled_as_it_was_read(text):
     assert str(Frame.parse(text)) == text
@@ -38,8 +47,8 @@ def test_a_frame_is_spelled_as_it_was_read(text):
     "text, word",
     [
         ("", "no frame"), ("123", "no frame"), ("123##", "no frame"), ("123#-1", "no frame"), ("800#", "identifier"),
-        ("1234#", "identifier"), ("40000000#", "identifier"), ("123#R9", "remote"), ("123#1", "pairs"), ("123##0R", "pairs"),
-        ("123#112233445566778899", "9 bytes"), ("123##0112233445566778899", "9 bytes"),
+        ("1234#", "identifier"), ("40000000#", "identifier"), ("123#R9", "remote"), ("123#1", "pairs"),
+        ("123##0R", "pairs"), ("123#112233445566778899", "9 bytes"), ("123##0112233445566778899", "9 bytes"),
     ],
 )  # fmt: skip
 def test_what_is_no_frame(text, word):

@@ -37,7 +37,14 @@ def run(pytester, monkeypatch):
         body = "\n".join(line[4:] for line in text.split("\n"))
         pytester.makepyfile("import can, canbusd, pytest\n" + body)
         # Where the package is installed this names what is loaded already.
-        words = ("-p", "canbusd.pytest_plugin", "-p", "no:cacheprovider", f"--basetemp={pytester.path / 'kept'}", *words)
+        words = (
+            "-p",
+            "canbusd.pytest_plugin",
+            "-p",
+            "no:cacheprovider",
+            f"--basetemp={pytester.path / 'kept'}",
+            *words,
+        )
         return pytester.runpytest_subprocess(*words)
 
     return run
@@ -173,7 +180,9 @@ def test_a_bench_that_is_not_ended_is_audited_too(run, pytester):
         canbusd_bench.attempt()
         assert False
     """
-    ).stdout.fnmatch_lines(["*Captured canbusd teardown*", "*/can0.log ends:", "*) can0 123#", "can0 *active *1     1 *"])
+    ).stdout.fnmatch_lines(
+        ["*Captured canbusd teardown*", "*/can0.log ends:", "*) can0 123#", "can0 *active *1     1 *"]
+    )
     assert kept(pytester) == ["can0.html", "can0.log", "can0.rec"]
 
 

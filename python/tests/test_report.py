@@ -135,7 +135,10 @@ def test_items_say_what_became_of_them():
     )
     header, column = data_of(page(run, NAMES, "run.rec"))
     assert column(header["items"]["step"]) == [0, 1]
-    assert [["taken", "waiting", "unread", "dropped"][fate] for fate in column(header["items"]["fate"])] == ["taken", "dropped"]
+    assert [["taken", "waiting", "unread", "dropped"][fate] for fate in column(header["items"]["fate"])] == [
+        "taken",
+        "dropped",
+    ]
     # The first was in its queue until after the second step.
     assert column(header["items"]["later"])[0] == 2
     header, column = data_of(page(run, NAMES, "run.rec", most_items=1))
@@ -189,6 +192,8 @@ def test_contrast_is_at_least_4_5_in_light_and_dark():
         colours = {**colours, **dict(re.findall(r"--(\w+): (#[0-9a-f]+)", style))}
         pairs = [("on", kind) for kind in kinds]
         pairs += [(name, "page") for name in [*kinds, "idle", "accepted", "hit", "off", "tec", "rec", "text", "soft"]]
-        pairs += [(name, back) for name in ("text", "soft", "tec", "destroyed") for back in ("chosen", "hover", "panel")]
+        pairs += [
+            (name, back) for name in ("text", "soft", "tec", "destroyed") for back in ("chosen", "hover", "panel")
+        ]
         weak = {pair: contrast(*(colours[name] for name in pair)) for pair in pairs}
         assert {pair: ratio for pair, ratio in weak.items() if ratio < 4.5} == {}

@@ -16,6 +16,7 @@ from conftest import WAIT, message, shape
 
 import canbusd
 from canbusd._program import find_program
+from canbusd._run import NUMBERS
 from canbusd.faults import Faults
 from canbusd.server import Server, ServerError
 
@@ -86,9 +87,17 @@ def test_ways_to_give_faults(tmp_path, form):
     "buses, options, name",
     [
         ([], {}, "buses"),
+        ([["can0", "can1"]], {}, "buses"),
+        (["can0,can1", "can0,can2"], {}, "buses"),
         (["can0"], {"out": "/no/such/folder"}, "out"),
         (["can0", "can1"], {"faults": Faults()}, "faults"),
         (["can0"], {"faults": {"can1": Faults()}}, "faults"),
+        (["can0"], {"faults": 0}, "faults"),
+        (["can0"], {"ack": "nobody"}, "ack"),
+        (["can0"], {"pace_ms": -1}, "pace_ms"),
+        (["can0"], {"pace_ms": 0.5}, "pace_ms"),
+        (["can0"], {"txqueue": "10"}, "txqueue"),
+        (["can0"], {"limit": True}, "limit"),
     ],
 )
 def test_a_wrong_argument_is_named(buses, options, name):
@@ -101,9 +110,7 @@ def test_a_wrong_argument_is_named(buses, options, name):
     [
         (["can0,can0"], {}, "bad bus"),
         (["can 0"], {}, "bad bus"),
-        (["can0"], {"txqueue": 0}, "--txqueue 0"),
-        (["can0"], {"limit": 1 << 25}, "--limit"),
-        (["can0"], {"ack": "nobody"}, "invalid value 'nobody' for '--ack'"),
+        (["can0", "can1,can0"], {}, "bad bus"),
         (["can0"], {"faults": "0 bad\n"}, "script line 1: bad line"),
         (["can0"], {"faults": "0 local crc can1\n"}, "unknown interface"),
         (["can0"], {"listen": "/no/such/folder/socket"}, "cannot listen"),
@@ -112,6 +119,18 @@ def test_a_wrong_argument_is_named(buses, options, name):
 def test_a_start_that_fails_says_why(buses, options, said):
     with pytest.raises(ServerError, match=said):
         Server(*buses, **options)
+
+
+@pytest.mark.parametrize("name", NUMBERS)
+def test_the_limits_of_numbers_are_those_of_the_program(name):
+    option, least, most = NUMBERS[name]
+    for number, is_taken in ((least - 1, False), (least, True), (most, True), (most + 1, False)):
+        words = [find_program(), "serve", "--until-eof", "--listen", "127.0.0.1:0", f"{option}={number}", "can0"]
+        done = subprocess.run(words, stdin=subprocess.DEVNULL, capture_output=True, check=False)
+        assert (done.returncode == 0) is is_taken, done.stderr
+        if not is_taken:
+            with pytest.raises(ValueError, match=name):
+                Server("can0", **{name: number})
 
 
 def test_a_port_in_use(server):
@@ -242,7 +261,9 @@ def test_the_launcher(launcher, monkeypatch, found_by):
     group = killed._child.pid
     killed.kill()
     for _ in range(WAIT * 100):
-        states = subprocess.run(["ps", "-o", "stat=", "-s", str(group)], capture_output=True, text=True, check=False).stdout
+        states = subprocess.run(
+            ["ps", "-o", "stat=", "-s", str(group)], capture_output=True, text=True, check=False
+        ).stdout
         # Nobody may be there to bury them.
         if all(state.startswith("Z") for state in states.split()):
             break

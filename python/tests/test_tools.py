@@ -52,13 +52,21 @@ def test_the_settings_of_can_conf(installed, server, tmp_path):
     )
     program = "import can\nwith can.Bus() as bus: print(bus.channel_info, bus._fd)"
     done = subprocess.run(
-        [sys.executable, "-c", program], env={**installed, "HOME": str(tmp_path)}, capture_output=True, text=True, check=False
+        [sys.executable, "-c", program],
+        env={**installed, "HOME": str(tmp_path)},
+        capture_output=True,
+        text=True,
+        check=False,
     )
     assert done.stdout == f"canbusd: channel 'can0' of the server at {server.address} True\n", done.stderr
 
 
 def test_importing_needs_neither_python_can_nor_pytest(installed):
-    program = "import canbusd, sys; canbusd.Faults, canbusd.Bench, canbusd.Server, canbusd.read_record; print({'can', 'pytest'} & {*sys.modules})"
+    program = """
+import canbusd, sys
+canbusd.Faults, canbusd.Bench, canbusd.Server, canbusd.read_record
+print({"can", "pytest"} & {*sys.modules})
+"""
     assert subprocess.check_output([sys.executable, "-c", program], env=installed, text=True) == "set()\n"
 
 
@@ -70,7 +78,9 @@ def test_can_logger(installed, tmp_path, ending, reader):
     file = tmp_path / f"run.{ending}"
     with Server("can0,can1") as server:
         # The tool hands its own words on to the writer of the file too.
-        logger = tool("logger", "-f", file, "--error-frames=False", env={**installed, "CANBUSD_ADDRESS": server.address})
+        logger = tool(
+            "logger", "-f", file, "--error-frames=False", env={**installed, "CANBUSD_ADDRESS": server.address}
+        )
         started = [logger.stdout.readline(), logger.stdout.readline()]
         assert started[1].startswith("Can Logger (Started"), logger.communicate()
         with server.bus("can0") as can0, server.bus("can1") as watch:
@@ -123,7 +133,9 @@ def test_can_viewer(installed, server, tmp_path):
             for _ in range(200):
                 can0.send(message(0x123, b"\x11\x22\x33"), timeout=WAIT)
                 can0.send(message(0x12345, b"\xab", extended=True), timeout=WAIT)
-                screen = subprocess.run([*tmux, "capture-pane", "-p"], capture_output=True, text=True, check=True).stdout
+                screen = subprocess.run(
+                    [*tmux, "capture-pane", "-p"], capture_output=True, text=True, check=True
+                ).stdout
                 if "0x00012345" in screen and "11 22 33" in screen:
                     break
                 time.sleep(0.1)
@@ -257,7 +269,8 @@ import can, threading
 address = {server.address!r}
 with can.ThreadSafeBus("can0", interface="canbusd", address=address) as can0, \\
         can.ThreadSafeBus("can1", interface="canbusd", address=address) as can1:
-    threads = [threading.Thread(target=lambda: [can0.send(can.Message(arbitration_id=1), timeout=10) for _ in range(50)])
+    send = lambda: [can0.send(can.Message(arbitration_id=1), timeout=10) for _ in range(50)]
+    threads = [threading.Thread(target=send)
                for _ in range(4)]
     for thread in threads: thread.start()
     print(sum(can1.recv(10).arbitration_id for _ in range(200)))

@@ -63,7 +63,8 @@ def test_a_page_gets_the_end():
 @pytest.mark.parametrize(
     ("text", "fault"),
     [
-        # As linux/can/error.h has them: a bit error while sending, in the end of frame a form error, no acknowledgement.
+        # As linux/can/error.h has them: a bit error while sending, in the end of frame a form error, no
+        # acknowledgement.
         ("20000088#0000810A00000000", 1),
         ("20000088#0000821A00000000", 0),
         ("200000A0#0000801900000000", 2),
@@ -84,7 +85,8 @@ class Watch:
     def __init__(self, server, *names):
         package = str(Path(canbusd.__file__).parents[1])
         self.child = subprocess.Popen(
-            [sys.executable, "-m", "canbusd", "watch", "--port", "0", "--interval", "0.05", "-a", server.address, *names],
+            [sys.executable, "-m", "canbusd", "watch", "--port", "0", "--interval", "0.05", "-a", server.address,
+             *names],
             env={**os.environ, "PYTHONPATH": package, "PYTHONDONTWRITEBYTECODE": "1"},
             stdout=subprocess.PIPE, stderr=subprocess.PIPE, text=True,
         )  # fmt: skip
@@ -113,7 +115,8 @@ def message(identifier):
 
 def test_news_have_the_frames_and_counts_of_both_interfaces():
     # The first frame is destroyed once: its sender's transmit count is 8, and then 7.
-    with Server("can0,can1", report=True, faults=Faults().destroyed(0)) as server, Watch(server, "can0", "can1") as watch:
+    server = Server("can0,can1", report=True, faults=Faults().destroyed(0))
+    with server, Watch(server, "can0", "can1") as watch:
         answer = watch.get("/news")
         assert answer.getheader("Content-Type") == "text/event-stream"
         with server.bus("can0") as bus:

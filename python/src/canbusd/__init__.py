@@ -5,7 +5,8 @@
             can0.send(can.Message(arbitration_id=0x123, data=[1, 2], is_extended_id=False))
             first, again = can1.recv(5), can1.recv(5)
 
-What is named here is imported when it is first used: only CanbusdBus and logs need python-can, and nothing needs pytest.
+What is named here is imported when it is first used: only CanbusdBus and logs need python-can, and nothing needs
+pytest.
 """
 
 import importlib

@@ -1,7 +1,8 @@
 """A connection to a server, for any number of threads.
 
-Whoever waits, for a frame or for an answer, reads the socket unless another thread does so already; the reader sorts what
-comes into frames and answers, and wakes the others. So there is no thread of its own, and nothing is read before its time.
+Whoever waits, for a frame or for an answer, reads the socket unless another thread does so already; the reader sorts
+what comes into frames and answers, and wakes the others. So there is no thread of its own, and nothing is read before
+its time.
 """
 
 import os
@@ -103,8 +104,8 @@ class Readiness:
 class Connection:
     """A session with the server at this address, which has greeted.
 
-    `timeout` is the number of seconds in which the server has to answer. Calls raise ConnectionError once the connection
-    has come to its end, and NoAnswer.
+    `timeout` is the number of seconds in which the server has to answer. Calls raise ConnectionError once the
+    connection has come to its end, and NoAnswer.
     """
 
     def __init__(self, address: str, timeout: float) -> None:
@@ -163,7 +164,7 @@ class Connection:
             return self._wait(self._next_frame, None if timeout is None else time.monotonic() + timeout)
         except ConnectionError:
             with self._changed:
-                # Who waits for the file descriptor is told of the end once.
+                # Who waits for the file descriptor learns of the end once.
                 if self._readiness is not None and not self._is_closing:
                     self._readiness.show(False)
             raise
@@ -173,8 +174,8 @@ class Connection:
         return len(self._frames)
 
     def fileno(self) -> int:
-        """Returns a file descriptor that is readable where `frame` would return at once; NotImplementedError if none can
-        be had."""
+        """Returns a file descriptor that is readable where `frame` would return at once; NotImplementedError if
+        there is none."""
         if not hasattr(select, "epoll"):
             raise NotImplementedError("a file descriptor needs epoll, which this system does not have")
         with self._changed:
@@ -191,7 +192,8 @@ class Connection:
             if self._is_closing:
                 return
             self._is_closing = True
-        # The end of what it reads ends the session of a server, which then closes the connection. It may be gone, or busy.
+        # The end of what it reads ends the session of a server, which then closes the connection. It may be gone, or
+        # busy.
         if self._asking.acquire(timeout=PARTING):
             try:
                 self._socket.shutdown(socket.SHUT_WR)

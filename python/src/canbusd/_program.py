@@ -12,7 +12,7 @@ class ProgramNotFound(FileNotFoundError):
 
 
 def find_program() -> str:
-    """Returns the path of the program: `$CANBUSD`, else `./canbusd` at the top of the clone, else canbusd on the PATH."""
+    """Returns the path of the program: `$CANBUSD`, else `./canbusd` of the clone, else canbusd on the PATH."""
     given = os.environ.get("CANBUSD")
     if given:
         found: Optional[str] = shutil.which(given)

@@ -91,6 +91,8 @@ def filter_words(one: Mapping[str, Any]) -> Tuple[int, int]:
 
     Where the filter says `extended`, only frames of that kind pass; data and remote frames pass alike.
     """
+    if not isinstance(one, Mapping):
+        raise ValueError(f"a filter is a dict with can_id and can_mask, not {one!r}")
     identifier, mask = one.get("can_id"), one.get("can_mask")
     for name, word in (("can_id", identifier), ("can_mask", mask)):
         if not isinstance(word, int) or not 0 <= word <= 0xFFFFFFFF:
@@ -104,7 +106,7 @@ def filter_words(one: Mapping[str, Any]) -> Tuple[int, int]:
 
 
 def filter_message(filters: Optional[Filters]) -> Optional[str]:
-    """Returns the message that sets these filters; None where they don't fit into one. No filters: everything passes."""
+    """Returns the message that sets these filters, None if they don't fit into one. Without any, everything passes."""
     pairs = [filter_words(one) for one in filters] if filters else [(0, 0)]
     words = " ".join(f"{identifier:X} {mask:X}" for identifier, mask in pairs)
     message = f"filter {len(pairs)} {words}"

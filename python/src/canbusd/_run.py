@@ -1,4 +1,4 @@
-"""What Server and Bench share: a folder of its own, and an end."""
+"""What Server and Bench share: the options of the program, a folder of its own, and an end."""
 
 import os
 import shutil
@@ -8,15 +8,37 @@ import tempfile
 import weakref
 from pathlib import Path
 from types import TracebackType
-from typing import Optional, Type, TypeVar, Union
+from typing import Dict, List, Optional, Tuple, Type, TypeVar, Union
 
 from canbusd._program import find_program
 
 Self = TypeVar("Self", bound="Run")
 
+#: The options of the program that are numbers, by the names of their arguments: the least and the most of each.
+NUMBERS: Dict[str, Tuple[str, int, int]] = {
+    "auto_restart": ("--auto-restart", 0, 1_000_000),
+    "pace_ms": ("--pace", 0, 60_000),
+    "txqueue": ("--txqueue", 1, 1024),
+    "rxqueue": ("--rxqueue", 1, 65_536),
+    "limit": ("--limit", 1, 1 << 24),
+}
+
+
+def option_words(ack: str, report: bool, **numbers: int) -> List[str]:
+    """Returns the words of the command line that give these options; ValueError names one that is wrong."""
+    if ack not in ("always", "peers"):
+        raise ValueError(f"ack is 'always' or 'peers', not {ack!r}")
+    words = ["--ack", ack, *(["--report"] if report else [])]
+    for name, number in numbers.items():
+        option, least, most = NUMBERS[name]
+        if isinstance(number, bool) or not isinstance(number, int) or not least <= number <= most:
+            raise ValueError(f"{name} is a whole number from {least} to {most}, not {number!r}")
+        words += [option, str(number)]
+    return words
+
 
 class Run:
-    """A run of the program, which leaves its logs and records in `out`, else in a folder that is kept as long as it is."""
+    """A run of the program. Its logs and records are in `out`, else in a folder that is kept as long as it is."""
 
     _child: "subprocess.Popen[bytes]"
 

@@ -46,7 +46,8 @@ def table(rows: Iterable[Row], headings: Sequence[str] = HEADINGS) -> List[str]:
     widths = [max(len(row[place]) for row in cells) for place in range(len(headings))]
     return [
         "  ".join(
-            cell.ljust(width) if place < 2 else cell.rjust(width) for place, (cell, width) in enumerate(zip(row, widths))
+            cell.ljust(width) if place < 2 else cell.rjust(width)
+            for place, (cell, width) in enumerate(zip(row, widths))
         ).rstrip()
         for row in cells
     ]

@@ -18,7 +18,7 @@ from typing import TYPE_CHECKING, Dict, List, Optional, Sequence, Tuple, Union
 
 from canbusd._program import audited
 from canbusd._protocol import ErrorCounters, Filters, Stats, counters_of, filter_message, options, stats_of
-from canbusd._run import RUNNING, Run
+from canbusd._run import RUNNING, Run, option_words
 from canbusd._summary import write_page
 from canbusd.faults import Script, script_text, verdicts_of
 from canbusd.frames import Frame, MessageLike, command_of, frame_of, frame_like
@@ -159,6 +159,7 @@ class Bench(Run):
         limit: int = 1_000_000,
         out: Union[str, "os.PathLike[str]", None] = None,
     ) -> None:
+        words = option_words(ack, report, auto_restart=auto_restart, txqueue=txqueue, rxqueue=rxqueue, limit=limit)
         super().__init__(out)
         self.names = tuple(names.split(",") if isinstance(names, str) else names)
         script = script_text(faults)
@@ -167,8 +168,6 @@ class Bench(Run):
         self._sent: Dict[str, List[Frame]] = {name: [] for name in self.names}
         self._moment = "0.000000"
         self._rest = b""
-        words = ["--ack", ack, *(["--report"] if report else []), "--auto-restart", str(auto_restart)]
-        words += ["--txqueue", str(txqueue), "--rxqueue", str(rxqueue), "--limit", str(limit)]
         words += ["--record", str(self._path("rec")), "--log", str(self._path("log")), "--"]
         bus = ",".join(self.names)
         if script:
@@ -265,7 +264,7 @@ class Bench(Run):
         return read_record(self._path("rec"), self.names)
 
     def log(self) -> "List[Message]":
-        """Ends the run and returns what was on the bus, as messages of python-can; those that failed are error frames."""
+        """Ends the run and returns what was on the bus, as messages of python-can; what failed is an error frame."""
         self.stop()
         return read_log(self._path("log"))
 

@@ -82,7 +82,7 @@ def seconds(name: str, value: object) -> float:
 
 
 def server_address(given: Optional[str], others: Mapping[str, Any]) -> str:
-    """Returns the address of the server; ValueError where it is none, or where it is given as other interfaces take it."""
+    """Returns the address of the server; ValueError if it is none, or is given as other interfaces take it."""
     if "host" in others or "port" in others:
         raise ValueError("host and port are not taken; give address='HOST:PORT'")
     address = str(given or os.environ.get("CANBUSD_ADDRESS") or DEFAULT_ADDRESS)
@@ -197,9 +197,9 @@ class CanbusdBus(BusABC):
     def send_many(self, msgs: Iterable[Message], timeout: Optional[float] = None) -> None:
         """Sends messages in their order, as many in one write as the transmit queue has room for.
 
-        Where this returns, the server has accepted all of them. At most :attr:`window` of them wait in the transmit queue
-        at once. If it is full all the same, since others send by the same interface or it has less room, what it refused
-        is sent again, behind what it accepted of the same write.
+        Where this returns, the server has accepted all of them. At most :attr:`window` of them wait in the transmit
+        queue at once. If it is full all the same, since others send by the same interface or it has less room, what it
+        refused is sent again, after what it accepted of the same write.
 
         :param timeout: seconds for all messages; none: as long as some are accepted within the timeout of the bus
         :raises: what :meth:`send` raises; the text says how many messages were accepted
@@ -227,8 +227,8 @@ class CanbusdBus(BusABC):
     def set_filters(self, filters: Optional[Filters] = None) -> None:
         """Receives what matches one of these filters, by the rules of linux/can.h; without any, everything.
 
-        Where a filter has ``extended``, only frames of 29 bits match it, or only those of 11 bits; remote frames match as
-        data frames do. Bit 29 of ``can_id`` inverts a filter. Error message frames are not filtered.
+        Where a filter has ``extended``, only frames of 29 bits match it, or only those of 11 bits; remote frames match
+        as data frames do. Bit 29 of ``can_id`` inverts a filter. Error message frames are not filtered.
         """
         super().set_filters(filters)  # type: ignore[arg-type]
 

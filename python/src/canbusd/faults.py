@@ -81,6 +81,8 @@ def script_text(script: Optional[Script]) -> str:
         return str(script)
     if isinstance(script, str) and ("\n" in script or not script):
         return script
+    if not isinstance(script, (str, os.PathLike)):
+        raise ValueError(f"faults are Faults, a path or a text, not {script!r}")
     with open(script, encoding="utf-8") as file:
         return file.read()
 

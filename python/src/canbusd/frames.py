@@ -30,9 +30,7 @@ ERROR_FRAME = "[23][0-9A-F]{7}#[0-9A-F]{16}"
 # cansend's spelling: an FD frame has a second # and a digit of flags.
 SPELLING = re.compile("([0-9A-Fa-f]+)#(?:#([0-9A-Fa-f]))?([0-9A-Fa-fRr.]*)")
 # A session's message with a frame or an error message frame. In answers `error` stands before no moment.
-MESSAGE = re.compile(
-    "(frame|fdframe|remote|error) ([0-9A-F]+) ([0-9]+[.][0-9]{6})(?: +([0-9A-F]*))?"
-)
+MESSAGE = re.compile("(frame|fdframe|remote|error) ([0-9A-F]+) ([0-9]+[.][0-9]{6})(?: +([0-9A-F]*))?")
 
 
 Made = TypeVar("Made")
@@ -115,28 +113,36 @@ class MessageLike(Protocol):
     """What a frame and python-can's Message have in common."""
 
     @property
-    def arbitration_id(self) -> int: ...
+    def arbitration_id(self) -> int:
+        ...
 
     @property
-    def data(self) -> Union[bytes, bytearray]: ...
+    def data(self) -> Union[bytes, bytearray]:
+        ...
 
     @property
-    def is_extended_id(self) -> bool: ...
+    def is_extended_id(self) -> bool:
+        ...
 
     @property
-    def is_remote_frame(self) -> bool: ...
+    def is_remote_frame(self) -> bool:
+        ...
 
     @property
-    def is_error_frame(self) -> bool: ...
+    def is_error_frame(self) -> bool:
+        ...
 
     @property
-    def is_fd(self) -> bool: ...
+    def is_fd(self) -> bool:
+        ...
 
     @property
-    def dlc(self) -> int: ...
+    def dlc(self) -> int:
+        ...
 
     @property
-    def timestamp(self) -> float: ...
+    def timestamp(self) -> float:
+        ...
 
 
 def frame_like(message: MessageLike) -> Frame:

@@ -165,9 +165,7 @@ class Runs:
 
 
 @pytest.fixture
-def _canbusd_runs(
-    request: pytest.FixtureRequest, tmp_path_factory: pytest.TempPathFactory
-) -> Iterator[Runs]:
+def _canbusd_runs(request: pytest.FixtureRequest, tmp_path_factory: pytest.TempPathFactory) -> Iterator[Runs]:
     runs = Runs(request, tmp_path_factory)
     yield runs
     runs.end()
@@ -183,7 +181,7 @@ def marked(request: pytest.FixtureRequest) -> Tuple[Tuple[str, ...], Dict[str, A
 
 @pytest.fixture
 def canbusd_server(_canbusd_runs: Runs) -> StartsServer:
-    """Starts servers: `canbusd_server("can0,can1", faults=..)`. Each is ended after the test, and its records audited."""
+    """Starts servers: `canbusd_server("can0,can1", faults=..)`. After the test they end and are audited."""
     return _canbusd_runs.server
 
 

@@ -80,7 +80,7 @@ class Version:
         return {kind: re.compile(line) for kind, line in spelled.items()}
 
 
-# By the first line. From version 2 on a number behind the limit says after how many attempts interfaces are restarted.
+# By the first line. From version 2 on a number after the limit says after how many attempts interfaces are restarted.
 VERSIONS = {
     "canbus record 1": Version(BUS),
     "canbus record 2": Version(f"{BUS} ([1-9][0-9]*)"),
@@ -181,19 +181,20 @@ class Record:
     @property
     def attempts(self) -> List[Attempt]:
         """The attempts of the run; of the idle ones only those that restarted an interface."""
-        return self.run.attempts_told()
+        return self.run.attempts_made()
 
     @property
     def items(self) -> List[Item]:
         """What each socket received or lost, in the order in which the interfaces handed it out."""
-        return self.run.items_told()
+        return self.run.items_handed_out()
 
 
 def read_record(path: Path, names: Optional[Sequence[str]] = None) -> Record:
     """Returns the record in this file.
 
-    `names` names the interfaces, as a list or as `can0,can1`. Without it they have the names in the log beside the record
-    (can0.log beside can0.rec), as far as they won an attempt there; the others are called `interface 0` and so on.
+    `names` names the interfaces, as a list or as `can0,can1`. Without it they have the names in the log beside the
+    record (can0.log beside can0.rec), as far as they won an attempt there; the others are called `interface 0` and so
+    on.
     """
     with open(path, "rb") as file:
         return parse_record(file.read(), path, names)
@@ -272,7 +273,9 @@ def names_of(record: Record, path: Optional[Path], given: Optional[Sequence[str]
     if given is not None:
         names = given.split(",") if isinstance(given, str) else given
         if len(names) != record.ifaces:
-            raise BadRecord(f"its bus has {record.ifaces} interfaces, and {len(names)} names are given: {','.join(names)}")
+            raise BadRecord(
+                f"its bus has {record.ifaces} interfaces, and {len(names)} names are given: {','.join(names)}"
+            )
         if len(set(names)) != len(names) or not all(map(NAME.fullmatch, names)):
             raise BadRecord(f"no names of interfaces, or the same twice: {','.join(names)}")
         return tuple(names)
@@ -323,7 +326,8 @@ def names_in_log(record: Record, log: str) -> Dict[int, str]:
 def audit(data: bytes) -> str:
     """Returns what `canbusd audit` has to say first of these bytes, by the replay and without the program.
 
-    It is `ok 7 entries`, or `canbusd: ` and the fault: `entry 3: wrong`, `line 5: bad line`, `bad version`, `read fault`.
+    It is `ok 7 entries`, or `canbusd: ` and the fault: `entry 3: wrong`, `line 5: bad line`, `bad version`, `read
+    fault`.
     """
     try:
         return f"ok {len(parse_record(data).run.record.lines)} entries"

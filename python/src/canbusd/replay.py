@@ -1,7 +1,7 @@
 """Replays the events of a record by the rules of docs/DEFINITIONS.md, and keeps what happened.
 
-The program is not asked, and nothing of it is used: each reply in the record is compared with the one that the rules give.
-So a replay that comes to its end is an audit of the record by a second implementation.
+The program is not asked, and nothing of it is used: each reply in the record is compared with the one that the rules
+give. So a replay that comes to its end is an audit of the record by a second implementation.
 """
 
 from collections import deque
@@ -13,7 +13,8 @@ from canbusd.record import Attempt, BadRecord, Item, Record
 
 OFF, PASSIVE, WARNING = 256, 128, 96
 MOST_SOCKETS = 64
-# The bytes 2 and 3 of a fault's error message frame: by the verdict at the winner, and by the local fault at who is hit.
+# The bytes 2 and 3 of a fault's error message frame: by the verdict at the winner, and by the local fault at who is
+# hit.
 AT_THE_WINNER = {"global-bit": (0x81, 0x0A), "global-form": (0x82, 0x1B), "local": (0x81, 0x00)}
 AT_THE_HIT = {"stuff": (0x04, 0x0A), "crc": (0x00, 0x08), "form": (0x02, 0x1B)}
 # A change of state's byte 1, by the severity of a side: active, warning, passive.
@@ -58,9 +59,7 @@ class Delivery:
 
     __slots__ = ("socket", "step", "text", "sender", "number", "moment", "fate", "taken_after")
 
-    def __init__(
-        self, socket: "Socket", step: int, text: str, sender: int, number: Optional[int], moment: str
-    ) -> None:
+    def __init__(self, socket: "Socket", step: int, text: str, sender: int, number: Optional[int], moment: str) -> None:
         self.socket, self.step, self.text = socket, step, text
         # Its number at its sender; None for an error message frame.
         self.sender, self.number, self.moment = sender, number, moment
@@ -87,7 +86,8 @@ class Socket:
         if frame.is_fd and not self.options["fd"]:
             return False
         matches = [
-            ((frame.word ^ identifier) & mask == 0) != bool(identifier & 0x20000000) for identifier, mask in self.filters
+            ((frame.word ^ identifier) & mask == 0) != bool(identifier & 0x20000000)
+            for identifier, mask in self.filters
         ]
         return bool(matches) and (all(matches) if self.options["join"] else any(matches))
 
@@ -486,7 +486,7 @@ class Run:
         members = [name for i, name in enumerate(self.record.names) if digits and int(digits, 16) >> i & 1]
         return " ".join([*kind.split("-"), *([",".join(members)] if digits else [])])
 
-    def attempts_told(self) -> List[Attempt]:
+    def attempts_made(self) -> List[Attempt]:
         """The attempts of the run, with the restarts in the end of each."""
         restarts: Dict[int, List[int]] = {}
         for step in self.steps:
@@ -497,14 +497,14 @@ class Run:
         for step in self.steps:
             again = restarts.get(step.entry, [])
             if step.kind != "restart":
-                attempts.append(self.told(step, again))
+                attempts.append(self.attempt_of(step, again))
             elif step.entry not in seen and self.record.lines[step.entry].startswith("attempt "):
                 fault = self.fault_named(self.record.lines[step.entry].split(" ")[2])
                 attempts.append(Attempt(float(step.moment), "", 0, "", "idle", fault, (), (), self.named(again)))
             seen.add(step.entry)
         return attempts
 
-    def told(self, step: Step, restarted: Sequence[int] = ()) -> Attempt:
+    def attempt_of(self, step: Step, restarted: Sequence[int] = ()) -> Attempt:
         """A step that is an attempt."""
         return Attempt(
             float(step.moment),
@@ -518,7 +518,7 @@ class Run:
             self.named(restarted),
         )
 
-    def items_told(self) -> List[Item]:
+    def items_handed_out(self) -> List[Item]:
         """What each socket received or lost."""
         names = self.record.names
         return [

@@ -82,7 +82,8 @@ class Timeline:
 
     def __init__(self, run: Run) -> None:
         self.ifaces = len(run.ifaces)
-        # How many idle attempts in a row it is, shown as one step; for 0 the step itself. Those go with the step after them.
+        # How many idle attempts in a row it is, shown as one step; for 0 the step itself. Those go with the step after
+        # them.
         self.rows: List[Tuple[int, Step]] = []
         # Where each step of the run is among the rows.
         self.places: List[int] = []
@@ -160,7 +161,8 @@ class Timeline:
             ],
             "idle": block.column("H", (cell.count(5) for cell in cells(self.kinds))),
             "away": [
-                block.column("H", (sum(count >= OFF for count in cell) for cell in cells(tec))) for tec, _ in self.counts
+                block.column("H", (sum(count >= OFF for count in cell) for cell in cells(tec)))
+                for tec, _ in self.counts
             ],
         }
 

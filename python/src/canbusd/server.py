@@ -15,7 +15,7 @@ from pathlib import Path
 from typing import TYPE_CHECKING, Any, Dict, List, Mapping, NamedTuple, Optional, Tuple, Union
 
 from canbusd._program import audited
-from canbusd._run import RUNNING, Run
+from canbusd._run import RUNNING, Run, option_words
 from canbusd.faults import Script, script_text
 from canbusd.record import Record, read_log, read_record
 
@@ -52,6 +52,8 @@ def bus_words(
     by_bus: Dict[str, List[str]] = {}
     for bus in buses:
         names = bus.partition("@")[0].split(",")
+        if names[0] in by_bus:
+            raise ValueError(f"buses are of different interfaces, and two begin with {names[0]!r}")
         by_bus[names[0]] = [*names, bus]
     if faults is None:
         return by_bus
@@ -74,10 +76,10 @@ def bus_words(
 class Server(Run):
     """`canbusd serve` with these buses, each the names of its interfaces: ``Server("can0,can1", "car0")``.
 
-    The options are those of the program. ``faults`` is a script for the one bus there is (:class:`canbusd.Faults`, a path
-    or a text), or a dict of them by the name of a bus's first interface. ``out`` is a folder for logs and records; without
-    it they are kept as long as the server is. The server runs when the constructor returns, and is ended by :meth:`stop`,
-    by the end of a ``with`` block, and by the end of this process, whatever ends it.
+    The options are those of the program. ``faults`` is a script for the one bus there is (:class:`canbusd.Faults`, a
+    path or a text), or a dict of them by the name of a bus's first interface. ``out`` is a folder for logs and records;
+    without it they are kept as long as the server is. The server runs when the constructor returns, and is ended by
+    :meth:`stop`, by the end of a ``with`` block, and by the end of this process, whatever ends it.
     """
 
     def __init__(
@@ -94,16 +96,17 @@ class Server(Run):
         out: Union[str, "os.PathLike[str]", None] = None,
         listen: str = "127.0.0.1:0",
     ) -> None:
-        if not buses:
-            raise ValueError("buses are missing: give the names of interfaces, such as 'can0,can1'")
+        if not buses or not all(isinstance(bus, str) for bus in buses):
+            raise ValueError(f"buses are given by the names of their interfaces, such as 'can0,can1', not {buses!r}")
+        options = option_words(
+            ack, report, auto_restart=auto_restart, pace_ms=pace_ms, txqueue=txqueue, rxqueue=rxqueue, limit=limit
+        )
         super().__init__(out)
         self._txqueue = txqueue
         self._by_bus = bus_words(buses, faults, self._folder)
         self._result: Optional[Result] = None
-        words = ["--listen", listen, "--ack", ack, *(["--report"] if report else [])]
-        words += ["--auto-restart", str(auto_restart), "--pace", str(pace_ms), "--txqueue", str(txqueue)]
-        words += ["--rxqueue", str(rxqueue), "--limit", str(limit), "--out", str(self._out)]
-        self._start("serve", "--until-eof", *words, "--", *(bus[-1] for bus in self._by_bus.values()))
+        words = ["--until-eof", "--listen", listen, *options, "--out", str(self._out)]
+        self._start("serve", *words, "--", *(bus[-1] for bus in self._by_bus.values()))
         #: Where clients connect: HOST:PORT, or a Unix path.
         self.address = self._listening()
 
@@ -146,11 +149,11 @@ class Server(Run):
         return read_record(self._file(name, "rec"), self._by_bus[self._first(name)][:-1])
 
     def audit(self) -> Dict[str, str]:
-        """Ends the server, and returns what `canbusd audit` says of each record, by its bus: `ok 7 entries` or a fault."""
+        """Ends the server, and returns what `canbusd audit` says of each bus's record: `ok 7 entries` or a fault."""
         return {name: audited(self._file(name, "rec")) for name in self._by_bus}
 
     def report(self, name: Optional[str] = None) -> Path:
-        """Ends the server, and returns the path of a page for the browser that shows the run of this interface's bus."""
+        """Ends the server, and returns the path of a page for the browser that shows the run of the bus."""
         from canbusd._summary import write_page
 
         return Path(write_page(self.record(name), self._file(name, "html")))

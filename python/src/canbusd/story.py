@@ -109,7 +109,9 @@ def drops_of(run: Run, names: Sequence[str]) -> Iterator[Event]:
     for number, steps in places.items():
         socket = run.sockets[number]
         for first, count in groups(steps):
-            words = f"socket {number} on {names[socket.iface]} dropped {times(count, 'item')}: its receive queue was full"
+            words = (
+                f"socket {number} on {names[socket.iface]} dropped {times(count, 'item')}: its receive queue was full"
+            )
             yield Event(first, "dropped", socket.iface, words)
 
 

@@ -18,9 +18,10 @@ from canbusd.frames import SENDING, Frame, frame_like
 from canbusd.report import filled
 
 EPILOG = """\
-The page is served on 127.0.0.1 only. It shows how many frames each interface sent, their error counts with the limits, changes
-of state, each identifier with its last data, and the last frames. Destroyed and unacknowledged frames are shown where the server
-was started with --report. A session on each interface receives everything: each frame that it gets is an entry of the record.
+The page is served on 127.0.0.1 only. It shows how many frames each interface sent, their error counts with the limits,
+changes of state, each identifier with its last data, and the last frames. Destroyed and unacknowledged frames are shown
+where the server was started with --report. A session on each interface receives everything: each frame that it gets is
+an entry of the record.
 
   python3 -m canbusd watch can0 can1
   python3 -m canbusd watch --port 0 -a ./bench.socket can0
@@ -109,7 +110,7 @@ class Request(BaseHTTPRequestHandler):
     server: Pages
 
     def do_GET(self) -> None:
-        """Answers with the page or the news."""
+        """Sends the page or the news."""
         port = self.server.server_address[1]
         # Another site's name for this address would let that site read the bus.
         if self.headers.get("Host") not in (f"127.0.0.1:{port}", f"localhost:{port}"):
@@ -197,7 +198,11 @@ def words(parser: argparse.ArgumentParser) -> None:
         "--port", type=int, default=8029, metavar="N", help="the port of the page; 0 is any free one (default 8029)"
     )
     parser.add_argument(
-        "--interval", type=float, default=0.25, metavar="S", help="seconds between two looks at the counts (default 0.25)"
+        "--interval",
+        type=float,
+        default=0.25,
+        metavar="S",
+        help="seconds between two looks at the counts (default 0.25)",
     )
     address_words(parser)
 

@@ -14,7 +14,8 @@ from canbusd.frames import ERROR, Frame, frame_like
 
 EPILOG = """\
 An interface is a name, followed by filters as candump has them: ID:MASK, ID~MASK for all others, #MASK for classes of
-error message frames, and j where frames have to pass all of them. With -e each error message frame is explained in words.
+error message frames, and j where frames have to pass all of them. With -e each error message frame is explained in
+words.
 
   python3 -m canbusd dump -e can0
   python3 -m canbusd dump can0,123:7FF can1,#FFFFFFFF
@@ -115,7 +116,9 @@ def words(parser: argparse.ArgumentParser) -> None:
         help="timestamps: absolute, absolute with date, delta, or from zero",
     )
     parser.add_argument("-n", dest="count", type=int, metavar="COUNT", help="end after so many frames")
-    parser.add_argument("-T", dest="patience", type=float, metavar="MS", help="end after so many milliseconds without a frame")
+    parser.add_argument(
+        "-T", dest="patience", type=float, metavar="MS", help="end after so many milliseconds without a frame"
+    )
     address_words(parser)
 
 
@@ -136,9 +139,7 @@ def opened(text: str, options: argparse.Namespace) -> Tuple[str, CanbusdBus]:
             join = True
         else:
             raise ValueError(f"{text}: `{part}` is no filter such as 123:7FF, 123~7FF, #1FFFFFFF or j")
-    bus = CanbusdBus(
-        name, filters or None, address=options.address, fd=True, error_frames=errors, join_filters=join
-    )
+    bus = CanbusdBus(name, filters or None, address=options.address, fd=True, error_frames=errors, join_filters=join)
     return name, bus
 
 
@@ -160,7 +161,10 @@ class Drops:
             dropped = bus.stats().dropped
             if dropped > self.dropped[place]:
                 more = dropped - self.dropped[place]
-                print(f"canbusd dump: {name}: {more} frames dropped, {dropped} in all: they came too fast", file=sys.stderr)
+                print(
+                    f"canbusd dump: {name}: {more} frames dropped, {dropped} in all: they came too fast",
+                    file=sys.stderr,
+                )
             self.dropped[place] = dropped
         self.next_look, self.has_received = time.monotonic() + self.INTERVAL, False
 

@@ -38,7 +38,7 @@ def lines_of(replay: Run, names: Sequence[str]) -> Iterator[str]:
         if step.kind == "restart":
             yield f"({step.moment}) {names[step.iface]} restarted, {after}"
         else:
-            yield f"({step.moment}) {names[step.iface]} {step.text} {words_of(replay.told(step))}, {after}"
+            yield f"({step.moment}) {names[step.iface]} {step.text} {words_of(replay.attempt_of(step))}, {after}"
 
 
 def words_of(attempt: Attempt) -> str:

@@ -28,7 +28,9 @@ def words(parser: argparse.ArgumentParser) -> None:
         "--items", type=int, default=1000000, metavar="N", help="items on the page at most (default 1000000)"
     )
     parser.add_argument("--text", action="store_true", help="write events as text, and both of the following")
-    parser.add_argument("--counters", action="store_true", help="draw the error counters after each attempt and restart")
+    parser.add_argument(
+        "--counters", action="store_true", help="draw the error counters after each attempt and restart"
+    )
     parser.add_argument(
         "--arbitration", action="store_true", help="draw the bits of each attempt in which several interfaces took part"
     )

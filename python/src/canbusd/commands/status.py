@@ -10,8 +10,9 @@ from canbusd.bus import CanbusdBus
 from canbusd.commands import NOTHING, address_words
 
 EPILOG = """\
-TEC and REC are the transmit and the receive error count: error warning from 96, error passive from 128, bus off from 256.
-`sent` is what was accepted for sending: done, waiting, or lost at bus off. `refused` found the transmit queue full.
+TEC and REC are the transmit and the receive error count: error warning from 96, error passive from 128, bus off from
+256. `sent` is what was accepted for sending: done, waiting, or lost at bus off. `refused` found the transmit queue
+full.
 
   python3 -m canbusd status can0 can1
   python3 -m canbusd status --watch can0 can1

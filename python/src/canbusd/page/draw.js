@@ -22,7 +22,8 @@ function element(tag, content = [], more = {}) {
   made.append(...[content].flat());
   return made;
 }
-const tableRow = (tag, cells) => element("tr", cells.map(cell => cell instanceof Node ? cell : element(tag, String(cell))));
+const tableCell = (tag, cell) => cell instanceof Node ? cell : element(tag, String(cell));
+const tableRow = (tag, cells) => element("tr", cells.map(cell => tableCell(tag, cell)));
 const bad = text => element("td", String(text), { className: "bad" });
 const counted = number => number ? bad(number) : element("td", "0");
 const grouped = number => number.toLocaleString("en");

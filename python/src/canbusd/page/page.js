@@ -17,13 +17,15 @@ async function unpack(text) {
   const stream = new Blob([bytes]).stream().pipeThrough(new DecompressionStream("deflate"));
   const whole = await new Response(stream).arrayBuffer(), size = new DataView(whole).getUint32(0, true);
   const header = JSON.parse(new TextDecoder().decode(new Uint8Array(whole, 8, size)));
-  return { header, column: ([code, place, length, rises]) => risen(new ARRAYS[code](whole, 8 + size + place, length), rises) };
+  const numbers = ([code, place, length]) => new ARRAYS[code](whole, 8 + size + place, length);
+  return { header, column: one => risen(numbers(one), one[3]) };
 }
 function risen(numbers, rises) {
   if (rises) for (let k = 1; k < numbers.length; k++) numbers[k] += numbers[k - 1];
   return numbers;
 }
-const columnsOf = (table, column) => Object.fromEntries(Object.entries(table).map(([name, one]) => [name, column(one)]));
+const columnsOf = (table, column) =>
+  Object.fromEntries(Object.entries(table).map(([name, one]) => [name, column(one)]));
 
 function take({ header, column }) {
   run = header;
@@ -58,7 +60,8 @@ function placeSteps() {
 const members = set => names.filter((_, i) => set >> i & 1);
 const listed = set => members(set).join(", ") || "nobody";
 // Idle attempts in a row have no one moment.
-const momentOf = step => steps.kind[step] === IDLE ? "" : `${steps.seconds[step]}.${String(steps.micros[step]).padStart(6, "0")}`;
+const momentOf = step =>
+  steps.kind[step] === IDLE ? "" : `${steps.seconds[step]}.${String(steps.micros[step]).padStart(6, "0")}`;
 const textOf = step => run.texts[steps.frame[step]];
 const isFault = step => FAULTS.includes(steps.kind[step]) || steps.hit[step];
 
@@ -73,8 +76,9 @@ function sentence(step) {
   if (kind === RESTART) return `${who} is restarted: it is back on the bus, with both counts 0.`;
   if (kind === IDLE) return `No node on the bus had a frame to send.${awayWords(step)}`;
   const off = steps.off[step] ? ` ${who} goes bus off.` : "";
-  return `${who} wins with its frame ${steps.number[step]}, ${textOf(step)}. Fault: ${run.verdicts[steps.verdict[step]]}. `
-    + `Outcome: ${KIND_WORDS[kind]}. Accepted by ${listed(steps.accepted[step])}.${off}`;
+  return `${who} wins with its frame ${steps.number[step]}, ${textOf(step)}. `
+    + `Fault: ${run.verdicts[steps.verdict[step]]}. Outcome: ${KIND_WORDS[kind]}. `
+    + `Accepted by ${listed(steps.accepted[step])}.${off}`;
 }
 function awayWords(step) {
   const away = names.filter((_, i) => tec[i].all[step] >= 256);
@@ -132,7 +136,8 @@ function drawBars(plot, buckets, top) {
   for (const { first: step, left, width } of buckets) {
     const kind = steps.kind[step], wide = Math.max(width - (width > 6 ? 1 : 0), 1);
     names.forEach((_, i) => {
-      const y = top + i * ROW, fill = (tint, from, high) => { pen.fillStyle = tint; pen.fillRect(left, y + from, wide, high); };
+      const y = top + i * ROW;
+      const fill = (tint, from, high) => { pen.fillStyle = tint; pen.fillRect(left, y + from, wide, high); };
       if (tec[i].all[step] >= 256 && !(steps.off[step] >> i & 1)) fill(off, 4, BAR);
       if (kind === IDLE) fill(theme.idle, 4 + BAR - 3, 3);
       else if (steps.iface[step] === i) fill(fills[kind], 4, BAR);
@@ -140,8 +145,11 @@ function drawBars(plot, buckets, top) {
       if (steps.hit[step] >> i & 1) fill(theme.hit, 0, 3);
       if (steps.off[step] >> i & 1) fill(theme.text, 4 + BAR, 3);
     });
-    if (kind === IDLE) drawWords(plot, [titleOf(step), grouped(steps.number[step])], left, wide, top + ROW / 2, null);
-    else drawWords(plot, wordsOf(step), left, wide, top + steps.iface[step] * ROW + 4 + BAR / 2, kind);
+    if (kind === IDLE) {
+      // Not over the hatching of a node that is off.
+      const row = Math.max(0, names.findIndex((_, i) => tec[i].all[step] < 256));
+      drawWords(plot, [titleOf(step), grouped(steps.number[step])], left, wide, top + row * ROW + ROW / 2, null);
+    } else drawWords(plot, wordsOf(step), left, wide, top + steps.iface[step] * ROW + 4 + BAR / 2, kind);
   }
 }
 const wordsOf = step => steps.kind[step] === RESTART ? ["restart"] : [textOf(step), textOf(step).split("#")[0]];
@@ -273,7 +281,8 @@ function countersAround(step) {
 }
 function showChosen() {
   if (!axis.count) { at("chosen").replaceChildren(element("p", "No frame was tried.")); return; }
-  const step = view.step, title = placeWords(step), entry = momentOf(step) && `, entry ${steps.entry[step]} of the record`;
+  const step = view.step, title = placeWords(step);
+  const entry = momentOf(step) && `, entry ${steps.entry[step]} of the record`;
   const heading = title[0].toUpperCase() + title.slice(1) + entry;
   at("chosen").replaceChildren(element("h2", heading), element("p", sentence(step)),
     ...[arbitration(step)].flat(), countersAround(step));
@@ -318,7 +327,8 @@ function findItems() {
   const textOfItem = item => items.error[item] ? run.texts[items.error[item]] : textOf(items.step[item]);
   found = [];
   for (let item = 0; item < items.step.length; item++) {
-    if (socket !== "" && items.socket[item] !== Number(socket) || fate !== "" && items.fate[item] !== Number(fate)) continue;
+    if (socket !== "" && items.socket[item] !== Number(socket)) continue;
+    if (fate !== "" && items.fate[item] !== Number(fate)) continue;
     if (text === "" || textOfItem(item).startsWith(text)) found.push(item);
   }
   at("found").textContent = `${grouped(found.length)} of ${grouped(run.itemsInAll)}`
@@ -354,7 +364,8 @@ function choose(step) {
   view.step = Math.min(Math.max(0, step), axis.count - 1);
   const span = view.to - view.from, place = axis.start[view.step];
   if (place < view.from || axis.start[view.step + 1] > view.to) look(place - span / 2, place + span / 2);
-  history.replaceState(null, "", steps.kind[view.step] < RESTART ? `#attempt=${attemptOf[view.step]}` : `#step=${view.step}`);
+  const hash = steps.kind[view.step] < RESTART ? `#attempt=${attemptOf[view.step]}` : `#step=${view.step}`;
+  history.replaceState(null, "", hash);
   redraw();
 }
 // Of many steps the one that matters most.

@@ -55,7 +55,8 @@ function takeFrame(moment, text, iface, says) {
 // Drawing.
 
 function measure() {
-  const most = Math.max(1, ...ticks.map(tick => tick.wins.reduce((all, one) => all + one.reduce((a, b) => a + b, 0), 0)));
+  const sum = numbers => numbers.reduce((all, one) => all + one, 0);
+  const most = Math.max(1, ...ticks.map(tick => sum(tick.wins.map(sum))));
   const column = place => names.map((_, i) => new Numbers(Uint16Array.from(ticks, tick => tick.ifaces[i][place])));
   busiest = most;
   [tec, rec] = [column(1), column(2)];
@@ -120,7 +121,8 @@ function sayNow() {
   const sent = recent.slice(1).reduce((sum, tick) => sum + tick.wins.reduce((all, one) => all + one[0], 0), 0);
   const rate = recent.length > 1 ? sent / (last.time - recent[0].time) : 0;
   const off = names.filter((_, i) => last.ifaces[i][0] === "off");
-  at("facts").textContent = `${source}: ${grouped(Math.round(rate))} frames a second, ${grouped(total)} received so far.`
+  at("facts").textContent =
+    `${source}: ${grouped(Math.round(rate))} frames a second, ${grouped(total)} received so far.`
     + (last.missed ? ` ${grouped(last.missed)} missed: they came too fast for \`canbusd watch\`.` : "")
     + (off.length ? ` Bus off: ${off.join(", ")}.` : "");
 }

@@ -1,0 +1,40 @@
+"""contrib/candump2bench: logs as inputs of the bench. scripts/check-contrib tries it with whole logs."""
+
+import subprocess
+import sys
+from pathlib import Path
+
+import pytest
+
+TOOL = Path(__file__).resolve().parents[2] / "contrib" / "candump2bench"
+
+
+def converted(text, *words):
+    return subprocess.run([sys.executable, TOOL, *words], input=text, capture_output=True, text=True, check=False)
+
+
+def test_its_first_line_says_how_to_run_it():
+    done = converted("(1.000000) can0 123#1122\n", "--listen", "tester")
+    assert (done.returncode, done.stderr) == (0, "")
+    assert done.stdout.splitlines()[0] == "# canbusd bench tester,can0 < THIS FILE"
+    assert "canbusd bench tester,can0 < run.bench" in converted("", "--help").stdout
+
+
+@pytest.mark.parametrize(
+    "line",
+    [
+        "  vcan0  123   [2]  11 22",
+        " (1.000000)  can0  12345678   [0]",
+        "  can0       7FF  [08]  01 02 03 04 05 06 07 08",
+    ],
+)
+def test_what_candump_writes_on_a_screen_is_told_apart(line):
+    done = converted(f"(1.000000) can0 123#1122\n{line}\n")
+    assert done.returncode == 1
+    assert done.stderr.startswith("candump2bench: standard input:2: not ")
+    assert "which `candump -L` and `candump -l` write" in done.stderr
+
+
+def test_another_line_is_not():
+    done = converted("(1.000000) can0 123#1122\n# a comment\n")
+    assert done.stderr.endswith("not `(SECONDS.MICROS) INTERFACE FRAME`: # a comment\n")

@@ -1,0 +1,43 @@
+"""The Python code of the documents: it runs as it is written there."""
+
+import re
+import subprocess
+import sys
+from pathlib import Path
+
+from canbusd.server import Server
+
+CLONE = Path(__file__).resolve().parents[2]
+DOCUMENTS = {"readme": "README.md", "guide": "docs/GUIDE.md", "package": "docs/PYTHON.md"}
+
+
+def blocks(path):
+    """The blocks of Python in a document."""
+    return re.findall(r"^```python\n(.*?)^```$", (CLONE / path).read_text(encoding="utf-8"), re.M | re.S)
+
+
+def test_the_tests_of_the_documents_need_their_faults(installed, tmp_path):
+    for name, path in DOCUMENTS.items():
+        (text,) = [block for block in blocks(path) if "def test_" in block]
+        (tmp_path / f"test_{name}.py").write_text(text)
+        text = re.sub(r", faults=Faults\(\)\.\w+\(.*?\)+$", ")", text, flags=re.M)
+        text = re.sub(r"recv\((timeout=)?5\)", "recv(0.5)", text)
+        (tmp_path / f"test_{name}_without.py").write_text(text)
+    words = ["-m", "pytest", "-q", "-rA", "-p", "no:cacheprovider", f"--basetemp={tmp_path}/runs"]
+    done = subprocess.run(
+        [sys.executable, *words], cwd=tmp_path, env=installed, capture_output=True, text=True, check=False
+    )
+    found = {name: outcome for outcome, name in re.findall(r"^(\w+) test_(\w+)\.py::", done.stdout, re.M)}
+    passed = {name: "PASSED" for name in DOCUMENTS}
+    assert found == {**passed, **{f"{name}_without": "FAILED" for name in DOCUMENTS}}, done.stdout
+
+
+def test_the_other_code_of_the_package(installed):
+    others = [block for block in blocks(DOCUMENTS["package"]) if "def test_" not in block]
+    program = "\n".join(["from canbusd import Bench, Faults, Server", *others])
+    with Server("can0,can1") as server:
+        env = {**installed, "CANBUSD_ADDRESS": server.address}
+        done = subprocess.run([sys.executable, "-c", program], env=env, capture_output=True, text=True, check=False)
+    assert done.returncode == 0, done.stderr
+    assert re.match("Timestamp: .* ID: +0?123 .* 01 02 03 ", done.stdout)
+    assert len(others) == 6
