@@ -1,5 +1,5 @@
 -- The line of an attempt that tried a frame, in the parts in which it is written.
-use Rattle.std.proofs.Common.{◌≡◌, ◌∙◌, ap, append_assoc, refl, ℕ, List, [], ◌∷◌, ◌++◌}
+use Rattle.std.proofs.Common.{◌≡◌, ◌∙◌, ap, append_assoc, ℕ, List, [], ◌∷◌, ◌++◌}
 use Rattle.std.specs.Prelude.{codes, decimal}
 use Rattle.can_frame.specs.FrameText.{frame_spelling}
 use Rattle.can_frame.specs.declared.items.Item.TheVariants as item

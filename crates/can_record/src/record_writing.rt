@@ -1,4 +1,4 @@
-ghost use Rattle.std.specs.Prelude.{◌≡◌, ◌≤◌, ◌++◌, [], length, IfOk, OnOk, reverse};
+ghost use Rattle.std.specs.Prelude.{◌≡◌, ◌≤◌, ◌++◌, [], length, IfOk, IsTrue, OnOk, reverse};
 ghost use Rattle.std.specs.Io.KnownBytes.{Appends};
 ghost use Rattle.can_event.specs.Spelled.{FitsReply};
 ghost use Rattle.can_packed.specs.Kept.{entry_in, frames_needed, IsSmall};
@@ -7,6 +7,7 @@ ghost use Rattle.can_record.specs.Spelling.{answered_line, entry_line, entry_lin
 
 use crate::kept_lines::push_kept;
 use crate::lines::{put_answered, put_bus, put_end, put_line};
+use crate::short_words::ShortLine;
 use crate::versions::{Version, record_has_fd};
 use can_bus::{BusConfig, Event, Record, Reply, Stored};
 use can_frame::{Frame, Text};
@@ -86,13 +87,29 @@ fn write_line<W: Write>(line: &mut Vec<u8>, stored: &Stored<'_>, writer: &mut W)
     requires fits { FitsReply (entry_stored stored.now).event (entry_stored stored.now).reply }
     ensures { OnOk result (Appends (W.contents writer.old) (W.contents writer.new) (entry_line (entry_stored stored.now) [])) }
 {
+    let mut short = Text::new();
+    if push_stored(&mut short, stored) {
+        return writer.write_all(short.as_bytes());
+    }
     line.clear();
     put_stored(line, stored)?;
     writer.write_all(line)?;
     Ok(())
 }
 
+/// The line of an entry as it is stored, if it is packed and of a usual kind; else what stands in the room means nothing.
+fn push_stored(line: &mut ShortLine, stored: &Stored<'_>) -> bool
+    requires { line.old ≡ [] }
+    ensures { IsTrue result → line.new ≡ entry_line (entry_stored stored.now) [] }
+{
+    match stored {
+        Stored::Packed(_, kept) => push_kept(line, kept),
+        Stored::Whole(_) => false,
+    }
+}
+
 /// The line of an entry as it is stored.
+#[inline(never)]
 fn put_stored(out: &mut Vec<u8>, stored: &Stored<'_>) -> Result<(), AllocError>
     requires stored { IsStored stored.now }
     requires fits { FitsReply (entry_stored stored.now).event (entry_stored stored.now).reply }
@@ -106,21 +123,6 @@ fn put_stored(out: &mut Vec<u8>, stored: &Stored<'_>) -> Result<(), AllocError>
 
 /// The line of a packed entry.
 fn put_kept(out: &mut Vec<u8>, frames: &[Frame], kept: &Kept) -> Result<(), AllocError>
-    requires small { IsSmall kept.now }
-    requires within { frames_needed kept.now ≤ length frames.now }
-    requires fits { FitsReply (entry_in frames.now kept.now).event (entry_in frames.now kept.now).reply }
-    ensures { OnOk result (out.new.items ≡ out.old.items ++ entry_line (entry_in frames.now kept.now) []) }
-{
-    let mut line = Text::new();
-    if push_kept(&mut line, kept) {
-        return out.extend_from_slice(line.as_bytes());
-    }
-    put_entry(out, frames, kept)
-}
-
-/// The line of the entry that is made of a packed one.
-#[inline(never)]
-fn put_entry(out: &mut Vec<u8>, frames: &[Frame], kept: &Kept) -> Result<(), AllocError>
     requires small { IsSmall kept.now }
     requires within { frames_needed kept.now ≤ length frames.now }
     requires fits { FitsReply (entry_in frames.now kept.now).event (entry_in frames.now kept.now).reply }

@@ -10,8 +10,8 @@ use can_attempt::Class;
 use can_fault::{GlobalKind, LocalKind, Verdict};
 use can_frame::{CanId, ErrorFrame, Frame, IfaceSet, Moment, Text};
 
-/// Room for the line of a usual entry: no filters, and no frame but a data frame of at most 8 bytes. The longest has some
-/// 140 bytes.
+/// Room for the line of a usual entry: no filters, and no frame but a data frame of at most 8 bytes. The longest has at
+/// most 139 bytes.
 pub(crate) type ShortLine = Text<192>;
 
 /// A decimal number, and the byte that ends it.

@@ -1,4 +1,4 @@
-use Rattle.std.proofs.Common.{◌≡◌, ◌∙◌, ◌/◌, refl}
+use Rattle.std.proofs.Common.{◌∙◌, ◌/◌, refl}
 use Rattle.can_packed.specs.Kept.{tried_in, stamp_moment}
 use Rattle.can_packed.specs.Verdicts.{verdict_in}
 use Rattle.can_record.proofs.TriedLines.{tried_line}

@@ -1,4 +1,4 @@
-use Rattle.std.proofs.Common.{◌≡◌, ◌∙◌, refl}
+use Rattle.std.proofs.Common.{◌∙◌, refl}
 use Rattle.can_record.proofs.TriedLines.{tried_line}
 use Rattle.can_record.proofs.short_lines.push_tried.Goals as goal
 
