@@ -8,3 +8,5 @@ pub mod LineLists
 pub mod Versioning
 pub mod Whole
 pub mod Growing
+pub mod Short
+pub mod TriedLines

@@ -70,7 +70,7 @@ ended e (reply.Refused why) h = refused_ended why (leaves e why h)
     refused_ended refusal.RecordFull h = absurd h
     refused_ended refusal.NoMemory h = absurd h
 
-spell-append : (ws vs : List (List ℕ)) (v rest : List ℕ) → spaced ws ++ spell (v ∷ vs) rest ≡ spell (ws ++ v ∷ vs) rest
+pub spell-append : (ws vs : List (List ℕ)) (v rest : List ℕ) → spaced ws ++ spell (v ∷ vs) rest ≡ spell (ws ++ v ∷ vs) rest
 spell-append [] vs v rest = refl
 spell-append (w ∷ []) vs v rest = append_assoc (w ++ 32 ∷ []) [] (spell (v ∷ vs) rest) ∙ append_assoc w (32 ∷ []) (spell (v ∷ vs) rest)
 spell-append (w ∷ u ∷ ws) vs v rest =

@@ -15,13 +15,14 @@ use crate::faults::Unread;
 use crate::fields::{byte_field, set_field, short_field};
 use crate::reply_reading::reply_field;
 use crate::reply_writing::put_reply;
+use crate::short_lines::push_answered;
 use crate::values::{hold_event, hold_reply};
 use crate::versions::{Version, has_fd};
 use crate::words::{next_word, same_word};
 use crate::writing::{put_count, put_set, put_word};
 use can_attempt::AckMode;
 use can_bus::{BusConfig, Entry, Event, Reply, is_spelled};
-use can_frame::Moment;
+use can_frame::{Moment, Text};
 use std::alloc::{AllocError, Global};
 
 /// The line of an entry.
@@ -33,8 +34,21 @@ pub(crate) fn put_line(out: &mut Vec<u8>, entry: &Entry) -> Result<(), AllocErro
 }
 
 /// The line of an event with this reply.
-#[tactic(auto, using(crate::proofs::Written::line_of))]
 pub fn put_answered(out: &mut Vec<u8>, event: &Event, reply: &Reply) -> Result<(), AllocError>
+    requires { FitsReply event.now reply.now }
+    ensures { OnOk result (out.new.items ≡ out.old.items ++ answered_line event.now reply.now []) }
+{
+    let mut line = Text::new();
+    if push_answered(&mut line, event, reply) {
+        return out.extend_from_slice(line.as_bytes());
+    }
+    put_words(out, event, reply)
+}
+
+/// The same, word by word.
+#[inline(never)]
+#[tactic(auto, using(crate::proofs::Written::line_of))]
+fn put_words(out: &mut Vec<u8>, event: &Event, reply: &Reply) -> Result<(), AllocError>
     requires { FitsReply event.now reply.now }
     ensures { OnOk result (out.new.items ≡ out.old.items ++ answered_line event.now reply.now []) }
 {

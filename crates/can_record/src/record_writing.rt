@@ -1,15 +1,17 @@
-ghost use Rattle.std.specs.Prelude.{◌≡◌, ◌≤◌, ◌++◌, [], length, IfOk, OnOk, reverse};
+ghost use Rattle.std.specs.Prelude.{◌≡◌, ◌≤◌, ◌++◌, [], length, IfOk, IsTrue, OnOk, reverse};
 ghost use Rattle.std.specs.Io.KnownBytes.{Appends};
 ghost use Rattle.can_event.specs.Spelled.{FitsReply};
 ghost use Rattle.can_packed.specs.Kept.{entry_in, frames_needed, IsSmall};
 ghost use Rattle.can_packed.specs.Stored.{entry_stored, IsStored};
 ghost use Rattle.can_record.specs.Spelling.{answered_line, entry_line, entry_lines, front_lines, record_spelling};
 
+use crate::kept_lines::push_kept;
 use crate::lines::{put_answered, put_bus, put_end, put_line};
+use crate::short_words::ShortLine;
 use crate::versions::{Version, record_has_fd};
-use can_bus::{BusConfig, Event, Received, Record, Reply, Stored};
-use can_frame::{Frame, Item};
-use can_packed::{Kept, event_in, frame_in, reply_in, stamp_moment, tried_in, verdict_in};
+use can_bus::{BusConfig, Event, Record, Reply, Stored};
+use can_frame::{Frame, Text};
+use can_packed::{Kept, event_in, reply_in};
 use std::alloc::{AllocError, Global};
 use std::io;
 use std::io::Write;
@@ -85,13 +87,29 @@ fn write_line<W: Write>(line: &mut Vec<u8>, stored: &Stored<'_>, writer: &mut W)
     requires fits { FitsReply (entry_stored stored.now).event (entry_stored stored.now).reply }
     ensures { OnOk result (Appends (W.contents writer.old) (W.contents writer.new) (entry_line (entry_stored stored.now) [])) }
 {
+    let mut short = Text::new();
+    if push_stored(&mut short, stored) {
+        return writer.write_all(short.as_bytes());
+    }
     line.clear();
     put_stored(line, stored)?;
     writer.write_all(line)?;
     Ok(())
 }
 
+/// The line of an entry as it is stored, if it is packed and of a usual kind; else what stands in the room means nothing.
+fn push_stored(line: &mut ShortLine, stored: &Stored<'_>) -> bool
+    requires { line.old ≡ [] }
+    ensures { IsTrue result → line.new ≡ entry_line (entry_stored stored.now) [] }
+{
+    match stored {
+        Stored::Packed(_, kept) => push_kept(line, kept),
+        Stored::Whole(_) => false,
+    }
+}
+
 /// The line of an entry as it is stored.
+#[inline(never)]
 fn put_stored(out: &mut Vec<u8>, stored: &Stored<'_>) -> Result<(), AllocError>
     requires stored { IsStored stored.now }
     requires fits { FitsReply (entry_stored stored.now).event (entry_stored stored.now).reply }
@@ -103,40 +121,12 @@ fn put_stored(out: &mut Vec<u8>, stored: &Stored<'_>) -> Result<(), AllocError>
     }
 }
 
-/// The line of a packed entry. Each of the usual kinds is made where it is used, which is far cheaper than any entry.
+/// The line of a packed entry.
 fn put_kept(out: &mut Vec<u8>, frames: &[Frame], kept: &Kept) -> Result<(), AllocError>
     requires small { IsSmall kept.now }
     requires within { frames_needed kept.now ≤ length frames.now }
     requires fits { FitsReply (entry_in frames.now kept.now).event (entry_in frames.now kept.now).reply }
     ensures { OnOk result (out.new.items ≡ out.old.items ++ entry_line (entry_in frames.now kept.now) []) }
 {
-    match kept {
-        Kept::Sent(len, id, word, number, bytes) => {
-            let event = Event::Send(*id, frame_in(*word, *len, bytes));
-            put_answered(out, &event, &Reply::Sent(u64::from(*number)))
-        }
-        Kept::NothingReceived(id) => {
-            put_answered(out, &Event::Receive(*id), &Reply::Received(None))
-        }
-        Kept::FrameReceived(from, len, id, word, number, bytes, moment) => {
-            let received = Received {
-                item: Item::Data(frame_in(*word, *len, bytes)),
-                from: *from,
-                number: u64::from(*number),
-                moment: *moment,
-            };
-            put_answered(out, &Event::Receive(*id), &Reply::Received(Some(received)))
-        }
-        Kept::Idle(restarted, verdict, moment) => {
-            let event = Event::Attempt(*moment, *verdict);
-            put_answered(out, &event, &Reply::Idle(*restarted))
-        }
-        Kept::Tried(end, named, word, number, accepted, restarted, bytes, stamp) => {
-            let event = Event::Attempt(stamp_moment(*stamp), verdict_in(*end / 4, *named));
-            let words = (*end, *word, *number);
-            let tried = tried_in(words, *accepted, *restarted, bytes, *stamp);
-            put_answered(out, &event, &Reply::Tried(tried))
-        }
-        kept => put_answered(out, &event_in(frames, kept), &reply_in(frames, kept)),
-    }
+    put_answered(out, &event_in(frames, kept), &reply_in(frames, kept))
 }
