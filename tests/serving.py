@@ -1,0 +1,227 @@
+"""A server of the program in a folder of its own, and clients that are plain sockets.
+
+The package's Server ends a server in one way, and its clients know what a server says. Here a server is looked at from
+outside: its processes, its streams, how it ends; and clients show each text as it comes.
+"""
+
+import contextlib
+import functools
+import os
+import re
+import shutil
+import signal
+import socket
+import subprocess
+import tempfile
+import time
+
+ROOT = os.path.dirname(os.path.dirname(os.path.abspath(__file__)))
+WAIT = 10
+
+
+@functools.lru_cache(maxsize=None)
+def program():
+    """The path of the program, without its launcher: CANBUSD, else the one that fits the sources at hand."""
+    if "CANBUSD" in os.environ:
+        return os.path.abspath(os.environ["CANBUSD"])
+    chosen = subprocess.run(
+        [os.path.join(ROOT, "scripts", "program"), "choose"], stdout=subprocess.PIPE, text=True, check=True
+    )
+    return os.path.join(ROOT, chosen.stdout.strip())
+
+
+class NotListening(Exception):
+    """A server said something else than where it listens; the text is what it said."""
+
+
+def come_true(question):
+    """Whether this comes true while we wait."""
+    until = time.monotonic() + WAIT
+    while time.monotonic() < until:
+        if question():
+            return True
+        time.sleep(0.02)
+    return False
+
+
+class Server:
+    """A server that runs in a folder of its own, in a group of processes of its own.
+
+    The launcher's part for servers starts it, or the launcher of that path, or where `launcher` is False nothing does:
+    then it is the program itself. Ctrl-C ends it, or the end of its input where that is a pipe.
+    """
+
+    def __init__(self, *words, address="127.0.0.1:0", launcher=True, **how):
+        self.folder = tempfile.mkdtemp(prefix="canbusd-")
+        self.errors = open(self.path("stderr"), "w+", encoding="utf-8")
+        if launcher is True:
+            start = [os.path.join(ROOT, "scripts", "serve"), program()]
+        else:
+            start = [launcher or program()]
+        self.child = subprocess.Popen(
+            [*start, "serve", "--listen", address, "--out", ".", *words],
+            cwd=self.folder,
+            stdout=subprocess.PIPE,
+            stderr=self.errors,
+            text=True,
+            start_new_session=True,
+            **{"stdin": subprocess.DEVNULL, **how},
+        )
+        line = self.child.stdout.readline()
+        if not line.startswith("listening "):
+            with contextlib.suppress(subprocess.TimeoutExpired):
+                self.child.wait(WAIT)
+            said = self.said()
+            self.close()
+            raise NotListening(f"{line}{said}")
+        self.address = line.removeprefix("listening ").rstrip("\n")
+        if ":" in self.address:
+            self.host, self.port = self.address.split(":")[0], int(self.address.split(":")[1])
+
+    def said(self):
+        with open(self.path("stderr"), encoding="utf-8") as errors:
+            return errors.read().strip()
+
+    def path(self, name):
+        return os.path.join(self.folder, name)
+
+    def processes(self):
+        """Its processes, each with the fields of its state."""
+        for process in filter(str.isdigit, os.listdir("/proc")):
+            with contextlib.suppress(OSError), open(f"/proc/{process}/stat", encoding="utf-8") as stat:
+                fields = stat.read().rsplit(") ", 1)[1].split()
+                if int(fields[3]) == self.child.pid:
+                    yield process, fields
+
+    def ticks(self):
+        """The processor time of all its processes, in hundredths of a second."""
+        return sum(int(fields[11]) + int(fields[12]) for _, fields in self.processes())
+
+    def held(self):
+        """How many file descriptors and threads its processes have."""
+        return sum(
+            len(os.listdir(f"/proc/{process}/{what}")) for process, _ in self.processes() for what in ("fd", "task")
+        )
+
+    def memory(self, what):
+        """How much memory its processes have, in kilobytes, by VmRSS or VmHWM of their status."""
+        held = 0
+        for process, _ in self.processes():
+            with contextlib.suppress(OSError), open(f"/proc/{process}/status", encoding="utf-8") as status:
+                held += sum(int(line.split()[1]) for line in status if line.startswith(f"{what}:"))
+        return held
+
+    def finish(self, patience=WAIT):
+        """Ends it, which may take so many seconds; its status, and what it wrote after `listening`."""
+        if self.child.stdin is None:
+            os.killpg(self.child.pid, signal.SIGINT)
+        try:
+            written, _ = self.child.communicate(timeout=patience)
+        except subprocess.TimeoutExpired:
+            raise AssertionError("the server did not end") from None
+        return self.child.returncode, written
+
+    def end(self, says="", patience=WAIT):
+        """Ends it, as it has to; what it wrote after `listening`."""
+        status, written = self.finish(patience)
+        assert status == 0, f"status {status}: {self.said()}"
+        assert self.said() == says, f"standard error: {self.said()}"
+        return written
+
+    def audited(self, name):
+        """How many entries the record of this name has, by the audit."""
+        audit = subprocess.run([program(), "audit", self.path(name)], capture_output=True, text=True, check=False)
+        assert re.fullmatch(r"ok \d+ entries\n", audit.stdout), f"the audit: {audit.stdout}{audit.stderr}"
+        return int(audit.stdout.split()[1])
+
+    def close(self):
+        with contextlib.suppress(ProcessLookupError):
+            os.killpg(self.child.pid, signal.SIGKILL)
+        self.child.wait()
+        self.errors.close()
+        self.child.stdout.close()
+        shutil.rmtree(self.folder)
+
+
+@contextlib.contextmanager
+def serving(*words, **how):
+    """A server that is gone in the end, whatever happens."""
+    server = Server(*words, **how)
+    try:
+        yield server
+    finally:
+        server.close()
+
+
+def serving_alone(*words, **how):
+    """A server that is the program without its launcher, and ends when its input does."""
+    return serving("--until-eof", *words, launcher=False, stdin=subprocess.PIPE, **how)
+
+
+class Plain:
+    """A connection that is a socket and nothing else, which shows the texts as they are."""
+
+    def __init__(self, server):
+        self.rest = ""
+        if ":" in server.address:
+            self.socket = socket.create_connection((server.host, server.port), WAIT)
+        else:
+            self.socket = socket.socket(socket.AF_UNIX)
+            self.socket.settimeout(WAIT)
+            self.socket.connect(os.path.join(server.folder, server.address))
+
+    def tell(self, text):
+        self.socket.sendall(text.encode())
+
+    def text(self):
+        """The next message, or the empty text where the connection has ended."""
+        while ">" not in self.rest:
+            piece = self.socket.recv(65536)
+            if not piece:
+                return ""
+            self.rest += piece.decode()
+        text, self.rest = self.rest.split(">", 1)
+        return text + ">"
+
+    def answer(self, command):
+        self.tell(command)
+        return self.text()
+
+    def frame(self):
+        """The next frame: its identifier as it is written, and its data."""
+        text = self.text()
+        frame = re.fullmatch(r"< frame ([0-9A-F]{3}|[0-9A-F]{8}) \d+\.\d{6} ([0-9A-F]*) >", text)
+        assert frame, text
+        return frame[1], bytes.fromhex(frame[2])
+
+    def close(self):
+        self.socket.close()
+
+
+def plain(server, name):
+    """A session in raw mode on the interface of this name."""
+    client = Plain(server)
+    greeted = client.text(), client.answer(f"< open {name} >"), client.answer("< rawmode >")
+    assert greeted == ("< hi >", "< ok >", "< ok >"), f"{greeted}"
+    return client
+
+
+class Pair:
+    """Two sessions between which frames go, whatever else happens on their bus. Nobody else sends 29-bit identifier 0,
+    which goes before all others but 11-bit identifier 0."""
+
+    def __init__(self, server, source="can0", target="can1"):
+        self.source, self.target, self.count = plain(server, source), plain(server, target), 0
+        told = self.source.answer("< filter 0 >"), self.target.answer("< filter 1 80000000 DFFFFFFF >")
+        assert told == ("< ok >", "< ok >"), f"{told}"
+
+    def go_on(self, after="what happened"):
+        """The next frame from the one to the other."""
+        self.count += 1
+        data = self.count.to_bytes(4, "big")
+        self.source.tell(f"< send 00000000 4 {data.hex(' ')} >")
+        try:
+            got = self.target.frame()
+        except TimeoutError:
+            got = "nothing"
+        assert got == ("00000000", data), f"after {after} others get {got} in place of frame {self.count}"

@@ -1,0 +1,345 @@
+"""`canbusd serve` with clients that know nothing of it: python-can, its player and logger, and can-utils' readers."""
+
+import contextlib
+import logging
+import os
+import re
+import signal
+import subprocess
+import sys
+import threading
+import time
+
+import pytest
+
+from serving import ROOT, WAIT, plain, program, serving
+
+can = pytest.importorskip("can", reason="python-can is not installed")
+from can.io import CanutilsLogReader  # noqa: E402
+
+# How many frames the replayed log has.
+FRAMES = 10000
+# Small identifiers of 29 bits go out without leading zeros, and each received frame counts as one of 29 bits.
+OLD_CLIENT = can.__version__.startswith("4.1.")
+
+
+def client(server, name, **more):
+    """python-can on the interface of this name."""
+    return can.Bus(interface="socketcand", channel=name, host=server.host, port=server.port, **more)
+
+
+@contextlib.contextmanager
+def told():
+    """The lines that python-can logs."""
+    lines = []
+    handler = logging.Handler()
+    handler.emit = lambda record: lines.append(record.getMessage())
+    logger = logging.getLogger("can")
+    logger.addHandler(handler)
+    try:
+        yield lines
+    finally:
+        logger.removeHandler(handler)
+
+
+def message(number, data=b"", **more):
+    return can.Message(
+        arbitration_id=number, data=data, is_extended_id=more.pop("is_extended_id", number > 0x7FF), **more
+    )
+
+
+def expect(bus, number, data):
+    got = bus.recv(WAIT)
+    assert got is not None and (got.arbitration_id, bytes(got.data)) == (
+        number,
+        data,
+    ), f"{got}, not {number:X} {data.hex()}"
+    return got
+
+
+def passes(source, target, number, data):
+    source.send(message(number, data))
+    return expect(target, number, data)
+
+
+def test_python_can_both_ways():
+    """11 and 29 bits, 0 to 8 bytes"""
+    with serving("can0,can1") as server, client(server, "can0") as can0, client(server, "can1") as can1:
+        for number in (0, 0x123, 0x7FF, 0x10000000, 0x12345678, 0x1FFFFFFF):
+            for length in (0, 1, 8):
+                got = passes(can0, can1, number, bytes(range(0xF8, 0xF8 + length)))
+                assert abs(got.timestamp - time.time()) < WAIT, f"the moment {got.timestamp}"
+                passes(can1, can0, number, bytes(range(length)))
+        assert can0.recv(0.05) is None, "its own frame came back"
+
+
+def test_empty_frame():
+    """a frame without data has two spaces before its end"""
+    with serving("can0,can1") as server, client(server, "can0") as can0, client(server, "can1") as can1:
+        socket1 = plain(server, "can1")
+        got = passes(can0, can1, 0x123, b"")
+        assert got.dlc == 0, f"{got.dlc} bytes"
+        text = socket1.text()
+        assert re.fullmatch(r"< frame 123 \d+\.\d{6}  >", text), text
+
+
+def test_identifiers_of_29_bits():
+    """below 10000000, and the way round: bit 31 set in the identifier"""
+    saw = []
+    with serving("can0,can1") as server, client(server, "can0") as can0, told() as lines:
+        socket1 = plain(server, "can1")
+        for number, wanted in [(0x123, "123"), (0x12345, None)]:
+            can0.send(message(number, is_extended_id=True))
+            can0.send(message(number | 0x80000000, b"\x01", is_extended_id=True))
+            if not OLD_CLIENT:
+                wanted = f"{number:08X}"
+            if wanted:
+                first = socket1.frame()
+                assert first == (wanted, b""), f"{first}"
+                saw.append(f"{number:X} arrives as {wanted}")
+            else:
+                saw.append(f"{number:X} is a bad id")
+            second = socket1.frame()
+            assert second == (f"{number:08X}", b"\x01"), f"{second}"
+            saw.append(f"{number | 0x80000000:X} as {number:08X}")
+        can0.recv(0.1)
+        assert any("< error bad id >" in line for line in lines) == OLD_CLIENT, f"told {lines}"
+
+
+def test_frames_received_have_no_format():
+    """python-can 4.1 takes each frame for one of 29 bits"""
+    with serving("can0,can1") as server, client(server, "can0") as can0, client(server, "can1") as can1:
+        short, long = passes(can0, can1, 0x123, b""), passes(can0, can1, 0x12345678, b"")
+    assert long.is_extended_id and short.is_extended_id == OLD_CLIENT, f"{short} {long}"
+
+
+def test_remote_frames():
+    """python-can 4.1 neither sends nor knows them"""
+    with serving("can0,can1") as server, client(server, "can0") as can0, told() as lines:
+        socket1 = plain(server, "can1")
+        socket1.tell("< sendrtr 123 3 >< send 124 1 5 >")
+        expect(can0, 0x124, b"\x05")
+        unknown = [line for line in lines if "< remote 123 " in line]
+        can0.send(message(0x123, is_remote_frame=True, dlc=3))
+        can0.send(message(0x125, is_remote_frame=True, dlc=0))
+        got = socket1.text()
+        if OLD_CLIENT:
+            assert unknown, f"told {lines}"
+            assert re.fullmatch(r"< frame 125 \S+  >", got), got
+            can0.recv(0.1)
+            assert any("< error bad word count >" in line for line in lines), f"told {lines}"
+        else:
+            assert got.startswith("< remote 123 "), got
+
+
+def test_filters_and_periodic_frames():
+    """python-can's filters, Notifier and periodic frames"""
+    with serving("can0,can1") as server, client(server, "can0") as can0:
+        seen = []
+        enough = threading.Event()
+
+        def take(got):
+            seen.append(got.arbitration_id)
+            if len(seen) == 20:
+                enough.set()
+
+        with client(server, "can1", can_filters=[{"can_id": 0x200, "can_mask": 0x700}]) as can1:
+            notifier = can.Notifier(can1, [take], timeout=0.1)
+            tasks = [can0.send_periodic(message(number, b"\x01"), 0.01) for number in (0x123, 0x234)]
+            assert enough.wait(WAIT), f"{len(seen)} frames"
+            for task in tasks:
+                task.stop()
+            notifier.stop()
+        assert set(seen) == {0x234}, f"{set(seen)}"
+
+
+def test_script_of_faults(tmp_path):
+    """a frame whose last bit fails arrives twice"""
+    script = tmp_path / "faults"
+    script.write_text("0 lastbit\n")
+    with serving(f"can0,can1@{script}") as server, client(server, "can0") as can0, client(server, "can1") as can1:
+        passes(can0, can1, 0x123, b"\x01")
+        expect(can1, 0x123, b"\x01")
+        passes(can0, can1, 0x124, b"\x02")
+
+
+def test_connects_to_a_busy_bus():
+    """the first frame is never in the same read as the ok of rawmode"""
+    with serving("--pace", "0", "--txqueue", "1024", "can0,can1") as server:
+        over = threading.Event()
+        sender = plain(server, "can0")
+
+        def send():
+            while not over.is_set():
+                sender.tell("< send 123 4 11 22 33 44 >")
+                time.sleep(0.0002)
+
+        thread = threading.Thread(target=send)
+        thread.start()
+        try:
+            for _ in range(100):
+                with client(server, "can1") as can1:
+                    expect(can1, 0x123, b"\x11\x22\x33\x44")
+        finally:
+            over.set()
+            thread.join()
+
+
+def test_several_buses():
+    """two buses of two interfaces, and no frame from one to the other"""
+    with serving("can0,can1", "can2,can3") as server:
+        with contextlib.ExitStack() as stack:
+            buses = [stack.enter_context(client(server, f"can{number}")) for number in range(4)]
+            passes(buses[0], buses[1], 0x100, b"\x01")
+            passes(buses[2], buses[3], 0x200, b"\x02")
+            passes(buses[3], buses[2], 0x300, b"\x03")
+            passes(buses[1], buses[0], 0x400, b"\x04")
+            assert all(bus.recv(0.05) is None for bus in buses), "a frame of another bus"
+        written = server.end()
+        assert re.fullmatch(r"bus can0 entries \d+\nbus can2 entries \d+\n", written), written
+        logs = {
+            name: [one.arbitration_id for one in CanutilsLogReader(server.path(name))]
+            for name in ("can0.log", "can2.log")
+        }
+    assert logs == {"can0.log": [0x100, 0x400], "can2.log": [0x200, 0x300]}, f"{logs}"
+
+
+def candump_log(path, count):
+    """Writes a log of so many frames, a millisecond apart; answers them as identifiers and data."""
+    frames = []
+    with open(path, "w", encoding="ascii") as file:
+        for number in range(count):
+            identifier = 0x10000000 + number * 4177 if number % 3 == 0 else number * 7 % 0x800
+            text = f"{identifier:08X}" if identifier > 0x7FF else f"{identifier:03X}"
+            data = number.to_bytes(4, "big") + bytes(range(number % 5))
+            file.write(
+                f"({1700000000 + number // 1000:010d}.{number % 1000:03d}000) can0 {text}#{data.hex().upper()}\n"
+            )
+            frames.append((text, data))
+    return frames
+
+
+def of_can(module, server, *words):
+    """The words that start the player or the logger of python-can on the server."""
+    return [
+        sys.executable,
+        "-m",
+        f"can.{module}",
+        "-i",
+        "socketcand",
+        *words,
+        f"--host={server.host}",
+        f"--port={server.port}",
+    ]
+
+
+def logger_runs(server, path):
+    """Starts the logger, and waits until it is connected."""
+    logger = subprocess.Popen(
+        of_can("logger", server, "-c", "can1", "-f", path),
+        stdout=subprocess.PIPE,
+        stderr=subprocess.PIPE,
+        text=True,
+        env={**os.environ, "PYTHONUNBUFFERED": "1"},
+    )
+    line = logger.stdout.readline()
+    assert line.startswith("Connected"), f"the logger said {line!r}"
+    return logger
+
+
+def logger_ends(logger, path):
+    """Ends the logger once its file grows no more; what it told on standard error."""
+    size, until = -1, time.monotonic() + 3 * WAIT
+    while os.path.getsize(path) != size and time.monotonic() < until:
+        size = os.path.getsize(path)
+        time.sleep(1)
+    logger.send_signal(signal.SIGINT)
+    return logger.communicate(timeout=WAIT)[1]
+
+
+def compare_logger(path, frames, warnings):
+    """What the logger wrote, beside the frames. It loses each frame that one of its reads cuts, and tells so."""
+    got = [(one.arbitration_id, bytes(one.data)) for one in CanutilsLogReader(path)]
+    wanted = [(int(text, 16), data) for text, data in frames]
+    places = {frame: place for place, frame in enumerate(wanted)}
+    order = [places.get(frame, -1) for frame in got]
+    assert -1 not in order and order == sorted(set(order)), "the logger wrote frames in disorder, twice or changed"
+    lost, cut = len(wanted) - len(got), len(re.findall("Invalid Frame: $|Bad data: No opening", warnings, re.M))
+    assert lost == cut, f"the logger lost {lost} frames, {cut} of them cut by its reads of 1,024 bytes"
+    return f"{len(got)} of {len(wanted)} by the logger" + (f", {cut} cut by its reads of 1,024 bytes" if cut else "")
+
+
+def compare_files(server, frames):
+    """The server's log by python-can's reader, and by those of can-utils that need no kernel CAN."""
+    path = server.path("can0.log")
+    with open(path, encoding="ascii") as file:
+        lines = [line.split() for line in file]
+    assert [(words[1], *words[2].split("#")) for words in lines] == [
+        ("can0", text, data.hex().upper()) for text, data in frames
+    ], "the log is not the frames sent"
+    read = [(one.arbitration_id, one.is_extended_id, bytes(one.data)) for one in CanutilsLogReader(path)]
+    assert read == [(int(text, 16), len(text) == 8, data) for text, data in frames], "CanutilsLogReader reads otherwise"
+    asc = subprocess.run(["log2asc", "-I", path, "can0"], capture_output=True, text=True, check=True).stdout
+    asc = [line.split()[2:3] + line.split()[6:] for line in asc.splitlines() if " Rx " in line]
+    wanted = [
+        [f"{int(text, 16):X}" + ("x" if len(text) == 8 else ""), *data.hex(" ").upper().split()]
+        for text, data in frames
+    ]
+    assert asc == wanted, "log2asc reads otherwise"
+    with open(path, encoding="ascii") as file:
+        long = subprocess.run(["log2long"], stdin=file, capture_output=True, text=True, check=True).stdout
+    long = [[line.split()[2], *line.split("'")[0].split()[4:]] for line in long.splitlines()]
+    assert long == [[text, *data.hex(" ").upper().split()] for text, data in frames], "log2long reads otherwise"
+
+
+def test_player_and_logger():
+    """a log replayed by can.player, logged by can.logger; Ctrl-C; then the server's log and record"""
+    with serving("--pace", "0", "--txqueue", "1024", "--rxqueue", "65536", "can0,can1") as server:
+        frames = candump_log(server.path("replayed.log"), FRAMES)
+        logged = server.path("logged.log")
+        socket1 = plain(server, "can1")
+        logger = logger_runs(server, logged)
+        try:
+            player = subprocess.Popen(
+                of_can("player", server, "-c", "can0", server.path("replayed.log")),
+                stdout=subprocess.DEVNULL,
+                stderr=subprocess.PIPE,
+                text=True,
+            )
+            got = [socket1.frame() for _ in frames]
+            assert got == frames, "a plain socket does not receive the frames in their order"
+            errors = player.communicate(timeout=WAIT)[1]
+            assert player.returncode == 0, f"the player: {errors}"
+            compare_logger(logged, frames, logger_ends(logger, logged))
+        finally:
+            logger.kill()
+        written = server.end()
+        compare_files(server, frames)
+        entries = server.audited("can0.rec")
+        assert written == f"bus can0 entries {entries}\n", written
+
+
+def test_examples(tmp_path):
+    """examples/python: the first session, and the tests with the package's fixtures"""
+    folder = os.path.join(ROOT, "examples", "python")
+    with serving("can0,can1") as server:
+        subprocess.run([os.path.join(ROOT, "scripts", "python-tmp_path"), "install", tmp_path], check=True)
+        environment = {**os.environ, "CANBUSD": program(), "PYTHONPATH": tmp_path, "PYTHONDONTWRITEBYTECODE": "1"}
+        done = subprocess.run(
+            [sys.executable, os.path.join(folder, "first_session.py"), server.address],
+            env=environment,
+            capture_output=True,
+            text=True,
+            timeout=3 * WAIT,
+            check=False,
+        )
+        assert done.returncode == 0, done.stderr
+        tested = subprocess.run(
+            [sys.executable, "-m", "pytest", "-q", "-p", "no:cacheprovider", folder],
+            env=environment,
+            capture_output=True,
+            text=True,
+            timeout=6 * WAIT,
+            check=False,
+        )
+    assert tested.returncode == 0, tested.stdout + tested.stderr

@@ -1,0 +1,206 @@
+"""Completions: in each shell a line is typed, and the tab key after it."""
+
+import contextlib
+import os
+import pty
+import re
+import select
+import shutil
+import signal
+import subprocess
+import tempfile
+import time
+
+import pytest
+
+from serving import ROOT, WAIT
+
+CONTRIB = os.path.join(ROOT, "contrib")
+# The tools are run for their help.
+PATH = f"{CONTRIB}:{os.environ['PATH']}"
+FILES = ["faults.script", "first.bench", "run.rec", "out.txt", "my faults.script", "logs/kept.rec"]
+# What is typed, and what the tab key adds to it.
+TYPED = [
+    ("canbusd ben", "ch "),
+    ("canbusd help ser", "ve "),
+    ("canbusd audit ru", "n.rec "),
+    ("canbusd audit lo", "gs/"),
+    ("canbusd bench --ack pe", "ers "),
+    ("canbusd bench --ack=pe", "ers "),
+    ("canbusd bench --ack=always --rep", "ort "),
+    ("canbusd bench --record ru", "n.rec "),
+    ("canbusd bench --record=ru", "n.rec "),
+    ("canbusd bench --log ou", "t.txt "),
+    ("canbusd bench --log=ou", "t.txt "),
+    ("canbusd serve --out=lo", "gs/"),
+    ("canbusd serve --out lo", "gs/"),
+    ("canbusd serve --until", "-eof "),
+    ("canbusd serve --auto-restart 5 --until", "-eof "),
+    ("canbusd bench can0,can1@fau", "lts.script "),
+    ("canbusd bench can0@logs/", "kept.rec "),
+    ("canbusd serve can0@faults.script can1@my", "\\ faults.script "),
+    ("canbusd bench can0,can1 < fir", "st.bench "),
+    ("canbusd bench can0,can1 <fir", "st.bench "),
+    ("canbusd bench can0@faults.script < first.bench > ou", "t.txt "),
+    ("canbusd bench can0 >> ou", "t.txt "),
+    ("canbusd bench can0 2> ou", "t.txt "),
+    ("canbusd serve can0 >ou", "t.txt "),
+    ("canbusd-report ru", "n.rec "),
+    ("canbusd-report --na", "mes "),
+    ("candump2bench --lis", "ten "),
+    ("canbusd bench --until", ""),
+    ("canbusd serve --lo", ""),
+]
+# The beginning of an option that takes a value, and the rest of its name, after which a shell puts its own sign.
+OPTIONS = [
+    ("canbusd bench --lo", "g"),
+    ("canbusd bench --rec", "ord"),
+    ("canbusd bench --li", "mit"),
+    ("canbusd serve --lis", "ten"),
+    ("canbusd serve --auto-restart=5 --pa", "ce"),
+]
+
+
+@contextlib.contextmanager
+def folder_of_files():
+    with tempfile.TemporaryDirectory() as folder:
+        os.mkdir(os.path.join(folder, "logs"))
+        for name in FILES:
+            with open(os.path.join(folder, name), "w", encoding="ascii"):
+                pass
+        yield folder
+
+
+class Shell:
+    """A shell at a terminal of its own, where Ctrl-T shows the line that is being typed, and throws it away."""
+
+    def __init__(self, words, folder):
+        self.child, self.terminal = pty.fork()
+        if self.child == 0:
+            os.chdir(folder)
+            environment = {
+                "PATH": PATH,
+                "TERM": "dumb",
+                "HOME": folder,
+                "COLUMNS": "200",
+                "LC_ALL": "C.UTF-8",
+            }
+            os.execvpe(words[0], words, environment)
+
+    def until(self, pattern):
+        """What the terminal shows first of this pattern."""
+        end, text = time.monotonic() + WAIT, ""
+        while time.monotonic() < end:
+            if select.select([self.terminal], [], [], 0.1)[0]:
+                text += os.read(self.terminal, 4096).decode("utf-8", "replace")
+            found = re.search(pattern, text, re.S)
+            if found:
+                return found
+        pytest.fail(f"no {pattern} in {text!r}")
+
+    def tell(self, text):
+        os.write(self.terminal, text.encode())
+
+    def completed(self, typed):
+        """The line after the tab key."""
+        self.tell(typed + "\t\x14")
+        return self.until("LINE\\[(.*?)\\]")[1].replace("\r\n", "")
+
+    def close(self):
+        os.kill(self.child, signal.SIGKILL)
+        os.waitpid(self.child, 0)
+        os.close(self.terminal)
+
+
+def typed_with(sign):
+    """What is typed, and what the tab key adds where a shell puts this sign after an option."""
+    return TYPED + [(typed, rest + sign) for typed, rest in OPTIONS]
+
+
+def completes(words, sign, *commands):
+    """Types each line into the shell, after commands that make it ready."""
+    if not shutil.which(words[0]):
+        pytest.skip(f"{words[0]} is not installed")
+    with folder_of_files() as folder, contextlib.closing(Shell(words, folder)) as shell:
+        for command in commands:
+            shell.tell(command + "\n")
+        shell.tell("echo rea''dy\n")
+        shell.until("ready\r?\n")
+        lines = typed_with(sign)
+        for typed, wanted in lines:
+            line = shell.completed(typed)
+            assert line == typed + wanted, f"`{typed}` becomes `{line}`"
+
+
+BASH_LINE = [
+    "show_line() { printf 'LINE[%s]\\n' \"$READLINE_LINE\"; READLINE_LINE=; }",
+    "bind -x '\"\\C-t\": show_line'",
+]
+
+
+def test_completion_in_bash():
+    """with bash as it is"""
+    completes(["bash", "--norc", "--noprofile", "-i"], " ", f"source {CONTRIB}/canbusd.bash", *BASH_LINE)
+
+
+def test_completion_in_bash_with_other_words():
+    """where neither `=` nor `@` parts words"""
+    completes(
+        ["bash", "--norc", "--noprofile", "-i"],
+        " ",
+        f"source {CONTRIB}/canbusd.bash",
+        "COMP_WORDBREAKS=${COMP_WORDBREAKS//[=@]}",
+        *BASH_LINE,
+    )
+
+
+def test_completion_in_zsh():
+    """with zsh's own completion system, which finds the file by its name"""
+    completes(
+        ["zsh", "-f", "-i"],
+        "=",
+        "mkdir functions",
+        f"cp {CONTRIB}/canbusd.zsh functions/_canbusd",
+        "fpath=($PWD/functions $fpath)",
+        "autoload -Uz compinit",
+        "compinit -u -D",
+        "unsetopt zle_bracketed_paste automenu autolist",
+        'show-line() { zle -I; print -r -- "LINE[$BUFFER]"; BUFFER=; }',
+        "zle -N show-line",
+        "bindkey '^T' show-line",
+        "bindkey '^I' complete-word",
+    )
+
+
+def test_completion_in_fish():
+    """what fish offers for each line"""
+    if not shutil.which("fish"):
+        pytest.skip("fish is not installed")
+    with folder_of_files() as folder:
+        lines = typed_with("")
+        for typed, wanted in lines:
+            done = subprocess.run(
+                ["fish", "--no-config", "-c", f'source {CONTRIB}/canbusd.fish; complete --do-complete "{typed}"'],
+                cwd=folder,
+                env={**os.environ, "HOME": folder, "PATH": PATH},
+                capture_output=True,
+                text=True,
+                timeout=60,
+                check=False,
+            )
+            offers = [line.split("\t")[0] for line in done.stdout.splitlines()]
+            word = re.split("[ <>]", typed)[-1] + wanted.rstrip(" ").replace("\\", "")
+            assert offers == ([word] if wanted else []), f"`{typed}` is offered {offers} {done.stderr}"
+
+
+@pytest.mark.parametrize("command", ["bench", "serve"])
+@pytest.mark.parametrize("shell, spelling", [("bash", "--{}"), ("zsh", "--{}"), ("fish", "-l {} ")])
+def test_options_of_the_help(program, command, shell, spelling):
+    """each option of the help is completed in each shell"""
+    told = subprocess.run([program, "help", command], capture_output=True, text=True, check=True).stdout
+    with open(os.path.join(CONTRIB, f"canbusd.{shell}"), encoding="utf-8") as file:
+        completions = file.read()
+    options = re.findall(r"^ +(?:-h, )?--([a-z-]+)", told, re.M)
+    assert options, told
+    missing = [option for option in options if spelling.format(option) not in completions]
+    assert not missing, f"--{missing} of {command} not in canbusd.{shell}"
