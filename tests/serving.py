@@ -8,6 +8,7 @@ import contextlib
 import functools
 import os
 import re
+import select
 import shutil
 import signal
 import socket
@@ -16,7 +17,8 @@ import tempfile
 import time
 
 ROOT = os.path.dirname(os.path.dirname(os.path.abspath(__file__)))
-WAIT = 10
+# Seconds in which what has to come comes, on any machine.
+WAIT = 20
 
 
 @functools.lru_cache(maxsize=None)
@@ -44,6 +46,12 @@ def come_true(question):
     return False
 
 
+def line_of(stream):
+    """The next line of a pipe of text from which only lines are read."""
+    assert select.select([stream], [], [], WAIT)[0], "it writes nothing"
+    return stream.readline()
+
+
 class Server:
     """A server that runs in a folder of its own, in a group of processes of its own.
 
@@ -67,7 +75,7 @@ class Server:
             start_new_session=True,
             **{"stdin": subprocess.DEVNULL, **how},
         )
-        line = self.child.stdout.readline()
+        line = line_of(self.child.stdout)
         if not line.startswith("listening "):
             with contextlib.suppress(subprocess.TimeoutExpired):
                 self.child.wait(WAIT)

@@ -12,7 +12,7 @@ import time
 
 import pytest
 
-from serving import ROOT, WAIT, plain, program, serving
+from serving import ROOT, WAIT, line_of, plain, program, serving
 
 can = pytest.importorskip("can", reason="python-can is not installed")
 from can.io import CanutilsLogReader  # noqa: E402
@@ -242,7 +242,7 @@ def logger_runs(server, path):
         text=True,
         env={**os.environ, "PYTHONUNBUFFERED": "1"},
     )
-    line = logger.stdout.readline()
+    line = line_of(logger.stdout)
     assert line.startswith("Connected"), f"the logger said {line!r}"
     return logger
 
@@ -323,7 +323,7 @@ def test_examples(tmp_path):
     """examples/python: the first session, and the tests with the package's fixtures"""
     folder = os.path.join(ROOT, "examples", "python")
     with serving("can0,can1") as server:
-        subprocess.run([os.path.join(ROOT, "scripts", "python-tmp_path"), "install", tmp_path], check=True)
+        subprocess.run([os.path.join(ROOT, "scripts", "python-package"), "install", tmp_path], check=True)
         environment = {**os.environ, "CANBUSD": program(), "PYTHONPATH": tmp_path, "PYTHONDONTWRITEBYTECODE": "1"}
         done = subprocess.run(
             [sys.executable, os.path.join(folder, "first_session.py"), server.address],

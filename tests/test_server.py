@@ -10,7 +10,7 @@ import tempfile
 import threading
 import time
 
-from serving import WAIT, Plain, come_true, plain, program, serving, serving_alone
+from serving import WAIT, Plain, come_true, line_of, plain, program, serving, serving_alone
 
 
 def test_full_record():
@@ -326,7 +326,7 @@ def test_own_socket_file(tmp_path):
             )
             for _ in range(2)
         ]
-        lines = [one.stdout.readline() for one in both]
+        lines = [line_of(one.stdout) for one in both]
         for one in both:
             one.communicate(timeout=WAIT)
         assert sorted(lines) == ["", f"listening {path}\n"], f"{lines}"
@@ -339,9 +339,9 @@ def test_folder_of_a_server(tmp_path):
     with subprocess.Popen(
         [*words, none, "can0"], stdin=subprocess.PIPE, stdout=subprocess.PIPE, stderr=subprocess.PIPE, text=True
     ) as server:
-        note = server.stderr.readline()
+        note = line_of(server.stderr)
         assert note.startswith(f"note: {none}/can0.rec can't be written now: "), note
-        assert server.stdout.readline().startswith("listening "), "it listens"
+        assert line_of(server.stdout).startswith("listening "), "it listens"
         os.mkdir(none)
         server.stdin.close()
         assert (server.wait(WAIT), server.stderr.read()) == (0, ""), "a tmp_path that was made meanwhile"
