@@ -1,9 +1,9 @@
 """Random runs of the bench.
 
-Each case is a command line, an input and mostly a script of faults, made at random: buses of 1 to 16 interfaces, sessions
-that open them, every command of the protocol with good and bad words, FD frames in some cases, messages that are cut or
-too long, frames with few identifiers, so that they meet, attempts under every verdict, and now and then a fault of the
-line, of the script or of the options.
+Each case is a command line, an input and mostly a script of faults, made at random: buses of 1 to 16 interfaces,
+sessions that open them, every command of the protocol with good and bad words, FD frames in some cases, messages
+that are cut or too long, frames with few identifiers, so that they meet, attempts under every verdict, and now and
+then a fault of the line, of the script or of the options.
 """
 
 import itertools

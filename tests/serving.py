@@ -1,7 +1,7 @@
 """A server of the program in a folder of its own, and clients that are plain sockets.
 
-The package's Server ends a server in one way, and its clients know what a server says. Here a server is looked at from
-outside: its processes, its streams, how it ends; and clients show each text as it comes.
+The package's Server ends a server in one way, and its clients know what a server says. Here a server is looked at
+from outside: its processes, its streams, how it ends; and clients show each text as it comes.
 """
 
 import contextlib

@@ -1,4 +1,6 @@
-"""What is in contrib/ for runs, and the package's drawings: pages in a browser, drawings, and the replay beside the program."""
+"""What is in contrib/ for runs, and the package's drawings: pages in a browser, drawings, and the replay beside the
+program.
+"""
 
 import os
 import re
@@ -115,10 +117,10 @@ def test_faults_of_records(tmp_path):
         "empty": b"",
         "binary": os.urandom(4096),
         "cut in a line": text[:200],
-        "cut behind a line": text[: text.index(b"attempt")],
+        "cut after a line": text[: text.index(b"attempt")],
         "first line alone": b"canbus record 1\n",
         "without its end": text[: text.rindex(b"end")],
-        "text behind": text + b"x\n",
+        "text after it": text + b"x\n",
         "no bus": text.replace(b"bus 2", b"bus 17"),
         "no set": text.replace(b"0002", b"2", 1),
         "another count": text.replace(b"end ", b"end 1"),

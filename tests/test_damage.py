@@ -1,10 +1,10 @@
 """Damaged records, and what `canbusd audit` says of each beside an independent replay, that of the Python package.
 
-Each byte of the record in docs/RECORD.md is changed, to 30 others or, with --all-bytes, to all 255; it is cut at each byte.
-So is one with an automatic restart, whose text is version 2, and one with FD frames, whose text is version 3. Records of
-the examples and of random runs, which have every kind of line, have bytes changed, and lines left out, doubled, exchanged,
-moved, and given other words and replies. Both have to name the same first wrong line or entry, and `ok` the same records.
-With --beside another program that audits as canbusd does has to say the same.
+Each byte of the record in docs/RECORD.md is changed, to 30 others or, with --all-bytes, to all 255; it is cut at
+each byte. So is one with an automatic restart, whose text is version 2, and one with FD frames, whose text is
+version 3. Records of the examples and of random runs, which have every kind of line, have bytes changed, and lines
+left out, doubled, exchanged, moved, and given other words and replies. Both have to name the same first wrong line
+or entry, and `ok` the same records. With --beside another program that audits as canbusd does has to say the same.
 """
 
 import glob
@@ -215,7 +215,7 @@ def test_bytes_of_a_record_with_fd_frames(tried):
 
 
 def change_bytes(tried, data, skip_from=0, skip_to=0):
-    """Each byte changed and left out, and the record cut at each, but for a piece of it; and with text behind."""
+    """Each byte changed and left out, and the record cut at each, except a piece of it; and with text after it."""
     tried.one(data)
     for place, byte in enumerate(data):
         if skip_from <= place < skip_to:
@@ -275,7 +275,7 @@ def test_named_damages_of_the_example(tried):
 
 
 def test_lines_of_other_records(tried):
-    """each line of the examples' records and of random runs left out, doubled, exchanged, given other replies and words"""
+    """lines of the examples' records and of random runs left out, doubled, exchanged, given other replies and words"""
     for data in [*examples(tried), *(random_run(tried) for _ in range(6))]:
         assert audit(data).startswith("ok "), f"the replay: {audit(data)}"
         tried.one(data)

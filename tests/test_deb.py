@@ -1,4 +1,5 @@
-"""The package of scripts/deb: lintian, and in a clean Debian of each suite how apt installs it, what it runs, and what is left.
+"""The package of scripts/deb: lintian, and in a clean Debian of each suite how apt installs it, what it runs, and
+what is left.
 
 Where glibc is too old apt has to refuse it. BASES names a folder with a debootstrap of each suite (debootstrap
 --variant=minbase); without it they are made anew.
@@ -22,7 +23,7 @@ pytestmark = [
 ]
 EXAMPLES = os.path.join(ROOT, "examples")
 APT_INSTALL = "apt-get update -qq && apt-get install -qq -y --no-install-recommends /tmp/canbusd_*.deb"
-# Starts a server in a folder, ends it, and asks for its record. (What runs in the background of a script gets no SIGINT.)
+# Starts a server in a folder, ends it, and asks for its record. (What a script runs in the background gets no SIGINT.)
 SERVES = """cd "$0" && : >served
 canbusd "$@" >served & server=$!
 until grep -qs listening served; do sleep 0.1; kill -0 $server || exit 1; done

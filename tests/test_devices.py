@@ -1,9 +1,9 @@
 """Files and streams that fail, and what canbusd says and leaves then.
 
-Each file and stream of `bench`, `audit` and `serve` is one that is closed, full (/dev/full), a folder, missing, one that
-can't be read (/proc/self/mem), that is no text or has no end, a pipe that nobody reads, and a file that may grow to a few
-bytes only. Each run has to end with the first line that the manual page has for its fault, and a fault of one file leaves
-the others whole.
+Each file and stream of `bench`, `audit` and `serve` is one that is closed, full (/dev/full), a folder, missing, one
+that can't be read (/proc/self/mem), that is no text or has no end, a pipe that nobody reads, and a file that may
+grow to a few bytes only. Each run has to end with the first line that the manual page has for its fault, and a fault
+of one file leaves the others whole.
 """
 
 import contextlib

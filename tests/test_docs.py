@@ -1,7 +1,8 @@
-"""The documents as a newcomer would try them: every link, and the commands of README, guide and manual page exactly as written.
+"""The documents as a newcomer would try them: every link, and the commands of README, guide and manual page exactly
+as written.
 
-They are tried in a clone of the last commit and without the command rt on the PATH. Where CANBUSD names a program, the clone
-has that one in place of its own.
+They are tried in a clone of the last commit and without the command rt on the PATH. Where CANBUSD names a program,
+the clone has that one in place of its own.
 """
 
 import contextlib
@@ -80,7 +81,7 @@ class Clone:
 
     @contextlib.contextmanager
     def running(self, command, says=True):
-        """A command that runs until it is ended by Ctrl-C, and what it has written; where it says something, once it has."""
+        """A command that runs until Ctrl-C ends it, and what it has written; where it says something, once it has."""
         with tempfile.TemporaryFile("w+") as output:
             child = subprocess.Popen(
                 ["bash", "-c", command],

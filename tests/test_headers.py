@@ -1,7 +1,7 @@
 """The numbers that our definitions and our code take from Linux, beside the headers that are installed here.
 
-Frames, masks and filters use them in their own ways, so their texts are listed; those of error message frames have the names
-of linux/can/error.h, in the definitions and in the code. A mask of n bits is the limit 2 ^ n there.
+Frames, masks and filters use them in their own ways, so their texts are listed; those of error message frames have
+the names of linux/can/error.h, in the definitions and in the code. A mask of n bits is the limit 2 ^ n there.
 """
 
 import os

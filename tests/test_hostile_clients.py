@@ -1,6 +1,7 @@
 """Clients of `canbusd serve` that say anything, go at any moment, or take nothing.
 
-After each of them a frame still goes from one session to another on the same bus, and in the end the record is audited.
+After each of them a frame still goes from one session to another on the same bus, and in the end the record is
+audited.
 """
 
 import contextlib

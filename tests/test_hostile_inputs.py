@@ -1,9 +1,9 @@
 """Random and damaged inputs of `canbusd bench` and `audit`.
 
-Inputs are the examples, a record of one of them, and random bytes, each with bytes, words and lines changed, doubled,
-moved or cut. A run may end with status 0, or with status 1, one line of faults that the manual page knows, and at most
-three lines of printable characters after it that begin with two spaces. It may not be ended by a signal, run for more
-than 20 seconds, or write more than it can have been asked for.
+Inputs are the examples, a record of one of them, and random bytes, each with bytes, words and lines changed,
+doubled, moved or cut. A run may end with status 0, or with status 1, one line of faults that the manual page knows,
+and at most three lines of printable characters after it that begin with two spaces. It may not be ended by a signal,
+run for more than 20 seconds, or write more than it can have been asked for.
 """
 
 import glob
@@ -15,7 +15,8 @@ import tempfile
 from serving import ROOT
 
 FAULTS = re.compile(
-    rb"canbusd: (line \d+: bad line|input too long|bad version|entry \d+: wrong|read fault|no memory)\n(  [ -~]{1,300}\n){0,3}"
+    rb"canbusd: (line \d+: bad line|input too long|bad version|entry \d+: wrong|read fault|no memory)\n"
+    rb"(  [ -~]{1,300}\n){0,3}"
 )
 # What is told after a run that came to its end.
 NOTES = re.compile(rb"(canbusd: session \d+: (bytes outside < and > were skipped|the last message has no >)\n)*")

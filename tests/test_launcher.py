@@ -1,7 +1,7 @@
 """The launcher ./canbusd in a copy of the repository whose dist/ fits its sources, and installed.
 
-It is called from other folders, after changes of the sources, and where the copy can't be written. Nothing is ever built:
-the command rt is not on the PATH.
+It is called from other folders, after changes of the sources, and where the copy can't be written. Nothing is ever
+built: the command rt is not on the PATH.
 """
 
 import functools
@@ -197,7 +197,7 @@ def nobody_in(group):
 @pytest.mark.parametrize("place", ["copy", "installed"])
 @pytest.mark.parametrize("end", ENDS)
 def test_end_of_a_server(launchers, place, end):
-    """it leaves nobody behind, and but for Ctrl-\\ the record of its session's `open` and `close`"""
+    """it leaves no process, and except after Ctrl-\\ the record of its session's `open` and `close`"""
     words, sessions, ends, wanted = ENDS[end]
     words = ["--sessions", str(sessions), *words, "can0"]
     with serving(*words, launcher=launchers[place], stdin=subprocess.PIPE) as server:

@@ -1,11 +1,11 @@
 """`canbusd serve` with faults: 64 sessions on 4 buses, and in the end nothing is lost that is not counted.
 
-On each bus of two interfaces 14 sessions send a quarter of the frames (--frames), each receives those of three others, and
-two more break in the middle of what they say, or are reset or half closed, and come back. A script gives the attempts
-every kind of fault, and bursts that take an interface bus off, from which a session restarts it. Then:
+On each bus of two interfaces 14 sessions send a quarter of the frames (--frames), each receives those of three
+others, and two more break in the middle of what they say, or are reset or half closed, and come back. A script gives
+the attempts every kind of fault, and bursts that take an interface bus off, from which a session restarts it. Then:
 
-- each session got as many items as `stats` says that it took, those of one sender in order, twice only after a fault of the
-  last bit; what it did not get is dropped, and counted so;
+- each session got as many items as `stats` says that it took, those of one sender in order, twice only after a fault
+  of the last bit; what it did not get is dropped, and counted so;
 - each interface sent what is done or lost, as the sessions counted it, the record, and `stats`;
 - the server ends with status 0, and the audit of each record is ok.
 """
@@ -228,7 +228,7 @@ def on_one_bus(server, bus, frames, seed):
 
 
 class Counted:
-    """What a record has: for each interface what was sent, done, lost and refused; for each socket what it took and lost."""
+    """What a record has: what each interface sent, finished, lost and refused; what each socket took and lost."""
 
     def __init__(self, path):
         self.sent, self.done, self.refused, self.lasts, self.offs = [0, 0], [0, 0], [0, 0], 0, 0

@@ -80,7 +80,7 @@ def by_log2asc(path, messages):
         else:
             number = f"{wanted.number:X}" + ("x" if wanted.is_extended else "")
             if wanted.is_fd:
-                # the time, CANFD, the channel, Rx, the identifier, two flags, the code of the length, the length, the bytes
+                # time, CANFD, channel, Rx, identifier, two flags, code of the length, length, bytes
                 same, data = words[1] == "CANFD" and words[4] == number, words[9:]
             else:
                 same, data = words[2] == number and words[4] == ("r" if wanted.is_remote else "d"), words[6:]

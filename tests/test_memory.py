@@ -1,12 +1,12 @@
 """canbusd without memory, which it is refused at one place after the other.
 
-refuse_memory.c, compiled with cc and loaded with the program, refuses the n-th time that it asks for memory or starts a
-thread: that time only, or that and all later ones; for each n. A bench has to end with `no memory` after whole lines of
-its output, or to say so to a session, and then its output and its record are those of an input that lacks that command. An
-audit replies as ever or says `no memory`. Each call of the libraries, made by crates/can_memory_tests where that is built,
-leaves all as it was and returns the same when it is made again. A server refuses memory to one session only: others get
-their frames, and the audit finds legal what it writes at its end. Then the program runs within ever more memory by
-RLIMIT_AS.
+refuse_memory.c, compiled with cc and loaded with the program, refuses the n-th time that it asks for memory or
+starts a thread: that time only, or that and all later ones; for each n. A bench has to end with `no memory` after
+whole lines of its output, or to say so to a session, and then its output and its record are those of an input that
+lacks that command. An audit replies as ever or says `no memory`. Each call of the libraries, made by
+crates/can_memory_tests where that is built, leaves all as it was and returns the same when it is made again. A
+server refuses memory to one session only: others get their frames, and the audit finds legal what it writes at its
+end. Then the program runs within ever more memory by RLIMIT_AS.
 """
 
 import contextlib

@@ -1,7 +1,7 @@
 """`canbusd bench` beside an independent program, on random runs.
 
---other SOURCE.c is compiled with cc; what it makes is called as `PROGRAM bench OPTIONS BUS`, as canbusd is. Standard output,
-the status and the line of a fault have to be the same (of a fault of the command line the status only).
+--other SOURCE.c is compiled with cc; what it makes is called as `PROGRAM bench OPTIONS BUS`, as canbusd is. Standard
+output, the status and the line of a fault have to be the same (of a fault of the command line the status only).
 """
 
 import itertools

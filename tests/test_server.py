@@ -192,8 +192,10 @@ def connected(server):
 
 
 def heard(connection):
-    """All that a connection reads to its end. It says something first: a connection that Linux dropped on the server's side,
-    as it was made, hears of that only then."""
+    """All that a connection reads to its end.
+
+    It says something first: a connection that Linux dropped on the server's side, as it was made, hears of that only then.
+    """
     text = b""
     with contextlib.suppress(ConnectionResetError, BrokenPipeError):
         connection.sendall(b" ")
@@ -333,7 +335,7 @@ def test_own_socket_file(tmp_path):
 
 
 def test_folder_of_a_server(tmp_path):
-    """one that takes no files is noted before anybody can connect; files of an earlier run stay until new ones are whole"""
+    """one that takes no files is noted before clients connect; files of an earlier run stay until new ones are whole"""
     none = os.path.join(tmp_path, "none")
     words = [program(), "serve", "--listen", "127.0.0.1:0", "--until-eof", "--out"]
     with subprocess.Popen(
