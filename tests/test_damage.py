@@ -198,6 +198,7 @@ def test_bytes_of_the_example(tried):
     assert tried.said["ok N entries"] >= 1, "the example is not ok"
 
 
+@pytest.mark.slow
 def test_bytes_of_a_record_with_a_restart(tried):
     """the same of version 2"""
     data = restarted()

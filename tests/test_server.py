@@ -10,6 +10,8 @@ import tempfile
 import threading
 import time
 
+import pytest
+
 from serving import WAIT, Plain, come_true, line_of, plain, program, serving, serving_alone
 
 
@@ -194,7 +196,8 @@ def connected(server):
 def heard(connection):
     """All that a connection reads to its end.
 
-    It says something first: a connection that Linux dropped on the server's side, as it was made, hears of that only then.
+    It says something first: a connection that Linux dropped on the side of the server as it was made hears of that only
+    then.
     """
     text = b""
     with contextlib.suppress(ConnectionResetError, BrokenPipeError):
@@ -204,6 +207,7 @@ def heard(connection):
     return text
 
 
+@pytest.mark.slow
 def test_ends_in_bursts():
     """1,000 servers that are told to end while clients come: each ends, and tells nobody another reason"""
     came = 0
