@@ -24,7 +24,6 @@ import pytest
 
 from serving import ROOT, WAIT, NotListening, Pair, Plain, plain, program, serving_alone
 
-# Without its launcher, which would be refused memory too.
 pytestmark = pytest.mark.skipif(not shutil.which("cc"), reason="no C compiler: cc")
 
 FOREVER = 2**64 - 1
@@ -231,6 +230,7 @@ def example(path):
     return words.replace("@examples/", f"@{ROOT}/examples/").split(), text
 
 
+@pytest.mark.slow
 def test_a_bench_without_memory(refusing):
     """each example, and an input with each command that takes memory"""
     inputs = [example(path) for path in sorted(glob.glob(os.path.join(ROOT, "examples", "*.bench")))]
@@ -238,6 +238,7 @@ def test_a_bench_without_memory(refusing):
     print(summed(try_everywhere(Bench(refusing, words, text)) for words, text in inputs))
 
 
+@pytest.mark.slow
 def test_faults_without_memory(refusing):
     """lines, scripts, names and words that are refused: their first line is told, or no memory"""
     folder = refusing.folder
