@@ -29,8 +29,8 @@ def pytest_addoption(parser):
     group.addoption("--other", metavar="SOURCE.c", help="another program with a bench (test_random_benches.py)")
 
 
-def pytest_report_header(config):
-    return f"seed {config.getoption('seed')}"
+def pytest_terminal_summary(terminalreporter, config):
+    terminalreporter.write_line(f"--seed {config.getoption('seed')} repeats what was random")
 
 
 @pytest.fixture

@@ -266,7 +266,6 @@ def compare_logger(path, frames, warnings):
     assert -1 not in order and order == sorted(set(order)), "the logger wrote frames in disorder, twice or changed"
     lost, cut = len(wanted) - len(got), len(re.findall("Invalid Frame: $|Bad data: No opening", warnings, re.M))
     assert lost == cut, f"the logger lost {lost} frames, {cut} of them cut by its reads of 1,024 bytes"
-    return f"{len(got)} of {len(wanted)} by the logger" + (f", {cut} cut by its reads of 1,024 bytes" if cut else "")
 
 
 def compare_files(server, frames):

@@ -18,6 +18,8 @@ from serving import ROOT, program
 
 REPORT = os.path.join(ROOT, "contrib", "canbusd-report")
 DRAW = [sys.executable, "-m", "canbusd", "report"]
+# How many random runs are replayed.
+RUNS = 300
 STATES = ["active", "warning", "passive", "off"]
 BROWSER = next(filter(None, map(shutil.which, ("chromium", "chromium-browser", "google-chrome"))), None)
 needs_browser = pytest.mark.skipif(not BROWSER, reason="no browser: chromium")
@@ -56,10 +58,10 @@ def numbers_replayed(run):
             )
 
 
-def test_replay(cases, tmp_path):
+def test_replay(tmp_path):
     """random runs: each reply, and the statistics of sockets and interfaces, are what the program says"""
     maker, runs, asked, off = Maker(20), 0, 0, 0
-    for _ in range(cases):
+    for _ in range(RUNS):
         case = maker.case()
         case.write_to(tmp_path)
         sessions = re.findall(rb"^session ([0-9]+)$", case.text, re.M)
@@ -76,7 +78,7 @@ def test_replay(cases, tmp_path):
             asked += 1
         runs += 1
         off += sum(bool(step.off) for step in run.steps)
-    assert runs > cases // 3 and off and asked, f"only {runs} runs"
+    assert runs > RUNS // 3 and off and asked, f"only {runs} runs"
 
 
 def test_record_of_another_history(tmp_path):
@@ -84,7 +86,6 @@ def test_record_of_another_history(tmp_path):
     record, _ = example("last_bit", tmp_path)
     with open(record, encoding="ascii") as file:
         lines = file.read().splitlines()
-    tried = 0
     for place, (old, new) in enumerate((old, new) for old in lines[2:-1] for new in replies_like(old)):
         other = [new if line is old else line for line in lines]
         with open(record, "w", encoding="ascii") as file:
@@ -92,7 +93,6 @@ def test_record_of_another_history(tmp_path):
         audit, seen = call(program(), "audit", record), call(*DRAW, "--counters", record)
         entry = re.match(r"canbusd: (entry \d+): wrong\n", audit[2])
         assert entry and f": {entry[1]}: wrong" in seen[2] and seen[0] == 1, f"{place}: {new}: {audit} {seen}"
-        tried += 1
 
 
 def replies_like(line):

@@ -289,7 +289,8 @@ def test_load_with_faults(request, tmp_path):
             compare(server, bus, record, all_told[bus][1])
         wanted = "".join(f"bus {names_of(bus)[0]} entries {one.entries}\n" for bus, one in enumerate(records))
         assert written == wanted, written
-    print(summary(records, all_told, seconds, most, ticks))
+    told = summary(records, all_told, seconds, most, ticks)
+    print(told)
 
 
 def compare(server, bus, record, ends):

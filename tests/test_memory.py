@@ -235,7 +235,8 @@ def test_a_bench_without_memory(refusing):
     """each example, and an input with each command that takes memory"""
     inputs = [example(path) for path in sorted(glob.glob(os.path.join(ROOT, "examples", "*.bench")))]
     inputs += [(["can0,can1"], COMMANDS), (["--report", "--ack", "peers", "--limit", "12", "can0,can1"], COMMANDS)]
-    print(summed(try_everywhere(Bench(refusing, words, text)) for words, text in inputs))
+    tolds = [try_everywhere(Bench(refusing, words, text)) for words, text in inputs]
+    print(summed(tolds))
 
 
 @pytest.mark.slow

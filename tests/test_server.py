@@ -133,7 +133,6 @@ def test_sessions_that_come_and_go():
 
 def test_ends_while_busy():
     """Ctrl-C while all sessions send and receive"""
-    entries = []
     for _ in range(5):
         with serving("--pace", "0", "--txqueue", "1024", "--rxqueue", "65536", "can0,can1", "can2,can3") as server:
             clients = [plain(server, f"can{number}") for number in (0, 0, 1, 2, 3)]
@@ -153,7 +152,6 @@ def test_ends_while_busy():
                 thread.join()
             audited = [server.audited(name) for name in ("can0.rec", "can2.rec")]
             assert written == f"bus can0 entries {audited[0]}\nbus can2 entries {audited[1]}\n", written
-            entries += audited
 
 
 def test_unix_path(tmp_path):
@@ -210,7 +208,6 @@ def heard(connection):
 @pytest.mark.slow
 def test_ends_in_bursts():
     """1,000 servers that are told to end while clients come: each ends, and tells nobody another reason"""
-    came = 0
     for number in range(1000):
         path = "./burst.socket" if number % 2 else "127.0.0.1:0"
         with contextlib.ExitStack() as stack:
@@ -229,7 +226,6 @@ def test_ends_in_bursts():
                 raise AssertionError(f"burst {number}: the server goes on") from None
             for one in filter(None, burst):
                 assert heard(one) in (b"", b"< hi >"), f"burst {number}: a client was told something else"
-                came += 1
 
 
 def test_door_after_the_last_session():
