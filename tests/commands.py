@@ -2,9 +2,12 @@
 
 import os
 import re
+import shutil
 import subprocess
 
 from serving import ROOT, program
+
+BROWSER = next(filter(None, map(shutil.which, ("chromium", "chromium-browser", "google-chrome"))), None)
 
 
 def call(*words, **more):

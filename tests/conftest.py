@@ -9,6 +9,7 @@ import sys
 
 import pytest
 
+import commands
 import serving
 
 sys.dont_write_bytecode = True
@@ -31,6 +32,13 @@ def pytest_addoption(parser):
 
 def pytest_terminal_summary(terminalreporter, config):
     terminalreporter.write_line(f"--seed {config.getoption('seed')} repeats what was random")
+
+
+def pytest_runtest_setup(item):
+    if item.get_closest_marker("root") and os.geteuid() != 0:
+        pytest.skip("not root")
+    if item.get_closest_marker("browser") and not commands.BROWSER:
+        pytest.skip("no browser: chromium")
 
 
 @pytest.fixture

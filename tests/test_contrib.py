@@ -4,7 +4,6 @@ program.
 
 import os
 import re
-import shutil
 import subprocess
 import sys
 
@@ -12,7 +11,7 @@ import pytest
 
 from canbusd.record import read_record
 from canbusd.replay import Run
-from commands import call, example, examples, is_clean
+from commands import BROWSER, call, example, examples, is_clean
 from random_benches import Maker
 from serving import ROOT, program
 
@@ -21,8 +20,6 @@ DRAW = [sys.executable, "-m", "canbusd", "report"]
 # How many random runs are replayed.
 RUNS = 300
 STATES = ["active", "warning", "passive", "off"]
-BROWSER = next(filter(None, map(shutil.which, ("chromium", "chromium-browser", "google-chrome"))), None)
-needs_browser = pytest.mark.skipif(not BROWSER, reason="no browser: chromium")
 
 
 def numbers_asked(written, sessions):
@@ -271,7 +268,7 @@ def test_page(name, tmp_path):
     assert not re.search(r"https?:|\bsrc=|\bhref=|@import|url\(", page), "a link"
 
 
-@needs_browser
+@pytest.mark.browser
 @pytest.mark.parametrize("name, step, texts", SHOWN)
 def test_page_in_a_browser(name, step, texts, tmp_path):
     """it shows the chosen attempt"""
