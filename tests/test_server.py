@@ -6,7 +6,6 @@ import resource
 import signal
 import socket
 import subprocess
-import tempfile
 import threading
 import time
 
@@ -245,41 +244,34 @@ def test_door_after_the_last_session():
             assert server.child.wait(WAIT) == 0, "the end"
 
 
-def test_attempts_in_vain_at_the_end():
+def test_attempts_in_vain_at_the_end(tmp_path):
     """a frame that nobody acknowledges, and an interface that waits for its restart, do not hold up the end"""
-    told = []
-    with serving("--ack", "peers", "--pace", "0", "can0") as server:
+    most = 16777216
+    with serving("--ack", "peers", "--pace", "0", "--limit", str(most), "can0") as server:
         plain(server, "can0").tell("< send 123 0 >")
-        began = time.monotonic()
         server.end()
-        assert time.monotonic() - began < 2, "the end took its time"
-        told.append(server.audited("can0.rec"))
-    script = "".join(f"{number} global bit\n" for number in range(32))
-    with tempfile.NamedTemporaryFile("w", suffix=".script") as faults:
-        faults.write(script)
-        faults.flush()
-        with serving("--auto-restart", "1000000", f"can0,can1@{faults.name}") as server:
-            one = plain(server, "can0")
-            one.tell("< send 123 0 >")
-            assert come_true(lambda: one.answer("< status >").startswith("< status off ")), "bus off"
-            began = time.monotonic()
-            server.end()
-            assert time.monotonic() - began < 2, "the end took its time"
-            told.append(server.audited("can0.rec"))
-    assert max(told) < 1000000, f"{told}"
+        assert server.audited("can0.rec") < most
+    script = tmp_path / "faults"
+    script.write_text("".join(f"{number} global bit\n" for number in range(32)))
+    with serving("--auto-restart", "1000000", f"can0,can1@{script}") as server:
+        one = plain(server, "can0")
+        one.tell("< send 123 0 >")
+        assert come_true(lambda: one.answer("< status >").startswith("< status off ")), "bus off"
+        server.end()
+        assert server.audited("can0.rec") < 1000000
 
 
 def test_own_socket_file(tmp_path):
     """a server removes its own file alone; a path belongs to one server"""
     path = os.path.join(tmp_path, "socket")
 
-    def second(patience=WAIT):
+    def second():
         return subprocess.run(
             [program(), "serve", "--listen", path, "can0"],
             stdin=subprocess.DEVNULL,
             capture_output=True,
             text=True,
-            timeout=patience,
+            timeout=WAIT,
             check=False,
         )
 
@@ -346,13 +338,11 @@ def test_folder_of_a_server(tmp_path):
         assert line_of(server.stdout).startswith("listening "), "it listens"
         os.mkdir(none)
         server.stdin.close()
-        assert (server.wait(WAIT), server.stderr.read()) == (0, ""), "a tmp_path that was made meanwhile"
+        assert (server.wait(WAIT), server.stderr.read()) == (0, ""), "a folder that was made meanwhile"
         assert sorted(os.listdir(none)) == ["can0.log", "can0.rec"], f"{os.listdir(none)}"
-    old = {}
     for name in ("can0.log", "can0.rec"):
-        with open(os.path.join(none, name), "w+", encoding="utf-8") as file:
+        with open(os.path.join(none, name), "w", encoding="utf-8") as file:
             file.write(f"old {name}\n")
-        old[name] = f"old {name}\n"
 
     def may_not_grow():
         resource.setrlimit(resource.RLIMIT_FSIZE, (0, 0))
@@ -369,8 +359,6 @@ def test_folder_of_a_server(tmp_path):
     )
     faults = [line for line in full.stderr.splitlines() if not line.startswith("  ")]
     assert (full.returncode, faults) == (1, ["canbusd: write fault"]), f"{full}"
-    for name, text in old.items():
-        if name == "can0.rec":
-            with open(os.path.join(none, name), encoding="utf-8") as file:
-                assert file.read() == text, name
+    with open(os.path.join(none, "can0.rec"), encoding="utf-8") as file:
+        assert file.read() == "old can0.rec\n"
     assert sorted(os.listdir(none)) == ["can0.log", "can0.rec"], f"{os.listdir(none)}"
