@@ -78,13 +78,7 @@ class Shell:
         self.child, self.terminal = pty.fork()
         if self.child == 0:
             os.chdir(folder)
-            environment = {
-                "PATH": PATH,
-                "TERM": "dumb",
-                "HOME": folder,
-                "COLUMNS": "200",
-                "LC_ALL": "C.UTF-8",
-            }
+            environment = {"PATH": PATH, "TERM": "dumb", "HOME": folder, "COLUMNS": "200", "LC_ALL": "C.UTF-8"}
             os.execvpe(words[0], words, environment)
 
     def until(self, pattern):

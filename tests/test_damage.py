@@ -90,22 +90,15 @@ def restarted():
 def with_fd():
     """The record of FD frames beside a classic one, between sockets that ask for them and one that does not."""
     lines = [
-        "open 0 256 = socket 0",
-        "open 1 1 = socket 1",
-        "open 1 256 = socket 2",
-        "send 0 123##0 = fd-off",
-        "option 0 fd 1 = ok",
-        "option 1 fd 1 = ok",
-        "send 0 123##00102030405060708090A0B0C = number 0",
-        "send 0 1FFFFFFF##0FF = number 1",
-        "send 0 7FF#FF = number 2",
+        "open 0 256 = socket 0", "open 1 1 = socket 1", "open 1 256 = socket 2", "send 0 123##0 = fd-off",
+        "option 0 fd 1 = ok", "option 1 fd 1 = ok", "send 0 123##00102030405060708090A0B0C = number 0",
+        "send 0 1FFFFFFF##0FF = number 1", "send 0 7FF#FF = number 2",
         "attempt 0.000001 good = tried 0 0 123##00102030405060708090A0B0C done 0002 0000",
         "attempt 0.000002 good = tried 0 1 1FFFFFFF##0FF done 0002 0000",
         "attempt 0.000003 good = tried 0 2 7FF#FF done 0002 0000",
-        "receive 1 = data 0 0 123##00102030405060708090A0B0C 0.000001",
-        "receive 2 = data 0 2 7FF#FF 0.000003",
+        "receive 1 = data 0 0 123##00102030405060708090A0B0C 0.000001", "receive 2 = data 0 2 7FF#FF 0.000003",
         "close 1 = closed 0 2",
-    ]
+    ]  # fmt: skip
     return "\n".join(["canbus record 3", "bus 2 always 0000 10 100 0", *lines, f"end {len(lines)}", ""]).encode()
 
 

@@ -38,31 +38,10 @@ close 1 = no-socket
 end 13
 """
 WORDS = [
-    b"",
-    b"<",
-    b">",
-    b"< ",
-    b" >",
-    b"feed 1 ",
-    b"session 64",
-    b"attempt",
-    b"\0",
-    b"\xff",
-    b"\n\n",
-    b" = ",
-    b"#",
-    b"18446744073709551616",
-    b"4294967296",
-    b"9999999999.999999",
-    b"0",
-    b"-1",
-    b"FFFF",
-    b"end 0\n",
-    b"= tried",
-    b"< send 1FFFFFFF 8 0 0 0 0 0 0 0 0 >",
-    b"< filter 512 ",
-    b"option 0 errmask FFFFFFFF = ok\n",
-]
+    b"", b"<", b">", b"< ", b" >", b"feed 1 ", b"session 64", b"attempt", b"\0", b"\xff", b"\n\n", b" = ", b"#",
+    b"18446744073709551616", b"4294967296", b"9999999999.999999", b"0", b"-1", b"FFFF", b"end 0\n", b"= tried",
+    b"< send 1FFFFFFF 8 0 0 0 0 0 0 0 0 >", b"< filter 512 ", b"option 0 errmask FFFFFFFF = ok\n",
+]  # fmt: skip
 
 
 def changed(rng, text):
