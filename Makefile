@@ -2,6 +2,7 @@
 # make test         the test command: every proof, edit, test, stored run and example, from scratch
 # make quick        every test, stored run and example without proofs, in a few minutes, for work in between
 # make python-test  the tests of the Python package, on the program; needs python-can and pytest
+# make check        the program, its documents and tools from outside, by pytest; slow tests are left out (tests/)
 # make dist         puts the proved program into dist/, with what it was built from
 # make verify-dist  proves and builds it again from scratch, and compares it with dist/ byte for byte
 # make install      puts the program with its launcher, the Python package, tools, manual page, completions, unit of systemd,
@@ -35,6 +36,12 @@ quick:
 
 python-test:
 	./scripts/python-package test
+
+# Debian's python3 where there is one, since python-can is installed there.
+PYTHON ?= $(shell command -v /usr/bin/python3 || command -v python3)
+
+check:
+	$(PYTHON) -m pytest -q -m "not slow" tests
 
 dist:
 	./scripts/program dist
@@ -94,4 +101,4 @@ deb:
 clean:
 	rm -rf crates/*/out
 
-.PHONY: all test quick python-test dist verify-dist install install-extras uninstall uninstall-extras deb clean
+.PHONY: all test quick python-test check dist verify-dist install install-extras uninstall uninstall-extras deb clean

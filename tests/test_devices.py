@@ -1,27 +1,19 @@
-#!/usr/bin/env python3
-"""Gives canbusd files and streams that fail, and watches what it tells and what it leaves.
+"""Files and streams that fail, and what canbusd says and leaves then.
 
-    scripts/check-devices [--program PATH] [--only WORD]
-
-For each file and stream of `bench`, `audit` and `serve`: one that is closed, full (/dev/full), a folder, missing, one that
-can't be read (/proc/self/mem), that is no text or has no end, a pipe that nobody reads, and a file that may grow to so many
-bytes alone. Each run has to end with the first line that the manual page has for its fault, and a fault of one file leaves
-the others whole. PATH is the program, without its launcher. Each check is a line; the last is `N ok, M failed`.
-This is no part of the test command.
+Each file and stream of `bench`, `audit` and `serve` is one that is closed, full (/dev/full), a folder, missing, one
+that can't be read (/proc/self/mem), that is no text or has no end, a pipe that nobody reads, and a file that may
+grow to a few bytes only. Each run has to end with the first line that the manual page has for its fault, and a fault
+of one file leaves the others whole.
 """
 
-import argparse
 import contextlib
 import os
 import re
 import resource
 import signal
 import subprocess
-import sys
-import tempfile
 
-from serving import (ROOT, WAIT, Pair, Server, Wrong, check, chosen_program, demand, plain, run_checks, serving,
-                     serving_alone)
+from serving import ROOT, WAIT, Pair, plain, program, serving, serving_alone
 
 with open(os.path.join(ROOT, "examples", "first_frame.bench"), encoding="utf-8") as example:
     INPUT = example.read()
@@ -57,25 +49,31 @@ def nothing():
 
 def run(*words, closes=None, most=resource.RLIM_INFINITY, **streams):
     """What the program does with these streams, perhaps with one of them closed, and with so many bytes of memory."""
+
     def begin():
         resource.setrlimit(resource.RLIMIT_AS, (most, most))
         if closes is not None:
             os.close(closes)
 
-    how = {"stdout": subprocess.PIPE, "stderr": subprocess.PIPE, "timeout": 6 * WAIT, "check": False, "preexec_fn": begin}
+    how = {
+        "stdout": subprocess.PIPE,
+        "stderr": subprocess.PIPE,
+        "timeout": 6 * WAIT,
+        "check": False,
+        "preexec_fn": begin,
+    }
     how.update(streams)
     if "stdin" not in how:
         how.setdefault("input", INPUT.encode())
-    done = subprocess.run([Server.program, *words], **how)
+    done = subprocess.run([program(), *words], **how)
     return done.returncode, (done.stdout or b"").decode(), (done.stderr or b"").decode().splitlines()[:1]
 
 
 def expect(what, saw, status, output, fault):
-    demand(saw == (status, output, [f"canbusd: {fault}"] if fault else []), f"{what}: {saw}")
+    assert saw == (status, output, [f"canbusd: {fault}"] if fault else []), f"{what}: {saw}"
 
 
-@check
-def input_of_a_bench():
+def test_input_of_a_bench():
     """closed, a folder, unreadable, endless"""
     expect("closed", run("bench", "can0", closes=0), 1, "", "read fault")
     for path in ("/", UNREADABLE):
@@ -88,31 +86,26 @@ def input_of_a_bench():
         expect("empty lines", run("bench", "can0", stdin=lines.stdout), 1, "", "input too long")
         lines.stdout.close()
         lines.kill()
-    return "5 runs"
 
 
-@check
-def output_of_a_bench():
+def test_output_of_a_bench(tmp_path):
     """closed, full, a pipe that nobody reads: no record is made"""
-    with tempfile.TemporaryDirectory() as folder:
-        record = os.path.join(folder, "run.rec")
-        words = "bench", "--record", record, "can0,can1"
-        with unread_pipe() as writer:
-            expect("a pipe that nobody reads", run(*words, stdout=writer), 1, "", "write fault")
+    record = os.path.join(tmp_path, "run.rec")
+    words = "bench", "--record", record, "can0,can1"
+    with unread_pipe() as writer:
+        expect("a pipe that nobody reads", run(*words, stdout=writer), 1, "", "write fault")
+    with full() as file:
+        expect("full", run(*words, stdout=file), 1, "", "write fault")
+        long = (INPUT + "feed 1 < echo >\n" * 2000 + "x\n").encode()
+        expect("full, far from the end", run(*words, stdout=file, input=long), 1, "", "write fault")
+    expect("closed", run(*words, closes=1), 1, "", "write fault")
+    assert not os.path.exists(record), "a record was made"
+    for words in (["--version"], ["--help"], ["bench", "--help"]):
         with full() as file:
-            expect("full", run(*words, stdout=file), 1, "", "write fault")
-            long = (INPUT + "feed 1 < echo >\n" * 2000 + "x\n").encode()
-            expect("full, far from the end", run(*words, stdout=file, input=long), 1, "", "write fault")
-        expect("closed", run(*words, closes=1), 1, "", "write fault")
-        demand(not os.path.exists(record), "a record was made")
-        for words in (["--version"], ["--help"], ["bench", "--help"]):
-            with full() as file:
-                expect(f"{words}, full", run(*words, stdout=file), 1, "", "write fault")
-    return "7 runs"
+            expect(f"{words}, full", run(*words, stdout=file), 1, "", "write fault")
 
 
-@check
-def errors_of_a_bench():
+def test_errors_of_a_bench():
     """closed, full, a pipe that nobody reads: output and status are as ever"""
     for stream in (unread_pipe, full, nothing):
         with stream() as errors:
@@ -121,71 +114,76 @@ def errors_of_a_bench():
             expect(f"{stream.__name__}", saw, 1, OUTPUT, None)
             saw = run("bench", "can0,can0", stderr=errors, closes=closes)
             expect(f"{stream.__name__}, names", saw, 1, "", None)
-            demand(run("bench", stderr=errors, closes=closes)[0] == 2, "the status of a fault of the command line")
-    return "9 runs"
+            assert run("bench", stderr=errors, closes=closes)[0] == 2, "the status of a fault of the command line"
 
 
-@check
-def script_of_a_bench():
+def test_script_of_a_bench(tmp_path):
     """missing, a folder, unreadable, no text, endless"""
-    with tempfile.TemporaryDirectory() as folder:
-        bytes_ = os.path.join(folder, "bytes")
-        with open(bytes_, "wb") as file:
-            file.write(b"0 good\n\xff\n")
-        for path, fault in [("none", "cannot open none"), ("/", "read fault"), (UNREADABLE, "read fault"),
-                            (bytes_, "read fault"), ("", "cannot open "), (f"{bytes_}/x", f"cannot open {bytes_}/x")]:
-            expect(path, run("bench", f"can0,can1@{path}"), 1, "", fault)
-        expect("endless", run("bench", "can0,can1@/dev/zero", most=2**28), 1, "", "no memory")
-    return "7 runs"
+    bytes_ = os.path.join(tmp_path, "bytes")
+    with open(bytes_, "wb") as file:
+        file.write(b"0 good\n\xff\n")
+    for path, fault in [
+        ("none", "cannot open none"),
+        ("/", "read fault"),
+        (UNREADABLE, "read fault"),
+        (bytes_, "read fault"),
+        ("", "cannot open "),
+        (f"{bytes_}/x", f"cannot open {bytes_}/x"),
+    ]:
+        expect(path, run("bench", f"can0,can1@{path}"), 1, "", fault)
+    expect("endless", run("bench", "can0,can1@/dev/zero", most=2**28), 1, "", "no memory")
 
 
-@check
-def record_of_a_bench():
+def test_record_of_a_bench(tmp_path):
     """full, a folder, a missing folder, a pipe that nobody reads: the output is whole"""
-    for path, fault in [("/dev/full", "write fault"), ("/", "cannot open /"), ("/none/run.rec", "cannot open /none/run.rec")]:
+    for path, fault in [
+        ("/dev/full", "write fault"),
+        ("/", "cannot open /"),
+        ("/none/run.rec", "cannot open /none/run.rec"),
+    ]:
         expect(path, run("bench", "--record", path, "can0,can1"), 1, OUTPUT, fault)
     with unread_pipe() as writer:
         saw = run("bench", "--record", f"/dev/fd/{writer}", "can0,can1", pass_fds=[writer])
         faults = [["canbusd: write fault"], [f"canbusd: cannot open /dev/fd/{writer}"]]
-        demand(saw[:2] == (1, OUTPUT) and saw[2] in faults, f"{saw}")
+        assert saw[:2] == (1, OUTPUT) and saw[2] in faults, f"{saw}"
     for most in (0, 1, 100):
-        with tempfile.TemporaryDirectory() as folder:
-            path = os.path.join(folder, "run.rec")
-            expect(f"{most} bytes", grown("bench", "--record", path, "can0,can1", most=most), 1, OUTPUT, "write fault")
-            saw = run("audit", path)
-            demand(saw[:2] == (1, ""), f"the audit of {most} bytes: {saw}")
-    return "7 runs"
+        path = os.path.join(tmp_path, "run.rec")
+        expect(f"{most} bytes", grown("bench", "--record", path, "can0,can1", most=most), 1, OUTPUT, "write fault")
+        saw = run("audit", path)
+        assert saw[:2] == (1, ""), f"the audit of {most} bytes: {saw}"
 
 
-@check
-def log_of_a_bench():
+def test_log_of_a_bench(tmp_path):
     """full, a folder, a missing folder, a file of so many bytes: the output is whole, and so is the record"""
     line = "(0000000023.424242) can0 123#11223344\n"
-    with tempfile.TemporaryDirectory() as folder:
-        log, record = os.path.join(folder, "run.log"), os.path.join(folder, "run.rec")
-        for path, fault in [("/dev/full", "log of can0: 0 whole lines"), ("/", "cannot open /"),
-                            ("/none/run.log", "cannot open /none/run.log")]:
-            expect(path, run("bench", "--log", path, "--record", record, "can0,can1"), 1, OUTPUT, fault)
-            demand(run("audit", record)[0] == 0, f"the record beside {path}")
-            os.remove(record)
-        for most in (0, len(line) - 1, len(line)):
-            fault = "log of can0: 0 whole lines" if most < len(line) else None
-            expect(f"{most} bytes", grown("bench", "--log", log, "can0,can1", most=most), 1 if fault else 0, OUTPUT, fault)
-            with open(log, encoding="ascii") as file:
-                demand(file.read() == line[:most], f"the log of {most} bytes")
-        expect("another record", run("bench", "--log", log, "--record", "/dev/full", "can0,can1"), 1, OUTPUT, "write fault")
+    log, record = os.path.join(tmp_path, "run.log"), os.path.join(tmp_path, "run.rec")
+    for path, fault in [
+        ("/dev/full", "log of can0: 0 whole lines"),
+        ("/", "cannot open /"),
+        ("/none/run.log", "cannot open /none/run.log"),
+    ]:
+        expect(path, run("bench", "--log", path, "--record", record, "can0,can1"), 1, OUTPUT, fault)
+        assert run("audit", record)[0] == 0, f"the record beside {path}"
+        os.remove(record)
+    for most in (0, len(line) - 1, len(line)):
+        fault = "log of can0: 0 whole lines" if most < len(line) else None
+        expect(f"{most} bytes", grown("bench", "--log", log, "can0,can1", most=most), 1 if fault else 0, OUTPUT, fault)
         with open(log, encoding="ascii") as file:
-            demand(file.read() == line, "the log beside a record that is not written")
-    return "7 runs"
+            assert file.read() == line[:most], f"the log of {most} bytes"
+    expect("another record", run("bench", "--log", log, "--record", "/dev/full", "can0,can1"), 1, OUTPUT, "write fault")
+    with open(log, encoding="ascii") as file:
+        assert file.read() == line, "the log beside a record that is not written"
 
 
 def may_grow(most, errors=None):
     """Lets files grow to so many bytes; then writes are refused. Standard error may be a pipe instead."""
+
     def begin():
         if errors is not None:
             os.dup2(errors, 2)
         signal.signal(signal.SIGXFSZ, signal.SIG_IGN)
         resource.setrlimit(resource.RLIMIT_FSIZE, (most, most))
+
     return begin
 
 
@@ -193,11 +191,14 @@ def grown(*words, most):
     return run(*words, preexec_fn=may_grow(most))
 
 
-@check
-def file_of_an_audit():
+def test_file_of_an_audit():
     """missing, a folder, unreadable, no text, endless, a pipe"""
-    for path, fault in [("none", "cannot open none"), ("/", "read fault"), (UNREADABLE, "read fault"),
-                        ("/dev/null", "bad version")]:
+    for path, fault in [
+        ("none", "cannot open none"),
+        ("/", "read fault"),
+        (UNREADABLE, "read fault"),
+        ("/dev/null", "bad version"),
+    ]:
         expect(path, run("audit", path), 1, "", fault)
     expect("no text", run("audit", "/dev/stdin", input=b"canbus record 1\n\xff"), 1, "", "read fault")
     expect("endless", run("audit", "/dev/zero", most=2**28), 1, "", "no memory")
@@ -208,7 +209,6 @@ def file_of_an_audit():
     with unread_pipe() as writer:
         expect("output that nobody reads", run("audit", "/dev/stdin", input=text, stdout=writer), 1, "", "write fault")
     expect("output closed", run("audit", "/dev/stdin", input=text, closes=1), 1, "", "write fault")
-    return "10 runs"
 
 
 @contextlib.contextmanager
@@ -231,15 +231,15 @@ def whole(server, *names):
     for name, lines in (("can0.log", 2), ("can2.log", 0)):
         if name in names:
             with open(server.path(name), encoding="utf-8") as log:
-                demand(len(log.readlines()) == lines, name)
+                assert len(log.readlines()) == lines, name
 
 
-@check
-def files_of_a_server():
+def test_files_of_a_server():
     """full, a folder, no memory to grow: each file's fault is its own"""
     names = ["can0.log", "can0.rec", "can2.log", "can2.rec"]
     faults = {"can0.log": "log of can0: 0 whole lines", "can0.rec": "write fault", "can2.rec": "write fault"}
     for name in names:
+
         def link(folder, name=name):
             os.symlink("/dev/full", os.path.join(folder, name))
 
@@ -249,15 +249,13 @@ def files_of_a_server():
         for before, fault in [(link, faults.get(name)), (make, f"cannot open ./{name}")]:
             with ended(before=before) as (server, status, written):
                 lines = [line for line in server.said().splitlines() if not line.startswith("  ")]
-                demand(lines == ([f"canbusd: {fault}"] if fault else []), f"{name}: {lines}")
-                demand(status == (1 if fault else 0), f"{name}: status {status}")
-                demand(re.fullmatch(r"bus can0 entries \d+\nbus can2 entries 0\n", written), written)
+                assert lines == ([f"canbusd: {fault}"] if fault else []), f"{name}: {lines}"
+                assert status == (1 if fault else 0), f"{name}: status {status}"
+                assert re.fullmatch(r"bus can0 entries \d+\nbus can2 entries 0\n", written), written
                 whole(server, *[other for other in names if other != name])
-    return "8 runs"
 
 
-@check
-def logs_that_grow_to_a_limit():
+def test_logs_that_grow_to_a_limit():
     """how many whole lines they have"""
     # A line of a frame with an identifier of 29 bits and 4 bytes: (SSSSSSSSSS.MMMMMM) can0 00000000#00000001 and LF.
     line = 43
@@ -266,18 +264,19 @@ def logs_that_grow_to_a_limit():
         with ended(preexec_fn=may_grow(most, writer)) as (server, status, _), open(reader, encoding="utf-8") as told:
             os.close(writer)
             faults = [text.rstrip() for text in told if text.startswith("canbusd: log of ")]
-            demand((status, faults) == (1, [f"canbusd: log of can0: {count} whole lines"]), f"{most} bytes: {status} {faults}")
+            assert (status, faults) == (
+                1,
+                [f"canbusd: log of can0: {count} whole lines"],
+            ), f"{most} bytes: {status} {faults}"
             with open(server.path("can0.log"), "rb") as log:
                 text = log.read()
-            demand(text.count(b"\n") == count and len(text) <= most, f"{most} bytes: {text}")
+            assert text.count(b"\n") == count and len(text) <= most, f"{most} bytes: {text}"
     with ended(preexec_fn=may_grow(line * 2)) as (server, status, _):
-        demand("log of" not in server.said() and status == 1, server.said())
+        assert "log of" not in server.said() and status == 1, server.said()
         whole(server, "can0.log", "can2.log")
-    return "4 runs"
 
 
-@check
-def output_of_a_server():
+def test_output_of_a_server():
     """full, closed, a pipe that nobody reads; files are written all the same"""
     words = "serve", "--listen", "127.0.0.1:0", "--until-eof", "can0"
     with full() as file:
@@ -290,60 +289,50 @@ def output_of_a_server():
         server.child.stdout.close()
         server.child.stdin.close()
         status = server.child.wait(WAIT)
-        demand((status, server.said().splitlines()[0]) == (1, "canbusd: write fault"), f"{status} {server.said()}")
+        assert (status, server.said().splitlines()[0]) == (1, "canbusd: write fault"), f"{status} {server.said()}"
         server.audited("can0.rec")
-    return "4 runs"
 
 
-@check
-def input_of_a_server():
+def test_input_of_a_server():
     """closed, a folder, unreadable: with --until-eof an end; without it nobody reads it"""
     for path in ("/", UNREADABLE, "/dev/null"):
         file = os.open(path, os.O_RDONLY)
         status, output, errors = run("serve", "--listen", "127.0.0.1:0", "--until-eof", "can0", stdin=file)
         saw = status, output.splitlines()[1:], errors
-        demand(saw == (0, ["bus can0 entries 0"], []), f"{path}: {saw}")
-        with serving("can0,can1", stdin=file) as server:
+        assert saw == (0, ["bus can0 entries 0"], []), f"{path}: {saw}"
+        with serving("can0,can1", launcher=False, stdin=file) as server:
             Pair(server).go_on()
         os.close(file)
-    return "6 runs"
 
 
-@check
-def errors_of_a_server():
+def test_errors_of_a_server(tmp_path):
     """full: a record that is full, and files that fail, are told nobody; the status is told"""
-    with tempfile.TemporaryDirectory() as folder, full() as file:
-        os.mkdir(os.path.join(folder, "can0.log"))
-        words = "serve", "--listen", "127.0.0.1:0", "--until-eof", "--out", folder, "can0"
+    with full() as file:
+        os.mkdir(os.path.join(tmp_path, "can0.log"))
+        words = "serve", "--listen", "127.0.0.1:0", "--until-eof", "--out", tmp_path, "can0"
         status, output, errors = run(*words, stderr=file, input=b"")
-        demand((status, output.splitlines()[1:], errors) == (1, ["bus can0 entries 0"], []), f"{status} {output} {errors}")
-        expect("the record", run("audit", os.path.join(folder, "can0.rec")), 0, "ok 0 entries\n", None)
-    return "2 runs"
+        assert (status, output.splitlines()[1:], errors) == (
+            1,
+            ["bus can0 entries 0"],
+            [],
+        ), f"{status} {output} {errors}"
+        expect("the record", run("audit", os.path.join(tmp_path, "can0.rec")), 0, "ok 0 entries\n", None)
 
 
-@check
-def addresses_of_a_server():
+def test_addresses_of_a_server(server, tmp_path):
     """a missing folder, a file that is there, a port that is taken, no address"""
-    with tempfile.TemporaryDirectory() as folder, serving("can0") as server:
-        there = os.path.join(folder, "there")
-        with open(there, "wb"):
-            pass
-        for address in (f"{folder}/none/socket", there, folder, f"{server.host}:{server.port}", "127.0.0.1:99999",
-                        "nowhere.invalid:1", f"/{'x' * 200}"):
-            expect(address, run("serve", "--listen", address, "can1"), 1, "", "cannot listen")
-        demand(os.path.getsize(there) == 0, "the file is gone")
-        plain(server, "can0").close()
-    return "7 runs"
-
-
-def main():
-    parser = argparse.ArgumentParser(description="Gives canbusd files and streams that fail.")
-    parser.add_argument("--program")
-    parser.add_argument("--only", default="")
-    options = parser.parse_args()
-    Server.program = os.path.abspath(options.program or chosen_program())
-    sys.exit(0 if run_checks(options.only) else 1)
-
-
-if __name__ == "__main__":
-    main()
+    there = tmp_path / "there"
+    there.touch()
+    taken = f"{server.host}:{server.port}"
+    for address in (
+        f"{tmp_path}/none/socket",
+        there,
+        tmp_path,
+        taken,
+        "127.0.0.1:99999",
+        "nowhere.invalid:1",
+        f"/{'x' * 200}",
+    ):
+        expect(address, run("serve", "--listen", address, "can1"), 1, "", "cannot listen")
+    assert there.stat().st_size == 0, "the file is gone"
+    plain(server, "can0").close()

@@ -1,17 +1,5 @@
-#!/usr/bin/env python3
-"""Tries `canbusd serve` with clients that know nothing of it: python-can, its player and logger, and can-utils' readers.
+"""`canbusd serve` with clients that know nothing of it: python-can, its player and logger, and can-utils' readers."""
 
-    apt-get install python3-can python3-pytest can-utils
-    scripts/check-clients [--program PATH] [--frames N] [--only WORD] [--keep]
-
-First it tries a bench on a pipe (bench_checks.py), and with plain sockets what a server does when records fill, clients go,
-and it has to end (server_checks.py).
-Each check is a line `ok ..` or `failed ..`, and says what it saw; the last line is `N ok, M failed`. PATH is ./canbusd,
-the launcher. The replayed log has N frames, a millisecond apart (as it is, 10,000). Only the checks with WORD in
-their names are run; --keep leaves logs and records where they are. This is no part of the test command.
-"""
-
-import argparse
 import contextlib
 import logging
 import os
@@ -19,22 +7,15 @@ import re
 import signal
 import subprocess
 import sys
-import tempfile
 import threading
 import time
 
-import bench_checks  # these two mark their checks
-import server_checks
-from serving import ROOT, WAIT, Server, check, demand, plain, run_checks, serving
+import pytest
 
-try:
-    import can
-    from can.io import CanutilsLogReader
-except ImportError:
-    # Debian's python3-can is for Debian's Python.
-    if os.path.realpath(sys.executable) != os.path.realpath("/usr/bin/python3") and os.path.exists("/usr/bin/python3"):
-        os.execv("/usr/bin/python3", ["/usr/bin/python3", os.path.abspath(__file__), *sys.argv[1:]])
-    sys.exit("check-clients: python-can is not installed: apt-get install python3-can python3-pytest can-utils")
+from serving import ROOT, WAIT, line_of, plain, program, serving
+
+can = pytest.importorskip("can", reason="python-can is not installed")
+from can.io import CanutilsLogReader  # noqa: E402
 
 # How many frames the replayed log has.
 FRAMES = 10000
@@ -62,12 +43,17 @@ def told():
 
 
 def message(number, data=b"", **more):
-    return can.Message(arbitration_id=number, data=data, is_extended_id=more.pop("is_extended_id", number > 0x7FF), **more)
+    return can.Message(
+        arbitration_id=number, data=data, is_extended_id=more.pop("is_extended_id", number > 0x7FF), **more
+    )
 
 
 def expect(bus, number, data):
     got = bus.recv(WAIT)
-    demand(got is not None and (got.arbitration_id, bytes(got.data)) == (number, data), f"{got}, not {number:X} {data.hex()}")
+    assert got is not None and (got.arbitration_id, bytes(got.data)) == (
+        number,
+        data,
+    ), f"{got}, not {number:X} {data.hex()}"
     return got
 
 
@@ -76,33 +62,28 @@ def passes(source, target, number, data):
     return expect(target, number, data)
 
 
-@check
-def python_can_both_ways():
+def test_python_can_both_ways():
     """11 and 29 bits, 0 to 8 bytes"""
     with serving("can0,can1") as server, client(server, "can0") as can0, client(server, "can1") as can1:
         for number in (0, 0x123, 0x7FF, 0x10000000, 0x12345678, 0x1FFFFFFF):
             for length in (0, 1, 8):
                 got = passes(can0, can1, number, bytes(range(0xF8, 0xF8 + length)))
-                demand(abs(got.timestamp - time.time()) < WAIT, f"the moment {got.timestamp}")
+                assert abs(got.timestamp - time.time()) < WAIT, f"the moment {got.timestamp}"
                 passes(can1, can0, number, bytes(range(length)))
-        demand(can0.recv(0.05) is None, "its own frame came back")
-    return "36 frames"
+        assert can0.recv(0.05) is None, "its own frame came back"
 
 
-@check
-def empty_frame():
+def test_empty_frame():
     """a frame without data has two spaces before its end"""
     with serving("can0,can1") as server, client(server, "can0") as can0, client(server, "can1") as can1:
         socket1 = plain(server, "can1")
         got = passes(can0, can1, 0x123, b"")
-        demand(got.dlc == 0, f"{got.dlc} bytes")
+        assert got.dlc == 0, f"{got.dlc} bytes"
         text = socket1.text()
-        demand(re.fullmatch(r"< frame 123 \d+\.\d{6}  >", text), text)
-    return text
+        assert re.fullmatch(r"< frame 123 \d+\.\d{6}  >", text), text
 
 
-@check
-def identifiers_of_29_bits():
+def test_identifiers_of_29_bits():
     """below 10000000, and the way round: bit 31 set in the identifier"""
     saw = []
     with serving("can0,can1") as server, client(server, "can0") as can0, told() as lines:
@@ -114,29 +95,25 @@ def identifiers_of_29_bits():
                 wanted = f"{number:08X}"
             if wanted:
                 first = socket1.frame()
-                demand(first == (wanted, b""), f"{first}")
+                assert first == (wanted, b""), f"{first}"
                 saw.append(f"{number:X} arrives as {wanted}")
             else:
                 saw.append(f"{number:X} is a bad id")
             second = socket1.frame()
-            demand(second == (f"{number:08X}", b"\x01"), f"{second}")
+            assert second == (f"{number:08X}", b"\x01"), f"{second}"
             saw.append(f"{number | 0x80000000:X} as {number:08X}")
         can0.recv(0.1)
-        demand(any("< error bad id >" in line for line in lines) == OLD_CLIENT, f"told {lines}")
-    return ", ".join(saw)
+        assert any("< error bad id >" in line for line in lines) == OLD_CLIENT, f"told {lines}"
 
 
-@check
-def frames_received_have_no_format():
+def test_frames_received_have_no_format():
     """python-can 4.1 takes each frame for one of 29 bits"""
     with serving("can0,can1") as server, client(server, "can0") as can0, client(server, "can1") as can1:
         short, long = passes(can0, can1, 0x123, b""), passes(can0, can1, 0x12345678, b"")
-    demand(long.is_extended_id and short.is_extended_id == OLD_CLIENT, f"{short} {long}")
-    return f"123 is {'of 29 bits' if short.is_extended_id else 'of 11 bits'} there"
+    assert long.is_extended_id and short.is_extended_id == OLD_CLIENT, f"{short} {long}"
 
 
-@check
-def remote_frames():
+def test_remote_frames():
     """python-can 4.1 neither sends nor knows them"""
     with serving("can0,can1") as server, client(server, "can0") as can0, told() as lines:
         socket1 = plain(server, "can1")
@@ -147,17 +124,15 @@ def remote_frames():
         can0.send(message(0x125, is_remote_frame=True, dlc=0))
         got = socket1.text()
         if OLD_CLIENT:
-            demand(unknown, f"told {lines}")
-            demand(re.fullmatch(r"< frame 125 \S+  >", got), got)
+            assert unknown, f"told {lines}"
+            assert re.fullmatch(r"< frame 125 \S+  >", got), got
             can0.recv(0.1)
-            demand(any("< error bad word count >" in line for line in lines), f"told {lines}")
-            return "one that arrives is logged and skipped; of those it sends, length 3 is refused, length 0 is a data frame"
-        demand(got.startswith("< remote 123 "), got)
-    return "both ways"
+            assert any("< error bad word count >" in line for line in lines), f"told {lines}"
+        else:
+            assert got.startswith("< remote 123 "), got
 
 
-@check
-def filters_and_periodic_frames():
+def test_filters_and_periodic_frames():
     """python-can's filters, Notifier and periodic frames"""
     with serving("can0,can1") as server, client(server, "can0") as can0:
         seen = []
@@ -171,29 +146,24 @@ def filters_and_periodic_frames():
         with client(server, "can1", can_filters=[{"can_id": 0x200, "can_mask": 0x700}]) as can1:
             notifier = can.Notifier(can1, [take], timeout=0.1)
             tasks = [can0.send_periodic(message(number, b"\x01"), 0.01) for number in (0x123, 0x234)]
-            demand(enough.wait(WAIT), f"{len(seen)} frames")
+            assert enough.wait(WAIT), f"{len(seen)} frames"
             for task in tasks:
                 task.stop()
             notifier.stop()
-        demand(set(seen) == {0x234}, f"{set(seen)}")
-    return "20 frames"
+        assert set(seen) == {0x234}, f"{set(seen)}"
 
 
-@check
-def script_of_faults():
+def test_script_of_faults(tmp_path):
     """a frame whose last bit fails arrives twice"""
-    with tempfile.NamedTemporaryFile("w", suffix=".script") as script:
-        script.write("0 lastbit\n")
-        script.flush()
-        with serving(f"can0,can1@{script.name}") as server, client(server, "can0") as can0, client(server, "can1") as can1:
-            passes(can0, can1, 0x123, b"\x01")
-            expect(can1, 0x123, b"\x01")
-            passes(can0, can1, 0x124, b"\x02")
-    return "123 twice, 124 once"
+    script = tmp_path / "faults"
+    script.write_text("0 lastbit\n")
+    with serving(f"can0,can1@{script}") as server, client(server, "can0") as can0, client(server, "can1") as can1:
+        passes(can0, can1, 0x123, b"\x01")
+        expect(can1, 0x123, b"\x01")
+        passes(can0, can1, 0x124, b"\x02")
 
 
-@check
-def connects_to_a_busy_bus():
+def test_connects_to_a_busy_bus():
     """the first frame is never in the same read as the ok of rawmode"""
     with serving("--pace", "0", "--txqueue", "1024", "can0,can1") as server:
         over = threading.Event()
@@ -213,12 +183,9 @@ def connects_to_a_busy_bus():
         finally:
             over.set()
             thread.join()
-        sent = sender.answer("< stats >").split()[5]
-    return f"100 times, {sent} frames meanwhile"
 
 
-@check
-def several_buses():
+def test_several_buses():
     """two buses of two interfaces, and no frame from one to the other"""
     with serving("can0,can1", "can2,can3") as server:
         with contextlib.ExitStack() as stack:
@@ -227,12 +194,14 @@ def several_buses():
             passes(buses[2], buses[3], 0x200, b"\x02")
             passes(buses[3], buses[2], 0x300, b"\x03")
             passes(buses[1], buses[0], 0x400, b"\x04")
-            demand(all(bus.recv(0.05) is None for bus in buses), "a frame of another bus")
+            assert all(bus.recv(0.05) is None for bus in buses), "a frame of another bus"
         written = server.end()
-        demand(re.fullmatch(r"bus can0 entries \d+\nbus can2 entries \d+\n", written), written)
-        logs = {name: [one.arbitration_id for one in CanutilsLogReader(server.path(name))] for name in ("can0.log", "can2.log")}
-    demand(logs == {"can0.log": [0x100, 0x400], "can2.log": [0x200, 0x300]}, f"{logs}")
-    return "4 clients"
+        assert re.fullmatch(r"bus can0 entries \d+\nbus can2 entries \d+\n", written), written
+        logs = {
+            name: [one.arbitration_id for one in CanutilsLogReader(server.path(name))]
+            for name in ("can0.log", "can2.log")
+        }
+    assert logs == {"can0.log": [0x100, 0x400], "can2.log": [0x200, 0x300]}, f"{logs}"
 
 
 def candump_log(path, count):
@@ -243,22 +212,38 @@ def candump_log(path, count):
             identifier = 0x10000000 + number * 4177 if number % 3 == 0 else number * 7 % 0x800
             text = f"{identifier:08X}" if identifier > 0x7FF else f"{identifier:03X}"
             data = number.to_bytes(4, "big") + bytes(range(number % 5))
-            file.write(f"({1700000000 + number // 1000:010d}.{number % 1000:03d}000) can0 {text}#{data.hex().upper()}\n")
+            file.write(
+                f"({1700000000 + number // 1000:010d}.{number % 1000:03d}000) can0 {text}#{data.hex().upper()}\n"
+            )
             frames.append((text, data))
     return frames
 
 
 def of_can(module, server, *words):
     """The words that start the player or the logger of python-can on the server."""
-    return [sys.executable, "-m", f"can.{module}", "-i", "socketcand", *words, f"--host={server.host}", f"--port={server.port}"]
+    return [
+        sys.executable,
+        "-m",
+        f"can.{module}",
+        "-i",
+        "socketcand",
+        *words,
+        f"--host={server.host}",
+        f"--port={server.port}",
+    ]
 
 
 def logger_runs(server, path):
     """Starts the logger, and waits until it is connected."""
-    logger = subprocess.Popen(of_can("logger", server, "-c", "can1", "-f", path), stdout=subprocess.PIPE,
-                              stderr=subprocess.PIPE, text=True, env={**os.environ, "PYTHONUNBUFFERED": "1"})
-    line = logger.stdout.readline()
-    demand(line.startswith("Connected"), f"the logger said {line!r}")
+    logger = subprocess.Popen(
+        of_can("logger", server, "-c", "can1", "-f", path),
+        stdout=subprocess.PIPE,
+        stderr=subprocess.PIPE,
+        text=True,
+        env={**os.environ, "PYTHONUNBUFFERED": "1"},
+    )
+    line = line_of(logger.stdout)
+    assert line.startswith("Connected"), f"the logger said {line!r}"
     return logger
 
 
@@ -278,10 +263,9 @@ def compare_logger(path, frames, warnings):
     wanted = [(int(text, 16), data) for text, data in frames]
     places = {frame: place for place, frame in enumerate(wanted)}
     order = [places.get(frame, -1) for frame in got]
-    demand(-1 not in order and order == sorted(set(order)), "the logger wrote frames in disorder, twice or changed")
+    assert -1 not in order and order == sorted(set(order)), "the logger wrote frames in disorder, twice or changed"
     lost, cut = len(wanted) - len(got), len(re.findall("Invalid Frame: $|Bad data: No opening", warnings, re.M))
-    demand(lost == cut, f"the logger lost {lost} frames, {cut} of them cut by its reads of 1,024 bytes")
-    return f"{len(got)} of {len(wanted)} by the logger" + (f", {cut} cut by its reads of 1,024 bytes" if cut else "")
+    assert lost == cut, f"the logger lost {lost} frames, {cut} of them cut by its reads of 1,024 bytes"
 
 
 def compare_files(server, frames):
@@ -289,22 +273,25 @@ def compare_files(server, frames):
     path = server.path("can0.log")
     with open(path, encoding="ascii") as file:
         lines = [line.split() for line in file]
-    demand([(words[1], *words[2].split("#")) for words in lines] == [("can0", text, data.hex().upper()) for text, data in frames],
-           "the log is not the frames sent")
+    assert [(words[1], *words[2].split("#")) for words in lines] == [
+        ("can0", text, data.hex().upper()) for text, data in frames
+    ], "the log is not the frames sent"
     read = [(one.arbitration_id, one.is_extended_id, bytes(one.data)) for one in CanutilsLogReader(path)]
-    demand(read == [(int(text, 16), len(text) == 8, data) for text, data in frames], "CanutilsLogReader reads otherwise")
+    assert read == [(int(text, 16), len(text) == 8, data) for text, data in frames], "CanutilsLogReader reads otherwise"
     asc = subprocess.run(["log2asc", "-I", path, "can0"], capture_output=True, text=True, check=True).stdout
     asc = [line.split()[2:3] + line.split()[6:] for line in asc.splitlines() if " Rx " in line]
-    wanted = [[f"{int(text, 16):X}" + ("x" if len(text) == 8 else ""), *data.hex(" ").upper().split()] for text, data in frames]
-    demand(asc == wanted, "log2asc reads otherwise")
+    wanted = [
+        [f"{int(text, 16):X}" + ("x" if len(text) == 8 else ""), *data.hex(" ").upper().split()]
+        for text, data in frames
+    ]
+    assert asc == wanted, "log2asc reads otherwise"
     with open(path, encoding="ascii") as file:
         long = subprocess.run(["log2long"], stdin=file, capture_output=True, text=True, check=True).stdout
     long = [[line.split()[2], *line.split("'")[0].split()[4:]] for line in long.splitlines()]
-    demand(long == [[text, *data.hex(" ").upper().split()] for text, data in frames], "log2long reads otherwise")
+    assert long == [[text, *data.hex(" ").upper().split()] for text, data in frames], "log2long reads otherwise"
 
 
-@check
-def player_and_logger():
+def test_player_and_logger():
     """a log replayed by can.player, logged by can.logger; Ctrl-C; then the server's log and record"""
     with serving("--pace", "0", "--txqueue", "1024", "--rxqueue", "65536", "can0,can1") as server:
         frames = candump_log(server.path("replayed.log"), FRAMES)
@@ -312,52 +299,46 @@ def player_and_logger():
         socket1 = plain(server, "can1")
         logger = logger_runs(server, logged)
         try:
-            player = subprocess.Popen(of_can("player", server, "-c", "can0", server.path("replayed.log")),
-                                      stdout=subprocess.DEVNULL, stderr=subprocess.PIPE, text=True)
+            player = subprocess.Popen(
+                of_can("player", server, "-c", "can0", server.path("replayed.log")),
+                stdout=subprocess.DEVNULL,
+                stderr=subprocess.PIPE,
+                text=True,
+            )
             got = [socket1.frame() for _ in frames]
-            demand(got == frames, "a plain socket does not receive the frames in their order")
+            assert got == frames, "a plain socket does not receive the frames in their order"
             errors = player.communicate(timeout=WAIT)[1]
-            demand(player.returncode == 0, f"the player: {errors}")
-            saw = compare_logger(logged, frames, logger_ends(logger, logged))
+            assert player.returncode == 0, f"the player: {errors}"
+            compare_logger(logged, frames, logger_ends(logger, logged))
         finally:
             logger.kill()
         written = server.end()
         compare_files(server, frames)
         entries = server.audited("can0.rec")
-        demand(written == f"bus can0 entries {entries}\n", written)
-    return f"{len(frames)} frames in order by a socket, {saw}; read by 3 readers; {entries} entries audited"
+        assert written == f"bus can0 entries {entries}\n", written
 
 
-@check
-def examples():
+def test_examples(tmp_path):
     """examples/python: the first session, and the tests with the package's fixtures"""
     folder = os.path.join(ROOT, "examples", "python")
-    with serving("can0,can1") as server, tempfile.TemporaryDirectory() as package:
-        subprocess.run([os.path.join(ROOT, "scripts", "python-package"), "install", package], check=True)
-        environment = {**os.environ, "CANBUSD": Server.program, "PYTHONPATH": package, "PYTHONDONTWRITEBYTECODE": "1"}
-        done = subprocess.run([sys.executable, os.path.join(folder, "first_session.py"), server.address], env=environment,
-                              capture_output=True, text=True, timeout=3 * WAIT, check=False)
-        demand(done.returncode == 0, done.stderr)
-        tested = subprocess.run([sys.executable, "-m", "pytest", "-q", "-p", "no:cacheprovider", folder], env=environment,
-                                capture_output=True, text=True, timeout=6 * WAIT, check=False)
-    demand(tested.returncode == 0, tested.stdout + tested.stderr)
-    return tested.stdout.strip().splitlines()[-1]
-
-
-def main():
-    global FRAMES
-    parser = argparse.ArgumentParser(description="Tries canbusd serve with real clients.")
-    parser.add_argument("--program", default=os.path.join(ROOT, "canbusd"))
-    parser.add_argument("--frames", type=int, default=FRAMES)
-    parser.add_argument("--only", default="")
-    parser.add_argument("--keep", action="store_true")
-    words = parser.parse_args()
-    Server.program, Server.keeps_folders, FRAMES = os.path.abspath(words.program), words.keep, words.frames
-    signal.signal(signal.SIGINT, signal.default_int_handler)
-    logging.getLogger("can").addHandler(logging.NullHandler())
-    print(f"python-can {can.__version__}, Python {sys.version.split()[0]}", flush=True)
-    sys.exit(0 if run_checks(words.only, (can.CanError,)) else 1)
-
-
-if __name__ == "__main__":
-    main()
+    with serving("can0,can1") as server:
+        subprocess.run([os.path.join(ROOT, "scripts", "python-package"), "install", tmp_path], check=True)
+        environment = {**os.environ, "CANBUSD": program(), "PYTHONPATH": tmp_path, "PYTHONDONTWRITEBYTECODE": "1"}
+        done = subprocess.run(
+            [sys.executable, os.path.join(folder, "first_session.py"), server.address],
+            env=environment,
+            capture_output=True,
+            text=True,
+            timeout=3 * WAIT,
+            check=False,
+        )
+        assert done.returncode == 0, done.stderr
+        tested = subprocess.run(
+            [sys.executable, "-m", "pytest", "-q", "-p", "no:cacheprovider", folder],
+            env=environment,
+            capture_output=True,
+            text=True,
+            timeout=6 * WAIT,
+            check=False,
+        )
+    assert tested.returncode == 0, tested.stdout + tested.stderr

@@ -1,4 +1,4 @@
-"""What scripts/check-contrib tries of the completions: in each shell a line is typed, and the tab key behind it."""
+"""Completions: in each shell a line is typed, and the tab key after it."""
 
 import contextlib
 import os
@@ -11,7 +11,9 @@ import subprocess
 import tempfile
 import time
 
-from serving import ROOT, WAIT, check, demand
+import pytest
+
+from serving import ROOT, WAIT
 
 CONTRIB = os.path.join(ROOT, "contrib")
 # The tools are run for their help.
@@ -49,7 +51,7 @@ TYPED = [
     ("canbusd bench --until", ""),
     ("canbusd serve --lo", ""),
 ]
-# The beginning of an option that takes a value, and the rest of its name, behind which a shell puts its own sign.
+# The beginning of an option that takes a value, and the rest of its name, after which a shell puts its own sign.
 OPTIONS = [
     ("canbusd bench --lo", "g"),
     ("canbusd bench --rec", "ord"),
@@ -76,13 +78,7 @@ class Shell:
         self.child, self.terminal = pty.fork()
         if self.child == 0:
             os.chdir(folder)
-            environment = {
-                "PATH": PATH,
-                "TERM": "dumb",
-                "HOME": folder,
-                "COLUMNS": "200",
-                "LC_ALL": "C.UTF-8",
-            }
+            environment = {"PATH": PATH, "TERM": "dumb", "HOME": folder, "COLUMNS": "200", "LC_ALL": "C.UTF-8"}
             os.execvpe(words[0], words, environment)
 
     def until(self, pattern):
@@ -94,14 +90,13 @@ class Shell:
             found = re.search(pattern, text, re.S)
             if found:
                 return found
-        demand(False, f"no {pattern} in {text!r}")
-        return None
+        pytest.fail(f"no {pattern} in {text!r}")
 
     def tell(self, text):
         os.write(self.terminal, text.encode())
 
     def completed(self, typed):
-        """The line behind the tab key."""
+        """The line after the tab key."""
         self.tell(typed + "\t\x14")
         return self.until("LINE\\[(.*?)\\]")[1].replace("\r\n", "")
 
@@ -112,14 +107,14 @@ class Shell:
 
 
 def typed_with(sign):
-    """What is typed, and what the tab key adds where a shell puts this sign behind an option."""
+    """What is typed, and what the tab key adds where a shell puts this sign after an option."""
     return TYPED + [(typed, rest + sign) for typed, rest in OPTIONS]
 
 
 def completes(words, sign, *commands):
-    """Types each line into the shell, behind commands that make it ready."""
+    """Types each line into the shell, after commands that make it ready."""
     if not shutil.which(words[0]):
-        return f"{words[0]} is not installed"
+        pytest.skip(f"{words[0]} is not installed")
     with folder_of_files() as folder, contextlib.closing(Shell(words, folder)) as shell:
         for command in commands:
             shell.tell(command + "\n")
@@ -128,8 +123,7 @@ def completes(words, sign, *commands):
         lines = typed_with(sign)
         for typed, wanted in lines:
             line = shell.completed(typed)
-            demand(line == typed + wanted, f"`{typed}` becomes `{line}`")
-    return f"{len(lines)} lines"
+            assert line == typed + wanted, f"`{typed}` becomes `{line}`"
 
 
 BASH_LINE = [
@@ -138,16 +132,14 @@ BASH_LINE = [
 ]
 
 
-@check
-def completion_in_bash():
+def test_completion_in_bash():
     """with bash as it is"""
-    return completes(["bash", "--norc", "--noprofile", "-i"], " ", f"source {CONTRIB}/canbusd.bash", *BASH_LINE)
+    completes(["bash", "--norc", "--noprofile", "-i"], " ", f"source {CONTRIB}/canbusd.bash", *BASH_LINE)
 
 
-@check
-def completion_in_bash_with_other_words():
+def test_completion_in_bash_with_other_words():
     """where neither `=` nor `@` parts words"""
-    return completes(
+    completes(
         ["bash", "--norc", "--noprofile", "-i"],
         " ",
         f"source {CONTRIB}/canbusd.bash",
@@ -156,10 +148,9 @@ def completion_in_bash_with_other_words():
     )
 
 
-@check
-def completion_in_zsh():
+def test_completion_in_zsh():
     """with zsh's own completion system, which finds the file by its name"""
-    return completes(
+    completes(
         ["zsh", "-f", "-i"],
         "=",
         "mkdir functions",
@@ -175,11 +166,10 @@ def completion_in_zsh():
     )
 
 
-@check
-def completion_in_fish():
+def test_completion_in_fish():
     """what fish offers for each line"""
     if not shutil.which("fish"):
-        return "fish is not installed"
+        pytest.skip("fish is not installed")
     with folder_of_files() as folder:
         lines = typed_with("")
         for typed, wanted in lines:
@@ -194,5 +184,17 @@ def completion_in_fish():
             )
             offers = [line.split("\t")[0] for line in done.stdout.splitlines()]
             word = re.split("[ <>]", typed)[-1] + wanted.rstrip(" ").replace("\\", "")
-            demand(offers == ([word] if wanted else []), f"`{typed}` is offered {offers} {done.stderr}")
-    return f"{len(lines)} lines"
+            assert offers == ([word] if wanted else []), f"`{typed}` is offered {offers} {done.stderr}"
+
+
+@pytest.mark.parametrize("command", ["bench", "serve"])
+@pytest.mark.parametrize("shell, spelling", [("bash", "--{}"), ("zsh", "--{}"), ("fish", "-l {} ")])
+def test_options_of_the_help(program, command, shell, spelling):
+    """each option of the help is completed in each shell"""
+    told = subprocess.run([program, "help", command], capture_output=True, text=True, check=True).stdout
+    with open(os.path.join(CONTRIB, f"canbusd.{shell}"), encoding="utf-8") as file:
+        completions = file.read()
+    options = re.findall(r"^ +(?:-h, )?--([a-z-]+)", told, re.M)
+    assert options, told
+    missing = [option for option in options if spelling.format(option) not in completions]
+    assert not missing, f"--{missing} of {command} not in canbusd.{shell}"

@@ -1,18 +1,13 @@
-#!/usr/bin/env python3
-"""Loads `canbusd serve` with faults: 64 sessions on 4 buses, and in the end nothing is lost that is not counted.
+"""`canbusd serve` with faults: 64 sessions on 4 buses, and in the end nothing is lost that is not counted.
 
-    scripts/check-load [--program PATH] [--frames N] [--seed N]
+On each bus of two interfaces 14 sessions send a quarter of the frames (--frames), each receives those of three
+others, and two more break in the middle of what they say, or are reset or half closed, and come back. A script gives
+the attempts every kind of fault, and bursts that take an interface bus off, from which a session restarts it. Then:
 
-On each bus of two interfaces 14 sessions send N frames in all (as it is, 1,000,000 on the four), each receives those of
-three others, and two more break in the middle of what they say, or are reset or half closed, and come back. A script
-gives the attempts every kind of fault, and bursts that take an interface bus off, from which a session restarts it. Then:
-
-- each session got as many items as `stats` says that it took, those of one sender in order, twice only behind a fault of the
-  last bit; what it did not get is dropped, and counted so;
+- each session got as many items as `stats` says that it took, those of one sender in order, twice only after a fault
+  of the last bit; what it did not get is dropped, and counted so;
 - each interface sent what is done or lost, as the sessions counted it, the record, and `stats`;
 - the server ends with status 0, and the audit of each record is ok.
-
-PATH is the program, without its launcher. The last line is `N ok, M failed`. This is no part of the test command.
 """
 
 import argparse
@@ -23,27 +18,30 @@ import random
 import re
 import socket
 import struct
-import sys
-import tempfile
 import threading
 import time
 
-from serving import Server, Wrong, check, chosen_program, demand, run_checks, serving_alone
+import pytest
 
+from serving import serving_alone
+
+pytestmark = pytest.mark.slow
 BUSES, SESSIONS, BREAKING = 4, 16, 2
 BURST, MOST_WAITING = 50, 400
 PATIENCE = 120
-KINDS = ["global bit", "global form", "lastbit", "local stuff {1}", "local crc {0}", "local form {0},{1}",
-         "local crc {0},{1}"]
+KINDS = [
+    "global bit",
+    "global form",
+    "lastbit",
+    "local stuff {1}",
+    "local crc {0}",
+    "local form {0},{1}",
+    "local crc {0},{1}",
+]
 # An answer; or a frame with its identifier and data, or an error message frame.
-TEXT = re.compile(rb"< (?:(hi|ok|stats [\d ]+|closed \d+ \d+|error [a-z][a-z ]+)|frame (\w+) \S+ (\w*)|"
-                  rb"error \w{3,8} [\d.]+) >")
-
-
-class Load:
-    """How much is asked for."""
-
-    frames, seed = 1_000_000, 0
+TEXT = re.compile(
+    rb"< (?:(hi|ok|stats [\d ]+|closed \d+ \d+|error [a-z][a-z ]+)|frame (\w+) \S+ (\w*)|" rb"error \w{3,8} [\d.]+) >"
+)
 
 
 def names_of(bus):
@@ -70,12 +68,12 @@ class Client:
         self.place, self.first, self.rest, self.told = place, first, b"", []
         self.sent = self.refused = self.items = self.copies = 0
         self.last = {}
-        demand(self.answer() == b"hi", "no greeting")
+        assert self.answer() == b"hi", "no greeting"
         filters = " ".join(f"{identifier(place - back):X} C00007FF" for back in (1, 2, 3))
         for command in (f"< open {names[place % 2]} >", "< rawmode >", f"< filter 3 {filters} >", "< errmask 140 >"):
             self.tell(command)
             answer = self.answer()
-            demand(answer == b"ok", f"{command} {answer}")
+            assert answer == b"ok", f"{command} {answer}"
 
     def tell(self, text):
         self.socket.sendall(text.encode())
@@ -84,7 +82,7 @@ class Client:
         """The next text that is no item. Items are counted, and looked at."""
         while not self.told:
             piece = self.socket.recv(65536)
-            demand(piece, f"session {self.place} was ended")
+            assert piece, f"session {self.place} was ended"
             text = self.rest + piece
             end = 0
             for found in TEXT.finditer(text):
@@ -101,7 +99,7 @@ class Client:
         self.items += 1
         if sender:
             number, last = int(data[2:], 16), self.last.get(sender, -1)
-            demand(number >= last, f"session {self.place}: frame {number} of {sender} behind {last}")
+            assert number >= last, f"session {self.place}: frame {number} of {sender} after {last}"
             self.copies += number == last
             self.last[sender] = number
 
@@ -113,7 +111,7 @@ class Client:
         return "".join(f"{start}{number.to_bytes(4, 'big').hex(' ')} >" for number in numbers)
 
     def stats(self):
-        """QUEUED DROPPED TAKEN SENT DONE WAITING LOST REFUSED, as they are told, behind refusals of sends."""
+        """QUEUED DROPPED TAKEN SENT DONE WAITING LOST REFUSED, as they are told, after refusals of sends."""
         self.tell("< stats >")
         return self.stats_told()
 
@@ -121,7 +119,7 @@ class Client:
         """The numbers of `stats`; how many sends were refused before it, and whether for bus off."""
         self.were_off = False
         while not (answer := self.answer()).startswith(b"stats "):
-            demand(answer in (b"error no buffers", b"error bus off", b"error not bus off", b"ok"), f"{answer}")
+            assert answer in (b"error no buffers", b"error bus off", b"error not bus off", b"ok"), f"{answer}"
             if answer in (b"error no buffers", b"error bus off"):
                 self.refused += 1
                 self.sent -= 1
@@ -148,7 +146,7 @@ class Client:
             queued, _, taken, _, _, waiting, _, _ = told
             if waiting == 0 and queued == taken == self.items:
                 return told
-            demand(time.monotonic() < until, f"session {self.place}: {told}, {self.items} items")
+            assert time.monotonic() < until, f"session {self.place}: {told}, {self.items} items"
             time.sleep(0.02)
 
     def close(self):
@@ -166,12 +164,12 @@ def break_off(server, place, names, rng, is_over):
     """Sessions that break, one after the other; how many there were."""
     count = 0
     while not is_over.is_set():
-        with contextlib.suppress(OSError, Wrong):
+        with contextlib.suppress(OSError, AssertionError):
             count += 1
             client = Client(server, place, names, count * 1000)
             for _ in range(rng.randrange(4)):
                 client.send(rng.randrange(1, BURST))
-            client.tell(client.burst(20)[:rng.randrange(400)])
+            client.tell(client.burst(20)[: rng.randrange(400)])
             how = rng.randrange(3)
             if how == 0:
                 client.socket.setsockopt(socket.SOL_SOCKET, socket.SO_LINGER, struct.pack("ii", 1, 0))
@@ -199,15 +197,21 @@ def on_one_bus(server, bus, frames, seed):
             told = client.drain()
             all_sent.wait(PATIENCE)
             closed = client.close()
-            demand(closed == f"closed 0 {told[1]}".encode(), f"{closed} behind {told}")
+            assert closed == f"closed 0 {told[1]}".encode(), f"{closed} after {told}"
             ends.append((place, client.sent, client.items, client.copies, told))
-        except (OSError, Wrong, threading.BrokenBarrierError) as fault:
+        except (OSError, AssertionError, threading.BrokenBarrierError) as fault:
             faults.append(f"bus {bus}, session {place}: {fault!r}")
             all_sent.abort()
 
     threads = [threading.Thread(target=stay, args=(place,)) for place in range(steady)]
-    breaking = [threading.Thread(target=lambda place=place: broken.append(
-        break_off(server, place, names, random.Random(rng.random()), is_over))) for place in range(steady, SESSIONS)]
+    breaking = [
+        threading.Thread(
+            target=lambda place=place: broken.append(
+                break_off(server, place, names, random.Random(rng.random()), is_over)
+            )
+        )
+        for place in range(steady, SESSIONS)
+    ]
     for thread in threads + breaking:
         thread.start()
     with contextlib.suppress(threading.BrokenBarrierError):
@@ -224,7 +228,7 @@ def on_one_bus(server, bus, frames, seed):
 
 
 class Counted:
-    """What a record has: for each interface what was sent, done, lost and refused; for each socket what it took and lost."""
+    """What a record has: what each interface sent, finished, lost and refused; what each socket took and lost."""
 
     def __init__(self, path):
         self.sent, self.done, self.refused, self.lasts, self.offs = [0, 0], [0, 0], [0, 0], 0, 0
@@ -259,49 +263,52 @@ class Counted:
                     self.ends.append((taken[int(words[1])], int(told[2])))
 
 
-@check
-def load_with_faults():
+def test_load_with_faults(request, tmp_path):
     """64 sessions, 4 buses, faults of every kind, sessions that break and come back"""
-    with tempfile.TemporaryDirectory(prefix="canbusd-") as folder:
-        buses = []
-        for bus in range(BUSES):
-            script = os.path.join(folder, f"faults{bus}")
-            write_script(script, names_of(bus), Load.frames // BUSES * 2, random.Random(Load.seed + bus))
-            buses.append(f"{','.join(names_of(bus))}@{script}")
-        with serving_alone("--pace", "0", "--txqueue", "1024", "--rxqueue", "1000", "--limit", "16777216", "--report",
-                           *buses) as server:
-            begin = time.monotonic()
-            where = argparse.Namespace(host=server.host, port=server.port)
-            with multiprocessing.get_context("fork").Pool(BUSES) as pool:
-                loads = [(where, bus, Load.frames // BUSES, Load.seed + bus) for bus in range(BUSES)]
-                all_told = pool.starmap(on_one_bus, loads)
-            seconds = time.monotonic() - begin
-            most, ticks = server.memory("VmHWM"), server.ticks()
-            faults = [fault for told in all_told for fault in told[0]]
-            demand(not faults, "; ".join(faults[:3]))
-            written = server.end(patience=10 * PATIENCE)
-            records = [Counted(server.path(f"{names_of(bus)[0]}.rec")) for bus in range(BUSES)]
-            for bus, record in enumerate(records):
-                compare(server, bus, record, all_told[bus][1])
-            wanted = "".join(f"bus {names_of(bus)[0]} entries {one.entries}\n" for bus, one in enumerate(records))
-            demand(written == wanted, written)
-    return summary(records, all_told, seconds, most, ticks)
+    frames, seed = request.config.getoption("frames"), request.config.getoption("seed")
+    buses = []
+    for bus in range(BUSES):
+        script = os.path.join(tmp_path, f"faults{bus}")
+        write_script(script, names_of(bus), frames // BUSES * 2, random.Random(seed + bus))
+        buses.append(f"{','.join(names_of(bus))}@{script}")
+    with serving_alone(
+        "--pace", "0", "--txqueue", "1024", "--rxqueue", "1000", "--limit", "16777216", "--report", *buses
+    ) as server:
+        begin = time.monotonic()
+        where = argparse.Namespace(host=server.host, port=server.port)
+        with multiprocessing.get_context("fork").Pool(BUSES) as pool:
+            loads = [(where, bus, frames // BUSES, seed + bus) for bus in range(BUSES)]
+            all_told = pool.starmap(on_one_bus, loads)
+        seconds = time.monotonic() - begin
+        most, ticks = server.memory("VmHWM"), server.ticks()
+        faults = [fault for told in all_told for fault in told[0]]
+        assert not faults, "; ".join(faults[:3])
+        written = server.end(patience=10 * PATIENCE)
+        records = [Counted(server.path(f"{names_of(bus)[0]}.rec")) for bus in range(BUSES)]
+        for bus, record in enumerate(records):
+            compare(server, bus, record, all_told[bus][1])
+        wanted = "".join(f"bus {names_of(bus)[0]} entries {one.entries}\n" for bus, one in enumerate(records))
+        assert written == wanted, written
+    told = summary(records, all_told, seconds, most, ticks)
+    print(told)
 
 
 def compare(server, bus, record, ends):
     """What the sessions of a bus were told, beside its record."""
-    demand(server.audited(f"{names_of(bus)[0]}.rec") == record.entries, "the audit counts other entries")
+    assert server.audited(f"{names_of(bus)[0]}.rec") == record.entries, "the audit counts other entries"
     for side in (0, 1):
-        demand(record.sent[side] == record.done[side] + record.lost[side], f"bus {bus}: sent, done, lost: {vars(record)}")
+        assert (
+            record.sent[side] == record.done[side] + record.lost[side]
+        ), f"bus {bus}: sent, done, lost: {vars(record)}"
         for place, *_, told in ends:
             if place % 2 == side:
                 wanted = [record.sent[side], record.done[side], 0, record.lost[side], record.refused[side]]
-                demand(told[3:] == wanted, f"bus {bus}, session {place}: {told}, and the record has {wanted}")
+                assert told[3:] == wanted, f"bus {bus}, session {place}: {told}, and the record has {wanted}"
         accepted = sum(sent for place, sent, *_ in ends if place % 2 == side)
-        demand(accepted <= record.sent[side], f"bus {bus}: {accepted} of {record.sent[side]}")
+        assert accepted <= record.sent[side], f"bus {bus}: {accepted} of {record.sent[side]}"
     closed = list(record.ends)
     for place, _, items, _, told in ends:
-        demand((items, told[1]) in closed, f"bus {bus}, session {place} took {items}, {told[1]} dropped: no such socket")
+        assert (items, told[1]) in closed, f"bus {bus}, session {place} took {items}, {told[1]} dropped: no such socket"
         closed.remove((items, told[1]))
 
 
@@ -312,23 +319,9 @@ def summary(records, all_told, seconds, most, ticks):
     dropped = sum(dropped for record in records for _, dropped in record.ends)
     entries = sum(record.entries for record in records)
     offs, broken = sum(record.offs for record in records), sum(told[2] for told in all_told)
-    demand(offs > 0 and sum(record.lasts for record in records) > 0, "too few faults")
-    return (f"{sent} frames sent = {done} done + {lost} lost in {offs} times bus off; {items} items came, {copies} of them "
-            f"again, {dropped} dropped; {broken} sessions broke; {entries} entries audited; "
-            f"{seconds:.0f} s, {ticks / 100:.0f} s of processor time, {most / 2**20:.1f} GB")
-
-
-def main():
-    parser = argparse.ArgumentParser(description="Loads canbusd serve with faults.")
-    parser.add_argument("--program")
-    parser.add_argument("--frames", type=int, default=Load.frames)
-    parser.add_argument("--seed", type=int, default=random.SystemRandom().randrange(10**6))
-    options = parser.parse_args()
-    print(f"seed {options.seed}", flush=True)
-    Load.frames, Load.seed = options.frames, options.seed
-    Server.program = os.path.abspath(options.program or chosen_program())
-    sys.exit(0 if run_checks() else 1)
-
-
-if __name__ == "__main__":
-    main()
+    assert offs > 0 and sum(record.lasts for record in records) > 0, "too few faults"
+    return (
+        f"{sent} frames sent = {done} done + {lost} lost in {offs} times bus off; {items} items came, {copies} of them "
+        f"again, {dropped} dropped; {broken} sessions broke; {entries} entries audited; "
+        f"{seconds:.0f} s, {ticks / 100:.0f} s of processor time, {most / 2**20:.1f} GB"
+    )

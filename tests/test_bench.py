@@ -1,17 +1,21 @@
-"""What scripts/check-clients tries of `canbusd bench` on a pipe."""
+"""`canbusd bench` on a pipe, byte for byte; the package's own tests ask it by canbusd.Bench."""
 
 import os
 import select
 import subprocess
 
-from serving import WAIT, Server, Wrong, check, demand
+import pytest
+
+from serving import WAIT, program
 
 
 class Bench:
     """A bench whose input and output are pipes."""
 
     def __init__(self, *words):
-        self.child = subprocess.Popen([Server.program, "bench", *words], stdin=subprocess.PIPE, stdout=subprocess.PIPE, bufsize=0)
+        self.child = subprocess.Popen(
+            [program(), "bench", *words], stdin=subprocess.PIPE, stdout=subprocess.PIPE, bufsize=0
+        )
 
     def __enter__(self):
         return self
@@ -30,15 +34,14 @@ class Bench:
         got = b""
         while len(got) < len(answer):
             if not select.select([self.child.stdout], [], [], WAIT)[0]:
-                raise Wrong(f"{got!r} after {text!r}, not {answer!r}")
+                pytest.fail(f"{got!r} after {text!r}, not {answer!r}")
             more = os.read(self.child.stdout.fileno(), 65536)
-            demand(more, f"the end after {got!r}")
+            assert more, f"the end after {got!r}"
             got += more
-        demand(got == answer.encode(), f"{got!r} after {text!r}, not {answer!r}")
+        assert got == answer.encode(), f"{got!r} after {text!r}, not {answer!r}"
 
 
-@check
-def bench_in_a_dialogue():
+def test_bench_in_a_dialogue():
     """each answer comes before more is asked, also where a piece ends within a line"""
     with Bench("can0,can1") as bench:
         bench.ask("session 1\n", "1 < hi >\n")
@@ -51,5 +54,4 @@ def bench_in_a_dialogue():
         for number in range(1, frames):
             bench.ask(f"feed 1 < send 123 1 {number % 256:02X} >\nattempt\n", f"tried can0 {number} done can1 -\n")
             bench.ask("drain 2\n", f"2 < frame 123 23.424242 {number % 256:02X} >\n")
-    demand(bench.child.returncode == 0, f"status {bench.child.returncode}")
-    return f"{frames} frames"
+    assert bench.child.returncode == 0, f"status {bench.child.returncode}"

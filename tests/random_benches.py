@@ -1,61 +1,46 @@
-#!/usr/bin/env python3
-"""Compares `canbusd bench` with an independent program on random inputs.
+"""Random runs of the bench.
 
-    scripts/compare-with-limit SOURCE.c [--program PATH] [--cases N] [--seconds N] [--seed N] [--keep FOLDER]
-
-SOURCE.c is compiled with cc; what it makes is called as `PROGRAM bench OPTIONS BUS`, as canbusd is. Each
-case is a command line, an input and mostly a script of faults, made at random: buses of 1 to 16 interfaces,
-sessions that open them, every command of the protocol with good and bad words, FD frames in some cases, messages that are cut or too
-long, frames with few identifiers, so that they meet, attempts under every verdict, and now and then a fault
-of the line, of the script or of the options. Standard output, the status and the line of a fault have to be the
-same (of a fault of the command line the status alone).
-
-Stops after N cases (2,000) or N seconds (120), whatever comes first. The seed is printed: with it, and with
-the same number of cases, the run repeats. --keep FOLDER keeps the files of each case that differs. The
-status is 1 where a case differs, 2 where nothing could be compared. This is no part of the test command.
+Each case is a command line, an input and mostly a script of faults, made at random: buses of 1 to 16 interfaces,
+sessions that open them, every command of the protocol with good and bad words, FD frames in some cases, messages
+that are cut or too long, frames with few identifiers, so that they meet, attempts under every verdict, and now and
+then a fault of the line, of the script or of the options.
 """
 
-import argparse
 import itertools
 import os
 import random
-import shlex
-import subprocess
-import sys
-import tempfile
-import time
 
-ROOT = os.path.dirname(os.path.dirname(os.path.abspath(__file__)))
 SCRIPT = "faults.script"
-CASE_SECONDS = 60
-MOST_SHOWN = 10
 
 # Identifiers with equal bits in front: 048C0000 begins with the bits of 123.
 IDENTIFIERS = [
-    "123", "124", "122", "0", "7FF", "7ff", "00",
-    "048C0000", "048c0001", "048FFFFF", "04900000", "00000123", "1FFFFFFF", "80000123", "848C0000",
-]
+    "123", "124", "122", "0", "7FF", "7ff", "00", "048C0000", "048c0001", "048FFFFF", "04900000", "00000123",
+    "1FFFFFFF", "80000123", "848C0000",
+]  # fmt: skip
 # Words of filters: identifiers with and without the marks of bits 29 to 31, and masks.
 FILTER_WORDS = [
     "123", "80000123", "20000123", "A0000123", "40000123", "0", "7FF", "C00007FF", "dfffffff", "80000000",
     "1FFFFFFF", "700", "48C0000", "20000000",
-]
+]  # fmt: skip
 # Lengths of FD frames.
 FD_LENGTHS = [0, 1, 2, 4, 8, 12, 16, 20, 24, 32, 48, 64]
 # Messages with a fault, or that a mode may not have.
 FAULTY = [
-    "", "send", "send 123", "send 123 1", "send 123 0 1", "send 1234 0", "send 800 0", "send A0000123 0", "send 123 9",
-    "send 123 x", "send 123 00", "send g 0", "send 123 1 100", "send 123 1 g", "send 123 2 g", "sendrtr 123",
-    "sendrtr 123 9", "sendrtr 123 1 0", "sendrtr 20000000 1", "filter", "filter x", "filter 1", "filter 1 123",
-    "filter 0 1", "filter 513", "filter 1000 1", "filter 2 1 20000000 x 1", "filter 1 x 20000000", "filter 1 123 g",
-    "filter 1 123 20000000", "filter 1 123456789 0", "join", "join 2", "join 0 0", "loopback x", "recvown 01",
-    "errmask", "errmask g", "errmask 123456789", "errdata", "errdata 2", "stats 1", "restart 0", "close 1", "echo echo",
-    "sendfd", "sendfd 123", "sendfd 123 9", "sendfd 123 012", "sendfd 123 12 1", "sendfd 123 65", "sendfd 123 1 g",
-    "fdframes", "fdframes 2", "fdframes 1 1", "fdframe", "rawmode 1", "open", "open can0 can1", "bcmmode", "bcmmode 1 2", "isotpmode", "controlmode", "Send 123 0", "stat",
-]
+    "", "send", "send 123", "send 123 1", "send 123 0 1", "send 1234 0", "send 800 0", "send A0000123 0",
+    "send 123 9", "send 123 x", "send 123 00", "send g 0", "send 123 1 100", "send 123 1 g", "send 123 2 g",
+    "sendrtr 123", "sendrtr 123 9", "sendrtr 123 1 0", "sendrtr 20000000 1", "filter", "filter x", "filter 1",
+    "filter 1 123", "filter 0 1", "filter 513", "filter 1000 1", "filter 2 1 20000000 x 1", "filter 1 x 20000000",
+    "filter 1 123 g", "filter 1 123 20000000", "filter 1 123456789 0", "join", "join 2", "join 0 0", "loopback x",
+    "recvown 01", "errmask", "errmask g", "errmask 123456789", "errdata", "errdata 2", "stats 1", "restart 0",
+    "close 1", "echo echo", "sendfd", "sendfd 123", "sendfd 123 9", "sendfd 123 012", "sendfd 123 12 1",
+    "sendfd 123 65", "sendfd 123 1 g", "fdframes", "fdframes 2", "fdframes 1 1", "fdframe", "rawmode 1", "open",
+    "open can0 can1", "bcmmode", "bcmmode 1 2", "isotpmode", "controlmode", "Send 123 0", "stat",
+]  # fmt: skip
 BLANKS = [" ", " ", " ", "  ", "\t", " \t", "\r", " \r "]
-NAMES = ["can0", "can1", "vcan0", "a", "b-c", "x.y_z", "Can0", "CAN", "body", "engine-1", "0", "longest-name.15",
-         "d1", "d2", "d3", "d4", "d5", "d6"]
+NAMES = [
+    "can0", "can1", "vcan0", "a", "b-c", "x.y_z", "Can0", "CAN", "body", "engine-1", "0", "longest-name.15", "d1",
+    "d2", "d3", "d4", "d5", "d6",
+]  # fmt: skip
 GOOD, MIXED, SEVERE = 0, 1, 2
 
 
@@ -139,11 +124,26 @@ class Maker:
         for _ in range(self.random.randint(0, 3)):
             lines.insert(self.random.randint(0, len(lines)), self.random.choice(["", "#", "# 0 good"]))
         if self.chance(0.06):
-            fault = self.random.choice([
-                "0", "x good", "000000000 good", "0  good", "0 good ", "0 Good", "0 global", "0 local crc",
-                "0 local crc ,", "0 local crc nobody", "0 local crc nobody,", "99999999 good\n99999999 lastbit",
-                "0 local bit can0", "+1 good", "0 good\r", "0 local crc " + "n" * 16,
-            ])
+            fault = self.random.choice(
+                [
+                    "0",
+                    "x good",
+                    "000000000 good",
+                    "0  good",
+                    "0 good ",
+                    "0 Good",
+                    "0 global",
+                    "0 local crc",
+                    "0 local crc ,",
+                    "0 local crc nobody",
+                    "0 local crc nobody,",
+                    "99999999 good\n99999999 lastbit",
+                    "0 local bit can0",
+                    "+1 good",
+                    "0 good\r",
+                    "0 local crc " + "n" * 16,
+                ]
+            )
             lines.insert(self.random.randint(0, len(lines)), fault)
         text = "\n".join(lines).encode()
         if self.chance(0.01):
@@ -189,18 +189,42 @@ class Maker:
 
     def plain_line(self):
         if self.chance(0.6):
-            seconds = self.random.choice(["0", "1", "23", "007", "9999999999", str(self.random.randint(0, 10**10 - 1))])
+            seconds = self.random.choice(
+                ["0", "1", "23", "007", "9999999999", str(self.random.randint(0, 10**10 - 1))]
+            )
             return f"at {seconds}.{self.random.randint(0, 999999):06}"
         return self.random.choice(["", "#", "# drain 99", "#" * 4096])
 
     def bad_line(self, started):
         free = [number for number in range(1, 65) if number not in started]
-        return self.random.choice([
-            "attempt ", " attempt", "Attempt", "attempt\r", "at 1", "at 1.00000", "at 12345678901.000000", "at .000000",
-            "at 1.0000000", "at -1.000000", "session 0", "session 65", "session 01", f"session {started[0]}", "drain",
-            f"drain {started[0]} ", f"drain 0{started[0]}", f"feed {started[0]}", "feed 0 < rawmode >", "\r", " ",
-            "#" * 4097, f"drain {free[0]}" if free else "drain 65", "send 1 < rawmode >",
-        ])
+        return self.random.choice(
+            [
+                "attempt ",
+                " attempt",
+                "Attempt",
+                "attempt\r",
+                "at 1",
+                "at 1.00000",
+                "at 12345678901.000000",
+                "at .000000",
+                "at 1.0000000",
+                "at -1.000000",
+                "session 0",
+                "session 65",
+                "session 01",
+                f"session {started[0]}",
+                "drain",
+                f"drain {started[0]} ",
+                f"drain 0{started[0]}",
+                f"feed {started[0]}",
+                "feed 0 < rawmode >",
+                "\r",
+                " ",
+                "#" * 4097,
+                f"drain {free[0]}" if free else "drain 65",
+                "send 1 < rawmode >",
+            ]
+        )
 
     def opening(self, names):
         text = self.message("open", self.random.choice(names))
@@ -210,7 +234,7 @@ class Maker:
     def messages(self, names):
         text = "".join(self.any_message(names) for _ in range(self.random.choice([1, 1, 1, 2, 3, 12])))
         if self.chance(0.04):
-            return text[:self.random.randint(0, len(text))]
+            return text[: self.random.randint(0, len(text))]
         if self.chance(0.02):
             return text + "<" + self.random.choice(["x", " ", "send 123 0 "]) * self.random.choice([85, 500, 1023])
         return text
@@ -228,11 +252,18 @@ class Maker:
             pairs = [self.random.choice(FILTER_WORDS) for _ in range(2 * count)]
             return self.message("filter", self.random.choice([str(count), f"{count:03}"]), *pairs)
         if kind < 0.76:
-            return self.message(self.random.choice(["join", "loopback", "recvown", "errdata"] + ["fdframes"] * 3 * self.fd), self.random.choice("01"))
+            return self.message(
+                self.random.choice(["join", "loopback", "recvown", "errdata"] + ["fdframes"] * 3 * self.fd),
+                self.random.choice("01"),
+            )
         if kind < 0.81:
-            return self.message("errmask", self.random.choice(["0", "204", "140", "88", "a0", "3FF", "1fffffff", "E0000000"]))
+            return self.message(
+                "errmask", self.random.choice(["0", "204", "140", "88", "a0", "3FF", "1fffffff", "E0000000"])
+            )
         if kind < 0.88:
-            return self.message(self.random.choice(["stats", "stats", "stats", "restart", "restart", "echo", "rawmode"]))
+            return self.message(
+                self.random.choice(["stats", "stats", "stats", "restart", "restart", "echo", "rawmode"])
+            )
         if kind < 0.885:
             return self.message("close")
         if kind < 0.91:
@@ -248,81 +279,3 @@ class Maker:
         before = self.random.choice(["", "x", " > ", "< rawmode < "])
         inside = "".join(itertools.chain.from_iterable((word, self.blank()) for word in words))
         return f"{before}<{self.random.choice(['', self.blank()])}{inside}>"
-
-
-def run(program, case, folder):
-    return subprocess.run([program] + case.words, input=case.text, cwd=folder, capture_output=True,
-                          timeout=CASE_SECONDS, check=False)
-
-
-def difference(one, other):
-    """What differs first between two runs, or None."""
-    if one.returncode != other.returncode:
-        return f"status {one.returncode}, other {other.returncode}: {one.stderr!r}, other {other.stderr!r}"
-    # What stands behind the line of a fault is our own, and so is what is said behind a run that came to its end.
-    if one.returncode == 1 and one.stderr.splitlines()[:1] != other.stderr.splitlines()[:1]:
-        return f"standard error {one.stderr!r}, other {other.stderr!r}"
-    lines = itertools.zip_longest(one.stdout.split(b"\n"), other.stdout.split(b"\n"))
-    for number, (here, there) in enumerate(lines, 1):
-        if here != there:
-            return f"line {number} of the output: {here!r}, other {there!r}"
-    return None
-
-
-def compiled(source, folder):
-    program = os.path.join(folder, "other")
-    compiler = os.environ.get("CC", "cc")
-    subprocess.run([compiler, "-O2", "-march=native", "-o", program, source], check=True)
-    return program
-
-
-def compare(words, other, folder, seed):
-    """How many cases were run, how many differ, and how many ended with each status."""
-    maker, end = Maker(seed), time.monotonic() + words.seconds
-    count, faulty, statuses = 0, 0, {}
-    while count < words.cases and time.monotonic() < end:
-        case = maker.case()
-        room = os.path.join(folder, str(count % 2))
-        os.makedirs(room, exist_ok=True)
-        case.write_to(room)
-        found = run(words.program, case, room)
-        told = difference(found, run(other, case, room))
-        statuses[found.returncode] = statuses.get(found.returncode, 0) + 1
-        if told:
-            faulty += 1
-            if faulty <= MOST_SHOWN:
-                print(f"case {count}: {shlex.join(case.words)}\n    {told}")
-            if words.keep:
-                case.write_to(os.path.join(words.keep, str(count)))
-        count += 1
-    return count, faulty, statuses
-
-
-def main():
-    parser = argparse.ArgumentParser(description="Compares canbusd bench with an independent program.")
-    parser.add_argument("source", help="the C source of the other program")
-    parser.add_argument("--program", default=os.path.join(ROOT, "crates/canbusd/out/canbusd"))
-    parser.add_argument("--cases", type=int, default=2000)
-    parser.add_argument("--seconds", type=float, default=120)
-    parser.add_argument("--seed", type=int, default=random.SystemRandom().randrange(10**6))
-    parser.add_argument("--keep", metavar="FOLDER")
-    words = parser.parse_args()
-    words.program = os.path.abspath(words.program)
-    if not os.access(words.program, os.X_OK):
-        print(f"{words.program} is not there: build it with make", file=sys.stderr)
-        return 2
-    print(f"seed {words.seed}")
-    with tempfile.TemporaryDirectory(prefix="canbusd-compare-") as folder:
-        try:
-            other = compiled(words.source, folder)
-        except (OSError, subprocess.CalledProcessError) as fault:
-            print(f"cannot compile {words.source}: {fault}", file=sys.stderr)
-            return 2
-        count, faulty, statuses = compare(words, other, folder, words.seed)
-    ended = ", ".join(f"{number} with status {status}" for status, number in sorted(statuses.items()))
-    print(f"{count} cases ({ended}), {faulty} differ")
-    return 1 if faulty else 0 if count else 2
-
-
-if __name__ == "__main__":
-    sys.exit(main())

@@ -1,9 +1,14 @@
-"""What the scripts that try `canbusd serve` stand on: checks, a server for each of them, and a client that is a plain
-socket."""
+"""A server of the program in a folder of its own, and clients that are plain sockets.
+
+The package's Server ends a server in one way, and its clients know what a server says. Here a server is looked at
+from outside: its processes, its streams, how it ends; and clients show each text as it comes.
+"""
 
 import contextlib
+import functools
 import os
 import re
+import select
 import shutil
 import signal
 import socket
@@ -12,48 +17,23 @@ import tempfile
 import time
 
 ROOT = os.path.dirname(os.path.dirname(os.path.abspath(__file__)))
-WAIT = 10
-CHECKS = []
+# Seconds in which what has to come comes, on any machine.
+WAIT = 20
 
 
-class Wrong(Exception):
-    """What a check saw instead of what it had to see."""
-
-
-def check(function):
-    """Marks a check: it answers what it saw, or raises Wrong."""
-    CHECKS.append(function)
-    return function
-
-
-def demand(is_right, saw):
-    if not is_right:
-        raise Wrong(saw)
-
-
-def run_checks(only="", faults=()):
-    """Runs the checks with this word in their names, where these exceptions too are faults: whether all went well."""
-    passed = failed = 0
-    for function in CHECKS:
-        name = function.__name__.replace("_", " ")
-        if only not in name:
-            continue
-        try:
-            saw = function()
-            passed += 1
-            print(f"ok {name}: {saw}", flush=True)
-        except (Wrong, OSError, subprocess.SubprocessError, ValueError, *faults) as fault:
-            failed += 1
-            print(f"failed {name} ({function.__doc__}): {fault}", flush=True)
-    print(f"{passed} ok, {failed} failed")
-    return failed == 0
-
-
-def chosen_program():
-    """The path of the program that fits the sources at hand. Where there is none it is proved and built now."""
-    chosen = subprocess.run([os.path.join(ROOT, "scripts", "program"), "choose"], stdout=subprocess.PIPE, text=True,
-                            check=True)
+@functools.lru_cache(maxsize=None)
+def program():
+    """The path of the program, without its launcher: CANBUSD, else the one that fits the sources at hand."""
+    if "CANBUSD" in os.environ:
+        return os.path.abspath(os.environ["CANBUSD"])
+    chosen = subprocess.run(
+        [os.path.join(ROOT, "scripts", "program"), "choose"], stdout=subprocess.PIPE, text=True, check=True
+    )
     return os.path.join(ROOT, chosen.stdout.strip())
+
+
+class NotListening(Exception):
+    """A server said something else than where it listens; the text is what it said."""
 
 
 def come_true(question):
@@ -66,26 +46,42 @@ def come_true(question):
     return False
 
 
+def line_of(stream):
+    """The next line of a pipe of text from which only lines are read."""
+    assert select.select([stream], [], [], WAIT)[0], "it writes nothing"
+    return stream.readline()
+
+
 class Server:
-    """A server that runs in a folder of its own, in a group of processes of its own. Where it is given a pipe for its
-    input, the end of that ends it; else Ctrl-C does."""
+    """A server that runs in a folder of its own, in a group of processes of its own.
 
-    program = None
-    keeps_folders = False
+    The launcher's part for servers starts it, or the launcher of that path, or where `launcher` is False nothing does:
+    then it is the program itself. Ctrl-C ends it, or the end of its input where that is a pipe.
+    """
 
-    def __init__(self, *words, address="127.0.0.1:0", **how):
+    def __init__(self, *words, address="127.0.0.1:0", launcher=True, **how):
         self.folder = tempfile.mkdtemp(prefix="canbusd-")
         self.errors = open(self.path("stderr"), "w+", encoding="utf-8")
+        if launcher is True:
+            start = [os.path.join(ROOT, "scripts", "serve"), program()]
+        else:
+            start = [launcher or program()]
         self.child = subprocess.Popen(
-            [self.program, "serve", "--listen", address, "--out", ".", *words], cwd=self.folder, stdout=subprocess.PIPE,
-            stderr=self.errors, text=True, start_new_session=True, **{"stdin": subprocess.DEVNULL, **how})
-        line = self.child.stdout.readline()
+            [*start, "serve", "--listen", address, "--out", ".", *words],
+            cwd=self.folder,
+            stdout=subprocess.PIPE,
+            stderr=self.errors,
+            text=True,
+            start_new_session=True,
+            **{"stdin": subprocess.DEVNULL, **how},
+        )
+        line = line_of(self.child.stdout)
         if not line.startswith("listening "):
             with contextlib.suppress(subprocess.TimeoutExpired):
                 self.child.wait(WAIT)
-            told = self.said()
+            said = self.said()
             self.close()
-            raise Wrong(f"it does not listen: {line!r} {told}")
+            raise NotListening(f"{line}{said}")
         self.address = line.removeprefix("listening ").rstrip("\n")
         if ":" in self.address:
             self.host, self.port = self.address.split(":")[0], int(self.address.split(":")[1])
@@ -111,7 +107,9 @@ class Server:
 
     def held(self):
         """How many file descriptors and threads its processes have."""
-        return sum(len(os.listdir(f"/proc/{process}/{what}")) for process, _ in self.processes() for what in ("fd", "task"))
+        return sum(
+            len(os.listdir(f"/proc/{process}/{what}")) for process, _ in self.processes() for what in ("fd", "task")
+        )
 
     def memory(self, what):
         """How much memory its processes have, in kilobytes, by VmRSS or VmHWM of their status."""
@@ -128,20 +126,20 @@ class Server:
         try:
             written, _ = self.child.communicate(timeout=patience)
         except subprocess.TimeoutExpired:
-            raise Wrong("it did not end") from None
+            raise AssertionError("the server did not end") from None
         return self.child.returncode, written
 
     def end(self, says="", patience=WAIT):
         """Ends it, as it has to; what it wrote after `listening`."""
         status, written = self.finish(patience)
-        demand(status == 0, f"status {status}: {self.said()}")
-        demand(self.said() == says, f"standard error: {self.said()}")
+        assert status == 0, f"status {status}: {self.said()}"
+        assert self.said() == says, f"standard error: {self.said()}"
         return written
 
     def audited(self, name):
         """How many entries the record of this name has, by the audit."""
-        audit = subprocess.run([self.program, "audit", self.path(name)], capture_output=True, text=True, check=False)
-        demand(re.fullmatch(r"ok \d+ entries\n", audit.stdout), f"the audit: {audit.stdout}{audit.stderr}")
+        audit = subprocess.run([program(), "audit", self.path(name)], capture_output=True, text=True, check=False)
+        assert re.fullmatch(r"ok \d+ entries\n", audit.stdout), f"the audit: {audit.stdout}{audit.stderr}"
         return int(audit.stdout.split()[1])
 
     def close(self):
@@ -149,10 +147,8 @@ class Server:
             os.killpg(self.child.pid, signal.SIGKILL)
         self.child.wait()
         self.errors.close()
-        if self.keeps_folders:
-            print(f"    {self.folder}")
-        else:
-            shutil.rmtree(self.folder)
+        self.child.stdout.close()
+        shutil.rmtree(self.folder)
 
 
 @contextlib.contextmanager
@@ -166,8 +162,8 @@ def serving(*words, **how):
 
 
 def serving_alone(*words, **how):
-    """A server that is the program alone, without its launcher."""
-    return serving("--until-eof", *words, stdin=subprocess.PIPE, **how)
+    """A server that is the program without its launcher, and ends when its input does."""
+    return serving("--until-eof", *words, launcher=False, stdin=subprocess.PIPE, **how)
 
 
 class Plain:
@@ -203,7 +199,7 @@ class Plain:
         """The next frame: its identifier as it is written, and its data."""
         text = self.text()
         frame = re.fullmatch(r"< frame ([0-9A-F]{3}|[0-9A-F]{8}) \d+\.\d{6} ([0-9A-F]*) >", text)
-        demand(frame, text)
+        assert frame, text
         return frame[1], bytes.fromhex(frame[2])
 
     def close(self):
@@ -214,7 +210,7 @@ def plain(server, name):
     """A session in raw mode on the interface of this name."""
     client = Plain(server)
     greeted = client.text(), client.answer(f"< open {name} >"), client.answer("< rawmode >")
-    demand(greeted == ("< hi >", "< ok >", "< ok >"), f"{greeted}")
+    assert greeted == ("< hi >", "< ok >", "< ok >"), f"{greeted}"
     return client
 
 
@@ -225,7 +221,7 @@ class Pair:
     def __init__(self, server, source="can0", target="can1"):
         self.source, self.target, self.count = plain(server, source), plain(server, target), 0
         told = self.source.answer("< filter 0 >"), self.target.answer("< filter 1 80000000 DFFFFFFF >")
-        demand(told == ("< ok >", "< ok >"), f"{told}")
+        assert told == ("< ok >", "< ok >"), f"{told}"
 
     def go_on(self, after="what happened"):
         """The next frame from the one to the other."""
@@ -236,4 +232,4 @@ class Pair:
             got = self.target.frame()
         except TimeoutError:
             got = "nothing"
-        demand(got == ("00000000", data), f"after {after} others get {got} in place of frame {self.count}")
+        assert got == ("00000000", data), f"after {after} others get {got} in place of frame {self.count}"

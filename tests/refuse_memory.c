@@ -1,4 +1,4 @@
-/* Refuses memory to the program that it is loaded into (LD_PRELOAD), as scripts/check-memory says.
+/* Refuses memory to the program that it is loaded into (LD_PRELOAD), as test_memory.py says.
  *
  * REFUSE names a file of three numbers of 64 bits that both share: how often the program has asked for memory, and the
  * first and the last time that it is refused, counted from 1. A thread that is started asks too. */

@@ -1,33 +1,30 @@
-#!/usr/bin/env python3
-"""Refuses memory to canbusd, at one place after the other, and watches what it does.
+"""canbusd without memory, which it is refused at one place after the other.
 
-    scripts/check-memory [--program PATH] [--only WORD]
-
-scripts/refuse_memory.c, compiled with cc and loaded with the program, refuses the n-th time that it asks for memory or
-starts a thread: that time alone, or that and all later ones; for each n. A bench has to end with `no memory` behind whole
-lines of its output, or to tell a session so, and then its output and its record are those of an input that lacks that
-command. An audit answers as ever or says `no memory`. Each call of the libraries, made by crates/can_memory_tests where that
-is built, leaves all as it was and answers as ever when it is made again. A server refuses memory to one session alone:
-others get their frames, and what it writes at its end the audit finds legal. Then the program runs within ever more memory
-by RLIMIT_AS. PATH is the program, without its launcher. Each check is a line; the last is `N ok, M failed`.
-This is no part of the test command.
+refuse_memory.c, compiled with cc and loaded with the program, refuses the n-th time that it asks for memory or
+starts a thread: that time only, or that and all later ones; for each n. A bench has to end with `no memory` after
+whole lines of its output, or to say so to a session, and then its output and its record are those of an input that
+lacks that command. An audit replies as ever or says `no memory`. Each call of the libraries, made by
+crates/can_memory_tests where that is built, leaves all as it was and returns the same when it is made again. A
+server refuses memory to one session only: others get their frames, and the audit finds legal what it writes at its
+end. Then the program runs within ever more memory by RLIMIT_AS.
 """
 
-import argparse
 import contextlib
 import glob
 import mmap
 import os
 import re
 import resource
+import shutil
 import struct
 import subprocess
-import sys
-import tempfile
 import time
 
-from serving import (ROOT, WAIT, Pair, Plain, Server, Wrong, check, chosen_program, demand, plain, run_checks,
-                     serving_alone)
+import pytest
+
+from serving import ROOT, WAIT, NotListening, Pair, Plain, plain, program, serving_alone
+
+pytestmark = pytest.mark.skipif(not shutil.which("cc"), reason="no C compiler: cc")
 
 FOREVER = 2**64 - 1
 # A program that makes the calls of the libraries that take memory.
@@ -41,21 +38,30 @@ UNKNOWN, TELLS_UNKNOWN = "< nothing >", "< error unknown command >"
 TAKES_MEMORY = re.compile(r"< *(?:open|rawmode|filter)\b[^<>]*>")
 
 
-class Refusing:
+@pytest.fixture(scope="module")
+def library(tmp_path_factory):
+    """The library that refuses memory."""
+    path = tmp_path_factory.mktemp("library") / "refuse_memory.so"
+    source = os.path.join(ROOT, "tests", "refuse_memory.c")
+    subprocess.run(["cc", "-O2", "-shared", "-fPIC", "-o", path, source], check=True)
+    return path
+
+
+@pytest.fixture
+def refusing(library, tmp_path):
     """The program's environment in which it is refused memory."""
+    return Refusing(library, tmp_path)
 
-    folder = None
 
-    def __init__(self):
-        library, plan = os.path.join(self.folder, "refuse_memory.so"), os.path.join(self.folder, "plan")
-        if not os.path.exists(library):
-            source = os.path.join(ROOT, "scripts", "refuse_memory.c")
-            subprocess.run(["cc", "-O2", "-shared", "-fPIC", "-o", library, source], check=True)
-            with open(plan, "wb") as file:
-                file.write(bytes(24))
+class Refusing:
+    """An environment in which a program is refused memory, and a folder in which it runs."""
+
+    def __init__(self, library, folder):
+        self.folder, plan = folder, folder / "plan"
+        plan.write_bytes(bytes(24))
         with open(plan, "r+b") as file:
             self.plan = mmap.mmap(file.fileno(), 24)
-        self.environment = {**os.environ, "LD_PRELOAD": library, "REFUSE": plan}
+        self.environment = {**os.environ, "LD_PRELOAD": str(library), "REFUSE": str(plan)}
 
     def asked(self):
         """How often it has asked."""
@@ -84,13 +90,22 @@ class Refusing:
             before, now = now, self.asked()
         return now
 
-    def run(self, words, text="", first=1, last=0, most=resource.RLIM_INFINITY, program=None):
+    def run(self, words, text="", first=1, last=0, most=resource.RLIM_INFINITY, other=None):
         """What the program does in a folder of its own with this input and at most so many bytes: what it was, and how
         often it asked."""
         self.refuse(first, last)
-        done = subprocess.run([program or Server.program, *words], input=text, capture_output=True, text=True, timeout=WAIT,
-                              check=False, cwd=self.folder, env=self.environment, preexec_fn=within(most))
-        demand(done.returncode in (0, 1, 2), f"status {done.returncode} at {first}: {done.stderr}")
+        done = subprocess.run(
+            [other or program(), *words],
+            input=text,
+            capture_output=True,
+            text=True,
+            timeout=WAIT,
+            check=False,
+            cwd=self.folder,
+            env=self.environment,
+            preexec_fn=within(most),
+        )
+        assert done.returncode in (0, 1, 2), f"status {done.returncode} at {first}: {done.stderr}"
         return done, self.asked()
 
 
@@ -107,11 +122,11 @@ def windows(asked):
 class Bench:
     """A bench with its input, and what it does with ample memory."""
 
-    def __init__(self, words, text):
-        self.words, self.text, self.refusing = words, text, Refusing()
-        self.record = os.path.join(self.refusing.folder, "run.rec")
+    def __init__(self, refusing, words, text):
+        self.words, self.text, self.refusing = words, text, refusing
+        self.record = self.refusing.folder / "run.rec"
         self.line = ["bench", "--record", "run.rec", *words]
-        demand("error unknown command" not in self.runs(text)[0], "this input has unknown commands")
+        assert "error unknown command" not in self.runs(text)[0], "this input has unknown commands"
         self.commands = [found.span() for found in TAKES_MEMORY.finditer(text)]
         # What it does where one of these commands is refused memory.
         self.refused = {self.refuses(command) for command in self.commands}
@@ -146,16 +161,17 @@ class Bench:
             return "unseen"
         if did in self.refused:
             return "told to a session"
-        demand(done.returncode == 1, f"at {first}: {did}")
+        assert done.returncode == 1, f"at {first}: {did}"
         is_told = REFUSED.fullmatch(done.stderr) or done.stderr == self.ample[3].splitlines(True)[0]
-        demand(is_told, f"at {first}: {done.stderr}")
-        # Behind the first command that was refused for good, others depend on it.
+        assert is_told, f"at {first}: {done.stderr}"
+        # After the first command that was refused for good, others depend on it.
         output = done.stdout.split(TELLS_NO_MEMORY)[0] if last == FOREVER else done.stdout
-        demand(self.ample[0].startswith(output), f"at {first}: {done.stdout}")
-        demand(done.stdout == "" or done.stdout.endswith("\n"), f"a line is cut at {first}: {done.stdout}")
+        assert self.ample[0].startswith(output), f"at {first}: {done.stdout}"
+        assert done.stdout == "" or done.stdout.endswith("\n"), f"a line is cut at {first}: {done.stdout}"
         # Where the record's own memory was refused, its file is a part of it.
-        demand(last == FOREVER or not did[1] or self.ample[1].startswith(did[1]) and did[1] != self.ample[1],
-               f"at {first}: another record: {did[1]}")
+        assert (
+            last == FOREVER or not did[1] or self.ample[1].startswith(did[1]) and did[1] != self.ample[1]
+        ), f"at {first}: another record: {did[1]}"
         return "no memory"
 
 
@@ -178,7 +194,8 @@ def summed(tolds):
 
 
 # Each command that takes memory, between others that show whether it was done; a long piece, a name that is not there.
-COMMANDS = """session 1
+COMMANDS = (
+    """session 1
 session 2
 feed 1 < open can7 >< open can0 >< rawmode >
 feed 2 < open can1 >< rawmode >< stats >
@@ -189,15 +206,20 @@ attempt
 drain 2
 feed 2 < filter 3 1 2 3 4 5 6 >< filter 0 >< filter 1 124 7FF >< stats >
 feed 1 < send 124 1 3 >< send 123 8 1 2 3 4 5 6 7 8 >< status >
-feed 1 """ + "< send 124 0 >" * 100 + """
+feed 1 """
+    + "< send 124 0 >" * 100
+    + """
 attempt
 attempt
 drain 2
-feed 2 < filter 60""" + " 124 7FF" * 60 + """ >< close >
+feed 2 < filter 60"""
+    + " 124 7FF" * 60
+    + """ >< close >
 session 3
 feed 3 < open can1 >< rawmode >
 end 3
 """
+)
 
 
 def example(path):
@@ -208,18 +230,19 @@ def example(path):
     return words.replace("@examples/", f"@{ROOT}/examples/").split(), text
 
 
-@check
-def a_bench_without_memory():
+@pytest.mark.slow
+def test_a_bench_without_memory(refusing):
     """each example, and an input with each command that takes memory"""
     inputs = [example(path) for path in sorted(glob.glob(os.path.join(ROOT, "examples", "*.bench")))]
     inputs += [(["can0,can1"], COMMANDS), (["--report", "--ack", "peers", "--limit", "12", "can0,can1"], COMMANDS)]
-    return summed(try_everywhere(Bench(words, text)) for words, text in inputs)
+    tolds = [try_everywhere(Bench(refusing, words, text)) for words, text in inputs]
+    print(summed(tolds))
 
 
-@check
-def faults_without_memory():
+@pytest.mark.slow
+def test_faults_without_memory(refusing):
     """lines, scripts, names and words that are refused: their first line is told, or no memory"""
-    folder = Refusing.folder
+    folder = refusing.folder
     scripts = {"line": "0 good\nx\n", "name": "5 local crc can2\n", "twice": "5 good\n5 good\n"}
     for name, text in scripts.items():
         with open(os.path.join(folder, name), "w", encoding="utf-8") as file:
@@ -227,34 +250,46 @@ def faults_without_memory():
     words = [["can0"], ["can0,can0"], ["can0@none"], ["--limit", "0", "can0"], ["--limit", "x", "can0"], ["--help"], []]
     words += [[f"can0@{name}"] for name in scripts]
     tolds = []
-    lines = [["bench", *more] for more in words] + [["serve", "can0", "can0"], ["--version"], ["audit"], ["audit", "none"]]
+    lines = [["bench", *more] for more in words] + [
+        ["serve", "can0", "can0"],
+        ["--version"],
+        ["audit"],
+        ["audit", "none"],
+    ]
     for line in lines:
-        ample, asked = Refusing().run(line, "session 1\nsession x\n")
+        ample, asked = refusing.run(line, "session 1\nsession x\n")
         told = {}
         for first, last in windows(asked):
-            done, _ = Refusing().run(line, "session 1\nsession x\n", first, last)
+            done, _ = refusing.run(line, "session 1\nsession x\n", first, last)
             if (done.returncode, done.stdout, done.stderr) == (ample.returncode, ample.stdout, ample.stderr):
                 how = "as ever"
             elif REFUSED.fullmatch(done.stderr):
-                demand(done.returncode == 1 and ample.stdout.startswith(done.stdout), f"{line} at {first}: {done}")
+                assert done.returncode == 1 and ample.stdout.startswith(done.stdout), f"{line} at {first}: {done}"
                 how = "no memory"
             else:
-                demand(done.returncode == ample.returncode == 1 and done.stderr == ample.stderr.splitlines(True)[0],
-                       f"{line} at {first}: {done}")
+                assert (
+                    done.returncode == ample.returncode == 1 and done.stderr == ample.stderr.splitlines(True)[0]
+                ), f"{line} at {first}: {done}"
                 how = "without what helps"
             told[how] = told.get(how, 0) + 1
         tolds.append(told)
-    return summed(tolds)
+    print(summed(tolds))
 
 
-@check
-def an_audit_without_memory():
+def test_an_audit_without_memory(refusing):
     """a legal record, a wrong entry, a bad line, another version"""
-    bench = Bench(["can0,can1"], COMMANDS)
+    bench = Bench(refusing, ["can0,can1"], COMMANDS)
     legal = bench.ample[1]
-    records = [legal, legal.replace(" done 0002", " done 0000", 1), legal.replace("option", "opinion"), legal + "x",
-               legal.replace("send 0 124", "send 0 12", 1), "canbus record 9\n", legal[:-20],
-               legal.replace("data 0 1 ", "data 0 2 ")]
+    records = [
+        legal,
+        legal.replace(" done 0002", " done 0000", 1),
+        legal.replace("option", "opinion"),
+        legal + "x",
+        legal.replace("send 0 124", "send 0 12", 1),
+        "canbus record 9\n",
+        legal[:-20],
+        legal.replace("data 0 1 ", "data 0 2 "),
+    ]
     tolds = []
     for record in records:
         with open(bench.record, "w", encoding="utf-8") as file:
@@ -266,15 +301,15 @@ def an_audit_without_memory():
             if (done.returncode, done.stdout, done.stderr) == (ample.returncode, ample.stdout, ample.stderr):
                 how = "as ever"
             elif done.stderr == NO_MEMORY:
-                demand((done.returncode, done.stdout) == (1, ""), f"at {first}: {done}")
+                assert (done.returncode, done.stdout) == (1, ""), f"at {first}: {done}"
                 how = "no memory"
             else:
                 wanted = 1, "", ample.stderr.splitlines(True)[0]
-                demand((done.returncode, done.stdout, done.stderr) == wanted, f"at {first}: {done}")
+                assert (done.returncode, done.stdout, done.stderr) == wanted, f"at {first}: {done}"
                 how = "without what helps"
             told[how] = told.get(how, 0) + 1
         tolds.append(told)
-    return summed(tolds)
+    print(summed(tolds))
 
 
 def crosses(server, source, target):
@@ -294,20 +329,28 @@ def refused_server(refusing):
         yield server
 
 
-def calls_without_memory():
+@pytest.mark.skipif(not os.path.exists(CALLS), reason="not built: rt run in crates/can_memory_tests")
+def test_calls_without_memory(refusing):
     """each call of the libraries is made again where it was refused: it left all as it was, and answers as ever"""
-    ample, asked = Refusing().run([], program=CALLS)
-    demand(ample.returncode == 0 and ample.stdout.count(": as ever\n") == ample.stdout.count("\n") > 0, f"{ample}")
+    ample, asked = refusing.run([], other=CALLS)
+    assert ample.returncode == 0 and ample.stdout.count(": as ever\n") == ample.stdout.count("\n") > 0, f"{ample}"
     for place in range(1, asked + 1):
-        done, _ = Refusing().run([], "", place, place, program=CALLS)
-        demand((done.returncode, done.stdout, done.stderr) == (0, ample.stdout, ""), f"at {place}: {done}")
-    return f"{asked} places in {ample.stdout.count(chr(10))} trials"
+        done, _ = refusing.run([], "", place, place, other=CALLS)
+        assert (done.returncode, done.stdout, done.stderr) == (0, ample.stdout, ""), f"at {place}: {done}"
 
 
 # What a client says, each with what it is told with ample memory; where that is None, texts come in any order.
-SAYS = [("< open can2 >", "< ok >"), ("< rawmode >", "< ok >"), ("< filter 2 123 7FF 124 7FF >", "< ok >"),
-        ("< recvown 1 >", "< ok >"), ("< status >", "< status active 0 0 >"),
-        ("< send 123 0 >", None), ("< stats >", None), ("< send 123 1 1 >< send 124 1 2 >", None), ("< close >", None)]
+SAYS = [
+    ("< open can2 >", "< ok >"),
+    ("< rawmode >", "< ok >"),
+    ("< filter 2 123 7FF 124 7FF >", "< ok >"),
+    ("< recvown 1 >", "< ok >"),
+    ("< status >", "< status active 0 0 >"),
+    ("< send 123 0 >", None),
+    ("< stats >", None),
+    ("< send 123 1 1 >< send 124 1 2 >", None),
+    ("< close >", None),
+]
 
 
 def converse(server, refusing):
@@ -315,7 +358,7 @@ def converse(server, refusing):
     with contextlib.closing(Plain(server)) as client:
         try:
             greeting = client.text()
-            demand(greeting in ("< hi >", "", "< error too many sessions >"), greeting)
+            assert greeting in ("< hi >", "", "< error too many sessions >"), greeting
             told = "as ever"
             for command, right in SAYS:
                 client.tell(command)
@@ -326,7 +369,7 @@ def converse(server, refusing):
                     answer = client.answer(command)
                 if answer == "":
                     return "ended a session"
-                demand(answer == right, f"{command}: {answer}")
+                assert answer == right, f"{command}: {answer}"
             texts = list(iter(client.text, ""))
         except ConnectionError:
             return "ended a session"
@@ -335,10 +378,8 @@ def converse(server, refusing):
     return told if any(text.startswith("< closed ") for text in texts) else "ended a session"
 
 
-@check
-def sessions_without_memory():
+def test_sessions_without_memory(refusing):
     """a session that is refused memory ends alone, or is told so"""
-    refusing = Refusing()
     tolds, place, drivers, is_over = {}, 0, 0, False
     while not is_over:
         refusing.stop()
@@ -358,10 +399,10 @@ def sessions_without_memory():
                         drivers += 1
                         break
             status, written = server.finish()
-            demand(status == 0 and server.said() == "", f"status {status}: {server.said()}")
+            assert status == 0 and server.said() == "", f"status {status}: {server.said()}"
             entries = server.audited("can0.rec"), server.audited("can2.rec")
-            demand(written == "bus can0 entries {}\nbus can2 entries {}\n".format(*entries), written)
-    return f"{summed([tolds])}; {drivers} drivers ended"
+            assert written == "bus can0 entries {}\nbus can2 entries {}\n".format(*entries), written
+    print(f"{summed([tolds])}; {drivers} drivers ended")
 
 
 def hears(sender, listener):
@@ -374,24 +415,22 @@ def hears(sender, listener):
             return "ended the sender"
         if answer == TELLS_NO_MEMORY:
             told, answer = "told to the sender", sender.text()
-            demand(answer == "< echo >", f"the sender: {answer}")
+            assert answer == "< echo >", f"the sender: {answer}"
             continue
-        demand(answer == "< echo >", f"the sender: {answer}")
+        assert answer == "< echo >", f"the sender: {answer}"
         try:
             text = listener.text()
         except TimeoutError:
             return "ended a driver"
         if text == TELLS_NO_MEMORY:
-            demand(listener.text() == "", "a session goes on behind a receive that was refused")
+            assert listener.text() == "", "a session goes on after a receive that was refused"
             return "ended the listener"
-        demand(re.fullmatch(rf"< frame 123 \d+\.\d+ {number:02X} >", text), f"frame {number}: {text}")
+        assert re.fullmatch(rf"< frame 123 \d+\.\d+ {number:02X} >", text), f"frame {number}: {text}"
     return told
 
 
-@check
-def deliveries_without_memory():
+def test_deliveries_without_memory(refusing):
     """a session whose receive is refused memory is told so and ends; others get their frames"""
-    refusing = Refusing()
     tolds, place, is_over = {}, 0, False
     while not is_over:
         place += 1
@@ -407,15 +446,15 @@ def deliveries_without_memory():
                 others.go_on(f"refusal {place}, {told}")
             written = server.end()
             entries = server.audited("can0.rec"), server.audited("can2.rec")
-            demand(written == "bus can0 entries {}\nbus can2 entries {}\n".format(*entries), written)
-    demand("ended the listener" in tolds, f"no receive was refused: {summed([tolds])}")
-    return summed([tolds])
+            assert written == "bus can0 entries {}\nbus can2 entries {}\n".format(*entries), written
+    assert "ended the listener" in tolds, f"no receive was refused: {summed([tolds])}"
+    print(summed([tolds]))
 
 
 def why_not(fault):
     """Why a server does not listen, where it said so as it has to."""
-    told = re.fullmatch(r"it does not listen: '' canbusd: (no memory|cannot listen)(\n  [ -~]*)*", str(fault))
-    demand(told, f"{fault}")
+    told = re.fullmatch(r"canbusd: (no memory|cannot listen)(\n  [ -~]*)*", str(fault))
+    assert told, f"{fault}"
     return told[1]
 
 
@@ -427,10 +466,8 @@ def greets(server):
     return "no memory, once it listened"
 
 
-@check
-def a_start_without_memory():
+def test_a_start_without_memory(refusing):
     """a server that is refused memory says so and is gone, or serves"""
-    refusing = Refusing()
     told, place, is_over = {}, 0, False
     while not is_over:
         place += 1
@@ -443,17 +480,15 @@ def a_start_without_memory():
                     how = greets(server)
                     status, _ = server.finish()
                     right = {"served": (0, ""), "no memory, once it listened": (1, NO_MEMORY.strip())}[how]
-                    demand((status, server.said()) == right, f"at {place}: {how}, {status} {server.said()}")
-            except Wrong as fault:
+                    assert (status, server.said()) == right, f"at {place}: {how}, {status} {server.said()}"
+            except NotListening as fault:
                 how = why_not(fault)
             told[how] = told.get(how, 0) + 1
-    return summed([told])
+    print(summed([told]))
 
 
-@check
-def an_end_without_memory():
+def test_an_end_without_memory(refusing):
     """a file that is refused memory is told; the others are whole"""
-    refusing = Refusing()
     told, place, is_over = {}, 0, False
     while not is_over:
         place += 1
@@ -466,22 +501,24 @@ def an_end_without_memory():
                 refusing.stop()
                 how = told_at_the_end(server, status, written)
                 told[how] = told.get(how, 0) + 1
-    return summed([told])
+    print(summed([told]))
 
 
 def told_at_the_end(server, status, written):
     """What became of the files of a server."""
-    demand(re.fullmatch(r"bus can0 entries \d+\nbus can2 entries 0\n", written), written)
+    assert re.fullmatch(r"bus can0 entries \d+\nbus can2 entries 0\n", written), written
     lines = [line for line in server.said().splitlines() if not line.startswith("  ")]
-    demand(status == (1 if lines else 0) and all(line == NO_MEMORY.strip() for line in lines), f"{status} {server.said()}")
+    assert status == (1 if lines else 0) and all(
+        line == NO_MEMORY.strip() for line in lines
+    ), f"{status} {server.said()}"
     whole = 0
     for name in ("can0", "can2"):
-        with contextlib.suppress(Wrong):
+        with contextlib.suppress(AssertionError):
             server.audited(f"{name}.rec")
             whole += 1
         with contextlib.suppress(FileNotFoundError), open(server.path(f"{name}.log"), encoding="utf-8") as log:
             whole += len(log.readlines()) == (1 if name == "can0" else 0)
-    demand(whole >= 4 - 2 * len(lines) and (whole == 4 or lines), f"{whole} files are whole: {server.said()}")
+    assert whole >= 4 - 2 * len(lines) and (whole == 4 or lines), f"{whole} files are whole: {server.said()}"
     return f"{whole} of 4 files"
 
 
@@ -496,27 +533,26 @@ def amounts(first):
 def least(words):
     """The fewest bytes, by the first of the amounts, in which the program can be started."""
     for most in amounts(1 << 20):
-        done = subprocess.run([Server.program, *words], capture_output=True, timeout=WAIT, check=False,
-                              preexec_fn=within(most))
+        done = subprocess.run(
+            [program(), *words], capture_output=True, timeout=WAIT, check=False, preexec_fn=within(most)
+        )
         if done.returncode == 0:
             return most
     return None
 
 
-@check
-def a_bench_within_ever_more_memory():
+def test_a_bench_within_ever_more_memory(refusing):
     """RLIMIT_AS, from what `--version` needs on"""
-    bench, told = Bench(["--limit", "200000", "can0,can1"], COMMANDS), {}
+    bench, told = Bench(refusing, ["--limit", "200000", "can0,can1"], COMMANDS), {}
     for most in amounts(least(["--version"])):
         how = bench.try_at(1, 0, most)
         told[how] = told.get(how, 0) + 1
         if told.get("unseen", 0) == 3:
             break
-    return f"{summed([told])}; as ever from {most >> 10} KB on"
+    print(f"{summed([told])}; as ever from {most >> 10} KB on")
 
 
-@check
-def a_server_within_ever_more_memory():
+def test_a_server_within_ever_more_memory():
     """RLIMIT_AS; each time ten sessions, of which some may be refused"""
     told = {}
     for most in amounts(least(["--version"])):
@@ -526,30 +562,11 @@ def a_server_within_ever_more_memory():
                 status, written = server.finish()
                 how = "served all" if sessions == 10 else "served some" if sessions else "served none"
                 said = server.said()
-                demand((status, said) == (0, "") or REFUSED.fullmatch(said + "\n"), f"{status} {said}")
-                demand(status != 0 or written == f"bus can0 entries {server.audited('can0.rec')}\n", written)
-        except Wrong as fault:
+                assert (status, said) == (0, "") or REFUSED.fullmatch(said + "\n"), f"{status} {said}"
+                assert status != 0 or written == f"bus can0 entries {server.audited('can0.rec')}\n", written
+        except NotListening as fault:
             how = why_not(fault)
         told[how] = told.get(how, 0) + 1
         if told.get("served all", 0) == 3:
             break
-    return f"{summed([told])}; as ever from {most >> 10} KB on"
-
-def main():
-    parser = argparse.ArgumentParser(description="Refuses memory to canbusd, at one place after the other.")
-    parser.add_argument("--program")
-    parser.add_argument("--only", default="")
-    options = parser.parse_args()
-    Server.program = os.path.abspath(options.program or chosen_program())
-    if os.path.exists(CALLS):
-        check(calls_without_memory)
-    else:
-        print(f"the calls of the libraries are not tried, since nobody has built {CALLS}: rt run in crates/can_memory_tests")
-    with tempfile.TemporaryDirectory(prefix="canbusd-") as folder:
-        Refusing.folder = folder
-        went_well = run_checks(options.only)
-    sys.exit(0 if went_well else 1)
-
-
-if __name__ == "__main__":
-    main()
+    print(f"{summed([told])}; as ever from {most >> 10} KB on")

@@ -1,0 +1,66 @@
+"""What the tests of the program share: their options, the program and servers of it.
+
+CANBUSD names the program; as it is, the one that fits the sources, which is proved and built where there is none.
+"""
+
+import os
+import random
+import sys
+
+import pytest
+
+import commands
+import serving
+
+sys.dont_write_bytecode = True
+# The package from here, also in what the tests start.
+os.environ["PYTHONPATH"] = os.path.join(serving.ROOT, "python", "src")
+os.environ["PYTHONDONTWRITEBYTECODE"] = "1"
+
+
+def pytest_addoption(parser):
+    group = parser.getgroup("canbusd")
+    group.addoption("--seed", type=int, default=random.SystemRandom().randrange(10**6), help="of all that is random")
+    group.addoption("--cases", type=int, default=1000, help="how many random inputs a test tries (1000)")
+    group.addoption("--frames", type=int, default=1_000_000, help="how many frames test_load.py sends (1000000)")
+    group.addoption(
+        "--all-bytes", action="store_true", help="change each byte of a record to all others (test_damage.py)"
+    )
+    group.addoption("--beside", metavar="PROGRAM", help="another program that audits as canbusd does (test_damage.py)")
+    group.addoption("--other", metavar="SOURCE.c", help="another program with a bench (test_random_benches.py)")
+
+
+def pytest_terminal_summary(terminalreporter, config):
+    terminalreporter.write_line(f"--seed {config.getoption('seed')} repeats what was random")
+
+
+def pytest_runtest_setup(item):
+    if item.get_closest_marker("root") and os.geteuid() != 0:
+        pytest.skip("not root")
+    if item.get_closest_marker("browser") and not commands.BROWSER:
+        pytest.skip("no browser: chromium")
+
+
+@pytest.fixture
+def rng(request):
+    """A source of random numbers, the same for a test and a seed whatever other tests are run."""
+    return random.Random(f"{request.config.getoption('seed')} {request.node.name}")
+
+
+@pytest.fixture
+def cases(request):
+    """How many random inputs are tried."""
+    return request.config.getoption("cases")
+
+
+@pytest.fixture(scope="session")
+def program():
+    """The path of the program, without its launcher."""
+    return serving.program()
+
+
+@pytest.fixture
+def server():
+    """A server with can0 and can1 on one bus, as the launcher starts it."""
+    with serving.serving("can0,can1") as running:
+        yield running

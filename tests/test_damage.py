@@ -1,0 +1,324 @@
+"""Damaged records, and what `canbusd audit` says of each beside an independent replay, that of the Python package.
+
+Each byte of the record in docs/RECORD.md is changed, to 30 others or, with --all-bytes, to all 255; it is cut at
+each byte. So is one with an automatic restart, whose text is version 2, and one with FD frames, whose text is
+version 3. Records of the examples and of random runs, which have every kind of line, have bytes changed, and lines
+left out, doubled, exchanged, moved, and given other words and replies. Both have to name the same first wrong line
+or entry, and `ok` the same records. With --beside another program that audits as canbusd does has to say the same.
+"""
+
+import glob
+import os
+import re
+import subprocess
+
+import pytest
+
+from canbusd.record import REFUSALS, audit
+from serving import ROOT, WAIT
+
+SEEN = b"0123459AFRfr#= .-:\n\r\t\0x\x7f\x80\xff"
+
+
+class Tried:
+    """The damaged records that were tried, and what was said of them."""
+
+    def __init__(self, programs, changes_all, rng, folder):
+        self.program, *self.beside = programs
+        self.changes_all, self.rng, self.folder = changes_all, rng, folder
+        self.said = {}
+
+    def one(self, data):
+        """What canbusd and the replay say of a record: the same."""
+        wanted = audit(data)
+        # The other program may know more versions.
+        beside = self.beside if wanted != "canbusd: bad version" else []
+        for program in (self.program, *beside):
+            done = subprocess.run(
+                [program, "audit", "/dev/stdin"], input=data, capture_output=True, timeout=WAIT, check=False
+            )
+            first = (done.stdout or done.stderr).decode().split("\n")[0]
+            if first != wanted or done.returncode != (0 if wanted.startswith("ok") else 1):
+                path = self.folder / "damaged.rec"
+                path.write_bytes(data)
+                pytest.fail(f"{program}: {first}, status {done.returncode}, and not {wanted}: {path}")
+        kind = re.sub(r"\d+", "N", wanted.removeprefix("canbusd: "))
+        self.said[kind] = self.said.get(kind, 0) + 1
+
+    def __str__(self):
+        return ", ".join(f"{count} {kind}" for kind, count in sorted(self.said.items()))
+
+
+@pytest.fixture
+def tried(request, program, rng, tmp_path):
+    """What is tried in a test, and told in its output."""
+    beside = request.config.getoption("beside")
+    programs = [program, os.path.abspath(beside)] if beside else [program]
+    tried = Tried(programs, request.config.getoption("all_bytes"), rng, tmp_path)
+    yield tried
+
+
+def example():
+    """The record of docs/RECORD.md."""
+    with open(os.path.join(ROOT, "docs", "RECORD.md"), encoding="utf-8") as page:
+        text = page.read()
+    lines = [line[4:] for line in text.split("    canbus record 1\n")[1].split("    end 7\n")[0].splitlines()]
+    return "\n".join(["canbus record 1", *lines, "end 7", ""]).encode()
+
+
+def restarted():
+    """The record of an interface that goes bus off and is restarted in the second attempt after it."""
+    lines = [
+        "open 0 256 = socket 0",
+        "open 1 256 = socket 1",
+        "option 0 errmask 00000140 = ok",
+        "send 0 123# = number 0",
+    ]
+    for number in range(1, 33):
+        lines.append(f"attempt 0.0000{number:02} global-bit = tried 0 0 123# destroyed 0000 {number // 32:04}")
+    lines += [
+        "attempt 0.000033 good = idle",
+        "attempt 0.000034 good = idle restarted 0001",
+        "receive 0 = error 0 20000040#0000000000000000 0.000032",
+        "receive 0 = error 0 20000100#0000000000000000 0.000034",
+        "send 0 123# = number 1",
+        "attempt 0.000035 good = tried 0 1 123# done 0002 0000",
+    ]
+    return "\n".join(["canbus record 2", "bus 2 always 0000 10 100 2", *lines, f"end {len(lines)}", ""]).encode()
+
+
+def with_fd():
+    """The record of FD frames beside a classic one, between sockets that ask for them and one that does not."""
+    lines = [
+        "open 0 256 = socket 0", "open 1 1 = socket 1", "open 1 256 = socket 2", "send 0 123##0 = fd-off",
+        "option 0 fd 1 = ok", "option 1 fd 1 = ok", "send 0 123##00102030405060708090A0B0C = number 0",
+        "send 0 1FFFFFFF##0FF = number 1", "send 0 7FF#FF = number 2",
+        "attempt 0.000001 good = tried 0 0 123##00102030405060708090A0B0C done 0002 0000",
+        "attempt 0.000002 good = tried 0 1 1FFFFFFF##0FF done 0002 0000",
+        "attempt 0.000003 good = tried 0 2 7FF#FF done 0002 0000",
+        "receive 1 = data 0 0 123##00102030405060708090A0B0C 0.000001", "receive 2 = data 0 2 7FF#FF 0.000003",
+        "close 1 = closed 0 2",
+    ]  # fmt: skip
+    return "\n".join(["canbus record 3", "bus 2 always 0000 10 100 0", *lines, f"end {len(lines)}", ""]).encode()
+
+
+def recorded(tried, words, text):
+    """The record of a run of the bench."""
+    path = os.path.join(tried.folder, "run.rec")
+    done = subprocess.run(
+        [tried.program, "bench", "--record", path, *words],
+        input=text,
+        capture_output=True,
+        text=True,
+        timeout=WAIT,
+        check=False,
+        cwd=ROOT,
+    )
+    assert done.returncode == 0, f"{words}: {done.stderr}"
+    with open(path, "rb") as file:
+        return file.read()
+
+
+def examples(tried):
+    for path in sorted(glob.glob(os.path.join(ROOT, "examples", "*.bench"))):
+        with open(path, encoding="utf-8") as file:
+            text = file.read()
+        yield recorded(tried, re.search(r"\./canbusd bench (.*) < examples/", text)[1].split(), text)
+
+
+def random_run(tried):
+    """The record of a run with sessions, options, faults, bus off and restarts at random."""
+    rng = tried.rng
+    count = rng.randrange(1, 5)
+    names = [f"can{number}" for number in range(count)]
+    verdicts = ["good", "global bit", "global form", "lastbit"]
+    for kind in ("stuff", "crc", "form"):
+        verdicts.append(f"local {kind} {','.join(rng.sample(names, rng.randrange(1, count + 1)))}")
+    script = os.path.join(tried.folder, "faults")
+    with open(script, "w", encoding="utf-8") as file:
+        severe = rng.random() < 0.5
+        for number in range(200):
+            file.write(f"{number} {rng.choice(verdicts[1:] if severe and number < 150 else verdicts)}\n")
+    lines = []
+    for session in range(1, 7):
+        lines += [f"session {session}", f"feed {session} < open {rng.choice(names)} >< rawmode >"]
+    has_fd = rng.random() < 0.5
+    for _ in range(150):
+        lines += [
+            random_line(rng, rng.randrange(1, 7), has_fd),
+            f"at {rng.choice([0, 1, 12345678])}.{rng.randrange(10**6):06d}",
+        ]
+        lines += ["attempt"] * rng.randrange(1, 4)
+        if rng.random() < 0.3:
+            lines.append(f"drain {rng.randrange(1, 7)}")
+    words = ["--ack", rng.choice(["always", "peers"]), "--txqueue", "3", "--rxqueue", rng.choice(["1", "20"])]
+    words += ["--report"] * (rng.random() < 0.5)
+    words += ["--auto-restart", rng.choice(["1", "2", "7"])] * (rng.random() < 0.5)
+    return recorded(tried, [*words, f"{','.join(names)}@{script}"], "\n".join(lines) + "\n")
+
+
+def random_line(rng, session, has_fd):
+    number = rng.choice(["123", "124", "7FF", "0", "048C0000", "00000123", "1FFFFFFF"])
+    data = " ".join(f"{rng.randrange(256):x}" for _ in range(rng.randrange(9)))
+    command = rng.choice(
+        [
+            f"send {number} {len(data.split())} {data}",
+            f"sendrtr {number} {rng.randrange(9)}",
+            f"send {number} 0",
+            f"send {number} 1 5",
+            "restart",
+            f"recvown {rng.randrange(2)}",
+            f"loopback {rng.randrange(2)}",
+            f"join {rng.randrange(2)}",
+            f"errmask {rng.choice(['0', '1FFFFFFF', '204', 'FFFFFFFF'])}",
+            "filter 0",
+            "filter 1 123 7FF",
+            "filter 2 20000123 7FF 80000123 DFFFFFFF",
+            "filter 1 0 0",
+            "close" if rng.random() < 0.1 else "send 123 0",
+        ]
+    )
+    if has_fd and rng.random() < 0.3:
+        data = " ".join(["a5"] * rng.choice([0, 1, 8, 12, 20, 64]))
+        command = rng.choice(["fdframes 1", "fdframes 1", "fdframes 0", f"sendfd {number} {len(data.split())} {data}"])
+    return f"feed {session} < {command} >"
+
+
+def test_bytes_of_the_example(tried):
+    """each byte changed, and the record cut at each"""
+    assert audit(example()) == "ok 7 entries", "the example"
+    change_bytes(tried, example())
+    assert tried.said["ok N entries"] >= 1, "the example is not ok"
+
+
+@pytest.mark.slow
+def test_bytes_of_a_record_with_a_restart(tried):
+    """the same of version 2"""
+    data = restarted()
+    assert audit(data) == "ok 42 entries", f"the record: {audit(data)}"
+    # The attempts before it went off are all alike.
+    lines = data.splitlines(True)
+    change_bytes(tried, data, len(b"".join(lines[:7])), len(b"".join(lines[:36])))
+
+
+@pytest.mark.slow
+def test_bytes_of_a_record_with_fd_frames(tried):
+    """the same of version 3"""
+    assert audit(with_fd()) == "ok 15 entries", f"the record: {audit(with_fd())}"
+    change_bytes(tried, with_fd())
+
+
+def change_bytes(tried, data, skip_from=0, skip_to=0):
+    """Each byte changed and left out, and the record cut at each, except a piece of it; and with text after it."""
+    tried.one(data)
+    for place, byte in enumerate(data):
+        if skip_from <= place < skip_to:
+            continue
+        near = {byte ^ 1, byte ^ 0x20, byte ^ 0x80, (byte + 1) % 256, (byte - 1) % 256}
+        for other in range(256) if tried.changes_all else {*SEEN, *near}:
+            if other != byte:
+                tried.one(data[:place] + bytes([other]) + data[place + 1 :])
+        tried.one(data[:place])
+        tried.one(data[:place] + data[place + 1 :])
+    for end in (b"\n", b"x", b" ", b"\0", b"end 7\n", data):
+        tried.one(data + end)
+
+
+def test_named_damages_of_the_example(tried):
+    """what they have to be told as, without the replay's help"""
+    text = example().decode()
+    damages = [
+        (text.replace("canbus record 1", "canbus record 9"), "bad version"),
+        ("", "bad version"),
+        (text.replace("bus 2", "bus 17"), "line 2: bad line"),
+        (text.replace("send 0 123#01FF", "send 0 123#01ff"), "line 5: bad line"),
+        ("".join(text.splitlines(True)[:5]), "line 6: bad line"),
+        (text.replace("end 7", "end 8"), "line 10: bad line"),
+        (text[:-1], "line 10: bad line"),
+        (text.replace("10 100", "10 6"), "entry 6: wrong"),
+        (text.replace("done 0002", "done 0000"), "entry 3: wrong"),
+    ]
+    text = restarted().decode()
+    damages += [
+        (text.replace("idle restarted 0001", "idle"), "entry 37: wrong"),
+        (text.replace("restarted 0001", "restarted 0000"), "line 40: bad line"),
+        (text.replace("10 100 2", "10 100 0"), "line 2: bad line"),
+        (text.replace("10 100 2", "10 100"), "line 2: bad line"),
+        (text.replace("10 100 2", "10 100 1"), "entry 36: wrong"),
+        (text.replace("record 2", "record 1"), "line 2: bad line"),
+        (text.replace("record 2", "record 1").replace("10 100 2", "10 100"), "line 40: bad line"),
+    ]
+    text = with_fd().decode()
+    without = "\n".join(text.splitlines()[:4])
+    damages += [
+        (text.replace("record 3", "record 1"), "line 2: bad line"),
+        (text.replace("record 3", "record 1").replace("10 100 0", "10 100"), "line 6: bad line"),
+        (text.replace("record 3", "record 2").replace("10 100 0", "10 100 7"), "line 6: bad line"),
+        (text.replace("123##0 = fd-off", "123##0 = bus-off"), "entry 3: wrong"),
+        (text.replace("123##0 = fd-off", "123# = fd-off"), "line 6: bad line"),
+        (text.replace("123##0 = fd-off", "123##1 = fd-off"), "line 6: bad line"),
+        (text.replace("fd 1", "fd 2", 1), "line 7: bad line"),
+        (text.replace("0A0B0C", "0A0B"), "line 9: bad line"),
+        (text.replace("0A0B0C", "0A0B0D", 1), "entry 9: wrong"),
+        (f"{without}\nend 2\n", "bad version"),
+        (f"{without}\nend 3\n", "line 5: bad line"),
+    ]
+    for damaged, fault in damages:
+        assert audit(damaged.encode()) == f"canbusd: {fault}", f"the replay: {fault}"
+        tried.one(damaged.encode())
+
+
+def test_lines_of_other_records(tried):
+    """lines of the examples' records and of random runs left out, doubled, exchanged, given other replies and words"""
+    for data in [*examples(tried), *(random_run(tried) for _ in range(6))]:
+        assert audit(data).startswith("ok "), f"the replay: {audit(data)}"
+        tried.one(data)
+        lines = data.split(b"\n")
+        for _ in range(300):
+            tried.one(b"\n".join(damaged(tried.rng, lines)))
+
+
+def damaged(rng, lines):
+    """The lines with one of them damaged, or two."""
+    lines = list(lines)
+    for _ in range(rng.choice([1, 1, 1, 2])):
+        place, other = (rng.randrange(len(lines)) for _ in range(2))
+        line, how = lines[place], rng.randrange(8)
+        if how == 0:
+            del lines[place]
+        elif how == 1:
+            lines.insert(place, rng.choice([line, lines[other]]))
+        elif how == 2:
+            lines[place], lines[other] = lines[other], line
+        elif how == 3:
+            lines[place] = line.partition(b" = ")[0] + b" = " + (rng.choice([*REFUSALS, "ok", "none", "idle"])).encode()
+        elif how == 4:
+            lines[place] = line.partition(b" = ")[0] + b" = " + lines[other].partition(b" = ")[2]
+        else:
+            lines[place] = with_other_word(rng, line)
+        if how in (0, 1) and rng.random() < 0.7:
+            lines = [re.sub(rb"^end .*", b"end %d" % (len(lines) - 4), one) for one in lines]
+    return lines
+
+
+def with_other_word(rng, line):
+    words = line.split(b" ")
+    place = rng.randrange(len(words))
+    word = words[place]
+    if word.isdigit() and rng.random() < 0.7:
+        # A capacity has 32 bits here, and may have more elsewhere.
+        far = 10**6 if words[0] == b"open" else 2**32
+        words[place] = b"%d" % max(0, int(word) + rng.choice([-1, 1, 2, 10**6, far, 2**64]))
+    elif word:
+        at = rng.randrange(len(word))
+        words[place] = word[:at] + rng.choice([b"0", b"1", b"2", b"3", b"4", b"F", b"R", b"8", b""]) + word[at + 1 :]
+    return b" ".join(words)
+
+
+def test_bytes_of_other_records(tried):
+    """random bytes of random runs"""
+    rng = tried.rng
+    for data in (random_run(tried) for _ in range(4)):
+        for _ in range(400):
+            place = rng.randrange(len(data))
+            tried.one(data[:place] + bytes([rng.choice([*SEEN, rng.randrange(256)])]) + data[place + 1 :])

@@ -1,0 +1,351 @@
+"""The documents as a newcomer would try them: every link, and the commands of README, guide and manual page exactly
+as written.
+
+They are tried in a clone of the last commit and without the command rt on the PATH. Where CANBUSD names a program,
+the clone has that one in place of its own.
+"""
+
+import contextlib
+import glob
+import hashlib
+import os
+import re
+import shutil
+import signal
+import subprocess
+import tempfile
+
+import pytest
+
+from serving import ROOT, WAIT, come_true
+
+# Commands of README that run until they are ended.
+ENDLESS = ("./canbusd serve", "python3 -m canbusd dump", "python3 -m canbusd watch")
+
+
+class Clone:
+    """A clone of the last commit, and what a newcomer does in it."""
+
+    def __init__(self, folder):
+        self.folder = str(folder)
+        self.environment = {
+            "PATH": "/usr/bin:/bin",
+            "HOME": "/nonexistent",
+            "LC_ALL": "C.UTF-8",
+            "PYTHONDONTWRITEBYTECODE": "1",
+        }
+        subprocess.run(["git", "clone", "-q", ROOT, self.folder], check=True)
+
+    def put_program(self, path):
+        """Makes this the program that the clone takes for the one of its sources."""
+        shutil.copy(path, os.path.join(self.folder, "dist", "canbusd"))
+        sources = subprocess.check_output([os.path.join(self.folder, "scripts", "program"), "sources"], text=True)
+        with open(path, "rb") as file:
+            program = hashlib.sha256(file.read()).hexdigest()
+        with open(os.path.join(self.folder, "dist", "BUILT"), "w", encoding="ascii") as file:
+            file.write(f"sources {sources}kit none\nprogram {program}\n")
+
+    def read(self, name):
+        with open(os.path.join(self.folder, name), encoding="utf-8") as file:
+            return file.read()
+
+    def blocks(self, name):
+        """The blocks of code in a document: runs of lines that are indented by four spaces, after an empty line."""
+        return [
+            [line[4:] for line in block.splitlines()]
+            for block in re.findall(r"(?:(?<=\n\n)|\A)((?:    .*\n)+)", self.read(name))
+        ]
+
+    def anchors(self, name):
+        """The anchors of a document's headings, as GitHub makes them."""
+        headings = re.findall(r"^#+ (.*)$", self.read(name), re.M)
+        return {re.sub(r"[^\w\- ]", "", heading.lower()).replace(" ", "-") for heading in headings}
+
+    def shell(self, command):
+        """The status of a command, and what it writes."""
+        done = subprocess.run(
+            ["bash", "-c", command],
+            cwd=self.folder,
+            env=self.environment,
+            stdin=subprocess.DEVNULL,
+            stdout=subprocess.PIPE,
+            stderr=subprocess.STDOUT,
+            text=True,
+            timeout=60,
+            check=False,
+        )
+        return done.returncode, done.stdout
+
+    def has_python_can(self):
+        return self.shell("python3 -c 'import can, pytest'")[0] == 0
+
+    @contextlib.contextmanager
+    def running(self, command, says=True):
+        """A command that runs until Ctrl-C ends it, and what it has written; where it says something, once it has."""
+        with tempfile.TemporaryFile("w+") as output:
+            child = subprocess.Popen(
+                ["bash", "-c", command],
+                cwd=self.folder,
+                env=self.environment,
+                stdin=subprocess.DEVNULL,
+                stdout=output,
+                stderr=subprocess.STDOUT,
+                start_new_session=True,
+            )
+
+            def written():
+                output.seek(0)
+                return output.read()
+
+            try:
+                assert not says or come_true(written), f"{command}: it writes nothing"
+                yield child, written
+            finally:
+                os.killpg(child.pid, signal.SIGINT)
+                child.wait(WAIT)
+
+
+@pytest.fixture
+def clone(tmp_path):
+    clone = Clone(tmp_path / "clone")
+    if "CANBUSD" in os.environ:
+        clone.put_program(os.environ["CANBUSD"])
+    return clone
+
+
+@pytest.fixture
+def python_can(clone):
+    """What the tests need that use the package with python-can."""
+    if not clone.has_python_can():
+        pytest.skip("python-can and pytest are not installed")
+
+
+def test_links(clone):
+    """each link of each document leads to a file, and to a heading where it names one"""
+    documents = [
+        os.path.relpath(path, clone.folder)
+        for path in glob.glob(os.path.join(clone.folder, "**", "*.md"), recursive=True)
+    ]
+    for name in documents:
+        for link in re.findall(r"\]\(([^)\s]+)\)", clone.read(name)):
+            place, _, anchor = link.partition("#")
+            if re.match("https?:", place):
+                continue
+            target = os.path.normpath(os.path.join(os.path.dirname(name), place)) if place else name
+            assert os.path.exists(os.path.join(clone.folder, target)), f"{name}: {link}"
+            assert not anchor or anchor in clone.anchors(target), f"{name}: {link}: no such heading"
+
+
+def test_files_that_are_named(clone):
+    """each path of the repository that a document names is there"""
+    for name in [
+        "README.md",
+        "canbusd.1",
+        *(f"docs/{one}" for one in os.listdir(os.path.join(clone.folder, "docs")) if one.endswith(".md")),
+    ]:
+        for path in re.findall(
+            r"\b((?:scripts|contrib|tools|tests|examples|docs|benches|dist|python)/[\w./-]*\w)", clone.read(name)
+        ):
+            assert os.path.exists(os.path.join(clone.folder, path)), f"{name}: {path}"
+
+
+def test_commands_of_readme(clone):
+    """each of them, in their order; those that run until Ctrl-C together"""
+    clone.environment["PYTHONPATH"] = os.path.join(clone.folder, "python", "src")
+    server = None
+    with contextlib.ExitStack() as endless:
+        for line in (line for block in clone.blocks("README.md") for line in block):
+            if not line.startswith(("./canbusd", "contrib/", "python3")) or "pytest" in line:
+                continue
+            if line.startswith("python3") and not clone.has_python_can():
+                continue
+            if line.startswith(ENDLESS):
+                # A dump writes nothing before there are frames.
+                child, _ = endless.enter_context(clone.running(line, says="dump" not in line))
+                server = server or child
+            else:
+                status, written = clone.shell(line)
+                assert status == 0, f"{line}: {written}"
+    assert server and server.returncode == 0, "the server's end"
+
+
+def test_the_test_of_readme(clone, python_can):
+    """it passes, and fails where its faults are left out"""
+    code = re.search(r"^```python\n(.*?)^```$", clone.read("README.md"), re.M | re.S)[1]
+    commands = next(block for block in clone.blocks("README.md") if "test_bus_off.py" in block[-1])
+    for text, passes in ((code, True), (code.replace("range(32)", "[]"), False)):
+        with open(os.path.join(clone.folder, "test_bus_off.py"), "w", encoding="utf-8") as file:
+            file.write(text)
+        status, written = clone.shell("\n".join(commands))
+        assert (status == 0 and "1 passed" in written) is passes, written
+
+
+def test_examples_of_the_guide(clone):
+    """each command on its examples, and what it writes where that is shown"""
+    found = clone.blocks("docs/GUIDE.md")
+    tried = set()
+    for k, block in enumerate(found):
+        command = re.fullmatch(r"\./canbusd bench (?:--\S+ (?:\S+ )?)*\S+ < examples/(\w+)\.bench", block[0])
+        if not command:
+            continue
+        status, written = clone.shell(block[0])
+        wanted = clone.read(f"examples/{command[1]}.out")
+        assert status == 0 and written == wanted, f"{block[0]}: {written}"
+        if found[k + 1][0].startswith("1 < "):
+            assert "\n".join(found[k + 1]) in wanted, f"what {command[1]} shows"
+        tried.add(command[1])
+        for line in block[1:]:
+            assert clone.shell(line)[0] == 0, line
+    stored = {
+        os.path.basename(path)[: -len(".bench")]
+        for path in glob.glob(os.path.join(clone.folder, "examples", "*.bench"))
+    }
+    assert tried == stored, f"{stored - tried} are not in the guide"
+
+
+def test_dialogues_of_the_guide(clone):
+    """the blocks with a prompt, except those with a server: what each command writes"""
+    with open(os.path.join(clone.folder, "my.script"), "w", encoding="ascii") as file:
+        file.write("0 good\n5 local crc can2\n")
+    tried = 0
+    for block in clone.blocks("docs/GUIDE.md"):
+        text = "\n".join(block) + "\n"
+        if not text.startswith("$ ") or re.search("serve|logs/|pytest|watch", text):
+            continue
+        for command, wanted in re.findall(r"^\$ (.*)\n((?:(?!\$ ).*\n)*)", text, re.M):
+            # A file that no command has written is the reader's.
+            path = os.path.join(clone.folder, command.split()[1])
+            if command.startswith("cat ") and not os.path.exists(path):
+                with open(path, "w", encoding="ascii") as file:
+                    file.write(wanted)
+            written = clone.shell(command)[1]
+            # What the bench wrote before it found a fault is not shown.
+            assert written == wanted or (
+                wanted.startswith("canbusd: ") and written.endswith(wanted)
+            ), f"{command}: {written}"
+            tried += 1
+    assert tried >= 5, f"only {tried} commands"
+
+
+def test_commands_of_the_package(clone, python_can):
+    """those of the guide: a dump prints what a send sends, and a status has the interfaces"""
+    path, dump, send, status = next(
+        block for block in clone.blocks("docs/GUIDE.md") if any(" dump " in line for line in block)
+    )
+    with contextlib.ExitStack() as both:
+        both.enter_context(clone.running("exec ./canbusd serve can0,can1"))
+        _, dumped = both.enter_context(clone.running(f"{path}; exec {dump}", says=False))
+
+        def is_dumped():
+            assert clone.shell(f"{path}; {send}")[0] == 0, send
+            return "123   [4]  11 22 33 44" in dumped()
+
+        assert come_true(is_dumped), f"{dump}: {dumped()}"
+        written = clone.shell(f"{path}; {status}")[1]
+        assert all(re.search(rf"^ *{name} +active", written, re.M) for name in ("can0", "can1")), written
+
+
+def test_examples_of_the_manual_page(clone):
+    """the run and its audit, and that mandoc or man finds nothing wrong with the page"""
+    page = clone.read("canbusd.1")
+    examples = [
+        block.replace("\\e", "\\").replace("\\-", "-")
+        for block in re.findall(r"\.nf\n(.*?)\.fi\n", page[page.index(".SH EXAMPLES") :], re.S)
+    ]
+    status, written = clone.shell(examples[0].replace("canbusd ", "./canbusd "))
+    assert status == 0 and written == examples[1] + "ok 6 entries\n", written
+    if shutil.which("man"):
+        warnings = subprocess.run(
+            ["man", "--warnings", "-l", os.path.join(clone.folder, "canbusd.1")],
+            stdout=subprocess.DEVNULL,
+            stderr=subprocess.PIPE,
+            text=True,
+            env={**os.environ, "MANWIDTH": "100", "LC_ALL": "C.UTF-8"},
+            check=False,
+        )
+        assert warnings.stderr == "", warnings.stderr
+
+
+RAW = "feed 1 < open can0 >< rawmode >\n"
+# For each refusal of the manual page options of the bench, and lines that end with it in a run on can0,can1.
+REFUSED = {
+    "empty message": ("", "feed 1 < >"),
+    "message too long": ("", f"feed 1 < echo{' ' * 1020}>"),
+    "unknown command": ("", "feed 1 < ECHO >"),
+    "wrong state": ("", "feed 1 < send 123 0 >"),
+    "mode not supported": ("", RAW + "feed 1 < controlmode >"),
+    "bad word count": ("", RAW + "feed 1 < send 123 2 1122 >"),
+    "bad id": ("", RAW + "feed 1 < send 1234 0 >"),
+    "bad length": ("", RAW + "feed 1 < fdframes 1 >< sendfd 123 C 1 2 3 4 5 6 7 8 9 A B C >"),
+    "bad byte": ("", RAW + "feed 1 < send 123 1 100 >"),
+    "bad number": ("", RAW + "feed 1 < join 2 >"),
+    "invalid filter": ("", RAW + "feed 1 < filter 1 12345678 FFFFFFFF >"),
+    "too many filters": ("", RAW + "feed 1 < filter 513 >"),
+    "no such interface": ("", "feed 1 < open can2 >"),
+    "fd frames off": ("", RAW + "feed 1 < sendfd 123 0 >"),
+    "no buffers": ("--txqueue 1 ", RAW + "feed 1 < send 123 0 >< send 123 0 >"),
+    "bus off": ("", RAW + "feed 1 < send 123 0 >\n" + "attempt\n" * 32 + "feed 1 < send 123 0 >"),
+    "not bus off": ("", RAW + "feed 1 < restart >"),
+    "record full": ("--limit 1 ", RAW + "feed 1 < close >"),
+}
+# A server says the one to a 65th client, and nobody can ask for the other.
+NOT_TRIED = {"too many sessions", "no memory"}
+
+
+def last_reply(clone, options, lines):
+    """What the last line of a run on can0,can1 writes, where each attempt fails."""
+    with open(os.path.join(clone.folder, "all.script"), "w", encoding="ascii") as file:
+        file.write("".join(f"{number} global bit\n" for number in range(32)))
+    with open(os.path.join(clone.folder, "refused.bench"), "w", encoding="ascii") as file:
+        file.write(f"session 1\n{lines}\n")
+    status, written = clone.shell(f"./canbusd bench {options}can0,can1@all.script <refused.bench")
+    assert status == 0, written
+    return written.splitlines()[-1]
+
+
+def test_refusals_of_the_manual_page(clone):
+    """each text that a client can provoke, and no other; how many filters a message has room for"""
+    page = clone.read("canbusd.1")
+    listed = re.findall(r"^\.TP\n\.B (.*)$", page[page.index(".SH REFUSALS") : page.index(".SH LIMITS")], re.M)
+    assert sorted(listed) == sorted(REFUSED.keys() | NOT_TRIED), f"listed are {listed}"
+    for text, (options, lines) in REFUSED.items():
+        assert re.fullmatch(rf"1 (< ok >)*< error {text} >", last_reply(clone, options, lines)), text
+    rooms = re.findall(r"(\d+)(?: filters)? such as\s+\\fB(\w+ \w+)\\fR", page)
+    assert len(rooms) == 3, f"rooms for filters: {rooms}"
+    for count, words in ((int(count), words) for count, words in rooms):
+        for more, reply in ((0, "1 < ok >"), (1, "1 < error message too long >")):
+            filters = f"< filter {count + more}{f' {words}' * (count + more)} >"
+            assert last_reply(clone, "", f"{RAW}feed 1 {filters}") == reply, f"{count + more} filters {words}"
+
+
+def test_targets_without_the_toolchain(clone):
+    """make install and uninstall with a space in PREFIX; the others say what they lack"""
+    status, written = clone.shell(
+        'make install PREFIX="$PWD/a place" && cd / && "$OLDPWD/a place/bin/canbusd" --version && '
+        '"$OLDPWD/a place/bin/canbusd-report" --help && "$OLDPWD/a place/bin/candump2bench" --help'
+    )
+    assert status == 0, written
+    assert clone.shell('make uninstall PREFIX="$PWD/a place"')[0] == 0, "make uninstall"
+    left = [
+        os.path.join(folder, name)
+        for folder, _, names in os.walk(os.path.join(clone.folder, "a place"))
+        for name in names
+    ]
+    assert not left, f"left: {left}"
+    for target in ("all", "test", "quick", "verify-dist"):
+        status, written = clone.shell(f"make -s {target}")
+        assert status != 0, f"make {target}: status 0"
+        assert re.fullmatch(r"canbusd: .* the command rt .*\nmake: \*\*\* .*\n", written), f"make {target}: {written}"
+
+
+def test_a_changed_source(clone):
+    """./canbusd names the file, and the command that it shows brings the stored program back"""
+    source = "crates/can_confine/src/counters.rt"
+    with open(os.path.join(clone.folder, source), "a", encoding="utf-8") as file:
+        file.write("// a change\n")
+    status, written = clone.shell("./canbusd --version")
+    assert status == 1 and f"  changed: {source}\n" in written, written
+    shown = re.search("`(git checkout .*)`", written)
+    assert shown and clone.shell(shown[1])[0] == 0, f"git checkout: {written}"
+    status, written = clone.shell("./canbusd --version")
+    assert status == 0, written

@@ -1,0 +1,220 @@
+"""The launcher ./canbusd in a copy of the repository whose dist/ fits its sources, and installed.
+
+It is called from other folders, after changes of the sources, and where the copy can't be written. Nothing is ever
+built: the command rt is not on the PATH.
+"""
+
+import functools
+import hashlib
+import os
+import shutil
+import signal
+import subprocess
+
+import pytest
+
+from serving import ROOT, WAIT, come_true, plain, program, serving
+
+SOURCE = "crates/can_confine/src/counters.rt"
+
+
+class Copy:
+    """A copy of the repository, without what was built."""
+
+    def __init__(self, folder):
+        self.folder, self.launcher = folder / "copy", folder / "copy" / "canbusd"
+        self.environment = {"PATH": "/usr/bin:/bin", "HOME": str(folder), "XDG_CACHE_HOME": str(folder / "cache")}
+        without = shutil.ignore_patterns(".git", "out", "__pycache__")
+        shutil.copytree(ROOT, self.folder, symlinks=True, ignore=without)
+        shutil.copy(program(), self.folder / "dist" / "canbusd")
+        sources = subprocess.check_output([self.folder / "scripts" / "program", "sources"], text=True)
+        hashed = hashlib.sha256((self.folder / "dist" / "canbusd").read_bytes()).hexdigest()
+        (self.folder / "dist" / "BUILT").write_text(f"sources {sources}kit none\nprogram {hashed}\n")
+
+    def run(self, *words, **how):
+        """What a command does in the copy."""
+        how = {"cwd": self.folder, "env": self.environment, **how}
+        return subprocess.run(words, stdin=subprocess.DEVNULL, capture_output=True, text=True, check=False, **how)
+
+    def status(self, *words, **how):
+        return self.run(*words, **how).returncode
+
+    def make(self, *words):
+        done = self.run("make", "-s", *words)
+        assert done.returncode == 0, done.stderr
+
+
+@pytest.fixture
+def copy(tmp_path):
+    return Copy(tmp_path)
+
+
+@pytest.fixture(scope="module")
+def launchers(tmp_path_factory):
+    """A launcher in a copy, and one that is installed, each called through a link."""
+    folder = tmp_path_factory.mktemp("launchers")
+    copy = Copy(folder)
+    copy.make("install", f"PREFIX={folder}/a place/y")
+    (folder / "linked").symlink_to(copy.launcher)
+    (folder / "installed").symlink_to(folder / "a place" / "y" / "bin" / "canbusd")
+    return {"copy": str(folder / "linked"), "installed": str(folder / "installed")}
+
+
+def on_path(folder):
+    """An environment whose PATH begins with this folder."""
+    return {"PATH": f"{folder}:/usr/bin:/bin", "HOME": str(folder)}
+
+
+def test_calls(copy, tmp_path):
+    """again, from other folders, through a link, on the PATH; the status is the program's"""
+    assert [copy.status("./canbusd", "--version") for _ in range(2)] == [0, 0]
+    assert copy.status("./canbusd", "bench") == 2
+    (tmp_path / "bin").mkdir()
+    (tmp_path / "bin" / "linked").symlink_to(copy.launcher)
+    assert copy.status(tmp_path / "bin" / "linked", "--version", cwd="/") == 0
+    assert copy.status("linked", "--version", cwd="/", env=on_path(tmp_path / "bin")) == 0
+    assert copy.status("../canbusd", "--version", cwd=copy.folder / "crates") == 0
+
+
+def test_changed_source(copy):
+    """the program of other sources is not run, whatever the time of the changed file"""
+    source = copy.folder / SOURCE
+    text = source.read_text()
+    assert copy.status("./canbusd", "--version") == 0
+    source.write_text(text + "// a change\n")
+    assert copy.status("./canbusd", "--version") == 1
+    source.write_text(text)
+    assert copy.status("./canbusd", "--version") == 0
+    source.write_text("".join(text.splitlines(True)[1:]))
+    os.utime(source, (1577836800, 1577836800))
+    assert copy.status("./canbusd", "--version") == 1
+
+
+def test_definitions_taken_away(copy):
+    specs = copy.folder / "crates" / "can_confine" / "specs"
+    assert copy.status("./canbusd", "--version") == 0
+    specs.rename(copy.folder.parent / "specs")
+    assert copy.status("./canbusd", "--version") == 1
+    (copy.folder.parent / "specs").rename(specs)
+    assert copy.status("./canbusd", "--version") == 0
+
+
+def test_changed_proof(copy):
+    """a change of a proof makes no other program"""
+    assert copy.status("./canbusd", "--version") == 0
+    with open(copy.folder / "crates" / "can_confine" / "proofs" / "Lib.antt", "a", encoding="utf-8") as proof:
+        proof.write("-- a remark\n")
+    assert copy.status("./canbusd", "--version") == 0
+
+
+def test_damaged_program(copy):
+    with open(copy.folder / "dist" / "canbusd", "ab") as file:
+        file.write(b"x\n")
+    assert copy.status("./canbusd", "--version") == 1
+
+
+@pytest.mark.skipif(os.geteuid() == 0, reason="root may write everywhere")
+def test_folder_that_cannot_be_written(copy, tmp_path):
+    """which program fits is kept in the user's cache"""
+    copy.run("chmod", "-R", "a-w", copy.folder)
+    try:
+        assert copy.status("./canbusd", "--version") == 0
+        assert list((tmp_path / "cache").rglob("choice"))
+    finally:
+        copy.run("chmod", "-R", "u+w", copy.folder)
+
+
+def files_in(folder):
+    return [path for path in folder.rglob("*") if not path.is_dir()]
+
+
+def test_installed(copy, tmp_path):
+    """called by its path, through a link and on the PATH; nothing is left once it is uninstalled"""
+    place = tmp_path / "a place" / "y"
+    copy.make("install", f"PREFIX={place}")
+    launcher = place / "bin" / "canbusd"
+    (tmp_path / "installed").symlink_to(launcher)
+    assert copy.status(launcher, "--version") == 0
+    assert copy.status(tmp_path / "installed", "--version") == 0
+    assert copy.status("canbusd", "--version", cwd="/", env=on_path(place / "bin")) == 0
+    copy.make("uninstall", f"PREFIX={place}")
+    assert files_in(place) == []
+    assert [path for path in place.rglob("*") if "canbusd" in path.name or path.name == "libexec"] == []
+
+
+def test_staged(copy, tmp_path):
+    """installed below DESTDIR"""
+    words = "PREFIX=/usr", f"DESTDIR={tmp_path}/staged"
+    copy.make("install", *words)
+    assert copy.status(tmp_path / "staged" / "usr" / "bin" / "canbusd", "--version") == 0
+    copy.make("uninstall", *words)
+    assert files_in(tmp_path / "staged") == []
+
+
+def to_launcher(number, child, _):
+    os.kill(child.pid, number)
+
+
+def to_all(number, child, _):
+    """As the terminal does, which signals the whole group of processes."""
+    os.killpg(child.pid, number)
+
+
+def let_go(child, _):
+    child.stdin.close()
+
+
+def hang_up(_, client):
+    client.close()
+
+
+# How a server is ended: the words that it is given, how many sessions, what is done, and the status.
+ENDS = {
+    "Ctrl-C": ([], 10, functools.partial(to_all, signal.SIGINT), 0),
+    "SIGINT": ([], 10, functools.partial(to_launcher, signal.SIGINT), 0),
+    "SIGTERM": ([], 10, functools.partial(to_launcher, signal.SIGTERM), 0),
+    "SIGTERM to all": ([], 10, functools.partial(to_all, signal.SIGTERM), 0),
+    "the terminal goes": ([], 10, functools.partial(to_all, signal.SIGHUP), 0),
+    "Ctrl-\\": ([], 10, functools.partial(to_all, signal.SIGQUIT), 137),
+    "SIGKILL": ([], 10, functools.partial(to_launcher, signal.SIGKILL), -signal.SIGKILL),
+    "its sessions are used up": ([], 1, hang_up, 0),
+    "--until-eof, its input ends": (["--until-eof"], 10, let_go, 0),
+    "--until-eof, Ctrl-C": (["--until-eof"], 10, functools.partial(to_all, signal.SIGINT), 0),
+    "--until-eof, SIGTERM": (["--until-eof"], 10, functools.partial(to_launcher, signal.SIGTERM), 0),
+    "--until-eof, its sessions are used up": (["--until-eof"], 1, hang_up, 0),
+}
+
+
+def nobody_in(group):
+    """Whether a group of processes has ended."""
+    try:
+        os.killpg(group, 0)
+    except ProcessLookupError:
+        return True
+    return False
+
+
+@pytest.mark.parametrize("place", ["copy", "installed"])
+@pytest.mark.parametrize("end", ENDS)
+def test_end_of_a_server(launchers, place, end):
+    """it leaves no process, and except after Ctrl-\\ the record of its session's `open` and `close`"""
+    words, sessions, ends, wanted = ENDS[end]
+    words = ["--sessions", str(sessions), *words, "can0"]
+    with serving(*words, launcher=launchers[place], stdin=subprocess.PIPE) as server:
+        client = plain(server, "can0")
+        ends(server.child, client)
+        assert server.child.wait(WAIT) == wanted, server.said()
+        # After SIGKILL of its launcher the server comes to its end by itself.
+        assert come_true(lambda: nobody_in(server.child.pid)) if end == "SIGKILL" else nobody_in(server.child.pid)
+        if end != "Ctrl-\\":
+            assert server.child.stdout.read() == "bus can0 entries 2\n"
+            assert server.audited("can0.rec") == 2
+        client.close()
+
+
+@pytest.mark.parametrize("place", ["copy", "installed"])
+def test_words_of_serve(launchers, place):
+    """help, and a fault of the command line"""
+    for words, status in ((["--help"], 0), ([], 2)):
+        done = subprocess.run([launchers[place], "serve", *words], capture_output=True, check=False)
+        assert done.returncode == status, done.stderr

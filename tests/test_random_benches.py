@@ -1,0 +1,59 @@
+"""`canbusd bench` beside an independent program, on random runs.
+
+--other SOURCE.c is compiled with cc; what it makes is called as `PROGRAM bench OPTIONS BUS`, as canbusd is. Standard
+output, the status and the line of a fault have to be the same (of a fault of the command line the status only).
+"""
+
+import itertools
+import os
+import shlex
+import subprocess
+
+import pytest
+
+from random_benches import Maker
+
+
+@pytest.fixture
+def other(request, tmp_path):
+    """The other program."""
+    source = request.config.getoption("other")
+    if not source:
+        pytest.skip("no --other SOURCE.c is given")
+    program = tmp_path / "other"
+    compiler = os.environ.get("CC", "cc")
+    subprocess.run([compiler, "-O2", "-march=native", "-o", program, source], check=True)
+    return str(program)
+
+
+def run(program, case, folder):
+    return subprocess.run(
+        [program] + case.words, input=case.text, cwd=folder, capture_output=True, timeout=60, check=False
+    )
+
+
+def difference(one, other):
+    """What differs first between two runs, or None."""
+    if one.returncode != other.returncode:
+        return f"status {one.returncode}, other {other.returncode}: {one.stderr!r}, other {other.stderr!r}"
+    # What follows the line of a fault is our own, and so is what is said after a run that came to its end.
+    if one.returncode == 1 and one.stderr.splitlines()[:1] != other.stderr.splitlines()[:1]:
+        return f"standard error {one.stderr!r}, other {other.stderr!r}"
+    lines = itertools.zip_longest(one.stdout.split(b"\n"), other.stdout.split(b"\n"))
+    for number, (here, there) in enumerate(lines, 1):
+        if here != there:
+            return f"line {number} of the output: {here!r}, other {there!r}"
+    return None
+
+
+def test_beside_an_independent_program(request, program, other, cases, tmp_path):
+    """random runs; the files of those that differ are kept"""
+    maker, faults = Maker(request.config.getoption("seed")), []
+    for number in range(cases):
+        case, folder = maker.case(), tmp_path / str(number % 2)
+        case.write_to(folder)
+        differs = difference(run(program, case, folder), run(other, case, folder))
+        if differs:
+            case.write_to(tmp_path / f"differs{number}")
+            faults.append(f"{tmp_path}/differs{number}: {shlex.join(case.words)}: {differs}")
+    assert not faults, "\n".join(faults[:10])

@@ -1,0 +1,364 @@
+"""`canbusd serve` with plain sockets: records that fill, clients that go, and how it ends."""
+
+import contextlib
+import os
+import resource
+import signal
+import socket
+import subprocess
+import threading
+import time
+
+import pytest
+
+from serving import WAIT, Plain, come_true, line_of, plain, program, serving, serving_alone
+
+
+def test_full_record():
+    """it is told once and to each call, and nothing spins"""
+    with serving("--limit", "5", "can0,can1", "can2") as server:
+        can0, can1 = plain(server, "can0"), plain(server, "can1")
+        can0.tell("< send 123 1 5 >")
+        assert can1.frame() == ("123", b"\x05"), "not the frame"
+        for one in (can0, can1, can0):
+            told_by = one.answer("< send 123 0 >")
+            assert told_by == "< error record full >", told_by
+        others = can0.answer("< echo >"), can0.answer("< stats >"), can0.answer("< status >")
+        assert others == ("< echo >", "< stats 0 0 0 1 1 0 0 0 >", "< status active 0 0 >"), f"{others}"
+        before = server.ticks()
+        time.sleep(1)
+        assert server.ticks() - before <= 5, f"{server.ticks() - before} hundredths of a second in one"
+        assert plain(server, "can2").answer("< filter 0 >") == "< ok >", "the other bus"
+        written = server.end("canbusd: bus can0: record full")
+        assert written == "bus can0 entries 5\nbus can2 entries 3\n", written
+        assert server.audited("can0.rec") == 5, "the audit"
+
+
+def test_slow_reader():
+    """what it does not take is dropped and counted, and nobody else waits for it"""
+    with serving(
+        "--pace", "0", "--txqueue", "1024", "--rxqueue", "100", "can0,can1", address="./slow.socket"
+    ) as server:
+        sender, slow, quick = plain(server, "can0"), plain(server, "can1"), plain(server, "can1")
+        asleep = plain(server, "can1")
+        numbers = list(range(3000))
+        for number in numbers:
+            sender.tell(f"< send 123 2 {number >> 8:x} {number & 255:x} >")
+            got = int.from_bytes(quick.frame()[1], "big")
+            assert got == number, f"{got} instead of {number}"
+        got, taken, queued = [], 0, None
+        # An answer comes among the frames, wherever the session has come to.
+        while taken != queued or len(got) < taken:
+            slow.tell("< stats >")
+            for text in iter(slow.text, ""):
+                if text.startswith("< stats "):
+                    queued, dropped, taken = map(int, text.split()[2:5])
+                    break
+                got.append(int(text.split()[4], 16))
+        assert got == sorted(set(got)) and queued + dropped == 3000 and dropped > 0, f"{len(got)} frames, {text}"
+        server.end()
+        asleep.close()
+
+
+def test_clients_that_go():
+    """half a message, a sending side shut down; the others get their frames"""
+    with serving("can0,can1") as server:
+        can0, can1 = plain(server, "can0"), plain(server, "can1")
+        gone, half = plain(server, "can0"), plain(server, "can1")
+        gone.tell("< send 123 8 1")
+        gone.close()
+        half.socket.shutdown(socket.SHUT_WR)
+        assert half.text() == "", "a session went on without its client's input"
+        can0.tell("< send 124 0 >")
+        assert can1.frame() == ("124", b""), "not the frame"
+        written = server.end()
+        assert written == f"bus can0 entries {server.audited('can0.rec')}\n", written
+
+
+def test_too_many_sessions():
+    """64 at once, and the 65th"""
+    with serving("can0") as server:
+        clients = [plain(server, "can0") for _ in range(64)]
+        last = Plain(server)
+        texts = last.text(), last.text()
+        assert texts == ("< error too many sessions >", ""), f"{texts}"
+        clients.pop().close()
+        until = time.monotonic() + WAIT
+        while Plain(server).text() != "< hi >":
+            assert time.monotonic() < until, "nobody comes in once one has gone"
+        before = server.ticks()
+        time.sleep(1)
+        assert server.ticks() - before <= 5, f"{server.ticks() - before} hundredths of a second in one of idleness"
+
+
+def test_sessions_that_come_and_go():
+    """2,000 of them, some in the middle of what they say: nothing of them stays"""
+    openings = [
+        "",
+        "< open can0 >",
+        "< open can0 >< rawmode >< send 123 1 2 >",
+        "< open can1 >< rawmode >< close >",
+        "<<<>>> \0 < send",
+        "< open can0 >< rawmode >" + "< send 7FF 8 1 2 3 4 5 6 7 8 >" * 50,
+    ]
+    with serving("--pace", "0", "--txqueue", "1024", "can0,can1") as server:
+        # All threads of the server stand once somebody was greeted and nothing changes any more.
+        with contextlib.closing(Plain(server)) as visitor:
+            visitor.text()
+        before, earlier = server.held(), None
+        while before != earlier:
+            time.sleep(0.2)
+            before, earlier = server.held(), before
+
+        def visit(first):
+            for number in range(first, first + 250):
+                with contextlib.suppress(OSError), contextlib.closing(Plain(server)) as visitor:
+                    visitor.tell(openings[number % len(openings)])
+                    if number % 4:
+                        visitor.text()
+
+        threads = [threading.Thread(target=visit, args=(first,)) for first in range(0, 2000, 250)]
+        for thread in threads:
+            thread.start()
+        for thread in threads:
+            thread.join()
+        until = time.monotonic() + WAIT
+        while server.held() > before and time.monotonic() < until:
+            time.sleep(0.05)
+        assert server.held() == before, f"{server.held()} descriptors and threads, {before} before"
+        server.end()
+        server.audited("can0.rec")
+
+
+def test_ends_while_busy():
+    """Ctrl-C while all sessions send and receive"""
+    for _ in range(5):
+        with serving("--pace", "0", "--txqueue", "1024", "--rxqueue", "65536", "can0,can1", "can2,can3") as server:
+            clients = [plain(server, f"can{number}") for number in (0, 0, 1, 2, 3)]
+
+            def send(one):
+                with contextlib.suppress(OSError):
+                    while True:
+                        one.tell("< send 123 4 11 22 33 44 >< send 92345678 0 >")
+                        one.socket.recv(65536)
+
+            threads = [threading.Thread(target=send, args=(one,)) for one in clients]
+            for thread in threads:
+                thread.start()
+            time.sleep(0.3)
+            written = server.end()
+            for thread in threads:
+                thread.join()
+            audited = [server.audited(name) for name in ("can0.rec", "can2.rec")]
+            assert written == f"bus can0 entries {audited[0]}\nbus can2 entries {audited[1]}\n", written
+
+
+def test_unix_path(tmp_path):
+    """a socket file that nobody listens at is taken over, and is gone in the end; one that is in use is left"""
+    path = os.path.join(tmp_path, "socket")
+    with socket.socket(socket.AF_UNIX) as stale:
+        stale.bind(path)
+    with serving("can0", address=path) as server:
+        assert server.address == path, server.address
+        second = subprocess.run(
+            [program(), "serve", "--listen", path, "can0"],
+            stdin=subprocess.DEVNULL,
+            capture_output=True,
+            text=True,
+            timeout=WAIT,
+            check=False,
+        )
+        assert second.returncode == 1 and second.stderr.startswith("canbusd: cannot listen\n"), f"{second}"
+        assert plain(server, "can0").answer("< echo >") == "< echo >", "the first server"
+        server.end()
+    assert not os.path.exists(path), "the file is still there"
+
+
+def connected(server):
+    """A connection to a server, or None where it is refused."""
+    with contextlib.suppress(ConnectionRefusedError, ConnectionResetError, FileNotFoundError):
+        if ":" in server.address:
+            return socket.create_connection((server.host, server.port), WAIT)
+        one = socket.socket(socket.AF_UNIX)
+        one.settimeout(WAIT)
+        try:
+            one.connect(server.address)
+            return one
+        except BaseException:
+            one.close()
+            raise
+    return None
+
+
+def heard(connection):
+    """All that a connection reads to its end.
+
+    It says something first: a connection that Linux dropped on the side of the server as it was made hears of that only
+    then.
+    """
+    text = b""
+    with contextlib.suppress(ConnectionResetError, BrokenPipeError):
+        connection.sendall(b" ")
+        while piece := connection.recv(4096):
+            text += piece
+    return text
+
+
+@pytest.mark.slow
+def test_ends_in_bursts():
+    """1,000 servers that are told to end while clients come: each ends, and tells nobody another reason"""
+    for number in range(1000):
+        path = "./burst.socket" if number % 2 else "127.0.0.1:0"
+        with contextlib.ExitStack() as stack:
+            server = stack.enter_context(serving_alone("can0", address=path))
+            if number % 2:
+                server.address = server.path("burst.socket")
+            burst = [connected(server) for _ in range(number % 24)]
+            server.child.stdin.close()
+            while len(burst) < 60 and burst[-1:] != [None]:
+                burst.append(connected(server))
+            for one in filter(None, burst):
+                stack.enter_context(one)
+            try:
+                assert server.child.wait(WAIT) == 0, f"burst {number}: status {server.child.returncode}"
+            except subprocess.TimeoutExpired:
+                raise AssertionError(f"burst {number}: the server goes on") from None
+            for one in filter(None, burst):
+                assert heard(one) in (b"", b"< hi >"), f"burst {number}: a client was told something else"
+
+
+def test_door_after_the_last_session():
+    """who comes once --sessions have come is refused at once, and so is who waited"""
+    for address in ("127.0.0.1:0", "./last.socket"):
+        with serving_alone("--sessions", "1", "can0", address=address) as server:
+            if ":" not in address:
+                server.address = server.path("last.socket")
+            with contextlib.closing(Plain(server)) as first:
+                assert first.text() == "< hi >", "the session"
+                until = time.monotonic() + WAIT
+                while (late := connected(server)) is not None:
+                    with late:
+                        assert heard(late) == b"", "a client that came too late was told something"
+                    assert time.monotonic() < until, "newcomers connect"
+                assert first.answer("< open can0 >") == "< ok >", "the session goes on"
+            assert server.child.wait(WAIT) == 0, "the end"
+
+
+def test_attempts_in_vain_at_the_end(tmp_path):
+    """a frame that nobody acknowledges, and an interface that waits for its restart, do not hold up the end"""
+    most = 16777216
+    with serving("--ack", "peers", "--pace", "0", "--limit", str(most), "can0") as server:
+        plain(server, "can0").tell("< send 123 0 >")
+        server.end()
+        assert server.audited("can0.rec") < most
+    script = tmp_path / "faults"
+    script.write_text("".join(f"{number} global bit\n" for number in range(32)))
+    with serving("--auto-restart", "1000000", f"can0,can1@{script}") as server:
+        one = plain(server, "can0")
+        one.tell("< send 123 0 >")
+        assert come_true(lambda: one.answer("< status >").startswith("< status off ")), "bus off"
+        server.end()
+        assert server.audited("can0.rec") < 1000000
+
+
+def test_own_socket_file(tmp_path):
+    """a server removes its own file alone; a path belongs to one server"""
+    path = os.path.join(tmp_path, "socket")
+
+    def second():
+        return subprocess.run(
+            [program(), "serve", "--listen", path, "can0"],
+            stdin=subprocess.DEVNULL,
+            capture_output=True,
+            text=True,
+            timeout=WAIT,
+            check=False,
+        )
+
+    # Another server that asks for the path is no session of the first, also where the first does not run.
+    with serving_alone("--sessions", "1", "can0", address=path) as server:
+        assert second().returncode == 1, "two servers have one path"
+        os.kill(server.child.pid, signal.SIGSTOP)
+        waiting = [socket.socket(socket.AF_UNIX) for _ in range(200)]
+        for one in waiting:
+            one.setblocking(False)
+            with contextlib.suppress(BlockingIOError):
+                one.connect(path)
+        assert second().returncode == 1, "two servers have one path, one of them stopped"
+        for one in waiting:
+            one.close()
+        os.kill(server.child.pid, signal.SIGCONT)
+        assert server.child.wait(WAIT) == 0, "the end"
+    assert os.listdir(tmp_path) == [], f"{os.listdir(tmp_path)} is left"
+    # A file that took the socket's place stays.
+    for kind in ("file", "socket"):
+        with serving_alone("can0", address=path) as server:
+            os.unlink(path)
+            with socket.socket(socket.AF_UNIX) as other:
+                if kind == "file":
+                    with open(path, "wb") as file:
+                        file.write(b"mine")
+                else:
+                    other.bind(path)
+                    other.listen()
+                server.end()
+                assert os.listdir(tmp_path) == ["socket"], f"{os.listdir(tmp_path)} is left of a {kind}"
+        os.unlink(path)
+    # A server that was killed leaves its file to the next, and of two that come at once one gets it.
+    for _ in range(100):
+        with serving_alone("can0", address=path) as server:
+            server.child.kill()
+            server.child.wait()
+        assert os.path.exists(path), "the killed server's file"
+        both = [
+            subprocess.Popen(
+                [program(), "serve", "--until-eof", "--listen", path, "can0"],
+                text=True,
+                stdin=subprocess.PIPE,
+                stdout=subprocess.PIPE,
+                stderr=subprocess.DEVNULL,
+            )
+            for _ in range(2)
+        ]
+        lines = [line_of(one.stdout) for one in both]
+        for one in both:
+            one.communicate(timeout=WAIT)
+        assert sorted(lines) == ["", f"listening {path}\n"], f"{lines}"
+
+
+def test_folder_of_a_server(tmp_path):
+    """one that takes no files is noted before clients connect; files of an earlier run stay until new ones are whole"""
+    none = os.path.join(tmp_path, "none")
+    words = [program(), "serve", "--listen", "127.0.0.1:0", "--until-eof", "--out"]
+    with subprocess.Popen(
+        [*words, none, "can0"], stdin=subprocess.PIPE, stdout=subprocess.PIPE, stderr=subprocess.PIPE, text=True
+    ) as server:
+        note = line_of(server.stderr)
+        assert note.startswith(f"note: {none}/can0.rec can't be written now: "), note
+        assert line_of(server.stdout).startswith("listening "), "it listens"
+        os.mkdir(none)
+        server.stdin.close()
+        assert (server.wait(WAIT), server.stderr.read()) == (0, ""), "a folder that was made meanwhile"
+        assert sorted(os.listdir(none)) == ["can0.log", "can0.rec"], f"{os.listdir(none)}"
+    for name in ("can0.log", "can0.rec"):
+        with open(os.path.join(none, name), "w", encoding="utf-8") as file:
+            file.write(f"old {name}\n")
+
+    def may_not_grow():
+        resource.setrlimit(resource.RLIMIT_FSIZE, (0, 0))
+        signal.signal(signal.SIGXFSZ, signal.SIG_IGN)
+
+    full = subprocess.run(
+        [*words, none, "can0"],
+        input="",
+        capture_output=True,
+        text=True,
+        timeout=WAIT,
+        check=False,
+        preexec_fn=may_not_grow,
+    )
+    faults = [line for line in full.stderr.splitlines() if not line.startswith("  ")]
+    assert (full.returncode, faults) == (1, ["canbusd: write fault"]), f"{full}"
+    with open(os.path.join(none, "can0.rec"), encoding="utf-8") as file:
+        assert file.read() == "old can0.rec\n"
+    assert sorted(os.listdir(none)) == ["can0.log", "can0.rec"], f"{os.listdir(none)}"
