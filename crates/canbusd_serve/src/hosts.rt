@@ -3,7 +3,7 @@ ghost use Rattle.std.specs.Prelude.{◌≡◌, ◌-◌, ◌^◌, ◌/◌, min};
 ghost use Rattle.std.specs.Duration.{as_nanos};
 
 use can_frame::Moment;
-use can_serving::Clock;
+use can_server::{Clock, Notice};
 use canbusd_options::BusWord;
 use std::io::Write;
 use std::sync::atomic::{AtomicBool, Ordering};
@@ -33,18 +33,20 @@ impl<H: Wait + time::Clock, E: Write> Clock for Host<'_, '_, '_, H, E> {
         }
     }
 
-    fn bus_is_full(&self, bus: usize) {
-        self.tell(bus, "record full");
-    }
-
-    fn bus_has_no_driver(&self, bus: usize) {
-        self.has_lost.store(true, Ordering::SeqCst);
-        self.tell(bus, "no memory");
+    fn tell(&self, notice: Notice) {
+        match notice {
+            Notice::Full { bus } => self.put_fault(bus, "record full"),
+            Notice::NoDriver { bus } => {
+                self.has_lost.store(true, Ordering::SeqCst);
+                self.put_fault(bus, "no memory");
+            }
+            _ => {}
+        }
     }
 }
 
 impl<H: Wait, E: Write> Host<'_, '_, '_, H, E> {
-    fn tell(&self, bus: usize, what: &str) {
+    fn put_fault(&self, bus: usize, what: &str) {
         if let Some(bus) = self.buses.get(bus) {
             let name = bus.first_name();
             let mut errors = self.errors.lock(self.rt);

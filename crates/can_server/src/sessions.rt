@@ -1,9 +1,12 @@
-use crate::accepting::Guest;
+use crate::accepting::Admitted;
 use crate::conns::Conn;
+use crate::notices::Notice;
 use crate::server::Server;
 use crate::serving::Clock;
+use crate::sums::Sums;
 use crate::talks::{Place, Talk};
 use can_fault::FaultSource;
+use can_frame::Iface;
 use can_meter::MeterName;
 use can_roll::RollName;
 use can_station::{Gate, Pass, Station, Wake};
@@ -39,31 +42,51 @@ impl<
     R: Threads + Wait + time::Clock + Sync,
 > Server<'a, N, F, G, C, R> {
     /// Runs a session to its end, and hands its pass back. Its place is free before the client sees the end.
-    pub fn run_session(&self, guest: Guest) {
-        let Guest { conn, place } = guest;
-        if let Some(pass) = self.converse(&conn) {
+    pub fn run_session(&self, place: usize, session: u32) {
+        let Some(conn) = self.guests.lock(self.rt).conn(place) else {
+            return;
+        };
+        let admitted = Admitted {
+            conn,
+            place,
+            session,
+        };
+        let mut sums = Sums::none();
+        if let Some(pass) = self.converse(&admitted) {
+            if self.host.is_curious() {
+                sums = Sums::of(&pass);
+            }
             self.returned.lock(self.rt).take(pass);
         }
-        self.guests.lock(self.rt).leave(place);
-        conn.shutdown();
+        self.let_go(admitted.place);
+        admitted.conn.shutdown();
+        self.tell_end(admitted.session, sums);
     }
 
     /// Talks with a client to the end: the pass, where it opened a bus.
-    fn converse(&self, conn: &Conn) -> Option<Pass<N>> {
+    fn converse(&self, admitted: &Admitted) -> Option<Pass<N>> {
         let mut talk = Talk::new(self.rt, self.alloc, self.hub).ok()?;
-        if !talk.greet(conn) {
+        if !talk.greet(&admitted.conn) {
             return None;
         }
         let talk = Mutex::new(talk);
-        self.hear_all(&talk, conn);
+        self.hear_all(&talk, admitted);
         talk.into_inner().into_pass()
     }
 
-    /// Reads what the client says. Once the session is raw, a thread delivers its items beside.
-    fn hear_all(&self, talk: &Mutex<Talk<'_, N, F, G, R>>, conn: &Conn) {
+    /// Reads what the client says. Once the session is raw, its guest keeps its place, and a thread delivers its items
+    /// beside.
+    fn hear_all(&self, talk: &Mutex<Talk<'_, N, F, G, R>>, admitted: &Admitted) {
+        let conn = &*admitted.conn;
         let Some(place) = self.hear_until_raw(talk, conn) else {
             return;
         };
+        self.guests.lock(self.rt).keep(admitted.place);
+        self.host.tell(Notice::Opened {
+            session: admitted.session,
+            bus: usize::from(place.station.number()),
+            iface: place.iface,
+        });
         let place = &place;
         thread::scope(thread::scope_env(), self.rt, |scope| {
             let delivers = scope
@@ -140,6 +163,14 @@ impl<
         }
     }
 
+    /// Tells the host that a session has restarted an interface, if it has.
+    fn tell_restart(&self, station: &Station<N, F, G>, restarted: Option<Iface>) {
+        if let Some(iface) = restarted {
+            let bus = usize::from(station.number());
+            self.host.tell(Notice::Restarted { bus, iface });
+        }
+    }
+
     /// Reads one piece, and carries it out.
     fn hear(&self, talk: &Mutex<Talk<'_, N, F, G, R>>, conn: &Conn) -> Heard {
         let mut piece = [0_u8; PIECE];
@@ -151,9 +182,15 @@ impl<
         let mut talk = talk.lock(self.rt);
         let goes_on = talk.feed(self.alloc, &piece[..count], moment, conn);
         let station = talk.station();
+        let restarted = if self.host.is_curious() {
+            talk.look_for_restart()
+        } else {
+            None
+        };
         drop(talk);
         if let Some(station) = station {
             self.stop_full(station);
+            self.tell_restart(station, restarted);
         }
         if goes_on { Heard::More } else { Heard::Over }
     }
