@@ -45,11 +45,11 @@ grown name written seen None new piece a = tt
 grown name written seen (Some text) None piece a = absurd a
 grown name written seen (Some text) (Some after) piece a = elim (decide (saw written seen text)) [
   | inl is ↦
-    let more = saw_more written seen text piece is in
-    let now : told name true (written + length piece) (seen_in seen piece) (Some after) ≡ Some (name ∷ suc (length text - written) ∷ (text ++ piece)) =
-    ap (λ l. told name true (written + length piece) (seen_in seen piece) (Some l)) a ∙ told_on name _ _ _ more.1 ∙ ap (λ n. Some (name ∷ suc n ∷ (text ++ piece))) more.0 in
-    subst (λ o. Appends (told name true written seen (Some text)) o piece) (sym now)
-    (subst (λ o. Appends o (Some (name ∷ suc (length text - written) ∷ (text ++ piece))) piece) (sym (told_on name written seen text is)) refl)
+      let more = saw_more written seen text piece is in
+      let now : told name true (written + length piece) (seen_in seen piece) (Some after) ≡ Some (name ∷ suc (length text - written) ∷ (text ++ piece)) =
+      ap (λ l. told name true (written + length piece) (seen_in seen piece) (Some l)) a ∙ told_on name _ _ _ more.1 ∙ ap (λ n. Some (name ∷ suc n ∷ (text ++ piece))) more.0 in
+      subst (λ o. Appends (told name true written seen (Some text)) o piece) (sym now)
+      (subst (λ o. Appends o (Some (name ∷ suc (length text - written) ∷ (text ++ piece))) piece) (sym (told_on name written seen text is)) refl)
   | inr not ↦ subst (λ o. Appends o (told name true (written + length piece) (seen_in seen piece) (Some after)) piece) (sym (told_off name written seen text not)) tt
 ]
 
@@ -105,19 +105,19 @@ wrote name is is_on on w s (Some bytes) (Some after) text a =
 -- a refusal is seen
 letter_seen : (letter : ℕ) → 97 ≤ letter → letter ≤ 122 → seen_after 8 letter ≡ 9
 letter_seen letter least most = by_tests (letter == 60) (nat_le 97 letter) (nat_le letter 122) (ne_eqb _ _ (omega arith)) (le-leb _ _ least) (le-leb _ _ most)
-    where
-      by_tests : (a b c : Bool) → a ≡ false → b ≡ true → c ≡ true → ◌≡◌ {A = ℕ} (if a then 1 else if b && c then 9 else (if get_or (codes "< error ") 8 60 == letter then 9 else 0)) 9
-      by_tests false true true e f g = refl
-      by_tests true b c e f g = absurd (true≢false e)
-      by_tests false false c e f g = absurd (true≢false (sym f))
-      by_tests false true false e f g = absurd (true≢false (sym g))
+  where
+    by_tests : (a b c : Bool) → a ≡ false → b ≡ true → c ≡ true → ◌≡◌ {A = ℕ} (if a then 1 else if b && c then 9 else (if get_or (codes "< error ") 8 60 == letter then 9 else 0)) 9
+    by_tests false true true e f g = refl
+    by_tests true b c e f g = absurd (true≢false e)
+    by_tests false false c e f g = absurd (true≢false (sym f))
+    by_tests false true false e f g = absurd (true≢false (sym g))
 
 behind_front : (m letter : ℕ) (after : List ℕ) → 97 ≤ letter → letter ≤ 122 → seen_in m (codes "< error " ++ letter ∷ after) ≡ 9
 behind_front m letter after least most = elim (decide (m == 9)) [
   | inl is ↦ ap (λ n. seen_in n (codes "< error " ++ letter ∷ after)) (eqb-true _ _ is) ∙ fold_stays seen_after 9 (λ x. refl) (codes "< error " ++ letter ∷ after)
   | inr not ↦
-    ap (λ (b : Bool). seen_in (if b then 9 else 1) (codes " error " ++ letter ∷ after)) not
-    ∙ ap (λ n. seen_in n after) (letter_seen letter least most) ∙ fold_stays seen_after 9 (λ x. refl) after
+      ap (λ (b : Bool). seen_in (if b then 9 else 1) (codes " error " ++ letter ∷ after)) not
+      ∙ ap (λ n. seen_in n after) (letter_seen letter least most) ∙ fold_stays seen_after 9 (λ x. refl) after
 ]
 
 found : (text : List ℕ) → HasRefusal text → seen_in 0 text ≡ 9
@@ -139,3 +139,32 @@ quietly name is true w s (Some bytes) (Some after) text a (inr none) =
     let rest : drop (length bytes) after ≡ text =
     ap (drop (length bytes)) t.2 ∙ drop-append-le (length bytes) bytes text (omega arith) ∙ ap (λ l. l ++ text) (drop_of_length-le bytes {i = length bytes} (omega arith)) in
     (text, t.2, λ r. none (sym here ∙ ap (seen_in 0) rest ∙ found text r))
+
+-- what a watcher tells at its start
+pub first_told : (name w s : ℕ) (on strict : Bool) (now old : Option (List ℕ)) → on ≡ strict → w ≡ 0 → s ≡ 0 → now ≡ old → told name on w s now ≡ told name strict 0 0 old
+first_told name w s on strict now old a b c d = rw (a, b, c, d) refl
+
+-- the watcher before and after a run, and the writer before it, behind it, flushed, and where its borrower gives it back
+pub record Watching {W : Type 0} (contents : W → Option (List ℕ)) (before after : Option (List ℕ)) (strict : Bool) (old behind flushed new : W) : Type 0 where
+  pub name : ℕ
+  pub is : ℕ
+  pub on : Bool
+  pub written : ℕ
+  pub seen : ℕ
+  pub first : before ≡ told name strict 0 0 (contents old)
+  pub last : after ≡ told is on written seen (contents behind)
+  pub none : (on ≡ false) ⊎ (seen ≢ 9)
+  pub back : is ≡ name → new ≡ flushed
+  pub kept : Keeps (contents behind) (contents flushed)
+
+pub seen_whole : {W : Type 0} (contents : W → Option (List ℕ)) (before after : Option (List ℕ)) (strict : Bool) (old behind flushed new : W) (w : Watching contents before after strict old behind flushed new) (text : List ℕ)
+    → Appends before after text → Appends (told w.name strict 0 0 (contents old)) (told w.is w.on w.written w.seen (contents behind)) text
+seen_whole contents before after strict old behind flushed new w text a =
+    subst (λ o. Appends o (told w.is w.on w.written w.seen (contents behind)) text) w.first (subst (λ o. Appends before o text) w.last a)
+
+pub nothing : (old new : Option (List ℕ)) (text : List ℕ) → old ≡ None → Appends old new text × GrowsQuietly old new
+nothing None new text e = (tt, tt)
+nothing (Some bytes) new text e = absurd (search (rules, e))
+
+pub quiet_if : (name is : ℕ) (strict on : Bool) (w s : ℕ) (old new : Option (List ℕ)) (text : List ℕ) → Appends (told name strict 0 0 old) (told is on w s new) text → (on ≡ false) ⊎ (s ≢ 9) → strict ≡ true → GrowsQuietly old new
+quiet_if name is strict on w s old new text a none e = quietly name is on w s old new text (subst (λ b. Appends (told name b 0 0 old) (told is on w s new) text) e a) none

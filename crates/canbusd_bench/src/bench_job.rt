@@ -79,10 +79,8 @@ fn run_out<'a, H: Files, R: Read + Drop, W: Write>(
     output
         .flush()
         .map_err(|error| write_failure(alloc, OUTPUT, &error))?;
-    Ok(Ran {
-        record: ran?,
-        refusal,
-    })
+    let record = ran?;
+    Ok(Ran { record, refusal })
 }
 
 // Writes the record and the log of a run, where they are asked for. The log never goes where the record is.

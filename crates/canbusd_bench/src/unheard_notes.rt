@@ -20,9 +20,6 @@ fn tell_session<E: Write>(unheard: Unheard, session: SessionNumber, errors: &mut
         );
     }
     if unheard.has_begun(session) {
-        let _ = writeln!(
-            errors,
-            "note: session {number}: the last message has no >"
-        );
+        let _ = writeln!(errors, "note: session {number}: the last message has no >");
     }
 }

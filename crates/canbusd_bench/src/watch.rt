@@ -88,7 +88,9 @@ impl<'w, W> Watch<'w, W> {
         let seen = seen_in(self.seen, piece);
         if seen == FOUND && self.seen != FOUND {
             self.place = self.written;
-            let _ = self.piece.extend_from_slice(&piece[..piece.len().min(KEPT)]);
+            let _ = self
+                .piece
+                .extend_from_slice(&piece[..piece.len().min(KEPT)]);
         }
         self.seen = seen;
         self.written += piece.len() as u64;
