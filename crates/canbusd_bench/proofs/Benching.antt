@@ -59,13 +59,13 @@ ran E contents o names verdicts input out new (Err why) scripted ends legal = tt
 -- what a run that came to its end has put out
 abbrev text_in : {V : Type 0} (outer : V → Option (List ℕ)) (verdicts : VerdictMap) (input : Option (List ℕ)) (b : BenchState) (v w : V) (r : Kept)
     → EndsOver outer verdicts input b v (Ok r) w → (text : List ℕ) × Appends (outer v) (outer w) text
-text_in outer verdicts input b v w r (now, lines, after, all, over, none, ran, leaves) = (ran.text, ran.wrote)
+text_in outer verdicts input b v w r (now, (lines, after, all, over, none, out, leaves)) = (out.text, out.wrote)
 
 -- the same run over another writer that takes the same text
 moved : {V W : Type 0} (outer : V → Option (List ℕ)) (contents : W → Option (List ℕ)) (verdicts : VerdictMap) (input : Option (List ℕ)) (b : BenchState) (v w : V) (old new : W) (r : Kept)
     (e : EndsOver outer verdicts input b v (Ok r) w) → Appends (contents old) (contents new) (text_in outer verdicts input b v w r e).0 → EndsOver contents verdicts input b old (Ok r) new
-moved outer contents verdicts input b v w old new r (now, lines, after, all, over, none, ran, leaves) a =
-    (now, lines, after, all, over, none, record { text = ran.text; short = ran.short; carried = ran.carried; wrote = a }, leaves)
+moved outer contents verdicts input b v w old new r (now, (lines, after, all, over, none, out, leaves)) a =
+    (now, (lines, after, all, over, none, record { text = out.text; short = out.short; carried = out.carried; wrote = a }, leaves))
 
 run_over : {V W : Type 0} (outer : V → Option (List ℕ)) (contents : W → Option (List ℕ)) (o : BenchOptions) (names : List (List ℕ)) (input : Option (List ℕ)) (v w : V) (old new : W) (r : Kept)
     (run : IsRun outer o names input v r w) → Appends (contents old) (contents new) (text_in outer run.verdicts input (begun o names) v w r run.ends).0 → IsRun contents o names input old r new

@@ -1,4 +1,4 @@
-ghost use Rattle.std.specs.Prelude.{◌≡◌, true, IfErr, IfNone, IfOk, IfSome, Ok, OnOk};
+ghost use Rattle.std.specs.Prelude.{◌≡◌, IfErr, IfNone, IfOk, IfSome, Ok, OnOk};
 ghost use Rattle.can_bus.specs.Legal.{IsLegal};
 ghost use Rattle.canbusd_faults.specs.declared.faults.Fault.TheVariants as fault;
 ghost use Rattle.canbusd_bench.specs.Benched.{EndsOver, IsBenched, IsRun, StopsBy, begun};
@@ -70,7 +70,7 @@ fn run_out<'a, H: Files, R: Read + Drop, W: Write>(
     unheard: &mut Unheard,
 ) -> Result<Ran<'a>, Failure<'a>>
     ensures ran { IfOk result (λ ran. IfNone ran.refusal (IsBenched W.contents options.entry (R.remaining input) output.old output.new)) }
-    ensures refusal { IfOk result (λ ran. IfSome ran.refusal (λ failure. (failure.fault ≡ fault.Refused) × (options.entry.is_strict ≡ true))) }
+    ensures refusal { IfOk result (λ ran. IfSome ran.refusal (λ failure. failure.fault ≡ fault.Refused)) }
 {
     let names = read_names(alloc, options.bus.names)?;
     let mut watch = Watch::new(alloc, options.is_strict, output);

@@ -53,7 +53,7 @@ impl<'w, W> Watch<'w, W> {
     /// Its writer, and the fault of a run in which a message was refused, if one was seen.
     pub fn finish<'a>(self, alloc: Global) -> (&'w mut W, Option<Failure<'a>>)
         ensures writer { result.0 ≡ self.entry.writer }
-        ensures some { IfSome result.1 (λ failure. (failure.fault ≡ fault.Refused) × (self.entry.is_on ≡ true)) }
+        ensures some { IfSome result.1 (λ failure. failure.fault ≡ fault.Refused) }
         ensures none { IfNone result.1 ((self.entry.is_on ≡ false) ⊎ (self.entry.seen ≢ 9)) }
     {
         if self.is_on && self.seen == FOUND {
