@@ -12,7 +12,7 @@ _canbusd() {
     1,*) _canbusd_offer "bench serve audit help --help --version" ;;
     *,audit) compopt -o default ;;
     *,help) _canbusd_offer "bench serve audit" ;;
-    *,bench) _canbusd_word "$options --record --log" ;;
+    *,bench) _canbusd_word "$options --record --log --strict" ;;
     *,serve) _canbusd_word "$options --listen --sessions --pace --out --until-eof" ;;
     esac
 }

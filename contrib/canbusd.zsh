@@ -34,6 +34,7 @@ _canbusd() {
         _arguments $shared \
             '--record=[write the record of the run]:file:_files' \
             '--log=[write the frames of the run as candump logs them]:file:_files' \
+            '--strict[end with status 1 if a message was refused]' \
             '1:bus:_canbusd_bus'
         ;;
     serve)

@@ -32,6 +32,7 @@ TYPED = [
     ("canbusd bench --record=ru", "n.rec "),
     ("canbusd bench --log ou", "t.txt "),
     ("canbusd bench --log=ou", "t.txt "),
+    ("canbusd bench --str", "ict "),
     ("canbusd serve --out=lo", "gs/"),
     ("canbusd serve --out lo", "gs/"),
     ("canbusd serve --until", "-eof "),
@@ -50,6 +51,7 @@ TYPED = [
     ("candump2bench --lis", "ten "),
     ("canbusd bench --until", ""),
     ("canbusd serve --lo", ""),
+    ("canbusd serve --str", ""),
 ]
 # The beginning of an option that takes a value, and the rest of its name, after which a shell puts its own sign.
 OPTIONS = [

@@ -19,7 +19,7 @@ FAULTS = re.compile(
     rb"(  [ -~]{1,300}\n){0,3}"
 )
 # What is told after a run that came to its end.
-NOTES = re.compile(rb"(canbusd: session \d+: (bytes outside < and > were skipped|the last message has no >)\n)*")
+NOTES = re.compile(rb"(note: session \d+: (bytes outside < and > were skipped|the last message has no >)\n)*")
 RECORD = b"""canbus record 1
 bus 2 always 0000 10 100
 open 0 256 = socket 0

@@ -15,6 +15,7 @@ done-kept contents (job.Bench o) input old mid new done kept = record {
   written = done.written;
   run = done.run;
   flushed = Keeps-trans (contents done.written) (contents mid) (contents new) done.flushed kept;
+  strict = done.strict;
 }
 done-kept contents (job.Audit path) input old mid new done kept = (
   done.0,

@@ -1,4 +1,4 @@
-use Rattle.std.specs.Prelude.{◌≡◌, ℕ, List, length, Option, Result, Ok, Err}
+use Rattle.std.specs.Prelude.{◌≡◌, ℕ, true, List, length, Option, Result, Ok, Err}
 use Rattle.std.specs.Io.KnownBytes.{Keeps}
 use Rattle.can_frame.specs.Names.{AreNames, names_in}
 use Rattle.can_fault.specs.Sources.{VerdictMap}
@@ -11,6 +11,7 @@ use Rattle.can_session.specs.Benches.{BenchState}
 use Rattle.can_session.specs.Runs.{IsBench, IsRecordOf, Ends, at_start}
 use Rattle.canbusd_options.specs.declared.bench_options.BenchOptions.{BenchOptions}
 use Rattle.canbusd_files.specs.Buses.{AreVerdicts, config_of}
+use Rattle.canbusd_bench.specs.Refusals.{GrowsQuietly}
 use Rattle.canbusd_faults.specs.declared.faults.Fault.{Fault}
 use Rattle.canbusd_faults.specs.declared.faults.Fault.TheVariants as fault
 
@@ -37,10 +38,11 @@ pub record IsRun {W : Type 0} (contents : W → Option (List ℕ)) (o : BenchOpt
   pub ends : EndsOver contents verdicts input (begun o names) old (Ok r) new
   pub legal : IsLegal r.config r.history
 
--- a run that options describe came to its end, and all that it put out was written
+-- a run that options describe came to its end, all that it put out was written, and where they are strict it has no refusal
 pub record IsBenched {W : Type 0} (contents : W → Option (List ℕ)) (o : BenchOptions) (input : Option (List ℕ)) (old new : W) : Type 0 where
   pub named : AreNames (names_in o.bus.names.now)
   pub kept : Kept
   pub written : W
   pub run : IsRun contents o (names_in o.bus.names.now) input old kept written
   pub flushed : Keeps (contents written) (contents new)
+  pub strict : o.is_strict ≡ true → GrowsQuietly (contents old) (contents written)

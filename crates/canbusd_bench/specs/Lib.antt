@@ -1,1 +1,3 @@
 pub mod Benched
+pub mod Refusals
+pub mod inner

@@ -1,9 +1,11 @@
-ghost use Rattle.std.specs.Prelude.{IfErr, IfOk, Ok, OnOk};
+ghost use Rattle.std.specs.Prelude.{◌≡◌, IfErr, IfNone, IfOk, IfSome, Ok, OnOk};
 ghost use Rattle.can_bus.specs.Legal.{IsLegal};
+ghost use Rattle.canbusd_faults.specs.declared.faults.Fault.TheVariants as fault;
 ghost use Rattle.canbusd_bench.specs.Benched.{EndsOver, IsBenched, IsRun, StopsBy, begun};
 
 use crate::input_notes::input_note;
 use crate::recent::Recent;
+use crate::watch::Watch;
 use can_bus::Record;
 use can_fault::FaultSource;
 use can_frame::Names;
@@ -20,10 +22,18 @@ use std::io::{Read, Write};
 use std::os::unix::fs::MetadataExt;
 use std::rt::Files;
 
+/// A run that came to its end.
+#[derive(Drop)]
+struct Ran<'a> {
+    record: Record,
+    /// The fault of a message that was refused, where the options are strict.
+    refusal: Option<Failure<'a>>,
+}
+
 /// Runs the bench that the options describe, over the lines of an input. The names are looked at first, then the
-/// script, and then the limits of the bus. The record and the log are written behind a run that came to its end, once all
+/// script, and then the limits of the bus. The record and the log are written after a run that came to its end, once all
 /// its output was written: each also where the other fails, and a fault of the record comes first. What sessions were fed
-/// that is in no message is noted there.
+/// that is in no message is noted there. A message that was refused is a fault where the options are strict, the last of all.
 pub fn run_bench<'a, H: Files, R: Read + Drop, W: Write>(
     rt: &H,
     alloc: Global,
@@ -35,7 +45,13 @@ pub fn run_bench<'a, H: Files, R: Read + Drop, W: Write>(
     ensures { OnOk result (IsBenched W.contents options.entry (R.remaining input) output.old output.new) }
 {
     match run_out(rt, alloc, options, input, output, unheard) {
-        Ok(record) => save_run(rt, alloc, &options, &record),
+        Ok(Ran { record, refusal }) => {
+            save_run(rt, alloc, &options, &record)?;
+            match refusal {
+                Some(failure) => Err(failure),
+                None => Ok(()),
+            }
+        }
         Err(failure) => {
             let failure = without(rt, alloc, failure, "record", options.record);
             Err(without(rt, alloc, failure, "log", options.log))
@@ -43,7 +59,7 @@ pub fn run_bench<'a, H: Files, R: Read + Drop, W: Write>(
     }
 }
 
-// Runs the bench that the options describe, and writes all its output: also before a fault, which comes behind one of the
+// Runs the bench that the options describe, and writes all its output: also before a fault, which comes after one of the
 // output.
 fn run_out<'a, H: Files, R: Read + Drop, W: Write>(
     rt: &H,
@@ -52,15 +68,19 @@ fn run_out<'a, H: Files, R: Read + Drop, W: Write>(
     input: R,
     output: &mut W,
     unheard: &mut Unheard,
-) -> Result<Record, Failure<'a>>
-    ensures { OnOk result (IsBenched W.contents options.entry (R.remaining input) output.old output.new) }
+) -> Result<Ran<'a>, Failure<'a>>
+    ensures ran { IfOk result (λ ran. IfNone ran.refusal (IsBenched W.contents options.entry (R.remaining input) output.old output.new)) }
+    ensures refusal { IfOk result (λ ran. IfSome ran.refusal (λ failure. failure.fault ≡ fault.Refused)) }
 {
     let names = read_names(alloc, options.bus.names)?;
-    let ran = run_scripted(rt, alloc, options, names, input, output, unheard);
+    let mut watch = Watch::new(alloc, options.is_strict, output);
+    let ran = run_scripted(rt, alloc, options, names, input, &mut watch, unheard);
+    let (output, refusal) = watch.finish(alloc);
     output
         .flush()
         .map_err(|error| write_failure(alloc, OUTPUT, &error))?;
-    ran
+    let record = ran?;
+    Ok(Ran { record, refusal })
 }
 
 // Writes the record and the log of a run, where they are asked for. The log never goes where the record is.

@@ -16,13 +16,10 @@ fn tell_session<E: Write>(unheard: Unheard, session: SessionNumber, errors: &mut
     if unheard.has_outside(session) {
         let _ = writeln!(
             errors,
-            "canbusd: session {number}: bytes outside < and > were skipped"
+            "note: session {number}: bytes outside < and > were skipped"
         );
     }
     if unheard.has_begun(session) {
-        let _ = writeln!(
-            errors,
-            "canbusd: session {number}: the last message has no >"
-        );
+        let _ = writeln!(errors, "note: session {number}: the last message has no >");
     }
 }

@@ -24,6 +24,9 @@ pub enum Fault<'a> {
     Script(ScriptError),
     #[error("{0}")]
     Bench(BenchFault),
+    /// A message of a session was refused in a run of the bench, which is strict.
+    #[error("message refused")]
+    Refused,
     /// No server can have these buses.
     #[error("{0}")]
     Buses(BusFault),

@@ -2,7 +2,7 @@ use Rattle.std.proofs.Common.{◌≡◌, List, Result, Ok, Err, IfErr, true, ref
 use Rattle.std.specs.Prelude.{IsErrAnd}
 use mathlib.Core.Logic.{inl, inr}
 use Rattle.clap.specs.declared.error.Error.{Error}
-use Rattle.clap.specs.Words.{App, HasKind, IsAmong, Text, fault_of, is_simple_and_free, kind_of}
+use Rattle.clap.specs.Words.{App, HasKind, IsAmong, Text, fault_of, is_simple_and_free}
 use Rattle.clap.proofs.OnLiterals.{clap_on_literals}
 use Rattle.canbusd_options.specs.Help.{AskHelp, ShowsHelp}
 use Rattle.canbusd_options.specs.Program.{program}

@@ -52,6 +52,8 @@ pub record AreBenchOptions (rows : List Row) (o : BenchOptions) : Type 0 where
   pub kept : option_map (λ path. path.now) o.record ≡ first_of (codes "record") rows
   pub logged : option_map (λ path. path.now) o.log ≡ first_of (codes "log") rows
   pub apart : IfSome o.record (λ kept. IfSome o.log (λ logged. kept.now ≢ logged.now))
+  pub strict : one_of (codes "strict") rows ≡ Some (codes "true") → o.is_strict ≡ true
+  pub lenient : one_of (codes "strict") rows ≡ Some (codes "false") → o.is_strict ≡ false
 
 -- the buses that a server was given
 abbrev pub buses_given : List Row → List (List ℕ)

@@ -3,17 +3,19 @@ ghost use Rattle.std.specs.Prelude.{◌≡◌, ◌≢◌, codes, false, IfErr, I
 ghost use Rattle.clap.specs.Words.{app_of, rule_of};
 ghost use Rattle.canbusd_options.specs.Help.{RefusesValue};
 ghost use Rattle.canbusd_options.specs.Options.{AreBenchOptions, rows_in};
-ghost use Rattle.canbusd_options.specs.Program.{bench_app, option_rule};
+ghost use Rattle.canbusd_options.specs.Program.{bench_app, flag_rule, option_rule};
 
 use crate::bus_options::{BUS, BusSettings, Verb, bus_argument, settings_given, with_bus_options};
 use crate::bus_word::BusWord;
 use crate::help::BENCH_HELP;
-use clap::{Arg, ArgMatches, Command, Error};
+use clap::{Arg, ArgAction, ArgMatches, Command, Error};
 use std::alloc::{AllocError, Global};
 
 const RECORD: &str = "record";
 
 const LOG: &str = "log";
+
+const STRICT: &str = "strict";
 
 /// The words of `canbusd bench`.
 #[derive(Debug, Clone, Copy)]
@@ -24,9 +26,11 @@ pub struct BenchOptions<'a> {
     pub record: Option<&'a str>,
     /// The path of the file that gets the log, if it is wanted.
     pub log: Option<&'a str>,
+    /// Whether a message that is refused is a fault of the run.
+    pub is_strict: bool,
 }
 
-#[tactic(auto, using(crate::proofs::Rules::text_in_rows))]
+#[tactic(auto, using(crate::proofs::Rules::text_in_rows, crate::proofs::Rules::flag_in_rows))]
 pub fn bench_options<'a>(alloc: Global, bench: &ArgMatches<'a>) -> Result<BenchOptions<'a>, Error>
     ensures given { IfOk result (λ options. AreBenchOptions (rows_in bench.now) options) }
     ensures refused { IfErr result RefusesValue }
@@ -46,6 +50,7 @@ pub fn bench_options<'a>(alloc: Global, bench: &ArgMatches<'a>) -> Result<BenchO
         bus: BusWord::read(bench.get_str(BUS).unwrap_or("")),
         record,
         log,
+        is_strict: bench.get_flag(STRICT),
     })
 }
 
@@ -79,6 +84,7 @@ pub fn bench_command<'a>(alloc: Global) -> Result<Command<'a>, AllocError>
     with_bus_options(alloc, command)?
         .arg(record_option(alloc))?
         .arg(log_option(alloc))?
+        .arg(strict_option(alloc))?
         .arg(bus_argument(alloc))
 }
 
@@ -98,4 +104,14 @@ fn log_option<'a>(alloc: Global) -> Arg<'a>
     Arg::new(alloc, LOG).long(LOG).value_name("FILE").help(
         "Write the frames of the run to FILE once the input has ended, as candump logs them",
     )
+}
+
+fn strict_option<'a>(alloc: Global) -> Arg<'a>
+    ensures rule { rule_of result ≡ flag_rule (codes "strict") }
+    ensures local { result.global ≡ false }
+{
+    Arg::new(alloc, STRICT)
+        .long(STRICT)
+        .action(ArgAction::SetTrue)
+        .help("End with status 1 if a message of a session was refused")
 }

@@ -4,7 +4,7 @@ pub const PROGRAM_HELP: &str =
     "`canbusd help bench` has the options of bench, the lines that it reads, and an example to copy; `canbusd help serve`
 the options of serve, and how clients connect. `man canbusd` has all of it, the statuses and the texts of faults.
 
-Statuses: 0 done; 1 a fault, told as `canbusd: TEXT`; 2 a fault of the command line.
+Statuses: 0 done; 1 a fault, told as `canbusd: TEXT`; 2 a fault of the command line. A line `note: ..` is no fault.
 
 Example, with what it writes:
   $ printf '%s\\n' 'session 1' 'feed 1 < open can0 >< rawmode >< send 123 2 AB CD >' attempt | canbusd bench can0,can1

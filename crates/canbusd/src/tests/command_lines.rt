@@ -41,6 +41,9 @@ fn reads_command_lines(rt: HostRuntime) -> Result<(), Fail> {
         "canbusd bench --report=1 can0",
         "canbusd bench --record",
         "canbusd bench --log",
+        "canbusd bench --strict=1 can0",
+        "canbusd bench --strict --strict can0",
+        "canbusd serve --strict can0",
         "canbusd bench --record run.rec --log run.rec can0",
         "canbusd bench --record run.rec --log ./run.rec can0",
         "canbusd bench --log=/a/./b --record=//a//b can0",
@@ -73,6 +76,7 @@ fn reads_command_lines(rt: HostRuntime) -> Result<(), Fail> {
         "canbusd bench --record run.rec --log /run.rec can0,can0",
         "canbusd bench --record run.rec --log a/run.rec can0,can0",
         "canbusd bench --record ../run.rec --log run.rec can0,can0",
+        "canbusd bench --strict can0,can0",
         "canbusd serve --pace 60000 can0,can0",
         "canbusd serve --sessions 4000 can0,can0",
     ];

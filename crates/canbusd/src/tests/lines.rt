@@ -4,6 +4,7 @@ use super::support::{
 };
 use canbusd_serve::ServerRuntime;
 use std::alloc::Global;
+use std::fs;
 use std::process::Abort;
 use std::test::Fail;
 
@@ -76,9 +77,9 @@ fn carries_out_lines(rt: HostRuntime) -> Result<(), Fail> {
     Ok(())
 }
 
-const OUTSIDE: &str = "canbusd: session 2: bytes outside < and > were skipped\n";
+const OUTSIDE: &str = "note: session 2: bytes outside < and > were skipped\n";
 
-const BEGUN: &str = "canbusd: session 1: the last message has no >\n";
+const BEGUN: &str = "note: session 1: the last message has no >\n";
 
 #[test]
 fn tells_what_is_in_no_message(rt: HostRuntime) -> Result<(), Fail> {
@@ -117,6 +118,63 @@ fn tells_what_is_in_no_message(rt: HostRuntime) -> Result<(), Fail> {
         &input,
         (TWO_STARTED, &told, 0),
     )
+}
+
+const REFUSED: &str = "canbusd: message refused\n  standard output, byte 48: 1 < ";
+
+#[test]
+fn a_strict_bench_wants_no_refusal(rt: HostRuntime) -> Result<(), Fail> {
+    let _sockets: Sockets = None;
+    let alloc = rt.alloc();
+    // What follows the two sessions, what they write then, and how the first piece with a refusal is shown.
+    let table = [
+        (
+            "feed 1 < send 123 2 1122 >\n",
+            "1 < error bad word count >\n",
+            "error bad word count >\n",
+        ),
+        (
+            "feed 1 < send 123 0 >< echo >< x >\nfeed 2 < y >\n",
+            "1 < echo >< error unknown command >\n2 < error unknown command >\n",
+            "echo >< error unknown command >\n",
+        ),
+        (
+            "feed 1 < restart >",
+            "1 < error not bus off >\n",
+            "error not bus off >\n",
+        ),
+    ];
+    for (rest, wanted, shown) in table {
+        let input = joined(alloc, &[TWO_SESSIONS, rest])?;
+        let output = joined(alloc, &[TWO_STARTED, wanted])?;
+        let told = joined(alloc, &[REFUSED, shown])?;
+        let line = "canbusd bench --strict can0,can1";
+        runs_however_cut(&rt, alloc, line, &input, (&output, &told, 1))?;
+        let line = "canbusd bench can0,can1";
+        runs_however_cut(&rt, alloc, line, &input, (&output, "", 0))?;
+    }
+    // The record is written all the same.
+    let line = "canbusd bench --strict --record strict.rec can0";
+    let input = b"session 1\nfeed 1 < open can1 >\n".as_slice();
+    let told =
+        "canbusd: message refused\n  standard output, byte 9: 1 < error no such interface >\n";
+    runs(
+        &rt,
+        alloc,
+        line,
+        input,
+        ("1 < hi >\n1 < error no such interface >\n", told, 1),
+    )?;
+    assert!(rt; fs::exists(&rt, "strict.rec")?);
+    fs::remove_file(&rt, "strict.rec")?;
+    // Error message frames are no refusals, nor are notes.
+    let line = "canbusd bench --strict --ack peers --report can0";
+    let input =
+        b"session 1\nfeed 1 < open can0 >< rawmode >< errmask 1FFFFFFF >< errdata 1 >< send 123 0 >\nattempt\ndrain 1\nfeed 1 x\n".as_slice();
+    let told = "note: session 1: bytes outside < and > were skipped\n";
+    let output =
+        "1 < hi >\n1 < ok >< ok >< ok >< ok >\ntried can0 0 noack - -\n1 < error 0A0 0.000000 0000801900000000 >\n";
+    runs(&rt, alloc, line, input, (output, told, 0))
 }
 
 #[test]
@@ -222,7 +280,7 @@ fn keeps_limits_of_lines(rt: HostRuntime) -> Result<(), Fail> {
             ("feed 1 <rawmode", " ", 1017, "><"),
             (
                 "1 < error wrong state >\n",
-                "canbusd: session 1: the last message has no >\n",
+                "note: session 1: the last message has no >\n",
                 0,
             ),
         ),

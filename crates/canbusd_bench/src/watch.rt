@@ -1,0 +1,139 @@
+//! A writer that looks for refusals among what goes through it.
+ghost use Rattle.std.specs.Prelude.{◌≡◌, ◌≢◌, ◌+◌, ◌<◌, ◌^◌, ◌⊎◌, [], false, true, length, IfNone, IfSome, Some};
+ghost use Rattle.canbusd_faults.specs.declared.faults.Fault.TheVariants as fault;
+ghost use Rattle.canbusd_bench.specs.inner.Watched.{seen_after as seen_after_byte, seen_in, told};
+
+use canbusd_faults::{Failure, Fault, Shown};
+use canbusd_files::OUTPUT;
+use std::alloc::{AllocError, Global};
+use std::io;
+use std::io::{Error, ErrorKind, Write};
+
+/// What a refusal begins with, before a text that begins with a small letter.
+const FRONT: [u8; 8] = *b"< error ";
+
+/// What stands for a front that has its small letter.
+const FOUND: u8 = 9;
+
+/// How many bytes of a piece are kept at most.
+const KEPT: usize = 80;
+
+/// A writer that looks for the first refusal among what goes through it, if it is on.
+#[derive(Drop)]
+pub struct Watch<'w, W> {
+    writer: &'w mut W,
+    is_on: bool,
+    // How many bytes it has seen.
+    written: u64,
+    // How many bytes of the front stand last among them.
+    seen: u8,
+    // The first bytes of the piece with the first refusal, and how many bytes stand before the piece.
+    piece: Vec<u8>,
+    place: u64,
+}
+
+impl<'w, W> Watch<'w, W> {
+    /// A watcher before the first byte.
+    pub fn new(alloc: Global, is_on: bool, writer: &'w mut W) -> Watch<'w, W>
+        ensures writer { result.writer ≡ writer.entry }
+        ensures on { result.is_on ≡ is_on }
+        ensures written { result.written ≡ 0 }
+        ensures seen { result.seen ≡ 0 }
+    {
+        Watch {
+            writer,
+            is_on,
+            written: 0,
+            seen: 0,
+            piece: Vec::new(alloc),
+            place: 0,
+        }
+    }
+
+    /// Its writer, and the fault of a run in which a message was refused, if one was seen.
+    pub fn finish<'a>(self, alloc: Global) -> (&'w mut W, Option<Failure<'a>>)
+        ensures writer { result.0 ≡ self.entry.writer }
+        ensures some { IfSome result.1 (λ failure. failure.fault ≡ fault.Refused) }
+        ensures none { IfNone result.1 ((self.entry.is_on ≡ false) ⊎ (self.entry.seen ≢ 9)) }
+    {
+        if self.is_on && self.seen == FOUND {
+            let note = self.note(alloc);
+            (
+                self.writer,
+                Some(Failure::with(alloc, Fault::Refused, note)),
+            )
+        } else {
+            (self.writer, None)
+        }
+    }
+
+    // Where the first refusal was written.
+    fn note(&self, alloc: Global) -> Result<String, AllocError> {
+        let piece = self.piece.strip_suffix(b"\n").unwrap_or(&self.piece);
+        let (place, piece) = (self.place, Shown::cut(piece));
+        format!(in alloc; "  {OUTPUT}, byte {place}: {piece}\n")
+    }
+
+    // Looks at a piece that was written.
+    fn look(&mut self, piece: &[u8])
+        requires { self.old.is_on ≡ true → self.old.written + length piece.now < 2 ^ 64 }
+        ensures writer { self.new.writer ≡ self.old.writer }
+        ensures on { self.new.is_on ≡ self.old.is_on }
+        ensures written { self.old.is_on ≡ true → self.new.written ≡ self.old.written + length piece.now }
+        ensures seen { self.old.is_on ≡ true → self.new.seen ≡ seen_in self.old.seen piece.now }
+    {
+        if !self.is_on {
+            return;
+        }
+        let seen = seen_in(self.seen, piece);
+        if seen == FOUND && self.seen != FOUND {
+            self.place = self.written;
+            let _ = self
+                .piece
+                .extend_from_slice(&piece[..piece.len().min(KEPT)]);
+        }
+        self.seen = seen;
+        self.written += piece.len() as u64;
+    }
+}
+
+impl<W: Write> Write for Watch<'_, W> {
+    ghost contents = { λ w. told w.writer.ghost_name w.is_on w.written w.seen (W.contents w.writer.now) };
+
+    fn write(&mut self, piece: &[u8]) -> io::Result<usize> {
+        if self.is_on && self.written.checked_add(piece.len() as u64).is_none() {
+            return Err(Error::from(ErrorKind::FileTooLarge));
+        }
+        let count = self.writer.write(piece)?;
+        self.look(&piece[..count]);
+        Ok(count)
+    }
+
+    fn flush(&mut self) -> io::Result<()> {
+        self.writer.flush()
+    }
+}
+
+// How many bytes of the front stand last after these.
+#[tactic(auto, using(std::proofs::lemmas::List::Sums::fold_more))]
+fn seen_in(seen: u8, piece: &[u8]) -> u8
+    ensures { result ≡ seen_in seen piece.now }
+{
+    let mut last = seen;
+    for byte in piece {
+        last = seen_after(last, *byte);
+    }
+    last
+}
+
+fn seen_after(seen: u8, byte: u8) -> u8
+    ensures { result ≡ seen_after_byte seen byte }
+{
+    match byte {
+        _ if seen == FOUND => FOUND,
+        b'<' => 1,
+        b'a'..=b'z' if usize::from(seen) == FRONT.len() => FOUND,
+        _ if FRONT.get(usize::from(seen)) == Some(&byte) => seen + 1,
+        _ => 0,
+    }
+}
