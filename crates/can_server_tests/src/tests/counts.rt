@@ -39,23 +39,26 @@ impl<'a, N: RollName + MeterName, R: Wait + Abort> Talk<'a, N, R> {
         let told = str::from_utf8(&out.text).unwrap_or("no text");
         assert!(self.rt; told == wanted, "{told}");
     }
-}
 
-/// Two attempts that a driver makes on the bus of a port.
-fn two_attempts<N: RollName + MeterName, R: Wait + Abort>(
-    rt: &R,
-    alloc: Global,
-    port: &PassPort<'_, N, Perfect, Open, R>,
-) {
-    let Some(station) = port.station() else {
-        panic!(rt; "station");
-    };
-    let Ok(mut driver) = station.enter(rt, alloc) else {
-        panic!(rt; "driver");
-    };
-    let moment = moment(rt, 0);
-    assert!(rt; station.step(rt, alloc, &mut driver, moment).is_ok());
-    assert!(rt; station.step(rt, alloc, &mut driver, moment).is_ok());
+    /// It is given the item that waits.
+    fn is_given(&mut self, alloc: Global) {
+        let mut out = Output::new(alloc, 1_000);
+        let given = self.session.deliver(&mut self.port, &mut out);
+        assert!(self.rt; given == Ok(true));
+    }
+
+    /// A driver of its bus makes two attempts.
+    fn sees_two_attempts(&self, alloc: Global) {
+        let Some(station) = self.port.station() else {
+            panic!(self.rt; "station");
+        };
+        let Ok(mut driver) = station.enter(self.rt, alloc) else {
+            panic!(self.rt; "driver");
+        };
+        let moment = moment(self.rt, 0);
+        assert!(self.rt; station.step(self.rt, alloc, &mut driver, moment).is_ok());
+        assert!(self.rt; station.step(self.rt, alloc, &mut driver, moment).is_ok());
+    }
 }
 
 /// Two sessions whose counts are all told: of items that are queued, dropped and taken, and of frames that are sent, done,
@@ -78,15 +81,14 @@ fn counts<N: RollName + MeterName, R: Wait + Abort>(
         "< send 123 0 >< stats >< filter 0 >< errmask 0 >< send 123 0 >< restart >< stats >< send 123 0 >",
         "< stats 0 0 0 1 0 1 0 0 >< ok >< ok >< error not bus off >< stats 0 0 0 2 0 2 0 0 >< error no buffers >",
     );
-    two_attempts(rt, alloc, &first.port);
+    first.sees_two_attempts(alloc);
     first.is_told(
         alloc,
         "< send 123 0 >< stats >",
         "< stats 0 0 0 3 2 1 0 1 >",
     );
     second.is_told(alloc, "< stats >", "< stats 1 1 0 0 0 0 0 0 >");
-    let mut out = Output::new(alloc, 1_000);
-    assert!(rt; second.session.deliver(&mut second.port, &mut out) == Ok(true));
+    second.is_given(alloc);
     second.is_told(alloc, "< stats >", "< stats 1 1 1 0 0 0 0 0 >");
     first.is_told(alloc, "< send 123 0 >< close >", "< closed 0 0 >");
 }
