@@ -2,3 +2,4 @@ pub mod Buses
 pub mod Benches
 pub mod Settling
 pub mod PassSteps
+pub mod Guests

@@ -1,4 +1,4 @@
-//! The tests of can_server and can_serving, in a crate of their own: so those are proved once for them.
+//! The tests of can_server, in a crate of their own: so it is proved once for them.
 #![tactic(auto)]
 
 #[cfg(test)]

@@ -3,7 +3,7 @@ ghost use Rattle.std.specs.Prelude.{◌≡◌, ◌-◌, ◌^◌, ◌/◌, min};
 ghost use Rattle.std.specs.Duration.{as_nanos};
 
 use can_frame::Moment;
-use can_serving::Clock;
+use can_server::Clock;
 use canbusd_options::BusWord;
 use std::io::Write;
 use std::sync::atomic::{AtomicBool, Ordering};

@@ -1,7 +1,7 @@
 //! Where a server listens: a Unix path, or a host and a port.
 
 use crate::socket_files::SocketFile;
-use can_serving::{Door, Listener};
+use can_server::{Door, Listener};
 use canbusd_faults::{Failure, Fault, reason_note};
 use std::alloc::{AllocError, Global};
 use std::fs::File;

@@ -3,7 +3,7 @@
 ghost use Rattle.std.specs.Prelude.{◌≡◌, length};
 
 use super::*;
-use can_serving::{Conn, Door, Listener, serve};
+use can_server::{Conn, Door, Listener, serve};
 use can_station::Settled;
 use std::io::Write;
 use std::net::{Net, TcpListener, TcpStream};
@@ -50,7 +50,7 @@ impl Host {
     }
 }
 
-impl can_serving::Clock for Host {
+impl can_server::Clock for Host {
     fn now(&self) -> Moment {
         self.moment
     }

@@ -3,7 +3,7 @@
 ghost use Rattle.std.specs.Prelude.{◌≡◌};
 
 use super::*;
-use can_serving::{Conn, Guests, NotAdmitted};
+use can_server::{Conn, Guests, NotAdmitted};
 use std::io;
 use std::io::Read;
 use std::os::unix::net::UnixStream;

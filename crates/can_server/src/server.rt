@@ -1,11 +1,11 @@
 use crate::doors::Door;
 use crate::guests::Guests;
+use crate::hubs::Hub;
 use crate::returned::Returned;
 use crate::serving::Clock;
 use can_fault::FaultSource;
 use can_meter::MeterName;
 use can_roll::RollName;
-use can_server::Hub;
 use can_station::Gate;
 use std::alloc::{AllocError, Global};
 use std::io::Read;

@@ -1,11 +1,13 @@
 use crate::conns::{Conn, Out};
+use crate::held::HeldPort;
+use crate::hubs::Hub;
+use crate::ports::PassPort;
 use can_bus::SocketId;
 use can_dialog::{Session, Stage};
 use can_fault::FaultSource;
 use can_frame::Moment;
 use can_meter::MeterName;
 use can_roll::RollName;
-use can_server::{HeldPort, Hub, PassPort};
 use can_station::{Gate, Pass, Station};
 use std::alloc::{AllocError, Global};
 use std::io::Write;

@@ -1,9 +1,9 @@
 use Rattle.std.specs.Prelude.{◌≡◌, ℕ, List, Bool, true, false, Option, None, Some, Result, Ok, Err, set, slice_get}
 use Rattle.std.specs.declared.sync.Arc.{Arc}
 use Rattle.std.specs.declared.alloc.Global.{Global}
-use Rattle.can_serving.specs.declared.conns.Conn.{Conn}
-use Rattle.can_serving.specs.declared.guests.NotAdmitted.{NotAdmitted}
-use Rattle.can_serving.specs.declared.guests.NotAdmitted.TheVariants as refused
+use Rattle.can_server.specs.declared.conns.Conn.{Conn}
+use Rattle.can_server.specs.declared.guests.NotAdmitted.{NotAdmitted}
+use Rattle.can_server.specs.declared.guests.NotAdmitted.TheVariants as refused
 
 -- The guests of a server: the sessions at work (own choice).
 

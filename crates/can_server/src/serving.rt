@@ -2,13 +2,13 @@ ghost use Rattle.std.specs.Prelude.{◌≡◌, length, IfOk};
 
 use crate::doors::Door;
 use crate::guests::Guests;
+use crate::hubs::Hub;
 use crate::returned::Returned;
 use crate::server::Server;
 use can_fault::FaultSource;
 use can_frame::Moment;
 use can_meter::MeterName;
 use can_roll::RollName;
-use can_server::Hub;
 use can_station::{Gate, Pass};
 use std::alloc::{AllocError, Global};
 use std::os::unix::net::UnixStream;

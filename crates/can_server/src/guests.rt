@@ -1,6 +1,6 @@
 //! The guests of a server: the connections of the sessions at work.
 ghost use Rattle.std.specs.Prelude.{◌≡◌, ℕ, IfOk, MatchOption, None, false, true, not, replicate, set};
-ghost use Rattle.can_serving.specs.Guests.{Admits, IsFree};
+ghost use Rattle.can_server.specs.Guests.{Admits, IsFree};
 
 use crate::conns::Conn;
 use std::alloc::{AllocError, Global};
@@ -29,7 +29,7 @@ pub struct Guests {
 
 impl Model for Guests {
     ghost use Rattle.std.specs.Prelude.{◌≡◌, length};
-    ghost use Rattle.can_serving.specs.Guests.{GuestsSeen};
+    ghost use Rattle.can_server.specs.Guests.{GuestsSeen};
 
     ghost Value = { GuestsSeen };
 
