@@ -4,6 +4,7 @@ use crate::guests::NotAdmitted;
 use crate::server::Server;
 use crate::serving::Clock;
 use can_fault::FaultSource;
+use can_frame::Moment;
 use can_meter::MeterName;
 use can_proto::{Cause, refusal_text};
 use can_roll::RollName;
@@ -21,9 +22,12 @@ const AFTER_A_FAULT_MS: u64 = 100;
 /// How often a door tries before this counts as a session: for some 6 seconds.
 const TRIES: u32 = 64;
 
-/// A session's connection, and its place among the guests.
+/// How often a connection looks for a place while others are shut out, for a second.
+const TURNS: u32 = 1_000;
+
+/// A connection that was taken in, and its place among the guests.
 #[derive(Drop)]
-pub struct Guest {
+pub struct Admitted {
     pub conn: Arc<Conn, Global>,
     pub place: usize,
 }
@@ -31,7 +35,7 @@ pub struct Guest {
 /// Who comes in at a door.
 #[derive(Drop)]
 enum Next {
-    Guest(Guest),
+    Admitted(Admitted),
     /// Nobody could be accepted for all tries, or nobody else is let in now.
     Nobody,
     /// The server is closed.
@@ -53,9 +57,9 @@ impl<
         thread::scope(thread::scope_env(), self.rt, |scope| {
             for _ in 0..door.sessions() {
                 match self.next_guest(door) {
-                    Next::Guest(guest) => {
-                        let place = guest.place;
-                        if scope.spawn(move || self.run_session(guest)).is_err() {
+                    Next::Admitted(admitted) => {
+                        let place = admitted.place;
+                        if scope.spawn(move || self.run_session(admitted)).is_err() {
                             self.let_go(place);
                         }
                     }
@@ -95,18 +99,14 @@ impl<
         self.guests.lock(self.rt).leave(place);
     }
 
-    /// Takes a connection in, if the server is not closed. Where as many sessions are at work as a server has, the
-    /// client is told so.
+    /// Takes a connection in, if the server is not closed. Where as many sessions are at work as a server has, and none of
+    /// them is idle, the client is told so.
     fn admit(&self, conn: Conn) -> Next {
         let Ok(conn) = Arc::new(self.alloc, conn) else {
             return Next::Nobody;
         };
-        let Ok(shared) = Arc::try_clone(&conn) else {
-            return Next::Nobody;
-        };
-        let admitted = self.guests.lock(self.rt).admit(shared);
-        match admitted {
-            Ok(place) => Next::Guest(Guest { conn, place }),
+        match self.find_place(&conn) {
+            Ok(place) => Next::Admitted(Admitted { conn, place }),
             Err(NotAdmitted::Closed) => Next::Closed,
             Err(NotAdmitted::Full) => {
                 let text = refusal_text(Cause::TooManySessions);
@@ -114,6 +114,28 @@ impl<
                 conn.shutdown();
                 Next::Nobody
             }
+        }
+    }
+
+    /// Finds a connection a place among the guests. Where all are taken, idle guests are shut out, and it waits for one of
+    /// their places.
+    fn find_place(&self, conn: &Arc<Conn, Global>) -> Result<usize, NotAdmitted> {
+        for _ in 0..TURNS {
+            let now = self.host.now();
+            let found = self.ask_for_place(conn, now);
+            if found != Err(NotAdmitted::Full) || !self.guests.lock(self.rt).make_room(now) {
+                return found;
+            }
+            thread::sleep(self.rt, Duration::from_millis(1));
+        }
+        Err(NotAdmitted::Full)
+    }
+
+    /// Takes a place, if one is free.
+    fn ask_for_place(&self, conn: &Arc<Conn, Global>, now: Moment) -> Result<usize, NotAdmitted> {
+        match Arc::try_clone(conn) {
+            Ok(shared) => self.guests.lock(self.rt).admit(shared, now),
+            Err(_) => Err(NotAdmitted::Full),
         }
     }
 }

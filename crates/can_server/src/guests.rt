@@ -1,14 +1,18 @@
 //! The guests of a server: the connections of the sessions at work.
-ghost use Rattle.std.specs.Prelude.{◌≡◌, ℕ, IfOk, MatchOption, None, false, true, not, replicate, set};
-ghost use Rattle.can_server.specs.Guests.{Admits, IsFree};
+ghost use Rattle.std.specs.Prelude.{◌≡◌, ℕ, IfOk, IsTrue, ◌↔◌, Any, map, option_map, MatchOption, None, false, true, not, replicate, set};
+ghost use Rattle.can_server.specs.Guests.{Admits, IsFree, IsShutOut, asked_for_room, is_idle, raw, raw_at};
 
 use crate::conns::Conn;
+use can_frame::Moment;
 use std::alloc::{AllocError, Global};
 use std::marker::Model;
 use std::sync::Arc;
 
 /// The most sessions at once.
 const MOST_AT_ONCE: usize = 64;
+
+/// After how many microseconds a guest whose session has not been raw may lose its place.
+const MOST_IDLE: u64 = 60_000_000;
 
 /// Why a connection has no place.
 #[derive(Debug, Clone, Copy, PartialEq, Eq)]
@@ -19,11 +23,41 @@ pub enum NotAdmitted {
     Full,
 }
 
-/// The connections of the sessions at work, 64 at most. Contracts see which connection has which place, and whether
+/// How far a guest has come.
+#[derive(Debug, Clone, Copy, PartialEq, Eq)]
+pub enum Stay {
+    /// It came at this moment, and its session has not been raw.
+    New(Moment),
+    /// Its session has been raw.
+    Raw,
+    /// It was idle when another found no place, so its connection was shut down.
+    ShutOut,
+}
+
+impl Stay {
+    /// Whether a guest may lose its place.
+    fn is_idle(self, now: Moment) -> bool
+        ensures { result ≡ is_idle now self }
+    {
+        match self {
+            Stay::New(came) => came.micros() + MOST_IDLE <= now.micros(),
+            Stay::Raw | Stay::ShutOut => false,
+        }
+    }
+}
+
+/// A guest: its connection, and how far it has come.
+#[derive(Drop)]
+pub struct Guest {
+    conn: Arc<Conn, Global>,
+    stay: Stay,
+}
+
+/// The connections of the sessions at work, 64 at most. Contracts see which guest has which place, and whether
 /// nobody comes in any more.
 #[derive(Drop)]
 pub struct Guests {
-    places: Vec<Option<Arc<Conn, Global>>>,
+    places: Vec<Option<Guest>>,
     is_closed: bool,
 }
 
@@ -53,9 +87,9 @@ impl Guests {
         })
     }
 
-    /// Takes a connection in: its place. Where nobody comes in any more it has none, however many are free.
-    pub fn admit(&mut self, conn: Arc<Conn, Global>) -> Result<usize, NotAdmitted>
-        ensures { Admits self.old conn result self.new }
+    /// Takes a connection in at this moment: its place. Where nobody comes in any more it has none, however many are free.
+    pub fn admit(&mut self, conn: Arc<Conn, Global>, now: Moment) -> Result<usize, NotAdmitted>
+        ensures { Admits self.old conn now result self.new }
     {
         if self.is_closed {
             return Err(NotAdmitted::Closed);
@@ -63,7 +97,8 @@ impl Guests {
         let Some(place) = self.free_place() else {
             return Err(NotAdmitted::Full);
         };
-        self.places[place] = Some(conn);
+        let stay = Stay::New(now);
+        self.places[place] = Some(Guest { conn, stay });
         Ok(place)
     }
 
@@ -77,6 +112,29 @@ impl Guests {
             }
         }
         None
+    }
+
+    /// The session of the guest at this place is raw: it keeps the place for as long as it likes.
+    pub fn keep(&mut self, place: usize)
+        ensures { self.new ≡ record { places = raw_at self.old.places place; is_closed = self.old.is_closed } }
+    {
+        if place < self.places.len() {
+            if let Some(guest) = &mut self.places[place] {
+                guest.stay = Stay::Raw;
+            }
+        }
+    }
+
+    /// Shuts the connections of idle guests down, since another has found no place: of those that came 60 seconds ago or
+    /// earlier and whose sessions have not been raw. Whether a place is about to get free, that of a guest that is shut out.
+    pub fn make_room(&mut self, now: Moment) -> bool
+        ensures guests { self.new ≡ record { places = map (option_map (asked_for_room now)) self.old.places; is_closed = self.old.is_closed } }
+        ensures soon { IsTrue result ↔ Any IsShutOut self.new.places }
+    {
+        for place in 0..self.places.len() {
+            ask_for_room(&mut self.places[place], now);
+        }
+        self.places.iter().any(is_shut_out)
     }
 
     /// Frees a place.
@@ -102,9 +160,31 @@ impl Guests {
     {
         let was_open = !self.is_closed;
         self.is_closed = true;
-        for conn in self.places.iter().flatten() {
-            conn.shutdown();
+        for guest in self.places.iter().flatten() {
+            guest.conn.shutdown();
         }
         was_open
+    }
+}
+
+/// Shuts the guest at a place out, if it is idle.
+fn ask_for_room(place: &mut Option<Guest>, now: Moment)
+    ensures { place.new ≡ option_map (asked_for_room now) place.old }
+{
+    if let Some(guest) = place {
+        if guest.stay.is_idle(now) {
+            guest.stay = Stay::ShutOut;
+            guest.conn.shutdown();
+        }
+    }
+}
+
+/// Whether the guest at a place is shut out.
+fn is_shut_out(place: &Option<Guest>) -> bool
+    ensures { IsTrue result ↔ IsShutOut place.now }
+{
+    match place {
+        Some(guest) => guest.stay == Stay::ShutOut,
+        None => false,
     }
 }

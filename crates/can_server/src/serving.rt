@@ -40,8 +40,9 @@ pub trait Clock {
 /// thread that accepts; each session one that reads and, in raw mode, one that delivers. It returns once as many
 /// sessions as the doors have were accepted and all are over, or after the end of `until`: then nobody comes in any
 /// more, and the sessions at work are shut down. After the last of its sessions a door is closed, so that the system refuses
-/// who comes later. The 65th session at once is told so and counts as one that was accepted. Where no connection can be accepted, as for want of file descriptors, a door tries again each 100 ms; 64
-/// tries in vain count as one session.
+/// who comes later. The 65th session at once is told so and counts as one that was accepted, unless a session
+/// has not been raw for 60 seconds by the clock: that one is closed, and the newcomer gets its place. Where no connection
+/// can be accepted, as for want of file descriptors, a door tries again each 100 ms; 64 tries in vain count as one session.
 ///
 /// A fault of a session's connection, or memory refused to it, ends that session alone. `AllocError` where memory was
 /// refused to the server's own start; then the threads that were started are over too, and the stations are stopped.

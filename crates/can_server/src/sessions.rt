@@ -1,4 +1,4 @@
-use crate::accepting::Guest;
+use crate::accepting::Admitted;
 use crate::conns::Conn;
 use crate::server::Server;
 use crate::serving::Clock;
@@ -39,9 +39,9 @@ impl<
     R: Threads + Wait + time::Clock + Sync,
 > Server<'a, N, F, G, C, R> {
     /// Runs a session to its end, and hands its pass back. Its place is free before the client sees the end.
-    pub fn run_session(&self, guest: Guest) {
-        let Guest { conn, place } = guest;
-        if let Some(pass) = self.converse(&conn) {
+    pub fn run_session(&self, admitted: Admitted) {
+        let Admitted { conn, place } = admitted;
+        if let Some(pass) = self.converse(&conn, place) {
             self.returned.lock(self.rt).take(pass);
         }
         self.guests.lock(self.rt).leave(place);
@@ -49,21 +49,23 @@ impl<
     }
 
     /// Talks with a client to the end: the pass, where it opened a bus.
-    fn converse(&self, conn: &Conn) -> Option<Pass<N>> {
+    fn converse(&self, conn: &Conn, guest: usize) -> Option<Pass<N>> {
         let mut talk = Talk::new(self.rt, self.alloc, self.hub).ok()?;
         if !talk.greet(conn) {
             return None;
         }
         let talk = Mutex::new(talk);
-        self.hear_all(&talk, conn);
+        self.hear_all(&talk, conn, guest);
         talk.into_inner().into_pass()
     }
 
-    /// Reads what the client says. Once the session is raw, a thread delivers its items beside.
-    fn hear_all(&self, talk: &Mutex<Talk<'_, N, F, G, R>>, conn: &Conn) {
+    /// Reads what the client says. Once the session is raw, its guest keeps its place, and a thread delivers its items
+    /// beside.
+    fn hear_all(&self, talk: &Mutex<Talk<'_, N, F, G, R>>, conn: &Conn, guest: usize) {
         let Some(place) = self.hear_until_raw(talk, conn) else {
             return;
         };
+        self.guests.lock(self.rt).keep(guest);
         let place = &place;
         thread::scope(thread::scope_env(), self.rt, |scope| {
             let delivers = scope

@@ -10,7 +10,7 @@ use std::net::{Net, TcpListener, TcpStream};
 use std::os::unix::net as unix;
 use std::os::unix::net::{UnixListener, UnixStream};
 use std::rt::{Env, Files};
-use std::sync::atomic::{AtomicU64, Ordering};
+use std::sync::atomic::{AtomicBool, AtomicU64, Ordering};
 use std::thread::Threads;
 use std::time::{Clock, Duration};
 use std::{env, io, net, thread};
@@ -33,10 +33,12 @@ const PATIENCE: u64 = 20;
 /// How many looks are made before a test gives up.
 const TURNS: u32 = 10_000;
 
-/// The host of a test: its clock stands, and it counts how often it was told of a full record.
+/// The host of a test: its clock stands, until it is a minute later, and it counts how often it was told of a full record.
 #[derive(Drop)]
 pub struct Host {
-    pub moment: Moment,
+    moment: Moment,
+    later: Moment,
+    pub is_later: AtomicBool,
     pub told: AtomicU64,
 }
 
@@ -45,6 +47,8 @@ impl Host {
     pub fn new<R: Abort>(rt: &R) -> Host {
         Host {
             moment: moment(rt, 23_424_242),
+            later: moment(rt, 83_424_242),
+            is_later: AtomicBool::new(false),
             told: AtomicU64::new(0),
         }
     }
@@ -52,7 +56,11 @@ impl Host {
 
 impl can_server::Clock for Host {
     fn now(&self) -> Moment {
-        self.moment
+        if self.is_later.load(Ordering::SeqCst) {
+            self.later
+        } else {
+            self.moment
+        }
     }
 
     fn bus_is_full(&self, _bus: usize) {
@@ -62,7 +70,7 @@ impl can_server::Clock for Host {
 
 /// Where a server listens.
 #[derive(Drop)]
-enum Address {
+pub enum Address {
     Tcp(net::SocketAddr),
     Unix(unix::SocketAddr),
 }
@@ -77,6 +85,14 @@ impl Address {
             }
             Address::Unix(address) => Ok(Conn::Unix(UnixStream::connect_addr(rt, address)?)),
         }
+    }
+
+    /// A client that comes to it.
+    pub fn come<'a, R: Machine>(&self, rt: &'a R, alloc: Global) -> Client<'a, R> {
+        let Ok(conn) = self.connect(rt) else {
+            panic!(rt; "no connection");
+        };
+        Client::new(rt, alloc, conn)
     }
 }
 
@@ -115,15 +131,17 @@ impl Entrance {
 
     /// A client that comes to it.
     pub fn admit<'a, R: Machine>(&self, rt: &'a R, alloc: Global) -> Client<'a, R> {
-        let Ok(conn) = self.address.connect(rt) else {
-            panic!(rt; "no connection");
-        };
-        Client::new(rt, alloc, conn)
+        self.address.come(rt, alloc)
     }
 
     /// The doors of a server that has no other.
     pub fn into_doors<R: Machine>(self, rt: &R, alloc: Global) -> Vec<Door> {
         one(rt, alloc, self.door)
+    }
+
+    /// These doors, and where more clients may come.
+    pub fn into_parts<R: Machine>(self, rt: &R, alloc: Global) -> (Vec<Door>, Address) {
+        (one(rt, alloc, self.door), self.address)
     }
 }
 

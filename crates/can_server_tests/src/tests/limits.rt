@@ -59,6 +59,68 @@ fn the_65th_session_at_once_is_refused(rt: HostRuntime) {
     fills::<Brand, _>(&rt, rt.alloc(), benches, Entrance::new(&rt, MOST + 1));
 }
 
+/// How many connections nothing is heard of.
+const SILENT: u32 = 63;
+
+/// All places are taken, all but one by silent clients. A minute later the next client is served, and the one in raw mode
+/// goes on.
+fn make_room<R: Machine>(
+    rt: &R,
+    alloc: Global,
+    host: &Host,
+    address: &Address,
+    mut first: Client<'_, R>,
+    mut silent: Vec<Client<'_, R>>,
+) {
+    first.ask("< open can0 >< rawmode >", "< hi >< ok >< ok >");
+    for client in silent.iter_mut() {
+        client.hear("< hi >");
+    }
+    let mut refused = address.come(rt, alloc);
+    refused.hear("< error too many sessions >");
+    host.is_later.store(true, Ordering::SeqCst);
+    let mut next = address.come(rt, alloc);
+    next.ask("< open can1 >< rawmode >", "< hi >< ok >< ok >");
+    for client in silent.iter_mut() {
+        client.hear_end();
+    }
+    first.ask("< echo >", "< echo >");
+}
+
+/// A server of as many sessions as it has at once, and two more.
+fn lets_in<N: RollName + MeterName + Send + Sync, R: Machine>(
+    rt: &R,
+    alloc: Global,
+    benches: Vec<Bench<Perfect, Open>>,
+    entrance: Entrance,
+)
+    requires { NamedFrom N.roll N.meter 0 benches.items }
+{
+    let hub = made::<N, _, _, _>(rt, alloc, benches);
+    let host = Host::new(rt);
+    let first = entrance.admit(rt, alloc);
+    let mut silent = Vec::new(alloc);
+    for _ in 0..SILENT {
+        assert!(rt; silent.push(entrance.admit(rt, alloc)).is_ok());
+    }
+    let (doors, address) = entrance.into_parts(rt, alloc);
+    let (passes, ()) = join(
+        rt,
+        || serves(rt, alloc, &hub, &doors, &host, None),
+        || make_room(rt, alloc, &host, &address, first, silent),
+    );
+    let Some(bus) = settled(rt, alloc, hub, passes).pop() else {
+        panic!(rt; "no bus");
+    };
+    assert!(rt; bus.passes == 3);
+}
+
+#[test]
+fn silent_clients_make_room_after_a_minute(rt: HostRuntime) {
+    let benches = one_bus(&rt, rt.alloc());
+    lets_in::<Brand, _>(&rt, rt.alloc(), benches, Entrance::new(&rt, MOST + 2));
+}
+
 /// A call that the record has no room for is refused; what makes none is answered.
 fn meet_full_record<R: Abort>(mut first: Client<'_, R>, mut second: Client<'_, R>) {
     first.ask("< open can0 >< rawmode >", "< hi >< ok >< ok >");
