@@ -1,8 +1,10 @@
 use crate::conns::{Conn, Out};
 use crate::doors::Door;
 use crate::guests::NotAdmitted;
+use crate::notices::Notice;
 use crate::server::Server;
 use crate::serving::Clock;
+use crate::sums::Sums;
 use can_fault::FaultSource;
 use can_frame::Moment;
 use can_meter::MeterName;
@@ -25,11 +27,12 @@ const TRIES: u32 = 64;
 /// How often a connection looks for a place while others are shut out, for a second.
 const TURNS: u32 = 1_000;
 
-/// A connection that was taken in, and its place among the guests.
+/// A connection that was taken in, its place among the guests, and its session's number.
 #[derive(Drop)]
 pub struct Admitted {
     pub conn: Arc<Conn, Global>,
     pub place: usize,
+    pub session: u32,
 }
 
 /// Who comes in at a door.
@@ -55,12 +58,14 @@ impl<
     /// waits for their ends. It accepts no more once the server is closed.
     pub fn accept_all(&self, door: &Door) {
         thread::scope(thread::scope_env(), self.rt, |scope| {
-            for _ in 0..door.sessions() {
-                match self.next_guest(door) {
+            for before in 0..door.sessions() {
+                match self.next_guest(door, before + 1) {
                     Next::Admitted(admitted) => {
                         let place = admitted.place;
+                        let session = admitted.session;
                         if scope.spawn(move || self.run_session(admitted)).is_err() {
                             self.let_go(place);
+                            self.tell_end(session, Sums::none());
                         }
                     }
                     Next::Nobody => {}
@@ -83,10 +88,10 @@ impl<
 > Server<'a, N, F, G, C, R> {
     /// Waits at a door for the next connection, and takes it in. After one that could not be accepted the door rests, and
     /// tries again.
-    fn next_guest(&self, door: &Door) -> Next {
+    fn next_guest(&self, door: &Door, session: u32) -> Next {
         for _ in 0..TRIES {
             match door.accept() {
-                Ok(conn) => return self.admit(conn),
+                Ok(conn) => return self.admit(conn, session),
                 Err(_) if self.guests.lock(self.rt).is_closed() => return Next::Closed,
                 Err(_) => thread::sleep(self.rt, Duration::from_millis(AFTER_A_FAULT_MS)),
             }
@@ -94,31 +99,53 @@ impl<
         Next::Nobody
     }
 
-    /// Frees the place of a guest whose thread could not be started.
-    fn let_go(&self, place: usize) {
+    /// Frees the place of a guest whose session is over, or whose thread could not be started.
+    pub fn let_go(&self, place: usize) {
         self.guests.lock(self.rt).leave(place);
     }
 
-    /// Takes a connection in, if the server is not closed. Where as many sessions are at work as a server has, and none of
-    /// them is idle, the client is told so.
-    fn admit(&self, conn: Conn) -> Next {
+    /// Tells the host that a session is over.
+    pub fn tell_end(&self, session: u32, sums: Sums) {
+        self.host.tell(Notice::Went {
+            session,
+            refused: sums.refused,
+            dropped: sums.dropped,
+        });
+    }
+
+    /// Takes a connection in, if the server is not closed. Where as many sessions are at work as a server has, and none
+    /// of them is idle, the client is told so.
+    fn admit(&self, conn: Conn, session: u32) -> Next {
+        let from = if self.host.is_curious() {
+            conn.peer()
+        } else {
+            None
+        };
         let Ok(conn) = Arc::new(self.alloc, conn) else {
             return Next::Nobody;
         };
         match self.find_place(&conn) {
-            Ok(place) => Next::Admitted(Admitted { conn, place }),
+            Ok(place) => {
+                self.host.tell(Notice::Came { session, from });
+                Next::Admitted(Admitted {
+                    conn,
+                    place,
+                    session,
+                })
+            }
             Err(NotAdmitted::Closed) => Next::Closed,
             Err(NotAdmitted::Full) => {
                 let text = refusal_text(Cause::TooManySessions);
                 let _ = Out(&conn).write_all(text.as_bytes());
                 conn.shutdown();
+                self.host.tell(Notice::TurnedAway { session, from });
                 Next::Nobody
             }
         }
     }
 
-    /// Finds a connection a place among the guests. Where all are taken, idle guests are shut out, and it waits for one of
-    /// their places.
+    /// Finds a connection a place among the guests. Where all are taken, idle guests are shut out, and it waits for one
+    /// of their places.
     fn find_place(&self, conn: &Arc<Conn, Global>) -> Result<usize, NotAdmitted> {
         for _ in 0..TURNS {
             let now = self.host.now();

@@ -2,7 +2,7 @@ ghost use Rattle.std.specs.Prelude.{◌≤◌, length, IfOk};
 
 use std::io;
 use std::io::{Read, Write};
-use std::net::{Shutdown, TcpStream};
+use std::net::{Shutdown, SocketAddr, TcpStream};
 use std::os::unix::net::UnixStream;
 
 /// A client's connection, which threads share.
@@ -27,6 +27,14 @@ impl Conn {
                 stream.read(piece)
             }
         }
+    }
+
+    /// The client's address, if it has one.
+    pub fn peer(&self) -> Option<SocketAddr> {
+        let Conn::Tcp(stream) = self else {
+            return None;
+        };
+        stream.peer_addr().ok()
     }
 
     /// Ends both directions: a thread that reads or writes here returns.

@@ -1,9 +1,10 @@
+use crate::notices::Notice;
 use crate::server::Server;
 use crate::serving::Clock;
 use can_attempt::Class;
 use can_bus::Attempt;
 use can_fault::FaultSource;
-use can_frame::IfaceSet;
+use can_frame::{Iface, IfaceSet};
 use can_meter::MeterName;
 use can_roll::RollName;
 use can_station::{Gate, Hold, Pass};
@@ -52,9 +53,9 @@ impl<
         };
         if station.became_full() {
             station.stop(self.rt);
-            self.host.bus_is_full(bus);
+            self.host.tell(Notice::Full { bus });
         } else if was_refused {
-            self.host.bus_has_no_driver(bus);
+            self.host.tell(Notice::NoDriver { bus });
         }
     }
 
@@ -71,7 +72,10 @@ impl<
             let Some(hold) = station.hold_work(self.rt) else {
                 break;
             };
-            match self.step_some(hold, most, pass) {
+            let mut changes = Changes::none();
+            let stepped = self.step_some(hold, most, pass, &mut changes);
+            self.tell_changes(bus, changes);
+            match stepped {
                 Stepped::On => station.rest(self.rt, pace),
                 Stepped::Out => break,
                 Stepped::Refused => return true,
@@ -82,20 +86,70 @@ impl<
 
     /// Steps a bus up to so many times in one hold of its lock, while an interface has a frame to send or counts towards
     /// its restart.
-    fn step_some(&self, mut hold: Hold<'_, N, F, G>, most: u32, pass: &mut Pass<N>) -> Stepped {
+    fn step_some(
+        &self,
+        mut hold: Hold<'_, N, F, G>,
+        most: u32,
+        pass: &mut Pass<N>,
+        changes: &mut Changes,
+    ) -> Stepped {
         for _ in 0..most {
             if !hold.has_work() {
                 break;
             }
-            match hold.step(self.alloc, pass, self.host.now()) {
-                Err(_) => return Stepped::Refused,
-                Ok(attempt) if is_in_vain(&attempt) && self.is_ending.load(Ordering::SeqCst) => {
-                    return Stepped::Out;
-                }
-                Ok(_) => {}
+            let Ok(attempt) = hold.step(self.alloc, pass, self.host.now()) else {
+                return Stepped::Refused;
+            };
+            changes.note(&attempt);
+            if is_in_vain(&attempt) && self.is_ending.load(Ordering::SeqCst) {
+                return Stepped::Out;
             }
         }
         Stepped::On
+    }
+
+    /// Tells the host which interfaces went bus off, and which were restarted. Within `MOST_STEPS` attempts none is
+    /// restarted and goes off again.
+    fn tell_changes(&self, bus: usize, changes: Changes) {
+        if changes.off.0 == 0 && changes.restarted.0 == 0 {
+            return;
+        }
+        for number in 0..16 {
+            if let Some(iface) = Iface::new(number) {
+                if changes.off.contains(iface) {
+                    self.host.tell(Notice::WentOff { bus, iface });
+                }
+                if changes.restarted.contains(iface) {
+                    self.host.tell(Notice::Restarted { bus, iface });
+                }
+            }
+        }
+    }
+}
+
+/// The interfaces that changed in some attempts.
+#[derive(Debug, Clone, Copy)]
+struct Changes {
+    off: IfaceSet,
+    restarted: IfaceSet,
+}
+
+impl Changes {
+    fn none() -> Changes {
+        Changes {
+            off: IfaceSet::empty(),
+            restarted: IfaceSet::empty(),
+        }
+    }
+
+    fn note(&mut self, attempt: &Attempt) {
+        match attempt {
+            Attempt::Idle(restarted) => self.restarted.0 |= restarted.0,
+            Attempt::Tried(tried) => {
+                self.off.0 |= tried.off.0;
+                self.restarted.0 |= tried.restarted.0;
+            }
+        }
     }
 }
 

@@ -87,7 +87,8 @@ impl Guests {
         })
     }
 
-    /// Takes a connection in at this moment: its place. Where nobody comes in any more it has none, however many are free.
+    /// Takes a connection in at this moment: its place. Where nobody comes in any more it has none, however many are
+    /// free.
     pub fn admit(&mut self, conn: Arc<Conn, Global>, now: Moment) -> Result<usize, NotAdmitted>
         ensures { Admits self.old conn now result self.new }
     {
@@ -125,8 +126,9 @@ impl Guests {
         }
     }
 
-    /// Shuts the connections of idle guests down, since another has found no place: of those that came 60 seconds ago or
-    /// earlier and whose sessions have not been raw. Whether a place is about to get free, that of a guest that is shut out.
+    /// Shuts the connections of idle guests down, since another has found no place: of those that came 60 seconds ago
+    /// or earlier and whose sessions have not been raw. Whether a place is about to get free, that of a guest that is
+    /// shut out.
     pub fn make_room(&mut self, now: Moment) -> bool
         ensures guests { self.new ≡ record { places = map (option_map (asked_for_room now)) self.old.places; is_closed = self.old.is_closed } }
         ensures soon { IsTrue result ↔ Any IsShutOut self.new.places }

@@ -7,12 +7,12 @@
 //!
 //! [`serve`] takes connections in at its doors. Each is a session of two threads, one that reads what the client says
 //! and one that delivers its items, over a pass of the bus that it opens. Each bus has a driver, which steps it while
-//! an interface has a frame to send or counts towards its restart. At the end all passes are handed back, for the hub to
-//! settle.
+//! an interface has a frame to send or counts towards its restart. At the end all passes are handed back, for the hub
+//! to settle.
 //!
-//! Of the threads it is proved that one list of passes is handed back for each bus, and that a server that is closed lets
-//! nobody in ([`Guests`]). The sessions are can_dialog's, each with a pass of its own. Not promised: that a peer gets
-//! anything, how long anybody waits, that no two wait for each other.
+//! Of the threads it is proved that one list of passes is handed back for each bus, and that a server that is closed
+//! lets nobody in ([`Guests`]). The sessions are can_dialog's, each with a pass of its own. Not promised: that a peer
+//! gets anything, how long anybody waits, that no two wait for each other.
 #![tactic(auto)]
 
 mod accepting;
@@ -23,11 +23,13 @@ mod driving;
 pub mod guests;
 pub mod held;
 pub mod hubs;
+pub mod notices;
 pub mod ports;
 mod returned;
 mod server;
 pub mod serving;
 mod sessions;
+mod sums;
 mod talks;
 
 pub use benches::Bench;
@@ -36,5 +38,6 @@ pub use doors::{Door, Listener};
 pub use guests::{Guests, NotAdmitted};
 pub use held::HeldPort;
 pub use hubs::{Hub, SettleFault};
+pub use notices::Notice;
 pub use ports::PassPort;
 pub use serving::{Clock, serve};

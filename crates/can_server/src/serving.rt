@@ -3,6 +3,7 @@ ghost use Rattle.std.specs.Prelude.{◌≡◌, length, IfOk};
 use crate::doors::Door;
 use crate::guests::Guests;
 use crate::hubs::Hub;
+use crate::notices::Notice;
 use crate::returned::Returned;
 use crate::server::Server;
 use can_fault::FaultSource;
@@ -26,11 +27,14 @@ pub trait Clock {
     /// The moment of a call.
     fn now(&self) -> Moment;
 
-    /// The record of this bus is full, so its calls are refused from now on. It is told once.
-    fn bus_is_full(&self, _bus: usize) {}
+    /// Whether the host wants to be told of sessions, which takes a look at each call that they made. It is asked at
+    /// any time, and its answer stays the same.
+    fn is_curious(&self) -> bool {
+        false
+    }
 
-    /// Memory was refused to the driver of this bus, so no frame is tried on it any more. It is told once.
-    fn bus_has_no_driver(&self, _bus: usize) {}
+    /// Takes a notice. Those of sessions lack addresses and counts where the host is not curious.
+    fn tell(&self, _notice: Notice) {}
 }
 
 /// Serves the sessions of all doors over the buses of a hub, and hands their passes back, those of each bus in a list
@@ -39,10 +43,11 @@ pub trait Clock {
 /// Each bus has a driver, which steps while an interface has a frame to send or counts towards its restart; each door a
 /// thread that accepts; each session one that reads and, in raw mode, one that delivers. It returns once as many
 /// sessions as the doors have were accepted and all are over, or after the end of `until`: then nobody comes in any
-/// more, and the sessions at work are shut down. After the last of its sessions a door is closed, so that the system refuses
-/// who comes later. The 65th session at once is told so and counts as one that was accepted, unless a session
-/// has not been raw for 60 seconds by the clock: that one is closed, and the newcomer gets its place. Where no connection
-/// can be accepted, as for want of file descriptors, a door tries again each 100 ms; 64 tries in vain count as one session.
+/// more, and the sessions at work are shut down. After the last of its sessions a door is closed, so that the system
+/// refuses who comes later. The 65th session at once is told so and counts as one that was accepted, unless a session
+/// has not been raw for 60 seconds by the clock: that one is closed, and the newcomer gets its place. Where no
+/// connection can be accepted, as for want of file descriptors, a door tries again each 100 ms; 64 tries in vain count
+/// as one session.
 ///
 /// A fault of a session's connection, or memory refused to it, ends that session alone. `AllocError` where memory was
 /// refused to the server's own start; then the threads that were started are over too, and the stations are stopped.

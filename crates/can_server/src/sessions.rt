@@ -1,9 +1,12 @@
 use crate::accepting::Admitted;
 use crate::conns::Conn;
+use crate::notices::Notice;
 use crate::server::Server;
 use crate::serving::Clock;
+use crate::sums::Sums;
 use crate::talks::{Place, Talk};
 use can_fault::FaultSource;
+use can_frame::Iface;
 use can_meter::MeterName;
 use can_roll::RollName;
 use can_station::{Gate, Pass, Station, Wake};
@@ -40,32 +43,42 @@ impl<
 > Server<'a, N, F, G, C, R> {
     /// Runs a session to its end, and hands its pass back. Its place is free before the client sees the end.
     pub fn run_session(&self, admitted: Admitted) {
-        let Admitted { conn, place } = admitted;
-        if let Some(pass) = self.converse(&conn, place) {
+        let mut sums = Sums::none();
+        if let Some(pass) = self.converse(&admitted) {
+            if self.host.is_curious() {
+                sums = Sums::of(&pass);
+            }
             self.returned.lock(self.rt).take(pass);
         }
-        self.guests.lock(self.rt).leave(place);
-        conn.shutdown();
+        self.let_go(admitted.place);
+        admitted.conn.shutdown();
+        self.tell_end(admitted.session, sums);
     }
 
     /// Talks with a client to the end: the pass, where it opened a bus.
-    fn converse(&self, conn: &Conn, guest: usize) -> Option<Pass<N>> {
+    fn converse(&self, admitted: &Admitted) -> Option<Pass<N>> {
         let mut talk = Talk::new(self.rt, self.alloc, self.hub).ok()?;
-        if !talk.greet(conn) {
+        if !talk.greet(&admitted.conn) {
             return None;
         }
         let talk = Mutex::new(talk);
-        self.hear_all(&talk, conn, guest);
+        self.hear_all(&talk, admitted);
         talk.into_inner().into_pass()
     }
 
     /// Reads what the client says. Once the session is raw, its guest keeps its place, and a thread delivers its items
     /// beside.
-    fn hear_all(&self, talk: &Mutex<Talk<'_, N, F, G, R>>, conn: &Conn, guest: usize) {
+    fn hear_all(&self, talk: &Mutex<Talk<'_, N, F, G, R>>, admitted: &Admitted) {
+        let conn = &*admitted.conn;
         let Some(place) = self.hear_until_raw(talk, conn) else {
             return;
         };
-        self.guests.lock(self.rt).keep(guest);
+        self.guests.lock(self.rt).keep(admitted.place);
+        self.host.tell(Notice::Opened {
+            session: admitted.session,
+            bus: usize::from(place.station.number()),
+            iface: place.iface,
+        });
         let place = &place;
         thread::scope(thread::scope_env(), self.rt, |scope| {
             let delivers = scope
@@ -142,6 +155,14 @@ impl<
         }
     }
 
+    /// Tells the host that a session has restarted an interface, if it has.
+    fn tell_restart(&self, station: &Station<N, F, G>, restarted: Option<Iface>) {
+        if let Some(iface) = restarted {
+            let bus = usize::from(station.number());
+            self.host.tell(Notice::Restarted { bus, iface });
+        }
+    }
+
     /// Reads one piece, and carries it out.
     fn hear(&self, talk: &Mutex<Talk<'_, N, F, G, R>>, conn: &Conn) -> Heard {
         let mut piece = [0_u8; PIECE];
@@ -153,9 +174,15 @@ impl<
         let mut talk = talk.lock(self.rt);
         let goes_on = talk.feed(self.alloc, &piece[..count], moment, conn);
         let station = talk.station();
+        let restarted = if self.host.is_curious() {
+            talk.look_for_restart()
+        } else {
+            None
+        };
         drop(talk);
         if let Some(station) = station {
             self.stop_full(station);
+            self.tell_restart(station, restarted);
         }
         if goes_on { Heard::More } else { Heard::Over }
     }

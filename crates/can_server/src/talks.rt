@@ -2,10 +2,10 @@ use crate::conns::{Conn, Out};
 use crate::held::HeldPort;
 use crate::hubs::Hub;
 use crate::ports::PassPort;
-use can_bus::SocketId;
+use can_bus::{Entry, Event, Reply, SocketId};
 use can_dialog::{Session, Stage};
 use can_fault::FaultSource;
-use can_frame::Moment;
+use can_frame::{Iface, Moment};
 use can_meter::MeterName;
 use can_roll::RollName;
 use can_station::{Gate, Pass, Station};
@@ -19,10 +19,11 @@ const MOST_BYTES: usize = 1024;
 /// The most bytes of an item's text.
 const LONGEST: usize = 256;
 
-/// Where the socket of a session in raw mode is.
+/// Where the socket of a session in raw mode is, and of which interface it is one.
 #[derive(Drop)]
 pub struct Place<'a, N: RollName + MeterName, F: FaultSource + Drop, G: Gate + Drop> {
     pub station: &'a Station<N, F, G>,
+    pub iface: Iface,
     pub socket: SocketId,
 }
 
@@ -33,6 +34,8 @@ pub struct Talk<'a, N: RollName + MeterName, F: FaultSource + Drop, G: Gate + Dr
     port: PassPort<'a, N, F, G, R>,
     /// The texts of items that go out in one write, with room for `MOST_BYTES`.
     batch: Vec<u8>,
+    /// How many calls were looked at for a restart.
+    looked: usize,
 }
 
 impl<'a, N: RollName + MeterName, F: FaultSource + Drop, G: Gate + Drop, R: Wait> Talk<
@@ -52,6 +55,7 @@ impl<'a, N: RollName + MeterName, F: FaultSource + Drop, G: Gate + Drop, R: Wait
             session: Session::new(alloc, 0)?,
             port: PassPort::new(rt, alloc, hub),
             batch: Vec::with_capacity(alloc, MOST_BYTES)?,
+            looked: 0,
         })
     }
 
@@ -122,15 +126,37 @@ impl<'a, N: RollName + MeterName, F: FaultSource + Drop, G: Gate + Drop, R: Wait
         match (self.session.stage(), self.port.station()) {
             (Stage::Raw(raw), Some(station)) => Some(Place {
                 station,
+                iface: raw.iface,
                 socket: raw.socket,
             }),
             _ => None,
         }
     }
 
+    /// The interface that the session has restarted since the last look, if it has.
+    pub fn look_for_restart(&mut self) -> Option<Iface> {
+        let entered = self.port.entered.as_ref()?;
+        let mut restarted = None;
+        for place in self.looked..entered.pass.len() {
+            if let Some(call) = entered.pass.call(place) {
+                restarted = restart_in(call.entry()).or(restarted);
+            }
+        }
+        self.looked = entered.pass.len();
+        restarted
+    }
+
     /// The pass, where a station was entered.
     pub fn into_pass(self) -> Option<Pass<N>> {
         let Talk { port, .. } = self;
         port.into_pass()
+    }
+}
+
+/// The interface that a call restarted, if it did.
+fn restart_in(call: &Entry) -> Option<Iface> {
+    match &call.event {
+        Event::Restart(iface, _) if call.reply == Reply::Done => Some(*iface),
+        _ => None,
     }
 }

@@ -9,6 +9,7 @@ mod guests;
 mod held;
 mod hubs;
 mod limits;
+mod notices;
 mod peers;
 mod ports;
 mod restarts;

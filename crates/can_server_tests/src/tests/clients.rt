@@ -3,7 +3,7 @@
 ghost use Rattle.std.specs.Prelude.{◌≡◌, length};
 
 use super::*;
-use can_server::{Conn, Door, Listener, serve};
+use can_server::{Conn, Door, Listener, Notice, serve};
 use can_station::Settled;
 use std::io::Write;
 use std::net::{Net, TcpListener, TcpStream};
@@ -33,7 +33,8 @@ const PATIENCE: u64 = 20;
 /// How many looks are made before a test gives up.
 const TURNS: u32 = 10_000;
 
-/// The host of a test: its clock stands, until it is a minute later, and it counts how often it was told of a full record.
+/// The host of a test: its clock stands, until it is a minute later, and it counts how often it was told of a full
+/// record.
 #[derive(Drop)]
 pub struct Host {
     moment: Moment,
@@ -63,8 +64,10 @@ impl can_server::Clock for Host {
         }
     }
 
-    fn bus_is_full(&self, _bus: usize) {
-        self.told.fetch_add(1, Ordering::SeqCst);
+    fn tell(&self, notice: Notice) {
+        if let Notice::Full { .. } = notice {
+            self.told.fetch_add(1, Ordering::SeqCst);
+        }
     }
 }
 

@@ -62,8 +62,8 @@ fn the_65th_session_at_once_is_refused(rt: HostRuntime) {
 /// How many connections nothing is heard of.
 const SILENT: u32 = 63;
 
-/// All places are taken, all but one by silent clients. A minute later the next client is served, and the one in raw mode
-/// goes on.
+/// All places are taken, all but one by silent clients. A minute later the next client is served, and the one in raw
+/// mode goes on.
 fn make_room<R: Machine>(
     rt: &R,
     alloc: Global,

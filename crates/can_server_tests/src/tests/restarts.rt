@@ -11,7 +11,7 @@ use std::marker::Brand;
 use std::thread::join;
 
 /// The first 32 attempts are destroyed.
-const SCRIPT: &str = "\
+pub const SCRIPT: &str = "\
 0 global bit\n1 global bit\n2 global bit\n3 global bit\n4 global bit\n5 global bit\n6 global bit\n7 global bit\n\
 8 global bit\n9 global bit\n10 global bit\n11 global bit\n12 global bit\n13 global bit\n14 global bit\n\
 15 global bit\n16 global bit\n17 global bit\n18 global bit\n19 global bit\n20 global bit\n21 global bit\n\

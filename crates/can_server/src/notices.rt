@@ -1,0 +1,48 @@
+use can_frame::Iface;
+use std::net::SocketAddr;
+
+/// What a server tells its host of while it runs. The sessions of a door are numbered from 1.
+#[derive(Debug, Clone, Copy)]
+pub enum Notice {
+    /// A session begins. Its client has this address, or came to a Unix path.
+    Came {
+        session: u32,
+        from: Option<SocketAddr>,
+    },
+    /// A client was told that there are too many sessions.
+    TurnedAway {
+        session: u32,
+        from: Option<SocketAddr>,
+    },
+    /// A session opened a socket on this interface of a bus.
+    Opened {
+        session: u32,
+        bus: usize,
+        iface: Iface,
+    },
+    /// A session is over. So many frames that it sent were refused, and so many items found no room at its socket, as
+    /// far as that is known where the record is full.
+    Went {
+        session: u32,
+        refused: u64,
+        dropped: u64,
+    },
+    /// An interface of a bus went bus off.
+    WentOff {
+        bus: usize,
+        iface: Iface,
+    },
+    /// An interface of a bus was restarted.
+    Restarted {
+        bus: usize,
+        iface: Iface,
+    },
+    /// The record of this bus is full, so its calls are refused from now on. It is told once.
+    Full {
+        bus: usize,
+    },
+    /// Memory was refused to the driver of this bus, so no frame is tried on it any more. It is told once.
+    NoDriver {
+        bus: usize,
+    },
+}

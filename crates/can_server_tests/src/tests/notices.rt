@@ -1,0 +1,119 @@
+// What a host that asks for it is told while a server runs.
+
+ghost use Rattle.std.specs.Prelude.{◌≡◌};
+ghost use Rattle.can_server.specs.Benches.{NamedFrom};
+
+use super::clients::*;
+use super::restarts::SCRIPT;
+use super::*;
+use can_server::{Clock, Notice, serve};
+use std::marker::Brand;
+use std::sync::atomic::{AtomicU64, Ordering};
+use std::thread::join;
+
+/// A host that counts what it is told of.
+#[derive(Drop)]
+struct Counting {
+    moment: Moment,
+    /// Sessions that came from an address, that opened can0 or can1, and that went.
+    came: AtomicU64,
+    opened: AtomicU64,
+    went: AtomicU64,
+    /// Frames that were refused.
+    refused: AtomicU64,
+    /// How often can0 went bus off, and was restarted.
+    off: AtomicU64,
+    restarted: AtomicU64,
+}
+
+impl Counting {
+    fn new<R: Abort>(rt: &R) -> Counting {
+        Counting {
+            moment: moment(rt, 23_424_242),
+            came: AtomicU64::new(0),
+            opened: AtomicU64::new(0),
+            went: AtomicU64::new(0),
+            refused: AtomicU64::new(0),
+            off: AtomicU64::new(0),
+            restarted: AtomicU64::new(0),
+        }
+    }
+}
+
+impl Clock for Counting {
+    fn now(&self) -> Moment {
+        self.moment
+    }
+
+    fn is_curious(&self) -> bool {
+        true
+    }
+
+    fn tell(&self, notice: Notice) {
+        match notice {
+            Notice::Came { from: Some(_), .. } => add(&self.came, 1),
+            Notice::Opened { bus: 0, .. } => add(&self.opened, 1),
+            Notice::Went { refused, .. } => {
+                add(&self.went, 1);
+                add(&self.refused, refused);
+            }
+            Notice::WentOff { bus: 0, iface } if iface.number() == 0 => add(&self.off, 1),
+            Notice::Restarted { bus: 0, iface } if iface.number() == 0 => add(&self.restarted, 1),
+            _ => {}
+        }
+    }
+}
+
+fn add(count: &AtomicU64, more: u64) {
+    count.fetch_add(more, Ordering::SeqCst);
+}
+
+/// The first client's interface goes off, it sends in vain, restarts the interface and sends again.
+fn talk<R: Abort>(mut first: Client<'_, R>, mut second: Client<'_, R>) {
+    second.ask("< open can1 >< rawmode >", "< hi >< ok >< ok >");
+    first.ask(
+        "< open can0 >< rawmode >< errmask 40 >",
+        "< hi >< ok >< ok >< ok >",
+    );
+    first.ask("< send 123 0 >", "< error 040 23.424242 >");
+    first.ask("< send 123 0 >", "< error bus off >");
+    first.ask("< restart >", "< ok >");
+    first.say("< send 123 0 >");
+    second.hear("< frame 123 23.424242  >");
+}
+
+/// A server of two clients, and what its host was told of them.
+fn told<N: RollName + MeterName + Send + Sync, R: Machine>(
+    rt: &R,
+    alloc: Global,
+    benches: Vec<Bench<Script, Open>>,
+    entrance: Entrance,
+)
+    requires { NamedFrom N.roll N.meter 0 benches.items }
+{
+    let hub = made::<N, _, _, _>(rt, alloc, benches);
+    let host = Counting::new(rt);
+    let (first, second) = (entrance.admit(rt, alloc), entrance.admit(rt, alloc));
+    let doors = entrance.into_doors(rt, alloc);
+    let (served, ()) = join(
+        rt,
+        || serve(rt, alloc, &hub, &doors, &host, None).is_ok(),
+        || talk(first, second),
+    );
+    assert!(rt; served);
+    let counts = [&host.came, &host.opened, &host.went];
+    for count in counts {
+        assert!(rt; count.load(Ordering::SeqCst) == 2);
+    }
+    for count in [&host.refused, &host.off, &host.restarted] {
+        assert!(rt; count.load(Ordering::SeqCst) == 1);
+    }
+}
+
+#[test]
+fn a_host_is_told_of_sessions_and_of_bus_off(rt: HostRuntime) {
+    let alloc = rt.alloc();
+    let (names, faults) = (names(&rt, alloc, "can0,can1"), script(&rt, alloc, SCRIPT));
+    let benches = one(&rt, alloc, held_bench(&rt, alloc, names, faults, Open));
+    told::<Brand, _>(&rt, alloc, benches, Entrance::new(&rt, 2));
+}
