@@ -38,7 +38,8 @@ pub struct Admitted {
 /// Who comes in at a door.
 #[derive(Drop)]
 enum Next {
-    Admitted(Admitted),
+    /// A guest has this place.
+    Admitted(usize),
     /// Nobody could be accepted for all tries, or nobody else is let in now.
     Nobody,
     /// The server is closed.
@@ -59,11 +60,13 @@ impl<
     pub fn accept_all(&self, door: &Door) {
         thread::scope(thread::scope_env(), self.rt, |scope| {
             for before in 0..door.sessions() {
-                match self.next_guest(door, before + 1) {
-                    Next::Admitted(admitted) => {
-                        let place = admitted.place;
-                        let session = admitted.session;
-                        if scope.spawn(move || self.run_session(admitted)).is_err() {
+                let session = before + 1;
+                match self.next_guest(door, session) {
+                    Next::Admitted(place) => {
+                        if scope
+                            .spawn(move || self.run_session(place, session))
+                            .is_err()
+                        {
                             self.let_go(place);
                             self.tell_end(session, Sums::none());
                         }
@@ -127,11 +130,7 @@ impl<
         match self.find_place(&conn) {
             Ok(place) => {
                 self.host.tell(Notice::Came { session, from });
-                Next::Admitted(Admitted {
-                    conn,
-                    place,
-                    session,
-                })
+                Next::Admitted(place)
             }
             Err(NotAdmitted::Closed) => Next::Closed,
             Err(NotAdmitted::Full) => {

@@ -103,6 +103,17 @@ impl Guests {
         Ok(place)
     }
 
+    /// The connection of the guest at this place, if there is one.
+    pub(crate) fn conn(&self, place: usize) -> Option<Arc<Conn, Global>> {
+        if place >= self.places.len() {
+            return None;
+        }
+        match &self.places[place] {
+            Some(guest) => Arc::try_clone(&guest.conn).ok(),
+            None => None,
+        }
+    }
+
     // A place that is free.
     fn free_place(&self) -> Option<usize>
         ensures { MatchOption result ((place : ℕ) → ¬ IsFree self.now.places place) (λ place. IsFree self.now.places place) }

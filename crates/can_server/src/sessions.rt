@@ -42,7 +42,15 @@ impl<
     R: Threads + Wait + time::Clock + Sync,
 > Server<'a, N, F, G, C, R> {
     /// Runs a session to its end, and hands its pass back. Its place is free before the client sees the end.
-    pub fn run_session(&self, admitted: Admitted) {
+    pub fn run_session(&self, place: usize, session: u32) {
+        let Some(conn) = self.guests.lock(self.rt).conn(place) else {
+            return;
+        };
+        let admitted = Admitted {
+            conn,
+            place,
+            session,
+        };
         let mut sums = Sums::none();
         if let Some(pass) = self.converse(&admitted) {
             if self.host.is_curious() {
