@@ -21,7 +21,7 @@ struct Counting {
     went: AtomicU64,
     /// Frames that were refused.
     refused: AtomicU64,
-    /// How often can0 went bus off, and was restarted.
+    /// How often an interface went bus off, and was restarted.
     off: AtomicU64,
     restarted: AtomicU64,
 }
@@ -57,8 +57,8 @@ impl Clock for Counting {
                 add(&self.went, 1);
                 add(&self.refused, refused);
             }
-            Notice::WentOff { bus: 0, iface } if iface.number() == 0 => add(&self.off, 1),
-            Notice::Restarted { bus: 0, iface } if iface.number() == 0 => add(&self.restarted, 1),
+            Notice::WentOff { bus: 0, .. } => add(&self.off, 1),
+            Notice::Restarted { bus: 0, .. } => add(&self.restarted, 1),
             _ => {}
         }
     }
