@@ -13,7 +13,7 @@ _canbusd() {
     *,audit) compopt -o default ;;
     *,help) _canbusd_offer "bench serve audit" ;;
     *,bench) _canbusd_word "$options --record --log --strict" ;;
-    *,serve) _canbusd_word "$options --listen --sessions --pace --out --until-eof" ;;
+    *,serve) _canbusd_word "$options --listen --sessions --pace --out --until-eof --verbose" ;;
     esac
 }
 

@@ -38,6 +38,7 @@ complete -c canbusd -n $serves -x -l sessions -d "How many sessions before the e
 complete -c canbusd -n $serves -x -l pace -d "Milliseconds of rest after each attempt"
 complete -c canbusd -n $serves -x -l out -a "(__fish_complete_directories)" -d "Where logs and records go"
 complete -c canbusd -n $serves -l until-eof -d "End at the end of standard input"
+complete -c canbusd -n $serves -l verbose -d "Tell of clients and of bus off on standard error"
 
 # The tools: the options that their help has, and files.
 for tool in canbusd-report candump2bench

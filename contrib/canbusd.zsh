@@ -44,6 +44,7 @@ _canbusd() {
             '--pace=[milliseconds of rest after each attempt]:milliseconds:' \
             '--out=[where logs and records go]:folder:_files -/' \
             '--until-eof[end at the end of standard input]' \
+            '--verbose[tell of clients and of bus off on standard error]' \
             '*:bus:_canbusd_bus'
         ;;
     audit) _arguments '(- *)--help[show the help]' '1:record:_files' ;;

@@ -36,6 +36,7 @@ TYPED = [
     ("canbusd serve --out=lo", "gs/"),
     ("canbusd serve --out lo", "gs/"),
     ("canbusd serve --until", "-eof "),
+    ("canbusd serve --verb", "ose "),
     ("canbusd serve --auto-restart 5 --until", "-eof "),
     ("canbusd bench can0,can1@fau", "lts.script "),
     ("canbusd bench can0@logs/", "kept.rec "),

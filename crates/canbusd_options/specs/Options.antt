@@ -73,3 +73,5 @@ pub record AreServeOptions (rows : List Row) (o : ServeOptions) : Type 0 where
   pub folder : option_map (λ path. path.now) o.folder ≡ first_of (codes "out") rows
   pub until_eof : one_of (codes "until-eof") rows ≡ Some (codes "true") → o.is_until_eof ≡ true
   pub on_and_on : one_of (codes "until-eof") rows ≡ Some (codes "false") → o.is_until_eof ≡ false
+  pub verbose : one_of (codes "verbose") rows ≡ Some (codes "true") → o.is_verbose ≡ true
+  pub quiet : one_of (codes "verbose") rows ≡ Some (codes "false") → o.is_verbose ≡ false

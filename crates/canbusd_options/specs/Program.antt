@@ -48,12 +48,13 @@ bench_app =
 
 abbrev pub serve_app : App
 serve_app =
-    with_rule (with_rule (with_rule (with_rule (with_rule (with_rule (with_bus_rules (new_app (codes "serve")))
+    with_rule (with_rule (with_rule (with_rule (with_rule (with_rule (with_rule (with_bus_rules (new_app (codes "serve")))
     (default_rule (codes "listen") (codes "127.0.0.1:29536")))
     (default_rule (codes "sessions") (codes "4000")))
     (default_rule (codes "pace") (codes "1")))
     (option_rule (codes "out")))
     (flag_rule (codes "until-eof")))
+    (flag_rule (codes "verbose")))
     (words_rule (codes "BUS"))
 
 abbrev pub audit_app : App

@@ -68,6 +68,7 @@ milliseconds later the next attempt may follow. Moments are microseconds since 1
 It prints `listening ADDR`, with the port that it got where the port given is 0. Once N sessions have come and ended,
 or with --until-eof standard input has ended, it prints for each bus, by its first name, `bus NAME entries N`, and
 writes DIR/NAME.log, which candump's readers take, and DIR/NAME.rec, which `canbusd audit` checks. DIR must exist.
+With --verbose standard error has a line for each client that comes, opens an interface or goes, and for each bus off.
 
 --limit is for each bus, and it is how long a run can be. Each send, each attempt and each receive of a session is an
 entry. It takes 32 bytes in the record, and up to 64 in the list of the session that made it; with an FD frame 76 more

@@ -26,6 +26,8 @@ const OUT: &str = "out";
 
 const UNTIL_EOF: &str = "until-eof";
 
+const VERBOSE: &str = "verbose";
+
 const MOST_SESSIONS: u32 = 4_000;
 
 const MOST_PACE: u32 = 60_000;
@@ -45,6 +47,8 @@ pub struct ServeOptions<'a> {
     pub folder: Option<&'a str>,
     /// Whether the end of standard input ends the run.
     pub is_until_eof: bool,
+    /// Whether sessions and changes of the buses are told while they happen.
+    pub is_verbose: bool,
 }
 
 pub fn serve_options<'a>(alloc: Global, serve: &ArgMatches<'a>) -> Result<ServeOptions<'a>, Error>
@@ -59,6 +63,7 @@ pub fn serve_options<'a>(alloc: Global, serve: &ArgMatches<'a>) -> Result<ServeO
         pace_ms: number_within(alloc, Verb::Serve, serve, PACE, 0, MOST_PACE)?,
         folder: serve.get_str(OUT),
         is_until_eof: serve.get_flag(UNTIL_EOF),
+        is_verbose: serve.get_flag(VERBOSE),
     })
 }
 
@@ -97,6 +102,7 @@ pub fn serve_command<'a>(alloc: Global) -> Result<Command<'a>, AllocError>
         .arg(number_option(alloc, PACE, "MS", "1", pace_help))?
         .arg(out_option(alloc))?
         .arg(until_eof_option(alloc))?
+        .arg(verbose_option(alloc))?
         .arg(buses_argument(alloc))
 }
 
@@ -135,4 +141,14 @@ fn until_eof_option<'a>(alloc: Global) -> Arg<'a>
         .long(UNTIL_EOF)
         .action(ArgAction::SetTrue)
         .help("End the run where standard input ends")
+}
+
+fn verbose_option<'a>(alloc: Global) -> Arg<'a>
+    ensures rule { rule_of result ≡ flag_rule (codes "verbose") }
+    ensures local { result.global ≡ false }
+{
+    Arg::new(alloc, VERBOSE)
+        .long(VERBOSE)
+        .action(ArgAction::SetTrue)
+        .help("Tell of clients and of bus off on standard error, a line each")
 }

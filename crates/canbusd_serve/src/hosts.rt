@@ -2,9 +2,11 @@
 ghost use Rattle.std.specs.Prelude.{◌≡◌, ◌-◌, ◌^◌, ◌/◌, min};
 ghost use Rattle.std.specs.Duration.{as_nanos};
 
+use crate::notices::notice_line;
 use can_frame::Moment;
 use can_server::{Clock, Notice};
 use canbusd_options::BusWord;
+use std::alloc::Global;
 use std::io::Write;
 use std::sync::atomic::{AtomicBool, Ordering};
 use std::sync::{Mutex, Wait};
@@ -14,10 +16,14 @@ use std::time::Duration;
 /// The last moment, in microseconds.
 const LAST: u128 = 9_999_999_999_999_999;
 
-/// The system's clock, and where it is told that a bus came to its end before the server.
+/// The system's clock, and where it is told that a bus came to its end before the server, and all else if that is asked
+/// for.
 #[derive(Drop)]
 pub struct Host<'h, 'a, 'l, H, E: Write> {
     pub rt: &'h H,
+    pub alloc: Global,
+    /// Whether each notice gets a line.
+    pub is_verbose: bool,
     pub buses: &'h [BusWord<'a>],
     pub errors: Mutex<&'h mut E>,
     /// Whether a bus has lost its driver.
@@ -33,7 +39,14 @@ impl<H: Wait + time::Clock, E: Write> Clock for Host<'_, '_, '_, H, E> {
         }
     }
 
+    fn is_curious(&self) -> bool {
+        self.is_verbose
+    }
+
     fn tell(&self, notice: Notice) {
+        if self.is_verbose {
+            self.put_line(notice);
+        }
         match notice {
             Notice::Full { bus } => self.put_fault(bus, "record full"),
             Notice::NoDriver { bus } => {
@@ -45,7 +58,14 @@ impl<H: Wait + time::Clock, E: Write> Clock for Host<'_, '_, '_, H, E> {
     }
 }
 
-impl<H: Wait, E: Write> Host<'_, '_, '_, H, E> {
+impl<H: Wait + time::Clock, E: Write> Host<'_, '_, '_, H, E> {
+    fn put_line(&self, notice: Notice) {
+        if let Ok(line) = notice_line(self.alloc, self.now(), self.buses, notice) {
+            let mut errors = self.errors.lock(self.rt);
+            let _ = errors.write_all(line.as_bytes());
+        }
+    }
+
     fn put_fault(&self, bus: usize, what: &str) {
         if let Some(bus) = self.buses.get(bus) {
             let name = bus.first_name();

@@ -9,6 +9,7 @@ mod buses_notes;
 mod drafts;
 mod hosts;
 mod listening;
+mod notices;
 mod serve_files;
 mod serve_job;
 mod socket_files;

@@ -242,6 +242,8 @@ impl<'r, 'a, H: ServerRuntime> ServerRun<'r, 'a, H> {
     {
         let host = Host {
             rt: self.rt,
+            alloc: self.alloc,
+            is_verbose: self.options.is_verbose,
             buses: &self.options.buses,
             errors: Mutex::new(errors),
             has_lost: &self.has_lost,

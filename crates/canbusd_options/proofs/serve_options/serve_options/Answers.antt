@@ -20,4 +20,6 @@ returns-clause-given c =
       folder = c.get_str-2.ensures ∙ text_in_rows m (codes "out");
       until_eof = λ on. c.get_flag.ensures.value (flag_in_rows m (codes "until-eof") ∙ on);
       on_and_on = λ off. c.get_flag.ensures.other (flag_in_rows m (codes "until-eof") ∙ off);
+      verbose = λ on. c.get_flag-2.ensures.value (flag_in_rows m (codes "verbose") ∙ on);
+      quiet = λ off. c.get_flag-2.ensures.other (flag_in_rows m (codes "verbose") ∙ off);
     }

@@ -1,0 +1,88 @@
+//! The lines of `serve --verbose`.
+
+use can_frame::{Iface, Moment, Text};
+use can_server::Notice;
+use canbusd_options::BusWord;
+use std::alloc::{AllocError, Global};
+use std::net::SocketAddr;
+
+/// A line about a notice: the moment, as in a log, then whose it is and what happened.
+pub fn notice_line(
+    alloc: Global,
+    moment: Moment,
+    buses: &[BusWord<'_>],
+    notice: Notice,
+) -> Result<String, AllocError> {
+    let text = notice_text(alloc, buses, notice)?;
+    let mut time = Text::<17>::new();
+    time.push_moment(moment);
+    let time = str::from_utf8(time.as_bytes()).unwrap_or("");
+    format!(in alloc; "{time} {text}\n")
+}
+
+fn notice_text(alloc: Global, buses: &[BusWord<'_>], notice: Notice) -> Result<String, AllocError> {
+    match notice {
+        Notice::Came { session, from } => {
+            let from = from_text(alloc, from)?;
+            format!(in alloc; "session {session}: came{from}")
+        }
+        Notice::TurnedAway { session, from } => {
+            let from = from_text(alloc, from)?;
+            format!(in alloc; "session {session}: turned away{from}, too many sessions")
+        }
+        Notice::Opened {
+            session,
+            bus,
+            iface,
+        } => {
+            let name = name_at(buses, bus, iface);
+            format!(in alloc; "session {session}: opened {name}")
+        }
+        Notice::Went {
+            session,
+            refused,
+            dropped,
+        } => format!(in alloc;
+            "session {session}: gone, {refused} frames refused, {dropped} dropped"
+        ),
+        Notice::WentOff { bus, iface } => bus_text(alloc, name_at(buses, bus, iface), "bus off"),
+        Notice::Restarted { bus, iface } => bus_text(
+            alloc,
+            name_at(buses, bus, iface),
+            "restarted",
+        ),
+        Notice::Full { bus } => bus_text(alloc, first_name_at(buses, bus), "record full"),
+        Notice::NoDriver { bus } => bus_text(alloc, first_name_at(buses, bus), "no memory"),
+    }
+}
+
+fn bus_text(alloc: Global, name: &str, what: &str) -> Result<String, AllocError> {
+    format!(in alloc; "{name}: {what}")
+}
+
+fn from_text(alloc: Global, from: Option<SocketAddr>) -> Result<String, AllocError> {
+    match from {
+        Some(address) => format!(in alloc; " from {address}"),
+        None => Ok(String::new(alloc)),
+    }
+}
+
+// The name of an interface, empty where there is none.
+fn name_at<'a>(buses: &[BusWord<'a>], bus: usize, iface: Iface) -> &'a str {
+    match buses.get(bus) {
+        Some(bus) => bus
+            .names
+            .split(',')
+            .nth(usize::from(iface.number()))
+            .unwrap_or(""),
+        None => "",
+    }
+}
+
+// The name by which a bus is called, empty where there is none.
+fn first_name_at<'a>(buses: &[BusWord<'a>], bus: usize) -> &'a str {
+    match buses.get(bus) {
+        Some(bus) => bus.first_name(),
+        None => "",
+    }
+}
