@@ -29,7 +29,7 @@ def test_full_record():
         time.sleep(1)
         assert server.ticks() - before <= 5, f"{server.ticks() - before} hundredths of a second in one"
         assert plain(server, "can2").answer("< filter 0 >") == "< ok >", "the other bus"
-        written = server.end("canbusd: bus can0: record full")
+        written = server.end("note: bus can0: record full")
         assert written == "bus can0 entries 5\nbus can2 entries 3\n", written
         assert server.audited("can0.rec") == 5, "the audit"
 

@@ -48,10 +48,10 @@ impl<H: Wait + time::Clock, E: Write> Clock for Host<'_, '_, '_, H, E> {
             self.put_line(notice);
         }
         match notice {
-            Notice::Full { bus } => self.put_fault(bus, "record full"),
+            Notice::Full { bus } => self.put("note", bus, "record full"),
             Notice::NoDriver { bus } => {
                 self.has_lost.store(true, Ordering::SeqCst);
-                self.put_fault(bus, "no memory");
+                self.put("canbusd", bus, "no memory");
             }
             _ => {}
         }
@@ -66,11 +66,12 @@ impl<H: Wait + time::Clock, E: Write> Host<'_, '_, '_, H, E> {
         }
     }
 
-    fn put_fault(&self, bus: usize, what: &str) {
+    /// Writes what happened to a bus: a note, or a fault where the status will be 1.
+    fn put(&self, kind: &str, bus: usize, what: &str) {
         if let Some(bus) = self.buses.get(bus) {
             let name = bus.first_name();
             let mut errors = self.errors.lock(self.rt);
-            let _ = writeln!(errors, "canbusd: bus {name}: {what}");
+            let _ = writeln!(errors, "{kind}: bus {name}: {what}");
         }
     }
 }

@@ -51,7 +51,7 @@ class Run:
 
     @property
     def said(self) -> str:
-        """What the program has written to standard error so far, such as `canbusd: bus can0: record full`."""
+        """What the program has written to standard error so far, such as `note: bus can0: record full`."""
         return (self._folder / "stderr").read_text(errors="replace").strip()
 
     def _start(self, *words: str) -> None:

@@ -271,7 +271,7 @@ fn tells_once_that_a_record_is_full(rt: HostRuntime) -> Result<(), Fail> {
     let ended = ended?;
     let told = "listening ./full\nbus can0 entries 2\n";
     same(&rt, ended.output.as_slice(), told.as_bytes());
-    let told = b"canbusd: bus can0: record full\n";
+    let told = b"note: bus can0: record full\n";
     same(&rt, ended.errors.as_slice(), told.as_slice());
     same(&rt, ended.status, 0);
     Ok(())
