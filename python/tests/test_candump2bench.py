@@ -1,4 +1,4 @@
-"""contrib/candump2bench: logs as inputs of the bench. scripts/check-contrib tries it with whole logs."""
+"""contrib/candump2bench: logs as inputs of the bench. tests/test_log_readers.py tries it with whole logs."""
 
 import subprocess
 import sys

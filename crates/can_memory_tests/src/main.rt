@@ -1,6 +1,6 @@
 //! Calls of the libraries that take memory, each with what it answers, and what it leaves where it was refused.
 //!
-//! With ample memory a line says of each that it answers as ever. `scripts/check-memory` refuses this program memory, once at
+//! With ample memory a line says of each that it answers as ever. `tests/test_memory.py` refuses this program memory, once at
 //! each place: a call that was refused has to leave all as it was, and, made once more, to answer as ever; so what the program
 //! writes is the same.
 #![tactic(auto)]
