@@ -2,6 +2,7 @@
 
 import contextlib
 import os
+import re
 import resource
 import signal
 import socket
@@ -11,7 +12,7 @@ import time
 
 import pytest
 
-from serving import WAIT, Plain, come_true, line_of, plain, program, serving, serving_alone
+from serving import ROOT, WAIT, Plain, come_true, line_of, plain, program, serving, serving_alone
 
 
 def test_full_record():
@@ -32,6 +33,30 @@ def test_full_record():
         written = server.end("note: bus can0: record full")
         assert written == "bus can0 entries 5\nbus can2 entries 3\n", written
         assert server.audited("can0.rec") == 5, "the audit"
+
+
+def test_verbose():
+    """who comes, opens, goes, and each bus off and restart, each line with its moment"""
+    words = ("--verbose", "--auto-restart", "3", "--pace", "0", f"can0,can1@{ROOT}/examples/bus_off_attack.script")
+    with serving(*words) as server:
+        can0 = plain(server, "can0")
+        port = can0.socket.getsockname()[1]
+        can0.tell("< send 123 0 >")
+        come_true(lambda: "can0: restarted" in server.said())
+        refused = can0.answer("< sendfd 123 0 >")
+        assert refused == "< error fd frames off >", refused
+        can0.close()
+        come_true(lambda: "session 1: gone" in server.said())
+        status, _ = server.finish()
+        lines = [line.split(" ", 1) for line in server.said().splitlines()]
+        assert status == 0 and all(re.fullmatch(r"\d{10}\.\d{6}", moment) for moment, _ in lines), server.said()
+        assert [line for _, line in lines] == [
+            f"session 1: came from 127.0.0.1:{port}",
+            "session 1: opened can0",
+            "can0: bus off",
+            "can0: restarted",
+            "session 1: gone, 1 frames refused, 0 dropped",
+        ], server.said()
 
 
 def test_slow_reader():

@@ -44,9 +44,7 @@ impl<H: Wait + time::Clock, E: Write> Clock for Host<'_, '_, '_, H, E> {
     }
 
     fn tell(&self, notice: Notice) {
-        if self.is_verbose {
-            self.put_line(notice);
-        }
+        self.put_line(&notice);
         match notice {
             Notice::Full { bus } => self.put("note", bus, "record full"),
             Notice::NoDriver { bus } => {
@@ -59,8 +57,12 @@ impl<H: Wait + time::Clock, E: Write> Clock for Host<'_, '_, '_, H, E> {
 }
 
 impl<H: Wait + time::Clock, E: Write> Host<'_, '_, '_, H, E> {
-    fn put_line(&self, notice: Notice) {
-        if let Ok(line) = notice_line(self.alloc, self.now(), self.buses, notice) {
+    /// Writes the line of a notice, where each has one.
+    fn put_line(&self, notice: &Notice) {
+        if !self.is_verbose {
+            return;
+        }
+        if let Ok(line) = notice_line(self.alloc, self.now(), self.buses, *notice) {
             let mut errors = self.errors.lock(self.rt);
             let _ = errors.write_all(line.as_bytes());
         }
