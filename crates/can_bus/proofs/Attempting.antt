@@ -14,14 +14,12 @@ use Rattle.can_attempt.specs.Attempts.{Transmission, attempt_between, counts_at,
 use Rattle.can_attempt.proofs.Standing.{is_in-of}
 use Rattle.can_event.specs.declared.events.BusConfig.{BusConfig}
 use Rattle.can_event.specs.declared.events.Entry.{Entry}
-use Rattle.can_event.specs.declared.events.Attempt.{Attempt}
-use Rattle.can_event.specs.declared.events.Attempt.TheVariants as attempt
 use Rattle.can_event.specs.declared.events.Event.TheVariants as event
 use Rattle.can_event.specs.declared.events.Pending.{Pending}
 use Rattle.can_event.specs.declared.events.Received.{Received}
+use Rattle.can_event.specs.declared.events.Reply.{Reply}
 use Rattle.can_event.specs.declared.events.Reply.TheVariants as reply
 use Rattle.can_event.specs.declared.events.Tried.{Tried}
-use Rattle.can_bus.specs.Answer.{told_attempt}
 use Rattle.can_bus.specs.AutoRestart.{attempts_off, restarted_next}
 use Rattle.can_bus.specs.Journal.{Kept}
 use Rattle.can_bus.specs.Sockets.{places, open_sockets, is_open, iface_of, capacity_of, filters_of, options_of}
@@ -45,8 +43,8 @@ use Rattle.can_bus.proofs.NodeFacts.{counts_at-kept, is_off_at-kept, index-map}
 use Rattle.can_bus.proofs.OffFacts.{all_stepped-append, head-below, counts-beyond, off-no-head, winner-contends}
 use Rattle.can_bus.proofs.Winning.{winner-is, idle-is, holds_key}
 
-abbrev pub entry : ℕ → Verdict → Attempt → Entry
-entry m v r = record { event = event.Attempt m v; reply = told_attempt r }
+abbrev pub entry : ℕ → Verdict → Reply → Entry
+entry m v r = record { event = event.Attempt m v; reply = r }
 
 -- ---- the attempt as the kept parts have it, and as the history has it
 
@@ -125,15 +123,15 @@ not-off c past m v t w j f is ne = ap (λ (u : Tried). is_in j u.off) is ∙ off
 other-winner : (c : BusConfig) (past : List Entry) (m : ℕ) (v : Verdict) (t : Tried) (w j : ℕ) (f : CanFrame) → t ≡ tried_with c past m v w f → j ≢ w → ((t.winner == j) && is_done t.class) ≡ false
 other-winner c past m v t w j f is ne = ap (λ (b : Bool). b && is_done t.class) (ap (λ (u : Tried). u.winner == j) is ∙ ne_eqb w j (λ e. ne (sym e)))
 
-gone-other : (c : BusConfig) (past : List Entry) (m : ℕ) (v : Verdict) (t : Tried) (w j : ℕ) (f : CanFrame) → t ≡ tried_with c past m v w f → j ≢ w → gone_count (entry m v (attempt.Tried t) ∷ past) j ≡ gone_count past j
+gone-other : (c : BusConfig) (past : List Entry) (m : ℕ) (v : Verdict) (t : Tried) (w j : ℕ) (f : CanFrame) → t ≡ tried_with c past m v w f → j ≢ w → gone_count (entry m v (reply.Tried t) ∷ past) j ≡ gone_count past j
 gone-other c past m v t w j f is ne =
     cond-false (is_in j t.off) (length (sent_by past j)) (if (t.winner == j) && is_done t.class then gone_count past j + 1 else gone_count past j) (not-off c past m v t w j f is ne)
     ∙ cond-false ((t.winner == j) && is_done t.class) (gone_count past j + 1) (gone_count past j) (other-winner c past m v t w j f is ne)
 
-done-other : (c : BusConfig) (past : List Entry) (m : ℕ) (v : Verdict) (t : Tried) (w j : ℕ) (f : CanFrame) → t ≡ tried_with c past m v w f → j ≢ w → done_count (entry m v (attempt.Tried t) ∷ past) j ≡ done_count past j
+done-other : (c : BusConfig) (past : List Entry) (m : ℕ) (v : Verdict) (t : Tried) (w j : ℕ) (f : CanFrame) → t ≡ tried_with c past m v w f → j ≢ w → done_count (entry m v (reply.Tried t) ∷ past) j ≡ done_count past j
 done-other c past m v t w j f is ne = cond-false ((t.winner == j) && is_done t.class) (done_count past j + 1) (done_count past j) (other-winner c past m v t w j f is ne)
 
-line-other : (c : BusConfig) (past : List Entry) (m : ℕ) (v : Verdict) (t : Tried) (w j : ℕ) (f : CanFrame) → t ≡ tried_with c past m v w f → j ≢ w → kept_line c (entry m v (attempt.Tried t) ∷ past) j ≡ kept_line c past j
+line-other : (c : BusConfig) (past : List Entry) (m : ℕ) (v : Verdict) (t : Tried) (w j : ℕ) (f : CanFrame) → t ≡ tried_with c past m v w f → j ≢ w → kept_line c (entry m v (reply.Tried t) ∷ past) j ≡ kept_line c past j
 line-other c past m v t w j f is ne =
     let g = gone-other c past m v t w j f is ne in
     let d = done-other c past m v t w j f is ne in
@@ -161,7 +159,7 @@ line-by c past w off here = record {
   refused = (kept_line c past w).refused;
 }
 
-line-tried : (c : BusConfig) (past : List Entry) (m : ℕ) (v : Verdict) (t : Tried) (w : ℕ) (l : LineState) (p : Pending) → IsCarried c past m v t w l p → settled t.class (is_in w t.off) l ≡ kept_line c (entry m v (attempt.Tried t) ∷ past) w
+line-tried : (c : BusConfig) (past : List Entry) (m : ℕ) (v : Verdict) (t : Tried) (w : ℕ) (l : LineState) (p : Pending) → IsCarried c past m v t w l p → settled t.class (is_in w t.off) l ≡ kept_line c (entry m v (reply.Tried t) ∷ past) w
 line-tried c past m v t w l p is =
     let who : (t.winner == w) ≡ true = eq-eqb t.winner w (ap (λ (u : Tried). u.winner) is.tried_is) in
     let won : ((t.winner == w) && is_done t.class) ≡ is_done t.class = ap (λ (b : Bool). b && is_done t.class) who in
@@ -169,18 +167,18 @@ line-tried c past m v t w l p is =
     ∙ settle-kept c.tx_capacity (kept_line c past w).refused (gone_count past w) (done_count past w) (sent_by past w) (is_in w t.off) (is_done t.class)
     ∙ ap (line-by c past w (is_in w t.off)) (sym won)
 
-lines-tried : (c : BusConfig) (past : List Entry) (m : ℕ) (v : Verdict) (t : Tried) (w : ℕ) (l : LineState) (p : Pending) → IsCarried c past m v t w l p → slice_set (kept_lines c past) w (settled t.class (is_in w t.off) l) ≡ kept_lines c (entry m v (attempt.Tried t) ∷ past)
+lines-tried : (c : BusConfig) (past : List Entry) (m : ℕ) (v : Verdict) (t : Tried) (w : ℕ) (l : LineState) (p : Pending) → IsCarried c past m v t w l p → slice_set (kept_lines c past) w (settled t.class (is_in w t.off) l) ≡ kept_lines c (entry m v (reply.Tried t) ∷ past)
 lines-tried c past m v t w l p is =
     ap (slice_set (kept_lines c past) w) (line-tried c past m v t w l p is)
-    ∙ sym (kept_lines-one c past (entry m v (attempt.Tried t)) w is.is_line.below (λ j ne. line-other c past m v t w j p.frame is.tried_is ne))
+    ∙ sym (kept_lines-one c past (entry m v (reply.Tried t)) w is.is_line.below (λ j ne. line-other c past m v t w j p.frame is.tried_is ne))
 
 -- ---- the keys
 
 keys-tried : (c : BusConfig) (past : List Entry) (m : ℕ) (v : Verdict) (t : Tried) (w : ℕ) (l : LineState) (p : Pending) → c.ifaces ≤ 16
     → IsCarried c past m v t w l p
-    → slice_set (kept_keys past) w (key_in (slice_get (settled t.class (is_in w t.off) l).waiting 0)) ≡ kept_keys (entry m v (attempt.Tried t) ∷ past)
+    → slice_set (kept_keys past) w (key_in (slice_get (settled t.class (is_in w t.off) l).waiting 0)) ≡ kept_keys (entry m v (reply.Tried t) ∷ past)
 keys-tried c past m v t w l p few is =
-    let e = entry m v (attempt.Tried t) in
+    let e = entry m v (reply.Tried t) in
     let below : w < 16 = omega (arith, is.is_line.below) in
     let front : slice_get (settled t.class (is_in w t.off) l).waiting 0 ≡ head_of (e ∷ past) w = ap (λ (k : LineState). slice_get k.waiting 0) (line-tried c past m v t w l p is) ∙ slice_get-drop (gone_count (e ∷ past) w) (sent_by past w) in
     ap (λ (q : Option Pending). slice_set (kept_keys past) w (key_in q)) front
@@ -207,37 +205,37 @@ counts-kept false before = refl
 
 nodes-tried : (c : BusConfig) (past : List Entry) (m : ℕ) (v : Verdict) (t : Tried) (w : ℕ) (l : LineState) (p : Pending) → IsLegal c past
     → c.ifaces ≤ 16 → IsCarried c past m v t w l p
-    → begun_anew t.restarted (record (kept_nodes c past) { counters = (judged (attempt_between (kept_nodes c past) w v c.ack)).counters }) ≡ kept_nodes c (entry m v (attempt.Tried t) ∷ past)
+    → begun_anew t.restarted (record (kept_nodes c past) { counters = (judged (attempt_between (kept_nodes c past) w v c.ack)).counters }) ≡ kept_nodes c (entry m v (reply.Tried t) ∷ past)
 unfolding kept_nodes
 nodes-tried c past m v t w l p legal few is =
     let who : t.winner ≡ w = ap (λ (u : Tried). u.winner) is.tried_is in
-    let now : (i : ℕ) → i < 16 → (if is_in i t.restarted then at_start else slice_index_or (map (counts_after (transmission c past w v)) (range_with_len 0 16)) i at_start) ≡ counts_of c (entry m v (attempt.Tried t) ∷ past) i =
+    let now : (i : ℕ) → i < 16 → (if is_in i t.restarted then at_start else slice_index_or (map (counts_after (transmission c past w v)) (range_with_len 0 16)) i at_start) ≡ counts_of c (entry m v (reply.Tried t) ∷ past) i =
     λ i lt.
     ap (λ (x : ErrorCounts). if is_in i t.restarted then at_start else x) (index-map (counts_after (transmission c past w v)) 0 16 i at_start lt ∙ ap (counts_after (transmission c past w v)) (omega arith))
     ∙ ap (λ (k : ℕ). if is_in i t.restarted then at_start else counts_after (transmission c past k v) i) (sym who)
     ∙ sym (counts-anew (is_in i t.restarted) (steps_of c past i) (steps_at i (transmission c past t.winner v))) in
     ap (λ (tr : Transmission). begun_anew t.restarted (record { count = c.ifaces; counters = (judged tr).counters })) (between-is c past w v legal few)
     ∙ ap (λ (cs : List ErrorCounts). record { count = c.ifaces; counters = cs })
-    (map_below (λ i. if is_in i t.restarted then at_start else slice_index_or (map (counts_after (transmission c past w v)) (range_with_len 0 16)) i at_start) (counts_of c (entry m v (attempt.Tried t) ∷ past)) 0 16 (λ i lt. now i (omega (arith, lt))))
+    (map_below (λ i. if is_in i t.restarted then at_start else slice_index_or (map (counts_after (transmission c past w v)) (range_with_len 0 16)) i at_start) (counts_of c (entry m v (reply.Tried t) ∷ past)) 0 16 (λ i lt. now i (omega (arith, lt))))
 
-nodes-idle : (c : BusConfig) (past : List Entry) (m : ℕ) (v : Verdict) (rs : IfaceSet) → begun_anew rs (kept_nodes c past) ≡ kept_nodes c (entry m v (attempt.Idle rs) ∷ past)
+nodes-idle : (c : BusConfig) (past : List Entry) (m : ℕ) (v : Verdict) (rs : IfaceSet) → begun_anew rs (kept_nodes c past) ≡ kept_nodes c (entry m v (reply.Idle rs) ∷ past)
 unfolding kept_nodes
 nodes-idle c past m v rs =
     ap (λ (cs : List ErrorCounts). record { count = c.ifaces; counters = cs })
-    (map_below (λ i. if is_in i rs then at_start else slice_index_or (map (counts_of c past) (range_with_len 0 16)) i at_start) (counts_of c (entry m v (attempt.Idle rs) ∷ past)) 0 16
+    (map_below (λ i. if is_in i rs then at_start else slice_index_or (map (counts_of c past) (range_with_len 0 16)) i at_start) (counts_of c (entry m v (reply.Idle rs) ∷ past)) 0 16
     (λ i lt.
     ap (λ (x : ErrorCounts). if is_in i rs then at_start else x) (index-map (counts_of c past) 0 16 i at_start (omega (arith, lt)) ∙ ap (counts_of c past) (omega arith))
     ∙ sym (counts-kept (is_in i rs) (steps_of c past i))))
 
 -- ---- the attempts left
 
-on-tried : (c : BusConfig) (past : List Entry) (m : ℕ) (v : Verdict) (t : Tried) (i : ℕ) → t.restarted ≡ restarted_next c past → is_in i t.off ≡ false → CountsOn c past (entry m v (attempt.Tried t)) i
+on-tried : (c : BusConfig) (past : List Entry) (m : ℕ) (v : Verdict) (t : Tried) (i : ℕ) → t.restarted ≡ restarted_next c past → is_in i t.off ≡ false → CountsOn c past (entry m v (reply.Tried t)) i
 on-tried c past m v t i named live =
     ap (λ (rs : IfaceSet). if is_in i rs then None else if is_in i t.off then Some 0 else option_map suc (attempts_off past i)) named
     ∙ ap (λ (b : Bool). if is_in i (restarted_next c past) then None else if b then Some 0 else option_map suc (attempts_off past i)) live
 
 left-tried : (c : BusConfig) (past : List Entry) (m : ℕ) (v : Verdict) (t : Tried) (w : ℕ) (l : LineState) (p : Pending) → IsLegal c past → c.ifaces ≤ 16 → IsCarried c past m v t w l p
-    → counting_down c.auto_restart w (is_in w t.off) (ticked (kept_left c past)) ≡ kept_left c (entry m v (attempt.Tried t) ∷ past)
+    → counting_down c.auto_restart w (is_in w t.off) (ticked (kept_left c past)) ≡ kept_left c (entry m v (reply.Tried t) ∷ past)
 left-tried c past m v t w l p legal few is = when (is_in w t.off) refl
   where
     named : t.restarted ≡ restarted_next c past
@@ -246,19 +244,19 @@ left-tried c past m v t w l p legal few is = when (is_in w t.off) refl
     stays : is_in w t.restarted ≡ false
     stays = ap (is_in w) named ∙ live-restarted-not c past legal w (winner-contends c past w is.won).live
 
-    others : (i : ℕ) → i ≢ w → CountsOn c past (entry m v (attempt.Tried t)) i
+    others : (i : ℕ) → i ≢ w → CountsOn c past (entry m v (reply.Tried t)) i
     others i ne = on-tried c past m v t i named (not-off c past m v t w i p.frame is.tried_is ne)
 
-    all : is_in w t.off ≡ false → (i : ℕ) → CountsOn c past (entry m v (attempt.Tried t)) i
+    all : is_in w t.off ≡ false → (i : ℕ) → CountsOn c past (entry m v (reply.Tried t)) i
     all live i = elim (cases_eq i w) [
       | inl same ↦ on-tried c past m v t i named (ap (λ (k : ℕ). is_in k t.off) same ∙ live)
       | inr ne ↦ others i ne
     ]
 
-    when : (b : Bool) → is_in w t.off ≡ b → counting_down c.auto_restart w b (ticked (kept_left c past)) ≡ kept_left c (entry m v (attempt.Tried t) ∷ past)
-    when false live = left-counted c past (entry m v (attempt.Tried t)) (all live)
+    when : (b : Bool) → is_in w t.off ≡ b → counting_down c.auto_restart w b (ticked (kept_left c past)) ≡ kept_left c (entry m v (reply.Tried t) ∷ past)
+    when false live = left-counted c past (entry m v (reply.Tried t)) (all live)
     when true off =
-        left-off c past (entry m v (attempt.Tried t)) w (omega (arith, is.is_line.below, few))
+        left-off c past (entry m v (reply.Tried t)) w (omega (arith, is.is_line.below, few))
         (ap (λ (b : Bool). if b then None else if is_in w t.off then Some 0 else option_map suc (attempts_off past w)) stays ∙ ap (λ (b : Bool). if b then Some 0 else option_map suc (attempts_off past w)) off)
         others
 
@@ -326,7 +324,7 @@ reached-both p q (v ∷ vs) =
 
 -- ---- the call
 
-idle-same : (c : BusConfig) (past : List Entry) (m : ℕ) (v : Verdict) (rs : IfaceSet) → (kept_lines c (entry m v (attempt.Idle rs) ∷ past) ≡ kept_lines c past) × (kept_keys (entry m v (attempt.Idle rs) ∷ past) ≡ kept_keys past)
+idle-same : (c : BusConfig) (past : List Entry) (m : ℕ) (v : Verdict) (rs : IfaceSet) → (kept_lines c (entry m v (reply.Idle rs) ∷ past) ≡ kept_lines c past) × (kept_keys (entry m v (reply.Idle rs) ∷ past) ≡ kept_keys past)
 unfolding kept_lines kept_keys
 idle-same c past m v rs = (refl, refl)
 
@@ -336,7 +334,7 @@ came_follows : (c : BusConfig) (past : List Entry) (m : ℕ) (v : Verdict) (o : 
     → Follows c past (entry m v (came_to (due_in (kept_left c past)) o)) new
 came_follows c past m v None between new legal few tries after =
     let rs = due_in (kept_left c past) in
-    let e = entry m v (attempt.Idle rs) in
+    let e = entry m v (reply.Idle rs) in
     let due : rs ≡ restarted_next c past = due-kept c past legal in
     let same = idle-same c past m v rs in
     record {
@@ -350,7 +348,7 @@ came_follows c past m v None between new legal few tries after =
           refl refl;
     }
 came_follows c past m v (Some t) between new legal few k after =
-    let e = entry m v (attempt.Tried t) in
+    let e = entry m v (reply.Tried t) in
     let w = k.place in
     let l = k.line in
     let p = k.pending in
@@ -373,8 +371,8 @@ came_follows c past m v (Some t) between new legal few k after =
           refl (sym (length_push (tape past) t));
     }
 
-pub attempt_follows : (c : BusConfig) (past : List Entry) (m : ℕ) (v : Verdict) (r : Attempt) (new : Parts) → IsLegal c past → c.ifaces ≤ 16 → Attempts (kept_parts c past) c m v r new → Follows c past (entry m v r) new
-attempt_follows c past m v r new legal few at = subst (λ (a : Attempt). Follows c past (entry m v a) new) (sym at.came) (came_follows c past m v at.tried at.between new legal few at.tries at.after)
+pub attempt_follows : (c : BusConfig) (past : List Entry) (m : ℕ) (v : Verdict) (r : Reply) (new : Parts) → IsLegal c past → c.ifaces ≤ 16 → Attempts (kept_parts c past) c m v r new → Follows c past (entry m v r) new
+attempt_follows c past m v r new legal few at = subst (λ (a : Reply). Follows c past (entry m v a) new) (sym at.came) (came_follows c past m v at.tried at.between new legal few at.tries at.after)
 
 pub sixteen_nodes : (j : Kept) (parts : Parts) → IsKept j parts → length parts.nodes.counters ≡ 16
 sixteen_nodes j parts kept = ap (λ (q : Parts). length q.nodes.counters) kept.of_parts ∙ length-counters j.config j.history

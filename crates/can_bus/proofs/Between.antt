@@ -9,7 +9,7 @@ use Rattle.can_fault.specs.declared.verdicts.Verdict.{Verdict}
 use Rattle.can_attempt.specs.Attempts.{counts_at, attempt_between}
 use Rattle.can_attempt.specs.declared.nodes.Nodes.{Nodes}
 use Rattle.can_attempt.proofs.Standing.{is_in-of}
-use Rattle.can_event.specs.declared.events.Attempt.{Attempt}
+use Rattle.can_event.specs.declared.events.Reply.{Reply}
 use Rattle.can_event.specs.declared.events.BusConfig.{BusConfig}
 use Rattle.can_event.specs.declared.events.Tried.{Tried}
 use Rattle.can_bus.specs.Changes.{AreReady, Tries, Attempts, came_to, ticked, due_in, begun_anew, after_auto_restart}
@@ -58,7 +58,7 @@ pub ready_left : (p : Parts) (left : List ℕ) → AreReady p → AreReady (reco
 ready_left p left ready w k at = let r = ready w k at in record { there = r.there; counted = r.counted; live = r.live; has_head = r.has_head }
 
 -- the attempt, of its three steps
-pub came : (p old : Parts) (c : BusConfig) (m : ℕ) (v : Verdict) (left : List ℕ) (rs : IfaceSet) (o : Option Tried) (a : Attempt) (between new : Parts)
+pub came : (p old : Parts) (c : BusConfig) (m : ℕ) (v : Verdict) (left : List ℕ) (rs : IfaceSet) (o : Option Tried) (a : Reply) (between new : Parts)
     → p ≡ old → left ≡ ticked p.left → rs ≡ due_in p.left → Tries (record p { left = left }) c m v rs o between → a ≡ came_to rs o
     → new ≡ after_auto_restart between rs m → Attempts old c m v a new
 came p old c m v left rs o a between new same rest due tries came_is after =

@@ -1,4 +1,4 @@
-use Rattle.std.proofs.Common.{◌≡◌, ◌↔◌, ℕ, ◌<◌, ◌≤◌, Bool, false, IsTrue, List, [], ◌∷◌, length, map, Option, Result, Ok, Err, refl, sym, ap, ◌∙◌, subst, arith}
+use Rattle.std.proofs.Common.{◌≡◌, ℕ, List, [], ◌∷◌, length, map, Option, refl, sym, ap, ◌∙◌}
 use Rattle.can_attempt.specs.declared.nodes.Nodes.{Nodes}
 use Rattle.can_event.specs.declared.events.BusConfig.{BusConfig}
 use Rattle.can_event.specs.declared.events.Entry.{Entry}
@@ -8,83 +8,17 @@ use Rattle.can_event.specs.declared.events.Reply.{Reply}
 use Rattle.can_event.specs.declared.events.Reply.TheVariants as reply
 use Rattle.can_event.specs.declared.events.Refusal.{Refusal}
 use Rattle.can_event.specs.declared.events.Refusal.TheVariants as refusal
-use Rattle.can_bus.specs.Answer.{Noted, Answers, Refuses, told}
-use Rattle.can_bus.specs.Journal.{Journal, Kept}
 use Rattle.can_bus.specs.Sockets.{places, open_sockets, iface_of, filters_of, options_of}
 use Rattle.can_bus.specs.Posts.{posts_of}
 use Rattle.can_bus.specs.Queues.{taken_from}
 use Rattle.can_bus.specs.Legal.{legal_reply}
-use Rattle.can_bus.specs.State.{LineState, SocketState, Parts, kept_socket, kept_sockets, kept_lines, kept_keys, kept_nodes, kept_left, kept_parts, IsKept, IsLonger}
+use Rattle.can_bus.specs.State.{LineState, SocketState, Parts, kept_socket, kept_sockets, kept_lines, kept_keys, kept_nodes, kept_left, kept_parts}
 use Rattle.can_bus.proofs.Quiet.{queued_to-quiet, dropped_at-quiet}
-use Rattle.can_bus.proofs.Refusing.{never_full, never_no_memory}
 
 -- an entry's reply is the legal one, and the parts are what the longer history leaves
 pub record Follows (c : BusConfig) (past : List Entry) (e : Entry) (parts : Parts) : Type 0 where
   pub lawful : e.reply ≡ legal_reply c past e.event
   pub after : parts ≡ kept_parts c (e ∷ past)
-
--- one entry more is kept
-kept_more : (j new : Kept) (e : Entry) (parts parts' : Parts) → IsKept j parts → IsLonger j e new → length j.history < j.config.limit → Follows j.config j.history e parts' → IsKept new parts'
-kept_more j new e parts parts' kept longer room follows =
-    let longer_config = longer.config in
-    let longer_history = longer.history in
-    let is : ◌≡◌ {A = Kept} (record { config = j.config; history = e ∷ j.history; room = new.room }) new =
-    ap (λ (c : BusConfig). record { config = c; history = e ∷ j.history; room = new.room }) (sym longer_config) ∙ ap (λ (h : List Entry). record { config = new.config; history = h; room = new.room }) (sym longer_history) in
-    subst (λ k. IsKept k parts') is (record {
-      of_parts = follows.after;
-      legal = (room, follows.lawful, kept.legal);
-      proper = kept.proper;
-      room = omega (arith, kept.room, longer.room);
-    })
-
--- what the call's contract says of an entry that was added
-noted : (j new : Kept) (old : Journal) (e : Entry) → ◌≡◌ {A = Journal} (record { config = j.config; history = j.history }) old → IsLonger j e new
-    → length j.history < j.config.limit → e.reply ≡ legal_reply j.config j.history e.event
-    → Noted old e.event e.reply (record { config = new.config; history = new.history })
-noted j new old e view longer room lawful =
-    let longer_config = longer.config in
-    let longer_history = longer.history in
-    subst (λ (o : Journal). Noted o e.event e.reply (record { config = new.config; history = new.history })) view
-    (record {
-      room = room;
-      lawful = lawful;
-      new_is = ap (λ (c : BusConfig). record { config = c; history = new.history }) longer_config ∙ ap (λ (h : List Entry). record { config = j.config; history = h }) longer_history;
-    })
-
-refuses : (before : Journal) (event : Event) (why : Refusal) (new : Journal) → Noted before event (reply.Refused why) new → Refuses before event why new
-refuses before event refusal.RecordFull new n = absurd (never_full before.config before.history event n.lawful)
-refuses before event refusal.NoMemory new n = absurd (never_no_memory before.config before.history event n.lawful)
-refuses before event _ new n = n
-
--- an answer that was noted is the call's answer
-answered : {A : Type 0} (f : A → Reply) (before : Journal) (event : Event) (r : Result A Refusal) (new : Journal) → Noted before event (told f r) new → Answers f before event r new
-answered f before event (Ok a) new n = n
-answered f before event (Err why) new n = refuses before event why new n
-
--- a call that was noted: what is kept, and what it answers
-pub record IsDone {A : Type 0} (told' : A → Reply) (before : Journal) (event : Event) (r : Result A Refusal) (new : Kept) (parts : Parts) : Type 0 where
-  pub kept : IsKept new parts
-  pub answers : Answers told' before event r (record { config = new.config; history = new.history })
-
-not_full : (full : Bool) (n limit : ℕ) → IsTrue full ↔ (limit ≤ n) → full ≡ false → n < limit
-not_full full n limit test is = grind arith
-
--- there was room, the state changed in this way, and the reply was noted
-pub done : {A : Type 0} {j new : Kept} {before : Journal} {event : Event} {r : Result A Refusal} {w : Reply} {full : Bool} {parts parts' : Parts} (f : A → Reply) (Changed : Parts → Type 0)
-    → ◌≡◌ {A = Journal} (record { config = j.config; history = j.history }) before → IsKept j parts
-    → IsTrue full ↔ (j.config.limit ≤ length j.history) → full ≡ false → Changed parts
-    → w ≡ told f r → IsLonger j (record { event = event; reply = w }) new
-    → (Changed (kept_parts j.config j.history) → Follows j.config j.history (record { event = event; reply = told f r }) parts')
-    → IsDone f before event r new parts'
-done {A} {j} {new} {before} {event} {r} {w} {full} {parts} {parts'} f Changed view kept test is changed told_is longer follows =
-    let e : Entry = record { event = event; reply = told f r } in
-    let room = not_full full (length j.history) j.config.limit test is in
-    let next = follows (subst Changed kept.of_parts changed) in
-    let noted_is : IsLonger j e new = subst (λ (x : Reply). IsLonger j (record { event = event; reply = x }) new) told_is longer in
-    record {
-      kept = kept_more j new e parts parts' kept noted_is room next;
-      answers = answered f before event r _ (noted j new before e view noted_is room next.lawful);
-    }
 
 pub parts-are : (p q : Parts) → p.lines ≡ q.lines → p.keys ≡ q.keys → p.nodes ≡ q.nodes → p.left ≡ q.left → p.sockets ≡ q.sockets → p.opened ≡ q.opened → p.tried ≡ q.tried → p ≡ q
 parts-are p q a b c n d e f =

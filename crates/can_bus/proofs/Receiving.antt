@@ -1,14 +1,13 @@
-use Rattle.std.proofs.Common.{◌≡◌, ◌≢◌, ℕ, ◌+◌, ◌==◌, List, [], ◌∷◌, ◌++◌, length, drop, slice_get, Option, Some, None, Result, Ok, Err, refl, sym, ap, ◌∙◌}
+use Rattle.std.proofs.Common.{◌≡◌, ◌≢◌, ℕ, ◌+◌, ◌==◌, List, [], ◌∷◌, ◌++◌, length, drop, slice_get, Option, Some, None, refl, sym, ap, ◌∙◌}
 use Rattle.std.proofs.lemmas.Bool.{eq-eqb, ne_eqb, cond-true, cond-false}
 use Rattle.std.proofs.lemmas.List.{drop-drop, length_push}
 use Rattle.can_event.specs.declared.events.Entry.{Entry}
 use Rattle.can_event.specs.declared.events.BusConfig.{BusConfig}
 use Rattle.can_event.specs.declared.events.Received.{Received}
-use Rattle.can_event.specs.declared.events.Refusal.{Refusal}
+use Rattle.can_event.specs.declared.events.Reply.{Reply}
 use Rattle.can_event.specs.declared.events.SocketId.{SocketId}
 use Rattle.can_event.specs.declared.events.Event.TheVariants.{Receive}
 use Rattle.can_event.specs.declared.events.Reply.TheVariants as reply
-use Rattle.can_bus.specs.Answer.{told}
 use Rattle.can_bus.specs.Sockets.{is_open}
 use Rattle.can_bus.specs.Queues.{taken_from, queued_to, dropped_at}
 use Rattle.can_bus.specs.Legal.{legal_reply}
@@ -20,8 +19,8 @@ use Rattle.can_bus.proofs.Opened.{IsThere-stands}
 use Rattle.can_bus.proofs.Quiet.{queued_to-quiet, dropped_at-quiet}
 use Rattle.can_bus.proofs.SocketFacts.{kept_sockets-one, follows_at_sockets, none_follows}
 
-abbrev pub entry : SocketId → Result (Option Received) Refusal → Entry
-entry s r = record { event = Receive s; reply = told reply.Received r }
+abbrev pub entry : SocketId → Reply → Entry
+entry s r = record { event = Receive s; reply = r }
 
 abbrev given : SocketId → Option Received → Entry
 given s item = record { event = Receive s; reply = reply.Received item }
@@ -62,9 +61,10 @@ reply-given c past s item new gives =
     ap (λ (i : Option Received). reply.Received i) oldest ∙ sym (cond-true (is_open past s.0) _ _ at.is_there)
 
 -- an item that was given, or a refusal, leaves what its entry leaves
-pub received_follows : (c : BusConfig) (past : List Entry) (s : SocketId) (r : Result (Option Received) Refusal) (new : Parts) → Receives (kept_parts c past) s.0 r new → Follows c past (entry s r) new
-received_follows c past s (Ok item) new gives =
+pub received_follows : (c : BusConfig) (past : List Entry) (s : SocketId) (r : Reply) (new : Parts) → Receives (kept_parts c past) s.0 r new → Follows c past (entry s r) new
+received_follows c past s (reply.Received item) new gives =
     follows_at_sockets c past (given s item) new _ _ (reply-given c past s item new gives) (still c past s item) refl refl
     (kept_sockets-one c past (given s item) (kept_sockets c past) _ s.0 gives.place gives.socket (relieved item) refl refl gives.stands (other c past s item) (same c past s item) refl)
     gives.after
-received_follows c past s (Err why) new none = none_follows c past (Receive s) s.0 _ why new refl tt none
+received_follows c past s (reply.Refused why) new none = none_follows c past (Receive s) s.0 _ why new refl tt none
+received_follows c past s _ new receives = absurd receives

@@ -1,4 +1,4 @@
-use Rattle.std.proofs.Common.{◌≡◌, ◌≢◌, ℕ, Bool, ◌+◌, ◌-◌, ◌<◌, ◌==◌, true, false, List, [], ◌∷◌, ◌++◌, length, drop, slice_get, slice_set, Option, Result, Ok, Err, refl, sym, ap, ◌∙◌, arith}
+use Rattle.std.proofs.Common.{◌≡◌, ◌≢◌, ℕ, Bool, ◌+◌, ◌-◌, ◌<◌, ◌==◌, true, false, List, [], ◌∷◌, ◌++◌, length, drop, slice_get, slice_set, Option, refl, sym, ap, ◌∙◌, arith}
 use Rattle.std.proofs.lemmas.Bool.{eq-eqb, ne_eqb, cond-true, cond-false}
 use Rattle.std.proofs.lemmas.List.{length_push, length-drop, drop-append-le}
 use Rattle.can_frame.specs.Frames.{CanFrame}
@@ -6,12 +6,11 @@ use Rattle.can_confine.specs.Confinement.{is_off}
 use Rattle.can_event.specs.declared.events.Entry.{Entry}
 use Rattle.can_event.specs.declared.events.BusConfig.{BusConfig}
 use Rattle.can_event.specs.declared.events.Pending.{Pending}
-use Rattle.can_event.specs.declared.events.Refusal.{Refusal}
 use Rattle.can_event.specs.declared.events.Refusal.TheVariants as refusal
 use Rattle.can_event.specs.declared.events.SocketId.{SocketId}
 use Rattle.can_event.specs.declared.events.Event.TheVariants.{Send}
+use Rattle.can_event.specs.declared.events.Reply.{Reply}
 use Rattle.can_event.specs.declared.events.Reply.TheVariants as reply
-use Rattle.can_bus.specs.Answer.{told}
 use Rattle.can_bus.specs.Counters.{state_at}
 use Rattle.can_event.specs.Events.{IsConfig}
 use Rattle.can_bus.specs.Legal.{lacks_fd, legal_reply, IsLegal}
@@ -30,8 +29,8 @@ use Rattle.can_bus.proofs.Opened.{IsThere-stands, closed-nowhere}
 abbrev pub of_frame : CanFrame → SocketId → SocketState → Pending
 of_frame f s v = record { frame = f; socket = s; loopback = v.options.loopback }
 
-abbrev pub entry : SocketId → CanFrame → Result ℕ Refusal → Entry
-entry s f r = record { event = Send s f; reply = told reply.Sent r }
+abbrev pub entry : SocketId → CanFrame → Reply → Entry
+entry s f r = record { event = Send s f; reply = r }
 
 abbrev full_entry : SocketId → CanFrame → Entry
 full_entry s f = record { event = Send s f; reply = reply.Refused refusal.NoBuffers }
@@ -89,73 +88,73 @@ reply-full c past s f v l is may live full =
 
 -- ---- a frame that was taken
 
-sent_by-other : (past : List Entry) (s : SocketId) (f : CanFrame) (n o : ℕ) → o ≢ iface_of past s.0 → sent_by (entry s f (Ok n) ∷ past) o ≡ sent_by past o
+sent_by-other : (past : List Entry) (s : SocketId) (f : CanFrame) (n o : ℕ) → o ≢ iface_of past s.0 → sent_by (entry s f (reply.Sent n) ∷ past) o ≡ sent_by past o
 sent_by-other past s f n o differ = cond-false (iface_of past s.0 == o) _ _ (ne_eqb _ _ (λ e. differ (sym e)))
 
-line-other : (c : BusConfig) (past : List Entry) (s : SocketId) (f : CanFrame) (n o : ℕ) → o ≢ iface_of past s.0 → kept_line c (entry s f (Ok n) ∷ past) o ≡ kept_line c past o
+line-other : (c : BusConfig) (past : List Entry) (s : SocketId) (f : CanFrame) (n o : ℕ) → o ≢ iface_of past s.0 → kept_line c (entry s f (reply.Sent n) ∷ past) o ≡ kept_line c past o
 line-other c past s f n o differ = ap (λ (ps : List Pending). record (kept_line c past o) { waiting = drop (gone_count past o) ps; sent = length ps }) (sent_by-other past s f n o differ)
 
-head-other : (past : List Entry) (s : SocketId) (f : CanFrame) (n o : ℕ) → o ≢ iface_of past s.0 → head_of (entry s f (Ok n) ∷ past) o ≡ head_of past o
+head-other : (past : List Entry) (s : SocketId) (f : CanFrame) (n o : ℕ) → o ≢ iface_of past s.0 → head_of (entry s f (reply.Sent n) ∷ past) o ≡ head_of past o
 head-other past s f n o differ = ap (λ (ps : List Pending). slice_get ps (gone_count past o)) (sent_by-other past s f n o differ)
 
 -- the frames of the sender's interface
-sent_by-here : (c : BusConfig) (past : List Entry) (s : SocketId) (f : CanFrame) (n : ℕ) (v : SocketState) → v ≡ kept_socket c past s.0 → sent_by (entry s f (Ok n) ∷ past) (iface_of past s.0) ≡ sent_by past (iface_of past s.0) ++ of_frame f s v ∷ []
+sent_by-here : (c : BusConfig) (past : List Entry) (s : SocketId) (f : CanFrame) (n : ℕ) (v : SocketState) → v ≡ kept_socket c past s.0 → sent_by (entry s f (reply.Sent n) ∷ past) (iface_of past s.0) ≡ sent_by past (iface_of past s.0) ++ of_frame f s v ∷ []
 sent_by-here c past s f n v is =
     cond-true (iface_of past s.0 == iface_of past s.0) _ _ (eq-eqb (iface_of past s.0) (iface_of past s.0) refl)
     ∙ ap (λ (w : SocketState). sent_by past (iface_of past s.0) ++ of_frame f s w ∷ []) (sym is)
 
 waiting-here : (c : BusConfig) (past : List Entry) (s : SocketId) (f : CanFrame) (n : ℕ) (v : SocketState) → IsLegal c past
     → v ≡ kept_socket c past s.0
-    → drop (gone_count past (iface_of past s.0)) (sent_by (entry s f (Ok n) ∷ past) (iface_of past s.0)) ≡ drop (gone_count past (iface_of past s.0)) (sent_by past (iface_of past s.0)) ++ of_frame f s v ∷ []
+    → drop (gone_count past (iface_of past s.0)) (sent_by (entry s f (reply.Sent n) ∷ past) (iface_of past s.0)) ≡ drop (gone_count past (iface_of past s.0)) (sent_by past (iface_of past s.0)) ++ of_frame f s v ∷ []
 waiting-here c past s f n v legal is =
     let i = iface_of past s.0 in
     ap (drop (gone_count past i)) (sent_by-here c past s f n v is) ∙ drop-append-le (gone_count past i) (sent_by past i) _ (gone-le-sent c past legal i)
 
-line-sent : (c : BusConfig) (past : List Entry) (s : SocketId) (f : CanFrame) (n : ℕ) (v : SocketState) (l : LineState) → IsLegal c past → IsSender c past s.0 v l → record l { waiting = l.waiting ++ of_frame f s v ∷ []; sent = l.sent + 1 } ≡ kept_line c (entry s f (Ok n) ∷ past) (iface_of past s.0)
+line-sent : (c : BusConfig) (past : List Entry) (s : SocketId) (f : CanFrame) (n : ℕ) (v : SocketState) (l : LineState) → IsLegal c past → IsSender c past s.0 v l → record l { waiting = l.waiting ++ of_frame f s v ∷ []; sent = l.sent + 1 } ≡ kept_line c (entry s f (reply.Sent n) ∷ past) (iface_of past s.0)
 line-sent c past s f n v l legal is =
     let i = iface_of past s.0 in
-    let counts : length (sent_by (entry s f (Ok n) ∷ past) i) ≡ length (sent_by past i) + 1 = ap (λ (ps : List Pending). length ps) (sent_by-here c past s f n v is.socket) ∙ length_push (sent_by past i) (of_frame f s v) in
+    let counts : length (sent_by (entry s f (reply.Sent n) ∷ past) i) ≡ length (sent_by past i) + 1 = ap (λ (ps : List Pending). length ps) (sent_by-here c past s f n v is.socket) ∙ length_push (sent_by past i) (of_frame f s v) in
     ap (λ (k : LineState). record k { waiting = k.waiting ++ of_frame f s v ∷ []; sent = k.sent + 1 }) is.line
     ∙ ap (λ (m : ℕ). record (kept_line c past i) { waiting = drop (gone_count past i) (sent_by past i) ++ of_frame f s v ∷ []; sent = m }) (sym counts)
-    ∙ ap (λ (ps : List Pending). record (kept_line c past i) { waiting = ps; sent = length (sent_by (entry s f (Ok n) ∷ past) i) }) (sym (waiting-here c past s f n v legal is.socket))
+    ∙ ap (λ (ps : List Pending). record (kept_line c past i) { waiting = ps; sent = length (sent_by (entry s f (reply.Sent n) ∷ past) i) }) (sym (waiting-here c past s f n v legal is.socket))
 
-head-here : (c : BusConfig) (past : List Entry) (s : SocketId) (f : CanFrame) (n : ℕ) (v : SocketState) (l : LineState) → IsLegal c past → IsSender c past s.0 v l → slice_get (l.waiting ++ of_frame f s v ∷ []) 0 ≡ head_of (entry s f (Ok n) ∷ past) (iface_of past s.0)
+head-here : (c : BusConfig) (past : List Entry) (s : SocketId) (f : CanFrame) (n : ℕ) (v : SocketState) (l : LineState) → IsLegal c past → IsSender c past s.0 v l → slice_get (l.waiting ++ of_frame f s v ∷ []) 0 ≡ head_of (entry s f (reply.Sent n) ∷ past) (iface_of past s.0)
 head-here c past s f n v l legal is =
     let i = iface_of past s.0 in
     ap (λ (k : LineState). slice_get (k.waiting ++ of_frame f s v ∷ []) 0) is.line
     ∙ ap (λ (ps : List Pending). slice_get ps 0) (sym (waiting-here c past s f n v legal is.socket))
-    ∙ slice_get-drop (gone_count past i) (sent_by (entry s f (Ok n) ∷ past) i)
+    ∙ slice_get-drop (gone_count past i) (sent_by (entry s f (reply.Sent n) ∷ past) i)
 
 lines-sent : (c : BusConfig) (past : List Entry) (s : SocketId) (f : CanFrame) (n : ℕ) (v : SocketState) (l : LineState) → IsLegal c past
     → IsSender c past s.0 v l
-    → slice_set (kept_lines c past) v.iface (record l { waiting = l.waiting ++ of_frame f s v ∷ []; sent = l.sent + 1 }) ≡ kept_lines c (entry s f (Ok n) ∷ past)
+    → slice_set (kept_lines c past) v.iface (record l { waiting = l.waiting ++ of_frame f s v ∷ []; sent = l.sent + 1 }) ≡ kept_lines c (entry s f (reply.Sent n) ∷ past)
 lines-sent c past s f n v l legal is =
     ap (λ (k : ℕ). slice_set (kept_lines c past) k (record l { waiting = l.waiting ++ of_frame f s v ∷ []; sent = l.sent + 1 })) is.iface
     ∙ ap (slice_set (kept_lines c past) (iface_of past s.0)) (line-sent c past s f n v l legal is)
-    ∙ sym (kept_lines-one c past (entry s f (Ok n)) (iface_of past s.0) is.below (line-other c past s f n))
+    ∙ sym (kept_lines-one c past (entry s f (reply.Sent n)) (iface_of past s.0) is.below (line-other c past s f n))
 
 keys-sent : (c : BusConfig) (past : List Entry) (s : SocketId) (f : CanFrame) (n : ℕ) (v : SocketState) (l : LineState) → IsLegal c past
     → iface_of past s.0 < 16 → IsSender c past s.0 v l
-    → slice_set (kept_keys past) v.iface (key_in (slice_get (l.waiting ++ of_frame f s v ∷ []) 0)) ≡ kept_keys (entry s f (Ok n) ∷ past)
+    → slice_set (kept_keys past) v.iface (key_in (slice_get (l.waiting ++ of_frame f s v ∷ []) 0)) ≡ kept_keys (entry s f (reply.Sent n) ∷ past)
 keys-sent c past s f n v l legal few is =
     ap (λ (k : ℕ). slice_set (kept_keys past) k (key_in (slice_get (l.waiting ++ of_frame f s v ∷ []) 0))) is.iface
     ∙ ap (λ (p : Option Pending). slice_set (kept_keys past) (iface_of past s.0) (key_in p)) (head-here c past s f n v l legal is)
-    ∙ sym (kept_keys-one past (entry s f (Ok n)) (iface_of past s.0) few (head-other past s f n))
+    ∙ sym (kept_keys-one past (entry s f (reply.Sent n)) (iface_of past s.0) few (head-other past s f n))
 
-sent-quiet : (c : BusConfig) (past : List Entry) (s : SocketId) (f : CanFrame) (n : ℕ) → IsQuiet c past (entry s f (Ok n))
+sent-quiet : (c : BusConfig) (past : List Entry) (s : SocketId) (f : CanFrame) (n : ℕ) → IsQuiet c past (entry s f (reply.Sent n))
 sent-quiet c past s f n = record { of_places = refl; of_open = refl; of_filters = λ o. refl; of_options = λ o. refl; of_taken = λ o. refl; of_posts = λ o. refl }
 
-nodes-sent : (c : BusConfig) (past : List Entry) (s : SocketId) (f : CanFrame) (n : ℕ) → kept_nodes c (entry s f (Ok n) ∷ past) ≡ kept_nodes c past
+nodes-sent : (c : BusConfig) (past : List Entry) (s : SocketId) (f : CanFrame) (n : ℕ) → kept_nodes c (entry s f (reply.Sent n) ∷ past) ≡ kept_nodes c past
 unfolding kept_nodes
 nodes-sent c past s f n = refl
 
-left-sent : (c : BusConfig) (past : List Entry) (s : SocketId) (f : CanFrame) (n : ℕ) → kept_left c (entry s f (Ok n) ∷ past) ≡ kept_left c past
+left-sent : (c : BusConfig) (past : List Entry) (s : SocketId) (f : CanFrame) (n : ℕ) → kept_left c (entry s f (reply.Sent n) ∷ past) ≡ kept_left c past
 unfolding kept_left
 left-sent c past s f n = refl
 
-taken_follows : (c : BusConfig) (past : List Entry) (s : SocketId) (f : CanFrame) (n : ℕ) (new : Parts) → IsConfig c → IsLegal c past → Takes (kept_parts c past) s.0 n (of_frame f s) new → Follows c past (entry s f (Ok n)) new
+taken_follows : (c : BusConfig) (past : List Entry) (s : SocketId) (f : CanFrame) (n : ℕ) (new : Parts) → IsConfig c → IsLegal c past → Takes (kept_parts c past) s.0 n (of_frame f s) new → Follows c past (entry s f (reply.Sent n)) new
 taken_follows c past s f n new proper legal takes =
-    let e = entry s f (Ok n) in
+    let e = entry s f (reply.Sent n) in
     let v = takes.socket in
     let l = takes.line in
     let is = sender c past s.0 v l takes.is_line in
@@ -238,12 +237,12 @@ reply-fd-off c past s f off =
     sym (cond-true (lacks_fd f (options_of past s.0)) _ _ (may-send c past s.0 f off.socket true at.left off.lacks)) ∙ sym (cond-true (is_open past s.0) _ _ at.is_there)
 
 -- a frame that was sent, or a refusal, leaves what its entry leaves
-pub sent_follows : (c : BusConfig) (past : List Entry) (s : SocketId) (f : CanFrame) (r : Result ℕ Refusal) (new : Parts) → IsConfig c → IsLegal c past → Sends (kept_parts c past) s.0 (of_frame f s) r new → Follows c past (entry s f r) new
-sent_follows c past s f (Ok n) new proper legal takes = taken_follows c past s f n new proper legal takes
-sent_follows c past s f (Err refusal.NoSocket) new proper legal refuses =
+pub sent_follows : (c : BusConfig) (past : List Entry) (s : SocketId) (f : CanFrame) (r : Reply) (new : Parts) → IsConfig c → IsLegal c past → Sends (kept_parts c past) s.0 (of_frame f s) r new → Follows c past (entry s f r) new
+sent_follows c past s f (reply.Sent n) new proper legal takes = taken_follows c past s f n new proper legal takes
+sent_follows c past s f (reply.Refused refusal.NoSocket) new proper legal refuses =
     let shut = closed-nowhere c past (kept_sockets c past) s.0 refl refuses.0 in
     follows_refused c past (Send s f) refusal.NoSocket new tt refuses.1 (sym (cond-false (is_open past s.0) _ _ shut))
-sent_follows c past s f (Err refusal.FdOff) new proper legal refuses = follows_refused c past (Send s f) refusal.FdOff new tt refuses.1 (reply-fd-off c past s f refuses.0)
-sent_follows c past s f (Err refusal.BusOff) new proper legal refuses = follows_refused c past (Send s f) refusal.BusOff new tt refuses.1 (reply-off c past s f proper legal refuses.0)
-sent_follows c past s f (Err refusal.NoBuffers) new proper legal full = full_follows c past s f new proper full
-sent_follows c past s f (Err _) new proper legal refuses = absurd refuses
+sent_follows c past s f (reply.Refused refusal.FdOff) new proper legal refuses = follows_refused c past (Send s f) refusal.FdOff new tt refuses.1 (reply-fd-off c past s f refuses.0)
+sent_follows c past s f (reply.Refused refusal.BusOff) new proper legal refuses = follows_refused c past (Send s f) refusal.BusOff new tt refuses.1 (reply-off c past s f proper legal refuses.0)
+sent_follows c past s f (reply.Refused refusal.NoBuffers) new proper legal full = full_follows c past s f new proper full
+sent_follows c past s f _ new proper legal refuses = absurd refuses

@@ -17,7 +17,6 @@ mod lines;
 pub mod outcomes;
 mod posting;
 pub mod records;
-mod replies;
 pub mod runs;
 mod socket;
 mod sockets;

@@ -4,9 +4,6 @@ ghost use Rattle.can_bus.specs.Run.{IsAnswer, AreAnswers, history_after, history
 ghost use Rattle.can_bus.specs.Legal.{IsLegal};
 
 use crate::buses::Bus;
-use crate::replies::{
-    attempt_reply, closed_reply, done_reply, opened_reply, received_reply, sent_reply,
-};
 use can_arbiter::Arbiter;
 use can_event::{Event, Pending, Received, Reply};
 use can_frame::Item;
@@ -22,10 +19,7 @@ pub enum RunFault {
     NoMemory,
 }
 
-/// Carries out one event, by the call on the bus that it names, and answers its reply.
-///
-/// A refusal of that call is the reply. The event enters the record with it, unless the record was full
-/// or memory was refused: then nothing was done. It costs what the call does.
+/// Carries out one event, as `Bus::answer` does.
 pub fn answer<T: BoundedQueue<Pending>, R: BoundedQueue<Received>, A: Arbiter>(
     bus: &mut Bus<T, R, A>,
     alloc: Global,
@@ -34,19 +28,7 @@ pub fn answer<T: BoundedQueue<Pending>, R: BoundedQueue<Received>, A: Arbiter>(
     ensures answer { IsAnswer bus.old.config bus.old.history event.now result }
     ensures after { bus.new ≡ record bus.old { history = history_after event.now result bus.old.history } }
 {
-    match event {
-        Event::Open(iface, capacity) => opened_reply(&bus.open(alloc, *iface, *capacity)),
-        Event::Close(id) => closed_reply(&bus.close(*id)),
-        Event::SetFilters(id, filters) => done_reply(&bus.set_filters(alloc, *id, filters)),
-        Event::SetOption(id, option) => done_reply(&bus.set_option(*id, *option)),
-        Event::Send(id, frame) => sent_reply(&bus.send(*id, *frame)),
-        Event::Receive(id) => received_reply(&bus.receive(*id)),
-        Event::Attempt(moment, verdict) => match bus.attempt(*moment, *verdict) {
-            Ok(attempt) => attempt_reply(&attempt),
-            Err(why) => Reply::Refused(why),
-        },
-        Event::Restart(iface, moment) => done_reply(&bus.restart(*iface, *moment)),
-    }
+    bus.answer(alloc, event)
 }
 
 /// Adds a reply where there is room for it.
