@@ -1,11 +1,14 @@
 use Rattle.std.proofs.Common.{◌≡◌, ◌<◌, ◌≤◌, List, ◌∷◌, length, refl, sym, ap, ◌∙◌, subst, arith}
+use Rattle.can_filter.specs.Filters.{CanFilter}
 use Rattle.can_event.specs.declared.events.BusConfig.{BusConfig}
 use Rattle.can_event.specs.declared.events.Entry.{Entry}
 use Rattle.can_event.specs.declared.events.Event.{Event}
+use Rattle.can_event.specs.declared.events.Event.TheVariants.{SetFilters}
 use Rattle.can_event.specs.declared.events.Reply.{Reply}
 use Rattle.can_event.specs.declared.events.Reply.TheVariants as reply
 use Rattle.can_event.specs.declared.events.Refusal.{Refusal}
 use Rattle.can_event.specs.declared.events.Refusal.TheVariants as refusal
+use Rattle.can_event.specs.declared.events.SocketId.{SocketId}
 use Rattle.can_event.specs.Replies.{Enters, Suits}
 use Rattle.can_event.specs.Spelled.{IsSpelled}
 use Rattle.can_bus.specs.Answer.{Refuses}
@@ -15,6 +18,7 @@ use Rattle.can_bus.specs.Legal.{legal_reply}
 use Rattle.can_bus.specs.Run.{IsAnswer, history_after}
 use Rattle.can_bus.specs.State.{Parts, IsKept, IsLonger}
 use Rattle.can_bus.proofs.Fitting.{legal_has_line, answer_suits}
+use Rattle.can_bus.proofs.Narrow.{SetsFilters}
 
 -- A bus answers an event as its parts do, and notes it.
 
@@ -101,3 +105,9 @@ pub refused : (old new : Journal) (e : Event) (why : Refusal) → IsAnswer old.c
 refused old new e refusal.RecordFull answer after = (answer, after)
 refused old new e refusal.NoMemory answer after = (answer.0, answer.1, after)
 refused old new e _ answer after = record { room = answer.0; lawful = answer.1; new_is = after }
+
+-- ---- events that are no setting of filters
+
+pub not_filters : (e : Event) → ((s : SocketId) (fs : List CanFilter) → e ≡ SetFilters s fs → ⊥) → ¬ SetsFilters e
+not_filters (SetFilters s fs) other sets = other s fs refl
+not_filters _ other sets = absurd sets
