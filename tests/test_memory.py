@@ -442,9 +442,12 @@ def test_deliveries_without_memory(refusing):
             is_over = refusing.settled() < armed
             refusing.stop()
             tolds[told] = tolds.get(told, 0) + 1
-            if told != "ended a driver":
+            if told == "ended a driver":
+                status, written = server.finish()
+                assert (status, server.said()) == (1, "canbusd: bus can0: no memory"), server.said()
+            else:
                 others.go_on(f"refusal {place}, {told}")
-            written = server.end()
+                written = server.end()
             entries = server.audited("can0.rec"), server.audited("can2.rec")
             assert written == "bus can0 entries {}\nbus can2 entries {}\n".format(*entries), written
     assert "ended the listener" in tolds, f"no receive was refused: {summed([tolds])}"
