@@ -63,7 +63,7 @@ class Server:
         self.folder = tempfile.mkdtemp(prefix="canbusd-")
         self.errors = open(self.path("stderr"), "w+", encoding="utf-8")
         if launcher is True:
-            start = [os.path.join(ROOT, "scripts", "serve"), program()]
+            start = [os.path.join(ROOT, "tools", "serve"), program()]
         else:
             start = [launcher or program()]
         self.child = subprocess.Popen(
