@@ -13,7 +13,7 @@ import struct
 import threading
 import time
 
-from serving import Pair, Plain, come_true, plain, serving_alone
+from serving import WAIT, Pair, Plain, come_true, join, plain, serving_alone, turns
 
 FAST = ("--pace", "0", "--txqueue", "1024")
 # What a client says to come into raw mode, and there.
@@ -235,7 +235,9 @@ def test_storms(rng):
         threads = [threading.Thread(target=storm, args=(server, random.Random(seed), 94)) for seed in seeds]
         for thread in threads:
             thread.start()
-        while any(thread.is_alive() for thread in threads):
+        for _ in turns("the storm is over", 6 * WAIT):
+            if not any(thread.is_alive() for thread in threads):
+                break
             pair.go_on("a storm")
             time.sleep(0.01)
 
@@ -291,8 +293,7 @@ def visit(server, count):
     threads = [threading.Thread(target=come, args=(first,)) for first in range(8)]
     for thread in threads:
         thread.start()
-    for thread in threads:
-        thread.join()
+    join(threads, 6 * WAIT)
     assert not failed, f"{len(failed)} of {count}: {failed[:1]}"
 
 
@@ -314,7 +315,7 @@ def test_too_few_descriptors():
             client.close()
         served = 0
         with contextlib.suppress(OSError):
-            while comes_in(server):
+            while served <= 200 and comes_in(server):
                 served += 1
         # A connection that can't be accepted is no session, so none but the pair and the crowd were.
         assert served == 200 - 2 - 60, f"{served} of 138 sessions are left"

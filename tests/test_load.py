@@ -23,7 +23,7 @@ import time
 
 import pytest
 
-from serving import serving_alone
+from serving import join, serving_alone, turns
 
 pytestmark = pytest.mark.slow
 BUSES, SESSIONS, BREAKING = 4, 16, 2
@@ -134,7 +134,9 @@ class Client:
         waiting = self.stats_told()[5]
         if self.were_off:
             self.tell("< restart >")
-        while waiting > MOST_WAITING:
+        for _ in turns("the frames that wait go out", PATIENCE):
+            if waiting <= MOST_WAITING:
+                break
             time.sleep(0.002)
             waiting = self.stats()[5]
 
@@ -190,7 +192,7 @@ def on_one_bus(server, bus, frames, seed):
     def stay(place):
         try:
             client = Client(server, place, names)
-            while client.sent < frames // steady:
+            while client.sent < frames // steady and not all_sent.broken:
                 client.send(BURST)
             all_sent.wait(PATIENCE)
             all_sent.wait(PATIENCE)
@@ -217,13 +219,11 @@ def on_one_bus(server, bus, frames, seed):
     with contextlib.suppress(threading.BrokenBarrierError):
         all_sent.wait(10 * PATIENCE)
         is_over.set()
-        for thread in breaking:
-            thread.join()
+        join(breaking, PATIENCE)
         all_sent.wait(PATIENCE)
         all_sent.wait(PATIENCE)
     is_over.set()
-    for thread in threads + breaking:
-        thread.join()
+    join(threads + breaking, 3 * PATIENCE)
     return faults, ends, sum(broken)
 
 

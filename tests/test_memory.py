@@ -18,15 +18,16 @@ import resource
 import shutil
 import struct
 import subprocess
-import time
 
 import pytest
 
-from serving import ROOT, WAIT, NotListening, Pair, Plain, plain, program, serving_alone
+from serving import ROOT, WAIT, NotListening, Pair, Plain, come_true, plain, program, serving_alone
 
 pytestmark = pytest.mark.skipif(not shutil.which("cc"), reason="no C compiler: cc")
 
 FOREVER = 2**64 - 1
+# More often than this nothing that is tried here asks for memory; and more bytes than this it does not need.
+MOST_PLACES, MOST_BYTES = 5000, 1 << 34
 # A program that makes the calls of the libraries that take memory.
 CALLS = os.path.join(ROOT, "crates", "can_memory_tests", "out", "can_memory_tests")
 NO_MEMORY = "canbusd: no memory\n"
@@ -57,7 +58,7 @@ class Refusing:
     """An environment in which a program is refused memory, and a folder in which it runs."""
 
     def __init__(self, library, folder):
-        self.folder, plan = folder, folder / "plan"
+        self.folder, self.server, plan = folder, None, folder / "plan"
         plan.write_bytes(bytes(24))
         with open(plan, "r+b") as file:
             self.plan = mmap.mmap(file.fileno(), 24)
@@ -83,12 +84,9 @@ class Refusing:
         self.plan[8:] = struct.pack("=2Q", 1, 0)
 
     def settled(self):
-        """How often it has asked, once it asks no more."""
-        before, now = None, self.asked()
-        while before != now:
-            time.sleep(0.01)
-            before, now = now, self.asked()
-        return now
+        """How often the server has asked, once it asks no more."""
+        assert come_true(self.server.rests), "the server does not come to rest"
+        return self.asked()
 
     def run(self, words, text="", first=1, last=0, most=resource.RLIM_INFINITY, other=None):
         """What the program does in a folder of its own with this input and at most so many bytes: what it was, and how
@@ -112,6 +110,12 @@ class Refusing:
 def within(most):
     """Limits a child to so many bytes."""
     return lambda: resource.setrlimit(resource.RLIMIT_AS, (most, most))
+
+
+def places():
+    """One place after the other where memory is asked for, until the loop is left."""
+    yield from range(1, MOST_PLACES)
+    pytest.fail(f"it asks for memory more than {MOST_PLACES} times")
 
 
 def windows(asked):
@@ -326,6 +330,7 @@ def crosses(server, source, target):
 @contextlib.contextmanager
 def refused_server(refusing):
     with serving_alone("--pace", "0", "can0,can1", "can2,can3", env=refusing.environment) as server:
+        refusing.server = server
         yield server
 
 
@@ -380,13 +385,13 @@ def converse(server, refusing):
 
 def test_sessions_without_memory(refusing):
     """a session that is refused memory ends alone, or is told so"""
-    tolds, place, drivers, is_over = {}, 0, 0, False
+    tolds, numbers, drivers, is_over = {}, places(), 0, False
     while not is_over:
         refusing.stop()
         with refused_server(refusing) as server:
             others, lives = Pair(server), True
             while lives and not is_over:
-                place += 1
+                place = next(numbers)
                 for last in (FOREVER, place):
                     armed = refusing.refuse_soon(place, last)
                     told = converse(server, refusing)
@@ -431,9 +436,8 @@ def hears(sender, listener):
 
 def test_deliveries_without_memory(refusing):
     """a session whose receive is refused memory is told so and ends; others get their frames"""
-    tolds, place, is_over = {}, 0, False
-    while not is_over:
-        place += 1
+    tolds = {}
+    for place in places():
         refusing.stop()
         with refused_server(refusing) as server:
             sender, listener, others = plain(server, "can0"), plain(server, "can1"), Pair(server)
@@ -450,6 +454,8 @@ def test_deliveries_without_memory(refusing):
                 written = server.end()
             entries = server.audited("can0.rec"), server.audited("can2.rec")
             assert written == "bus can0 entries {}\nbus can2 entries {}\n".format(*entries), written
+        if is_over:
+            break
     assert "ended the listener" in tolds, f"no receive was refused: {summed([tolds])}"
     print(summed([tolds]))
 
@@ -471,9 +477,10 @@ def greets(server):
 
 def test_a_start_without_memory(refusing):
     """a server that is refused memory says so and is gone, or serves"""
-    told, place, is_over = {}, 0, False
-    while not is_over:
-        place += 1
+    told, is_over = {}, False
+    for place in places():
+        if is_over:
+            break
         for last in (FOREVER, place):
             refusing.refuse(place, last)
             try:
@@ -492,9 +499,10 @@ def test_a_start_without_memory(refusing):
 
 def test_an_end_without_memory(refusing):
     """a file that is refused memory is told; the others are whole"""
-    told, place, is_over = {}, 0, False
-    while not is_over:
-        place += 1
+    told, is_over = {}, False
+    for place in places():
+        if is_over:
+            break
         for last in (FOREVER, place):
             with refused_server(refusing) as server:
                 Pair(server).go_on()
@@ -528,20 +536,21 @@ def told_at_the_end(server, status, written):
 def amounts(first):
     """Ever more bytes, from so many on."""
     most = first
-    while True:
+    while most < MOST_BYTES:
         most += most // 64
         yield most
+    pytest.fail(f"{most} bytes are too few")
 
 
 def least(words):
     """The fewest bytes, by the first of the amounts, in which the program can be started."""
-    for most in amounts(1 << 20):
-        done = subprocess.run(
-            [program(), *words], capture_output=True, timeout=WAIT, check=False, preexec_fn=within(most)
-        )
-        if done.returncode == 0:
-            return most
-    return None
+
+    def is_enough(most):
+        limited = within(most)
+        done = subprocess.run([program(), *words], capture_output=True, timeout=WAIT, check=False, preexec_fn=limited)
+        return done.returncode == 0
+
+    return next(filter(is_enough, amounts(1 << 20)))
 
 
 def test_a_bench_within_ever_more_memory(refusing):
