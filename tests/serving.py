@@ -49,7 +49,7 @@ class NotListening(Exception):
 
 
 def come_true(question, patience=WAIT):
-    """Whether this comes true while we wait, for so many seconds."""
+    """Whether this comes true in time, in seconds."""
     until = time.monotonic() + patience
     while time.monotonic() < until:
         if question():
@@ -67,7 +67,7 @@ def turns(what, patience=WAIT):
 
 
 def join(threads, patience=WAIT):
-    """Waits until these threads have ended, for so many seconds in all."""
+    """Waits until these threads have ended, at most these seconds in all."""
     until = time.monotonic() + patience
     for thread in threads:
         thread.join(max(0, until - time.monotonic()))
@@ -168,7 +168,7 @@ class Server:
         return held
 
     def finish(self, patience=WAIT):
-        """Ends it, which may take so many seconds; its status, and what it wrote after `listening`."""
+        """Ends it, which has to happen in time; its status, and what it wrote after `listening`."""
         if self.child.stdin is None:
             os.killpg(self.child.pid, signal.SIGINT)
         try:

@@ -104,7 +104,7 @@ def test_identifiers_of_29_bits():
             second = socket1.frame()
             assert second == (f"{number:08X}", b"\x01"), f"{second}"
             saw.append(f"{number | 0x80000000:X} as {number:08X}")
-        # What can0 was told before this frame is read before it.
+        # Answers to can0 before this frame are read before it.
         socket1.tell("< send 7FE 0 >")
         expect(can0, 0x7FE, b"")
         assert any("< error bad id >" in line for line in lines) == OLD_CLIENT, f"told {lines}"
@@ -211,7 +211,7 @@ def test_several_buses():
 
 
 def candump_log(path, count):
-    """Writes a log of so many frames, a millisecond apart; returns them as identifiers and data."""
+    """Writes a log of frames, a millisecond apart; returns them as identifiers and data."""
     frames = []
     with open(path, "w", encoding="ascii") as file:
         for number in range(count):
@@ -273,7 +273,7 @@ def logger_ends(server, logger):
 
 
 def compare_logger(path, frames, warnings):
-    """What the logger wrote, beside the frames. It loses each frame that one of its reads cuts, and tells so."""
+    """What the logger wrote, beside the frames. It loses each frame that one of its reads cuts, and logs that."""
     got = [(one.arbitration_id, bytes(one.data)) for one in CanutilsLogReader(path)]
     wanted = [(int(text, 16), data) for text, data in frames]
     places = {frame: place for place, frame in enumerate(wanted)}

@@ -111,7 +111,7 @@ class Client:
         return "".join(f"{start}{number.to_bytes(4, 'big').hex(' ')} >" for number in numbers)
 
     def stats(self):
-        """QUEUED DROPPED TAKEN SENT DONE WAITING LOST REFUSED, as they are told, after refusals of sends."""
+        """QUEUED DROPPED TAKEN SENT DONE WAITING LOST REFUSED, as `stats` has them, after refusals of sends."""
         self.tell("< stats >")
         return self.stats_told()
 
@@ -127,7 +127,7 @@ class Client:
         return [int(word) for word in answer.split()[1:]]
 
     def send(self, count):
-        """Sends so many frames, but for those that are refused, and waits until few wait."""
+        """Sends a number of frames, but for those that are refused, and waits until few wait."""
         text = self.burst(count)
         self.sent += count
         self.tell(text + "< stats >")
@@ -141,7 +141,7 @@ class Client:
             waiting = self.stats()[5]
 
     def drain(self):
-        """Waits until nothing waits and all items have come; what `stats` tells then."""
+        """Waits until nothing waits and all items have come; what `stats` says then."""
         until = time.monotonic() + PATIENCE
         while True:
             told = self.stats()
@@ -183,7 +183,7 @@ def break_off(server, place, names, rng, is_over):
 
 
 def on_one_bus(server, bus, frames, seed):
-    """The sessions of a bus, each in a thread: what they were told in the end."""
+    """The sessions of a bus, each in a thread: what `stats` said in the end."""
     names, rng = names_of(bus), random.Random(seed)
     is_over, steady = threading.Event(), SESSIONS - BREAKING
     all_sent = threading.Barrier(steady + 1)
@@ -294,7 +294,7 @@ def test_load_with_faults(request, tmp_path):
 
 
 def compare(server, bus, record, ends):
-    """What the sessions of a bus were told, beside its record."""
+    """What `stats` said to the sessions of a bus, beside its record."""
     assert server.audited(f"{names_of(bus)[0]}.rec") == record.entries, "the audit counts other entries"
     for side in (0, 1):
         assert (

@@ -89,7 +89,7 @@ class Refusing:
         return self.asked()
 
     def run(self, words, text="", first=1, last=0, most=resource.RLIM_INFINITY, other=None):
-        """What the program does in a folder of its own with this input and at most so many bytes: what it was, and how
+        """What the program does in a folder of its own with this input and this much memory: what it was, and how
         often it asked."""
         self.refuse(first, last)
         done = subprocess.run(
@@ -108,7 +108,7 @@ class Refusing:
 
 
 def within(most):
-    """Limits a child to so many bytes."""
+    """Limits a child to this many bytes."""
     return lambda: resource.setrlimit(resource.RLIMIT_AS, (most, most))
 
 
@@ -119,7 +119,7 @@ def places():
 
 
 def windows(asked):
-    """Each time that it is refused: alone, and with all that follow."""
+    """Each time that it is refused: only then, and from then on."""
     return [(first, last) for first in range(1, asked + 1) for last in (first, FOREVER)]
 
 
@@ -144,7 +144,7 @@ class Bench:
         return done.stdout, self.written(), done.returncode, done.stderr
 
     def refuses(self, command):
-        """What it does where the command does nothing and is told the words of refused memory."""
+        """What it does where the command does nothing and is answered with the words of refused memory."""
         begin, end = command
         output, *others = self.runs(self.text[:begin] + UNKNOWN + self.text[end:])
         return output.replace(TELLS_UNKNOWN, TELLS_NO_MEMORY), *others
@@ -156,7 +156,7 @@ class Bench:
         return None
 
     def try_at(self, first, last, most=resource.RLIM_INFINITY):
-        """Refuses it memory: whether it was told by a session, by the program, or not at all."""
+        """Refuses it memory: whether a session reported it, or the program, or nobody."""
         with contextlib.suppress(FileNotFoundError):
             os.remove(self.record)
         done, _ = self.refusing.run(self.line, self.text, first, last, most)
@@ -180,7 +180,7 @@ class Bench:
 
 
 def try_everywhere(bench):
-    """Refuses a bench memory at each place: how often it was told where."""
+    """Refuses a bench memory at each place: how often it was reported where."""
     told = {}
     for first, last in windows(bench.asked):
         how = bench.try_at(first, last)
@@ -245,7 +245,7 @@ def test_a_bench_without_memory(refusing):
 
 @pytest.mark.slow
 def test_faults_without_memory(refusing):
-    """lines, scripts, names and words that are refused: their first line is told, or no memory"""
+    """lines, scripts, names and words that are refused: their first line is reported, or no memory"""
     folder = refusing.folder
     scripts = {"line": "0 good\nx\n", "name": "5 local crc can2\n", "twice": "5 good\n5 good\n"}
     for name, text in scripts.items():
@@ -336,7 +336,7 @@ def refused_server(refusing):
 
 @pytest.mark.skipif(not os.path.exists(CALLS), reason="not built: rt run in crates/can_memory_tests")
 def test_calls_without_memory(refusing):
-    """each call of the libraries is made again where it was refused: it left all as it was, and answers as ever"""
+    """each call of the libraries is made again where it was refused: it left all as it was, and returns the same"""
     ample, asked = refusing.run([], other=CALLS)
     assert ample.returncode == 0 and ample.stdout.count(": as ever\n") == ample.stdout.count("\n") > 0, f"{ample}"
     for place in range(1, asked + 1):
@@ -344,7 +344,7 @@ def test_calls_without_memory(refusing):
         assert (done.returncode, done.stdout, done.stderr) == (0, ample.stdout, ""), f"at {place}: {done}"
 
 
-# What a client says, each with what it is told with ample memory; where that is None, texts come in any order.
+# What a client says, each with its answer with ample memory; where that is None, texts come in any order.
 SAYS = [
     ("< open can2 >", "< ok >"),
     ("< rawmode >", "< ok >"),
@@ -359,7 +359,7 @@ SAYS = [
 
 
 def converse(server, refusing):
-    """What a client is told of all that it says. Where it is told of no memory it asks again, with memory."""
+    """What a client hears of all that it says. After `no memory` it asks again, with memory."""
     with contextlib.closing(Plain(server)) as client:
         try:
             greeting = client.text()
@@ -384,7 +384,7 @@ def converse(server, refusing):
 
 
 def test_sessions_without_memory(refusing):
-    """a session that is refused memory ends alone, or is told so"""
+    """a session that is refused memory ends without the others, or hears of it"""
     tolds, numbers, drivers, is_over = {}, places(), 0, False
     while not is_over:
         refusing.stop()
@@ -435,7 +435,7 @@ def hears(sender, listener):
 
 
 def test_deliveries_without_memory(refusing):
-    """a session whose receive is refused memory is told so and ends; others get their frames"""
+    """a session whose receive is refused memory hears of it and ends; others get their frames"""
     tolds = {}
     for place in places():
         refusing.stop()
@@ -498,7 +498,7 @@ def test_a_start_without_memory(refusing):
 
 
 def test_an_end_without_memory(refusing):
-    """a file that is refused memory is told; the others are whole"""
+    """a file that is refused memory is reported; the others are whole"""
     told, is_over = {}, False
     for place in places():
         if is_over:
@@ -534,7 +534,7 @@ def told_at_the_end(server, status, written):
 
 
 def amounts(first):
-    """Ever more bytes, from so many on."""
+    """Ever more bytes, from the first on."""
     most = first
     while most < MOST_BYTES:
         most += most // 64

@@ -16,7 +16,7 @@ from serving import ROOT, WAIT, Plain, come_true, join, line_of, plain, program,
 
 
 def test_full_record():
-    """it is told once and to each call, and nothing spins"""
+    """it is reported once and to each call, and nothing spins"""
     with serving("--limit", "5", "can0,can1", "can2") as server:
         can0, can1 = plain(server, "can0"), plain(server, "can1")
         can0.tell("< send 123 1 5 >")
@@ -229,7 +229,7 @@ def heard(connection):
 
 @pytest.mark.slow
 def test_ends_in_bursts():
-    """1,000 servers that are told to end while clients come: each ends, and tells nobody another reason"""
+    """1,000 servers that are told to end while clients come: each ends, and gives nobody another reason"""
     for number in range(1000):
         path = "./burst.socket" if number % 2 else "127.0.0.1:0"
         with contextlib.ExitStack() as stack:
@@ -247,7 +247,7 @@ def test_ends_in_bursts():
             except subprocess.TimeoutExpired:
                 raise AssertionError(f"burst {number}: the server goes on") from None
             for one in filter(None, burst):
-                assert heard(one) in (b"", b"< hi >"), f"burst {number}: a client was told something else"
+                assert heard(one) in (b"", b"< hi >"), f"burst {number}: a client heard something else"
 
 
 def test_door_after_the_last_session():
@@ -262,7 +262,7 @@ def test_door_after_the_last_session():
                     if (late := connected(server)) is None:
                         break
                     with late:
-                        assert heard(late) == b"", "a client that came too late was told something"
+                        assert heard(late) == b"", "a client that came too late heard something"
                 assert first.answer("< open can0 >") == "< ok >", "the session goes on"
             assert server.child.wait(WAIT) == 0, "the end"
 
@@ -285,7 +285,7 @@ def test_attempts_in_vain_at_the_end(tmp_path):
 
 
 def test_own_socket_file(tmp_path):
-    """a server removes its own file alone; a path belongs to one server"""
+    """a server removes only its own file; a path belongs to one server"""
     path = os.path.join(tmp_path, "socket")
 
     def second():

@@ -93,7 +93,7 @@ def test_record_of_another_history(tmp_path):
 
 
 def replies_like(line):
-    """Other replies that may stand in a line."""
+    """Other replies that a line may have."""
     event, reply = line.split(" = ")
     others = {
         "open": ["socket 7", "too-many-sockets"],
