@@ -155,7 +155,7 @@ def test_commands_of_readme(clone):
     server = None
     with contextlib.ExitStack() as endless:
         for line in (line for block in clone.blocks("README.md") for line in block):
-            if not line.startswith(("./canbusd", "contrib/", "python3")) or "pytest" in line:
+            if not line.startswith(("./canbusd", "tools/", "python3")) or "pytest" in line:
                 continue
             if line.startswith("python3") and not clone.has_python_can():
                 continue
