@@ -33,6 +33,8 @@ class Clone:
             "HOME": "/nonexistent",
             "LC_ALL": "C.UTF-8",
             "PYTHONDONTWRITEBYTECODE": "1",
+            # A pytest that is run here cleans up after itself only, and not after other runs.
+            "PYTEST_DEBUG_TEMPROOT": os.path.dirname(self.folder),
         }
         subprocess.run(["git", "clone", "-q", ROOT, self.folder], check=True)
 
