@@ -342,6 +342,8 @@ def test_examples(tmp_path):
     with serving("can0,can1") as server:
         subprocess.run([os.path.join(ROOT, "scripts", "python-package"), "install", tmp_path], check=True)
         environment = {**os.environ, "CANBUSD": program(), "PYTHONPATH": tmp_path, "PYTHONDONTWRITEBYTECODE": "1"}
+        # The folders of other runs, which may be large, are not for this pytest to remove.
+        environment["PYTEST_DEBUG_TEMPROOT"] = str(tmp_path)
         done = subprocess.run(
             [sys.executable, os.path.join(folder, "first_session.py"), server.address],
             env=environment,
