@@ -31,15 +31,15 @@ noted c past e (reply.Refused refusal.RecordFull) room lawful = absurd (never_fu
 noted c past e (reply.Refused refusal.NoMemory) room lawful = absurd (never_no_memory c past e lawful)
 noted c past e _ room lawful = record { answer = (room, lawful); after = refl }
 
--- the parts changed in this way
-pub carried : {r : Reply} {parts parts' : Parts} (c : BusConfig) (past : List Entry) (e called : Event) (Changed : Parts → Type 0)
-    → called ≡ e → IsKept (record_of c past) parts → length past < c.limit → Changed parts
+-- the parts changed in this way, and this is the reply
+pub carried : {w r : Reply} {parts parts' : Parts} (c : BusConfig) (past : List Entry) (e called : Event) (Changed : Parts → Type 0)
+    → called ≡ e → IsKept (record_of c past) parts → length past < c.limit → Changed parts → w ≡ r
     → (Changed (kept_parts c past) → Follows c past (record { event = e; reply = r }) parts')
-    → Carries c past called r parts'
-carried {r} {parts} {parts'} c past e called Changed is_event kept room changed follows =
+    → Carries c past called w parts'
+carried {w} {r} {parts} {parts'} c past e called Changed is_event kept room changed is follows =
     let next = follows (subst Changed kept.of_parts changed) in
     let here = noted c past e r room next.lawful in
-    subst (λ (x : Event). Carries c past x r parts') (sym is_event) (record {
+    subst (λ (x : Event). Carries c past x w parts') (sym is_event) (subst (λ (x : Reply). Carries c past e x parts') (sym is) (record {
       answer = here.answer;
       after = subst (λ (h : List Entry). IsKept (record_of c h) parts') (sym here.after) (record {
         of_parts = next.after;
@@ -47,7 +47,7 @@ carried {r} {parts} {parts'} c past e called Changed is_event kept room changed 
         proper = kept.proper;
         room = omega arith;
       });
-    })
+    }))
 
 -- memory was refused, and nothing has changed
 carried-no_memory : (c : BusConfig) (past : List Entry) (e : Event) (parts parts' : Parts) → IsKept (record_of c past) parts → length past < c.limit
@@ -60,11 +60,11 @@ pub carried-open : (c : BusConfig) (past : List Entry) (i k : ℕ) (r : Reply) (
 carried-open c past i k (reply.Refused refusal.NoMemory) parts parts' kept room opens =
     carried-no_memory c past (Open i k) parts parts' kept room opens.3 (no_memory c past i k parts' (subst (λ (p : Parts). Opens p i k (reply.Refused refusal.NoMemory) parts') kept.of_parts opens))
 carried-open c past i k r parts parts' kept room opens =
-    carried c past (Open i k) (Open i k) (λ (p : Parts). Opens p i k r parts') refl kept room opens (opened_follows c past i k r parts' (λ is. cc) kept.legal)
+    carried c past (Open i k) (Open i k) (λ (p : Parts). Opens p i k r parts') refl kept room opens refl (opened_follows c past i k r parts' (λ is. cc) kept.legal)
 
 -- filters were set, or that was refused
 pub carried-filters : (c : BusConfig) (past : List Entry) (s : SocketId) (fs : List CanFilter) (r : Reply) (parts parts' : Parts) → IsKept (record_of c past) parts → length past < c.limit
     → Refilters parts s.0 fs r parts' → Carries c past (SetFilters s fs) r parts'
 carried-filters c past s fs (reply.Refused refusal.NoMemory) parts parts' kept room same = carried-no_memory c past (SetFilters s fs) parts parts' kept room same tt
 carried-filters c past s fs r parts parts' kept room sets =
-    carried c past (SetFilters s fs) (SetFilters s fs) (λ (p : Parts). Sets p s.0 (λ v. record v { filters = fs }) r parts') refl kept room sets (filters_follow c past s fs r parts')
+    carried c past (SetFilters s fs) (SetFilters s fs) (λ (p : Parts). Sets p s.0 (λ v. record v { filters = fs }) r parts') refl kept room sets refl (filters_follow c past s fs r parts')

@@ -138,23 +138,10 @@ legal-fits c past (Restart i m) = if-holds (FitsReply (Restart i m)) (nat_le c.i
 pub legal_is_spelled : (c : BusConfig) (past : List Entry) (e : Event) (r : Reply) → r ≡ legal_reply c past e → FitsReply e r
 legal_is_spelled c past e r law = subst (FitsReply e) (sym law) (legal-fits c past e)
 
-fits_suits : (e : Event) (r : Reply) → FitsReply e r → Suits e r
-fits_suits e (reply.Refused why) fits = tt
-fits_suits (Open i n) (reply.Opened s) fits = tt
-fits_suits (Close s) (reply.Closed counts) fits = tt
-fits_suits (SetFilters s f) reply.Done fits = tt
-fits_suits (SetOption s o) reply.Done fits = tt
-fits_suits (Send s f) (reply.Sent n) fits = tt
-fits_suits (Receive s) (reply.Received item) fits = tt
-fits_suits (Attempt m v) (reply.Idle restarted) fits = tt
-fits_suits (Attempt m v) (reply.Tried t) fits = tt
-fits_suits (Restart i m) reply.Done fits = tt
-fits_suits _ _ fits = absurd fits
-
 -- an answer is of its event's kind
 pub answer_suits : (c : BusConfig) (past : List Entry) (e : Event) (r : Reply) → IsAnswer c past e r → Suits e r
 answer_suits c past e (reply.Refused why) answer = tt
-answer_suits c past e r answer = fits_suits e r (legal_is_spelled c past e r answer.1)
+answer_suits c past e r answer = legal_is_spelled c past e r answer.1
 
 -- ---- restarts
 

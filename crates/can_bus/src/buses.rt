@@ -136,19 +136,19 @@ impl<T: BoundedQueue<Pending>, R: BoundedQueue<Received>, A: Arbiter> Bus<T, R, 
         if self.record.is_full() {
             return Reply::Refused(Refusal::RecordFull);
         }
-        match event {
-            Event::SetFilters(id, filters) => self.answer_filters(alloc, *id, filters),
-            _ => {
-                let reply = self.state.answer(alloc, self.record.config(), event);
-                if reply.enters() {
-                    self.record.push(event, &reply);
-                }
-                reply
-            }
+        if let Event::SetFilters(id, filters) = event {
+            return self.answer_filters(alloc, *id, filters);
         }
+        let reply = self.state.answer(alloc, self.record.config(), event);
+        if !reply.enters() {
+            return reply;
+        }
+        self.record.push(event, &reply);
+        reply
     }
 
     // Sets the filters of a socket where the record has room: all memory is taken before anything changes.
+    #[inline(never)]
     fn answer_filters(&mut self, alloc: Global, id: SocketId, filters: &FilterSet) -> Reply
         requires room { length self.old.history < self.old.config.limit }
         ensures answer { IsAnswer self.old.config self.old.history (event.SetFilters id filters.now) result }
@@ -166,10 +166,11 @@ impl<T: BoundedQueue<Pending>, R: BoundedQueue<Received>, A: Arbiter> Bus<T, R, 
             return Reply::Refused(Refusal::NoMemory);
         };
         let reply = self.state.answer(alloc, self.record.config(), &entry.event);
-        if reply.enters() {
-            entry.reply = reply;
-            self.record.push_boxed(entry);
+        if !reply.enters() {
+            return reply;
         }
+        entry.reply = reply;
+        self.record.push_boxed(entry);
         reply
     }
 

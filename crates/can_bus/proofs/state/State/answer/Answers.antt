@@ -53,7 +53,7 @@ returns-in-Open g c = λ past kept room.
 pub returns-in-Close : goal.returns-in-Close
 returns-in-Close g c = λ past kept room.
     carried c.args.config past (event.Close c.in-Close.id) _ (λ (p : Parts). Closes p c.in-Close.id.0 c.close.result c.close.new.self)
-    c.in-Close.is kept room c.close.ensures (closed_follows _ _ c.in-Close.id _ _)
+    c.in-Close.is kept room c.close.ensures refl (closed_follows _ _ c.in-Close.id _ _)
 
 pub returns-in-SetFilters : goal.returns-in-SetFilters
 returns-in-SetFilters g c = λ past kept room.
@@ -64,26 +64,26 @@ pub returns-in-SetOption : goal.returns-in-SetOption
 returns-in-SetOption g c = λ past kept room.
     carried c.args.config past (event.SetOption c.in-SetOption.id c.in-SetOption.option) _
     (λ (p : Parts). Sets p c.in-SetOption.id.0 (λ v. record v { options = with_option c.in-SetOption.option v.options }) c.set_option.result c.set_option.new.self)
-    c.in-SetOption.is kept room c.set_option.ensures (option_follows _ _ c.in-SetOption.id c.in-SetOption.option _ _)
+    c.in-SetOption.is kept room c.set_option.ensures refl (option_follows _ _ c.in-SetOption.id c.in-SetOption.option _ _)
 
 pub returns-in-Send : goal.returns-in-Send
 returns-in-Send g c = λ past kept room.
     carried c.args.config past (event.Send c.in-Send.id c.in-Send.frame) _ (λ (p : Parts). Sends p c.in-Send.id.0 (of_frame c.in-Send.frame c.in-Send.id) c.send.result c.send.new.self)
-    c.in-Send.is kept room c.send.ensures (sent_follows _ _ c.in-Send.id c.in-Send.frame _ _ kept.proper kept.legal)
+    c.in-Send.is kept room c.send.ensures c.sent_reply.ensures (sent_follows _ _ c.in-Send.id c.in-Send.frame _ _ kept.proper kept.legal)
 
 pub returns-in-Receive : goal.returns-in-Receive
 returns-in-Receive g c = λ past kept room.
     carried c.args.config past (event.Receive c.in-Receive.id) _ (λ (p : Parts). Receives p c.in-Receive.id.0 c.receive.result c.receive.new.self)
-    c.in-Receive.is kept room c.receive.ensures (received_follows _ _ c.in-Receive.id _ _)
+    c.in-Receive.is kept room c.receive.ensures c.received_reply.ensures (received_follows _ _ c.in-Receive.id _ _)
 
 pub returns-in-Attempt : goal.returns-in-Attempt
 returns-in-Attempt g c = λ past kept room.
     carried c.args.config past (event.Attempt c.in-Attempt.moment c.in-Attempt.verdict) _
     (λ (p : Parts). Attempts p c.args.config c.in-Attempt.moment c.in-Attempt.verdict c.attempt.result c.attempt.new.self)
-    c.in-Attempt.is kept room c.attempt.ensures
+    c.in-Attempt.is kept room c.attempt.ensures c.attempt_reply.ensures
     (attempt_follows _ _ c.in-Attempt.moment c.in-Attempt.verdict _ _ kept.legal kept.proper.few_ifaces)
 
 pub returns-in-Restart : goal.returns-in-Restart
 returns-in-Restart g c = λ past kept room.
     carried c.args.config past (event.Restart c.in-Restart.iface c.in-Restart.moment) _ (λ (p : Parts). Restarts p c.in-Restart.iface c.in-Restart.moment c.restart.result c.restart.new.self)
-    c.in-Restart.is kept room c.restart.ensures (restarted_follows _ _ c.in-Restart.iface c.in-Restart.moment _ _ kept.legal kept.proper.few_ifaces)
+    c.in-Restart.is kept room c.restart.ensures refl (restarted_follows _ _ c.in-Restart.iface c.in-Restart.moment _ _ kept.legal kept.proper.few_ifaces)
