@@ -57,8 +57,10 @@ is_ready j parts c kept room same = subst (λ (k : BusConfig). IsReady k parts) 
 abbrev pub CarriesAll : BusConfig → Parts → Event → Reply → Parts → Type 0
 CarriesAll c parts e r new = (past : List Entry) → IsKept (record_of c past) parts → length past < c.limit → Carries c past e r new
 
-pub carries : (j : Kept) (parts new : Parts) (c : BusConfig) (e : Event) (r : Reply) → IsKept j parts → length j.history < j.config.limit → c ≡ j.config → CarriesAll c parts e r new → Carries j.config j.history e r new
-carries j parts new c e r kept room same all = (subst (λ (k : BusConfig). CarriesAll k parts e r new) same all) j.history (of_history j parts kept) room
+pub carries : {j : Kept} {parts new : Parts} {c : BusConfig} {e called : Event} {r : Reply} → IsKept j parts → length j.history < j.config.limit → c ≡ j.config
+    → called ≡ e → CarriesAll c parts called r new → Carries j.config j.history e r new
+carries {j} {parts} {new} {c} {e} {called} {r} kept room same is all =
+    subst (λ (x : Event). Carries j.config j.history x r new) is ((subst (λ (k : BusConfig). CarriesAll k parts called r new) same all) j.history (of_history j parts kept) room)
 
 -- an event that a bus answered: what is kept, and what that says of its history
 pub record IsAnswered (before : Journal) (e : Event) (r : Reply) (new : Kept) (parts : Parts) : Type 0 where

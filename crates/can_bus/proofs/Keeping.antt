@@ -66,7 +66,7 @@ pub record IsDone {A : Type 0} (told' : A → Reply) (before : Journal) (event :
   pub kept : IsKept new parts
   pub answers : Answers told' before event r (record { config = new.config; history = new.history })
 
-not_full : (full : Bool) (n limit : ℕ) → IsTrue full ↔ (limit ≤ n) → full ≡ false → n < limit
+pub not_full : (full : Bool) (n limit : ℕ) → IsTrue full ↔ (limit ≤ n) → full ≡ false → n < limit
 not_full full n limit test is = grind arith
 
 -- there was room, the state changed in this way, and the reply was noted

@@ -25,7 +25,7 @@ use can_fault::Verdict;
 use can_filter::FilterSet;
 use can_frame::{Frame, Iface, Moment};
 use can_queue::{BoundedQueue, ListQueue, RingQueue};
-use std::alloc::Global;
+use std::alloc::{AllocError, Global};
 use std::marker::Model;
 use thiserror::Error;
 
@@ -71,6 +71,15 @@ impl<T: BoundedQueue<Pending>, R: BoundedQueue<Received>, A: Arbiter> Model for 
     ghost view = { λ b. record { config = b.record.config; history = b.record.history } };
 
     ghost invariant = { λ b. IsKept b.record b.state };
+}
+
+/// The entry of a socket's filters that are set to a copy of these, in memory of its own.
+fn filters_entry(alloc: Global, id: SocketId, filters: &FilterSet) -> Result<Box<Entry>, AllocError>
+    ensures { IfOk result (λ entry. entry.value ≡ record { event = event.SetFilters id filters.now; reply = reply.Done }) }
+{
+    let event = Event::SetFilters(id, filters.try_copy(alloc)?);
+    let reply = Reply::Done;
+    Ok(Box::new(alloc, Entry { event, reply })?)
 }
 
 impl<T: BoundedQueue<Pending>, R: BoundedQueue<Received>, A: Arbiter> Bus<T, R, A> {
@@ -155,14 +164,7 @@ impl<T: BoundedQueue<Pending>, R: BoundedQueue<Received>, A: Arbiter> Bus<T, R, 
         ensures after { self.new ≡ record self.old { history = history_after (event.SetFilters id filters.now) result self.old.history } }
         ensures suits { Suits (event.SetFilters id filters.now) result }
     {
-        let Ok(copy) = filters.try_copy(alloc) else {
-            return Reply::Refused(Refusal::NoMemory);
-        };
-        let entry = Entry {
-            event: Event::SetFilters(id, copy),
-            reply: Reply::Done,
-        };
-        let Ok(mut entry) = Box::new(alloc, entry) else {
+        let Ok(mut entry) = filters_entry(alloc, id, filters) else {
             return Reply::Refused(Refusal::NoMemory);
         };
         let reply = self.state.answer(alloc, self.record.config(), &entry.event);
