@@ -1,11 +1,10 @@
 use Rattle.std.proofs.Common.{refl}
-use Rattle.std.proofs.lemmas.Bool.{iff_false}
-use Rattle.can_bus.proofs.Answering.{IsAnswered, answer_is_spelled, carries, entered, entered_is_legal, is_ready, not_filters, unentered}
+use Rattle.can_bus.proofs.Answering.{IsAnswered, answer_is_spelled, carries, entered, entered_is_legal, is_ready, not_filters}
 use Rattle.can_bus.proofs.Keeping.{not_full}
 use Rattle.can_bus.proofs.Narrow.{legal_fits}
 use Rattle.can_bus.proofs.buses.Bus.answer.Given as given
 use Rattle.can_bus.proofs.buses.Bus.answer.Goals as goal
-use Rattle.can_bus.proofs.buses.Bus.answer.Goals.{After-push, Then-not-enters}
+use Rattle.can_bus.proofs.buses.Bus.answer.Goals.{After-push}
 
 pub answer-reply-requires : goal.answer-reply-requires
 answer-reply-requires g c = is_ready _ _ _ c.self.invariant (not_full _ _ _ c.is_full.ensures c.if-is_full.false) c.config.ensures.config
@@ -27,8 +26,8 @@ noted g c =
     entered c.self.inside.record c.push.new.self c.args.self.now c.self.inside.state _ _ _ c.self.view_is c.self.invariant carried
     (c.enters.ensures.0 c.if-not-enters.false) c.push.ensures
 
-not_noted : (g : given.Over) (c : Then-not-enters g) → IsAnswered c.args.self.now c.args.event.now c.answer-reply.result c.self.inside.record c.answer-reply.new.self
-not_noted g c =
-    let carried = carries c.self.invariant (not_full _ _ _ c.is_full.ensures c.if-is_full.false) c.config.ensures.config refl c.answer-reply.ensures in
-    unentered c.self.inside.record c.args.self.now c.self.inside.state _ _ _ c.self.view_is c.self.invariant carried
-    (iff_false c.enters.ensures c.if-not-enters.true)
+pub invariant_of-self-2 : goal.invariant_of-self-2
+invariant_of-self-2 g c = (noted g c).kept
+
+pub returns : goal.returns
+returns g c = let is = noted g c in record { answer = is.answer; after = is.after; suits = is.suits }

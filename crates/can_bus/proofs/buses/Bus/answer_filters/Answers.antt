@@ -1,14 +1,13 @@
 use Rattle.std.proofs.Common.{◌≡◌, ◌<◌, ◌∙◌, length, ap, sym, subst}
-use Rattle.std.proofs.lemmas.Bool.{iff_false}
 use Rattle.can_event.specs.declared.events.Entry.{Entry}
 use Rattle.can_event.specs.declared.events.Event.{Event}
 use Rattle.can_event.specs.declared.events.Event.TheVariants as event
 use Rattle.can_bus.specs.Journal.{Journal}
 use Rattle.can_bus.specs.State.{IsLonger}
-use Rattle.can_bus.proofs.Answering.{IsAnswered, answer_is_spelled, carries, entered, is_ready, unentered}
+use Rattle.can_bus.proofs.Answering.{IsAnswered, answer_is_spelled, carries, entered, is_ready}
 use Rattle.can_bus.proofs.buses.Bus.answer_filters.Given as given
 use Rattle.can_bus.proofs.buses.Bus.answer_filters.Goals as goal
-use Rattle.can_bus.proofs.buses.Bus.answer_filters.Goals.{After-push_boxed, Then-not-enters}
+use Rattle.can_bus.proofs.buses.Bus.answer_filters.Goals.{After-push_boxed}
 
 -- there was room in the record
 with_room : {j : Journal} {k : Journal} → j ≡ k → length k.history < k.config.limit → length j.history < j.config.limit
@@ -31,13 +30,6 @@ noted g c =
     let longer = subst (λ (e : Event). IsLonger c.self.inside.record (record { event = e; reply = c.answer-reply.result }) c.push_boxed.new.self) is c.push_boxed.ensures in
     entered c.self.inside.record c.push_boxed.new.self c.args.self.now c.self.inside.state _ _ _ c.self.view_is c.self.invariant carried
     (c.enters.ensures.0 c.if-not-enters.false) longer
-
-not_noted : (g : given.Over) (c : Then-not-enters g) → IsAnswered c.args.self.now (event.SetFilters c.args.id c.args.filters.now) c.answer-reply.result c.self.inside.record c.answer-reply.new.self
-not_noted g c =
-    let was : c.deref.result.now.event ≡ event.SetFilters c.args.id c.args.filters.now = ap (λ (e : Entry). e.event) (c.deref.ensures ∙ c.in-Ok.ensures) in
-    let carried = carries c.self.invariant (with_room c.self.view_is c.requires.room) c.config.ensures.config was c.answer-reply.ensures in
-    unentered c.self.inside.record c.args.self.now c.self.inside.state _ _ _ c.self.view_is c.self.invariant carried
-    (iff_false c.enters.ensures c.if-not-enters.true)
 
 pub invariant_of-self-2 : goal.invariant_of-self-2
 invariant_of-self-2 g c = (noted g c).kept
