@@ -5,7 +5,7 @@ use Rattle.can_bus.specs.Lean.{Lean}
 use Rattle.can_bus.proofs.Answering.{answer_is_spelled}
 use Rattle.can_bus.proofs.lean.LeanBus.answer.Goals as goal
 
-pub returns-then-enters-clause-spelled : goal.returns-then-not-matches-clause-spelled
+pub returns-then-enters-clause-spelled : goal.returns-then-enters-clause-spelled
 returns-then-enters-clause-spelled g c = λ enters.
     let past = c.self.invariant.past in
     let kept = c.self.invariant.stands.kept in
