@@ -6,42 +6,38 @@ use Rattle.can_event.specs.declared.events.Event.{Event}
 use Rattle.can_event.specs.declared.events.Event.TheVariants.{SetFilters}
 use Rattle.can_event.specs.declared.events.Reply.{Reply}
 use Rattle.can_event.specs.declared.events.Reply.TheVariants as reply
-use Rattle.can_event.specs.declared.events.Refusal.{Refusal}
 use Rattle.can_event.specs.declared.events.Refusal.TheVariants as refusal
 use Rattle.can_event.specs.declared.events.SocketId.{SocketId}
 use Rattle.can_event.specs.Replies.{Enters, Suits}
 use Rattle.can_event.specs.Spelled.{IsSpelled}
-use Rattle.can_bus.specs.Answer.{Refuses}
 use Rattle.can_bus.specs.Journal.{Journal, Kept}
 use Rattle.can_bus.specs.Lean.{Carries, IsReady, record_of}
 use Rattle.can_bus.specs.Legal.{legal_reply}
 use Rattle.can_bus.specs.Run.{IsAnswer, history_after}
-use Rattle.can_bus.specs.State.{Parts, IsKept, IsLonger}
+use Rattle.can_bus.specs.State.{Parts, kept_parts, IsKept, IsLonger}
 use Rattle.can_bus.proofs.Fitting.{legal_has_line, answer_suits}
+use Rattle.can_bus.proofs.Keeping.{kept_more, noted}
 use Rattle.can_bus.proofs.Narrow.{SetsFilters}
 
 -- A bus answers an event as its parts do, and notes it.
 
 -- ---- what an answer says of its reply
 
-pub entered_is_legal : (c : BusConfig) (past : List Entry) (e : Event) (r : Reply) → IsAnswer c past e r → Enters r → r ≡ legal_reply c past e
+-- a reply that enters the record is the legal one, and there was room for it
+pub entered_is_legal : (c : BusConfig) (past : List Entry) (e : Event) (r : Reply) → IsAnswer c past e r → Enters r → (length past < c.limit) × (r ≡ legal_reply c past e)
 entered_is_legal c past e (reply.Refused refusal.RecordFull) answer enters = absurd enters
 entered_is_legal c past e (reply.Refused refusal.NoMemory) answer enters = absurd enters
-entered_is_legal c past e r answer enters = answer.1
+entered_is_legal c past e r answer enters = answer
 
 -- an answer that enters the record has a line
 pub answer_is_spelled : (c : BusConfig) (past : List Entry) (e : Event) (r : Reply) → IsAnswer c past e r → Enters r → IsSpelled c (record { event = e; reply = r })
-answer_is_spelled c past e r answer enters = legal_has_line c past e r (entered_is_legal c past e r answer enters)
+answer_is_spelled c past e r answer enters = legal_has_line c past e r (entered_is_legal c past e r answer enters).1
 
-history-entered : (e : Event) (r : Reply) (past : List Entry) → Enters r → history_after e r past ≡ record { event = e; reply = r } ∷ past
+-- and is noted
+pub history-entered : (e : Event) (r : Reply) (past : List Entry) → Enters r → history_after e r past ≡ record { event = e; reply = r } ∷ past
 history-entered e (reply.Refused refusal.RecordFull) past enters = absurd enters
 history-entered e (reply.Refused refusal.NoMemory) past enters = absurd enters
 history-entered e r past enters = refl
-
-history-same : (e : Event) (r : Reply) (past : List Entry) → ¬ Enters r → history_after e r past ≡ past
-history-same e (reply.Refused refusal.RecordFull) past out = refl
-history-same e (reply.Refused refusal.NoMemory) past out = refl
-history-same e r past out = absurd (out tt)
 
 -- ---- the parts and the record
 
@@ -69,44 +65,20 @@ pub record IsAnswered (before : Journal) (e : Event) (r : Reply) (new : Kept) (p
   pub after : ◌≡◌ {A = Journal} (record { config = new.config; history = new.history }) (record before { history = history_after e r before.history })
   pub suits : Suits e r
 
-answered : (j new : Kept) (before : Journal) (parts' : Parts) (e : Event) (r : Reply)
-    → ◌≡◌ {A = Journal} (record { config = j.config; history = j.history }) before
-    → new.config ≡ j.config → new.history ≡ history_after e r j.history → j.config.limit ≤ new.room
-    → Carries j.config j.history e r parts' → IsAnswered before e r new parts'
-answered j new before parts' e r view config history room carries =
-    let past = history_after e r j.history in
-    let is : ◌≡◌ {A = Kept} (record { config = j.config; history = past; room = new.room }) new =
-    ap (λ (c : BusConfig). record { config = c; history = past; room = new.room }) (sym config) ∙ ap (λ (h : List Entry). record { config = new.config; history = h; room = new.room }) (sym history) in
-    let after = carries.after in
-    subst (λ (b : Journal). IsAnswered b e r new parts') view (record {
-      kept = subst (λ k. IsKept k parts') is (record { of_parts = after.of_parts; legal = after.legal; proper = after.proper; room = room });
-      answer = carries.answer;
-      after = ap (λ (c : BusConfig). record { config = c; history = new.history }) config ∙ ap (λ (h : List Entry). record { config = j.config; history = h }) history;
-      suits = answer_suits j.config j.history e r carries.answer;
-    })
-
 -- the record has an entry more
-pub entered : (j new : Kept) (before : Journal) (parts parts' : Parts) (e : Event) (r : Reply)
+pub entered : {j new : Kept} {before : Journal} {parts parts' : Parts} {e : Event} {r : Reply}
     → ◌≡◌ {A = Journal} (record { config = j.config; history = j.history }) before → IsKept j parts
     → Carries j.config j.history e r parts' → Enters r → IsLonger j (record { event = e; reply = r }) new → IsAnswered before e r new parts'
-entered j new before parts parts' e r view kept carries enters longer =
-    answered j new before parts' e r view longer.config (longer.history ∙ sym (history-entered e r j.history enters)) (omega (arith, kept.room, longer.room)) carries
-
--- the record is as it was
-pub unentered : (j : Kept) (before : Journal) (parts parts' : Parts) (e : Event) (r : Reply)
-    → ◌≡◌ {A = Journal} (record { config = j.config; history = j.history }) before → IsKept j parts
-    → Carries j.config j.history e r parts' → ¬ Enters r → IsAnswered before e r j parts'
-unentered j before parts parts' e r view kept carries out =
-    answered j j before parts' e r view refl (sym (history-same e r j.history out)) kept.room carries
-
--- ---- the typed calls
-
--- a refusal that was answered is the call's
-pub refused : (old new : Journal) (e : Event) (why : Refusal) → IsAnswer old.config old.history e (reply.Refused why)
-    → new ≡ record old { history = history_after e (reply.Refused why) old.history } → Refuses old e why new
-refused old new e refusal.RecordFull answer after = (answer, after)
-refused old new e refusal.NoMemory answer after = (answer.0, answer.1, after)
-refused old new e _ answer after = record { room = answer.0; lawful = answer.1; new_is = after }
+entered {j} {new} {before} {parts} {parts'} {e} {r} view kept carries enters longer =
+    let here : Entry = record { event = e; reply = r } in
+    let legal = entered_is_legal j.config j.history e r carries.answer enters in
+    let is_noted = noted j new before here view longer legal.0 legal.1 in
+    record {
+      kept = kept_more j new here parts parts' kept longer legal.0 (record { lawful = legal.1; after = carries.after.of_parts ∙ ap (kept_parts j.config) (history-entered e r j.history enters) });
+      answer = subst (λ (b : Journal). IsAnswer b.config b.history e r) view carries.answer;
+      after = is_noted.new_is ∙ ap (λ (h : List Entry). record before { history = h }) (sym (history-entered e r before.history enters));
+      suits = answer_suits j.config j.history e r carries.answer;
+    }
 
 -- ---- events that are no setting of filters
 

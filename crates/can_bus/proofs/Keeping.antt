@@ -24,7 +24,7 @@ pub record Follows (c : BusConfig) (past : List Entry) (e : Entry) (parts : Part
   pub after : parts ≡ kept_parts c (e ∷ past)
 
 -- one entry more is kept
-kept_more : (j new : Kept) (e : Entry) (parts parts' : Parts) → IsKept j parts → IsLonger j e new → length j.history < j.config.limit → Follows j.config j.history e parts' → IsKept new parts'
+pub kept_more : (j new : Kept) (e : Entry) (parts parts' : Parts) → IsKept j parts → IsLonger j e new → length j.history < j.config.limit → Follows j.config j.history e parts' → IsKept new parts'
 kept_more j new e parts parts' kept longer room follows =
     let longer_config = longer.config in
     let longer_history = longer.history in
@@ -38,7 +38,7 @@ kept_more j new e parts parts' kept longer room follows =
     })
 
 -- what the call's contract says of an entry that was added
-noted : (j new : Kept) (old : Journal) (e : Entry) → ◌≡◌ {A = Journal} (record { config = j.config; history = j.history }) old → IsLonger j e new
+pub noted : (j new : Kept) (old : Journal) (e : Entry) → ◌≡◌ {A = Journal} (record { config = j.config; history = j.history }) old → IsLonger j e new
     → length j.history < j.config.limit → e.reply ≡ legal_reply j.config j.history e.event
     → Noted old e.event e.reply (record { config = new.config; history = new.history })
 noted j new old e view longer room lawful =

@@ -18,13 +18,12 @@ pub push-requires-clause-fits : goal.push-requires-clause-fits
 push-requires-clause-fits g c =
     let carried = carries c.self.invariant (not_full _ _ _ c.is_full.ensures c.if-is_full.false) c.config.ensures.config refl c.answer-reply.ensures in
     legal_fits c.self.inside.record c.self.inside.state c.args.event.now _ c.self.invariant (not_filters _ c.in_default.not-SetFilters)
-    (entered_is_legal c.self.inside.record.config c.self.inside.record.history c.args.event.now _ carried.answer (c.enters.ensures.0 c.if-not-enters.false))
+    (entered_is_legal c.self.inside.record.config c.self.inside.record.history c.args.event.now _ carried.answer (c.enters.ensures.0 c.if-not-enters.false)).1
 
 noted : (g : given.Over) (c : After-push g) → IsAnswered c.args.self.now c.args.event.now c.answer-reply.result c.push.new.self c.answer-reply.new.self
 noted g c =
     let carried = carries c.self.invariant (not_full _ _ _ c.is_full.ensures c.if-is_full.false) c.config.ensures.config refl c.answer-reply.ensures in
-    entered c.self.inside.record c.push.new.self c.args.self.now c.self.inside.state _ _ _ c.self.view_is c.self.invariant carried
-    (c.enters.ensures.0 c.if-not-enters.false) c.push.ensures
+    entered c.self.view_is c.self.invariant carried (c.enters.ensures.0 c.if-not-enters.false) c.push.ensures
 
 pub invariant_of-self-2 : goal.invariant_of-self-2
 invariant_of-self-2 g c = (noted g c).kept

@@ -28,8 +28,7 @@ noted g c =
     let is : c.deref_mut.result.now.event ≡ event.SetFilters c.args.id c.args.filters.now = ap (λ (e : Entry). e.event) (c.deref_mut.ensures.value ∙ c.in-Ok.ensures) in
     let carried = carries c.self.invariant (with_room c.self.view_is c.requires.room) c.config.ensures.config was c.answer-reply.ensures in
     let longer = subst (λ (e : Event). IsLonger c.self.inside.record (record { event = e; reply = c.answer-reply.result }) c.push_boxed.new.self) is c.push_boxed.ensures in
-    entered c.self.inside.record c.push_boxed.new.self c.args.self.now c.self.inside.state _ _ _ c.self.view_is c.self.invariant carried
-    (c.enters.ensures.0 c.if-not-enters.false) longer
+    entered c.self.view_is c.self.invariant carried (c.enters.ensures.0 c.if-not-enters.false) longer
 
 pub invariant_of-self-2 : goal.invariant_of-self-2
 invariant_of-self-2 g c = (noted g c).kept
