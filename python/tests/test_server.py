@@ -236,10 +236,10 @@ def launcher(tmp_path):
     place = tmp_path / "libexec" / "canbusd"
     place.mkdir(parents=True)
     (tmp_path / "bin").mkdir()
-    shutil.copy(CLONE / "contrib" / "canbusd.sh", tmp_path / "bin" / "canbusd")
+    shutil.copy(CLONE / "tools" / "canbusd.sh", tmp_path / "bin" / "canbusd")
     (tmp_path / "bin" / "canbusd").chmod(0o755)
     (place / "canbusd").symlink_to(find_program())
-    (place / "serve").symlink_to(CLONE / "scripts" / "serve")
+    (place / "serve").symlink_to(CLONE / "tools" / "serve")
     return tmp_path / "bin"
 
 

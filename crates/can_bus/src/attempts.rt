@@ -131,7 +131,7 @@ impl<T: BoundedQueue<Pending>, R: BoundedQueue<Received>, A: Arbiter> State<T, R
         self.restart_all(restarted, moment);
         match tried {
             Some(tried) => Attempt::Tried(tried),
-            None => Attempt::Idle(restarted),
+            None => Attempt::Idle { restarted },
         }
     }
 

@@ -28,7 +28,9 @@ pub fn attempt_reply(attempt: &Attempt) -> Reply
     ensures { result ≡ told_attempt attempt.now }
 {
     match attempt {
-        Attempt::Idle(restarted) => Reply::Idle(*restarted),
+        Attempt::Idle { restarted } => Reply::Idle {
+            restarted: *restarted,
+        },
         Attempt::Tried(tried) => Reply::Tried(*tried),
     }
 }

@@ -225,8 +225,8 @@ impl Tried {
 /// What an attempt came to.
 #[derive(Debug, Clone, Copy, PartialEq, Eq)]
 pub enum Attempt {
-    /// No live interface had a frame to send. These were restarted.
-    Idle(IfaceSet),
+    /// No live interface had a frame to send, and these were restarted.
+    Idle { restarted: IfaceSet },
     /// A frame was tried.
     Tried(Tried),
 }
@@ -244,8 +244,8 @@ pub enum Reply {
     Sent(u64),
     /// The oldest item, or none.
     Received(Option<Received>),
-    /// No live interface had a frame to send. These were restarted.
-    Idle(IfaceSet),
+    /// No live interface had a frame to send, and these were restarted.
+    Idle { restarted: IfaceSet },
     /// A frame was tried.
     Tried(Tried),
     /// The call was refused.

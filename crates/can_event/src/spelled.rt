@@ -20,7 +20,7 @@ fn may_restart(config: BusConfig, reply: &Reply) -> bool
     ensures { IsTrue result ↔ MayRestart config reply.now }
 {
     let restarted = match reply {
-        Reply::Idle(restarted) => *restarted,
+        Reply::Idle { restarted } => *restarted,
         Reply::Tried(tried) => tried.restarted,
         _ => IfaceSet::empty(),
     };
@@ -38,7 +38,7 @@ fn fits_reply(event: &Event, reply: &Reply) -> bool
         Reply::Done => is_setting(event),
         Reply::Sent(_) => matches!(event, Event::Send(_, _)),
         Reply::Received(item) => matches!(event, Event::Receive(_)) && are_numbered(item),
-        Reply::Idle(_) => matches!(event, Event::Attempt(_, _)),
+        Reply::Idle { .. } => matches!(event, Event::Attempt(_, _)),
         Reply::Tried(tried) => is_attempt_of(event, tried),
     }
 }

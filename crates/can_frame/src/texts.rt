@@ -1,11 +1,13 @@
 ghost use Rattle.std.specs.Prelude.{◌≡◌, ◌≤◌, ◌<◌, ◌+◌, ◌*◌, ◌++◌, ◌∷◌, [], length};
 ghost use Rattle.std.specs.Fmt.{decimal};
-ghost use Rattle.can_frame.specs.FrameText.{digits, digit_of, pairs, id_text, upper};
+ghost use Rattle.can_frame.specs.FrameText.{digits, pairs, id_text, upper};
 ghost use Rattle.can_frame.specs.Moments.{moment_text};
 
+use crate::digit_writing::{
+    decimal_len, write_decimals, write_hexadecimals, write_number, write_pairs,
+};
 use crate::identifiers::CanId;
 use crate::moments::Moment;
-use itoa::Buffer;
 use std::marker::Model;
 
 /// A text of at most `N` bytes, kept in place.
@@ -73,7 +75,7 @@ impl<const N: usize> Text<N> {
     {
         let end = self.len + count;
         let all = &mut self.bytes[..];
-        write_digits::<16>(number, &mut all[self.len..end]);
+        write_hexadecimals(number, &mut all[self.len..end]);
         self.len = end;
     }
 
@@ -85,7 +87,7 @@ impl<const N: usize> Text<N> {
     {
         let end = self.len + count;
         let all = &mut self.bytes[..];
-        write_digits::<10>(number, &mut all[self.len..end]);
+        write_decimals(number, &mut all[self.len..end]);
         self.len = end;
     }
 
@@ -105,8 +107,10 @@ impl<const N: usize> Text<N> {
         ensures text { self.new ≡ self.old ++ decimal number }
         ensures len { length self.new ≡ length self.old + length (decimal number) }
     {
-        let mut buffer = Buffer::new();
-        self.push_all(buffer.format(number).as_bytes());
+        let end = self.len + decimal_len(number);
+        let all = &mut self.bytes[..];
+        write_number(number, &mut all[self.len..end]);
+        self.len = end;
     }
 
     /// An identifier: 3 hexadecimal digits, or 8 where it has 29 bits.
@@ -115,8 +119,12 @@ impl<const N: usize> Text<N> {
         ensures text { self.new ≡ self.old ++ id_text id }
         ensures len { length self.new ≤ length self.old + 8 }
     {
-        let count = if id.is_extended() { 8 } else { 3 };
-        self.push_hex(count, u64::from(id.number()));
+        let number = u64::from(id.number());
+        if id.is_extended() {
+            self.push_hex(8, number);
+        } else {
+            self.push_hex(3, number);
+        }
     }
 
     /// A moment: seconds without leading zeros, a point and 6 digits of microseconds.
@@ -157,30 +165,6 @@ impl<const N: usize> Text<N> {
     }
 }
 
-/// Fills a room with the last digits of a number in a base of at most 16, upper case.
-fn write_digits<const BASE: u64>(number: u64, room: &mut [u8])
-    requires low { 2 ≤ BASE }
-    requires high { BASE ≤ 16 }
-    ensures text { room.new ≡ digits BASE (length room.old) number }
-    ensures len { length room.new ≡ length room.old }
-{
-    let mut left = number;
-    for place in (0..room.len()).rev() {
-        room[place] = digit(left % BASE);
-        left /= BASE;
-    }
-}
-
-/// Writes bytes as pairs of hexadecimal digits, upper case.
-fn write_pairs(bytes: &[u8], room: &mut [u8])
-    requires { length room.old ≡ 2 * length bytes.now }
-    ensures text { room.new ≡ pairs bytes.now }
-    ensures len { length room.new ≡ 2 * length bytes.now }
-{
-    let _ = hex::encode_to_slice(bytes, room);
-    room.make_ascii_uppercase();
-}
-
 /// Copies bytes, letters in upper case.
 fn copy_upper(bytes: &[u8], room: &mut [u8])
     requires { length room.old ≡ length bytes.now }
@@ -189,16 +173,4 @@ fn copy_upper(bytes: &[u8], room: &mut [u8])
 {
     room.copy_from_slice(bytes);
     room.make_ascii_uppercase();
-}
-
-/// A digit below 16, upper case.
-fn digit(value: u64) -> u8
-    requires { value < 16 }
-    ensures { result ≡ digit_of value }
-{
-    if value < 10 {
-        b'0' + value as u8
-    } else {
-        b'A' + (value as u8 - 10)
-    }
 }

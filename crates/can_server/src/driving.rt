@@ -144,7 +144,7 @@ impl Changes {
 
     fn note(&mut self, attempt: &Attempt) {
         match attempt {
-            Attempt::Idle(restarted) => self.restarted.0 |= restarted.0,
+            Attempt::Idle { restarted } => self.restarted.0 |= restarted.0,
             Attempt::Tried(tried) => {
                 self.off.0 |= tried.off.0;
                 self.restarted.0 |= tried.restarted.0;
@@ -157,7 +157,7 @@ impl Changes {
 /// the record.
 fn is_in_vain(attempt: &Attempt) -> bool {
     match attempt {
-        Attempt::Idle(restarted) => *restarted == IfaceSet::empty(),
+        Attempt::Idle { restarted } => *restarted == IfaceSet::empty(),
         Attempt::Tried(tried) => tried.class == Class::NoAck
             && tried.restarted == IfaceSet::empty(),
     }

@@ -62,7 +62,7 @@ impl News {
         match (event, reply) {
             (_, Reply::Refused(Refusal::RecordFull)) => self.is_full = true,
             (_, Reply::Refused(_)) => {}
-            (_, Reply::Idle(restarted)) if *restarted == IfaceSet::empty() => {}
+            (_, Reply::Idle { restarted }) if *restarted == IfaceSet::empty() => {}
             (Event::Send(_, _), _) => self.has_work = true,
             (Event::Close(_) | Event::Attempt(_, _) | Event::Restart(_, _), _) => {
                 self.has_items = true;

@@ -259,7 +259,7 @@ fn is_answered<N: RollName>(pass: &Pass<N>, place: usize, record: &Record) -> bo
 /// Whether the call of a pass at this place was an idle attempt that restarted these.
 fn is_idle<N: RollName>(pass: &Pass<N>, place: usize, restarted: IfaceSet) -> bool {
     match pass.call(place) {
-        Some(call) => call.entry().reply == Reply::Idle(restarted),
+        Some(call) => call.entry().reply == Reply::Idle { restarted },
         None => false,
     }
 }

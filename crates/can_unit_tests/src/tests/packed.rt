@@ -249,7 +249,9 @@ fn attempts_come_back(rt: HostRuntime) -> Result<(), Fail> {
         comes_back(
             &rt,
             Event::Attempt(at, verdict),
-            Reply::Idle(IfaceSet(0xFFFF)),
+            Reply::Idle {
+                restarted: IfaceSet(0xFFFF),
+            },
         )?;
         let refused = Reply::Refused(Refusal::RecordFull);
         comes_back(&rt, Event::Attempt(at, verdict), refused)?;

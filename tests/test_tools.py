@@ -1,4 +1,4 @@
-"""What is in contrib/ for runs, and the package's drawings: pages in a browser, drawings, and the replay beside the
+"""The tools for runs, and the package's drawings: pages in a browser, drawings, and the replay beside the
 program.
 """
 
@@ -15,7 +15,7 @@ from commands import BROWSER, call, example, examples, is_clean
 from random_benches import Maker
 from serving import ROOT, program
 
-REPORT = os.path.join(ROOT, "contrib", "canbusd-report")
+REPORT = os.path.join(ROOT, "tools", "canbusd-report")
 DRAW = [sys.executable, "-m", "canbusd", "report"]
 # How many random runs are replayed.
 RUNS = 300
@@ -93,7 +93,7 @@ def test_record_of_another_history(tmp_path):
 
 
 def replies_like(line):
-    """Other replies that may stand in a line."""
+    """Other replies that a line may have."""
     event, reply = line.split(" = ")
     others = {
         "open": ["socket 7", "too-many-sockets"],

@@ -1,6 +1,6 @@
 # Completions of canbusd and its tools for fish.
 
-# The file of faults behind the `@` of a bus.
+# The file of faults after the `@` of a bus.
 function __canbusd_scripts
     set -l parts (string split --max 1 @ -- (commandline --current-token --cut-at-cursor))
     if set --query parts[2]
@@ -38,7 +38,7 @@ complete -c canbusd -n $serves -x -l sessions -d "How many sessions before the e
 complete -c canbusd -n $serves -x -l pace -d "Milliseconds of rest after each attempt"
 complete -c canbusd -n $serves -x -l out -a "(__fish_complete_directories)" -d "Where logs and records go"
 complete -c canbusd -n $serves -l until-eof -d "End at the end of standard input"
-complete -c canbusd -n $serves -l verbose -d "Tell of clients and of bus off on standard error"
+complete -c canbusd -n $serves -l verbose -d "Report clients and bus off on standard error"
 
 # The tools: the options that their help has, and files.
 for tool in canbusd-report candump2bench

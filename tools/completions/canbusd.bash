@@ -2,12 +2,12 @@
 _canbusd() {
     local text=$2 before=$3
     COMPREPLY=()
-    # The value of an option stands behind a blank or behind `=`, where bash parts words unless COMP_WORDBREAKS lacks it.
+    # The value of an option follows a blank or `=`, at which bash parts words unless COMP_WORDBREAKS lacks it.
     [ "$before" != = ] || before=${COMP_WORDS[COMP_CWORD - 2]}
     case $text in --*=*) before=${text%%=*} ;; esac
     local options="--ack --report --txqueue --rxqueue --limit --auto-restart --help"
     case $COMP_CWORD,$before,${COMP_WORDS[1]} in
-    # Behind a redirection stands a file.
+    # A file follows a redirection.
     *,*[\<\>]*,*) compopt -o default ;;
     1,*) _canbusd_offer "bench serve audit help --help --version" ;;
     *,audit) compopt -o default ;;
@@ -17,7 +17,7 @@ _canbusd() {
     esac
 }
 
-# Completes a word of bench or serve: what an option takes, the file behind a bus, or one of the options.
+# Completes a word of bench or serve: what an option takes, the file after a bus, or one of the options.
 _canbusd_word() {
     case $before,$text in
     --ack,*) _canbusd_offer "always peers" ;;
@@ -28,14 +28,14 @@ _canbusd_word() {
     esac
 }
 
-# Offers these words, behind a front of the word such as `--ack=`.
+# Offers these words, after a front of the word such as `--ack=`.
 _canbusd_offer() {
     local front=
     case $text in --*=*) front=${text%%=*}= ;; esac
     mapfile -t COMPREPLY < <(compgen -P "$front" -W "$1" -- "${text#"$front"}")
 }
 
-# Offers files (-f) or folders (-d): readline does, but behind a front of the word such as `can0@` or `--out=`.
+# Offers files (-f) or folders (-d): readline does, but after a front of the word such as `can0@` or `--out=`.
 _canbusd_files() {
     local rest=${text#*[@=]} place
     local front=${text%"$rest"}

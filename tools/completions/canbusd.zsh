@@ -44,7 +44,7 @@ _canbusd() {
             '--pace=[milliseconds of rest after each attempt]:milliseconds:' \
             '--out=[where logs and records go]:folder:_files -/' \
             '--until-eof[end at the end of standard input]' \
-            '--verbose[tell of clients and of bus off on standard error]' \
+            '--verbose[report clients and bus off on standard error]' \
             '*:bus:_canbusd_bus'
         ;;
     audit) _arguments '(- *)--help[show the help]' '1:record:_files' ;;
@@ -52,7 +52,7 @@ _canbusd() {
     esac
 }
 
-# The names of a bus, and the file of faults behind `@`.
+# The names of a bus, and the file of faults after `@`.
 _canbusd_bus() {
     if compset -P '*@'; then
         _files
