@@ -3,7 +3,6 @@ use Rattle.can_event.specs.declared.events.BusConfig.{BusConfig}
 use Rattle.can_event.specs.declared.events.Entry.{Entry}
 use Rattle.can_event.specs.declared.events.Event.{Event}
 use Rattle.can_event.specs.declared.events.Reply.{Reply}
-pub use Rattle.can_event.specs.Replies.{Enters}
 use Rattle.can_bus.specs.Journal.{Kept}
 use Rattle.can_bus.specs.Run.{IsAnswer, history_after}
 use Rattle.can_bus.specs.State.{Parts, IsKept}

@@ -6,7 +6,7 @@ use Rattle.can_event.specs.declared.events.BusConfig.{BusConfig}
 use Rattle.can_event.specs.declared.events.Entry.{Entry}
 use Rattle.can_event.specs.declared.events.Event.{Event}
 use Rattle.can_event.specs.declared.events.Reply.{Reply}
-use Rattle.can_bus.specs.Lean.{Enters}
+use Rattle.can_event.specs.Replies.{Enters}
 use Rattle.can_bus.specs.Legal.{legal_reply}
 use Rattle.can_bus.specs.Run.{IsAnswer}
 use Rattle.can_bus.proofs.Answering.{entered_is_legal}

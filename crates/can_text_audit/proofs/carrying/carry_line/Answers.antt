@@ -1,6 +1,7 @@
 use Rattle.std.proofs.Common.{◌≡◌, IsTrue, Bool, true, false, [], drop, length, refl, subst, arith}
 use Rattle.can_event.specs.declared.events.Entry.{Entry}
-use Rattle.can_bus.specs.Lean.{Enters, Stands}
+use Rattle.can_event.specs.Replies.{Enters}
+use Rattle.can_bus.specs.Lean.{Stands}
 use Rattle.can_record.specs.Spelling.{entry_line}
 use Rattle.can_bus.proofs.Answering.{history-entered}
 use Rattle.can_text_audit.proofs.Answering.{not_an_entry, other_reply}
