@@ -18,7 +18,7 @@ use crate::passes::{Pass, Settled, are_all_of, enters, recall_all};
 use crate::publishing::{counters_before, publish_changes};
 use crate::refusals::{TooManyPasses, WrongStation};
 use crate::waits::Wake;
-use can_bus::{Event, IfaceStats, Record, Reply, RingBus, SocketId, SocketStats, answer};
+use can_bus::{Event, IfaceStats, Record, Reply, RingBus, SocketId, SocketStats};
 use can_fault::{FaultSource, Verdict};
 use can_frame::{Iface, Moment};
 use can_meter::{Gauge, Keeper, MeterName};
@@ -141,7 +141,7 @@ impl<N: RollName + MeterName, F: FaultSource + Drop> StationState<N, F> {
         ensures slip { slip.new ≡ slip_after event.now result slip.old }
     {
         let before = counters_before(&self.bus, event);
-        let reply = answer(&mut self.bus, alloc, event);
+        let reply = self.bus.answer(alloc, event);
         book(&mut self.roll, &mut self.marks, slip, event, &reply);
         let Some(before) = before else {
             return reply;

@@ -3,7 +3,7 @@
 ghost use Rattle.std.specs.Prelude.{◌≡◌};
 
 use super::*;
-use can_bus::{Event, Record, Reply, RingBus, answer};
+use can_bus::{Event, Record, Reply, RingBus};
 use can_filter::{Filter, FilterSet};
 use can_station::{Open, Wake};
 use std::marker::Brand;
@@ -141,7 +141,7 @@ fn call_bus(bus: &mut RingBus, source: &mut Script, alloc: Global, event: Event)
         Event::Attempt(moment, _) => Event::Attempt(moment, source.verdict(bus.next_attempt())),
         other => other,
     };
-    let _ = answer(bus, alloc, &event);
+    let _ = bus.answer(alloc, &event);
 }
 
 /// How a wait for this socket has to end, by the bus's counts: `None` where it may not.
