@@ -65,7 +65,8 @@ impl<
 
     /// Talks with a client to the end: the pass, where it opened a bus.
     fn converse(&self, admitted: &Admitted) -> Option<Pass<N>> {
-        let mut talk = Talk::new(self.rt, self.alloc, self.hub).ok()?;
+        let most = self.host.write_bytes();
+        let mut talk = Talk::new(self.rt, self.alloc, self.hub, most).ok()?;
         if !talk.greet(&admitted.conn) {
             return None;
         }

@@ -13,9 +13,6 @@ use std::alloc::{AllocError, Global};
 use std::io::Write;
 use std::sync::Wait;
 
-/// The most bytes of items that go out in one write.
-const MOST_BYTES: usize = 1024;
-
 /// The most bytes of an item's text.
 const LONGEST: usize = 256;
 
@@ -32,8 +29,10 @@ pub struct Place<'a, N: RollName + MeterName, F: FaultSource + Drop, G: Gate + D
 pub struct Talk<'a, N: RollName + MeterName, F: FaultSource + Drop, G: Gate + Drop, R: Wait> {
     session: Session,
     port: PassPort<'a, N, F, G, R>,
-    /// The texts of items that go out in one write, with room for `MOST_BYTES`.
+    /// The texts of items that go out in one write.
     batch: Vec<u8>,
+    /// The most bytes of these texts, but that one item goes out whole.
+    most_bytes: usize,
     /// How many calls were looked at for a restart.
     looked: usize,
 }
@@ -45,16 +44,18 @@ impl<'a, N: RollName + MeterName, F: FaultSource + Drop, G: Gate + Drop, R: Wait
     G,
     R,
 > {
-    /// A session that has just begun.
+    /// A session that has just begun, which writes at most so many bytes of items at once.
     pub fn new(
         rt: &'a R,
         alloc: Global,
         hub: &'a Hub<N, F, G>,
+        most_bytes: usize,
     ) -> Result<Talk<'a, N, F, G, R>, AllocError> {
         Ok(Talk {
             session: Session::new(alloc, 0)?,
             port: PassPort::new(rt, alloc, hub),
-            batch: Vec::with_capacity(alloc, MOST_BYTES)?,
+            batch: Vec::with_capacity(alloc, most_bytes)?,
+            most_bytes,
             looked: 0,
         })
     }
@@ -85,7 +86,7 @@ impl<'a, N: RollName + MeterName, F: FaultSource + Drop, G: Gate + Drop, R: Wait
         let mut port = HeldPort::new(&mut self.port);
         let mut can_be_more = true;
         for _ in 0..waiting {
-            if !can_be_more || self.batch.len() > MOST_BYTES - LONGEST {
+            if !can_be_more || self.batch.len() > self.most_bytes.saturating_sub(LONGEST) {
                 break;
             }
             let delivered = self.session.deliver(&mut port, &mut self.batch);
