@@ -11,7 +11,7 @@ ghost use Rattle.can_station.specs.Held.{enters, held_after, lists_after, marks_
 ghost use Rattle.can_station.specs.Marks.{IsMarked};
 ghost use Rattle.can_station.specs.Passes.{AllOf, SomeOther, Settles, Suits};
 ghost use Rattle.can_station.specs.Published.{AllTrue, GaugesOf, SomeOtherGauge, IsPublished};
-ghost use Rattle.can_station.specs.Waits.{frame_wake, has_work, work_wake, stopped_wake, waiting_at};
+ghost use Rattle.can_station.specs.Waits.{AreCounts, frame_wake, has_work, work_wake, stopped_wake, waiting_at};
 
 use crate::gauges::{absorb_all, are_gauges_of};
 use crate::passes::{Pass, Settled, are_all_of, enters, recall_all};
@@ -172,7 +172,9 @@ impl<N: RollName + MeterName, F: FaultSource + Drop> StationState<N, F> {
         &self,
         socket: SocketId,
         iface: Iface,
-    ) -> (Option<SocketStats>, Option<IfaceStats>) {
+    ) -> (Option<SocketStats>, Option<IfaceStats>)
+        ensures { AreCounts self.now.journal socket.0 iface result }
+    {
         (self.bus.socket_stats(socket), self.bus.iface_stats(iface))
     }
 

@@ -120,7 +120,7 @@ impl<N: RollName + MeterName, F: FaultSource + Drop, G: Gate + Drop> Station<N, 
 
     /// The state under the lock. It has the station's number since `new`. No type says so: for another number this
     /// would wait for ever.
-    fn hold<R: Wait>(&self, rt: &R) -> MutexGuard<'_, StationState<N, F>>
+    pub(crate) fn hold<R: Wait>(&self, rt: &R) -> MutexGuard<'_, StationState<N, F>>
         ensures { (mutex_guard_value result).number ≡ self.now }
     {
         self.own(rt, self.state.lock(rt))
@@ -172,8 +172,10 @@ impl<N: RollName + MeterName, F: FaultSource + Drop, G: Gate + Drop> Station<N, 
         self.hold(rt).gauge()
     }
 
-    /// Carries out an event for a pass: one hold of the lock.
-    pub(crate) fn call<R: Wait>(
+    /// Makes an event with a pass, in one hold of the lock, and returns the bus's reply, which is of the event's kind or a
+    /// refusal. `Err` where the event did not come to the bus: `NoMemory` where the pass's list of calls can't grow, then
+    /// `WrongStation`.
+    pub fn call<R: Wait>(
         &self,
         rt: &R,
         alloc: Global,

@@ -1,6 +1,6 @@
-ghost use Rattle.std.specs.Prelude.{◌≡◌, true, false, IfSome, IfNone, is_none};
+ghost use Rattle.std.specs.Prelude.{◌≡◌, true, false, Some, IfSome, IfNone, is_none};
 ghost use Rattle.can_station.specs.Passes.{InSome};
-ghost use Rattle.can_station.specs.Waits.{has_work, work_wake};
+ghost use Rattle.can_station.specs.Waits.{AreCounts, frame_wake, has_work, waiting_at, work_wake};
 
 use crate::gates::{Gate, Point};
 use crate::holds::Hold;
@@ -81,33 +81,56 @@ impl<N: RollName + MeterName, F: FaultSource + Drop, G: Gate + Drop> Station<N, 
         rt: &R,
         socket: SocketId,
         iface: Iface,
-    ) -> (Option<SocketStats>, Option<IfaceStats>) {
-        self.state.lock(rt).stats(socket, iface)
+    ) -> (Option<SocketStats>, Option<IfaceStats>)
+        ensures { InSome F self.now (λ held. AreCounts held.journal socket.0 iface result) }
+    {
+        self.hold(rt).stats(socket, iface)
     }
 
     /// Waits until an item is queued to the socket. `Closed` where it is not open, else `Ready` where an item is
     /// queued, else `Stopped` after `stop`; else it sleeps until a call changes that.
-    pub fn wait_frame<R: Wait>(&self, rt: &R, socket: SocketId) -> Wake {
+    pub fn wait_frame<R: Wait>(&self, rt: &R, socket: SocketId) -> Wake
+        ensures { InSome F self.now (λ held. frame_wake held socket.0 ≡ Some result) }
+    {
         self.wait_items(rt, socket).0
     }
 
     /// Waits as `wait_frame` does, and counts the items that are queued to the socket when it wakes, both of one
     /// moment: at least one where it is `Ready`, none where it is `Closed` or `Stopped`.
-    pub fn wait_items<R: Wait>(&self, rt: &R, socket: SocketId) -> (Wake, u64) {
-        let state = self.items.wait_while(rt, self.state.lock(rt), |state| {
-            state.frame_wake(socket).is_none()
-        });
-        let wake = state.frame_wake(socket).unwrap_or(Wake::Stopped);
+    pub fn wait_items<R: Wait>(&self, rt: &R, socket: SocketId) -> (Wake, u64)
+        ensures { InSome F self.now (λ held. (frame_wake held socket.0 ≡ Some result.0) × (result.1 ≡ waiting_at held.journal socket.0)) }
+    {
+        let state = self.items.wait_while(
+            rt,
+            self.state.lock(rt),
+            |state|
+                ensures { is_none (frame_wake state.new socket.0) ≡ result }
+            { state.frame_wake(socket).is_none() },
+        );
+        let state = self.own(rt, state);
+        let Some(wake) = state.frame_wake(socket) else {
+            unreachable!()
+        };
         (wake, state.waiting(socket))
     }
 
     /// Waits until a live interface has a frame to send, or an interface counts towards its restart. `Ready` where one
     /// does, else `Stopped` after `stop`; else it sleeps until a call changes that.
-    pub fn wait_work<R: Wait>(&self, rt: &R) -> Wake {
-        let state = self.work.wait_while(rt, self.state.lock(rt), |state| {
-            state.work_wake().is_none()
-        });
-        state.work_wake().unwrap_or(Wake::Stopped)
+    pub fn wait_work<R: Wait>(&self, rt: &R) -> Wake
+        ensures { InSome F self.now (λ held. work_wake held ≡ Some result) }
+    {
+        let state = self.work.wait_while(
+            rt,
+            self.state.lock(rt),
+            |state|
+                ensures { is_none (work_wake state.new) ≡ result }
+            { state.work_wake().is_none() },
+        );
+        let state = self.own(rt, state);
+        let Some(wake) = state.work_wake() else {
+            unreachable!()
+        };
+        wake
     }
 
     /// Waits as `wait_work` does, and keeps the lock for the driver's steps: `None` after `stop`, where there is no work.
