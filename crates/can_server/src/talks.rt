@@ -79,21 +79,27 @@ impl<'a, N: RollName + MeterName, F: FaultSource + Drop, G: Gate + Drop, R: Wait
         self.write_batch(conn) && fed.is_ok() && !self.is_over()
     }
 
-    /// Gives the client up to so many items, whose texts go out in one write: whether there can be more. A client that
-    /// takes nothing ends the session.
-    pub fn deliver(&mut self, waiting: u64, conn: &Conn) -> bool {
+    /// Gives the client up to so many items, whose texts go out in one write: how many it took, or `None` where there
+    /// can be no more. A client that takes nothing ends the session.
+    pub fn deliver(&mut self, waiting: u64, conn: &Conn) -> Option<u64> {
         self.batch.clear();
+        let full = self.most_bytes.saturating_sub(LONGEST);
         let mut port = HeldPort::new(&mut self.port);
+        let mut taken = 0;
         let mut can_be_more = true;
         for _ in 0..waiting {
-            if !can_be_more || self.batch.len() > self.most_bytes.saturating_sub(LONGEST) {
+            can_be_more = self.session.deliver(&mut port, &mut self.batch) == Ok(true);
+            taken += 1;
+            if !can_be_more || self.batch.len() > full {
                 break;
             }
-            let delivered = self.session.deliver(&mut port, &mut self.batch);
-            can_be_more = delivered == Ok(true);
         }
         drop(port);
-        self.write_batch(conn) && can_be_more
+        if self.write_batch(conn) && can_be_more {
+            Some(taken)
+        } else {
+            None
+        }
     }
 
     /// Writes what the client is told, with no lock but the session's. Where the client does not take it, the session
