@@ -38,8 +38,8 @@ impl PortRefusal {
 /// What a session calls: a bus, or a way to one.
 ///
 /// A port states by `step` how its state before a call, the call, its answer and the state after it belong
-/// together; each call is one such step. A port may take memory. Who makes a port writes `call`, `attach`, the two counts
-/// and the status; the calls that name an event make it by `call`.
+/// together; each call is one such step. A port may take memory. An implementation writes `call`, `attach`, the two
+/// counts and the status; the calls that are named for an event make it by `call`.
 pub trait Port {
     ghost use Rattle.can_dialog.specs.Calls.{Call, Reply, Steps};
     ghost use Rattle.can_dialog.specs.Calls.Call.{Attach, Open, Close, SetFilters, SetOption, Send, Receive, Restart, CountsOfSocket, CountsOfIface, CountersOfIface};

@@ -9,7 +9,7 @@ use Rattle.can_station.specs.Held.{Held}
 use Rattle.can_station.specs.declared.waits.Wake.{Wake}
 use Rattle.can_station.specs.declared.waits.Wake.TheVariants as wake
 
--- How a wait ends, and whether it does, and what a station tells without an event (own).
+-- How a wait ends, whether it does, and what a station reports without an event (own).
 
 -- what a stop tells those who wait
 abbrev pub stopped_wake : Bool → Option Wake
