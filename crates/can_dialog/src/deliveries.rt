@@ -16,7 +16,7 @@ use std::io::Write;
 pub enum Delivery {
     /// Nothing.
     Nothing,
-    /// An item, and whether the data of an error message frame are told.
+    /// An item, and whether the data of an error message frame are written.
     Item(Received, bool),
     /// The port refused it.
     Refused(Cause),
@@ -33,7 +33,7 @@ impl Delivery {
         }
     }
 
-    /// Writes what the client is told, if anything, in one call. It answers whether the writer took it.
+    /// Writes the text of it, if there is one, in one call. Returns whether the writer took it.
     pub fn write<W: Write>(&self, out: &mut W) -> bool
         ensures wrote { IsTrue result → Wrote W.contents out.old (delivery_text self.now) out.new }
         ensures some { result ≡ false → delivery_text self.now ≢ [] }

@@ -3,7 +3,7 @@ use crate::held::HeldPort;
 use crate::hubs::Hub;
 use crate::ports::PassPort;
 use can_bus::{Entry, Event, Reply, SocketId};
-use can_dialog::{Session, Stage};
+use can_dialog::{Delivery, Session, Stage};
 use can_fault::FaultSource;
 use can_frame::{Iface, Moment};
 use can_meter::MeterName;
@@ -15,6 +15,9 @@ use std::sync::Wait;
 
 /// The most bytes of an item's text.
 const LONGEST: usize = 256;
+
+/// The most items that are received in one hold of the bus's lock.
+const MOST_ITEMS: usize = 256;
 
 /// Where the socket of a session in raw mode is, and of which interface it is one.
 #[derive(Drop)]
@@ -33,6 +36,8 @@ pub struct Talk<'a, N: RollName + MeterName, F: FaultSource + Drop, G: Gate + Dr
     batch: Vec<u8>,
     /// The most bytes of these texts, but that one item goes out whole.
     most_bytes: usize,
+    /// What was received in one hold, and is to be written.
+    deliveries: Vec<Delivery>,
     /// How many calls were looked at for a restart.
     looked: usize,
 }
@@ -56,6 +61,7 @@ impl<'a, N: RollName + MeterName, F: FaultSource + Drop, G: Gate + Drop, R: Wait
             port: PassPort::new(rt, alloc, hub),
             batch: Vec::with_capacity(alloc, most_bytes)?,
             most_bytes,
+            deliveries: Vec::with_capacity(alloc, MOST_ITEMS)?,
             looked: 0,
         })
     }
@@ -79,33 +85,54 @@ impl<'a, N: RollName + MeterName, F: FaultSource + Drop, G: Gate + Drop, R: Wait
         self.write_batch(conn) && fed.is_ok() && !self.is_over()
     }
 
-    /// Gives the client up to so many items, whose texts go out in one write: how many it took, or `None` where there
-    /// can be no more. A client that takes nothing ends the session.
+    /// Gives the client up to so many items: how many it took, or `None` where there can be no more. They are received
+    /// in one hold of the bus's lock, and their texts are made and written after it.
     pub fn deliver(&mut self, waiting: u64, conn: &Conn) -> Option<u64> {
-        self.batch.clear();
-        let full = self.most_bytes.saturating_sub(LONGEST);
-        let mut port = HeldPort::new(&mut self.port);
-        let mut taken = 0;
-        let mut can_be_more = true;
-        for _ in 0..waiting {
-            can_be_more = self.session.deliver(&mut port, &mut self.batch) == Ok(true);
-            taken += 1;
-            if !can_be_more || self.batch.len() > full {
-                break;
-            }
-        }
-        drop(port);
-        if self.write_batch(conn) && can_be_more {
-            Some(taken)
+        let can_be_more = self.receive(waiting);
+        if self.write_items(conn) && can_be_more {
+            Some(self.deliveries.len() as u64)
         } else {
             None
         }
+    }
+
+    /// Receives up to so many items in one hold of the bus's lock: whether there can be more.
+    fn receive(&mut self, waiting: u64) -> bool {
+        self.deliveries.clear();
+        let mut port = HeldPort::new(&mut self.port);
+        let mut can_be_more = true;
+        for _ in 0..waiting.min(MOST_ITEMS as u64) {
+            let delivery = self.session.take(&mut port);
+            let is_item = delivery.is_item();
+            can_be_more = self.deliveries.push(delivery).is_ok() && is_item;
+            if !can_be_more {
+                break;
+            }
+        }
+        can_be_more
+    }
+
+    /// Writes the texts of what was received, as many at once as `most_bytes` have room for: whether the client took them.
+    fn write_items(&mut self, conn: &Conn) -> bool {
+        self.batch.clear();
+        let full = self.most_bytes.saturating_sub(LONGEST);
+        for place in 0..self.deliveries.len() {
+            if self.batch.len() > full && !self.write_batch(conn) {
+                return false;
+            }
+            if !self.deliveries[place].write(&mut self.batch) {
+                self.end();
+                return false;
+            }
+        }
+        self.write_batch(conn)
     }
 
     /// Writes what the client is told, with no lock but the session's. Where the client does not take it, the session
     /// ends.
     fn write_batch(&mut self, conn: &Conn) -> bool {
         let taken = Out(conn).write_all(&self.batch).is_ok();
+        self.batch.clear();
         if !taken {
             self.end();
             conn.shutdown();
