@@ -2,7 +2,7 @@ ghost use Rattle.std.specs.Prelude.{◌≡◌, ◌≢◌, [], IsTrue, false};
 ghost use Rattle.can_dialog.specs.Plans.{Plays};
 ghost use Rattle.can_dialog.specs.Sessions.{Wrote};
 ghost use Rattle.can_dialog.specs.Turns.{delivery};
-ghost use Rattle.can_dialog.specs.inner.Deliveries.{delivery_text, is_item};
+ghost use Rattle.can_dialog.specs.Deliveries.{delivery_text, is_item};
 
 use crate::output::put;
 use crate::port::Port;

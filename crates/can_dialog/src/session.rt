@@ -3,7 +3,7 @@ ghost use Rattle.can_proto.specs.Messages.{messages_of, kept_of};
 ghost use Rattle.can_dialog.specs.Plans.{Plays};
 ghost use Rattle.can_dialog.specs.Turns.{sending, ending, delivery, greeting};
 ghost use Rattle.can_dialog.specs.Sessions.{IsNotRaw, Turns, Says, Cut, Wrote, Delivers, DeliveryCut};
-ghost use Rattle.can_dialog.specs.inner.Deliveries.{delivery_text, is_item};
+ghost use Rattle.can_dialog.specs.Deliveries.{delivery_text, is_item};
 
 use crate::commands::send;
 use crate::deliveries::{Delivery, take_delivery};
