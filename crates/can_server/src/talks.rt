@@ -82,7 +82,8 @@ impl<'a, N: RollName + MeterName, F: FaultSource + Drop, G: Gate + Drop, R: Wait
             .session
             .feed(alloc, piece, moment, &mut port, &mut self.batch);
         drop(port);
-        self.write_batch(conn) && fed.is_ok() && !self.is_over()
+        let is_taken = write_out(&mut self.batch, conn);
+        self.goes_on(is_taken, conn) && fed.is_ok() && !self.is_over()
     }
 
     /// Gives the client up to so many items: how many it took, or `None` where there can be no more. They are received
@@ -112,32 +113,19 @@ impl<'a, N: RollName + MeterName, F: FaultSource + Drop, G: Gate + Drop, R: Wait
         can_be_more
     }
 
-    /// Writes the texts of what was received, as many at once as `most_bytes` have room for: whether the client took them.
+    /// Writes the texts of what was received: whether the client took them.
     fn write_items(&mut self, conn: &Conn) -> bool {
-        self.batch.clear();
-        let full = self.most_bytes.saturating_sub(LONGEST);
-        for place in 0..self.deliveries.len() {
-            if self.batch.len() > full && !self.write_batch(conn) {
-                return false;
-            }
-            if !self.deliveries[place].write(&mut self.batch) {
-                self.end();
-                return false;
-            }
-        }
-        self.write_batch(conn)
+        let are_taken = write_texts(&self.deliveries, &mut self.batch, self.most_bytes, conn);
+        self.goes_on(are_taken, conn)
     }
 
-    /// Writes what the client is told, with no lock but the session's. Where the client does not take it, the session
-    /// ends.
-    fn write_batch(&mut self, conn: &Conn) -> bool {
-        let taken = Out(conn).write_all(&self.batch).is_ok();
-        self.batch.clear();
-        if !taken {
+    /// Ends the session where the client did not take what was written: whether it goes on.
+    fn goes_on(&mut self, is_taken: bool, conn: &Conn) -> bool {
+        if !is_taken {
             self.end();
             conn.shutdown();
         }
-        taken
+        is_taken
     }
 
     /// Ends the session.
@@ -185,6 +173,33 @@ impl<'a, N: RollName + MeterName, F: FaultSource + Drop, G: Gate + Drop, R: Wait
         let Talk { port, .. } = self;
         port.into_pass()
     }
+}
+
+/// Writes the texts of what was received, in writes of at most so many bytes: whether the client took them.
+fn write_texts(
+    deliveries: &[Delivery],
+    batch: &mut Vec<u8>,
+    most_bytes: usize,
+    conn: &Conn,
+) -> bool {
+    let full = most_bytes.saturating_sub(LONGEST);
+    batch.clear();
+    for delivery in deliveries {
+        if batch.len() > full && !write_out(batch, conn) {
+            return false;
+        }
+        if !delivery.write(batch) {
+            return false;
+        }
+    }
+    write_out(batch, conn)
+}
+
+/// Writes what a client is told, with no lock but its session's, and empties it: whether the client took it.
+fn write_out(batch: &mut Vec<u8>, conn: &Conn) -> bool {
+    let is_taken = Out(conn).write_all(batch).is_ok();
+    batch.clear();
+    is_taken
 }
 
 /// The interface that a call restarted, if it did.
