@@ -87,6 +87,20 @@ def test_slow_reader():
         asleep.close()
 
 
+@pytest.mark.parametrize("most", [256, 1024, 65536])
+def test_bytes_of_a_write(most):
+    """frames come whole and in order, however many go out in a write"""
+    options = ("--pace", "0", "--txqueue", "1024", "--rxqueue", "65536", "--write", str(most))
+    with serving(*options, "can0,can1") as server:
+        sender, reader = plain(server, "can0"), plain(server, "can1")
+        for start in range(0, 5000, 500):
+            numbers = range(start, start + 500)
+            sender.tell("".join(f"< send 123 2 {number >> 8:x} {number & 255:x} >" for number in numbers))
+            got = [int.from_bytes(reader.frame()[1], "big") for _ in numbers]
+            assert got == list(numbers), f"not the frames from {start} on"
+        server.end()
+
+
 def test_clients_that_go():
     """half a message, a sending side shut down; the others get their frames"""
     with serving("can0,can1") as server:

@@ -96,6 +96,7 @@ def test_ways_to_give_faults(tmp_path, form):
         (["can0"], {"ack": "nobody"}, "ack"),
         (["can0"], {"pace_ms": -1}, "pace_ms"),
         (["can0"], {"pace_ms": 0.5}, "pace_ms"),
+        (["can0"], {"write_bytes": 255}, "write_bytes"),
         (["can0"], {"txqueue": "10"}, "txqueue"),
         (["can0"], {"limit": True}, "limit"),
     ],

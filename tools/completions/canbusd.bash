@@ -13,7 +13,7 @@ _canbusd() {
     *,audit) compopt -o default ;;
     *,help) _canbusd_offer "bench serve audit" ;;
     *,bench) _canbusd_word "$options --record --log --strict" ;;
-    *,serve) _canbusd_word "$options --listen --sessions --pace --out --until-eof --verbose" ;;
+    *,serve) _canbusd_word "$options --listen --sessions --pace --write --out --until-eof --verbose" ;;
     esac
 }
 
@@ -23,7 +23,7 @@ _canbusd_word() {
     --ack,*) _canbusd_offer "always peers" ;;
     --record,* | --log,* | --listen,* | *@*) _canbusd_files -f default ;;
     --out,*) _canbusd_files -d dirnames ;;
-    --txqueue,* | --rxqueue,* | --limit,* | --auto-restart,* | --sessions,* | --pace,*) ;;
+    --txqueue,* | --rxqueue,* | --limit,* | --auto-restart,* | --sessions,* | --pace,* | --write,*) ;;
     *) _canbusd_offer "$1" ;;
     esac
 }

@@ -42,6 +42,7 @@ _canbusd() {
             '--listen=[where clients connect]:address:_files' \
             '--sessions=[how many sessions before the end]:number:' \
             '--pace=[milliseconds of rest after each attempt]:milliseconds:' \
+            '--write=[most bytes of frames in one write to a client]:bytes:' \
             '--out=[where logs and records go]:folder:_files -/' \
             '--until-eof[end at the end of standard input]' \
             '--verbose[report clients and bus off on standard error]' \

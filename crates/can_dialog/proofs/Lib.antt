@@ -6,3 +6,4 @@ pub mod Cuts
 pub mod Living
 pub mod Naming
 pub mod LoneSends
+pub mod BusCalls

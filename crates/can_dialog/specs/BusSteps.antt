@@ -8,14 +8,14 @@ use Rattle.can_event.specs.declared.events.Reply.TheVariants as reply
 use Rattle.can_event.specs.declared.events.Refusal.{Refusal}
 use Rattle.can_event.specs.declared.events.Refusal.TheVariants as refusal
 use Rattle.can_bus.specs.Journal.{Journal}
-use Rattle.can_bus.specs.Answer.{Answers, done_reply}
+use Rattle.can_bus.specs.Answer.{Answers, done_reply, told_attempt}
 use Rattle.can_event.specs.declared.stats.IfaceStats.{IfaceStats}
 use Rattle.can_bus.specs.Stats.{socket_stats_of, iface_stats_of}
 use Rattle.can_dialog.specs.declared.port.PortRefusal.{PortRefusal}
 use Rattle.can_dialog.specs.declared.port.PortRefusal.TheVariants as port
 use Rattle.can_dialog.specs.Calls.{Call}
 use Rattle.can_dialog.specs.Calls.{Reply as CallReply}
-use Rattle.can_dialog.specs.Calls.Call.{Attach, Open, Close, SetFilters, SetOption, Send, Receive, Restart, CountsOfSocket, CountsOfIface, CountersOfIface}
+use Rattle.can_dialog.specs.Calls.Call.{Attach, Open, Close, SetFilters, SetOption, Send, Receive, Restart, Attempt, CountsOfSocket, CountsOfIface, CountersOfIface}
 
 -- A bus as a port: each call but the look-ups is one event of the bus.
 
@@ -53,6 +53,7 @@ BusStep old (SetOption socket option) answer new = IsEvent done_reply old (event
 BusStep old (Send socket frame) answer new = IsEvent reply.Sent old (event.Send socket frame) answer new
 BusStep old (Receive socket) answer new = IsEvent reply.Received old (event.Receive socket) answer new
 BusStep old (Restart iface moment) answer new = IsEvent done_reply old (event.Restart iface moment) answer new
+BusStep old (Attempt moment verdict) answer new = IsEvent told_attempt old (event.Attempt moment verdict) answer new
 BusStep old (CountsOfSocket socket) answer new = (answer ≡ socket_stats_of old.journal.config old.journal.history socket.0) × (new ≡ old)
 BusStep old (CountsOfIface iface) answer new = (answer ≡ iface_stats_of old.journal.config old.journal.history iface) × (new ≡ old)
 BusStep old (CountersOfIface iface) answer new = (answer ≡ counters_in (iface_stats_of old.journal.config old.journal.history iface)) × (new ≡ old)

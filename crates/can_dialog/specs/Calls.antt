@@ -1,11 +1,18 @@
-use Rattle.std.specs.Prelude.{ℕ, List, Option, Result}
+use Rattle.std.specs.Prelude.{ℕ, List, Option, Result, Ok, Err}
 use Rattle.can_frame.specs.Frames.{CanFrame}
 use Rattle.can_filter.specs.Filters.{CanFilter}
+use Rattle.can_fault.specs.declared.verdicts.Verdict.{Verdict}
 use Rattle.can_confine.specs.Confinement.{ErrorCounts}
 use Rattle.can_event.specs.declared.events.SocketId.{SocketId}
 use Rattle.can_event.specs.declared.events.Opt.{Opt}
+use Rattle.can_event.specs.declared.events.Attempt.{Attempt as AnAttempt}
+use Rattle.can_event.specs.declared.events.Attempt.TheVariants as attempt
 use Rattle.can_event.specs.declared.events.Closed.{Closed}
+use Rattle.can_event.specs.declared.events.Event.{Event}
+use Rattle.can_event.specs.declared.events.Event.TheVariants as event
 use Rattle.can_event.specs.declared.events.Received.{Received}
+use Rattle.can_event.specs.declared.events.Reply.{Reply as EventReply}
+use Rattle.can_event.specs.declared.events.Reply.TheVariants as reply
 use Rattle.can_event.specs.declared.stats.SocketStats.{SocketStats}
 use Rattle.can_event.specs.declared.stats.IfaceStats.{IfaceStats}
 use Rattle.can_proto.specs.declared.answers.Cause.{Cause}
@@ -14,9 +21,9 @@ use Rattle.can_proto.specs.Causes.{cause_of_refusal}
 use Rattle.can_dialog.specs.declared.port.PortRefusal.{PortRefusal}
 use Rattle.can_dialog.specs.declared.port.PortRefusal.TheVariants as port
 
--- What a session may ask of a port, and what a port may answer (own choice).
+-- What may be asked of a port, and what a port may answer (own choice).
 
--- a call of a port, with its arguments: interfaces and moments are numbers
+-- a call of a port, with its arguments: interfaces and moments are numbers. No session tries frames
 pub data Call : Type 0 where
   Attach : List ℕ → Call
   Open : ℕ → ℕ → Call
@@ -26,6 +33,7 @@ pub data Call : Type 0 where
   Send : SocketId → CanFrame → Call
   Receive : SocketId → Call
   Restart : ℕ → ℕ → Call
+  Attempt : ℕ → Verdict → Call
   CountsOfSocket : SocketId → Call
   CountsOfIface : ℕ → Call
   CountersOfIface : ℕ → Call
@@ -40,6 +48,7 @@ Reply (SetOption socket option) = Result (Unit {0}) PortRefusal
 Reply (Send socket frame) = Result ℕ PortRefusal
 Reply (Receive socket) = Result (Option Received) PortRefusal
 Reply (Restart iface moment) = Result (Unit {0}) PortRefusal
+Reply (Attempt moment verdict) = Result AnAttempt PortRefusal
 Reply (CountsOfSocket socket) = Option SocketStats
 Reply (CountsOfIface iface) = Option IfaceStats
 Reply (CountersOfIface iface) = ErrorCounts
@@ -49,3 +58,33 @@ abbrev pub cause_of_port : PortRefusal → Cause
 cause_of_port (port.Bus why) = cause_of_refusal why
 cause_of_port port.TooManyPasses = cause.TooManyPasses
 cause_of_port port.WrongStation = cause.WrongStation
+
+-- an event that is refused is a step with that refusal
+abbrev pub Refuses : {P : Type 0} → (P → (call : Call) → Reply call → P → Type 0) → P → Event → PortRefusal → P → Type 0
+Refuses step old (event.Open iface capacity) why new = step old (Open iface capacity) (Err why) new
+Refuses step old (event.Close socket) why new = step old (Close socket) (Err why) new
+Refuses step old (event.SetFilters socket filters) why new = step old (SetFilters socket filters) (Err why) new
+Refuses step old (event.SetOption socket option) why new = step old (SetOption socket option) (Err why) new
+Refuses step old (event.Send socket frame) why new = step old (Send socket frame) (Err why) new
+Refuses step old (event.Receive socket) why new = step old (Receive socket) (Err why) new
+Refuses step old (event.Attempt moment verdict) why new = step old (Attempt moment verdict) (Err why) new
+Refuses step old (event.Restart iface moment) why new = step old (Restart iface moment) (Err why) new
+
+-- an event with its reply is a step with what the reply gives: a reply is of the event's kind, or the bus's refusal
+abbrev pub Gives : {P : Type 0} → (P → (call : Call) → Reply call → P → Type 0) → P → Event → EventReply → P → Type 0
+Gives step old e (reply.Refused why) new = Refuses step old e (port.Bus why) new
+Gives step old (event.Open iface capacity) (reply.Opened socket) new = step old (Open iface capacity) (Ok socket) new
+Gives step old (event.Close socket) (reply.Closed counts) new = step old (Close socket) (Ok counts) new
+Gives step old (event.SetFilters socket filters) reply.Done new = step old (SetFilters socket filters) (Ok tt) new
+Gives step old (event.SetOption socket option) reply.Done new = step old (SetOption socket option) (Ok tt) new
+Gives step old (event.Send socket frame) (reply.Sent number) new = step old (Send socket frame) (Ok number) new
+Gives step old (event.Receive socket) (reply.Received item) new = step old (Receive socket) (Ok item) new
+Gives step old (event.Attempt moment verdict) (reply.Idle restarted) new = step old (Attempt moment verdict) (Ok (attempt.Idle restarted)) new
+Gives step old (event.Attempt moment verdict) (reply.Tried tried) new = step old (Attempt moment verdict) (Ok (attempt.Tried tried)) new
+Gives step old (event.Restart iface moment) reply.Done new = step old (Restart iface moment) (Ok tt) new
+Gives step old e r new = ⊥
+
+-- a call by an event: it has a reply, or it is refused before the bus has the event
+abbrev pub Steps : {P : Type 0} → (P → (call : Call) → Reply call → P → Type 0) → P → Event → Result EventReply PortRefusal → P → Type 0
+Steps step old e (Ok r) new = Gives step old e r new
+Steps step old e (Err why) new = Refuses step old e why new

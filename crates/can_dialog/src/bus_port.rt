@@ -8,11 +8,10 @@ ghost use Rattle.can_dialog.specs.BusSteps.{passed_on};
 use crate::port::{Port, PortRefusal};
 use can_arbiter::Arbiter;
 use can_bus::{
-    Attempt, Bus, Closed, IfaceStats, Opt, Pending, Received, Refusal, SocketId, SocketStats,
+    Attempt, Bus, Event, IfaceStats, Pending, Received, Refusal, Reply, SocketId, SocketStats,
 };
 use can_confine::Counters;
 use can_fault::Verdict;
-use can_filter::FilterSet;
 use can_frame::{Frame, Iface, Moment, Names};
 use can_queue::BoundedQueue;
 use std::alloc::Global;
@@ -102,6 +101,10 @@ impl<T: BoundedQueue<Pending>, R: BoundedQueue<Received>, A: Arbiter> Port for B
 
     ghost step = { BusStep };
 
+    fn call(&mut self, event: Event) -> Result<Reply, PortRefusal> {
+        Ok(self.bus.answer(self.alloc, &event))
+    }
+
     fn attach(&mut self, name: &[u8]) -> Result<Iface, PortRefusal> {
         match interface_named(&self.names, name) {
             Some(iface) => Ok(iface),
@@ -109,32 +112,13 @@ impl<T: BoundedQueue<Pending>, R: BoundedQueue<Received>, A: Arbiter> Port for B
         }
     }
 
-    fn open(&mut self, iface: Iface, capacity: u32) -> Result<SocketId, PortRefusal> {
-        pass_on(self.bus.open(self.alloc, iface, capacity))
-    }
-
-    fn close(&mut self, socket: SocketId) -> Result<Closed, PortRefusal> {
-        pass_on(self.bus.close(socket))
-    }
-
-    fn set_filters(&mut self, socket: SocketId, filters: &FilterSet) -> Result<(), PortRefusal> {
-        pass_on(self.bus.set_filters(self.alloc, socket, filters))
-    }
-
-    fn set_option(&mut self, socket: SocketId, option: Opt) -> Result<(), PortRefusal> {
-        pass_on(self.bus.set_option(socket, option))
-    }
-
+    // The two calls that a session makes most, without an event and a reply between.
     fn send(&mut self, socket: SocketId, frame: Frame) -> Result<u64, PortRefusal> {
         pass_on(self.bus.send(socket, frame))
     }
 
     fn receive(&mut self, socket: SocketId) -> Result<Option<Received>, PortRefusal> {
         pass_on(self.bus.receive(socket))
-    }
-
-    fn restart(&mut self, iface: Iface, moment: Moment) -> Result<(), PortRefusal> {
-        pass_on(self.bus.restart(iface, moment))
     }
 
     fn socket_stats(&mut self, socket: SocketId) -> Option<SocketStats> {

@@ -109,24 +109,21 @@ fn close<P: Port>(dialog: &mut Dialog, raw: RawSocket, port: &mut P) -> Option<A
 fn do_raw<P: Port>(
     dialog: &mut Dialog,
     raw: RawSocket,
-    command: &Command,
+    command: Command,
     moment: Moment,
     port: &mut P,
 ) -> Option<Answer>
-    ensures { Plays P.step (doing_raw moment dialog.old raw command.now) port.old port.new (voiced result) dialog.new }
+    ensures { Plays P.step (doing_raw moment dialog.old raw command) port.old port.new (voiced result) dialog.new }
 {
     match command {
         Command::Echo => Some(Answer::Echo),
         Command::Open(_) => Some(Answer::Refused(Cause::WrongState)),
         Command::Rawmode => Some(Answer::Done),
-        Command::Send(frame) => send(*dialog, raw, *frame, port),
+        Command::Send(frame) => send(*dialog, raw, frame, port),
         Command::SetFilters(filters) => told(port.set_filters(raw.socket, filters)),
-        Command::SetOption(option) => told(port.set_option(raw.socket, *option)),
+        Command::SetOption(option) => told(port.set_option(raw.socket, option)),
         Command::ErrData(on) => {
-            dialog.stage = Stage::Raw(RawSocket {
-                errdata: *on,
-                ..raw
-            });
+            dialog.stage = Stage::Raw(RawSocket { errdata: on, ..raw });
             Some(Answer::Done)
         }
         Command::Stats => look_up(*dialog, raw, port),
@@ -139,16 +136,16 @@ fn do_raw<P: Port>(
 /// Carries out a command: what the client is told, if anything.
 pub fn carry_out<P: Port>(
     dialog: &mut Dialog,
-    command: &Command,
+    command: Command,
     moment: Moment,
     port: &mut P,
 ) -> Option<Answer>
-    ensures { Plays P.step (doing moment dialog.old dialog.old.stage command.now) port.old port.new (voiced result) dialog.new }
+    ensures { Plays P.step (doing moment dialog.old dialog.old.stage command) port.old port.new (voiced result) dialog.new }
 {
     let stage = dialog.stage;
     match &stage {
-        Stage::NoBus => do_unopened(dialog, command, port),
-        Stage::Opened(iface) => do_opened(dialog, *iface, command, port),
+        Stage::NoBus => do_unopened(dialog, &command, port),
+        Stage::Opened(iface) => do_opened(dialog, *iface, &command, port),
         Stage::Raw(raw) => do_raw(dialog, *raw, command, moment, port),
         Stage::Ended => None,
     }

@@ -26,7 +26,7 @@ pub fn take_turn<P: Port>(
         Incoming::TooLong => Some(Answer::Refused(Cause::MessageTooLong)),
         Incoming::Message(message) => {
             match Command::read(alloc, dialog.stage.mode(), message) {
-                Ok(command) => carry_out(dialog, &command, moment, port),
+                Ok(command) => carry_out(dialog, command, moment, port),
                 Err(fault) => Some(Answer::Refused(Cause::from(fault))),
             }
         }

@@ -1,7 +1,7 @@
 ghost use Rattle.std.specs.Prelude.{◌≡◌};
 ghost use Rattle.can_dialog.specs.Calls.{cause_of_port};
 
-use can_bus::{Closed, IfaceStats, Opt, Received, Refusal, SocketId, SocketStats};
+use can_bus::{Closed, Event, IfaceStats, Opt, Received, Refusal, Reply, SocketId, SocketStats};
 use can_confine::Counters;
 use can_filter::FilterSet;
 use can_frame::{Frame, Iface, Moment};
@@ -38,13 +38,19 @@ impl PortRefusal {
 /// What a session calls: a bus, or a way to one.
 ///
 /// A port states by `step` how its state before a call, the call, its answer and the state after it belong
-/// together; each call is one such step. A port may take memory.
+/// together; each call is one such step. A port may take memory. An implementation writes `call`, `attach`, the two
+/// counts and the status; the calls that are named for an event make it by `call`.
 pub trait Port {
-    ghost use Rattle.can_dialog.specs.Calls.{Call, Reply};
+    ghost use Rattle.can_dialog.specs.Calls.{Call, Reply, Steps};
     ghost use Rattle.can_dialog.specs.Calls.Call.{Attach, Open, Close, SetFilters, SetOption, Send, Receive, Restart, CountsOfSocket, CountsOfIface, CountersOfIface};
 
     /// The state before, a call, its answer and the state after.
     ghost step: { Self → (call : Call) → Reply call → Self → Type 0 };
+
+    /// Makes an event, and returns the bus's reply, which is of the event's kind or a refusal. `Err` where the event did
+    /// not come to the bus.
+    fn call(&mut self, event: Event) -> Result<Reply, PortRefusal>
+        ensures { Steps step self.old event result self.new };
 
     /// The interface with this name.
     fn attach(&mut self, name: &[u8]) -> Result<Iface, PortRefusal>
@@ -52,31 +58,80 @@ pub trait Port {
 
     /// Opens a socket on an interface, where `capacity` items may wait.
     fn open(&mut self, iface: Iface, capacity: u32) -> Result<SocketId, PortRefusal>
-        ensures { step self.old (Open iface capacity) result self.new };
+        ensures { step self.old (Open iface capacity) result self.new }
+    {
+        match self.call(Event::Open(iface, capacity))? {
+            Reply::Opened(socket) => Ok(socket),
+            Reply::Refused(why) => Err(PortRefusal::Bus(why)),
+            _ => unreachable!(),
+        }
+    }
 
     /// Closes a socket.
     fn close(&mut self, socket: SocketId) -> Result<Closed, PortRefusal>
-        ensures { step self.old (Close socket) result self.new };
+        ensures { step self.old (Close socket) result self.new }
+    {
+        match self.call(Event::Close(socket))? {
+            Reply::Closed(counts) => Ok(counts),
+            Reply::Refused(why) => Err(PortRefusal::Bus(why)),
+            _ => unreachable!(),
+        }
+    }
 
-    /// Sets the filters of a socket, to a copy of these.
-    fn set_filters(&mut self, socket: SocketId, filters: &FilterSet) -> Result<(), PortRefusal>
-        ensures { step self.old (SetFilters socket filters.now) result self.new };
+    /// Sets the filters of a socket.
+    fn set_filters(&mut self, socket: SocketId, filters: FilterSet) -> Result<(), PortRefusal>
+        ensures { step self.old (SetFilters socket filters) result self.new }
+    {
+        match self.call(Event::SetFilters(socket, filters))? {
+            Reply::Done => Ok(()),
+            Reply::Refused(why) => Err(PortRefusal::Bus(why)),
+            _ => unreachable!(),
+        }
+    }
 
     /// Sets an option of a socket.
     fn set_option(&mut self, socket: SocketId, option: Opt) -> Result<(), PortRefusal>
-        ensures { step self.old (SetOption socket option) result self.new };
+        ensures { step self.old (SetOption socket option) result self.new }
+    {
+        match self.call(Event::SetOption(socket, option))? {
+            Reply::Done => Ok(()),
+            Reply::Refused(why) => Err(PortRefusal::Bus(why)),
+            _ => unreachable!(),
+        }
+    }
 
-    /// Sends a frame on a socket, and answers its number at the interface.
+    /// Sends a frame on a socket, and returns its number at the interface.
     fn send(&mut self, socket: SocketId, frame: Frame) -> Result<u64, PortRefusal>
-        ensures { step self.old (Send socket frame) result self.new };
+        ensures { step self.old (Send socket frame) result self.new }
+    {
+        match self.call(Event::Send(socket, frame))? {
+            Reply::Sent(number) => Ok(number),
+            Reply::Refused(why) => Err(PortRefusal::Bus(why)),
+            _ => unreachable!(),
+        }
+    }
 
     /// Takes the oldest item of a socket.
     fn receive(&mut self, socket: SocketId) -> Result<Option<Received>, PortRefusal>
-        ensures { step self.old (Receive socket) result self.new };
+        ensures { step self.old (Receive socket) result self.new }
+    {
+        match self.call(Event::Receive(socket))? {
+            Reply::Received(item) => Ok(item),
+            Reply::Refused(why) => Err(PortRefusal::Bus(why)),
+            _ => unreachable!(),
+        }
+    }
 
     /// Brings an interface that is bus off back, at a moment.
     fn restart(&mut self, iface: Iface, moment: Moment) -> Result<(), PortRefusal>
-        ensures { step self.old (Restart iface moment) result self.new };
+        ensures { step self.old (Restart iface moment) result self.new }
+    {
+        match self.call(Event::Restart(iface, moment))? {
+            Reply::Done => Ok(()),
+            Reply::Refused(why) => Err(PortRefusal::Bus(why)),
+            _ => unreachable!(),
+        }
+    }
 
     /// What became of the items offered to an open socket.
     fn socket_stats(&mut self, socket: SocketId) -> Option<SocketStats>

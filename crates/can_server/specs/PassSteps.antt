@@ -1,4 +1,4 @@
-use Rattle.std.specs.Prelude.{◌≡◌, ◌<◌, ◌≤◌, ◌⊎◌, ℕ, List, [], Option, Some, None, Result, Ok, Err, slice_get}
+use Rattle.std.specs.Prelude.{◌≡◌, ◌<◌, ◌≤◌, ◌⊎◌, ℕ, Bool, true, false, List, [], Option, Some, None, Result, Ok, Err, slice_get}
 use mathlib.Core.List.{IsSuffix}
 use Rattle.can_confine.specs.Confinement.{ErrorCounts, at_start}
 use Rattle.can_meter.specs.Publications.{newest, published}
@@ -8,12 +8,12 @@ use Rattle.can_event.specs.declared.events.Event.TheVariants as event
 use Rattle.can_event.specs.declared.events.Reply.{Reply}
 use Rattle.can_event.specs.declared.events.Reply.TheVariants as reply
 use Rattle.can_event.specs.declared.events.Refusal.TheVariants as refusal
-use Rattle.can_bus.specs.Answer.{done_reply}
+use Rattle.can_bus.specs.Answer.{done_reply, told_attempt}
 use Rattle.can_dialog.specs.declared.port.PortRefusal.{PortRefusal}
 use Rattle.can_dialog.specs.declared.port.PortRefusal.TheVariants as port
 use Rattle.can_dialog.specs.Calls.{Call}
 use Rattle.can_dialog.specs.Calls.{Reply as CallReply}
-use Rattle.can_dialog.specs.Calls.Call.{Attach, Open, Close, SetFilters, SetOption, Send, Receive, Restart, CountsOfSocket, CountsOfIface, CountersOfIface}
+use Rattle.can_dialog.specs.Calls.Call.{Attach, Open, Close, SetFilters, SetOption, Send, Receive, Restart, Attempt, CountsOfSocket, CountsOfIface, CountersOfIface}
 use Rattle.can_station.specs.Passes.{PassSeen, Called}
 use Rattle.can_station.specs.declared.refusals.StationRefusal.{StationRefusal}
 use Rattle.can_station.specs.declared.refusals.StationRefusal.TheVariants as station
@@ -41,11 +41,26 @@ abbrev pub room_in : List BusSeen → Option EnteredSeen → ℕ
 room_in buses None = 0
 room_in buses (Some e) = items_on (slice_get buses e.number)
 
+-- an event as a pass makes it: a socket holds as many items as its bus says
+abbrev pub with_room : Event → ℕ → Event
+with_room (event.Open iface asked) room = event.Open iface room
+with_room e room = e
+
+-- whether an event may be made in one hold of the lock with others
+abbrev pub is_shared : Event → Bool
+is_shared (event.Send socket frame) = true
+is_shared (event.Receive socket) = true
+is_shared e = false
+
+-- a station's refusal, as a port gives it
+abbrev pub refused_as : StationRefusal → PortRefusal
+refused_as (station.Bus why) = port.Bus why
+refused_as station.WrongStation = port.WrongStation
+
 -- a station's answer, as a port gives it
 abbrev pub passed_on : {A : Type 0} → Result A StationRefusal → Result A PortRefusal
 passed_on (Ok a) = Ok a
-passed_on (Err (station.Bus why)) = Err (port.Bus why)
-passed_on (Err station.WrongStation) = Err port.WrongStation
+passed_on (Err why) = Err (refused_as why)
 
 -- a call of the station that was entered; where none was, there is no socket
 abbrev pub OnPass : {A : Type 0} → (A → Reply) → Option EnteredSeen → Event → Result A PortRefusal → Option EnteredSeen → Type 0
@@ -97,6 +112,7 @@ PassStep old (SetOption socket option) answer new = OnPort done_reply old (event
 PassStep old (Send socket frame) answer new = OnPort reply.Sent old (event.Send socket frame) answer new
 PassStep old (Receive socket) answer new = OnPort reply.Received old (event.Receive socket) answer new
 PassStep old (Restart iface moment) answer new = OnPort done_reply old (event.Restart iface moment) answer new
+PassStep old (Attempt moment verdict) answer new = OnPort told_attempt old (event.Attempt moment verdict) answer new
 PassStep old (CountsOfSocket socket) answer new = new ≡ old
 PassStep old (CountsOfIface iface) answer new = new ≡ old
 PassStep old (CountersOfIface iface) answer new = TellsCounters old.entered iface answer new.entered × (new.buses ≡ old.buses)

@@ -1,13 +1,12 @@
 ghost use Rattle.std.specs.Prelude.{◌≡◌};
-ghost use Rattle.can_server.specs.PassSteps.{room_in};
+ghost use Rattle.can_server.specs.PassSteps.{is_shared};
 
 use crate::ports::{PassPort, pass_on};
-use can_bus::{Closed, IfaceStats, Opt, Received, Refusal, SocketId, SocketStats};
+use can_bus::{Event, IfaceStats, Refusal, Reply, SocketId, SocketStats};
 use can_confine::Counters;
 use can_dialog::{Port, PortRefusal};
 use can_fault::FaultSource;
-use can_filter::FilterSet;
-use can_frame::{Frame, Iface, Moment};
+use can_frame::Iface;
 use can_meter::MeterName;
 use can_roll::RollName;
 use can_station::{Gate, Hold, Station};
@@ -72,62 +71,37 @@ fn hold_of<'a, N: RollName + MeterName, F: FaultSource + Drop, G: Gate + Drop, R
     station.lock(rt)
 }
 
+/// Whether an event may be made in one hold with others: it is a send or a receive.
+fn is_shared(event: &Event) -> bool
+    ensures { result ≡ is_shared event.now }
+{
+    matches!(event, Event::Send(_, _) | Event::Receive(_))
+}
+
 impl<'p, 'a, N: RollName + MeterName, F: FaultSource + Drop, G: Gate + Drop, R: Wait> Port
     for HeldPort<'p, 'a, N, F, G, R> {
     ghost use Rattle.can_server.specs.PassSteps.{PassStep};
 
     ghost step = { PassStep };
 
+    fn call(&mut self, event: Event) -> Result<Reply, PortRefusal> {
+        if !is_shared(&event) {
+            self.hold = None;
+            return self.port.call(event);
+        }
+        let port = &mut *self.port;
+        let Some(entered) = &mut port.entered else {
+            return Err(PortRefusal::Bus(Refusal::NoSocket));
+        };
+        let mut hold = hold_of(port.rt, entered.station, self.hold.take());
+        let outcome = hold.call(port.alloc, &mut entered.pass, event);
+        self.hold = Some(hold);
+        pass_on(outcome)
+    }
+
     fn attach(&mut self, name: &[u8]) -> Result<Iface, PortRefusal> {
         self.hold = None;
         self.port.attach(name)
-    }
-
-    fn open(&mut self, iface: Iface, asked: u32) -> Result<SocketId, PortRefusal> {
-        self.hold = None;
-        self.port.open(iface, asked)
-    }
-
-    fn close(&mut self, socket: SocketId) -> Result<Closed, PortRefusal> {
-        self.hold = None;
-        self.port.close(socket)
-    }
-
-    fn set_filters(&mut self, socket: SocketId, filters: &FilterSet) -> Result<(), PortRefusal> {
-        self.hold = None;
-        self.port.set_filters(socket, filters)
-    }
-
-    fn set_option(&mut self, socket: SocketId, option: Opt) -> Result<(), PortRefusal> {
-        self.hold = None;
-        self.port.set_option(socket, option)
-    }
-
-    fn send(&mut self, socket: SocketId, frame: Frame) -> Result<u64, PortRefusal> {
-        let port = &mut *self.port;
-        let Some(entered) = &mut port.entered else {
-            return Err(PortRefusal::Bus(Refusal::NoSocket));
-        };
-        let mut hold = hold_of(port.rt, entered.station, self.hold.take());
-        let outcome = hold.send(port.alloc, &mut entered.pass, socket, frame);
-        self.hold = Some(hold);
-        pass_on(outcome)
-    }
-
-    fn receive(&mut self, socket: SocketId) -> Result<Option<Received>, PortRefusal> {
-        let port = &mut *self.port;
-        let Some(entered) = &mut port.entered else {
-            return Err(PortRefusal::Bus(Refusal::NoSocket));
-        };
-        let mut hold = hold_of(port.rt, entered.station, self.hold.take());
-        let outcome = hold.receive(port.alloc, &mut entered.pass, socket);
-        self.hold = Some(hold);
-        pass_on(outcome)
-    }
-
-    fn restart(&mut self, iface: Iface, moment: Moment) -> Result<(), PortRefusal> {
-        self.hold = None;
-        self.port.restart(iface, moment)
     }
 
     fn socket_stats(&mut self, socket: SocketId) -> Option<SocketStats> {

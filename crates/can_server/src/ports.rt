@@ -1,14 +1,13 @@
 ghost use Rattle.std.specs.Prelude.{◌≡◌};
 ghost use Rattle.can_server.specs.Buses.{IsFirstNamed};
-ghost use Rattle.can_server.specs.PassSteps.{GaugeTells, passed_on};
+ghost use Rattle.can_server.specs.PassSteps.{GaugeTells, passed_on, with_room};
 
 use crate::hubs::Hub;
-use can_bus::{Closed, IfaceStats, Opt, Received, Refusal, SocketId, SocketStats};
+use can_bus::{Event, IfaceStats, Refusal, Reply, SocketId, SocketStats};
 use can_confine::Counters;
 use can_dialog::{Port, PortRefusal};
 use can_fault::FaultSource;
-use can_filter::FilterSet;
-use can_frame::{Frame, Iface, Moment};
+use can_frame::Iface;
 use can_meter::{Gauge, MeterName};
 use can_roll::RollName;
 use can_station::{Gate, Pass, Station, StationRefusal};
@@ -103,6 +102,16 @@ impl<'a, N: RollName + MeterName, F: FaultSource + Drop, G: Gate + Drop, R: Wait
     }
 }
 
+/// The event as a pass makes it: a socket holds as many items as its bus says.
+fn sized(event: Event, room: u32) -> Event
+    ensures { result ≡ with_room event room }
+{
+    match event {
+        Event::Open(iface, _) => Event::Open(iface, room),
+        event => event,
+    }
+}
+
 /// A station's answer, as a port gives it.
 pub(crate) fn pass_on<V>(outcome: Result<V, StationRefusal>) -> Result<V, PortRefusal>
     ensures { result ≡ passed_on outcome }
@@ -147,6 +156,19 @@ impl<'a, N: RollName + MeterName, F: FaultSource + Drop, G: Gate + Drop, R: Wait
 
     ghost step = { PassStep };
 
+    fn call(&mut self, event: Event) -> Result<Reply, PortRefusal> {
+        let Some(entered) = &mut self.entered else {
+            return Err(PortRefusal::Bus(Refusal::NoSocket));
+        };
+        let room = self.hub.rx_capacity(usize::from(entered.station.number()));
+        pass_on(entered.station.call(
+            self.rt,
+            self.alloc,
+            &mut entered.pass,
+            sized(event, room),
+        ))
+    }
+
     fn attach(&mut self, name: &[u8]) -> Result<Iface, PortRefusal> {
         let Some(found) = interface_named(self.hub, name) else {
             return Err(PortRefusal::Bus(Refusal::NoInterface));
@@ -164,84 +186,6 @@ impl<'a, N: RollName + MeterName, F: FaultSource + Drop, G: Gate + Drop, R: Wait
             pass,
         });
         Ok(found.1)
-    }
-
-    fn open(&mut self, iface: Iface, _asked: u32) -> Result<SocketId, PortRefusal> {
-        let Some(entered) = &mut self.entered else {
-            return Err(PortRefusal::Bus(Refusal::NoSocket));
-        };
-        let capacity = self.hub.rx_capacity(usize::from(entered.station.number()));
-        pass_on(
-            entered
-                .station
-                .open(self.rt, self.alloc, &mut entered.pass, iface, capacity),
-        )
-    }
-
-    fn close(&mut self, socket: SocketId) -> Result<Closed, PortRefusal> {
-        let Some(entered) = &mut self.entered else {
-            return Err(PortRefusal::Bus(Refusal::NoSocket));
-        };
-        pass_on(
-            entered
-                .station
-                .close(self.rt, self.alloc, &mut entered.pass, socket),
-        )
-    }
-
-    fn set_filters(&mut self, socket: SocketId, filters: &FilterSet) -> Result<(), PortRefusal> {
-        let Some(entered) = &mut self.entered else {
-            return Err(PortRefusal::Bus(Refusal::NoSocket));
-        };
-        pass_on(
-            entered
-                .station
-                .set_filters(self.rt, self.alloc, &mut entered.pass, socket, filters),
-        )
-    }
-
-    fn set_option(&mut self, socket: SocketId, option: Opt) -> Result<(), PortRefusal> {
-        let Some(entered) = &mut self.entered else {
-            return Err(PortRefusal::Bus(Refusal::NoSocket));
-        };
-        pass_on(
-            entered
-                .station
-                .set_option(self.rt, self.alloc, &mut entered.pass, socket, option),
-        )
-    }
-
-    fn send(&mut self, socket: SocketId, frame: Frame) -> Result<u64, PortRefusal> {
-        let Some(entered) = &mut self.entered else {
-            return Err(PortRefusal::Bus(Refusal::NoSocket));
-        };
-        pass_on(
-            entered
-                .station
-                .send(self.rt, self.alloc, &mut entered.pass, socket, frame),
-        )
-    }
-
-    fn receive(&mut self, socket: SocketId) -> Result<Option<Received>, PortRefusal> {
-        let Some(entered) = &mut self.entered else {
-            return Err(PortRefusal::Bus(Refusal::NoSocket));
-        };
-        pass_on(
-            entered
-                .station
-                .receive(self.rt, self.alloc, &mut entered.pass, socket),
-        )
-    }
-
-    fn restart(&mut self, iface: Iface, moment: Moment) -> Result<(), PortRefusal> {
-        let Some(entered) = &mut self.entered else {
-            return Err(PortRefusal::Bus(Refusal::NoSocket));
-        };
-        pass_on(
-            entered
-                .station
-                .restart(self.rt, self.alloc, &mut entered.pass, iface, moment),
-        )
     }
 
     fn socket_stats(&mut self, socket: SocketId) -> Option<SocketStats> {

@@ -1,14 +1,15 @@
-use Rattle.std.specs.Prelude.{ℕ, ◌-◌, ◌||◌, nat_lt, Bool, Option, Some, None, is_some, if◌then◌else◌}
+use Rattle.std.specs.Prelude.{◌≡◌, ℕ, ◌-◌, ◌||◌, nat_lt, Bool, Option, Some, None, is_some, if◌then◌else◌}
 use Rattle.can_event.specs.declared.stats.SocketStats.{SocketStats}
 use Rattle.can_bus.specs.Journal.{Journal}
-use Rattle.can_bus.specs.Stats.{socket_stats_of}
+use Rattle.can_event.specs.declared.stats.IfaceStats.{IfaceStats}
+use Rattle.can_bus.specs.Stats.{socket_stats_of, iface_stats_of}
 use Rattle.can_bus.specs.Attempts.{winner}
 use Rattle.can_bus.specs.AutoRestart.{is_counting}
 use Rattle.can_station.specs.Held.{Held}
 use Rattle.can_station.specs.declared.waits.Wake.{Wake}
 use Rattle.can_station.specs.declared.waits.Wake.TheVariants as wake
 
--- How a wait ends, and whether it does (own).
+-- How a wait ends, whether it does, and what a station reports without an event (own).
 
 -- what a stop tells those who wait
 abbrev pub stopped_wake : Bool → Option Wake
@@ -39,3 +40,7 @@ left_of (Some counts) = counts.queued - counts.taken
 -- how many items wait at socket s
 abbrev pub waiting_at : Journal → ℕ → ℕ
 waiting_at j s = left_of (socket_stats_of j.config j.history s)
+
+-- the counts of socket s and of interface i
+abbrev pub AreCounts : Journal → ℕ → ℕ → Option SocketStats × Option IfaceStats → Type 0
+AreCounts j s i counts = (counts.0 ≡ socket_stats_of j.config j.history s) × (counts.1 ≡ iface_stats_of j.config j.history i)

@@ -59,9 +59,8 @@ impl<'s, N: RollName + MeterName, F: FaultSource + Drop, G: Gate + Drop> Hold<'s
         self.state.has_work()
     }
 
-    /// Makes a call of a pass. Before the bus's own refusals come `NoMemory`, where the pass's list of calls can't grow,
-    /// and `WrongStation`.
-    fn call(
+    /// Makes an event with a pass, as the station's `call` does.
+    pub fn call(
         &mut self,
         alloc: Global,
         pass: &mut Pass<N>,
@@ -188,10 +187,11 @@ impl<N: RollName + MeterName, F: FaultSource + Drop, G: Gate + Drop> Drop for Ho
     fn drop(self) {
         let Hold {
             station,
-            state,
+            mut state,
             news,
         } = self;
+        let woken = news.woken(&mut state);
         drop(state);
-        station.tell(news);
+        station.tell(news, woken);
     }
 }

@@ -9,6 +9,7 @@ use crate::gates::{Gate, Point};
 use crate::holds::Hold;
 use crate::passes::{Pass, Settled, make_ready, make_ready_for};
 use crate::refusals::{StationRefusal, TooManyPasses, WrongStation};
+use crate::rooms::Rooms;
 use crate::state::StationState;
 use crate::waits::{News, ROOM};
 use can_bus::{Attempt, BusConfig, BusFault, Event, Refusal, Reply, RingBus};
@@ -52,7 +53,7 @@ pub struct Station<N: RollName + MeterName, F: FaultSource + Drop, G: Gate + Dro
     /// Where drivers wait for frames to send and interfaces to restart.
     pub(crate) work: Condvar,
     /// Where receivers wait for items.
-    pub(crate) items: Condvar,
+    pub(crate) items: Rooms,
     /// Where rests wait for the end.
     pub(crate) ends: Condvar,
     pub(crate) gate: G,
@@ -103,7 +104,7 @@ impl<N: RollName + MeterName, F: FaultSource + Drop, G: Gate + Drop> Station<N, 
         Ok(Station {
             state: Mutex::new(state),
             work: Condvar::new(),
-            items: Condvar::new(),
+            items: Rooms::new(),
             ends: Condvar::new(),
             gate,
             number,
@@ -120,7 +121,7 @@ impl<N: RollName + MeterName, F: FaultSource + Drop, G: Gate + Drop> Station<N, 
 
     /// The state under the lock. It has the station's number since `new`. No type says so: for another number this
     /// would wait for ever.
-    fn hold<R: Wait>(&self, rt: &R) -> MutexGuard<'_, StationState<N, F>>
+    pub(crate) fn hold<R: Wait>(&self, rt: &R) -> MutexGuard<'_, StationState<N, F>>
         ensures { (mutex_guard_value result).number ≡ self.now }
     {
         self.own(rt, self.state.lock(rt))
@@ -172,8 +173,10 @@ impl<N: RollName + MeterName, F: FaultSource + Drop, G: Gate + Drop> Station<N, 
         self.hold(rt).gauge()
     }
 
-    /// Carries out an event for a pass: one hold of the lock.
-    pub(crate) fn call<R: Wait>(
+    /// Makes an event with a pass, in one hold of the lock, and returns the bus's reply, which is of the event's kind or a
+    /// refusal. `Err` where the event did not come to the bus: `NoMemory` where the pass's list of calls can't grow, then
+    /// `WrongStation`.
+    pub fn call<R: Wait>(
         &self,
         rt: &R,
         alloc: Global,

@@ -1,9 +1,11 @@
-ghost use Rattle.std.specs.Prelude.{◌≡◌, true, false, IfSome, IfNone, is_none};
+ghost use Rattle.std.specs.Prelude.{◌≡◌, true, false, Some, IfSome, IfNone, is_none};
 ghost use Rattle.can_station.specs.Passes.{InSome};
-ghost use Rattle.can_station.specs.Waits.{has_work, work_wake};
+ghost use Rattle.can_station.specs.Waits.{AreCounts, frame_wake, has_work, waiting_at, work_wake};
 
 use crate::gates::{Gate, Point};
 use crate::holds::Hold;
+use crate::rooms::RoomSet;
+use crate::state::StationState;
 use crate::stations::Station;
 use can_bus::{Event, IfaceStats, Refusal, Reply, SocketId, SocketStats};
 use can_fault::FaultSource;
@@ -72,6 +74,22 @@ impl News {
     }
 }
 
+impl News {
+    /// The rooms of those for whom there is an item, or whose socket is closed.
+    pub(crate) fn woken<N: RollName + MeterName, F: FaultSource + Drop>(
+        self,
+        state: &mut StationState<N, F>,
+    ) -> RoomSet
+        ensures { state.new ≡ state.old }
+    {
+        if self.has_items {
+            state.take_woken()
+        } else {
+            RoomSet::none()
+        }
+    }
+}
+
 // What a station tells without an event. All of these may wait for the lock.
 impl<N: RollName + MeterName, F: FaultSource + Drop, G: Gate + Drop> Station<N, F, G> {
     /// The counts of a socket and of an interface, both of one moment: `None` exactly where the socket is not
@@ -81,33 +99,56 @@ impl<N: RollName + MeterName, F: FaultSource + Drop, G: Gate + Drop> Station<N, 
         rt: &R,
         socket: SocketId,
         iface: Iface,
-    ) -> (Option<SocketStats>, Option<IfaceStats>) {
-        self.state.lock(rt).stats(socket, iface)
+    ) -> (Option<SocketStats>, Option<IfaceStats>)
+        ensures { InSome F self.now (λ held. AreCounts held.journal socket.0 iface result) }
+    {
+        self.hold(rt).stats(socket, iface)
     }
 
     /// Waits until an item is queued to the socket. `Closed` where it is not open, else `Ready` where an item is
     /// queued, else `Stopped` after `stop`; else it sleeps until a call changes that.
-    pub fn wait_frame<R: Wait>(&self, rt: &R, socket: SocketId) -> Wake {
+    pub fn wait_frame<R: Wait>(&self, rt: &R, socket: SocketId) -> Wake
+        ensures { InSome F self.now (λ held. frame_wake held socket.0 ≡ Some result) }
+    {
         self.wait_items(rt, socket).0
     }
 
     /// Waits as `wait_frame` does, and counts the items that are queued to the socket when it wakes, both of one
     /// moment: at least one where it is `Ready`, none where it is `Closed` or `Stopped`.
-    pub fn wait_items<R: Wait>(&self, rt: &R, socket: SocketId) -> (Wake, u64) {
-        let state = self.items.wait_while(rt, self.state.lock(rt), |state| {
-            state.frame_wake(socket).is_none()
-        });
-        let wake = state.frame_wake(socket).unwrap_or(Wake::Stopped);
+    pub fn wait_items<R: Wait>(&self, rt: &R, socket: SocketId) -> (Wake, u64)
+        ensures { InSome F self.now (λ held. (frame_wake held socket.0 ≡ Some result.0) × (result.1 ≡ waiting_at held.journal socket.0)) }
+    {
+        let state = self.items.room(socket).wait_while(
+            rt,
+            self.state.lock(rt),
+            |state|
+                ensures { is_none (frame_wake state.new socket.0) ≡ result }
+            { state.frame_wake_or_sleep(socket).is_none() },
+        );
+        let state = self.own(rt, state);
+        let Some(wake) = state.frame_wake(socket) else {
+            unreachable!()
+        };
         (wake, state.waiting(socket))
     }
 
     /// Waits until a live interface has a frame to send, or an interface counts towards its restart. `Ready` where one
     /// does, else `Stopped` after `stop`; else it sleeps until a call changes that.
-    pub fn wait_work<R: Wait>(&self, rt: &R) -> Wake {
-        let state = self.work.wait_while(rt, self.state.lock(rt), |state| {
-            state.work_wake().is_none()
-        });
-        state.work_wake().unwrap_or(Wake::Stopped)
+    pub fn wait_work<R: Wait>(&self, rt: &R) -> Wake
+        ensures { InSome F self.now (λ held. work_wake held ≡ Some result) }
+    {
+        let state = self.work.wait_while(
+            rt,
+            self.state.lock(rt),
+            |state|
+                ensures { is_none (work_wake state.new) ≡ result }
+            { state.work_wake().is_none() },
+        );
+        let state = self.own(rt, state);
+        let Some(wake) = state.work_wake() else {
+            unreachable!()
+        };
+        wake
     }
 
     /// Waits as `wait_work` does, and keeps the lock for the driver's steps: `None` after `stop`, where there is no work.
@@ -163,20 +204,19 @@ impl<N: RollName + MeterName, F: FaultSource + Drop, G: Gate + Drop> Station<N, 
     pub fn stop<R: Wait>(&self, rt: &R) {
         self.state.lock(rt).stop();
         self.work.notify_all();
-        self.items.notify_all();
+        self.items.wake_all();
         self.ends.notify_all();
     }
 
-    /// Wakes those to whom calls gave something to do. The lock has to be free.
-    pub(crate) fn tell(&self, news: News) {
+    /// Wakes those to whom calls gave something to do: who waits for work, and who waits for items in these rooms. The
+    /// lock has to be free.
+    pub(crate) fn tell(&self, news: News, woken: RoomSet) {
         if news.is_full {
             let _ = self.fullness.compare_exchange(ROOM, FULL, SeqCst, SeqCst);
         }
         if news.has_work {
             self.work.notify_all();
         }
-        if news.has_items {
-            self.items.notify_all();
-        }
+        self.items.wake(woken);
     }
 }

@@ -2,12 +2,11 @@ use super::same;
 use can_arbiter::ScanArbiter;
 use can_attempt::AckMode;
 use can_bus::{
-    Attempt, Bus, BusConfig, Closed, IfaceStats, Opt, Pending, Received, Refusal, SocketId,
+    Attempt, Bus, BusConfig, Event, IfaceStats, Pending, Received, Refusal, Reply, SocketId,
     SocketStats,
 };
 use can_confine::Counters;
 use can_fault::{GlobalKind, Verdict};
-use can_filter::FilterSet;
 use can_frame::{CanId, Frame, Iface, IfaceSet, Item, Moment, Names};
 use can_queue::ListQueue;
 use can_session::{BusPort, Port, PortRefusal, Session, SessionFault, Stage};
@@ -44,44 +43,23 @@ impl Counting {
 impl Port for Counting {
     ghost step = { λ old call reply new. Unit {0} };
 
+    fn call(&mut self, event: Event) -> Result<Reply, PortRefusal> {
+        self.count(matches!(event, Event::Close(_)));
+        match event {
+            Event::Open(_, _) => Ok(Reply::Opened(SocketId(7))),
+            Event::Close(_) => Err(PortRefusal::Bus(Refusal::RecordFull)),
+            Event::Send(_, _) => Err(PortRefusal::WrongStation),
+            Event::Receive(_) => Ok(Reply::Received(received())),
+            Event::Attempt(_, _) => Ok(Reply::Idle {
+                restarted: IfaceSet::empty(),
+            }),
+            _ => Ok(Reply::Done),
+        }
+    }
+
     fn attach(&mut self, _name: &[u8]) -> Result<Iface, PortRefusal> {
         self.count(false);
         Iface::new(0).ok_or(PortRefusal::TooManyPasses)
-    }
-
-    fn open(&mut self, _iface: Iface, _capacity: u32) -> Result<SocketId, PortRefusal> {
-        self.count(false);
-        Ok(SocketId(7))
-    }
-
-    fn close(&mut self, _socket: SocketId) -> Result<Closed, PortRefusal> {
-        self.count(true);
-        Err(PortRefusal::Bus(Refusal::RecordFull))
-    }
-
-    fn set_filters(&mut self, _socket: SocketId, _filters: &FilterSet) -> Result<(), PortRefusal> {
-        self.count(false);
-        Ok(())
-    }
-
-    fn set_option(&mut self, _socket: SocketId, _option: Opt) -> Result<(), PortRefusal> {
-        self.count(false);
-        Ok(())
-    }
-
-    fn send(&mut self, _socket: SocketId, _frame: Frame) -> Result<u64, PortRefusal> {
-        self.count(false);
-        Err(PortRefusal::WrongStation)
-    }
-
-    fn receive(&mut self, _socket: SocketId) -> Result<Option<Received>, PortRefusal> {
-        self.count(false);
-        Ok(received())
-    }
-
-    fn restart(&mut self, _iface: Iface, _moment: Moment) -> Result<(), PortRefusal> {
-        self.count(false);
-        Ok(())
     }
 
     fn socket_stats(&mut self, _socket: SocketId) -> Option<SocketStats> {
