@@ -1,4 +1,4 @@
-use Rattle.std.proofs.Common.{◌++◌, Bool, Err, List, Option, ℕ, subst, sym}
+use Rattle.std.proofs.Common.{◌++◌, Bool, Err, List, Option, ℕ, refl, subst, sym}
 use Rattle.std.specs.Prelude.{IfSome, IsNone}
 use Rattle.can_record.specs.declared.faults.ReadFault.{ReadFault}
 use Rattle.can_record.specs.RecordFaults.{Reads}
@@ -22,7 +22,7 @@ returns-in-Ok-false-clause-taken g c =
     let first = g.R.Read.remaining c.args.input.now in
     let held = g.R.Read.remaining c.take_held.new.input in
     let after = g.R.Read.remaining c.next_line.new.input in
-    ends first held c.take_held.new.audit (c.in-Ok-None.ensures.taken (subst IsNone (sym c.in-Ok-None.field-0-is) tt) first c.loop.invariant)
+    ends first held c.take_held.new.audit (c.in-Ok-None.ensures.taken (subst IsNone (sym c.in-Ok-None.field-0-is) refl) first c.loop.invariant)
     (subst (λ (b : Bool). IsNextLine b held after c.next_line.new.line.items) c.in-Ok-false.field-0-test c.in-Ok-false.ensures.read)
 
 pub returns-in-Err-next_line-clause-fault : goal.returns-in-Err-next_line-clause-fault
@@ -35,7 +35,7 @@ returns-in-Err-carry-clause-fault g c =
     let after = g.R.Read.remaining c.next_line.new.input in
     let line = c.next_line.new.line.items in
     fails_so first held after line c.take_held.new.audit c.in-Err-carry.fault c.line_failure.result.fault c.line_failure.ensures
-    (c.in-Ok-None.ensures.taken (subst IsNone (sym c.in-Ok-None.field-0-is) tt) first c.loop.invariant)
+    (c.in-Ok-None.ensures.taken (subst IsNone (sym c.in-Ok-None.field-0-is) refl) first c.loop.invariant)
     (subst (λ (b : Bool). IsNextLine b held after line) c.in-Ok-true.field-0-test c.in-Ok-true.ensures.read)
     (subst (λ (l : List ℕ). (text rest : List ℕ) → AreTaken text c.take_held.new.audit → IsLine l → MayFollow l rest → Reads (text ++ (l ++ rest)) (Err c.in-Err-carry.fault)) c.deref.ensures.value c.in-Err-carry.ensures.fault)
 
@@ -46,7 +46,7 @@ loop-preserved g c =
     let after = g.R.Read.remaining c.next_line.new.input in
     let line = c.next_line.new.line.items in
     goes_on first held after line c.take_held.new.audit c.carry.new.self
-    (c.in-Ok-None.ensures.taken (subst IsNone (sym c.in-Ok-None.field-0-is) tt) first c.loop.invariant)
+    (c.in-Ok-None.ensures.taken (subst IsNone (sym c.in-Ok-None.field-0-is) refl) first c.loop.invariant)
     (subst (λ (b : Bool). IsNextLine b held after line) c.in-Ok-true.field-0-test c.in-Ok-true.ensures.read)
     (subst (λ (l : List ℕ). (text : List ℕ) → AreTaken text c.take_held.new.audit → IsLine l → AreTaken (text ++ l) c.carry.new.self) c.deref.ensures.value c.in-Ok.ensures.taken)
 
