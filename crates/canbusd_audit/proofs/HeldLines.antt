@@ -1,5 +1,5 @@
 -- The lines that a reader holds.
-use Rattle.std.proofs.Common.{◌≡◌, ◌≢◌, ◌+◌, ◌-◌, ◌≤◌, ◌<◌, ℕ, List, [], ◌++◌, All, length, take, drop, Option, Some, None, Err, append_assoc, arith, eqb-true, eq-eqb, get_or, get_or-take, length-take-le, refl, sym, ap, subst, ◌∙◌}
+use Rattle.std.proofs.Common.{◌≡◌, ◌≢◌, ◌+◌, ◌-◌, ◌<◌, ℕ, List, [], ◌++◌, All, length, take, drop, Option, Some, None, Err, append_assoc, arith, eqb-true, eq-eqb, get_or, get_or-take, length-take-le, sym, ap, subst, ◌∙◌}
 use Rattle.std.proofs.Math.Seq.{take-add}
 use Rattle.std.proofs.Transfers.{StopsAt-take}
 use Rattle.std.proofs.BufReadLemmas.{through_part}
@@ -13,7 +13,7 @@ use Rattle.can_record.specs.declared.faults.ReadFault.{ReadFault}
 use Rattle.can_record.specs.RecordFaults.{Reads}
 use Rattle.can_text_audit.specs.declared.text_audits.TextAudit.{TextAudit}
 use Rattle.can_text_audit.specs.TextAudits.{AreTaken, IsLine, MayFollow}
-use Rattle.canbusd_audit.specs.Audited.{GoesOn, IsAtFault, IsTextIn, IsUnderway}
+use Rattle.canbusd_audit.specs.Audited.{GoesOn, IsAtFault}
 use Rattle.canbusd_audit.proofs.Underway.{more_read}
 
 -- ---- a line that is cut behind its LF, which is the first one
