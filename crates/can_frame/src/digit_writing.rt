@@ -85,13 +85,3 @@ pub(crate) fn decimal_len(number: u64) -> usize
     };
     len + last
 }
-
-/// Fills a room with a number in decimal, without leading zeros.
-pub(crate) fn write_number(number: u64, room: &mut [u8])
-    requires { length room.old ≡ length (decimal number) }
-    ensures text { room.new ≡ decimal number }
-    ensures len { length room.new ≡ length room.old }
-{
-    let len = room.len();
-    itoa::write_digits(number, room, len);
-}

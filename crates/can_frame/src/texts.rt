@@ -3,9 +3,7 @@ ghost use Rattle.std.specs.Fmt.{decimal};
 ghost use Rattle.can_frame.specs.FrameText.{digits, pairs, id_text, upper};
 ghost use Rattle.can_frame.specs.Moments.{moment_text};
 
-use crate::digit_writing::{
-    decimal_len, write_decimals, write_hexadecimals, write_number, write_pairs,
-};
+use crate::digit_writing::{decimal_len, write_decimals, write_hexadecimals, write_pairs};
 use crate::identifiers::CanId;
 use crate::moments::Moment;
 use std::marker::Model;
@@ -101,16 +99,18 @@ impl<const N: usize> Text<N> {
         self.push_number(number);
     }
 
-    /// A number in decimal, where there is room for its digits.
+    /// A number in decimal, where there is room for its digits. Most have one or two.
+    #[tactic(auto, using(crate::proofs::Decimals::one_digit, crate::proofs::Decimals::two_digits, crate::proofs::Decimals::all_digits))]
     fn push_number(&mut self, number: u64)
         requires { length self.old + length (decimal number) ≤ N }
         ensures text { self.new ≡ self.old ++ decimal number }
         ensures len { length self.new ≡ length self.old + length (decimal number) }
     {
-        let end = self.len + decimal_len(number);
-        let all = &mut self.bytes[..];
-        write_number(number, &mut all[self.len..end]);
-        self.len = end;
+        match number {
+            0..=9 => self.push_decimals(1, number),
+            10..=99 => self.push_decimals(2, number),
+            _ => self.push_decimals(decimal_len(number), number),
+        }
     }
 
     /// An identifier: 3 hexadecimal digits, or 8 where it has 29 bits.
