@@ -1,4 +1,4 @@
-use Rattle.std.proofs.Common.{◌≡◌, ℕ, ◌+◌, ◌*◌, ◌/◌, ◌%◌, slice_index, refl}
+use Rattle.std.proofs.Common.{◌+◌, ◌*◌, ◌/◌, ◌%◌, slice_index, refl}
 use Rattle.can_frame.specs.FrameText.{digit_of}
 use Rattle.can_frame.specs.inner.DigitPairs.{HasPairs}
 use Rattle.can_frame.specs.declared.digit_writing.TheConstants.{HEXADECIMAL_PAIRS, DECIMAL_PAIRS}

@@ -1,5 +1,4 @@
 ghost use Rattle.std.specs.Prelude.{◌≡◌, ◌≤◌, ◌*◌, length};
-ghost use Rattle.std.specs.Fmt.{decimal};
 ghost use Rattle.can_frame.specs.FrameText.{digits, pairs};
 ghost use Rattle.can_frame.specs.inner.DigitPairs.{HasPairs};
 
@@ -65,33 +64,4 @@ pub(crate) fn write_pairs(bytes: &[u8], room: &mut [u8])
         room[2 * place] = high;
         room[2 * place + 1] = low;
     }
-}
-
-/// How many digits a number has in decimal.
-pub(crate) fn decimal_len(number: u64) -> usize
-    ensures { result ≡ length (decimal number) }
-{
-    let mut left = number;
-    let mut len = 0;
-    while left >= 10_000 {
-        left /= 10_000;
-        len += 4;
-    }
-    let last = match left {
-        0..=9 => 1,
-        10..=99 => 2,
-        100..=999 => 3,
-        _ => 4,
-    };
-    len + last
-}
-
-/// Fills a room with a number in decimal, without leading zeros.
-pub(crate) fn write_number(number: u64, room: &mut [u8])
-    requires { length room.old ≡ length (decimal number) }
-    ensures text { room.new ≡ decimal number }
-    ensures len { length room.new ≡ length room.old }
-{
-    let len = room.len();
-    itoa::write_digits(number, room, len);
 }

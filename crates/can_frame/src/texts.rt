@@ -1,11 +1,9 @@
-ghost use Rattle.std.specs.Prelude.{◌≡◌, ◌≤◌, ◌<◌, ◌+◌, ◌*◌, ◌++◌, ◌∷◌, [], length};
+ghost use Rattle.std.specs.Prelude.{◌≡◌, ◌≤◌, ◌<◌, ◌+◌, ◌*◌, ◌^◌, ◌++◌, ◌∷◌, [], length};
 ghost use Rattle.std.specs.Fmt.{decimal};
 ghost use Rattle.can_frame.specs.FrameText.{digits, pairs, id_text, upper};
 ghost use Rattle.can_frame.specs.Moments.{moment_text};
 
-use crate::digit_writing::{
-    decimal_len, write_decimals, write_hexadecimals, write_number, write_pairs,
-};
+use crate::digit_writing::{write_decimals, write_hexadecimals, write_pairs};
 use crate::identifiers::CanId;
 use crate::moments::Moment;
 use std::marker::Model;
@@ -102,15 +100,55 @@ impl<const N: usize> Text<N> {
     }
 
     /// A number in decimal, where there is room for its digits.
+    #[tactic(auto, using(crate::proofs::Decimals::eight_pushed, crate::proofs::Decimals::eight_longer, crate::proofs::Decimals::sixteen_pushed, crate::proofs::Decimals::sixteen_longer))]
     fn push_number(&mut self, number: u64)
         requires { length self.old + length (decimal number) ≤ N }
         ensures text { self.new ≡ self.old ++ decimal number }
         ensures len { length self.new ≡ length self.old + length (decimal number) }
     {
-        let end = self.len + decimal_len(number);
-        let all = &mut self.bytes[..];
-        write_number(number, &mut all[self.len..end]);
-        self.len = end;
+        match number {
+            0..=99_999_999 => self.push_up_to_eight(number),
+            100_000_000..=9_999_999_999_999_999 => {
+                self.push_up_to_eight(number / 100_000_000);
+                self.push_decimals(8, number % 100_000_000);
+            }
+            _ => {
+                self.push_up_to_eight(number / 10_000_000_000_000_000);
+                self.push_decimals(16, number % 10_000_000_000_000_000);
+            }
+        }
+    }
+
+    /// A number of at most eight digits in decimal.
+    #[tactic(auto, using(crate::proofs::Decimals::four_pushed, crate::proofs::Decimals::four_longer))]
+    fn push_up_to_eight(&mut self, number: u64)
+        requires small { number < 10 ^ 8 }
+        requires room { length self.old + length (decimal number) ≤ N }
+        ensures text { self.new ≡ self.old ++ decimal number }
+        ensures len { length self.new ≡ length self.old + length (decimal number) }
+    {
+        if number < 10_000 {
+            self.push_up_to_four(number);
+        } else {
+            self.push_up_to_four(number / 10_000);
+            self.push_decimals(4, number % 10_000);
+        }
+    }
+
+    /// A number of at most four digits in decimal.
+    #[tactic(auto, using(crate::proofs::Decimals::one_digit, crate::proofs::Decimals::two_digits, crate::proofs::Decimals::three_digits, crate::proofs::Decimals::four_digits))]
+    fn push_up_to_four(&mut self, number: u64)
+        requires small { number < 10 ^ 4 }
+        requires room { length self.old + length (decimal number) ≤ N }
+        ensures text { self.new ≡ self.old ++ decimal number }
+        ensures len { length self.new ≡ length self.old + length (decimal number) }
+    {
+        match number {
+            0..=9 => self.push_decimals(1, number),
+            10..=99 => self.push_decimals(2, number),
+            100..=999 => self.push_decimals(3, number),
+            _ => self.push_decimals(4, number),
+        }
     }
 
     /// An identifier: 3 hexadecimal digits, or 8 where it has 29 bits.

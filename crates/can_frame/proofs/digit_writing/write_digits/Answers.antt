@@ -1,8 +1,8 @@
-use Rattle.std.proofs.Common.{◌≡◌, ◌≤◌, ◌<◌, ◌+◌, ◌-◌, ◌*◌, ◌/◌, ◌%◌, ◌++◌, ◌∷◌, [], ℕ, zero, suc, List, length, drop, slice_index, slice_set, refl, sym, ap, ◌∙◌, arith, append_assoc}
+use Rattle.std.proofs.Common.{◌≡◌, ◌≤◌, ◌<◌, ◌+◌, ◌-◌, ◌*◌, ◌/◌, ◌%◌, ◌++◌, ◌∷◌, [], ℕ, zero, suc, List, length, drop, slice_set, refl, sym, ◌∙◌, arith, append_assoc}
 use Rattle.std.proofs.Math.Nat.{div-div-eq-div-mul, mul-add-mod_self_right, mod-mod}
 use Rattle.std.proofs.Math.Arith.{mod-mul}
 use Rattle.std.proofs.lemmas.Nat.{div-mul-add, mod_below, mul-le}
-use Rattle.std.proofs.lemmas.List.{append-nil, drop_all, drop-set, length-set, set_comm}
+use Rattle.std.proofs.lemmas.List.{drop-set, length-set, set_comm}
 use Rattle.can_frame.specs.FrameText.{digits, digit_of}
 use Rattle.can_frame.proofs.digit_writing.write_digits.Goals as goal
 

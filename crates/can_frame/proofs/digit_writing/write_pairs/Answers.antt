@@ -1,7 +1,7 @@
-use Rattle.std.proofs.Common.{◌≡◌, ◌<◌, ◌+◌, ◌*◌, ◌/◌, ◌%◌, ◌++◌, ◌∷◌, [], ℕ, List, length, take, drop, slice_index, slice_set, refl, ◌∙◌, arith, append_assoc}
+use Rattle.std.proofs.Common.{◌≡◌, ◌<◌, ◌+◌, ◌*◌, ◌/◌, ◌%◌, ◌++◌, ◌∷◌, ℕ, List, length, take, drop, slice_index, slice_set, refl, arith, append_assoc}
 use Rattle.std.proofs.lemmas.List.{drop_more}
 use Rattle.hex.proofs.Pairs.{take-two_writes}
-use Rattle.can_frame.specs.FrameText.{digits, digit_of, pairs}
+use Rattle.can_frame.specs.FrameText.{digit_of, pairs}
 use Rattle.can_frame.proofs.DigitTables.{hexadecimal_pairs}
 use Rattle.can_frame.proofs.digit_writing.write_pairs.Goals as goal
 
