@@ -5,6 +5,7 @@ ghost use Rattle.can_event.specs.Spelled.{IsSpelled, IsRecord};
 ghost use Rattle.can_packed.specs.Stored.{entry_stored, IsStored};
 ghost use Rattle.can_packed.specs.Wide.{is_wide};
 
+use crate::entries::Entries;
 use crate::held::Held;
 use can_event::{BusConfig, Entry, Event, Reply, is_spelled};
 use can_packed::{Looked, Stored};
@@ -87,6 +88,15 @@ impl Record {
         ensures proper { IsConfig result }
     {
         self.config
+    }
+
+    /// The entries, the oldest first. No memory is taken.
+    pub fn entries(&self) -> Entries<'_>
+        ensures entries { result ≡ reverse self.now.history }
+        ensures spelled { All (IsSpelled self.now.config) result }
+    {
+        let _held = &self.held;
+        Entries::of(self)
     }
 
     /// The entry at a place, from 0 for the oldest, if there is one. No memory is taken.
