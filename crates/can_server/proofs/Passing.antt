@@ -1,16 +1,14 @@
-use Rattle.std.proofs.Common.{◌≡◌, ℕ, true, List, [], Option, Some, None, Result, Ok, Err, refl, sym, subst, ap, ◌∙◌, inr}
+use Rattle.std.proofs.Common.{◌≡◌, ℕ, true, List, [], Option, Some, Result, Ok, Err, refl, sym, subst, ap, ◌∙◌, inr}
 use Rattle.can_confine.specs.Confinement.{ErrorCounts}
 use Rattle.can_meter.specs.Readings.{Readings}
 use Rattle.can_event.specs.declared.events.Event.{Event}
 use Rattle.can_event.specs.declared.events.Event.TheVariants as event
 use Rattle.can_event.specs.declared.events.Reply.{Reply}
 use Rattle.can_event.specs.declared.events.Attempt.TheVariants as attempt
-use Rattle.can_event.specs.declared.events.Refusal.TheVariants as refusal
 use Rattle.can_bus.specs.Answer.{done_reply, told_attempt}
 use Rattle.can_event.specs.declared.events.Reply.TheVariants as reply
 use Rattle.std.specs.Prelude.{slice_get, IfOk}
 use Rattle.can_dialog.specs.declared.port.PortRefusal.{PortRefusal}
-use Rattle.can_dialog.specs.declared.port.PortRefusal.TheVariants as port
 use Rattle.can_dialog.specs.Calls.{Gives, Refuses, Steps}
 use Rattle.can_station.specs.Passes.{PassSeen, Called, Suits, same}
 use Rattle.can_station.specs.declared.refusals.StationRefusal.{StationRefusal}
@@ -78,11 +76,6 @@ on_pass old buses inside now pass e room outcome answer seen is has told called 
     steps buses now pass e outcome (subst (λ (n : ℕ). Called same now.number now.pass (with_room e n) outcome pass) has called) (subst (λ (n : ℕ). IfOk outcome (λ r. Suits (with_room e n) r)) has fits) in
     subst (λ (o : PortSeen). Steps PassStep o e answer after) (ap (λ (i : Option EnteredSeen). record { buses = buses; entered = i }) (sym is) ∙ seen)
     (subst (λ (a : Result Reply PortRefusal). Steps PassStep (over buses now) e a after) (sym told) stepped)
-
--- where no station was entered there is no socket
-pub nowhere : (buses : List BusSeen) (e : Event) → Steps PassStep (record { buses = buses; entered = None }) e (Err (port.Bus refusal.NoSocket)) (record { buses = buses; entered = None })
-nowhere buses (event.Open iface asked) = ((refl, refl), refl)
-nowhere buses e = ((refl, refl), refl)
 
 -- a socket's room has no part in a send or a receive
 pub shared : (e : Event) (room : ℕ) → true ≡ is_shared e → with_room e room ≡ e

@@ -161,12 +161,11 @@ impl<'a, N: RollName + MeterName, F: FaultSource + Drop, G: Gate + Drop, R: Wait
             return Err(PortRefusal::Bus(Refusal::NoSocket));
         };
         let room = self.hub.rx_capacity(usize::from(entered.station.number()));
-        pass_on(entered.station.call(
-            self.rt,
-            self.alloc,
-            &mut entered.pass,
-            sized(event, room),
-        ))
+        pass_on(
+            entered
+                .station
+                .call(self.rt, self.alloc, &mut entered.pass, sized(event, room)),
+        )
     }
 
     fn attach(&mut self, name: &[u8]) -> Result<Iface, PortRefusal> {

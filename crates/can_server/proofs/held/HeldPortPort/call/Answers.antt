@@ -11,7 +11,7 @@ pub returns : goal.returns
 returns g c =
     let now : EnteredSeen = record { number = c.entered.inside.station.now; gauge = c.entered.inside.gauge; pass = c.entered.inside.pass } in
     let room : ℕ = items_on (slice_get c.port.inside.hub.now now.number) in
-    let alike = sym (shared c.args.event room (c.if-not-is_shared.false ∙ c.is_shared.ensures)) in
+    let alike = sym (shared c.args.event room (sym c.if-not-is_shared.false ∙ c.is_shared.ensures)) in
     on_pass c.args.self.now c.port.inside.hub.now c.port.inside.entered now c.call-outcome.new.pass c.args.event room c.call-outcome.result c.pass_on.result
     (c.port.view_is ∙ c.self.view_is) (c.in-Some.is ∙ ap Some (sym c.entered.view_is)) refl c.pass_on.ensures
     (subst (λ (e : Event). Called same now.number now.pass e c.call-outcome.result c.call-outcome.new.pass) alike

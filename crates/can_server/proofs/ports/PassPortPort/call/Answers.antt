@@ -1,12 +1,9 @@
-use Rattle.std.proofs.Common.{Option, Some, None, Err, sym, ap, subst, ◌∙◌}
+use Rattle.std.proofs.Common.{Some, sym, ap, subst, ◌∙◌}
 use Rattle.std.specs.Prelude.{IfOk}
 use Rattle.can_event.specs.declared.events.Event.{Event}
-use Rattle.can_event.specs.declared.events.Refusal.TheVariants as refusal
-use Rattle.can_dialog.specs.declared.port.PortRefusal.TheVariants as port
-use Rattle.can_dialog.specs.Calls.{Steps}
 use Rattle.can_station.specs.Passes.{Called, Suits, same}
-use Rattle.can_server.specs.PassSteps.{EnteredSeen, PortSeen, PassStep}
-use Rattle.can_server.proofs.Passing.{on_pass, nowhere}
+use Rattle.can_server.specs.PassSteps.{EnteredSeen}
+use Rattle.can_server.proofs.Passing.{on_pass}
 use Rattle.can_server.proofs.ports.PassPortPort.call.Goals as goal
 
 pub returns : goal.returns
