@@ -53,18 +53,18 @@ install:
 	program=$$(./scripts/program choose) && \
 	install -d "$(BINDIR)" "$(LIBEXECDIR)" "$(MANDIR)" "$(COMPLETIONS)" "$(ZSH)" "$(FISH)" && \
 	install -m 755 "$$program" "$(LIBEXECDIR)/canbusd"
-	install -m 755 scripts/serve "$(LIBEXECDIR)/serve"
+	install -m 755 tools/serve "$(LIBEXECDIR)/serve"
 	./scripts/python-package install "$(DESTDIR)$(PYTHONDIR)"
-	install -m 755 contrib/canbusd.sh "$(BINDIR)/canbusd"
+	install -m 755 tools/canbusd.sh "$(BINDIR)/canbusd"
 	package=$$(realpath -m --relative-to="$(PREFIX)/libexec/canbusd" "$(PYTHONDIR)") && for tool in $(TOOLS); do \
-		sed "s|^PACKAGE = .*|PACKAGE = \"$$package\"|" "contrib/$$tool" >"$(LIBEXECDIR)/$$tool" && \
+		sed "s|^PACKAGE = .*|PACKAGE = \"$$package\"|" "tools/$$tool" >"$(LIBEXECDIR)/$$tool" && \
 		chmod 755 "$(LIBEXECDIR)/$$tool" && \
 		ln -sf "../libexec/canbusd/$$tool" "$(BINDIR)/$$tool" && ln -sf canbusd.1 "$(MANDIR)/$$tool.1" || exit; \
 	done
 	install -m 644 canbusd.1 "$(MANDIR)/canbusd.1"
-	install -m 644 contrib/canbusd.bash "$(COMPLETIONS)/canbusd"
-	install -m 644 contrib/canbusd.zsh "$(ZSH)/_canbusd"
-	install -m 644 contrib/canbusd.fish "$(FISH)/canbusd.fish"
+	install -m 644 tools/completions/canbusd.bash "$(COMPLETIONS)/canbusd"
+	install -m 644 tools/completions/canbusd.zsh "$(ZSH)/_canbusd"
+	install -m 644 tools/completions/canbusd.fish "$(FISH)/canbusd.fish"
 
 uninstall:
 	rm -f "$(BINDIR)/canbusd" "$(MANDIR)/canbusd.1" "$(COMPLETIONS)/canbusd" "$(ZSH)/_canbusd" "$(FISH)/canbusd.fish"

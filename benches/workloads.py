@@ -89,7 +89,7 @@ WORKLOADS = {"pingpong": (pingpong, 100_000), "fanout": (fanout, 1_000), "filter
 
 
 def workload(name, rounds=None):
-    """The input of a workload, and the words behind `canbusd bench`."""
+    """The input of a workload, and the words after `canbusd bench`."""
     make, usual = WORKLOADS[name]
     lines, words = make(random.Random(name), usual if rounds is None else rounds)
     return ("\n".join(lines) + "\n").encode(), words

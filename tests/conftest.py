@@ -1,6 +1,6 @@
 """What the tests of the program share: their options, the program and servers of it.
 
-CANBUSD names the program; as it is, the one that fits the sources, which is proved and built where there is none.
+CANBUSD names the program; as it is, the one that fits the sources. Where there is none, no test is run.
 """
 
 import os
@@ -28,6 +28,14 @@ def pytest_addoption(parser):
     )
     group.addoption("--beside", metavar="PROGRAM", help="another program that audits as canbusd does (test_damage.py)")
     group.addoption("--other", metavar="SOURCE.c", help="another program with a bench (test_random_benches.py)")
+
+
+def pytest_sessionstart(session):
+    if not session.config.getoption("collectonly"):
+        try:
+            serving.program()
+        except serving.NoProgram as fault:
+            raise pytest.UsageError(f"{fault}") from None
 
 
 def pytest_terminal_summary(terminalreporter, config):

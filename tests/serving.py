@@ -6,6 +6,7 @@ from outside: its processes, its streams, how it ends; and clients show each tex
 
 import contextlib
 import functools
+import glob
 import os
 import re
 import select
@@ -25,25 +26,68 @@ WAIT = 20
 def program():
     """The path of the program, without its launcher: CANBUSD, else the one that fits the sources at hand."""
     if "CANBUSD" in os.environ:
-        return os.path.abspath(os.environ["CANBUSD"])
-    chosen = subprocess.run(
-        [os.path.join(ROOT, "scripts", "program"), "choose"], stdout=subprocess.PIPE, text=True, check=True
-    )
-    return os.path.join(ROOT, chosen.stdout.strip())
+        path = os.path.abspath(os.environ["CANBUSD"])
+        if not shutil.which(path):
+            raise NoProgram(f"CANBUSD names no program: {path}")
+        return path
+    words = [os.path.join(ROOT, "scripts", "program"), "fitting"]
+    fitting = subprocess.run(words, stdout=subprocess.PIPE, text=True, check=False)
+    if fitting.returncode:
+        raise NoProgram(
+            "no program fits these sources: `make` proves and builds it (20 to 40 minutes), "
+            "`scripts/program choose` says why dist/ has none, and CANBUSD=PROGRAM tests another"
+        )
+    return os.path.join(ROOT, fitting.stdout.strip())
+
+
+class NoProgram(Exception):
+    """There is no program to test; the text says what to do."""
 
 
 class NotListening(Exception):
     """A server said something else than where it listens; the text is what it said."""
 
 
-def come_true(question):
-    """Whether this comes true while we wait."""
-    until = time.monotonic() + WAIT
+def come_true(question, patience=WAIT):
+    """Whether this comes true in time, in seconds."""
+    until = time.monotonic() + patience
     while time.monotonic() < until:
         if question():
             return True
         time.sleep(0.02)
     return False
+
+
+def turns(what, patience=WAIT):
+    """The turns of a loop, which leaves it in time; else the test fails, since this has not come about."""
+    until = time.monotonic() + patience
+    while time.monotonic() < until:
+        yield
+    raise AssertionError(f"not within {patience} seconds: {what}")
+
+
+def join(threads, patience=WAIT):
+    """Waits until these threads have ended, at most these seconds in all."""
+    until = time.monotonic() + patience
+    for thread in threads:
+        thread.join(max(0, until - time.monotonic()))
+        assert not thread.is_alive(), f"a thread goes on after {patience} seconds"
+
+
+def threads_of(processes):
+    """The state of each thread, and how often it has gone to sleep."""
+    for process in processes:
+        for path in glob.glob(f"/proc/{process}/task/*/status"):
+            with contextlib.suppress(OSError), open(path, encoding="utf-8") as status:
+                yield path, *re.findall(r"^(?:State|voluntary_ctxt_switches):\s+(\S+)", status.read(), re.M)
+
+
+def all_sleep(processes):
+    """Whether all threads of these processes sleep, or have ended: each that is seen twice in the same sleep did not
+    run in between.
+    """
+    before, now = sorted(threads_of(processes)), sorted(threads_of(processes))
+    return before == now and all(state in "SZ" for _, state, _ in now)
 
 
 def line_of(stream):
@@ -63,7 +107,7 @@ class Server:
         self.folder = tempfile.mkdtemp(prefix="canbusd-")
         self.errors = open(self.path("stderr"), "w+", encoding="utf-8")
         if launcher is True:
-            start = [os.path.join(ROOT, "scripts", "serve"), program()]
+            start = [os.path.join(ROOT, "tools", "serve"), program()]
         else:
             start = [launcher or program()]
         self.child = subprocess.Popen(
@@ -111,6 +155,10 @@ class Server:
             len(os.listdir(f"/proc/{process}/{what}")) for process, _ in self.processes() for what in ("fd", "task")
         )
 
+    def rests(self):
+        """Whether it waits with all its threads."""
+        return all_sleep([process for process, _ in self.processes()])
+
     def memory(self, what):
         """How much memory its processes have, in kilobytes, by VmRSS or VmHWM of their status."""
         held = 0
@@ -120,7 +168,7 @@ class Server:
         return held
 
     def finish(self, patience=WAIT):
-        """Ends it, which may take so many seconds; its status, and what it wrote after `listening`."""
+        """Ends it, which has to happen in time; its status, and what it wrote after `listening`."""
         if self.child.stdin is None:
             os.killpg(self.child.pid, signal.SIGINT)
         try:

@@ -15,9 +15,10 @@ import pytest
 
 from serving import ROOT, WAIT
 
-CONTRIB = os.path.join(ROOT, "contrib")
+TOOLS = os.path.join(ROOT, "tools")
+COMPLETIONS = os.path.join(TOOLS, "completions")
 # The tools are run for their help.
-PATH = f"{CONTRIB}:{os.environ['PATH']}"
+PATH = f"{TOOLS}:{os.environ['PATH']}"
 FILES = ["faults.script", "first.bench", "run.rec", "out.txt", "my faults.script", "logs/kept.rec"]
 # What is typed, and what the tab key adds to it.
 TYPED = [
@@ -137,7 +138,7 @@ BASH_LINE = [
 
 def test_completion_in_bash():
     """with bash as it is"""
-    completes(["bash", "--norc", "--noprofile", "-i"], " ", f"source {CONTRIB}/canbusd.bash", *BASH_LINE)
+    completes(["bash", "--norc", "--noprofile", "-i"], " ", f"source {COMPLETIONS}/canbusd.bash", *BASH_LINE)
 
 
 def test_completion_in_bash_with_other_words():
@@ -145,7 +146,7 @@ def test_completion_in_bash_with_other_words():
     completes(
         ["bash", "--norc", "--noprofile", "-i"],
         " ",
-        f"source {CONTRIB}/canbusd.bash",
+        f"source {COMPLETIONS}/canbusd.bash",
         "COMP_WORDBREAKS=${COMP_WORDBREAKS//[=@]}",
         *BASH_LINE,
     )
@@ -157,7 +158,7 @@ def test_completion_in_zsh():
         ["zsh", "-f", "-i"],
         "=",
         "mkdir functions",
-        f"cp {CONTRIB}/canbusd.zsh functions/_canbusd",
+        f"cp {COMPLETIONS}/canbusd.zsh functions/_canbusd",
         "fpath=($PWD/functions $fpath)",
         "autoload -Uz compinit",
         "compinit -u -D",
@@ -177,7 +178,7 @@ def test_completion_in_fish():
         lines = typed_with("")
         for typed, wanted in lines:
             done = subprocess.run(
-                ["fish", "--no-config", "-c", f'source {CONTRIB}/canbusd.fish; complete --do-complete "{typed}"'],
+                ["fish", "--no-config", "-c", f'source {COMPLETIONS}/canbusd.fish; complete --do-complete "{typed}"'],
                 cwd=folder,
                 env={**os.environ, "HOME": folder, "PATH": PATH},
                 capture_output=True,
@@ -195,7 +196,7 @@ def test_completion_in_fish():
 def test_options_of_the_help(program, command, shell, spelling):
     """each option of the help is completed in each shell"""
     told = subprocess.run([program, "help", command], capture_output=True, text=True, check=True).stdout
-    with open(os.path.join(CONTRIB, f"canbusd.{shell}"), encoding="utf-8") as file:
+    with open(os.path.join(COMPLETIONS, f"canbusd.{shell}"), encoding="utf-8") as file:
         completions = file.read()
     options = re.findall(r"^ +(?:-h, )?--([a-z-]+)", told, re.M)
     assert options, told

@@ -51,7 +51,7 @@ class Tried:
 
 @pytest.fixture
 def tried(request, program, rng, tmp_path):
-    """What is tried in a test, and told in its output."""
+    """What is tried in a test, and shown in its output."""
     beside = request.config.getoption("beside")
     programs = [program, os.path.abspath(beside)] if beside else [program]
     tried = Tried(programs, request.config.getoption("all_bytes"), rng, tmp_path)
@@ -225,7 +225,7 @@ def change_bytes(tried, data, skip_from=0, skip_to=0):
 
 
 def test_named_damages_of_the_example(tried):
-    """what they have to be told as, without the replay's help"""
+    """how they have to be reported, without the replay's help"""
     text = example().decode()
     damages = [
         (text.replace("canbus record 1", "canbus record 9"), "bad version"),

@@ -48,7 +48,7 @@ def nothing():
 
 
 def run(*words, closes=None, most=resource.RLIM_INFINITY, **streams):
-    """What the program does with these streams, perhaps with one of them closed, and with so many bytes of memory."""
+    """What the program does with these streams, perhaps with one of them closed, and with a bound of its memory."""
 
     def begin():
         resource.setrlimit(resource.RLIMIT_AS, (most, most))
@@ -154,7 +154,7 @@ def test_record_of_a_bench(tmp_path):
 
 
 def test_log_of_a_bench(tmp_path):
-    """full, a folder, a missing folder, a file of so many bytes: the output is whole, and so is the record"""
+    """full, a folder, a missing folder, a file that may not grow: the output is whole, and so is the record"""
     line = "(0000000023.424242) can0 123#11223344\n"
     log, record = os.path.join(tmp_path, "run.log"), os.path.join(tmp_path, "run.rec")
     for path, fault in [
@@ -176,7 +176,7 @@ def test_log_of_a_bench(tmp_path):
 
 
 def may_grow(most, errors=None):
-    """Lets files grow to so many bytes; then writes are refused. Standard error may be a pipe instead."""
+    """Lets files grow to a number of bytes; then writes are refused. Standard error may be a pipe instead."""
 
     def begin():
         if errors is not None:
@@ -306,7 +306,7 @@ def test_input_of_a_server():
 
 
 def test_errors_of_a_server(tmp_path):
-    """full: a record that is full, and files that fail, are told nobody; the status is told"""
+    """full: a record that is full, and files that fail, are reported to nobody; the status says so"""
     with full() as file:
         os.mkdir(os.path.join(tmp_path, "can0.log"))
         words = "serve", "--listen", "127.0.0.1:0", "--until-eof", "--out", tmp_path, "can0"

@@ -33,6 +33,8 @@ class Clone:
             "HOME": "/nonexistent",
             "LC_ALL": "C.UTF-8",
             "PYTHONDONTWRITEBYTECODE": "1",
+            # A pytest that is run here cleans up after itself only, and not after other runs.
+            "PYTEST_DEBUG_TEMPROOT": os.path.dirname(self.folder),
         }
         subprocess.run(["git", "clone", "-q", ROOT, self.folder], check=True)
 
@@ -155,7 +157,7 @@ def test_commands_of_readme(clone):
     server = None
     with contextlib.ExitStack() as endless:
         for line in (line for block in clone.blocks("README.md") for line in block):
-            if not line.startswith(("./canbusd", "contrib/", "python3")) or "pytest" in line:
+            if not line.startswith(("./canbusd", "tools/", "python3")) or "pytest" in line:
                 continue
             if line.startswith("python3") and not clone.has_python_can():
                 continue

@@ -1,4 +1,4 @@
-"""The worked examples write what stands beside them, which comes from the rules of the bus."""
+"""The worked examples write what is beside them, which comes from the rules of the bus."""
 
 import os
 import re

@@ -13,7 +13,7 @@ import struct
 import threading
 import time
 
-from serving import Pair, Plain, come_true, plain, serving_alone
+from serving import WAIT, Pair, Plain, come_true, join, plain, serving_alone, turns
 
 FAST = ("--pace", "0", "--txqueue", "1024")
 # What a client says to come into raw mode, and there.
@@ -77,7 +77,7 @@ def connect(server):
 
 
 def reset(client):
-    """Goes away without an end: what is under way is lost, and the server is told of a fault."""
+    """Goes away without an end: what is under way is lost, and the server meets a fault."""
     client.setsockopt(socket.SOL_SOCKET, socket.SO_LINGER, struct.pack("ii", 1, 0))
     client.close()
 
@@ -150,7 +150,7 @@ def test_one_byte_at_a_time():
 
 
 def test_endless_messages():
-    """a million `<`, and a message of a million bytes, which is told once; then the next message is read"""
+    """a million `<`, and a message of a million bytes, which is reported once; then the next message is read"""
     with disturbed() as (server, pair):
         before = server.memory("VmRSS")
         for text, told in [
@@ -170,7 +170,7 @@ def test_endless_messages():
 
 
 def test_nobody_takes_the_answers():
-    """a client that sends commands for ever and reads no answer waits alone, and is reset"""
+    """a client that sends commands for ever and reads no answer holds up nobody else, and is reset"""
     with disturbed() as (server, pair):
         for command in (b"< echo >", b"< x >", b"< open can9 >"):
             client = connect(server)
@@ -235,7 +235,9 @@ def test_storms(rng):
         threads = [threading.Thread(target=storm, args=(server, random.Random(seed), 94)) for seed in seeds]
         for thread in threads:
             thread.start()
-        while any(thread.is_alive() for thread in threads):
+        for _ in turns("the storm is over", 6 * WAIT):
+            if not any(thread.is_alive() for thread in threads):
+                break
             pair.go_on("a storm")
             time.sleep(0.01)
 
@@ -251,7 +253,7 @@ def storm(server, rng, count):
 
 
 def test_four_thousand_sessions():
-    """all that one run serves, half of them in raw mode with frames; its memory grows by its record alone"""
+    """all that one run serves, half of them in raw mode with frames; its memory grows only by its record"""
     with disturbed() as (server, pair):
         visit(server, 200)
         before = server.memory("VmRSS")
@@ -261,7 +263,7 @@ def test_four_thousand_sessions():
         pair.go_on("3,998 sessions")
         with contextlib.suppress(OSError):
             assert not comes_in(server), "one more comes in"
-    # Of half the sessions the record has four entries, and each stands in a list of 4 calls as well.
+    # Of half the sessions the record has four entries, and each is in a list of 4 calls as well.
     most = (1900 * 4 * 36 + 1900 * 4 * 104) // 1024 + 2048
     assert grown <= most, f"{grown} KB more"
 
@@ -291,8 +293,7 @@ def visit(server, count):
     threads = [threading.Thread(target=come, args=(first,)) for first in range(8)]
     for thread in threads:
         thread.start()
-    for thread in threads:
-        thread.join()
+    join(threads, 6 * WAIT)
     assert not failed, f"{len(failed)} of {count}: {failed[:1]}"
 
 
@@ -314,7 +315,7 @@ def test_too_few_descriptors():
             client.close()
         served = 0
         with contextlib.suppress(OSError):
-            while comes_in(server):
+            while served <= 200 and comes_in(server):
                 served += 1
         # A connection that can't be accepted is no session, so none but the pair and the crowd were.
         assert served == 200 - 2 - 60, f"{served} of 138 sessions are left"

@@ -23,7 +23,7 @@ import time
 
 import pytest
 
-from serving import serving_alone
+from serving import join, serving_alone, turns
 
 pytestmark = pytest.mark.slow
 BUSES, SESSIONS, BREAKING = 4, 16, 2
@@ -111,7 +111,7 @@ class Client:
         return "".join(f"{start}{number.to_bytes(4, 'big').hex(' ')} >" for number in numbers)
 
     def stats(self):
-        """QUEUED DROPPED TAKEN SENT DONE WAITING LOST REFUSED, as they are told, after refusals of sends."""
+        """QUEUED DROPPED TAKEN SENT DONE WAITING LOST REFUSED, as `stats` has them, after refusals of sends."""
         self.tell("< stats >")
         return self.stats_told()
 
@@ -127,19 +127,21 @@ class Client:
         return [int(word) for word in answer.split()[1:]]
 
     def send(self, count):
-        """Sends so many frames, but for those that are refused, and waits until few wait."""
+        """Sends a number of frames, but for those that are refused, and waits until few wait."""
         text = self.burst(count)
         self.sent += count
         self.tell(text + "< stats >")
         waiting = self.stats_told()[5]
         if self.were_off:
             self.tell("< restart >")
-        while waiting > MOST_WAITING:
+        for _ in turns("the frames that wait go out", PATIENCE):
+            if waiting <= MOST_WAITING:
+                break
             time.sleep(0.002)
             waiting = self.stats()[5]
 
     def drain(self):
-        """Waits until nothing waits and all items have come; what `stats` tells then."""
+        """Waits until nothing waits and all items have come; what `stats` says then."""
         until = time.monotonic() + PATIENCE
         while True:
             told = self.stats()
@@ -181,7 +183,7 @@ def break_off(server, place, names, rng, is_over):
 
 
 def on_one_bus(server, bus, frames, seed):
-    """The sessions of a bus, each in a thread: what they were told in the end."""
+    """The sessions of a bus, each in a thread: what `stats` said in the end."""
     names, rng = names_of(bus), random.Random(seed)
     is_over, steady = threading.Event(), SESSIONS - BREAKING
     all_sent = threading.Barrier(steady + 1)
@@ -190,7 +192,7 @@ def on_one_bus(server, bus, frames, seed):
     def stay(place):
         try:
             client = Client(server, place, names)
-            while client.sent < frames // steady:
+            while client.sent < frames // steady and not all_sent.broken:
                 client.send(BURST)
             all_sent.wait(PATIENCE)
             all_sent.wait(PATIENCE)
@@ -217,13 +219,11 @@ def on_one_bus(server, bus, frames, seed):
     with contextlib.suppress(threading.BrokenBarrierError):
         all_sent.wait(10 * PATIENCE)
         is_over.set()
-        for thread in breaking:
-            thread.join()
+        join(breaking, PATIENCE)
         all_sent.wait(PATIENCE)
         all_sent.wait(PATIENCE)
     is_over.set()
-    for thread in threads + breaking:
-        thread.join()
+    join(threads + breaking, 3 * PATIENCE)
     return faults, ends, sum(broken)
 
 
@@ -294,7 +294,7 @@ def test_load_with_faults(request, tmp_path):
 
 
 def compare(server, bus, record, ends):
-    """What the sessions of a bus were told, beside its record."""
+    """What `stats` said to the sessions of a bus, beside its record."""
     assert server.audited(f"{names_of(bus)[0]}.rec") == record.entries, "the audit counts other entries"
     for side in (0, 1):
         assert (

@@ -13,7 +13,7 @@ import pytest
 from commands import call, is_clean
 from serving import ROOT, program
 
-LOG_READER = os.path.join(ROOT, "contrib", "candump2bench")
+LOG_READER = os.path.join(ROOT, "tools", "candump2bench")
 # A line of each kind, as the tests of can_logfile expect them to be written.
 EVERY_KIND = """\
 (0000000000.000005) can0 00000123#R3

@@ -18,15 +18,16 @@ import resource
 import shutil
 import struct
 import subprocess
-import time
 
 import pytest
 
-from serving import ROOT, WAIT, NotListening, Pair, Plain, plain, program, serving_alone
+from serving import ROOT, WAIT, NotListening, Pair, Plain, come_true, plain, program, serving_alone
 
 pytestmark = pytest.mark.skipif(not shutil.which("cc"), reason="no C compiler: cc")
 
 FOREVER = 2**64 - 1
+# More often than this nothing that is tried here asks for memory; and more bytes than this it does not need.
+MOST_PLACES, MOST_BYTES = 5000, 1 << 34
 # A program that makes the calls of the libraries that take memory.
 CALLS = os.path.join(ROOT, "crates", "can_memory_tests", "out", "can_memory_tests")
 NO_MEMORY = "canbusd: no memory\n"
@@ -57,7 +58,7 @@ class Refusing:
     """An environment in which a program is refused memory, and a folder in which it runs."""
 
     def __init__(self, library, folder):
-        self.folder, plan = folder, folder / "plan"
+        self.folder, self.server, plan = folder, None, folder / "plan"
         plan.write_bytes(bytes(24))
         with open(plan, "r+b") as file:
             self.plan = mmap.mmap(file.fileno(), 24)
@@ -83,15 +84,12 @@ class Refusing:
         self.plan[8:] = struct.pack("=2Q", 1, 0)
 
     def settled(self):
-        """How often it has asked, once it asks no more."""
-        before, now = None, self.asked()
-        while before != now:
-            time.sleep(0.01)
-            before, now = now, self.asked()
-        return now
+        """How often the server has asked, once it asks no more."""
+        assert come_true(self.server.rests), "the server does not come to rest"
+        return self.asked()
 
     def run(self, words, text="", first=1, last=0, most=resource.RLIM_INFINITY, other=None):
-        """What the program does in a folder of its own with this input and at most so many bytes: what it was, and how
+        """What the program does in a folder of its own with this input and this much memory: what it was, and how
         often it asked."""
         self.refuse(first, last)
         done = subprocess.run(
@@ -110,12 +108,18 @@ class Refusing:
 
 
 def within(most):
-    """Limits a child to so many bytes."""
+    """Limits a child to this many bytes."""
     return lambda: resource.setrlimit(resource.RLIMIT_AS, (most, most))
 
 
+def places():
+    """One place after the other where memory is asked for, until the loop is left."""
+    yield from range(1, MOST_PLACES)
+    pytest.fail(f"it asks for memory more than {MOST_PLACES} times")
+
+
 def windows(asked):
-    """Each time that it is refused: alone, and with all that follow."""
+    """Each time that it is refused: only then, and from then on."""
     return [(first, last) for first in range(1, asked + 1) for last in (first, FOREVER)]
 
 
@@ -140,7 +144,7 @@ class Bench:
         return done.stdout, self.written(), done.returncode, done.stderr
 
     def refuses(self, command):
-        """What it does where the command does nothing and is told the words of refused memory."""
+        """What it does where the command does nothing and is answered with the words of refused memory."""
         begin, end = command
         output, *others = self.runs(self.text[:begin] + UNKNOWN + self.text[end:])
         return output.replace(TELLS_UNKNOWN, TELLS_NO_MEMORY), *others
@@ -152,7 +156,7 @@ class Bench:
         return None
 
     def try_at(self, first, last, most=resource.RLIM_INFINITY):
-        """Refuses it memory: whether it was told by a session, by the program, or not at all."""
+        """Refuses it memory: whether a session reported it, or the program, or nobody."""
         with contextlib.suppress(FileNotFoundError):
             os.remove(self.record)
         done, _ = self.refusing.run(self.line, self.text, first, last, most)
@@ -176,7 +180,7 @@ class Bench:
 
 
 def try_everywhere(bench):
-    """Refuses a bench memory at each place: how often it was told where."""
+    """Refuses a bench memory at each place: how often it was reported where."""
     told = {}
     for first, last in windows(bench.asked):
         how = bench.try_at(first, last)
@@ -241,7 +245,7 @@ def test_a_bench_without_memory(refusing):
 
 @pytest.mark.slow
 def test_faults_without_memory(refusing):
-    """lines, scripts, names and words that are refused: their first line is told, or no memory"""
+    """lines, scripts, names and words that are refused: their first line is reported, or no memory"""
     folder = refusing.folder
     scripts = {"line": "0 good\nx\n", "name": "5 local crc can2\n", "twice": "5 good\n5 good\n"}
     for name, text in scripts.items():
@@ -326,12 +330,13 @@ def crosses(server, source, target):
 @contextlib.contextmanager
 def refused_server(refusing):
     with serving_alone("--pace", "0", "can0,can1", "can2,can3", env=refusing.environment) as server:
+        refusing.server = server
         yield server
 
 
 @pytest.mark.skipif(not os.path.exists(CALLS), reason="not built: rt run in crates/can_memory_tests")
 def test_calls_without_memory(refusing):
-    """each call of the libraries is made again where it was refused: it left all as it was, and answers as ever"""
+    """each call of the libraries is made again where it was refused: it left all as it was, and returns the same"""
     ample, asked = refusing.run([], other=CALLS)
     assert ample.returncode == 0 and ample.stdout.count(": as ever\n") == ample.stdout.count("\n") > 0, f"{ample}"
     for place in range(1, asked + 1):
@@ -339,7 +344,7 @@ def test_calls_without_memory(refusing):
         assert (done.returncode, done.stdout, done.stderr) == (0, ample.stdout, ""), f"at {place}: {done}"
 
 
-# What a client says, each with what it is told with ample memory; where that is None, texts come in any order.
+# What a client says, each with its answer with ample memory; where that is None, texts come in any order.
 SAYS = [
     ("< open can2 >", "< ok >"),
     ("< rawmode >", "< ok >"),
@@ -354,7 +359,7 @@ SAYS = [
 
 
 def converse(server, refusing):
-    """What a client is told of all that it says. Where it is told of no memory it asks again, with memory."""
+    """What a client hears of all that it says. After `no memory` it asks again, with memory."""
     with contextlib.closing(Plain(server)) as client:
         try:
             greeting = client.text()
@@ -379,14 +384,14 @@ def converse(server, refusing):
 
 
 def test_sessions_without_memory(refusing):
-    """a session that is refused memory ends alone, or is told so"""
-    tolds, place, drivers, is_over = {}, 0, 0, False
+    """a session that is refused memory ends without the others, or hears of it"""
+    tolds, numbers, drivers, is_over = {}, places(), 0, False
     while not is_over:
         refusing.stop()
         with refused_server(refusing) as server:
             others, lives = Pair(server), True
             while lives and not is_over:
-                place += 1
+                place = next(numbers)
                 for last in (FOREVER, place):
                     armed = refusing.refuse_soon(place, last)
                     told = converse(server, refusing)
@@ -430,10 +435,9 @@ def hears(sender, listener):
 
 
 def test_deliveries_without_memory(refusing):
-    """a session whose receive is refused memory is told so and ends; others get their frames"""
-    tolds, place, is_over = {}, 0, False
-    while not is_over:
-        place += 1
+    """a session whose receive is refused memory hears of it and ends; others get their frames"""
+    tolds = {}
+    for place in places():
         refusing.stop()
         with refused_server(refusing) as server:
             sender, listener, others = plain(server, "can0"), plain(server, "can1"), Pair(server)
@@ -450,6 +454,8 @@ def test_deliveries_without_memory(refusing):
                 written = server.end()
             entries = server.audited("can0.rec"), server.audited("can2.rec")
             assert written == "bus can0 entries {}\nbus can2 entries {}\n".format(*entries), written
+        if is_over:
+            break
     assert "ended the listener" in tolds, f"no receive was refused: {summed([tolds])}"
     print(summed([tolds]))
 
@@ -471,9 +477,10 @@ def greets(server):
 
 def test_a_start_without_memory(refusing):
     """a server that is refused memory says so and is gone, or serves"""
-    told, place, is_over = {}, 0, False
-    while not is_over:
-        place += 1
+    told, is_over = {}, False
+    for place in places():
+        if is_over:
+            break
         for last in (FOREVER, place):
             refusing.refuse(place, last)
             try:
@@ -491,10 +498,11 @@ def test_a_start_without_memory(refusing):
 
 
 def test_an_end_without_memory(refusing):
-    """a file that is refused memory is told; the others are whole"""
-    told, place, is_over = {}, 0, False
-    while not is_over:
-        place += 1
+    """a file that is refused memory is reported; the others are whole"""
+    told, is_over = {}, False
+    for place in places():
+        if is_over:
+            break
         for last in (FOREVER, place):
             with refused_server(refusing) as server:
                 Pair(server).go_on()
@@ -526,22 +534,23 @@ def told_at_the_end(server, status, written):
 
 
 def amounts(first):
-    """Ever more bytes, from so many on."""
+    """Ever more bytes, from the first on."""
     most = first
-    while True:
+    while most < MOST_BYTES:
         most += most // 64
         yield most
+    pytest.fail(f"{most} bytes are too few")
 
 
 def least(words):
     """The fewest bytes, by the first of the amounts, in which the program can be started."""
-    for most in amounts(1 << 20):
-        done = subprocess.run(
-            [program(), *words], capture_output=True, timeout=WAIT, check=False, preexec_fn=within(most)
-        )
-        if done.returncode == 0:
-            return most
-    return None
+
+    def is_enough(most):
+        limited = within(most)
+        done = subprocess.run([program(), *words], capture_output=True, timeout=WAIT, check=False, preexec_fn=limited)
+        return done.returncode == 0
+
+    return next(filter(is_enough, amounts(1 << 20)))
 
 
 def test_a_bench_within_ever_more_memory(refusing):

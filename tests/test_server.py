@@ -12,11 +12,11 @@ import time
 
 import pytest
 
-from serving import ROOT, WAIT, Plain, come_true, line_of, plain, program, serving, serving_alone
+from serving import ROOT, WAIT, Plain, come_true, join, line_of, plain, program, serving, serving_alone, turns
 
 
 def test_full_record():
-    """it is told once and to each call, and nothing spins"""
+    """it is reported once and to each call, and nothing spins"""
     with serving("--limit", "5", "can0,can1", "can2") as server:
         can0, can1 = plain(server, "can0"), plain(server, "can1")
         can0.tell("< send 123 1 5 >")
@@ -42,11 +42,11 @@ def test_verbose():
         can0 = plain(server, "can0")
         port = can0.socket.getsockname()[1]
         can0.tell("< send 123 0 >")
-        come_true(lambda: "can0: restarted" in server.said())
+        assert come_true(lambda: "can0: restarted" in server.said()), server.said()
         refused = can0.answer("< sendfd 123 0 >")
         assert refused == "< error fd frames off >", refused
         can0.close()
-        come_true(lambda: "session 1: gone" in server.said())
+        assert come_true(lambda: "session 1: gone" in server.said()), server.said()
         status, _ = server.finish()
         lines = [line.split(" ", 1) for line in server.said().splitlines()]
         assert status == 0 and all(re.fullmatch(r"\d{10}\.\d{6}", moment) for moment, _ in lines), server.said()
@@ -73,7 +73,9 @@ def test_slow_reader():
             assert got == number, f"{got} instead of {number}"
         got, taken, queued = [], 0, None
         # An answer comes among the frames, wherever the session has come to.
-        while taken != queued or len(got) < taken:
+        for _ in turns("all that was queued is taken"):
+            if taken == queued and len(got) >= taken:
+                break
             slow.tell("< stats >")
             for text in iter(slow.text, ""):
                 if text.startswith("< stats "):
@@ -83,6 +85,20 @@ def test_slow_reader():
         assert got == sorted(set(got)) and queued + dropped == 3000 and dropped > 0, f"{len(got)} frames, {text}"
         server.end()
         asleep.close()
+
+
+@pytest.mark.parametrize("most", [256, 1024, 65536])
+def test_bytes_of_a_write(most):
+    """frames come whole and in order, however many go out in a write"""
+    options = ("--pace", "0", "--txqueue", "1024", "--rxqueue", "65536", "--write", str(most))
+    with serving(*options, "can0,can1") as server:
+        sender, reader = plain(server, "can0"), plain(server, "can1")
+        for start in range(0, 5000, 500):
+            numbers = range(start, start + 500)
+            sender.tell("".join(f"< send 123 2 {number >> 8:x} {number & 255:x} >" for number in numbers))
+            got = [int.from_bytes(reader.frame()[1], "big") for _ in numbers]
+            assert got == list(numbers), f"not the frames from {start} on"
+        server.end()
 
 
 def test_clients_that_go():
@@ -108,9 +124,9 @@ def test_too_many_sessions():
         texts = last.text(), last.text()
         assert texts == ("< error too many sessions >", ""), f"{texts}"
         clients.pop().close()
-        until = time.monotonic() + WAIT
-        while Plain(server).text() != "< hi >":
-            assert time.monotonic() < until, "nobody comes in once one has gone"
+        for _ in turns("somebody comes in once one has gone"):
+            if Plain(server).text() == "< hi >":
+                break
         before = server.ticks()
         time.sleep(1)
         assert server.ticks() - before <= 5, f"{server.ticks() - before} hundredths of a second in one of idleness"
@@ -127,13 +143,11 @@ def test_sessions_that_come_and_go():
         "< open can0 >< rawmode >" + "< send 7FF 8 1 2 3 4 5 6 7 8 >" * 50,
     ]
     with serving("--pace", "0", "--txqueue", "1024", "can0,can1") as server:
-        # All threads of the server stand once somebody was greeted and nothing changes any more.
+        # Once somebody was greeted and has gone, all threads of the server have begun.
         with contextlib.closing(Plain(server)) as visitor:
-            visitor.text()
-        before, earlier = server.held(), None
-        while before != earlier:
-            time.sleep(0.2)
-            before, earlier = server.held(), before
+            assert visitor.text() == "< hi >"
+        assert come_true(server.rests), "the server does not come to rest"
+        before = server.held()
 
         def visit(first):
             for number in range(first, first + 250):
@@ -145,12 +159,9 @@ def test_sessions_that_come_and_go():
         threads = [threading.Thread(target=visit, args=(first,)) for first in range(0, 2000, 250)]
         for thread in threads:
             thread.start()
-        for thread in threads:
-            thread.join()
-        until = time.monotonic() + WAIT
-        while server.held() > before and time.monotonic() < until:
-            time.sleep(0.05)
-        assert server.held() == before, f"{server.held()} descriptors and threads, {before} before"
+        join(threads, 3 * WAIT)
+        left = server.held
+        assert come_true(lambda: left() == before), f"{left()} descriptors and threads, {before} before"
         server.end()
         server.audited("can0.rec")
 
@@ -160,20 +171,21 @@ def test_ends_while_busy():
     for _ in range(5):
         with serving("--pace", "0", "--txqueue", "1024", "--rxqueue", "65536", "can0,can1", "can2,can3") as server:
             clients = [plain(server, f"can{number}") for number in (0, 0, 1, 2, 3)]
+            rounds = [0] * len(clients)
 
-            def send(one):
+            def send(place, one):
                 with contextlib.suppress(OSError):
                     while True:
                         one.tell("< send 123 4 11 22 33 44 >< send 92345678 0 >")
                         one.socket.recv(65536)
+                        rounds[place] += 1
 
-            threads = [threading.Thread(target=send, args=(one,)) for one in clients]
+            threads = [threading.Thread(target=send, args=one) for one in enumerate(clients)]
             for thread in threads:
                 thread.start()
-            time.sleep(0.3)
+            assert come_true(lambda: min(rounds) >= 50), f"rounds of the clients: {rounds}"
             written = server.end()
-            for thread in threads:
-                thread.join()
+            join(threads)
             audited = [server.audited(name) for name in ("can0.rec", "can2.rec")]
             assert written == f"bus can0 entries {audited[0]}\nbus can2 entries {audited[1]}\n", written
 
@@ -231,7 +243,7 @@ def heard(connection):
 
 @pytest.mark.slow
 def test_ends_in_bursts():
-    """1,000 servers that are told to end while clients come: each ends, and tells nobody another reason"""
+    """1,000 servers that are told to end while clients come: each ends, and gives nobody another reason"""
     for number in range(1000):
         path = "./burst.socket" if number % 2 else "127.0.0.1:0"
         with contextlib.ExitStack() as stack:
@@ -249,7 +261,7 @@ def test_ends_in_bursts():
             except subprocess.TimeoutExpired:
                 raise AssertionError(f"burst {number}: the server goes on") from None
             for one in filter(None, burst):
-                assert heard(one) in (b"", b"< hi >"), f"burst {number}: a client was told something else"
+                assert heard(one) in (b"", b"< hi >"), f"burst {number}: a client heard something else"
 
 
 def test_door_after_the_last_session():
@@ -260,11 +272,11 @@ def test_door_after_the_last_session():
                 server.address = server.path("last.socket")
             with contextlib.closing(Plain(server)) as first:
                 assert first.text() == "< hi >", "the session"
-                until = time.monotonic() + WAIT
-                while (late := connected(server)) is not None:
+                for _ in turns("newcomers are refused"):
+                    if (late := connected(server)) is None:
+                        break
                     with late:
-                        assert heard(late) == b"", "a client that came too late was told something"
-                    assert time.monotonic() < until, "newcomers connect"
+                        assert heard(late) == b"", "a client that came too late heard something"
                 assert first.answer("< open can0 >") == "< ok >", "the session goes on"
             assert server.child.wait(WAIT) == 0, "the end"
 
@@ -287,7 +299,7 @@ def test_attempts_in_vain_at_the_end(tmp_path):
 
 
 def test_own_socket_file(tmp_path):
-    """a server removes its own file alone; a path belongs to one server"""
+    """a server removes only its own file; a path belongs to one server"""
     path = os.path.join(tmp_path, "socket")
 
     def second():
@@ -333,7 +345,7 @@ def test_own_socket_file(tmp_path):
     for _ in range(100):
         with serving_alone("can0", address=path) as server:
             server.child.kill()
-            server.child.wait()
+            server.child.wait(WAIT)
         assert os.path.exists(path), "the killed server's file"
         both = [
             subprocess.Popen(

@@ -1,6 +1,6 @@
 """A door on a CAN bus, as a program of yours might be. It knows nothing of canbusd.
 
-A command, 100, is a number and whether to open; the door obeys those with the next number, and answers with a report,
+A command, 100, is a number and whether to open; the door obeys those with the next number, and replies with a report,
 200. Where a command is missing it asks for it by a request, 101.
 """
 

@@ -16,7 +16,7 @@ WAIT = 20
 
 
 def message(identifier, data=b"", extended=False, **more):
-    """A message of python-can, of 11 bits unless told otherwise."""
+    """A message of python-can, of 11 bits unless asked otherwise."""
     return can.Message(arbitration_id=identifier, data=data, is_extended_id=extended, **more)
 
 

@@ -1,4 +1,4 @@
-"""contrib/candump2bench: logs as inputs of the bench. tests/test_log_readers.py tries it with whole logs."""
+"""tools/candump2bench: logs as inputs of the bench. tests/test_log_readers.py tries it with whole logs."""
 
 import subprocess
 import sys
@@ -6,7 +6,7 @@ from pathlib import Path
 
 import pytest
 
-TOOL = Path(__file__).resolve().parents[2] / "contrib" / "candump2bench"
+TOOL = Path(__file__).resolve().parents[2] / "tools" / "candump2bench"
 
 
 def converted(text, *words):

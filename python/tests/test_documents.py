@@ -8,7 +8,8 @@ from pathlib import Path
 from canbusd.server import Server
 
 CLONE = Path(__file__).resolve().parents[2]
-DOCUMENTS = {"readme": "README.md", "guide": "docs/GUIDE.md", "package": "docs/PYTHON.md"}
+# Those with a test that needs its faults.
+DOCUMENTS = {"readme": "README.md", "guide": "docs/GUIDE.md"}
 
 
 def blocks(path):
@@ -32,12 +33,12 @@ def test_the_tests_of_the_documents_need_their_faults(installed, tmp_path):
     assert found == {**passed, **{f"{name}_without": "FAILED" for name in DOCUMENTS}}, done.stdout
 
 
-def test_the_other_code_of_the_package(installed):
-    others = [block for block in blocks(DOCUMENTS["package"]) if "def test_" not in block]
-    program = "\n".join(["from canbusd import Bench, Faults, Server", *others])
+def test_the_code_of_the_package(installed):
+    code = blocks("docs/PYTHON.md")
+    program = "\n".join(["from canbusd import Bench, Faults, Server", *code])
     with Server("can0,can1") as server:
         env = {**installed, "CANBUSD_ADDRESS": server.address}
         done = subprocess.run([sys.executable, "-c", program], env=env, capture_output=True, text=True, check=False)
     assert done.returncode == 0, done.stderr
     assert re.match("Timestamp: .* ID: +0?123 .* 01 02 03 ", done.stdout)
-    assert len(others) == 6
+    assert len(code) == 6

@@ -96,6 +96,7 @@ def test_ways_to_give_faults(tmp_path, form):
         (["can0"], {"ack": "nobody"}, "ack"),
         (["can0"], {"pace_ms": -1}, "pace_ms"),
         (["can0"], {"pace_ms": 0.5}, "pace_ms"),
+        (["can0"], {"write_bytes": 255}, "write_bytes"),
         (["can0"], {"txqueue": "10"}, "txqueue"),
         (["can0"], {"limit": True}, "limit"),
     ],
@@ -236,10 +237,10 @@ def launcher(tmp_path):
     place = tmp_path / "libexec" / "canbusd"
     place.mkdir(parents=True)
     (tmp_path / "bin").mkdir()
-    shutil.copy(CLONE / "contrib" / "canbusd.sh", tmp_path / "bin" / "canbusd")
+    shutil.copy(CLONE / "tools" / "canbusd.sh", tmp_path / "bin" / "canbusd")
     (tmp_path / "bin" / "canbusd").chmod(0o755)
     (place / "canbusd").symlink_to(find_program())
-    (place / "serve").symlink_to(CLONE / "scripts" / "serve")
+    (place / "serve").symlink_to(CLONE / "tools" / "serve")
     return tmp_path / "bin"
 
 

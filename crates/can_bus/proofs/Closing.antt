@@ -1,14 +1,13 @@
-use Rattle.std.proofs.Common.{◌≡◌, ℕ, ◌==◌, not, List, ◌∷◌, length, map, filter, drop, remove, Result, Ok, Err, refl, sym, ap, ◌∙◌}
+use Rattle.std.proofs.Common.{◌≡◌, ℕ, ◌==◌, not, List, ◌∷◌, length, map, filter, drop, remove, refl, sym, ap, ◌∙◌}
 use Rattle.std.proofs.lemmas.Bool.{cond-true}
 use Rattle.std.proofs.lemmas.List.{length-drop}
 use Rattle.can_event.specs.declared.events.Entry.{Entry}
 use Rattle.can_event.specs.declared.events.BusConfig.{BusConfig}
 use Rattle.can_event.specs.declared.events.Closed.{Closed}
-use Rattle.can_event.specs.declared.events.Refusal.{Refusal}
+use Rattle.can_event.specs.declared.events.Reply.{Reply}
 use Rattle.can_event.specs.declared.events.SocketId.{SocketId}
 use Rattle.can_event.specs.declared.events.Event.TheVariants.{Close}
 use Rattle.can_event.specs.declared.events.Reply.TheVariants as reply
-use Rattle.can_bus.specs.Answer.{told}
 use Rattle.can_bus.specs.Sockets.{places, open_sockets, is_open}
 use Rattle.can_bus.specs.Queues.{queued_to, taken_from, dropped_at}
 use Rattle.can_bus.specs.Legal.{legal_reply}
@@ -21,22 +20,22 @@ use Rattle.can_bus.proofs.Quiet.{queued_to-quiet, dropped_at-quiet}
 use Rattle.can_bus.proofs.Rising.{open_sockets-rise}
 use Rattle.can_bus.proofs.SocketFacts.{follows_at_sockets, none_follows}
 
-abbrev pub entry : SocketId → Result Closed Refusal → Entry
-entry s r = record { event = Close s; reply = told reply.Closed r }
+abbrev pub entry : SocketId → Reply → Entry
+entry s r = record { event = Close s; reply = r }
 
-left-same : (c : BusConfig) (past : List Entry) (s : SocketId) (n : Closed) (o : ℕ) → kept_socket c (entry s (Ok n) ∷ past) o ≡ kept_socket c past o
+left-same : (c : BusConfig) (past : List Entry) (s : SocketId) (n : Closed) (o : ℕ) → kept_socket c (entry s (reply.Closed n) ∷ past) o ≡ kept_socket c past o
 left-same c past s n o =
-    let q = queued_to-quiet c past (entry s (Ok n)) o refl in
-    let d = dropped_at-quiet c past (entry s (Ok n)) o refl in
+    let q = queued_to-quiet c past (entry s (reply.Closed n)) o refl in
+    let d = dropped_at-quiet c past (entry s (reply.Closed n)) o refl in
     cc
 
-sockets-closed : (c : BusConfig) (past : List Entry) (s : SocketId) (n : Closed) (k : ℕ) (v : SocketState) → StandsAt (kept_sockets c past) s.0 k v → remove (kept_sockets c past) k ≡ kept_sockets c (entry s (Ok n) ∷ past)
+sockets-closed : (c : BusConfig) (past : List Entry) (s : SocketId) (n : Closed) (k : ℕ) (v : SocketState) → StandsAt (kept_sockets c past) s.0 k v → remove (kept_sockets c past) k ≡ kept_sockets c (entry s (reply.Closed n) ∷ past)
 unfolding kept_sockets
 sockets-closed c past s n k v stands =
     let at = IsThere-stands c past (kept_sockets c past) s.0 k v refl stands in
     sym (map-remove (kept_socket c past) (open_sockets past) k)
     ∙ ap (map (kept_socket c past)) (sym (filter_one s.0 k 0 (length (places past)) (open_sockets past) at.listed (open_sockets-rise past)))
-    ∙ sym (map_same (kept_socket c past) (kept_socket c (entry s (Ok n) ∷ past)) (filter (λ k. not (k == s.0)) (open_sockets past)) (left-same c past s n))
+    ∙ sym (map_same (kept_socket c past) (kept_socket c (entry s (reply.Closed n) ∷ past)) (filter (λ k. not (k == s.0)) (open_sockets past)) (left-same c past s n))
 
 reply-closed : (c : BusConfig) (past : List Entry) (s : SocketId) (n : Closed) (new : Parts) → Removes (kept_parts c past) s.0 n new → reply.Closed n ≡ legal_reply c past (Close s)
 reply-closed c past s n new removes =
@@ -45,11 +44,12 @@ reply-closed c past s n new removes =
     ap (λ (k : Closed). reply.Closed k) (counts ∙ ap (λ (u : ℕ). record { unread = u; dropped = length (dropped_at c past s.0) }) (length-drop (length (taken_from past s.0)) (queued_to c past s.0)))
     ∙ sym (cond-true (is_open past s.0) _ _ at.is_there)
 
-still : (c : BusConfig) (past : List Entry) (s : SocketId) (n : Closed) → IsStill c past (entry s (Ok n))
+still : (c : BusConfig) (past : List Entry) (s : SocketId) (n : Closed) → IsStill c past (entry s (reply.Closed n))
 unfolding kept_lines kept_keys kept_nodes kept_left
 still c past s n = record { of_lines = refl; of_keys = refl; of_nodes = refl; of_left = refl }
 
 -- a socket that was closed, or a refusal, leaves what its entry leaves
-pub closed_follows : (c : BusConfig) (past : List Entry) (s : SocketId) (r : Result Closed Refusal) (new : Parts) → Closes (kept_parts c past) s.0 r new → Follows c past (entry s r) new
-closed_follows c past s (Ok n) new removes = follows_at_sockets c past (entry s (Ok n)) new _ _ (reply-closed c past s n new removes) (still c past s n) refl refl (sockets-closed c past s n removes.place removes.socket removes.stands) removes.after
-closed_follows c past s (Err why) new none = none_follows c past (Close s) s.0 _ why new refl tt none
+pub closed_follows : (c : BusConfig) (past : List Entry) (s : SocketId) (r : Reply) (new : Parts) → Closes (kept_parts c past) s.0 r new → Follows c past (entry s r) new
+closed_follows c past s (reply.Closed n) new removes = follows_at_sockets c past (entry s (reply.Closed n)) new _ _ (reply-closed c past s n new removes) (still c past s n) refl refl (sockets-closed c past s n removes.place removes.socket removes.stands) removes.after
+closed_follows c past s (reply.Refused why) new none = none_follows c past (Close s) s.0 _ why new refl tt none
+closed_follows c past s _ new closes = absurd closes

@@ -28,8 +28,10 @@ use Rattle.can_bus.specs.Attempts.{winner, attempt_reply, tried_head}
 use Rattle.can_bus.specs.Posts.{Post, is_looped_back, is_own, data_posts, error_posts, attempt_posts, auto_restart_posts, posts_of, fault_message_for, role_at}
 use Rattle.can_bus.specs.Queues.{passing, candidates_of, queued_to, taken_from}
 use Rattle.can_bus.specs.Legal.{lacks_fd, legal_reply, IsLegal}
+use Rattle.can_bus.specs.Run.{IsAnswer}
 use Rattle.can_bus.specs.AutoRestart.{attempts_off, is_nth_after, is_due, restarted_next}
 use Rattle.can_event.specs.Events.{restarted_in}
+use Rattle.can_event.specs.Replies.{Suits}
 use Rattle.can_event.specs.Spelled.{IsNumbered, AreNumbered, FitsReply, MayRestart, IsSpelled}
 use Rattle.can_frame.specs.Frames.{CanFrame, is_fd}
 use Rattle.std.proofs.lemmas.Bool.{and_parts}
@@ -135,6 +137,11 @@ legal-fits c past (Restart i m) = if-holds (FitsReply (Restart i m)) (nat_le c.i
 -- an entry with the legal reply has a line
 pub legal_is_spelled : (c : BusConfig) (past : List Entry) (e : Event) (r : Reply) → r ≡ legal_reply c past e → FitsReply e r
 legal_is_spelled c past e r law = subst (FitsReply e) (sym law) (legal-fits c past e)
+
+-- an answer is of its event's kind
+pub answer_suits : (c : BusConfig) (past : List Entry) (e : Event) (r : Reply) → IsAnswer c past e r → Suits e r
+answer_suits c past e (reply.Refused why) answer = tt
+answer_suits c past e r answer = legal_is_spelled c past e r answer.1
 
 -- ---- restarts
 

@@ -24,7 +24,7 @@ pub record Follows (c : BusConfig) (past : List Entry) (e : Entry) (parts : Part
   pub after : parts ≡ kept_parts c (e ∷ past)
 
 -- one entry more is kept
-kept_more : (j new : Kept) (e : Entry) (parts parts' : Parts) → IsKept j parts → IsLonger j e new → length j.history < j.config.limit → Follows j.config j.history e parts' → IsKept new parts'
+pub kept_more : (j new : Kept) (e : Entry) (parts parts' : Parts) → IsKept j parts → IsLonger j e new → length j.history < j.config.limit → Follows j.config j.history e parts' → IsKept new parts'
 kept_more j new e parts parts' kept longer room follows =
     let longer_config = longer.config in
     let longer_history = longer.history in
@@ -38,7 +38,7 @@ kept_more j new e parts parts' kept longer room follows =
     })
 
 -- what the call's contract says of an entry that was added
-noted : (j new : Kept) (old : Journal) (e : Entry) → ◌≡◌ {A = Journal} (record { config = j.config; history = j.history }) old → IsLonger j e new
+pub noted : (j new : Kept) (old : Journal) (e : Entry) → ◌≡◌ {A = Journal} (record { config = j.config; history = j.history }) old → IsLonger j e new
     → length j.history < j.config.limit → e.reply ≡ legal_reply j.config j.history e.event
     → Noted old e.event e.reply (record { config = new.config; history = new.history })
 noted j new old e view longer room lawful =
@@ -66,7 +66,7 @@ pub record IsDone {A : Type 0} (told' : A → Reply) (before : Journal) (event :
   pub kept : IsKept new parts
   pub answers : Answers told' before event r (record { config = new.config; history = new.history })
 
-not_full : (full : Bool) (n limit : ℕ) → IsTrue full ↔ (limit ≤ n) → full ≡ false → n < limit
+pub not_full : (full : Bool) (n limit : ℕ) → IsTrue full ↔ (limit ≤ n) → full ≡ false → n < limit
 not_full full n limit test is = grind arith
 
 -- there was room, the state changed in this way, and the reply was noted

@@ -42,3 +42,4 @@ pub mod CopyBound
 pub mod OfferFacts
 pub mod Headlines
 pub mod Carrying
+pub mod Answering

@@ -1,4 +1,4 @@
-use Rattle.std.proofs.Common.{◌≡◌, ℕ, zero, suc, ◌+◌, ◌<◌, ◌≤◌, ◌==◌, nat_le, Bool, true, false, not, ◌&&◌, List, [], ◌∷◌, ◌++◌, length, map, slice_get, Some, Result, Ok, Err, if◌then◌else◌, refl, sym, ap, ◌∙◌, arith, subst}
+use Rattle.std.proofs.Common.{◌≡◌, ℕ, zero, suc, ◌+◌, ◌<◌, ◌≤◌, ◌==◌, nat_le, Bool, true, false, not, ◌&&◌, List, [], ◌∷◌, ◌++◌, length, map, slice_get, Some, if◌then◌else◌, refl, sym, ap, ◌∙◌, arith, subst}
 use Rattle.std.specs.List.{list_any}
 use Rattle.std.proofs.lemmas.Bool.{ne_eqb, cond-true, cond-false, le-leb, lt-leb, and_from, leb-true, eqb-true, or_from, false_from_ne_true}
 use Rattle.std.proofs.lemmas.List.{length_push, map_push}
@@ -12,12 +12,11 @@ use Rattle.can_event.specs.declared.events.Event.{Event}
 use Rattle.can_event.specs.declared.events.Event.TheVariants.{Open, SetFilters, SetOption, Receive}
 use Rattle.can_event.specs.declared.events.Reply.{Reply}
 use Rattle.can_event.specs.declared.events.Reply.TheVariants as reply
-use Rattle.can_bus.specs.Journal.{Journal, Kept}
-use Rattle.can_bus.specs.Answer.{Refuses, TakesMemory, told}
+use Rattle.can_bus.specs.Answer.{TakesMemory}
 use Rattle.can_bus.specs.Sockets.{Place, places, places_after, open_sockets, is_open, filters_of, filters_after, options_of, options_after}
 use Rattle.can_bus.specs.Queues.{queued_to, dropped_at, taken_from, taken_after, candidates_of}
 use Rattle.can_bus.specs.Legal.{legal_reply, IsLegal}
-use Rattle.can_bus.specs.State.{SocketState, Parts, kept_lines, kept_keys, kept_nodes, kept_left, kept_socket, kept_sockets, kept_parts, IsKept}
+use Rattle.can_bus.specs.State.{SocketState, Parts, kept_lines, kept_keys, kept_nodes, kept_left, kept_socket, kept_sockets, kept_parts}
 use Rattle.can_bus.specs.Changes.{Opens, IsCapacity, fresh}
 use Rattle.can_bus.proofs.Attempting.{count-kept}
 use Rattle.can_bus.proofs.Lists.{Rises}
@@ -26,8 +25,8 @@ use Rattle.can_bus.proofs.Quiet.{queued_to-quiet, dropped_at-quiet, queued_to-un
 use Rattle.can_bus.proofs.Keeping.{Follows, IsStill, follows_refused}
 use Rattle.can_bus.proofs.SocketFacts.{length-kept_sockets, follows_at_sockets}
 
-abbrev pub entry : ℕ → ℕ → Result SocketId Refusal → Entry
-entry i k r = record { event = Open i k; reply = told reply.Opened r }
+abbrev pub entry : ℕ → ℕ → Reply → Entry
+entry i k r = record { event = Open i k; reply = r }
 
 -- ---- a socket that is not opened yet
 
@@ -110,19 +109,19 @@ slice_get-before [] x k lt = absurd (omega arith)
 slice_get-before (y ∷ ys) x zero lt = refl
 slice_get-before (y ∷ ys) x (suc k) lt = slice_get-before ys x k (omega arith)
 
-old_same : (c : BusConfig) (past : List Entry) (i k : ℕ) (s : SocketId) (o : ℕ) → o < length (places past) → kept_socket c (entry i k (Ok s) ∷ past) o ≡ kept_socket c past o
+old_same : (c : BusConfig) (past : List Entry) (i k : ℕ) (s : SocketId) (o : ℕ) → o < length (places past) → kept_socket c (entry i k (reply.Opened s) ∷ past) o ≡ kept_socket c past o
 old_same c past i k s o lt =
     let p : slice_get (places past ++ record { iface = i; capacity = k } ∷ []) o ≡ slice_get (places past) o = slice_get-before (places past) _ o lt in
-    let q : queued_to c (entry i k (Ok s) ∷ past) o ≡ queued_to c past o = queued_to-quiet c past (entry i k (Ok s)) o refl in
-    let d : dropped_at c (entry i k (Ok s) ∷ past) o ≡ dropped_at c past o = dropped_at-quiet c past (entry i k (Ok s)) o refl in
+    let q : queued_to c (entry i k (reply.Opened s) ∷ past) o ≡ queued_to c past o = queued_to-quiet c past (entry i k (reply.Opened s)) o refl in
+    let d : dropped_at c (entry i k (reply.Opened s) ∷ past) o ≡ dropped_at c past o = dropped_at-quiet c past (entry i k (reply.Opened s)) o refl in
     cc
 
-new_fresh : (c : BusConfig) (past : List Entry) (i k : ℕ) (s : SocketId) → IsLegal c past → fresh (length (places past)) i k ≡ kept_socket c (entry i k (Ok s) ∷ past) (length (places past))
+new_fresh : (c : BusConfig) (past : List Entry) (i k : ℕ) (s : SocketId) → IsLegal c past → fresh (length (places past)) i k ≡ kept_socket c (entry i k (reply.Opened s) ∷ past) (length (places past))
 new_fresh c past i k s legal =
     let n = length (places past) in
     let p : slice_get (places past ++ record { iface = i; capacity = k } ∷ []) (length (places past)) ≡ Some (record { iface = i; capacity = k }) = slice_get-push (places past) _ in
-    let q : queued_to c (entry i k (Ok s) ∷ past) (length (places past)) ≡ [] = queued_to-quiet c past (entry i k (Ok s)) n refl ∙ queued_to-not_yet c past n (omega arith) in
-    let d : dropped_at c (entry i k (Ok s) ∷ past) (length (places past)) ≡ [] = dropped_at-quiet c past (entry i k (Ok s)) n refl ∙ dropped_at-not_yet c past n (omega arith) in
+    let q : queued_to c (entry i k (reply.Opened s) ∷ past) (length (places past)) ≡ [] = queued_to-quiet c past (entry i k (reply.Opened s)) n refl ∙ queued_to-not_yet c past n (omega arith) in
+    let d : dropped_at c (entry i k (reply.Opened s) ∷ past) (length (places past)) ≡ [] = dropped_at-quiet c past (entry i k (reply.Opened s)) n refl ∙ dropped_at-not_yet c past n (omega arith) in
     let t : taken_from past (length (places past)) ≡ [] = taken_from-not_yet c past legal n (omega arith) in
     let f : filters_of past (length (places past)) ≡ receives_all = filters_of-not_yet c past legal n (omega arith) in
     let m : options_of past (length (places past)) ≡ default_options = options_of-not_yet c past legal n (omega arith) in
@@ -135,14 +134,14 @@ map_below c past g a b (x ∷ xs) h same =
     let rest : map g xs ≡ map (kept_socket c past) xs = map_below c past g (x + 1) b xs h.1 same in
     cc
 
-sockets-opened : (c : BusConfig) (past : List Entry) (i k : ℕ) (s : SocketId) → IsLegal c past → kept_sockets c past ++ fresh (length (places past)) i k ∷ [] ≡ kept_sockets c (entry i k (Ok s) ∷ past)
+sockets-opened : (c : BusConfig) (past : List Entry) (i k : ℕ) (s : SocketId) → IsLegal c past → kept_sockets c past ++ fresh (length (places past)) i k ∷ [] ≡ kept_sockets c (entry i k (reply.Opened s) ∷ past)
 unfolding kept_sockets
 sockets-opened c past i k s legal =
     ap (λ (v : SocketState). map (kept_socket c past) (open_sockets past) ++ v ∷ []) (new_fresh c past i k s legal)
-    ∙ ap (λ (vs : List SocketState). vs ++ kept_socket c (entry i k (Ok s) ∷ past) (length (places past)) ∷ []) (sym (map_below c past (kept_socket c (entry i k (Ok s) ∷ past)) 0 (length (places past)) (open_sockets past) (open_sockets-rise past) (old_same c past i k s)))
-    ∙ sym (map_push (kept_socket c (entry i k (Ok s) ∷ past)) (open_sockets past) (length (places past)))
+    ∙ ap (λ (vs : List SocketState). vs ++ kept_socket c (entry i k (reply.Opened s) ∷ past) (length (places past)) ∷ []) (sym (map_below c past (kept_socket c (entry i k (reply.Opened s) ∷ past)) 0 (length (places past)) (open_sockets past) (open_sockets-rise past) (old_same c past i k s)))
+    ∙ sym (map_push (kept_socket c (entry i k (reply.Opened s) ∷ past)) (open_sockets past) (length (places past)))
 
-still : (c : BusConfig) (past : List Entry) (i k : ℕ) (s : SocketId) → IsStill c past (entry i k (Ok s))
+still : (c : BusConfig) (past : List Entry) (i k : ℕ) (s : SocketId) → IsStill c past (entry i k (reply.Opened s))
 unfolding kept_lines kept_keys kept_nodes kept_left
 still c past i k s = record { of_lines = refl; of_keys = refl; of_nodes = refl; of_left = refl }
 
@@ -161,26 +160,26 @@ no_capacity k isnt = by (nat_le 1 k) (nat_le k 65536) refl refl
 opening : (c : BusConfig) (past : List Entry) (i k : ℕ) → i < c.ifaces → IsCapacity k → legal_reply c past (Open i k) ≡ (if nat_le 64 (length (open_sockets past)) then reply.Refused refusal.TooManySockets else reply.Opened (record { 0 = length (places past) }))
 opening c past i k lt is = cond-false (nat_le c.ifaces i) _ _ (lt-leb c.ifaces i lt) ∙ cond-false (not (nat_le 1 k && nat_le k 65536)) _ _ (capacity_test k is)
 
-lawful : (c : BusConfig) (past : List Entry) (i k : ℕ) (r : Result SocketId Refusal) (new : Parts) → (r ≡ Err refusal.NoMemory → ⊥) → Opens (kept_parts c past) i k r new → told reply.Opened r ≡ legal_reply c past (Open i k)
-lawful c past i k (Ok s) new remembers opens =
+lawful : (c : BusConfig) (past : List Entry) (i k : ℕ) (r : Reply) (new : Parts) → (r ≡ reply.Refused refusal.NoMemory → ⊥) → Opens (kept_parts c past) i k r new → r ≡ legal_reply c past (Open i k)
+lawful c past i k (reply.Opened s) new remembers opens =
     let below : i < c.ifaces = omega (arith, opens.0, count-kept c past) in
     let few : length (open_sockets past) < 64 = omega (arith, length-kept_sockets c past, opens.2) in
     ap (λ (w : SocketId). reply.Opened w) opens.3
     ∙ sym (opening c past i k below opens.1 ∙ cond-false (nat_le 64 (length (open_sockets past))) _ _ (lt-leb 64 (length (open_sockets past)) few))
-lawful c past i k (Err refusal.NoInterface) new remembers opens =
+lawful c past i k (reply.Refused refusal.NoInterface) new remembers opens =
     let beyond : c.ifaces ≤ i = omega (arith, opens.0, count-kept c past) in
     sym (cond-true (nat_le c.ifaces i) _ _ (le-leb c.ifaces i beyond))
-lawful c past i k (Err refusal.BadCapacity) new remembers opens =
+lawful c past i k (reply.Refused refusal.BadCapacity) new remembers opens =
     let below : i < c.ifaces = omega (arith, opens.0, count-kept c past) in
     sym (cond-false (nat_le c.ifaces i) _ _ (lt-leb c.ifaces i below) ∙ cond-true (not (nat_le 1 k && nat_le k 65536)) _ _ (no_capacity k opens.1))
-lawful c past i k (Err refusal.TooManySockets) new remembers opens =
+lawful c past i k (reply.Refused refusal.TooManySockets) new remembers opens =
     let below : i < c.ifaces = omega (arith, opens.0, count-kept c past) in
     let many : 64 ≤ length (open_sockets past) = omega (arith, length-kept_sockets c past, opens.2) in
     sym (opening c past i k below opens.1 ∙ cond-true (nat_le 64 (length (open_sockets past))) _ _ (le-leb 64 (length (open_sockets past)) many))
-lawful c past i k (Err refusal.NoMemory) new remembers opens = absurd (remembers refl)
-lawful c past i k (Err _) new remembers opens = absurd opens
+lawful c past i k (reply.Refused refusal.NoMemory) new remembers opens = absurd (remembers refl)
+lawful c past i k _ new remembers opens = absurd opens
 
-pub unopened : (old : Parts) (i k : ℕ) (why : Refusal) (new : Parts) → Opens old i k (Err why) new → new ≡ old
+pub unopened : (old : Parts) (i k : ℕ) (why : Refusal) (new : Parts) → Opens old i k (reply.Refused why) new → new ≡ old
 unopened old i k refusal.NoInterface new opens = opens.1
 unopened old i k refusal.BadCapacity new opens = opens.2
 unopened old i k refusal.TooManySockets new opens = opens.3
@@ -188,21 +187,16 @@ unopened old i k refusal.NoMemory new opens = opens.3
 unopened old i k _ new opens = absurd opens
 
 -- a socket that was opened, or a refusal but for want of memory, leaves what its entry leaves
-pub opened_follows : (c : BusConfig) (past : List Entry) (i k : ℕ) (r : Result SocketId Refusal) (new : Parts) → (r ≡ Err refusal.NoMemory → ⊥) → IsLegal c past → Opens (kept_parts c past) i k r new → Follows c past (entry i k r) new
-opened_follows c past i k (Ok s) new remembers legal opens =
-    follows_at_sockets c past (entry i k (Ok s)) new _ _ (lawful c past i k (Ok s) new remembers opens) (still c past i k s) refl (sym (length_push (places past) (record { iface = i; capacity = k }))) (sockets-opened c past i k s legal) opens.4
-opened_follows c past i k (Err why) new remembers legal opens = follows_refused c past (Open i k) why new tt (unopened (kept_parts c past) i k why new opens) (lawful c past i k (Err why) new remembers opens)
+pub opened_follows : (c : BusConfig) (past : List Entry) (i k : ℕ) (r : Reply) (new : Parts) → (r ≡ reply.Refused refusal.NoMemory → ⊥) → IsLegal c past → Opens (kept_parts c past) i k r new → Follows c past (entry i k r) new
+opened_follows c past i k (reply.Opened s) new remembers legal opens =
+    follows_at_sockets c past (entry i k (reply.Opened s)) new _ _ (lawful c past i k (reply.Opened s) new remembers opens) (still c past i k s) refl (sym (length_push (places past) (record { iface = i; capacity = k }))) (sockets-opened c past i k s legal) opens.4
+opened_follows c past i k (reply.Refused why) new remembers legal opens = follows_refused c past (Open i k) why new tt (unopened (kept_parts c past) i k why new opens) (lawful c past i k (reply.Refused why) new remembers opens)
+opened_follows c past i k _ new remembers legal opens = absurd opens
 
--- memory was refused: nothing changed, and nothing else refuses the call
-pub no_memory : (j : Kept) (before : Journal) (parts new : Parts) (i k : ℕ)
-    → ◌≡◌ {A = Journal} (record { config = j.config; history = j.history }) before → IsKept j parts → length j.history < j.config.limit
-    → Opens parts i k (Err refusal.NoMemory) new → Refuses before (Open i k) refusal.NoMemory (record { config = j.config; history = j.history })
-no_memory j before parts new i k view kept room opens =
-    let c = j.config in
-    let past = j.history in
-    let o : Opens (kept_parts c past) i k (Err refusal.NoMemory) new = subst (λ (p : Parts). Opens p i k (Err refusal.NoMemory) new) kept.of_parts opens in
-    let below : i < c.ifaces = omega (arith, o.0, count-kept c past) in
-    let few : length (open_sockets past) < 64 = omega (arith, length-kept_sockets c past, o.2) in
-    let granted : legal_reply c past (Open i k) ≡ reply.Opened (record { 0 = length (places past) }) = opening c past i k below o.1 ∙ cond-false (nat_le 64 (length (open_sockets past))) _ _ (lt-leb 64 (length (open_sockets past)) few) in
-    subst (λ (b : Journal). Refuses b (Open i k) refusal.NoMemory (record { config = c; history = past })) view
-    (room, subst (TakesMemory (Open i k)) (sym granted) tt, refl)
+-- memory was refused: nothing else refuses the call
+pub no_memory : (c : BusConfig) (past : List Entry) (i k : ℕ) (new : Parts) → Opens (kept_parts c past) i k (reply.Refused refusal.NoMemory) new → TakesMemory (Open i k) (legal_reply c past (Open i k))
+no_memory c past i k new opens =
+    let below : i < c.ifaces = omega (arith, opens.0, count-kept c past) in
+    let few : length (open_sockets past) < 64 = omega (arith, length-kept_sockets c past, opens.2) in
+    let granted : legal_reply c past (Open i k) ≡ reply.Opened (record { 0 = length (places past) }) = opening c past i k below opens.1 ∙ cond-false (nat_le 64 (length (open_sockets past))) _ _ (lt-leb 64 (length (open_sockets past)) few) in
+    subst (TakesMemory (Open i k)) (sym granted) tt

@@ -1,4 +1,4 @@
-use Rattle.std.proofs.Common.{◌≡◌, ◌≢◌, ℕ, ◌<◌, ◌≤◌, ◌==◌, nat_le, true, false, List, [], ◌∷◌, map, slice_set, None, Result, Ok, Err, refl, sym, ap, ◌∙◌, arith}
+use Rattle.std.proofs.Common.{◌≡◌, ◌≢◌, ℕ, ◌<◌, ◌≤◌, ◌==◌, nat_le, true, false, List, [], ◌∷◌, map, slice_set, None, refl, sym, ap, ◌∙◌, arith}
 use Rattle.std.specs.List.{range_with_len}
 use Rattle.std.proofs.lemmas.Bool.{eq-eqb, ne_eqb, cond-true, cond-false, le-leb, lt-leb}
 use Rattle.can_confine.specs.Confinement.{ErrorCounts, Step, all_stepped, at_start, is_off}
@@ -6,9 +6,9 @@ use Rattle.can_attempt.specs.declared.nodes.Nodes.{Nodes}
 use Rattle.can_event.specs.declared.events.BusConfig.{BusConfig}
 use Rattle.can_event.specs.declared.events.Entry.{Entry}
 use Rattle.can_event.specs.declared.events.Event.TheVariants.{Restart}
-use Rattle.can_event.specs.declared.events.Refusal.{Refusal}
+use Rattle.can_event.specs.declared.events.Reply.{Reply}
+use Rattle.can_event.specs.declared.events.Reply.TheVariants as reply
 use Rattle.can_event.specs.declared.events.Refusal.TheVariants as refusal
-use Rattle.can_bus.specs.Answer.{told, done_reply}
 use Rattle.can_bus.specs.Counters.{counts_of, steps_of, state_at}
 use Rattle.can_bus.specs.AutoRestart.{attempts_off, attempts_left, left_after}
 use Rattle.can_bus.specs.Posts.{restart_posts}
@@ -20,31 +20,31 @@ use Rattle.can_bus.proofs.Keeping.{Follows, follows_refused, parts-are}
 use Rattle.can_bus.proofs.KeyFacts.{sixteen-one}
 use Rattle.can_bus.proofs.NodeFacts.{is_off_at-kept}
 
-abbrev pub entry : ℕ → ℕ → Result (Unit {0}) Refusal → Entry
-entry i m r = record { event = Restart i m; reply = told done_reply r }
+abbrev pub entry : ℕ → ℕ → Reply → Entry
+entry i m r = record { event = Restart i m; reply = r }
 
-still : (c : BusConfig) (past : List Entry) (i m : ℕ) → (kept_lines c (entry i m (Ok tt) ∷ past) ≡ kept_lines c past) × (kept_keys (entry i m (Ok tt) ∷ past) ≡ kept_keys past)
+still : (c : BusConfig) (past : List Entry) (i m : ℕ) → (kept_lines c (entry i m reply.Done ∷ past) ≡ kept_lines c past) × (kept_keys (entry i m reply.Done ∷ past) ≡ kept_keys past)
 unfolding kept_lines kept_keys
 still c past i m = (refl, refl)
 
-counts-restarted : (c : BusConfig) (past : List Entry) (i m : ℕ) → counts_of c (entry i m (Ok tt) ∷ past) i ≡ at_start
+counts-restarted : (c : BusConfig) (past : List Entry) (i m : ℕ) → counts_of c (entry i m reply.Done ∷ past) i ≡ at_start
 counts-restarted c past i m = ap (λ (ss : List Step). all_stepped at_start ss) (cond-true (i == i) [] (steps_of c past i) (eq-eqb i i refl))
 
-counts-other : (c : BusConfig) (past : List Entry) (i m j : ℕ) → j ≢ i → counts_of c (entry i m (Ok tt) ∷ past) j ≡ counts_of c past j
+counts-other : (c : BusConfig) (past : List Entry) (i m j : ℕ) → j ≢ i → counts_of c (entry i m reply.Done ∷ past) j ≡ counts_of c past j
 counts-other c past i m j ne = ap (λ (ss : List Step). all_stepped at_start ss) (cond-false (i == j) [] (steps_of c past j) (ne_eqb i j (λ e. ne (sym e))))
 
-nodes-restarted : (c : BusConfig) (past : List Entry) (i m : ℕ) (old new : Nodes) → i < 16 → old ≡ kept_nodes c past → new ≡ record old { counters = slice_set old.counters i at_start } → new ≡ kept_nodes c (entry i m (Ok tt) ∷ past)
+nodes-restarted : (c : BusConfig) (past : List Entry) (i m : ℕ) (old new : Nodes) → i < 16 → old ≡ kept_nodes c past → new ≡ record old { counters = slice_set old.counters i at_start } → new ≡ kept_nodes c (entry i m reply.Done ∷ past)
 unfolding kept_nodes
 nodes-restarted c past i m old new lt are after =
     after
     ∙ ap (λ (n : Nodes). record n { counters = slice_set n.counters i at_start }) are
     ∙ ap (λ (k : ErrorCounts). record { count = c.ifaces; counters = slice_set (map (counts_of c past) (range_with_len 0 16)) i k }) (sym (counts-restarted c past i m))
-    ∙ ap (λ (ks : List ErrorCounts). record { count = c.ifaces; counters = ks }) (sym (sixteen-one (counts_of c past) (counts_of c (entry i m (Ok tt) ∷ past)) i 16 lt (counts-other c past i m)))
+    ∙ ap (λ (ks : List ErrorCounts). record { count = c.ifaces; counters = ks }) (sym (sixteen-one (counts_of c past) (counts_of c (entry i m reply.Done ∷ past)) i 16 lt (counts-other c past i m)))
 
-left-restarted : (c : BusConfig) (past : List Entry) (i m : ℕ) → i < 16 → slice_set (kept_left c past) i 0 ≡ kept_left c (entry i m (Ok tt) ∷ past)
+left-restarted : (c : BusConfig) (past : List Entry) (i m : ℕ) → i < 16 → slice_set (kept_left c past) i 0 ≡ kept_left c (entry i m reply.Done ∷ past)
 unfolding kept_left
 left-restarted c past i m lt =
-    let e = entry i m (Ok tt) in
+    let e = entry i m reply.Done in
     let here : attempts_left c (e ∷ past) i ≡ 0 = ap (left_after c.auto_restart) (cond-true (i == i) None (attempts_off past i) (eq-eqb i i refl)) in
     let others : (j : ℕ) → j ≢ i → attempts_left c (e ∷ past) j ≡ attempts_left c past j =
     λ j ne. ap (left_after c.auto_restart) (cond-false (i == j) None (attempts_off past j) (ne_eqb i j (λ e. ne (sym e)))) in
@@ -52,9 +52,9 @@ left-restarted c past i m lt =
     ∙ sym (sixteen-one (attempts_left c past) (attempts_left c (e ∷ past)) i 16 lt others)
 
 -- a restart, or its refusal, leaves what its entry leaves
-pub restarted_follows : (c : BusConfig) (past : List Entry) (i m : ℕ) (r : Result (Unit {0}) Refusal) (new : Parts) → IsLegal c past → c.ifaces ≤ 16 → Restarts (kept_parts c past) i m r new → Follows c past (entry i m r) new
-restarted_follows c past i m (Ok done) new legal few restarts =
-    let e = entry i m (Ok tt) in
+pub restarted_follows : (c : BusConfig) (past : List Entry) (i m : ℕ) (r : Reply) (new : Parts) → IsLegal c past → c.ifaces ≤ 16 → Restarts (kept_parts c past) i m r new → Follows c past (entry i m r) new
+restarted_follows c past i m reply.Done new legal few restarts =
+    let e = entry i m reply.Done in
     let old = kept_parts c past in
     let below : i < c.ifaces = omega (arith, restarts.0, count-kept c past) in
     let few_i : i < 16 = omega arith in
@@ -68,12 +68,12 @@ restarted_follows c past i m (Ok done) new legal few restarts =
           (sockets-told c past e (restart_posts i m) (kept_sockets c past) _ legal refl (λ j. refl) refl refl (λ o. refl) (λ o. refl) (λ o. refl) refl)
           refl refl;
     }
-restarted_follows c past i m (Err refusal.NoInterface) new legal few restarts =
+restarted_follows c past i m (reply.Refused refusal.NoInterface) new legal few restarts =
     let beyond : c.ifaces ≤ i = omega (arith, restarts.0, count-kept c past) in
     follows_refused c past (Restart i m) refusal.NoInterface new tt restarts.1 (sym (cond-true (nat_le c.ifaces i) _ _ (le-leb c.ifaces i beyond)))
-restarted_follows c past i m (Err refusal.NotBusOff) new legal few restarts =
+restarted_follows c past i m (reply.Refused refusal.NotBusOff) new legal few restarts =
     let below : i < c.ifaces = omega (arith, restarts.0, count-kept c past) in
     let few_i : i < 16 = omega arith in
     let live : is_off (state_at c past i) ≡ false = sym (is_off_at-kept c past i few_i) ∙ restarts.1 in
     follows_refused c past (Restart i m) refusal.NotBusOff new tt restarts.2 (sym (cond-false (nat_le c.ifaces i) _ _ (lt-leb c.ifaces i below) ∙ cond-false (is_off (state_at c past i)) _ _ live))
-restarted_follows c past i m (Err _) new legal few restarts = absurd restarts
+restarted_follows c past i m _ new legal few restarts = absurd restarts

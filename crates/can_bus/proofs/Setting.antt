@@ -1,4 +1,4 @@
-use Rattle.std.proofs.Common.{◌≡◌, ◌≢◌, ℕ, ◌==◌, List, ◌∷◌, length, Result, Ok, Err, if◌then◌else◌, refl, sym, ap, ◌∙◌}
+use Rattle.std.proofs.Common.{◌≡◌, ◌≢◌, ℕ, ◌==◌, List, ◌∷◌, length, if◌then◌else◌, refl, sym, ap, ◌∙◌}
 use Rattle.std.proofs.lemmas.Bool.{eq-eqb, ne_eqb, cond-true, cond-false}
 use Rattle.can_filter.specs.Filters.{CanFilter}
 use Rattle.can_event.specs.declared.events.Entry.{Entry}
@@ -7,10 +7,10 @@ use Rattle.can_event.specs.declared.events.Event.{Event}
 use Rattle.can_event.specs.declared.events.Event.TheVariants.{SetFilters, SetOption}
 use Rattle.can_event.specs.declared.events.Opt.{Opt}
 use Rattle.can_event.specs.declared.events.Refusal.{Refusal}
+use Rattle.can_event.specs.declared.events.Reply.{Reply}
 use Rattle.can_event.specs.declared.events.Reply.TheVariants as reply
 use Rattle.can_event.specs.declared.events.Refusal.TheVariants as refusal
 use Rattle.can_event.specs.declared.events.SocketId.{SocketId}
-use Rattle.can_bus.specs.Answer.{told, done_reply}
 use Rattle.can_bus.specs.Sockets.{places, open_sockets, is_open, filters_of, options_of}
 use Rattle.can_event.specs.Events.{with_option}
 use Rattle.can_bus.specs.Legal.{legal_reply}
@@ -21,8 +21,8 @@ use Rattle.can_bus.proofs.Opened.{IsThere-stands}
 use Rattle.can_bus.proofs.Quiet.{queued_to-quiet, dropped_at-quiet}
 use Rattle.can_bus.proofs.SocketFacts.{kept_sockets-one, follows_at_sockets, none_follows}
 
-abbrev pub entry : Event → Result (Unit {0}) Refusal → Entry
-entry e r = record { event = e; reply = told done_reply r }
+abbrev pub entry : Event → Reply → Entry
+entry e r = record { event = e; reply = r }
 
 abbrev done_entry : Event → Entry
 done_entry e = record { event = e; reply = reply.Done }
@@ -37,13 +37,14 @@ record IsSetting (c : BusConfig) (past : List Entry) (e : Event) (s : ℕ) (chan
   others : (o : ℕ) → o ≢ s → kept_socket c (done_entry e ∷ past) o ≡ kept_socket c past o
   here : change (kept_socket c past s) ≡ kept_socket c (done_entry e ∷ past) s
 
-set_follows : (c : BusConfig) (past : List Entry) (e : Event) (s : ℕ) (change : SocketState → SocketState) (r : Result (Unit {0}) Refusal) (new : Parts) → IsSetting c past e s change → Sets (kept_parts c past) s change r new → Follows c past (entry e r) new
-set_follows c past e s change (Ok done) new is alters =
+set_follows : (c : BusConfig) (past : List Entry) (e : Event) (s : ℕ) (change : SocketState → SocketState) (r : Reply) (new : Parts) → IsSetting c past e s change → Sets (kept_parts c past) s change r new → Follows c past (entry e r) new
+set_follows c past e s change reply.Done new is alters =
     let at = IsThere-stands c past (kept_sockets c past) s alters.place alters.socket refl alters.stands in
     follows_at_sockets c past (done_entry e) new _ _ (sym (is.answers ∙ cond-true (is_open past s) _ _ at.is_there)) is.still refl (ap length (sym is.of_places))
     (kept_sockets-one c past (done_entry e) (kept_sockets c past) _ s alters.place alters.socket change refl is.of_open alters.stands is.others is.here refl)
     alters.after
-set_follows c past e s change (Err why) new is none = none_follows c past e s _ why new is.answers (is.uncounted why) none
+set_follows c past e s change (reply.Refused why) new is none = none_follows c past e s _ why new is.answers (is.uncounted why) none
+set_follows c past e s change _ new is sets = absurd sets
 
 -- ---- filters
 
@@ -69,7 +70,7 @@ sets-filters : (c : BusConfig) (past : List Entry) (s : SocketId) (fs : List Can
 sets-filters c past s fs = record { answers = refl; still = still-filters c past s fs; uncounted = λ why. tt; of_open = refl; of_places = refl; others = others-filters c past s fs; here = here-filters c past s fs }
 
 -- filters that were set, or a refusal, leave what their entry leaves
-pub filters_follow : (c : BusConfig) (past : List Entry) (s : SocketId) (fs : List CanFilter) (r : Result (Unit {0}) Refusal) (new : Parts) → Sets (kept_parts c past) s.0 (λ v. record v { filters = fs }) r new → Follows c past (entry (SetFilters s fs) r) new
+pub filters_follow : (c : BusConfig) (past : List Entry) (s : SocketId) (fs : List CanFilter) (r : Reply) (new : Parts) → Sets (kept_parts c past) s.0 (λ v. record v { filters = fs }) r new → Follows c past (entry (SetFilters s fs) r) new
 filters_follow c past s fs r new sets = set_follows c past (SetFilters s fs) s.0 (λ v. record v { filters = fs }) r new (sets-filters c past s fs) sets
 
 -- ---- options
@@ -96,5 +97,5 @@ sets-option : (c : BusConfig) (past : List Entry) (s : SocketId) (option : Opt) 
 sets-option c past s option = record { answers = refl; still = still-option c past s option; uncounted = λ why. tt; of_open = refl; of_places = refl; others = others-option c past s option; here = here-option c past s option }
 
 -- an option that was set, or a refusal, leaves what its entry leaves
-pub option_follows : (c : BusConfig) (past : List Entry) (s : SocketId) (option : Opt) (r : Result (Unit {0}) Refusal) (new : Parts) → Sets (kept_parts c past) s.0 (λ v. record v { options = with_option option v.options }) r new → Follows c past (entry (SetOption s option) r) new
+pub option_follows : (c : BusConfig) (past : List Entry) (s : SocketId) (option : Opt) (r : Reply) (new : Parts) → Sets (kept_parts c past) s.0 (λ v. record v { options = with_option option v.options }) r new → Follows c past (entry (SetOption s option) r) new
 option_follows c past s option r new sets = set_follows c past (SetOption s option) s.0 (λ v. record v { options = with_option option v.options }) r new (sets-option c past s option) sets

@@ -1,5 +1,6 @@
 use Rattle.std.specs.Prelude.{◌≡◌, ℕ, ◌+◌, ◌-◌, ◌==◌, ◌<◌, ◌≤◌, Bool, true, false, List, [], ◌∷◌, ◌++◌, length, map, drop, remove, slice_get, slice_set, slice_index_or, is_some, Option, Some, None, Result, Ok, Err, if◌then◌else◌}
 use Rattle.std.specs.List.{list_any, range_with_len}
+use Rattle.can_filter.specs.Filters.{CanFilter}
 use Rattle.can_filter.specs.Passing.{receives_all, default_options}
 use Rattle.can_frame.specs.Sets.{is_in, set_where}
 use Rattle.can_frame.specs.declared.ifaces.IfaceSet.{IfaceSet}
@@ -14,7 +15,8 @@ use Rattle.can_event.specs.declared.events.Attempt.TheVariants as attempt
 use Rattle.can_event.specs.declared.events.BusConfig.{BusConfig}
 use Rattle.can_event.specs.declared.events.Received.{Received}
 use Rattle.can_event.specs.declared.events.Closed.{Closed}
-use Rattle.can_event.specs.declared.events.SocketId.{SocketId}
+use Rattle.can_event.specs.declared.events.Reply.{Reply}
+use Rattle.can_event.specs.declared.events.Reply.TheVariants as reply
 use Rattle.can_event.specs.declared.events.Tried.{Tried}
 use Rattle.can_event.specs.declared.events.Pending.{Pending}
 use Rattle.can_event.specs.declared.events.Refusal.{Refusal}
@@ -54,9 +56,15 @@ pub record Alters (old : Parts) (s : ℕ) (change : SocketState → SocketState)
   pub after : new ≡ record old { sockets = slice_set old.sockets place (change socket) }
 
 -- a socket's filters or options are set
-abbrev pub Sets : Parts → ℕ → (SocketState → SocketState) → Result (Unit {0}) Refusal → Parts → Type 0
-Sets old s change (Ok done) new = Alters old s change new
-Sets old s change (Err why) new = FindsNone old s why new
+abbrev pub Sets : Parts → ℕ → (SocketState → SocketState) → Reply → Parts → Type 0
+Sets old s change reply.Done new = Alters old s change new
+Sets old s change (reply.Refused why) new = FindsNone old s why new
+Sets old s change _ new = ⊥
+
+-- the filters of a socket are set, unless memory was refused
+abbrev pub Refilters : Parts → ℕ → List CanFilter → Reply → Parts → Type 0
+Refilters old s filters (reply.Refused refusal.NoMemory) new = new ≡ old
+Refilters old s filters r new = Sets old s (λ v. record v { filters = filters }) r new
 
 pub record Gives (old : Parts) (s : ℕ) (item : Option Received) (new : Parts) : Type 0 where
   pub place : ℕ
@@ -78,9 +86,10 @@ pub record Removes (old : Parts) (s : ℕ) (c : Closed) (new : Parts) : Type 0 w
   pub after : new ≡ record old { sockets = remove old.sockets place }
 
 -- a socket is closed
-abbrev pub Closes : Parts → ℕ → Result Closed Refusal → Parts → Type 0
-Closes old s (Ok c) new = Removes old s c new
-Closes old s (Err why) new = FindsNone old s why new
+abbrev pub Closes : Parts → ℕ → Reply → Parts → Type 0
+Closes old s (reply.Closed c) new = Removes old s c new
+Closes old s (reply.Refused why) new = FindsNone old s why new
+Closes old s _ new = ⊥
 
 abbrev pub IsCapacity : ℕ → Type 0
 IsCapacity n = (1 ≤ n) × (n ≤ 65536)
@@ -94,13 +103,13 @@ abbrev pub with_socket : Parts → ℕ → ℕ → Parts
 with_socket old i capacity = record old { sockets = old.sockets ++ fresh old.opened i capacity ∷ []; opened = old.opened + 1 }
 
 -- a socket is opened
-abbrev pub Opens : Parts → ℕ → ℕ → Result SocketId Refusal → Parts → Type 0
-Opens old i capacity (Ok s) new = (i < old.nodes.count) × IsCapacity capacity × (length old.sockets < 64) × (s ≡ record { 0 = old.opened }) × (new ≡ with_socket old i capacity)
-Opens old i capacity (Err refusal.NoInterface) new = (old.nodes.count ≤ i) × (new ≡ old)
-Opens old i capacity (Err refusal.BadCapacity) new = (i < old.nodes.count) × ¬ IsCapacity capacity × (new ≡ old)
-Opens old i capacity (Err refusal.TooManySockets) new = (i < old.nodes.count) × IsCapacity capacity × (64 ≤ length old.sockets) × (new ≡ old)
-Opens old i capacity (Err refusal.NoMemory) new = (i < old.nodes.count) × IsCapacity capacity × (length old.sockets < 64) × (new ≡ old)
-Opens old i capacity (Err _) new = ⊥
+abbrev pub Opens : Parts → ℕ → ℕ → Reply → Parts → Type 0
+Opens old i capacity (reply.Opened s) new = (i < old.nodes.count) × IsCapacity capacity × (length old.sockets < 64) × (s ≡ record { 0 = old.opened }) × (new ≡ with_socket old i capacity)
+Opens old i capacity (reply.Refused refusal.NoInterface) new = (old.nodes.count ≤ i) × (new ≡ old)
+Opens old i capacity (reply.Refused refusal.BadCapacity) new = (i < old.nodes.count) × ¬ IsCapacity capacity × (new ≡ old)
+Opens old i capacity (reply.Refused refusal.TooManySockets) new = (i < old.nodes.count) × IsCapacity capacity × (64 ≤ length old.sockets) × (new ≡ old)
+Opens old i capacity (reply.Refused refusal.NoMemory) new = (i < old.nodes.count) × IsCapacity capacity × (length old.sockets < 64) × (new ≡ old)
+Opens old i capacity _ new = ⊥
 
 -- ---- sending
 
@@ -238,8 +247,8 @@ abbrev pub after_restart : Parts → ℕ → ℕ → Parts
 after_restart old i m = record old { nodes = record old.nodes { counters = slice_set old.nodes.counters i at_start }; left = slice_set old.left i 0; sockets = map (reached (restart_posts i m)) old.sockets }
 
 -- an interface is restarted
-abbrev pub Restarts : Parts → ℕ → ℕ → Result (Unit {0}) Refusal → Parts → Type 0
-Restarts old i m (Ok done) new = (i < old.nodes.count) × (is_off_at old.nodes i ≡ true) × (new ≡ after_restart old i m)
-Restarts old i m (Err refusal.NoInterface) new = (old.nodes.count ≤ i) × (new ≡ old)
-Restarts old i m (Err refusal.NotBusOff) new = (i < old.nodes.count) × (is_off_at old.nodes i ≡ false) × (new ≡ old)
-Restarts old i m (Err _) new = ⊥
+abbrev pub Restarts : Parts → ℕ → ℕ → Reply → Parts → Type 0
+Restarts old i m reply.Done new = (i < old.nodes.count) × (is_off_at old.nodes i ≡ true) × (new ≡ after_restart old i m)
+Restarts old i m (reply.Refused refusal.NoInterface) new = (old.nodes.count ≤ i) × (new ≡ old)
+Restarts old i m (reply.Refused refusal.NotBusOff) new = (i < old.nodes.count) × (is_off_at old.nodes i ≡ false) × (new ≡ old)
+Restarts old i m _ new = ⊥

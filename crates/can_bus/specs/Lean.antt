@@ -3,8 +3,6 @@ use Rattle.can_event.specs.declared.events.BusConfig.{BusConfig}
 use Rattle.can_event.specs.declared.events.Entry.{Entry}
 use Rattle.can_event.specs.declared.events.Event.{Event}
 use Rattle.can_event.specs.declared.events.Reply.{Reply}
-use Rattle.can_event.specs.declared.events.Reply.TheVariants as reply
-use Rattle.can_event.specs.Spelled.{LeavesEntry}
 use Rattle.can_bus.specs.Journal.{Kept}
 use Rattle.can_bus.specs.Run.{IsAnswer, history_after}
 use Rattle.can_bus.specs.State.{Parts, IsKept}
@@ -41,8 +39,3 @@ pub record IsReady (c : BusConfig) (parts : Parts) : Type 0 where
 pub record Carries (c : BusConfig) (past : List Entry) (e : Event) (r : Reply) (parts : Parts) : Type 0 where
   pub answer : IsAnswer c past e r
   pub after : IsKept (record_of c (history_after e r past)) parts
-
--- a reply that enters the record: no refusal for a full record or for want of memory
-abbrev pub Enters : Reply → Type 0
-Enters (reply.Refused why) = LeavesEntry why
-Enters _ = Unit {0}

@@ -26,3 +26,4 @@ pub use Rattle.can_frame.specs.Sets
 pub use Rattle.can_filter.specs.Passing
 pub use Rattle.can_event.specs.Events
 pub use Rattle.can_event.specs.Spelled
+pub use Rattle.can_event.specs.Replies

@@ -10,7 +10,7 @@ use crate::state::State;
 use can_arbiter::Arbiter;
 use can_attempt::{Judgement, Nodes, judge};
 use can_confine::Counters;
-use can_event::{Attempt, BusConfig, Pending, Received, Refusal, Tried};
+use can_event::{Attempt, BusConfig, Pending, Received, Refusal, Reply, Tried};
 use can_fault::Verdict;
 use can_frame::{Iface, IfaceSet, Moment};
 use can_queue::BoundedQueue;
@@ -131,25 +131,25 @@ impl<T: BoundedQueue<Pending>, R: BoundedQueue<Received>, A: Arbiter> State<T, R
         self.restart_all(restarted, moment);
         match tried {
             Some(tried) => Attempt::Tried(tried),
-            None => Attempt::Idle(restarted),
+            None => Attempt::Idle { restarted },
         }
     }
 
     /// Restarts an interface that is bus off, and tells the sockets.
-    pub fn restart(&mut self, iface: Iface, moment: Moment) -> Result<(), Refusal>
+    pub fn restart(&mut self, iface: Iface, moment: Moment) -> Reply
         requires { All (λ v. v.dropped + 1 < 2 ^ 64) self.old.sockets }
         ensures { Restarts self.old iface moment result self.new }
     {
         let place = iface.number();
         if place >= self.nodes.count {
-            return Err(Refusal::NoInterface);
+            return Reply::Refused(Refusal::NoInterface);
         }
         if !self.nodes.is_off(iface) {
-            return Err(Refusal::NotBusOff);
+            return Reply::Refused(Refusal::NotBusOff);
         }
         self.nodes.counters[place as usize] = Counters::zero();
         self.countdown.stop(iface);
         posting::tell_restart(&mut self.sockets, iface, moment);
-        Ok(())
+        Reply::Done
     }
 }

@@ -1,19 +1,19 @@
-ghost use Rattle.std.specs.Prelude.{◌≡◌, [], length, IfOk, OnOk, ◌↔◌};
+ghost use Rattle.std.specs.Prelude.{◌≡◌, ◌<◌, [], length, IfOk, OnOk, ◌↔◌};
 ghost use Rattle.can_bus.specs.Answer.{Answers, done_reply, told_attempt};
 ghost use Rattle.can_bus.specs.Attempts.{winner};
 ghost use Rattle.can_bus.specs.AutoRestart.{is_counting};
 ghost use Rattle.can_bus.specs.Headline.{Headline};
 ghost use Rattle.can_event.specs.Events.{IsConfig};
+ghost use Rattle.can_event.specs.Replies.{Suits};
 ghost use Rattle.can_bus.specs.Legal.{IsLegal};
+ghost use Rattle.can_bus.specs.Run.{IsAnswer, history_after};
 ghost use Rattle.can_bus.specs.Stats.{socket_stats_of, iface_stats_of, all_counts};
 ghost use Rattle.can_bus.specs.Transmit.{tape};
 ghost use Rattle.can_event.specs.declared.events.Event.TheVariants as event;
 ghost use Rattle.can_event.specs.declared.events.Reply.TheVariants as reply;
 
 use crate::records::Record;
-use crate::replies::{
-    attempt_reply, closed_reply, done_reply, is_no_memory, opened_reply, received_reply, sent_reply,
-};
+use crate::replies::{attempt_reply, received_reply, sent_reply};
 use crate::state::State;
 use can_arbiter::{Arbiter, IndexArbiter, ScanArbiter};
 use can_confine::Counters;
@@ -25,7 +25,7 @@ use can_fault::Verdict;
 use can_filter::FilterSet;
 use can_frame::{Frame, Iface, Moment};
 use can_queue::{BoundedQueue, ListQueue, RingQueue};
-use std::alloc::Global;
+use std::alloc::{AllocError, Global};
 use std::marker::Model;
 use thiserror::Error;
 
@@ -51,6 +51,7 @@ pub enum BusFault {
 /// frame, the transmit queues and the places of 64 sockets. A call on a socket looks through the open ones, at most 64.
 #[derive(Drop)]
 pub struct Bus<T: BoundedQueue<Pending>, R: BoundedQueue<Received>, A: Arbiter> {
+    alloc: Global,
     record: Record,
     state: State<T, R, A>,
 }
@@ -72,6 +73,15 @@ impl<T: BoundedQueue<Pending>, R: BoundedQueue<Received>, A: Arbiter> Model for 
     ghost invariant = { λ b. IsKept b.record b.state };
 }
 
+/// The entry of a socket's filters that are set to a copy of these, in memory of its own.
+fn filters_entry(alloc: Global, id: SocketId, filters: &FilterSet) -> Result<Box<Entry>, AllocError>
+    ensures { IfOk result (λ entry. entry.value ≡ record { event = event.SetFilters id filters.now; reply = reply.Done }) }
+{
+    let event = Event::SetFilters(id, filters.try_copy(alloc)?);
+    let reply = Reply::Done;
+    Ok(Box::new(alloc, Entry { event, reply })?)
+}
+
 impl<T: BoundedQueue<Pending>, R: BoundedQueue<Received>, A: Arbiter> Bus<T, R, A> {
     /// A bus on which nothing was done. It takes memory for all of `limit` entries.
     pub fn new(alloc: Global, config: BusConfig) -> Result<Bus<T, R, A>, BusFault>
@@ -88,7 +98,11 @@ impl<T: BoundedQueue<Pending>, R: BoundedQueue<Received>, A: Arbiter> Bus<T, R, 
         let Ok(record) = Record::new(alloc, config) else {
             return Err(BusFault::NoMemory);
         };
-        Ok(Bus { record, state })
+        Ok(Bus {
+            alloc,
+            record,
+            state,
+        })
     }
 
     /// The bus's record: its configuration, and each event with its reply.
@@ -119,6 +133,49 @@ impl<T: BoundedQueue<Pending>, R: BoundedQueue<Received>, A: Arbiter> Bus<T, R, 
         self.state.tried()
     }
 
+    /// Carries out an event, and returns its reply. A refusal is a reply as well.
+    ///
+    /// The event enters the record with its reply, unless that is `RecordFull` or `NoMemory`: then nothing has changed.
+    /// Memory is taken for `Open` and `SetFilters` alone. It costs what the event's own call does.
+    pub fn answer(&mut self, alloc: Global, event: &Event) -> Reply
+        ensures answer { IsAnswer self.old.config self.old.history event.now result }
+        ensures after { self.new ≡ record self.old { history = history_after event.now result self.old.history } }
+        ensures suits { Suits event.now result }
+    {
+        if self.record.is_full() {
+            return Reply::Refused(Refusal::RecordFull);
+        }
+        if let Event::SetFilters(id, filters) = event {
+            return self.answer_filters(alloc, *id, filters);
+        }
+        let reply = self.state.answer(alloc, self.record.config(), event);
+        if !reply.enters() {
+            return reply;
+        }
+        self.record.push(event, &reply);
+        reply
+    }
+
+    // Sets the filters of a socket where the record has room: all memory is taken before anything changes.
+    #[inline(never)]
+    fn answer_filters(&mut self, alloc: Global, id: SocketId, filters: &FilterSet) -> Reply
+        requires room { length self.old.history < self.old.config.limit }
+        ensures answer { IsAnswer self.old.config self.old.history (event.SetFilters id filters.now) result }
+        ensures after { self.new ≡ record self.old { history = history_after (event.SetFilters id filters.now) result self.old.history } }
+        ensures suits { Suits (event.SetFilters id filters.now) result }
+    {
+        let Ok(mut entry) = filters_entry(alloc, id, filters) else {
+            return Reply::Refused(Refusal::NoMemory);
+        };
+        let reply = self.state.answer(alloc, self.record.config(), &entry.event);
+        if !reply.enters() {
+            return reply;
+        }
+        entry.reply = reply;
+        self.record.push_boxed(entry);
+        reply
+    }
+
     /// Opens a socket on an interface, where `capacity` items may wait.
     ///
     /// Refusals, in this order: `RecordFull`, `NoInterface`, `BadCapacity` outside 1 to 65,536,
@@ -126,16 +183,11 @@ impl<T: BoundedQueue<Pending>, R: BoundedQueue<Received>, A: Arbiter> Bus<T, R, 
     pub fn open(&mut self, alloc: Global, iface: Iface, capacity: u32) -> Result<SocketId, Refusal>
         ensures { Answers reply.Opened self.old (event.Open iface capacity) result self.new }
     {
-        if self.record.is_full() {
-            return Err(Refusal::RecordFull);
+        match self.answer(alloc, &Event::Open(iface, capacity)) {
+            Reply::Opened(id) => Ok(id),
+            Reply::Refused(why) => Err(why),
+            _ => unreachable!(),
         }
-        let outcome = self.state.open(alloc, iface, capacity);
-        if is_no_memory(&outcome) {
-            return Err(Refusal::NoMemory);
-        }
-        self.record
-            .push(Event::Open(iface, capacity), opened_reply(&outcome));
-        outcome
     }
 
     /// Closes a socket, and counts what nobody took and what found no room.
@@ -144,12 +196,11 @@ impl<T: BoundedQueue<Pending>, R: BoundedQueue<Received>, A: Arbiter> Bus<T, R, 
     pub fn close(&mut self, id: SocketId) -> Result<Closed, Refusal>
         ensures { Answers reply.Closed self.old (event.Close id) result self.new }
     {
-        if self.record.is_full() {
-            return Err(Refusal::RecordFull);
+        match self.answer(self.alloc, &Event::Close(id)) {
+            Reply::Closed(counts) => Ok(counts),
+            Reply::Refused(why) => Err(why),
+            _ => unreachable!(),
         }
-        let outcome = self.state.close(id);
-        self.record.push(Event::Close(id), closed_reply(&outcome));
-        outcome
     }
 
     /// Sets the filters of a socket, to a copy of these.
@@ -167,36 +218,22 @@ impl<T: BoundedQueue<Pending>, R: BoundedQueue<Received>, A: Arbiter> Bus<T, R, 
         if self.record.is_full() {
             return Err(Refusal::RecordFull);
         }
-        let Ok(kept) = filters.try_compile(alloc) else {
-            return Err(Refusal::NoMemory);
-        };
-        let Ok(noted) = filters.try_copy(alloc) else {
-            return Err(Refusal::NoMemory);
-        };
-        let done = Entry {
-            event: Event::SetFilters(id, noted),
-            reply: Reply::Done,
-        };
-        let Ok(mut entry) = Box::new(alloc, done) else {
-            return Err(Refusal::NoMemory);
-        };
-        let outcome = self.state.set_filters(id, kept);
-        entry.reply = done_reply(&outcome);
-        self.record.push_boxed(entry);
-        outcome
+        match self.answer_filters(alloc, id, filters) {
+            Reply::Done => Ok(()),
+            Reply::Refused(why) => Err(why),
+            _ => unreachable!(),
+        }
     }
 
     /// Sets an option of a socket. Refusals: `RecordFull`, `NoSocket`.
     pub fn set_option(&mut self, id: SocketId, option: Opt) -> Result<(), Refusal>
         ensures { Answers done_reply self.old (event.SetOption id option) result self.new }
     {
-        if self.record.is_full() {
-            return Err(Refusal::RecordFull);
+        match self.answer(self.alloc, &Event::SetOption(id, option)) {
+            Reply::Done => Ok(()),
+            Reply::Refused(why) => Err(why),
+            _ => unreachable!(),
         }
-        let outcome = self.state.set_option(id, option);
-        self.record
-            .push(Event::SetOption(id, option), done_reply(&outcome));
-        outcome
     }
 
     /// Puts a frame into the transmit queue of the socket's interface, and answers its number there.
@@ -211,7 +248,7 @@ impl<T: BoundedQueue<Pending>, R: BoundedQueue<Received>, A: Arbiter> Bus<T, R, 
         }
         let outcome = self.state.send(id, frame);
         self.record
-            .push(Event::Send(id, frame), sent_reply(&outcome));
+            .push(&Event::Send(id, frame), &sent_reply(&outcome));
         outcome
     }
 
@@ -226,7 +263,7 @@ impl<T: BoundedQueue<Pending>, R: BoundedQueue<Received>, A: Arbiter> Bus<T, R, 
         }
         let outcome = self.state.receive(id);
         self.record
-            .push(Event::Receive(id), received_reply(&outcome));
+            .push(&Event::Receive(id), &received_reply(&outcome));
         outcome
     }
 
@@ -244,7 +281,7 @@ impl<T: BoundedQueue<Pending>, R: BoundedQueue<Received>, A: Arbiter> Bus<T, R, 
         let config = self.record.config();
         let attempt = self.state.attempt(config, moment, verdict);
         self.record
-            .push(Event::Attempt(moment, verdict), attempt_reply(&attempt));
+            .push(&Event::Attempt(moment, verdict), &attempt_reply(&attempt));
         Ok(attempt)
     }
 
@@ -254,13 +291,11 @@ impl<T: BoundedQueue<Pending>, R: BoundedQueue<Received>, A: Arbiter> Bus<T, R, 
     pub fn restart(&mut self, iface: Iface, moment: Moment) -> Result<(), Refusal>
         ensures { Answers done_reply self.old (event.Restart iface moment) result self.new }
     {
-        if self.record.is_full() {
-            return Err(Refusal::RecordFull);
+        match self.answer(self.alloc, &Event::Restart(iface, moment)) {
+            Reply::Done => Ok(()),
+            Reply::Refused(why) => Err(why),
+            _ => unreachable!(),
         }
-        let outcome = self.state.restart(iface, moment);
-        self.record
-            .push(Event::Restart(iface, moment), done_reply(&outcome));
-        outcome
     }
 
     /// How many items found room on an open socket, found none, and were taken. No event.

@@ -68,10 +68,10 @@ impl Held {
 
     /// Adds an entry that is not wide to those of a bus. No memory is taken.
     #[inline(always)]
-    pub fn push(&mut self, event: Event, reply: Reply)
+    pub fn push(&mut self, event: &Event, reply: &Reply)
         requires room { length (entries_in self.old) < room_in self.old }
-        requires fits { is_wide event reply ≡ false }
-        ensures more { entries_in self.new ≡ entries_in self.old ++ record { event = event; reply = reply } ∷ [] }
+        requires fits { is_wide event.now reply.now ≡ false }
+        ensures more { entries_in self.new ≡ entries_in self.old ++ record { event = event.now; reply = reply.now } ∷ [] }
         ensures room { room_in self.old ≤ room_in self.new }
     {
         match self {

@@ -1,20 +1,15 @@
-ghost use Rattle.std.specs.Prelude.{◌≡◌, ◌<◌, [], Err, List, length, IfOk, OnOk, ◌↔◌};
-ghost use Rattle.can_bus.specs.Lean.{Carries, Enters, IsReady, Stands, record_of};
+ghost use Rattle.std.specs.Prelude.{◌≡◌, [], Err, List, IfOk, OnOk, ◌↔◌};
+ghost use Rattle.can_bus.specs.Lean.{Stands};
 ghost use Rattle.can_bus.specs.Run.{IsAnswer, history_after};
-ghost use Rattle.can_bus.specs.State.{IsKept};
 ghost use Rattle.can_event.specs.Events.{IsConfig};
+ghost use Rattle.can_event.specs.Replies.{Enters};
 ghost use Rattle.can_event.specs.Spelled.{IsSpelled};
 ghost use Rattle.can_event.specs.declared.events.Entry.{Entry as AnEntry};
-ghost use Rattle.can_event.specs.declared.events.Event.TheVariants as event;
 
 use crate::buses::BusFault;
-use crate::replies::{
-    attempt_reply, closed_reply, done_reply, is_no_memory, opened_reply, received_reply, sent_reply,
-};
 use crate::state::State;
 use can_arbiter::{Arbiter, IndexArbiter};
 use can_event::{BusConfig, Event, Pending, Received, Refusal, Reply};
-use can_frame::Iface;
 use can_queue::{BoundedQueue, RingQueue};
 use std::alloc::Global;
 use std::marker::Model;
@@ -78,46 +73,10 @@ impl<T: BoundedQueue<Pending>, R: BoundedQueue<Received>, A: Arbiter> LeanBus<T,
         if self.count >= self.config.limit {
             return Reply::Refused(Refusal::RecordFull);
         }
-        let reply = self.state.carry_out(alloc, self.config, event);
-        if !matches!(reply, Reply::Refused(Refusal::NoMemory)) {
+        let reply = self.state.answer(alloc, self.config, event);
+        if reply.enters() {
             self.count += 1;
         }
         reply
-    }
-}
-
-impl<T: BoundedQueue<Pending>, R: BoundedQueue<Received>, A: Arbiter> State<T, R, A> {
-    // What an event is answered where there is room for one more entry.
-    fn carry_out(&mut self, alloc: Global, config: BusConfig, event: &Event) -> Reply
-        requires { IsReady config self.old }
-        ensures { (past : List AnEntry) → IsKept (record_of config past) self.old → length past < config.limit → Carries config past event.now result self.new }
-    {
-        match event {
-            Event::Open(iface, capacity) => self.carry_open(alloc, config, *iface, *capacity),
-            Event::Close(id) => closed_reply(&self.close(*id)),
-            Event::SetFilters(id, filters) => match filters.try_compile(alloc) {
-                Ok(kept) => done_reply(&self.set_filters(*id, kept)),
-                Err(_) => Reply::Refused(Refusal::NoMemory),
-            },
-            Event::SetOption(id, option) => done_reply(&self.set_option(*id, *option)),
-            Event::Send(id, frame) => sent_reply(&self.send(*id, *frame)),
-            Event::Receive(id) => received_reply(&self.receive(*id)),
-            Event::Attempt(moment, verdict) => {
-                attempt_reply(&self.attempt(config, *moment, *verdict))
-            }
-            Event::Restart(iface, moment) => done_reply(&self.restart(*iface, *moment)),
-        }
-    }
-
-    // What an open is answered there.
-    fn carry_open(&mut self, alloc: Global, config: BusConfig, iface: Iface, capacity: u32) -> Reply
-        requires { IsReady config self.old }
-        ensures { (past : List AnEntry) → IsKept (record_of config past) self.old → length past < config.limit → Carries config past (event.Open iface capacity) result self.new }
-    {
-        let outcome = self.open(alloc, iface, capacity);
-        if is_no_memory(&outcome) {
-            return Reply::Refused(Refusal::NoMemory);
-        }
-        opened_reply(&outcome)
     }
 }

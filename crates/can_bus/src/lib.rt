@@ -33,4 +33,4 @@ pub use can_packed::{Looked, Stored};
 pub use lean::{LeanBus, LeanRingBus};
 pub use outcomes::Attempted;
 pub use records::Record;
-pub use runs::{RunFault, answer, run};
+pub use runs::{RunFault, run};

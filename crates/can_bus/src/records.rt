@@ -140,11 +140,11 @@ impl Record {
 
     /// Adds an entry that is not wide. No memory is taken.
     #[inline(always)]
-    pub(crate) fn push(&mut self, event: Event, reply: Reply)
+    pub(crate) fn push(&mut self, event: &Event, reply: &Reply)
         requires room { length self.old.history < self.old.room }
-        requires spelled { IsSpelled self.old.config (record { event = event; reply = reply }) }
-        requires fits { is_wide event reply ≡ false }
-        ensures { IsLonger self.old (record { event = event; reply = reply }) self.new }
+        requires spelled { IsSpelled self.old.config (record { event = event.now; reply = reply.now }) }
+        requires fits { is_wide event.now reply.now ≡ false }
+        ensures { IsLonger self.old (record { event = event.now; reply = reply.now }) self.new }
     {
         self.held.push(event, reply);
     }

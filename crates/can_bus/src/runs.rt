@@ -1,12 +1,9 @@
 ghost use Rattle.std.specs.Prelude.{◌≡◌, ◌≤◌, ◌<◌, ◌++◌, ◌∷◌, [], vec_len, vec_capacity, IfOk, OnErr, OnOk, length};
 ghost use Rattle.can_bus.specs.Headline.{Headline};
-ghost use Rattle.can_bus.specs.Run.{IsAnswer, AreAnswers, history_after, history_after_all};
+ghost use Rattle.can_bus.specs.Run.{AreAnswers, history_after_all};
 ghost use Rattle.can_bus.specs.Legal.{IsLegal};
 
 use crate::buses::Bus;
-use crate::replies::{
-    attempt_reply, closed_reply, done_reply, opened_reply, received_reply, sent_reply,
-};
 use can_arbiter::Arbiter;
 use can_event::{Event, Pending, Received, Reply};
 use can_frame::Item;
@@ -20,33 +17,6 @@ pub enum RunFault {
     /// Memory for the list of replies was refused.
     #[error("no memory")]
     NoMemory,
-}
-
-/// Carries out one event, by the call on the bus that it names, and answers its reply.
-///
-/// A refusal of that call is the reply. The event enters the record with it, unless the record was full
-/// or memory was refused: then nothing was done. It costs what the call does.
-pub fn answer<T: BoundedQueue<Pending>, R: BoundedQueue<Received>, A: Arbiter>(
-    bus: &mut Bus<T, R, A>,
-    alloc: Global,
-    event: &Event,
-) -> Reply
-    ensures answer { IsAnswer bus.old.config bus.old.history event.now result }
-    ensures after { bus.new ≡ record bus.old { history = history_after event.now result bus.old.history } }
-{
-    match event {
-        Event::Open(iface, capacity) => opened_reply(&bus.open(alloc, *iface, *capacity)),
-        Event::Close(id) => closed_reply(&bus.close(*id)),
-        Event::SetFilters(id, filters) => done_reply(&bus.set_filters(alloc, *id, filters)),
-        Event::SetOption(id, option) => done_reply(&bus.set_option(*id, *option)),
-        Event::Send(id, frame) => sent_reply(&bus.send(*id, *frame)),
-        Event::Receive(id) => received_reply(&bus.receive(*id)),
-        Event::Attempt(moment, verdict) => match bus.attempt(*moment, *verdict) {
-            Ok(attempt) => attempt_reply(&attempt),
-            Err(why) => Reply::Refused(why),
-        },
-        Event::Restart(iface, moment) => done_reply(&bus.restart(*iface, *moment)),
-    }
 }
 
 /// Adds a reply where there is room for it.
@@ -91,7 +61,7 @@ pub fn run<T: BoundedQueue<Pending>, R: BoundedQueue<Received>, A: Arbiter>(
         return Err(RunFault::NoMemory);
     };
     for event in events {
-        let reply = answer(bus, alloc, event);
+        let reply = bus.answer(alloc, event);
         note(&mut replies, reply);
     }
     let _after = bus.record().len();

@@ -1,13 +1,13 @@
 ghost use Rattle.std.specs.Prelude.{◌≡◌, ◌+◌, ◌<◌, ◌^◌, ◌==◌, All, IfSome, IfNone, IsSomeAnd, slice_get, length, false};
 ghost use Rattle.std.specs.List.{list_any};
-ghost use Rattle.can_bus.specs.Changes.{Receives, Sets, Closes, Opens};
+ghost use Rattle.can_bus.specs.Changes.{Receives, Sets, Refilters, Closes, Opens};
 ghost use Rattle.can_event.specs.Events.{with_option};
 ghost use Rattle.can_bus.specs.Stats.{TellsSocket};
 
 use crate::socket::Socket;
 use crate::state::State;
 use can_arbiter::Arbiter;
-use can_event::{Closed, Opt, Pending, Received, Refusal, SocketId, SocketStats};
+use can_event::{Opt, Pending, Received, Refusal, Reply, SocketId, SocketStats};
 use can_filter::FilterSet;
 use can_frame::Iface;
 use can_queue::BoundedQueue;
@@ -33,63 +33,66 @@ pub fn find<R: BoundedQueue<Received>>(sockets: &[Socket<R>], id: SocketId) -> O
 
 impl<T: BoundedQueue<Pending>, R: BoundedQueue<Received>, A: Arbiter> State<T, R, A> {
     /// Opens a socket under the next number.
-    pub fn open(&mut self, alloc: Global, iface: Iface, capacity: u32) -> Result<SocketId, Refusal>
+    pub fn open(&mut self, alloc: Global, iface: Iface, capacity: u32) -> Reply
         requires { self.old.opened + 1 < 2 ^ 32 }
         ensures { Opens self.old iface capacity result self.new }
     {
         if iface.number() >= self.nodes.count {
-            return Err(Refusal::NoInterface);
+            return Reply::Refused(Refusal::NoInterface);
         }
         if capacity < 1 || capacity > 65536 {
-            return Err(Refusal::BadCapacity);
+            return Reply::Refused(Refusal::BadCapacity);
         }
         if self.sockets.len() >= 64 {
-            return Err(Refusal::TooManySockets);
+            return Reply::Refused(Refusal::TooManySockets);
         }
         let number = self.opened;
         let Ok(socket) = Socket::new(alloc, number, iface, capacity as usize) else {
-            return Err(Refusal::NoMemory);
+            return Reply::Refused(Refusal::NoMemory);
         };
         if self.sockets.push(socket).is_err() {
-            return Err(Refusal::NoMemory);
+            return Reply::Refused(Refusal::NoMemory);
         }
         self.opened += 1;
-        Ok(SocketId(number))
+        Reply::Opened(SocketId(number))
     }
 
     /// Closes a socket.
-    pub fn close(&mut self, id: SocketId) -> Result<Closed, Refusal>
+    pub fn close(&mut self, id: SocketId) -> Reply
         ensures { Closes self.old id.0 result self.new }
     {
         let Some(k) = find(&self.sockets, id) else {
-            return Err(Refusal::NoSocket);
+            return Reply::Refused(Refusal::NoSocket);
         };
         let socket = self.sockets.remove(k);
-        Ok(socket.counts())
+        Reply::Closed(socket.counts())
     }
 
-    /// Sets the filters of a socket.
-    pub fn set_filters(&mut self, id: SocketId, filters: FilterSet) -> Result<(), Refusal>
-        ensures { Sets self.old id.0 (λ v. record v { filters = filters }) result self.new }
+    /// Sets the filters of a socket to a copy of these, for which memory is taken before the socket is looked up.
+    pub fn set_filters(&mut self, alloc: Global, id: SocketId, filters: &FilterSet) -> Reply
+        ensures { Refilters self.old id.0 filters.now result self.new }
     {
+        let Ok(compiled) = filters.try_compile(alloc) else {
+            return Reply::Refused(Refusal::NoMemory);
+        };
         let Some(k) = find(&self.sockets, id) else {
-            return Err(Refusal::NoSocket);
+            return Reply::Refused(Refusal::NoSocket);
         };
         let socket = &mut self.sockets[k];
-        socket.set_filters(filters);
-        Ok(())
+        socket.set_filters(compiled);
+        Reply::Done
     }
 
     /// Sets an option of a socket.
-    pub fn set_option(&mut self, id: SocketId, option: Opt) -> Result<(), Refusal>
+    pub fn set_option(&mut self, id: SocketId, option: Opt) -> Reply
         ensures { Sets self.old id.0 (λ v. record v { options = with_option option v.options }) result self.new }
     {
         let Some(k) = find(&self.sockets, id) else {
-            return Err(Refusal::NoSocket);
+            return Reply::Refused(Refusal::NoSocket);
         };
         let socket = &mut self.sockets[k];
         socket.set_option(option);
-        Ok(())
+        Reply::Done
     }
 
     /// Gives the oldest item of a socket.

@@ -1,16 +1,19 @@
-ghost use Rattle.std.specs.Prelude.{◌≡◌, [], IfOk, IfSome, IsNone, ◌↔◌, ◌==◌, not};
+ghost use Rattle.std.specs.Prelude.{◌≡◌, ◌<◌, [], List, length, IfOk, IfSome, IsNone, ◌↔◌, ◌==◌, not};
 ghost use Rattle.can_arbiter.specs.Keys.{IsWinner, IsIdle};
 ghost use Rattle.std.specs.List.{list_any};
-ghost use Rattle.can_bus.specs.State.{kept_parts};
+ghost use Rattle.can_bus.specs.Lean.{Carries, IsReady, record_of};
+ghost use Rattle.can_bus.specs.State.{IsKept, kept_parts};
+ghost use Rattle.can_event.specs.declared.events.Entry.{Entry as AnEntry};
 
 use crate::countdowns::Countdown;
 use crate::line::Line;
 use crate::lines;
+use crate::replies::{attempt_reply, received_reply, sent_reply};
 use crate::socket::Socket;
 use can_arbiter::Arbiter;
 use can_attempt::Nodes;
 use can_confine::Counters;
-use can_event::{BusConfig, Pending, Received};
+use can_event::{BusConfig, Event, Pending, Received, Reply};
 use can_frame::Iface;
 use can_queue::{BoundedQueue, QueueError};
 use std::alloc::Global;
@@ -69,6 +72,27 @@ impl<T: BoundedQueue<Pending>, R: BoundedQueue<Received>, A: Arbiter> State<T, R
             opened: 0,
             tried: 0,
         })
+    }
+
+    /// Carries out an event where the record has room for one more entry, and returns its reply.
+    ///
+    /// Only `Open` and `SetFilters` take memory. Where it was refused the reply is `NoMemory`, and nothing has changed.
+    pub fn answer(&mut self, alloc: Global, config: BusConfig, event: &Event) -> Reply
+        requires { IsReady config self.old }
+        ensures { (past : List AnEntry) → IsKept (record_of config past) self.old → length past < config.limit → Carries config past event.now result self.new }
+    {
+        match event {
+            Event::Open(iface, capacity) => self.open(alloc, *iface, *capacity),
+            Event::Close(id) => self.close(*id),
+            Event::SetFilters(id, filters) => self.set_filters(alloc, *id, filters),
+            Event::SetOption(id, option) => self.set_option(*id, *option),
+            Event::Send(id, frame) => sent_reply(&self.send(*id, *frame)),
+            Event::Receive(id) => received_reply(&self.receive(*id)),
+            Event::Attempt(moment, verdict) => {
+                attempt_reply(&self.attempt(config, *moment, *verdict))
+            }
+            Event::Restart(iface, moment) => self.restart(*iface, *moment),
+        }
     }
 
     /// How many frames were tried.

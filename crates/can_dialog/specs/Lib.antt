@@ -4,4 +4,4 @@ pub mod Turns
 pub mod Sessions
 pub mod BusSteps
 pub mod Lives
-pub mod inner
+pub mod Deliveries

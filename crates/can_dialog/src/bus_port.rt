@@ -9,7 +9,6 @@ use crate::port::{Port, PortRefusal};
 use can_arbiter::Arbiter;
 use can_bus::{
     Attempt, Bus, Event, IfaceStats, Pending, Received, Refusal, Reply, SocketId, SocketStats,
-    answer,
 };
 use can_confine::Counters;
 use can_fault::Verdict;
@@ -103,7 +102,7 @@ impl<T: BoundedQueue<Pending>, R: BoundedQueue<Received>, A: Arbiter> Port for B
     ghost step = { BusStep };
 
     fn call(&mut self, event: Event) -> Result<Reply, PortRefusal> {
-        Ok(answer(&mut self.bus, self.alloc, &event))
+        Ok(self.bus.answer(self.alloc, &event))
     }
 
     fn attach(&mut self, name: &[u8]) -> Result<Iface, PortRefusal> {

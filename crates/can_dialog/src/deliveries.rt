@@ -2,7 +2,7 @@ ghost use Rattle.std.specs.Prelude.{◌≡◌, ◌≢◌, [], IsTrue, false};
 ghost use Rattle.can_dialog.specs.Plans.{Plays};
 ghost use Rattle.can_dialog.specs.Sessions.{Wrote};
 ghost use Rattle.can_dialog.specs.Turns.{delivery};
-ghost use Rattle.can_dialog.specs.inner.Deliveries.{delivery_text, is_item};
+ghost use Rattle.can_dialog.specs.Deliveries.{delivery_text, is_item};
 
 use crate::output::put;
 use crate::port::Port;
@@ -16,7 +16,7 @@ use std::io::Write;
 pub enum Delivery {
     /// Nothing.
     Nothing,
-    /// An item, and whether the data of an error message frame are told.
+    /// An item, and whether the data of an error message frame are written.
     Item(Received, bool),
     /// The port refused it.
     Refused(Cause),
@@ -33,7 +33,7 @@ impl Delivery {
         }
     }
 
-    /// Writes what the client is told, if anything, in one call. It answers whether the writer took it.
+    /// Writes the text of it, if there is one, in one call. Returns whether the writer took it.
     pub fn write<W: Write>(&self, out: &mut W) -> bool
         ensures wrote { IsTrue result → Wrote W.contents out.old (delivery_text self.now) out.new }
         ensures some { result ≡ false → delivery_text self.now ≢ [] }

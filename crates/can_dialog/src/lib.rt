@@ -10,7 +10,7 @@
 pub mod bus_port;
 mod byte_count;
 mod commands;
-mod deliveries;
+pub mod deliveries;
 mod dialog;
 pub mod laws;
 mod output;
@@ -20,6 +20,7 @@ pub mod stages;
 
 pub use bus_port::BusPort;
 pub use byte_count::count_of;
+pub use deliveries::Delivery;
 pub use port::{Port, PortRefusal};
 pub use session::{Session, SessionFault};
 pub use stages::{Dialog, RawSocket, Stage};

@@ -3,9 +3,10 @@ ghost use Rattle.can_proto.specs.Messages.{messages_of, kept_of};
 ghost use Rattle.can_dialog.specs.Plans.{Plays};
 ghost use Rattle.can_dialog.specs.Turns.{sending, ending, delivery, greeting};
 ghost use Rattle.can_dialog.specs.Sessions.{IsNotRaw, Turns, Says, Cut, Wrote, Delivers, DeliveryCut};
+ghost use Rattle.can_dialog.specs.Deliveries.{delivery_text, is_item};
 
 use crate::commands::send;
-use crate::deliveries::take_delivery;
+use crate::deliveries::{Delivery, take_delivery};
 use crate::dialog::{finish, take_turn};
 use crate::output::{make_room, put, say};
 use crate::port::Port;
@@ -215,12 +216,20 @@ impl Session {
         if let Stage::Ended = self.dialog.stage {
             return Err(SessionFault::Ended);
         }
-        let delivery = take_delivery(self.dialog.stage, port);
+        let delivery = self.take(port);
         if !delivery.write(out) {
             finish(&mut self.dialog, port);
             return Err(SessionFault::Write);
         }
         Ok(delivery.is_item())
+    }
+
+    /// Makes the receive of `deliver`, and writes nothing: what it gives the client, whose text is to be written before the
+    /// session does anything else. In no other stage than raw mode there is a call.
+    pub fn take<P: Port>(&self, port: &mut P) -> Delivery
+        ensures { Plays P.step (delivery self.now.dialog.stage) port.old port.new (delivery_text result) (is_item result) }
+    {
+        take_delivery(self.dialog.stage, port)
     }
 
     /// Ends the session: a raw socket is closed, and where the port refuses that, the session is over all

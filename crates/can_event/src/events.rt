@@ -1,5 +1,7 @@
 ghost use Rattle.std.specs.Prelude.{◌≡◌, ◌↔◌, IsTrue, IfOk};
 ghost use Rattle.can_event.specs.Events.{IsConfig, tried_item, with_option};
+ghost use Rattle.can_event.specs.Replies.{Enters};
+ghost use Rattle.can_event.specs.Spelled.{LeavesEntry};
 
 use can_attempt::{AckMode, Class};
 use can_fault::Verdict;
@@ -165,6 +167,15 @@ pub enum Refusal {
     NoMemory,
 }
 
+impl Refusal {
+    /// Whether a call that is refused so leaves an entry in the record: all but `RecordFull` and `NoMemory`.
+    pub fn leaves_entry(self) -> bool
+        ensures { IsTrue result ↔ LeavesEntry self }
+    {
+        !matches!(self, Refusal::RecordFull | Refusal::NoMemory)
+    }
+}
+
 /// An item that a socket received: the item, the interface that it comes from, its number there, and
 /// when it was put to the socket. An error message frame comes from the socket's own interface, with
 /// number 0.
@@ -214,8 +225,8 @@ impl Tried {
 /// What an attempt came to.
 #[derive(Debug, Clone, Copy, PartialEq, Eq)]
 pub enum Attempt {
-    /// No live interface had a frame to send. These were restarted.
-    Idle(IfaceSet),
+    /// No live interface had a frame to send, and these were restarted.
+    Idle { restarted: IfaceSet },
     /// A frame was tried.
     Tried(Tried),
 }
@@ -233,12 +244,24 @@ pub enum Reply {
     Sent(u64),
     /// The oldest item, or none.
     Received(Option<Received>),
-    /// No live interface had a frame to send. These were restarted.
-    Idle(IfaceSet),
+    /// No live interface had a frame to send, and these were restarted.
+    Idle { restarted: IfaceSet },
     /// A frame was tried.
     Tried(Tried),
     /// The call was refused.
     Refused(Refusal),
+}
+
+impl Reply {
+    /// Whether a call with this reply leaves an entry in the record: all but the refusals `RecordFull` and `NoMemory`.
+    pub fn enters(&self) -> bool
+        ensures { IsTrue result ↔ Enters self.now }
+    {
+        match self {
+            Reply::Refused(why) => why.leaves_entry(),
+            _ => true,
+        }
+    }
 }
 
 /// A call with its answer. It takes 208 bytes: the event is as wide as `Send` with its frame, and the

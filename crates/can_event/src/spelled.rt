@@ -1,5 +1,5 @@
 ghost use Rattle.std.specs.Prelude.{IsTrue, ◌↔◌};
-ghost use Rattle.can_event.specs.Spelled.{LeavesEntry, SendsFd, MayRefuse, IsNumbered, AreNumbered, FitsReply, MayRestart, IsSpelled};
+ghost use Rattle.can_event.specs.Spelled.{SendsFd, MayRefuse, IsNumbered, AreNumbered, FitsReply, MayRestart, IsSpelled};
 ghost use Rattle.can_event.specs.declared.events.Reply.TheVariants as reply;
 
 use crate::events::{BusConfig, Entry, Event, Received, Refusal, Reply, Tried};
@@ -20,7 +20,7 @@ fn may_restart(config: BusConfig, reply: &Reply) -> bool
     ensures { IsTrue result ↔ MayRestart config reply.now }
 {
     let restarted = match reply {
-        Reply::Idle(restarted) => *restarted,
+        Reply::Idle { restarted } => *restarted,
         Reply::Tried(tried) => tried.restarted,
         _ => IfaceSet::empty(),
     };
@@ -38,7 +38,7 @@ fn fits_reply(event: &Event, reply: &Reply) -> bool
         Reply::Done => is_setting(event),
         Reply::Sent(_) => matches!(event, Event::Send(_, _)),
         Reply::Received(item) => matches!(event, Event::Receive(_)) && are_numbered(item),
-        Reply::Idle(_) => matches!(event, Event::Attempt(_, _)),
+        Reply::Idle { .. } => matches!(event, Event::Attempt(_, _)),
         Reply::Tried(tried) => is_attempt_of(event, tried),
     }
 }
@@ -91,7 +91,7 @@ fn may_refuse(event: &Event, why: Refusal) -> bool
 {
     match why {
         Refusal::FdOff => sends_fd(event),
-        why => leaves_entry(why),
+        why => why.leaves_entry(),
     }
 }
 
@@ -103,11 +103,4 @@ fn sends_fd(event: &Event) -> bool
         Event::Send(_, frame) => frame.is_fd(),
         _ => false,
     }
-}
-
-/// Whether a call that is refused so leaves an entry.
-fn leaves_entry(why: Refusal) -> bool
-    ensures { IsTrue result ↔ LeavesEntry why }
-{
-    !matches!(why, Refusal::RecordFull | Refusal::NoMemory)
 }

@@ -1,20 +1,19 @@
 use Rattle.std.proofs.Common.{◌≡◌, ℕ, zero, suc, ◌+◌, ◌/◌, ◌%◌, ◌<◌, ◌≤◌, ◌&&◌, eqb, cond, Bool, true, inl, inr, List, [], ◌∷◌, slice_index, refl, sym, ap, ◌∙◌, arith}
-use Rattle.std.specs.Char.{to_ascii_uppercase}
 use Rattle.std.proofs.lemmas.Bool.{and_parts, eqb-true, cases_lt}
-use Rattle.hex.specs.Hex.{IsBytes, encode_with, lower_digits, upper_digits}
-use Rattle.can_frame.specs.FrameText.{digit_of, pairs, payload_text, upper}
+use Rattle.hex.specs.Hex.{IsBytes, encode_with, upper_digits}
+use Rattle.can_frame.specs.FrameText.{digit_of, pairs, payload_text}
 use Rattle.can_frame.specs.Frames.Payload.{Remote}
 use Rattle.std.specs.Fmt.{decimal}
 use Rattle.std.proofs.lemmas.Fmt.{decimal_digit}
 
--- Hexadecimal digits: the tables of `hex`, and ours.
+-- Hexadecimal digits: the table of `hex`, and ours.
 
 -- two functions have the same values below n
-abbrev agree : (ℕ → ℕ) → (ℕ → ℕ) → ℕ → Bool
+abbrev pub agree : (ℕ → ℕ) → (ℕ → ℕ) → ℕ → Bool
 agree f g zero = true
 agree f g (suc n) = eqb (f n) (g n) && agree f g n
 
-agree-at : (f g : ℕ → ℕ) (n k : ℕ) → agree f g n ≡ true → k < n → f k ≡ g k
+pub agree-at : (f g : ℕ → ℕ) (n k : ℕ) → agree f g n ≡ true → k < n → f k ≡ g k
 agree-at f g zero k h lt = absurd (omega arith)
 agree-at f g (suc n) k h lt =
     let parts = and_parts (eqb (f n) (g n)) (agree f g n) h in
@@ -25,23 +24,8 @@ agree-at f g (suc n) k h lt =
           ap f e ∙ eqb-true (f n) (g n) parts.0 ∙ ap g (sym e)
     ]
 
-lower_digit : (d : ℕ) → d < 16 → to_ascii_uppercase (slice_index lower_digits d) ≡ digit_of d
-lower_digit d lt = agree-at (λ k. to_ascii_uppercase (slice_index lower_digits k)) digit_of 16 d refl lt
-
 upper_digit : (d : ℕ) → d < 16 → slice_index upper_digits d ≡ digit_of d
 upper_digit d lt = agree-at (λ k. slice_index upper_digits k) digit_of 16 d refl lt
-
--- the lower-case text of bytes, raised
-pub raised : (bytes : List ℕ) → IsBytes bytes → upper (encode_with lower_digits bytes) ≡ pairs bytes
-unfolding encode_with
-raised [] h = refl
-raised (b ∷ bs) h =
-    let fits : b < 256 = h 0 in
-    let again = raised bs (λ k. h (suc k)) in
-    let high = lower_digit (b / 16) (omega arith) in
-    let same : b / 16 % 16 ≡ b / 16 = omega arith in
-    let low = lower_digit (b % 16) (omega arith) in
-    rw (high, low, same, again) refl
 
 -- the upper-case text of bytes
 pub pairs-upper : (bytes : List ℕ) → IsBytes bytes → pairs bytes ≡ encode_with upper_digits bytes

@@ -7,3 +7,4 @@ pub mod FrameText
 pub mod FrameGuess
 pub mod Moments
 pub mod Numbers
+pub mod inner

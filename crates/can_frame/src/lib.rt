@@ -15,6 +15,7 @@
 #![tactic(auto)]
 
 pub mod arbitration;
+mod digit_writing;
 pub mod error_frames;
 pub mod frame_guess;
 pub mod frame_texts;

@@ -1,11 +1,11 @@
-ghost use Rattle.std.specs.Prelude.{◌≡◌, ◌≤◌, ◌<◌, ◌+◌, ◌*◌, ◌++◌, ◌∷◌, [], length};
+ghost use Rattle.std.specs.Prelude.{◌≡◌, ◌≤◌, ◌<◌, ◌+◌, ◌*◌, ◌^◌, ◌++◌, ◌∷◌, [], length};
 ghost use Rattle.std.specs.Fmt.{decimal};
-ghost use Rattle.can_frame.specs.FrameText.{digits, digit_of, pairs, id_text, upper};
+ghost use Rattle.can_frame.specs.FrameText.{digits, pairs, id_text, upper};
 ghost use Rattle.can_frame.specs.Moments.{moment_text};
 
+use crate::digit_writing::{write_decimals, write_hexadecimals, write_pairs};
 use crate::identifiers::CanId;
 use crate::moments::Moment;
-use itoa::Buffer;
 use std::marker::Model;
 
 /// A text of at most `N` bytes, kept in place.
@@ -73,7 +73,7 @@ impl<const N: usize> Text<N> {
     {
         let end = self.len + count;
         let all = &mut self.bytes[..];
-        write_digits::<16>(number, &mut all[self.len..end]);
+        write_hexadecimals(number, &mut all[self.len..end]);
         self.len = end;
     }
 
@@ -85,7 +85,7 @@ impl<const N: usize> Text<N> {
     {
         let end = self.len + count;
         let all = &mut self.bytes[..];
-        write_digits::<10>(number, &mut all[self.len..end]);
+        write_decimals(number, &mut all[self.len..end]);
         self.len = end;
     }
 
@@ -100,13 +100,55 @@ impl<const N: usize> Text<N> {
     }
 
     /// A number in decimal, where there is room for its digits.
+    #[tactic(auto, using(crate::proofs::Decimals::eight_pushed, crate::proofs::Decimals::eight_longer, crate::proofs::Decimals::sixteen_pushed, crate::proofs::Decimals::sixteen_longer))]
     fn push_number(&mut self, number: u64)
         requires { length self.old + length (decimal number) ≤ N }
         ensures text { self.new ≡ self.old ++ decimal number }
         ensures len { length self.new ≡ length self.old + length (decimal number) }
     {
-        let mut buffer = Buffer::new();
-        self.push_all(buffer.format(number).as_bytes());
+        match number {
+            0..=99_999_999 => self.push_up_to_eight(number),
+            100_000_000..=9_999_999_999_999_999 => {
+                self.push_up_to_eight(number / 100_000_000);
+                self.push_decimals(8, number % 100_000_000);
+            }
+            _ => {
+                self.push_up_to_eight(number / 10_000_000_000_000_000);
+                self.push_decimals(16, number % 10_000_000_000_000_000);
+            }
+        }
+    }
+
+    /// A number of at most eight digits in decimal.
+    #[tactic(auto, using(crate::proofs::Decimals::four_pushed, crate::proofs::Decimals::four_longer))]
+    fn push_up_to_eight(&mut self, number: u64)
+        requires small { number < 10 ^ 8 }
+        requires room { length self.old + length (decimal number) ≤ N }
+        ensures text { self.new ≡ self.old ++ decimal number }
+        ensures len { length self.new ≡ length self.old + length (decimal number) }
+    {
+        if number < 10_000 {
+            self.push_up_to_four(number);
+        } else {
+            self.push_up_to_four(number / 10_000);
+            self.push_decimals(4, number % 10_000);
+        }
+    }
+
+    /// A number of at most four digits in decimal.
+    #[tactic(auto, using(crate::proofs::Decimals::one_digit, crate::proofs::Decimals::two_digits, crate::proofs::Decimals::three_digits, crate::proofs::Decimals::four_digits))]
+    fn push_up_to_four(&mut self, number: u64)
+        requires small { number < 10 ^ 4 }
+        requires room { length self.old + length (decimal number) ≤ N }
+        ensures text { self.new ≡ self.old ++ decimal number }
+        ensures len { length self.new ≡ length self.old + length (decimal number) }
+    {
+        match number {
+            0..=9 => self.push_decimals(1, number),
+            10..=99 => self.push_decimals(2, number),
+            100..=999 => self.push_decimals(3, number),
+            _ => self.push_decimals(4, number),
+        }
     }
 
     /// An identifier: 3 hexadecimal digits, or 8 where it has 29 bits.
@@ -115,8 +157,12 @@ impl<const N: usize> Text<N> {
         ensures text { self.new ≡ self.old ++ id_text id }
         ensures len { length self.new ≤ length self.old + 8 }
     {
-        let count = if id.is_extended() { 8 } else { 3 };
-        self.push_hex(count, u64::from(id.number()));
+        let number = u64::from(id.number());
+        if id.is_extended() {
+            self.push_hex(8, number);
+        } else {
+            self.push_hex(3, number);
+        }
     }
 
     /// A moment: seconds without leading zeros, a point and 6 digits of microseconds.
@@ -157,30 +203,6 @@ impl<const N: usize> Text<N> {
     }
 }
 
-/// Fills a room with the last digits of a number in a base of at most 16, upper case.
-fn write_digits<const BASE: u64>(number: u64, room: &mut [u8])
-    requires low { 2 ≤ BASE }
-    requires high { BASE ≤ 16 }
-    ensures text { room.new ≡ digits BASE (length room.old) number }
-    ensures len { length room.new ≡ length room.old }
-{
-    let mut left = number;
-    for place in (0..room.len()).rev() {
-        room[place] = digit(left % BASE);
-        left /= BASE;
-    }
-}
-
-/// Writes bytes as pairs of hexadecimal digits, upper case.
-fn write_pairs(bytes: &[u8], room: &mut [u8])
-    requires { length room.old ≡ 2 * length bytes.now }
-    ensures text { room.new ≡ pairs bytes.now }
-    ensures len { length room.new ≡ 2 * length bytes.now }
-{
-    let _ = hex::encode_to_slice(bytes, room);
-    room.make_ascii_uppercase();
-}
-
 /// Copies bytes, letters in upper case.
 fn copy_upper(bytes: &[u8], room: &mut [u8])
     requires { length room.old ≡ length bytes.now }
@@ -189,16 +211,4 @@ fn copy_upper(bytes: &[u8], room: &mut [u8])
 {
     room.copy_from_slice(bytes);
     room.make_ascii_uppercase();
-}
-
-/// A digit below 16, upper case.
-fn digit(value: u64) -> u8
-    requires { value < 16 }
-    ensures { result ≡ digit_of value }
-{
-    if value < 10 {
-        b'0' + value as u8
-    } else {
-        b'A' + (value as u8 - 10)
-    }
 }

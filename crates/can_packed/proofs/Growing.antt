@@ -1,12 +1,18 @@
-use Rattle.std.proofs.Common.{◌≡◌, ℕ, ◌+◌, ◌≤◌, List, [], ◌∷◌, ◌++◌, length, map, refl, arith, length-append}
+use Rattle.std.proofs.Common.{◌≡◌, ℕ, ◌+◌, ◌≤◌, Bool, true, false, Some, if◌then◌else◌, List, [], ◌∷◌, ◌++◌, length, map, refl, arith, length-append}
 use Rattle.std.proofs.Math.ListN.{get_or-append}
 use Rattle.std.proofs.lemmas.List.{map-append}
 use Rattle.std.proofs.lemmas.List.Elements.{All-head, All-tail, All-weaker, All-push}
-use Rattle.can_frame.specs.Frames.{CanFrame}
+use Rattle.can_frame.specs.Frames.{CanFrame, is_fd}
+use Rattle.can_frame.specs.declared.items.Item.{Item}
+use Rattle.can_frame.specs.declared.items.Item.TheVariants as item
+use Rattle.can_event.specs.declared.events.Event.{Event}
+use Rattle.can_event.specs.declared.events.Event.TheVariants.{Send, Receive, Attempt}
+use Rattle.can_event.specs.declared.events.Reply.{Reply}
+use Rattle.can_event.specs.declared.events.Reply.TheVariants as reply
 use Rattle.can_packed.specs.declared.kept.Kept.{Kept}
 use Rattle.can_packed.specs.declared.kept.Kept.TheVariants as kept
 use Rattle.can_packed.specs.FrameWords.{no_frame}
-use Rattle.can_packed.specs.Kept.{entry_in, frames_needed, AreWithin, fd_frame_at}
+use Rattle.can_packed.specs.Kept.{entry_in, frames_needed, AreWithin, fd_frame_at, fd_frames, fd_frames_of, fd_frames_of_item}
 
 -- What is kept gives the same entry where the list of FD frames has grown behind its place.
 
@@ -48,3 +54,22 @@ entries_pushed fs more ks k h = rw (map-append (entry_in (fs ++ more)) ks (k ∷
 -- and all places are within the list
 pub within_pushed : (fs more : List CanFrame) (ks : List Kept) (k : Kept) → AreWithin (length fs) ks → frames_needed k ≤ length (fs ++ more) → AreWithin (length (fs ++ more)) (ks ++ k ∷ [])
 within_pushed fs more ks k h n = All-push (λ j. frames_needed j ≤ length (fs ++ more)) ks k (All-weaker (λ j. frames_needed j ≤ length fs) (λ j. frames_needed j ≤ length (fs ++ more)) (λ j m. omega (arith, m, length-append fs more)) ks h) n
+
+-- ---- an entry has at most one FD frame
+
+few_of : (frame : CanFrame) → length (fd_frames_of frame) ≤ 1
+few_of frame = by (is_fd frame.payload)
+  where
+    by : (fd : Bool) → length (if fd then frame ∷ [] else []) ≤ 1
+    by true = omega arith
+    by false = omega arith
+
+few_of_item : (x : Item) → length (fd_frames_of_item x) ≤ 1
+few_of_item (item.Data frame) = few_of frame
+few_of_item (item.Error error) = omega arith
+
+pub few_frames : (e : Event) (r : Reply) → length (fd_frames e r) ≤ 1
+few_frames (Send s frame) r = few_of frame
+few_frames (Receive s) (reply.Received (Some r)) = few_of_item r.item
+few_frames (Attempt m v) (reply.Tried t) = few_of t.frame
+few_frames _ _ = omega arith

@@ -85,7 +85,7 @@ impl PackedList {
             *entry = Entry { event, reply };
             self.entries.push_boxed(entry);
         } else {
-            self.entries.push(event, reply);
+            self.entries.push(&event, &reply);
         }
     }
 

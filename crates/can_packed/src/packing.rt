@@ -166,7 +166,7 @@ fn attempted(frames: &mut Vec<Frame>, moment: Moment, verdict: Verdict, reply: &
     ensures memory { vec_capacity frames.old ≤ vec_capacity frames.new }
 {
     match reply {
-        Reply::Idle(restarted) => Kept::Idle(*restarted, verdict, moment),
+        Reply::Idle { restarted } => Kept::Idle(*restarted, verdict, moment),
         Reply::Tried(tried) => tried_at(frames, moment, verdict, tried),
         Reply::Refused(why) => Kept::AttemptRefused(verdict, moment, *why),
         _ => unreachable!(),

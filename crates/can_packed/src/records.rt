@@ -75,13 +75,13 @@ impl PackedRecord {
 
     /// Adds an event with its reply that is not wide. No memory is taken.
     #[inline(always)]
-    pub fn push(&mut self, event: Event, reply: Reply)
+    pub fn push(&mut self, event: &Event, reply: &Reply)
         requires room { length self.old.entries < self.old.room }
-        requires fits { is_wide event reply ≡ false }
-        ensures more { self.new.entries ≡ self.old.entries ++ record { event = event; reply = reply } ∷ [] }
+        requires fits { is_wide event.now reply.now ≡ false }
+        ensures more { self.new.entries ≡ self.old.entries ++ record { event = event.now; reply = reply.now } ∷ [] }
         ensures room { self.old.room ≤ self.new.room }
     {
-        let kept = packed(&mut self.frames, &event, &reply);
+        let kept = packed(&mut self.frames, event, reply);
         let _ = self.entries.push(kept);
     }
 

@@ -83,7 +83,9 @@ pub fn reply_in(frames: &[Frame], kept: &Kept) -> Reply
             moment: *moment,
         })),
         Kept::ReceiveRefused(_, why) => Reply::Refused(*why),
-        Kept::Idle(restarted, _, _) => Reply::Idle(*restarted),
+        Kept::Idle(restarted, _, _) => Reply::Idle {
+            restarted: *restarted,
+        },
         Kept::Tried(end, _, word, number, accepted, restarted, bytes, stamp) => {
             let words = (*end, *word, *number);
             Reply::Tried(tried_in(words, *accepted, *restarted, bytes, *stamp))

@@ -14,7 +14,7 @@ pub fn is_wide(event: &Event, reply: &Reply) -> bool
         | (Event::Close(_), Reply::Closed(_))
         | (Event::SetOption(_, _) | Event::Restart(_, _), Reply::Done)
         | (Event::Receive(_), Reply::Received(None))
-        | (Event::Attempt(_, _), Reply::Idle(_))
+        | (Event::Attempt(_, _), Reply::Idle { .. })
         | (_, Reply::Refused(_)) => false,
         (Event::Send(_, _), Reply::Sent(number)) => is_large(*number),
         (Event::Receive(_), Reply::Received(Some(received))) => is_large(received.number),

@@ -29,7 +29,7 @@ pub fn reply_field(moment: Option<Moment>, text: &[u8]) -> Option<(Reply, &[u8])
     }
     if same_word(word, b"idle") {
         let (restarted, rest) = restarted_field(text)?;
-        return Some((Reply::Idle(restarted), rest));
+        return Some((Reply::Idle { restarted }, rest));
     }
     if same_word(word, b"tried") {
         return tried_field(moment?, rest);

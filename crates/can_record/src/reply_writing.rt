@@ -28,7 +28,7 @@ pub fn put_reply(out: &mut Vec<u8>, reply: &Reply) -> Result<(), AllocError>
         }
         Reply::Received(None) => put_word(out, b"none", b'\n')?,
         Reply::Received(Some(received)) => put_received(out, received)?,
-        Reply::Idle(restarted) => put_idle(out, *restarted)?,
+        Reply::Idle { restarted } => put_idle(out, *restarted)?,
         Reply::Tried(tried) => put_tried(out, tried)?,
         Reply::Refused(why) => put_refusal(out, *why)?,
     }

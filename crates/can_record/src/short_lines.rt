@@ -102,7 +102,7 @@ fn push_attempted(line: &mut ShortLine, moment: Moment, verdict: Verdict, reply:
     ensures { IsTrue result → line.new ≡ answered_line (event.Attempt moment verdict) reply.now [] }
 {
     match reply {
-        Reply::Idle(restarted) => {
+        Reply::Idle { restarted } => {
             if restarted.0 != 0 {
                 return false;
             }

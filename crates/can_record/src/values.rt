@@ -115,7 +115,7 @@ pub fn hold_reply(reply: &Reply)
         }
         Reply::Received(Some(received)) => hold_received(received),
         Reply::Tried(tried) => hold_tried(tried),
-        Reply::Idle(restarted) => hold_set(*restarted),
+        Reply::Idle { restarted } => hold_set(*restarted),
         Reply::Done | Reply::Received(None) | Reply::Refused(_) => {}
     }
 }

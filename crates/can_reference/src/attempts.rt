@@ -86,15 +86,15 @@ pub fn attempt_reply(
 {
     let restarted = restarted_next(config, past);
     let Some(winner) = winner(alloc, past)? else {
-        return Ok(Reply::Idle(restarted));
+        return Ok(Reply::Idle { restarted });
     };
     let Some(pending) = head_of(alloc, past, winner)? else {
-        return Ok(Reply::Idle(restarted));
+        return Ok(Reply::Idle { restarted });
     };
     let number = gone_count(alloc, past, winner)?;
     let nodes = nodes_of(config, past);
     Ok(match judgement_of(&nodes, winner, verdict, config.ack) {
         Some(judgement) => tried_as(moment, winner, number, &pending, &judgement, restarted),
-        None => Reply::Idle(restarted),
+        None => Reply::Idle { restarted },
     })
 }

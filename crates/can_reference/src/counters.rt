@@ -75,7 +75,7 @@ fn note(config: BusConfig, entry: &Entry, nodes: &mut Nodes)
     match &entry.event {
         Event::Attempt(_, verdict) => match &entry.reply {
             Reply::Tried(tried) => note_attempt(config, nodes, tried, *verdict),
-            Reply::Idle(restarted) => note_restarts(nodes, *restarted),
+            Reply::Idle { restarted } => note_restarts(nodes, *restarted),
             _ => {}
         },
         Event::Restart(iface, _) => {

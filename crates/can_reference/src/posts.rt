@@ -198,7 +198,7 @@ pub fn posts_of(
             Reply::Tried(tried) => {
                 tried_posts(alloc, config, past, iface, *moment, *verdict, tried)
             }
-            Reply::Idle(restarted) => idle_posts(alloc, *restarted, *moment, iface),
+            Reply::Idle { restarted } => idle_posts(alloc, *restarted, *moment, iface),
             _ => Ok(Vec::new(alloc)),
         },
         Event::Restart(restarted, moment) => match &entry.reply {

@@ -25,7 +25,7 @@ fn attempts_off_after(entry: &Entry, iface: Iface, before: Option<usize>) -> Opt
     ensures { result ≡ attempts_off_after entry.now.event entry.now.reply iface before }
 {
     match &entry.reply {
-        Reply::Idle(restarted) => {
+        Reply::Idle { restarted } => {
             if restarted.contains(iface) {
                 None
             } else {

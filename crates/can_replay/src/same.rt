@@ -88,8 +88,8 @@ pub(crate) fn same_reply(one: &Reply, other: &Reply) -> bool
             Reply::Received(more) => same_taken(taken, more),
             _ => false,
         },
-        Reply::Idle(restarted) => match other {
-            Reply::Idle(more) => restarted.0 == more.0,
+        Reply::Idle { restarted } => match other {
+            Reply::Idle { restarted: more } => restarted.0 == more.0,
             _ => false,
         },
         Reply::Tried(tried) => match other {

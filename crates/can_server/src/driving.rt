@@ -14,7 +14,7 @@ use std::time;
 use std::time::Duration;
 
 /// The most steps of a driver in one hold of the lock.
-const MOST_STEPS: u32 = 32;
+const MOST_STEPS: u32 = 64;
 
 /// What became of a driver's steps.
 #[derive(Drop)]
@@ -85,7 +85,7 @@ impl<
     }
 
     /// Steps a bus up to so many times in one hold of its lock, while an interface has a frame to send or counts towards
-    /// its restart.
+    /// its restart. The attempt in which an interface went bus off, or was restarted, is the last.
     fn step_some(
         &self,
         mut hold: Hold<'_, N, F, G>,
@@ -101,6 +101,9 @@ impl<
                 return Stepped::Refused;
             };
             changes.note(&attempt);
+            if changes.are_some() {
+                break;
+            }
             if is_in_vain(&attempt) && self.is_ending.load(Ordering::SeqCst) {
                 return Stepped::Out;
             }
@@ -108,10 +111,9 @@ impl<
         Stepped::On
     }
 
-    /// Tells the host which interfaces went bus off, and which were restarted. Within `MOST_STEPS` attempts none is
-    /// restarted and goes off again.
+    /// Tells the host which interfaces went bus off in an attempt, and which were restarted.
     fn tell_changes(&self, bus: usize, changes: Changes) {
-        if changes.off.0 == 0 && changes.restarted.0 == 0 {
+        if !changes.are_some() {
             return;
         }
         for number in 0..16 {
@@ -127,7 +129,7 @@ impl<
     }
 }
 
-/// The interfaces that changed in some attempts.
+/// The interfaces that changed in an attempt.
 #[derive(Debug, Clone, Copy)]
 struct Changes {
     off: IfaceSet,
@@ -142,9 +144,13 @@ impl Changes {
         }
     }
 
+    fn are_some(&self) -> bool {
+        self.off != IfaceSet::empty() || self.restarted != IfaceSet::empty()
+    }
+
     fn note(&mut self, attempt: &Attempt) {
         match attempt {
-            Attempt::Idle(restarted) => self.restarted.0 |= restarted.0,
+            Attempt::Idle { restarted } => self.restarted.0 |= restarted.0,
             Attempt::Tried(tried) => {
                 self.off.0 |= tried.off.0;
                 self.restarted.0 |= tried.restarted.0;
@@ -157,7 +163,7 @@ impl Changes {
 /// the record.
 fn is_in_vain(attempt: &Attempt) -> bool {
     match attempt {
-        Attempt::Idle(restarted) => *restarted == IfaceSet::empty(),
+        Attempt::Idle { restarted } => *restarted == IfaceSet::empty(),
         Attempt::Tried(tried) => tried.class == Class::NoAck
             && tried.restarted == IfaceSet::empty(),
     }

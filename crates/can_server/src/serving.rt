@@ -21,6 +21,9 @@ use std::time;
 /// The most passes of a bus.
 const MOST_PASSES: u32 = 4096;
 
+/// Some clients, as python-can's, read 1,024 bytes at a time and lose a message that is cut.
+const DEFAULT_WRITE: usize = 1024;
+
 /// What a server asks and tells while it runs. Only the time is asked for; what is told is dropped where the host does not
 /// say otherwise. No lock is held while the host is told something.
 pub trait Clock {
@@ -31,6 +34,12 @@ pub trait Clock {
     /// any time, and its answer stays the same.
     fn is_curious(&self) -> bool {
         false
+    }
+
+    /// The most bytes of items that a client gets in one write, though an item goes out whole. It is asked once for each
+    /// session.
+    fn write_bytes(&self) -> usize {
+        DEFAULT_WRITE
     }
 
     /// Takes a notice. Those of sessions lack addresses and counts where the host is not curious.

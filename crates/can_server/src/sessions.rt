@@ -65,7 +65,8 @@ impl<
 
     /// Talks with a client to the end: the pass, where it opened a bus.
     fn converse(&self, admitted: &Admitted) -> Option<Pass<N>> {
-        let mut talk = Talk::new(self.rt, self.alloc, self.hub).ok()?;
+        let most = self.host.write_bytes();
+        let mut talk = Talk::new(self.rt, self.alloc, self.hub, most).ok()?;
         if !talk.greet(&admitted.conn) {
             return None;
         }
@@ -195,6 +196,26 @@ impl<
         if goes_on { Heard::More } else { Heard::Over }
     }
 
+    /// Gives the client the items that wait, so many: whether there can be more.
+    fn deliver_waiting(
+        &self,
+        talk: &Mutex<Talk<'_, N, F, G, R>>,
+        conn: &Conn,
+        waiting: u64,
+    ) -> bool {
+        let mut left = waiting;
+        for _ in 0..waiting {
+            if left == 0 {
+                break;
+            }
+            match talk.lock(self.rt).deliver(left, conn) {
+                Some(taken) => left = left.saturating_sub(taken),
+                None => return false,
+            }
+        }
+        true
+    }
+
     /// Gives the client its items, until the session is over, its socket is closed or the record is full. Where items
     /// are refused for another reason, as want of memory, the session ends.
     fn deliver_all(
@@ -209,7 +230,7 @@ impl<
             if wake != Wake::Ready {
                 break;
             }
-            if !talk.lock(self.rt).deliver(waiting, conn) {
+            if !self.deliver_waiting(talk, conn, waiting) {
                 self.stop_full(place.station);
                 if !place.station.is_full() {
                     talk.lock(self.rt).end();

@@ -3,7 +3,7 @@ use crate::held::HeldPort;
 use crate::hubs::Hub;
 use crate::ports::PassPort;
 use can_bus::{Entry, Event, Reply, SocketId};
-use can_dialog::{Session, Stage};
+use can_dialog::{Delivery, Session, Stage};
 use can_fault::FaultSource;
 use can_frame::{Iface, Moment};
 use can_meter::MeterName;
@@ -13,11 +13,11 @@ use std::alloc::{AllocError, Global};
 use std::io::Write;
 use std::sync::Wait;
 
-/// The most bytes of items that go out in one write.
-const MOST_BYTES: usize = 1024;
-
 /// The most bytes of an item's text.
 const LONGEST: usize = 256;
+
+/// The most items that are received in one hold of the bus's lock.
+const MOST_ITEMS: usize = 256;
 
 /// Where the socket of a session in raw mode is, and of which interface it is one.
 #[derive(Drop)]
@@ -32,8 +32,12 @@ pub struct Place<'a, N: RollName + MeterName, F: FaultSource + Drop, G: Gate + D
 pub struct Talk<'a, N: RollName + MeterName, F: FaultSource + Drop, G: Gate + Drop, R: Wait> {
     session: Session,
     port: PassPort<'a, N, F, G, R>,
-    /// The texts of items that go out in one write, with room for `MOST_BYTES`.
+    /// The texts of items that go out in one write.
     batch: Vec<u8>,
+    /// The most bytes of these texts, but that one item goes out whole.
+    most_bytes: usize,
+    /// What was received in one hold, and is to be written.
+    deliveries: Vec<Delivery>,
     /// How many calls were looked at for a restart.
     looked: usize,
 }
@@ -45,16 +49,19 @@ impl<'a, N: RollName + MeterName, F: FaultSource + Drop, G: Gate + Drop, R: Wait
     G,
     R,
 > {
-    /// A session that has just begun.
+    /// A session that has just begun, which writes at most so many bytes of items at once.
     pub fn new(
         rt: &'a R,
         alloc: Global,
         hub: &'a Hub<N, F, G>,
+        most_bytes: usize,
     ) -> Result<Talk<'a, N, F, G, R>, AllocError> {
         Ok(Talk {
             session: Session::new(alloc, 0)?,
             port: PassPort::new(rt, alloc, hub),
-            batch: Vec::with_capacity(alloc, MOST_BYTES)?,
+            batch: Vec::with_capacity(alloc, most_bytes)?,
+            most_bytes,
+            deliveries: Vec::with_capacity(alloc, MOST_ITEMS)?,
             looked: 0,
         })
     }
@@ -75,35 +82,50 @@ impl<'a, N: RollName + MeterName, F: FaultSource + Drop, G: Gate + Drop, R: Wait
             .session
             .feed(alloc, piece, moment, &mut port, &mut self.batch);
         drop(port);
-        self.write_batch(conn) && fed.is_ok() && !self.is_over()
+        let is_taken = write_out(&mut self.batch, conn);
+        self.goes_on(is_taken, conn) && fed.is_ok() && !self.is_over()
     }
 
-    /// Gives the client up to so many items, whose texts go out in one write: whether there can be more. A client that
-    /// takes nothing ends the session.
-    pub fn deliver(&mut self, waiting: u64, conn: &Conn) -> bool {
-        self.batch.clear();
+    /// Gives the client up to so many items: how many it took, or `None` where there can be no more. They are received
+    /// in one hold of the bus's lock, and their texts are made and written after it.
+    pub fn deliver(&mut self, waiting: u64, conn: &Conn) -> Option<u64> {
+        let can_be_more = self.receive(waiting);
+        if self.write_items(conn) && can_be_more {
+            Some(self.deliveries.len() as u64)
+        } else {
+            None
+        }
+    }
+
+    /// Receives up to so many items in one hold of the bus's lock: whether there can be more.
+    fn receive(&mut self, waiting: u64) -> bool {
+        self.deliveries.clear();
         let mut port = HeldPort::new(&mut self.port);
         let mut can_be_more = true;
-        for _ in 0..waiting {
-            if !can_be_more || self.batch.len() > MOST_BYTES - LONGEST {
+        for _ in 0..waiting.min(MOST_ITEMS as u64) {
+            let delivery = self.session.take(&mut port);
+            let is_item = delivery.is_item();
+            can_be_more = self.deliveries.push(delivery).is_ok() && is_item;
+            if !can_be_more {
                 break;
             }
-            let delivered = self.session.deliver(&mut port, &mut self.batch);
-            can_be_more = delivered == Ok(true);
         }
-        drop(port);
-        self.write_batch(conn) && can_be_more
+        can_be_more
     }
 
-    /// Writes what the client is told, with no lock but the session's. Where the client does not take it, the session
-    /// ends.
-    fn write_batch(&mut self, conn: &Conn) -> bool {
-        let taken = Out(conn).write_all(&self.batch).is_ok();
-        if !taken {
+    /// Writes the texts of what was received: whether the client took them.
+    fn write_items(&mut self, conn: &Conn) -> bool {
+        let are_taken = write_texts(&self.deliveries, &mut self.batch, self.most_bytes, conn);
+        self.goes_on(are_taken, conn)
+    }
+
+    /// Ends the session where the client did not take what was written: whether it goes on.
+    fn goes_on(&mut self, is_taken: bool, conn: &Conn) -> bool {
+        if !is_taken {
             self.end();
             conn.shutdown();
         }
-        taken
+        is_taken
     }
 
     /// Ends the session.
@@ -151,6 +173,33 @@ impl<'a, N: RollName + MeterName, F: FaultSource + Drop, G: Gate + Drop, R: Wait
         let Talk { port, .. } = self;
         port.into_pass()
     }
+}
+
+/// Writes the texts of what was received, in writes of at most so many bytes: whether the client took them.
+fn write_texts(
+    deliveries: &[Delivery],
+    batch: &mut Vec<u8>,
+    most_bytes: usize,
+    conn: &Conn,
+) -> bool {
+    let full = most_bytes.saturating_sub(LONGEST);
+    batch.clear();
+    for delivery in deliveries {
+        if batch.len() > full && !write_out(batch, conn) {
+            return false;
+        }
+        if !delivery.write(batch) {
+            return false;
+        }
+    }
+    write_out(batch, conn)
+}
+
+/// Writes what a client is told, with no lock but its session's, and empties it: whether the client took it.
+fn write_out(batch: &mut Vec<u8>, conn: &Conn) -> bool {
+    let is_taken = Out(conn).write_all(batch).is_ok();
+    batch.clear();
+    is_taken
 }
 
 /// The interface that a call restarted, if it did.

@@ -17,7 +17,7 @@ pub fn put_attempt(
 {
     match outcome {
         Ok(Attempt::Tried(tried)) => put_tried(said, names, tried),
-        Ok(Attempt::Idle(restarted)) => put_idle(said, names, *restarted),
+        Ok(Attempt::Idle { restarted }) => put_idle(said, names, *restarted),
         Err(_) => said.extend_from_slice(b"record full\n"),
     }
 }

@@ -14,7 +14,7 @@ use Rattle.can_bus.specs.Run.{IsAnswer, history_after}
 use Rattle.can_bus.specs.Transmit.{tape}
 use Rattle.can_fault.specs.Sources.{VerdictMap, verdict_in}
 use Rattle.can_packed.specs.Records.{ListedEntries}
-use Rattle.can_event.specs.Spelled.{FitsReply}
+pub use Rattle.can_event.specs.Replies.{Suits}
 use Rattle.can_roll.specs.Lists.{row, Distinct, AllBelow}
 use Rattle.can_station.specs.Held.{Held, held_after}
 use Rattle.can_station.specs.Marks.{marked}
@@ -32,11 +32,6 @@ pub record PassSeen : Type 0 where
 -- after a call: it is noted with its answer, unless the record was full or memory was refused
 abbrev pub pass_after : Event → Reply → PassSeen → PassSeen
 pass_after e r p = record p { calls = history_after e r p.calls }
-
--- an answer that a bus may give: of the event's own kind, or a refusal
-abbrev pub Suits : Event → Reply → Type 0
-Suits e (reply.Refused why) = Unit {0}
-Suits e r = FitsReply e r
 
 -- an answer that a bus may give of an attempt
 abbrev pub SuitsAttempt : Reply → Type 0

@@ -11,7 +11,7 @@ pub(crate) fn attempt_in(reply: Reply) -> Result<Attempt, StationRefusal>
 {
     match reply {
         Reply::Tried(tried) => Ok(Attempt::Tried(tried)),
-        Reply::Idle(restarted) => Ok(Attempt::Idle(restarted)),
+        Reply::Idle { restarted } => Ok(Attempt::Idle { restarted }),
         Reply::Refused(why) => Err(StationRefusal::Bus(why)),
         _ => unreachable!(),
     }

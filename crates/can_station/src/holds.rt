@@ -187,10 +187,11 @@ impl<N: RollName + MeterName, F: FaultSource + Drop, G: Gate + Drop> Drop for Ho
     fn drop(self) {
         let Hold {
             station,
-            state,
+            mut state,
             news,
         } = self;
+        let woken = news.woken(&mut state);
         drop(state);
-        station.tell(news);
+        station.tell(news, woken);
     }
 }

@@ -19,6 +19,7 @@ pub mod holds;
 pub mod passes;
 mod publishing;
 pub mod refusals;
+mod rooms;
 pub mod state;
 pub mod stations;
 mod waits;

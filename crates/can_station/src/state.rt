@@ -17,8 +17,9 @@ use crate::gauges::{absorb_all, are_gauges_of};
 use crate::passes::{Pass, Settled, are_all_of, enters, recall_all};
 use crate::publishing::{counters_before, publish_changes};
 use crate::refusals::{TooManyPasses, WrongStation};
+use crate::rooms::{ROOMS, RoomSet, Sleeper, Sleepers};
 use crate::waits::Wake;
-use can_bus::{Event, IfaceStats, Record, Reply, RingBus, SocketId, SocketStats, answer};
+use can_bus::{Event, IfaceStats, Record, Reply, RingBus, SocketId, SocketStats};
 use can_fault::{FaultSource, Verdict};
 use can_frame::{Iface, Moment};
 use can_meter::{Gauge, Keeper, MeterName};
@@ -43,6 +44,7 @@ pub struct StationState<N: RollName + MeterName, F: FaultSource + Drop> {
     keeper: Keeper<N>,
     spare: Gauge<N>,
     stopped: bool,
+    sleepers: Sleepers,
 }
 
 impl<N: RollName + MeterName, F: FaultSource + Drop> Model for StationState<N, F> {
@@ -85,6 +87,7 @@ impl<N: RollName + MeterName, F: FaultSource + Drop> StationState<N, F> {
             keeper,
             spare,
             stopped: false,
+            sleepers: Sleepers::none(),
         }
     }
 
@@ -141,7 +144,7 @@ impl<N: RollName + MeterName, F: FaultSource + Drop> StationState<N, F> {
         ensures slip { slip.new ≡ slip_after event.now result slip.old }
     {
         let before = counters_before(&self.bus, event);
-        let reply = answer(&mut self.bus, alloc, event);
+        let reply = self.bus.answer(alloc, event);
         book(&mut self.roll, &mut self.marks, slip, event, &reply);
         let Some(before) = before else {
             return reply;
@@ -186,6 +189,42 @@ impl<N: RollName + MeterName, F: FaultSource + Drop> StationState<N, F> {
             None => 0,
             Some(counts) => counts.queued.saturating_sub(counts.taken),
         }
+    }
+
+    /// Why a wait for an item of this socket ends; where it does not, the thread is noted as one who waits.
+    pub(crate) fn frame_wake_or_sleep(&mut self, socket: SocketId) -> Option<Wake>
+        ensures wake { result ≡ frame_wake self.old socket.0 }
+        ensures same { self.new ≡ self.old }
+    {
+        let wake = self.frame_wake(socket);
+        if wake.is_none() {
+            self.sleepers.add(socket);
+        }
+        wake
+    }
+
+    /// The rooms in which a wait for an item may be over. Nobody counts as waiting there any more.
+    pub(crate) fn take_woken(&mut self) -> RoomSet
+        ensures { self.new ≡ self.old }
+    {
+        let woken = self.woken();
+        self.sleepers.leave(woken);
+        woken
+    }
+
+    fn woken(&self) -> RoomSet {
+        let mut woken = RoomSet::none();
+        for place in 0..ROOMS {
+            let is_over = match self.sleepers.sleeper(place) {
+                Sleeper::Nobody => false,
+                Sleeper::One(socket) => self.frame_wake(socket).is_some(),
+                Sleeper::Several => true,
+            };
+            if is_over {
+                woken.add(place);
+            }
+        }
+        woken
     }
 
     /// Why a wait for an item of this socket ends, if it does.
@@ -264,6 +303,7 @@ impl<N: RollName + MeterName, F: FaultSource + Drop> StationState<N, F> {
             mut keeper,
             spare: _,
             stopped: _,
+            sleepers: _,
         } = self;
         if !are_all_of(&passes, roll.number()) {
             return Err(WrongStation);

@@ -9,6 +9,7 @@ use crate::gates::{Gate, Point};
 use crate::holds::Hold;
 use crate::passes::{Pass, Settled, make_ready, make_ready_for};
 use crate::refusals::{StationRefusal, TooManyPasses, WrongStation};
+use crate::rooms::Rooms;
 use crate::state::StationState;
 use crate::waits::{News, ROOM};
 use can_bus::{Attempt, BusConfig, BusFault, Event, Refusal, Reply, RingBus};
@@ -52,7 +53,7 @@ pub struct Station<N: RollName + MeterName, F: FaultSource + Drop, G: Gate + Dro
     /// Where drivers wait for frames to send and interfaces to restart.
     pub(crate) work: Condvar,
     /// Where receivers wait for items.
-    pub(crate) items: Condvar,
+    pub(crate) items: Rooms,
     /// Where rests wait for the end.
     pub(crate) ends: Condvar,
     pub(crate) gate: G,
@@ -103,7 +104,7 @@ impl<N: RollName + MeterName, F: FaultSource + Drop, G: Gate + Drop> Station<N, 
         Ok(Station {
             state: Mutex::new(state),
             work: Condvar::new(),
-            items: Condvar::new(),
+            items: Rooms::new(),
             ends: Condvar::new(),
             gate,
             number,

@@ -4,6 +4,8 @@ ghost use Rattle.can_station.specs.Waits.{AreCounts, frame_wake, has_work, waiti
 
 use crate::gates::{Gate, Point};
 use crate::holds::Hold;
+use crate::rooms::RoomSet;
+use crate::state::StationState;
 use crate::stations::Station;
 use can_bus::{Event, IfaceStats, Refusal, Reply, SocketId, SocketStats};
 use can_fault::FaultSource;
@@ -62,12 +64,28 @@ impl News {
         match (event, reply) {
             (_, Reply::Refused(Refusal::RecordFull)) => self.is_full = true,
             (_, Reply::Refused(_)) => {}
-            (_, Reply::Idle(restarted)) if *restarted == IfaceSet::empty() => {}
+            (_, Reply::Idle { restarted }) if *restarted == IfaceSet::empty() => {}
             (Event::Send(_, _), _) => self.has_work = true,
             (Event::Close(_) | Event::Attempt(_, _) | Event::Restart(_, _), _) => {
                 self.has_items = true;
             }
             _ => {}
+        }
+    }
+}
+
+impl News {
+    /// The rooms of those for whom there is an item, or whose socket is closed.
+    pub(crate) fn woken<N: RollName + MeterName, F: FaultSource + Drop>(
+        self,
+        state: &mut StationState<N, F>,
+    ) -> RoomSet
+        ensures { state.new ≡ state.old }
+    {
+        if self.has_items {
+            state.take_woken()
+        } else {
+            RoomSet::none()
         }
     }
 }
@@ -100,12 +118,12 @@ impl<N: RollName + MeterName, F: FaultSource + Drop, G: Gate + Drop> Station<N, 
     pub fn wait_items<R: Wait>(&self, rt: &R, socket: SocketId) -> (Wake, u64)
         ensures { InSome F self.now (λ held. (frame_wake held socket.0 ≡ Some result.0) × (result.1 ≡ waiting_at held.journal socket.0)) }
     {
-        let state = self.items.wait_while(
+        let state = self.items.room(socket).wait_while(
             rt,
             self.state.lock(rt),
             |state|
                 ensures { is_none (frame_wake state.new socket.0) ≡ result }
-            { state.frame_wake(socket).is_none() },
+            { state.frame_wake_or_sleep(socket).is_none() },
         );
         let state = self.own(rt, state);
         let Some(wake) = state.frame_wake(socket) else {
@@ -186,20 +204,19 @@ impl<N: RollName + MeterName, F: FaultSource + Drop, G: Gate + Drop> Station<N, 
     pub fn stop<R: Wait>(&self, rt: &R) {
         self.state.lock(rt).stop();
         self.work.notify_all();
-        self.items.notify_all();
+        self.items.wake_all();
         self.ends.notify_all();
     }
 
-    /// Wakes those to whom calls gave something to do. The lock has to be free.
-    pub(crate) fn tell(&self, news: News) {
+    /// Wakes those to whom calls gave something to do: who waits for work, and who waits for items in these rooms. The
+    /// lock has to be free.
+    pub(crate) fn tell(&self, news: News, woken: RoomSet) {
         if news.is_full {
             let _ = self.fullness.compare_exchange(ROOM, FULL, SeqCst, SeqCst);
         }
         if news.has_work {
             self.work.notify_all();
         }
-        if news.has_items {
-            self.items.notify_all();
-        }
+        self.items.wake(woken);
     }
 }

@@ -1,16 +1,15 @@
 -- A line against what a bus answers.
-use Rattle.std.proofs.Common.{◌≡◌, ◌<◌, nat_le, ℕ, List, ◌∷◌, length, Option, Some, None, Err, inr, refl, sym, ap, ◌∙◌}
+use Rattle.std.proofs.Common.{◌≡◌, nat_le, ℕ, List, length, Option, Some, None, Err, inr, refl, sym, ap, ◌∙◌}
 use Rattle.std.proofs.lemmas.Bool.{cond-false, lt-leb}
 use Rattle.std.proofs.lemmas.Option.{none-some, same_Some}
 use Rattle.can_event.specs.declared.events.BusConfig.{BusConfig}
 use Rattle.can_event.specs.declared.events.Entry.{Entry}
 use Rattle.can_event.specs.declared.events.Event.{Event}
 use Rattle.can_event.specs.declared.events.Reply.{Reply}
-use Rattle.can_event.specs.declared.events.Reply.TheVariants as reply
-use Rattle.can_event.specs.declared.events.Refusal.TheVariants as refusal
-use Rattle.can_bus.specs.Lean.{Enters}
+use Rattle.can_event.specs.Replies.{Enters}
 use Rattle.can_bus.specs.Legal.{legal_reply}
-use Rattle.can_bus.specs.Run.{IsAnswer, history_after}
+use Rattle.can_bus.specs.Run.{IsAnswer}
+use Rattle.can_bus.proofs.Answering.{entered_is_legal}
 use Rattle.can_record.specs.declared.faults.Unread.{Unread}
 use Rattle.can_record.specs.declared.faults.Unread.TheVariants as unread
 use Rattle.can_record.specs.declared.versions.Version.{Version}
@@ -36,24 +35,12 @@ event_is text e ev rest whole is = when (reply_at (moment_of ev) (after rest)) (
     when None h = absurd (none-some e h)
     when (Some r) h = sym (ap (λ (d : Entry). d.event) (same_Some (record { event = ev; reply = r.0 }) e h))
 
--- what enters the record is the legal reply
-answered : (c : BusConfig) (past : List Entry) (e : Event) (r : Reply) → Enters r → IsAnswer c past e r → (length past < c.limit) × (r ≡ legal_reply c past e)
-answered c past e (reply.Refused refusal.RecordFull) enters h = absurd enters
-answered c past e (reply.Refused refusal.NoMemory) enters h = absurd enters
-answered c past e r enters h = h
-
--- what enters the record is noted
-pub entered : (e : Event) (r : Reply) (past : List Entry) → Enters r → history_after e r past ≡ record { event = e; reply = r } ∷ past
-entered e (reply.Refused refusal.RecordFull) past enters = absurd enters
-entered e (reply.Refused refusal.NoMemory) past enters = absurd enters
-entered e r past enters = refl
-
 -- an entry whose line is not that of its event with the legal reply is wrong
 pub other_reply : (v : Version) (c : BusConfig) (past : List Entry) (line rest more : List ℕ) (e : Entry) (ev : Event) (r : Reply) → HasLine v c e → line ≡ entry_line e rest → event_at line ≡ Some (ev, more)
     → Enters r → IsAnswer c past ev r → (line ≡ answered_line ev r rest → ⊥) → IsWrongNext c past e (Some r)
 other_reply v c past line rest more e ev r good is guessed enters answer other =
     let same : e.event ≡ ev = event_is line e ev more (ap entry_at is ∙ entry_again v c e rest good) guessed in
-    let lawful = answered c past ev r enters answer in
+    let lawful = entered_is_legal c past ev r answer enters in
     let law : r ≡ legal_reply c past e.event = lawful.1 ∙ ap (legal_reply c past) (sym same) in
     record {
       wrong = inr (λ right.

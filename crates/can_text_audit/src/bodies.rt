@@ -117,6 +117,7 @@ impl Body {
     }
 
     // The first entry's line that is not legal.
+    #[inline(never)]
     fn blame(
         &mut self,
         alloc: Global,
@@ -142,6 +143,7 @@ impl Body {
     }
 
     // An entry's line behind a wrong one.
+    #[inline(never)]
     fn read_on(&mut self, alloc: Global, buffer: &mut Vec<u8>, line: &[u8]) -> Result<(), Unread>
         requires wrong { IsSome self.old.wrong }
         requires few { self.old.count < 2 ^ 32 - 1 }

@@ -1,5 +1,5 @@
 ghost use Rattle.std.specs.Prelude.{◌≡◌, ◌↔◌, [], Err, IfOk, IsTrue, List, drop, length, ℕ};
-ghost use Rattle.can_bus.specs.Lean.{Enters, Stands};
+ghost use Rattle.can_bus.specs.Lean.{Stands};
 ghost use Rattle.can_event.specs.Spelled.{FitsReply};
 ghost use Rattle.can_event.specs.declared.events.Entry.{Entry as AnEntry};
 ghost use Rattle.can_record.specs.Spelling.{answered_line};
@@ -43,7 +43,7 @@ pub fn carry_line(
     if is_past_limit(&reply) {
         return Ok(Carried::Other(None));
     }
-    if !enters(&reply) {
+    if !reply.enters() {
         return Err(Unread::NoMemory);
     }
     match is_line_of(buffer, &event, &reply, line) {
@@ -78,14 +78,4 @@ fn is_past_limit(reply: &Reply) -> bool
     ensures { IsTrue result ↔ (reply.now ≡ Reply.Refused Refusal.RecordFull) }
 {
     matches!(reply, Reply::Refused(Refusal::RecordFull))
-}
-
-/// Whether a record has this reply: no refusal for a full record or for want of memory.
-fn enters(reply: &Reply) -> bool
-    ensures { IsTrue result ↔ Enters reply.now }
-{
-    !matches!(
-        reply,
-        Reply::Refused(Refusal::RecordFull | Refusal::NoMemory)
-    )
 }

@@ -57,11 +57,18 @@ impl TextAudit {
     {
         match self.take(alloc, line) {
             Ok(()) => Ok(()),
-            Err(why) => {
-                self.course = Course::Failed(why);
-                Err(why)
-            }
+            Err(why) => self.fail(why),
         }
+    }
+
+    // Keeps the fault of a line, and returns it.
+    #[inline(never)]
+    fn fail(&mut self, why: ReadFault) -> Result<(), ReadFault>
+        ensures failed { HasFailed why self.new }
+        ensures returned { result ≡ Err why }
+    {
+        self.course = Course::Failed(why);
+        Err(why)
     }
 
     // Takes a line where none was at fault.
@@ -71,23 +78,34 @@ impl TextAudit {
         ensures again { (why : AFault) → HasFailed why self.old → result ≡ Err why }
     {
         match &mut self.course {
-            Course::Start => match first_version(line) {
-                Ok(version) => {
-                    self.course = Course::Front(version);
-                    Ok(())
-                }
-                Err(why) => Err(why),
-            },
-            Course::Front(version) => match Body::read(alloc, &mut self.buffer, *version, line) {
-                Ok(body) => {
-                    self.course = Course::Body(body);
-                    Ok(())
-                }
-                Err(why) => Err(why),
-            },
+            Course::Start => self.take_first(line),
+            Course::Front(version) => {
+                let version = *version;
+                self.take_second(alloc, version, line)
+            }
             Course::Body(body) => body.carry(alloc, &mut self.buffer, line),
             Course::Failed(why) => Err(*why),
         }
+    }
+
+    // Takes the first line, which names the version.
+    #[inline(never)]
+    fn take_first(&mut self, line: &[u8]) -> Result<(), ReadFault>
+        ensures taken { OnOk result (IsLine line.now → AreTaken line.now self.new) }
+        ensures fault { IfErr result (λ why. (after : List ℕ) → MayFollow line.now after → Reads (line.now ++ after) (Err why)) }
+    {
+        self.course = Course::Front(first_version(line)?);
+        Ok(())
+    }
+
+    // Takes the second line, which is the bus's.
+    #[inline(never)]
+    fn take_second(&mut self, alloc: Global, version: Version, line: &[u8]) -> Result<(), ReadFault>
+        ensures taken { OnOk result (IsLine line.now → AreTaken (first_line version ++ line.now) self.new) }
+        ensures fault { IfErr result (λ why. (after : List ℕ) → MayFollow line.now after → Reads (first_line version ++ (line.now ++ after)) (Err why)) }
+    {
+        self.course = Course::Body(Body::read(alloc, &mut self.buffer, version, line)?);
+        Ok(())
     }
 
     /// The text has ended: how many entries its record has, where it is a legal one.

@@ -1,2 +1,3 @@
+pub mod HeldLines
 pub mod Telling
 pub mod Underway

@@ -13,13 +13,13 @@ use Rattle.can_text_audit.proofs.LineEnds.{nothing_more}
 use Rattle.canbusd_faults.specs.declared.faults.Fault.{Fault}
 use Rattle.canbusd_faults.specs.declared.faults.Fault.TheVariants as fault
 use Rattle.canbusd_files.specs.Files.{IsOfReading}
-use Rattle.canbusd_audit.specs.Audited.{Faults, IsBefore, IsOfLine, IsRead, IsTextIn, IsUnderway}
+use Rattle.canbusd_audit.specs.Audited.{Faults, IsAtFault, IsBefore, IsOfLine, IsRead, IsTextIn, IsUnderway}
 
 nothing_read : (o : Option (List ℕ)) → Consumes o o []
 nothing_read None = tt
 nothing_read (Some xs) = refl
 
-more_read : (a b c : Option (List ℕ)) (x y : List ℕ) → Consumes a b x → Consumes b c y → Consumes a c (x ++ y)
+pub more_read : (a b c : Option (List ℕ)) (x y : List ℕ) → Consumes a b x → Consumes b c y → Consumes a c (x ++ y)
 more_read None b c x y h k = tt
 more_read (Some xs) None c x y h k = absurd h
 more_read (Some xs) (Some ys) None x y h k = absurd k
@@ -70,6 +70,11 @@ pub fails_so : (first now after : Option (List ℕ)) (line : List ℕ) (audit : 
     → ((text rest : List ℕ) → AreTaken text audit → IsLine line → MayFollow line rest → Reads (text ++ (line ++ rest)) (Err what)) → (text : List ℕ) × IsTextIn first text × Faults text why
 fails_so first now after line audit what why (inl is) u read step = subst (λ (w : Fault). (text : List ℕ) × IsTextIn first text × Faults text w) (sym is) (fails first now after line audit what u read step)
 fails_so first now after line audit what why (inr h) u read step = stops first why h
+
+-- the same of a line that the reader still holds
+pub fails_held : (first now : Option (List ℕ)) (audit : TextAudit) (what : ReadFault) (why : Fault) → IsOfLine what why → IsUnderway first now audit → IsAtFault now audit what → (text : List ℕ) × IsTextIn first text × Faults text why
+fails_held first now audit what why (inl is) u fault = subst (λ (w : Fault). (text : List ℕ) × IsTextIn first text × Faults text w) (sym is) (fault first u)
+fails_held first now audit what why (inr h) u fault = stops first why h
 
 -- ---- one line
 

@@ -83,6 +83,14 @@ pub record IsUnderway (first now : Option (List ℕ)) (audit : TextAudit) : Type
   pub consumed : Consumes first now text
   pub taken : AreTaken text audit
 
+-- from lines that were taken before, a reader and an audit went on to these
+abbrev pub GoesOn : Option (List ℕ) → Option (List ℕ) → TextAudit → TextAudit → Type 0
+GoesOn old new before after = (first : Option (List ℕ)) → IsUnderway first old before → IsUnderway first new after
+
+-- behind the lines that were taken, what a reader has left is at fault so
+abbrev pub IsAtFault : Option (List ℕ) → TextAudit → ReadFault → Type 0
+IsAtFault now audit why = (first : Option (List ℕ)) → IsUnderway first now audit → (text : List ℕ) × IsTextIn first text × Reads text (Err why)
+
 -- a wrong entry has a line, and so has its event with the legal reply
 pub record FitsLines (w : WrongLine) : Type 0 where
   pub entry : FitsReply w.entry.event w.entry.reply

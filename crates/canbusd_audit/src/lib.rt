@@ -8,6 +8,7 @@
 
 mod audit_job;
 mod ends;
+mod held_lines;
 mod line_taking;
 mod notes;
 mod wrong_entries;

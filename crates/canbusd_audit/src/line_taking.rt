@@ -3,6 +3,7 @@ ghost use Rattle.can_text_audit.specs.TextAudits.{AreTaken};
 ghost use Rattle.canbusd_audit.specs.Audited.{Faults, IsNextLine, IsOfLine, IsTextIn};
 ghost use Rattle.canbusd_files.specs.Files.{IsOfReading};
 
+use crate::held_lines::take_held;
 use crate::notes::record_note;
 use can_record::ReadFault;
 use can_text_audit::TextAudit;
@@ -27,20 +28,47 @@ pub fn take_lines<'a, R: BufRead>(
     ensures fault { IfErr result (λ failure. (text : List ℕ) × IsTextIn (R.remaining input.old) text × Faults text failure.fault) }
 {
     let mut line = Vec::new(alloc);
-    for number in 1..u64::MAX {
+    let mut lines = 0;
+    for _ in 0..u64::MAX {
+        match take_held(alloc, input, audit, &mut lines) {
+            Ok(None) => {}
+            Ok(Some(fault)) => {
+                return Err(held_failure(alloc, path, lines, input, &mut line, fault));
+            }
+            Err(error) => return Err(read_failure(alloc, path, &error)),
+        }
         match next_line(alloc, path, input, &mut line) {
             Ok(true) => {}
-            Ok(false) => return Ok(number - 1),
+            Ok(false) => return Ok(lines),
             Err(failure) => return Err(failure),
         }
+        lines = lines.saturating_add(1);
         match audit.carry(alloc, &line) {
             Ok(()) => {}
             Err(fault) => {
-                return Err(line_failure(alloc, path, number, input, &mut line, fault));
+                return Err(line_failure(alloc, path, lines, input, &mut line, fault));
             }
         }
     }
     Err(Failure::new(alloc, Fault::Read))
+}
+
+// What is told of a line at fault that the input still holds, and that follows so many others.
+#[inline(never)]
+fn held_failure<'a, R: BufRead>(
+    alloc: Global,
+    path: &str,
+    lines: u64,
+    input: &mut R,
+    line: &mut Vec<u8>,
+    fault: ReadFault,
+) -> Failure<'a>
+    ensures { IsOfLine fault result.fault }
+{
+    match next_line(alloc, path, input, line) {
+        Ok(_) => line_failure(alloc, path, lines.saturating_add(1), input, line, fault),
+        Err(failure) => failure,
+    }
 }
 
 // What is told of a line that is at fault.

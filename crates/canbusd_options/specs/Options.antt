@@ -70,6 +70,9 @@ pub record AreServeOptions (rows : List Row) (o : ServeOptions) : Type 0 where
   pub few : o.sessions ≤ 4000
   pub pace : IsNumberOf o.pace_ms (given rows (codes "pace"))
   pub short : o.pace_ms ≤ 60000
+  pub write : IsNumberOf o.write_bytes (given rows (codes "write"))
+  pub one_frame : 256 ≤ o.write_bytes
+  pub many_frames : o.write_bytes ≤ 65536
   pub folder : option_map (λ path. path.now) o.folder ≡ first_of (codes "out") rows
   pub until_eof : one_of (codes "until-eof") rows ≡ Some (codes "true") → o.is_until_eof ≡ true
   pub on_and_on : one_of (codes "until-eof") rows ≡ Some (codes "false") → o.is_until_eof ≡ false

@@ -48,10 +48,11 @@ bench_app =
 
 abbrev pub serve_app : App
 serve_app =
-    with_rule (with_rule (with_rule (with_rule (with_rule (with_rule (with_rule (with_bus_rules (new_app (codes "serve")))
+    with_rule (with_rule (with_rule (with_rule (with_rule (with_rule (with_rule (with_rule (with_bus_rules (new_app (codes "serve")))
     (default_rule (codes "listen") (codes "127.0.0.1:29536")))
     (default_rule (codes "sessions") (codes "4000")))
     (default_rule (codes "pace") (codes "1")))
+    (default_rule (codes "write") (codes "1024")))
     (option_rule (codes "out")))
     (flag_rule (codes "until-eof")))
     (flag_rule (codes "verbose")))

@@ -22,6 +22,8 @@ const SESSIONS: &str = "sessions";
 
 const PACE: &str = "pace";
 
+const WRITE: &str = "write";
+
 const OUT: &str = "out";
 
 const UNTIL_EOF: &str = "until-eof";
@@ -31,6 +33,10 @@ const VERBOSE: &str = "verbose";
 const MOST_SESSIONS: u32 = 4_000;
 
 const MOST_PACE: u32 = 60_000;
+
+const LEAST_WRITE: u32 = 256;
+
+const MOST_WRITE: u32 = 65_536;
 
 /// The words of `canbusd serve`.
 #[derive(Debug, Drop)]
@@ -43,6 +49,8 @@ pub struct ServeOptions<'a> {
     pub sessions: u32,
     /// How many milliseconds pass after each attempt, at most 60,000.
     pub pace_ms: u32,
+    /// The most bytes of frames that a client gets in one write, 256 to 65,536.
+    pub write_bytes: u32,
     /// The folder that gets logs and records, if they are wanted.
     pub folder: Option<&'a str>,
     /// Whether the end of standard input ends the run.
@@ -61,6 +69,7 @@ pub fn serve_options<'a>(alloc: Global, serve: &ArgMatches<'a>) -> Result<ServeO
         address: serve.get_str(LISTEN).unwrap_or(""),
         sessions: number_within(alloc, Verb::Serve, serve, SESSIONS, 1, MOST_SESSIONS)?,
         pace_ms: number_within(alloc, Verb::Serve, serve, PACE, 0, MOST_PACE)?,
+        write_bytes: number_within(alloc, Verb::Serve, serve, WRITE, LEAST_WRITE, MOST_WRITE)?,
         folder: serve.get_str(OUT),
         is_until_eof: serve.get_flag(UNTIL_EOF),
         is_verbose: serve.get_flag(VERBOSE),
@@ -93,6 +102,7 @@ pub fn serve_command<'a>(alloc: Global) -> Result<Command<'a>, AllocError>
 {
     let sessions_help = "Sessions to serve before the end, 1 to 4000";
     let pace_help = "Milliseconds after each attempt of a bus, 0 to 60000";
+    let write_help = "Most bytes of frames in one write to a client, 256 to 65536";
     let command = Command::new(alloc, "serve")
         .about("Serve clients on buses")
         .after_help(SERVE_HELP);
@@ -100,6 +110,7 @@ pub fn serve_command<'a>(alloc: Global) -> Result<Command<'a>, AllocError>
         .arg(listen_option(alloc))?
         .arg(number_option(alloc, SESSIONS, "N", "4000", sessions_help))?
         .arg(number_option(alloc, PACE, "MS", "1", pace_help))?
+        .arg(number_option(alloc, WRITE, "BYTES", "1024", write_help))?
         .arg(out_option(alloc))?
         .arg(until_eof_option(alloc))?
         .arg(verbose_option(alloc))?

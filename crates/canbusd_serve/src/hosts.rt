@@ -24,6 +24,8 @@ pub struct Host<'h, 'a, 'l, H, E: Write> {
     pub alloc: Global,
     /// Whether each notice gets a line.
     pub is_verbose: bool,
+    /// The most bytes of items that a client gets in one write.
+    pub write_bytes: usize,
     pub buses: &'h [BusWord<'a>],
     pub errors: Mutex<&'h mut E>,
     /// Whether a bus has lost its driver.
@@ -41,6 +43,10 @@ impl<H: Wait + time::Clock, E: Write> Clock for Host<'_, '_, '_, H, E> {
 
     fn is_curious(&self) -> bool {
         self.is_verbose
+    }
+
+    fn write_bytes(&self) -> usize {
+        self.write_bytes
     }
 
     fn tell(&self, notice: Notice) {

@@ -244,6 +244,7 @@ impl<'r, 'a, H: ServerRuntime> ServerRun<'r, 'a, H> {
             rt: self.rt,
             alloc: self.alloc,
             is_verbose: self.options.is_verbose,
+            write_bytes: self.options.write_bytes as usize,
             buses: &self.options.buses,
             errors: Mutex::new(errors),
             has_lost: &self.has_lost,

@@ -20,7 +20,7 @@ from canbusd.frames import MESSAGE
 DEFAULT_ADDRESS = "127.0.0.1:29536"
 # HOST:PORT or [V6]:PORT.
 HOST_PORT = re.compile(r"(?:\[([^][]+)\]|([^][:]+)):([0-9]{1,5})")
-# At most so many bytes are read at once.
+# The most bytes that are read at once.
 PIECE = 65536
 # Seconds that a server is given to end a session.
 PARTING = 1.0
@@ -153,7 +153,7 @@ class Connection:
                     self._answers.clear()
 
     def frame(self, timeout: Optional[float]) -> Optional[str]:
-        """Returns the next message that hands over a frame, from `<` on; None where none came in so many seconds."""
+        """Returns the next message that hands over a frame, from `<` on; None where none came in this time, in seconds."""
         if self._frames and self._readiness is None:
             # The usual case in a burst.
             try:
@@ -302,7 +302,7 @@ class Connection:
                     self._changed.wait(left)
 
     def _read(self, seconds: Optional[float], events: int) -> None:
-        """Reads what there is, or what comes in so many seconds, and sorts it; the others may go on meanwhile."""
+        """Reads what there is, or what comes within these seconds, and sorts it; the others may go on meanwhile."""
         self._reading = True
         self._changed.release()
         length: Optional[int] = None

@@ -5,7 +5,7 @@ Frames are in canbusd.frames: `command_of` and `frame_of`. Nothing here needs py
 
 from typing import Any, List, Mapping, NamedTuple, Optional, Sequence, Tuple, Union
 
-# What may stand between `<` and `>`.
+# What may be between `<` and `>`.
 LONGEST_MESSAGE = 1024
 ALL_CLASSES = 0x1FFFFFFF
 EXTENDED, INVERTED = 0x80000000, 0x20000000

@@ -18,6 +18,7 @@ Self = TypeVar("Self", bound="Run")
 NUMBERS: Dict[str, Tuple[str, int, int]] = {
     "auto_restart": ("--auto-restart", 0, 1_000_000),
     "pace_ms": ("--pace", 0, 60_000),
+    "write_bytes": ("--write", 256, 65_536),
     "txqueue": ("--txqueue", 1, 1024),
     "rxqueue": ("--rxqueue", 1, 65_536),
     "limit": ("--limit", 1, 1 << 24),

@@ -29,7 +29,7 @@ ERROR_FRAME = "[23][0-9A-F]{7}#[0-9A-F]{16}"
 
 # cansend's spelling: an FD frame has a second # and a digit of flags.
 SPELLING = re.compile("([0-9A-Fa-f]+)#(?:#([0-9A-Fa-f]))?([0-9A-Fa-fRr.]*)")
-# A session's message with a frame or an error message frame. In answers `error` stands before no moment.
+# A session's message with a frame or an error message frame. In answers no moment follows `error`.
 MESSAGE = re.compile("(frame|fdframe|remote|error) ([0-9A-F]+) ([0-9]+[.][0-9]{6})(?: +([0-9A-F]*))?")
 
 

@@ -90,6 +90,7 @@ class Server(Run):
         report: bool = False,
         auto_restart: int = 0,
         pace_ms: int = 1,
+        write_bytes: int = 16_384,
         txqueue: int = 10,
         rxqueue: int = 256,
         limit: int = 1_000_000,
@@ -99,7 +100,14 @@ class Server(Run):
         if not buses or not all(isinstance(bus, str) for bus in buses):
             raise ValueError(f"buses are given by the names of their interfaces, such as 'can0,can1', not {buses!r}")
         options = option_words(
-            ack, report, auto_restart=auto_restart, pace_ms=pace_ms, txqueue=txqueue, rxqueue=rxqueue, limit=limit
+            ack,
+            report,
+            auto_restart=auto_restart,
+            pace_ms=pace_ms,
+            write_bytes=write_bytes,
+            txqueue=txqueue,
+            rxqueue=rxqueue,
+            limit=limit,
         )
         super().__init__(out)
         self._txqueue = txqueue

@@ -70,7 +70,7 @@ fn is_fd(received: &Received, len: u8) -> bool {
 /// Whether an attempt restarted an interface.
 fn is_restarting(reply: &Reply) -> bool {
     match reply {
-        Reply::Idle(restarted) => *restarted != IfaceSet(0),
+        Reply::Idle { restarted } => *restarted != IfaceSet(0),
         Reply::Tried(tried) => tried.restarted != IfaceSet(0),
         _ => false,
     }
@@ -78,7 +78,7 @@ fn is_restarting(reply: &Reply) -> bool {
 
 fn is_of(reply: &Reply, kind: Kind) -> bool {
     match kind {
-        Kind::Idle => matches!(reply, Reply::Idle(_)),
+        Kind::Idle => matches!(reply, Reply::Idle { .. }),
         Kind::Restarts => is_restarting(reply),
         Kind::Tried(class) => matches!(reply, Reply::Tried(tried) if tried.class == class),
         Kind::GoesOff => matches!(reply, Reply::Tried(tried) if tried.off != IfaceSet(0)),

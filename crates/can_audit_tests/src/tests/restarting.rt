@@ -78,6 +78,13 @@ fn wrong(rt: &impl AllocGlobal, text: &str) -> Result<Option<(usize, Option<Repl
     })
 }
 
+/// The reply of an attempt that tried nothing, and restarted these.
+fn idle(restarted: u16) -> Reply {
+    Reply::Idle {
+        restarted: IfaceSet(restarted),
+    }
+}
+
 #[test]
 fn a_record_with_a_restart_is_read_and_written_again(rt: HostRuntime) -> Result<(), Fail> {
     assert!(rt; again(&rt, RESTARTED)?.as_slice() == RESTARTED.as_bytes());
@@ -90,7 +97,7 @@ fn a_record_with_a_restart_is_read_and_written_again(rt: HostRuntime) -> Result<
 #[test]
 fn a_restart_that_is_left_out_is_wrong(rt: HostRuntime) -> Result<(), Fail> {
     let left_out = changed(&rt, " restarted 0001", "")?;
-    let restarted = Reply::Idle(IfaceSet(0b01));
+    let restarted = idle(0b01);
     assert!(rt; wrong(&rt, &left_out)? == Some((37, Some(restarted))));
     let both = changed(&rt, "restarted 0001", "restarted 0003")?;
     assert!(rt; wrong(&rt, &both)? == Some((37, Some(restarted))));
@@ -99,7 +106,7 @@ fn a_restart_that_is_left_out_is_wrong(rt: HostRuntime) -> Result<(), Fail> {
         "000033 good = idle",
         "000033 good = idle restarted 0001",
     )?;
-    assert!(rt; wrong(&rt, &early)? == Some((36, Some(Reply::Idle(IfaceSet(0))))));
+    assert!(rt; wrong(&rt, &early)? == Some((36, Some(idle(0)))));
     // Attempts are counted from the one behind that which took the interface off.
     let sooner = changed(&rt, "10 100 2\n", "10 100 1\n")?;
     assert!(rt; wrong(&rt, &sooner)? == Some((36, Some(restarted))));

@@ -101,7 +101,8 @@ fn bus_off_and_restart(rt: &(impl Abort + AllocGlobal)) -> Result<(), Fail> {
     all_end(rt, &told, attempts, Class::Destroyed, 0)?;
     told.gives_error(rt, off, 32, 0x040, [0; 8])?;
     told.refuses(rt, refused, Refusal::BusOff)?;
-    told.replies(rt, idle, Reply::Idle(IfaceSet(0)))?;
+    let restarted = IfaceSet(0);
+    told.replies(rt, idle, Reply::Idle { restarted })?;
     told.replies(rt, restart, Reply::Done)?;
     told.gives_error(rt, back, 40, 0x100, [0; 8])?;
     same(rt, told.items(back, 0)?, [2, 0, 2]);

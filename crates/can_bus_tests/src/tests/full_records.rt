@@ -1,7 +1,7 @@
 // A record that is full gives every entry back.
 
 use super::*;
-use can_bus::{Entry, Looked, Record, answer};
+use can_bus::{Entry, Looked, Record};
 
 fn asked(events: &mut Vec<Event>, event: Event) {
     let _ = events.push(event);
@@ -108,7 +108,7 @@ fn a_full_record_gives_every_kind_of_entry_back(rt: HostRuntime) -> Result<(), F
         },
     )?;
     let replies = carried_out(&rt, &mut bus, &events)?;
-    let one_more = answer(&mut bus, rt.alloc(), &Event::Receive(SocketId(1)));
+    let one_more = bus.answer(rt.alloc(), &Event::Receive(SocketId(1)));
     same(&rt, one_more, Reply::Refused(Refusal::RecordFull));
     let record = bus.into_record();
     let entries = copied(&rt, &record)?;

@@ -4,7 +4,7 @@ use super::full_records::{copied, shows};
 use super::*;
 use can_arbiter::Arbiter;
 use can_attempt::Class;
-use can_bus::{Entry, IfaceStats, Pending, RingBus, SocketStats, answer};
+use can_bus::{Entry, IfaceStats, Pending, RingBus, SocketStats};
 use can_queue::BoundedQueue;
 use std::ops::{Range, RangeInclusive};
 
@@ -123,7 +123,7 @@ fn after<T: BoundedQueue<Pending>, R: BoundedQueue<Received>, A: Arbiter>(
     bus: &mut Bus<T, R, A>,
     event: &Event,
 ) -> Result<Step, Fail> {
-    let reply = answer(bus, rt.alloc(), event);
+    let reply = bus.answer(rt.alloc(), event);
     let ifaces = [
         iface_stats(bus, 0)?,
         iface_stats(bus, 1)?,

@@ -2,7 +2,7 @@
 
 use super::*;
 use can_attempt::Class;
-use can_bus::{Entry, Record, answer, is_spelled};
+use can_bus::{Entry, Record, is_spelled};
 use can_frame::ErrorFrame;
 
 /// Adds an entry where there is room for it.
@@ -99,7 +99,7 @@ fn one_frame(rt: &impl AllocGlobal) -> Result<Vec<Entry>, Fail> {
 // The calls, without their clauses.
 
 fn answered(rt: &impl AllocGlobal, bus: &mut ListBus, event: &Event) -> Reply {
-    answer(bus, rt.alloc(), event)
+    bus.answer(rt.alloc(), event)
 }
 
 fn made_again(config: BusConfig, entries: Vec<Entry>) -> Result<Record, Fail> {

@@ -7,9 +7,11 @@ const NONE: IfaceSet = IfaceSet(0);
 
 const FIRST: IfaceSet = IfaceSet(1);
 
-/// What an attempt came to, without faults.
-fn next(bus: &mut ListBus, micros: u64) -> Result<Attempt, Fail> {
-    Ok(try_attempt(bus, Moment::new(micros)?, Verdict::Good)?)
+/// The next attempt is idle, and restarts these interfaces.
+fn idles(rt: &impl Abort, bus: &mut ListBus, micros: u64, restarted: IfaceSet) -> Result<(), Fail> {
+    let outcome = try_attempt(bus, Moment::new(micros)?, Verdict::Good)?;
+    same(rt, outcome, Attempt::Idle { restarted });
+    Ok(())
 }
 
 /// Whether an interface counts towards its restart.
@@ -41,14 +43,14 @@ fn off(rt: &(impl Abort + AllocGlobal), auto_restart: u32) -> Result<ListBus, Fa
 fn comes_back(rt: &(impl Abort + AllocGlobal)) -> Result<(), Fail> {
     let mut bus = off(rt, 2)?;
     assert!(rt; counts_down(&bus));
-    same(rt, next(&mut bus, 33)?, Attempt::Idle(NONE));
+    idles(rt, &mut bus, 33, NONE)?;
     same(
         rt,
         try_send(&mut bus, 0, frame(0x123)?),
         Err(Refusal::BusOff),
     );
     assert!(rt; counts_down(&bus));
-    same(rt, next(&mut bus, 34)?, Attempt::Idle(FIRST));
+    idles(rt, &mut bus, 34, FIRST)?;
     assert!(rt; !counts_down(&bus));
     same(rt, counts(&bus, 0)?, (0, 0));
     gets_error(rt, &mut bus, 0, 34, 0x100, [0; 8])?;
@@ -79,10 +81,10 @@ fn comes_back_after_the_attempt(rt: &(impl Abort + AllocGlobal)) -> Result<(), F
 /// A restart by hand ends the count.
 fn comes_back_by_hand(rt: &(impl Abort + AllocGlobal)) -> Result<(), Fail> {
     let mut bus = off(rt, 2)?;
-    same(rt, next(&mut bus, 33)?, Attempt::Idle(NONE));
+    idles(rt, &mut bus, 33, NONE)?;
     restart(&mut bus, 0, 33)?;
     assert!(rt; !counts_down(&bus));
-    same(rt, next(&mut bus, 34)?, Attempt::Idle(NONE));
+    idles(rt, &mut bus, 34, NONE)?;
     gets_error(rt, &mut bus, 0, 33, 0x100, [0; 8])?;
     gets_nothing(rt, &mut bus, 0)
 }
@@ -92,7 +94,7 @@ fn stays_off(rt: &(impl Abort + AllocGlobal)) -> Result<(), Fail> {
     let mut bus = off(rt, 0)?;
     assert!(rt; !counts_down(&bus));
     for micros in 33..40 {
-        same(rt, next(&mut bus, micros)?, Attempt::Idle(NONE));
+        idles(rt, &mut bus, micros, NONE)?;
     }
     gets_nothing(rt, &mut bus, 0)
 }

@@ -60,7 +60,7 @@ fn is_wanted(place: u32, reply: &Reply) -> bool {
         Reply::Tried(tried) if place < 32 => {
             tried.class == Class::Destroyed && tried.off == IfaceSet(u16::from(place == 31))
         }
-        Reply::Idle(restarted) => {
+        Reply::Idle { restarted } => {
             matches!((place, *restarted), (32, IfaceSet(0)) | (33, IfaceSet(1)))
         }
         Reply::Tried(tried) => place == 34 && tried.class == Class::Done && tried.number == 1,
@@ -84,7 +84,7 @@ fn comes_back<N: RollName + MeterName + Send + Sync, R: Machine>(
             break;
         };
         let reply = &looked.entry().reply;
-        if matches!(reply, Reply::Tried(_) | Reply::Idle(_)) {
+        if matches!(reply, Reply::Tried(_) | Reply::Idle { .. }) {
             assert!(rt; is_wanted(attempts, reply));
             attempts = attempts.wrapping_add(1);
         }

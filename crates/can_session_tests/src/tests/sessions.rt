@@ -50,7 +50,9 @@ impl Port for Counting {
             Event::Close(_) => Err(PortRefusal::Bus(Refusal::RecordFull)),
             Event::Send(_, _) => Err(PortRefusal::WrongStation),
             Event::Receive(_) => Ok(Reply::Received(received())),
-            Event::Attempt(_, _) => Ok(Reply::Idle(IfaceSet::empty())),
+            Event::Attempt(_, _) => Ok(Reply::Idle {
+                restarted: IfaceSet::empty(),
+            }),
             _ => Ok(Reply::Done),
         }
     }

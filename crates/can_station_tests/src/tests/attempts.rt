@@ -80,7 +80,7 @@ fn gives_verdicts<N: RollName + MeterName, R: Wait + Abort>(rt: &R, alloc: Globa
     let mut both = Both { caller, bus };
     both.open(0);
     both.open(1);
-    assert!(rt; both.attempt(1, FORM) == Some(Attempt::Idle(none)));
+    assert!(rt; both.attempt(1, FORM) == Some(Attempt::Idle { restarted: none }));
     assert!(rt; both.send() == 0);
     assert!(rt; both.tries(2, Verdict::Good) == (Class::Done, can1));
     assert!(rt; reading(rt, &mut gauge, 0) == (0, 0, 0));

@@ -10,7 +10,9 @@ use std::marker::Brand;
 use std::test::Fail;
 use std::thread::Threads;
 
-const NOBODY: Attempt = Attempt::Idle(IfaceSet(0));
+const NOBODY: Attempt = Attempt::Idle {
+    restarted: IfaceSet(0),
+};
 
 fn restarting() -> BusConfig {
     BusConfig {

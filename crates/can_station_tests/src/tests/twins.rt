@@ -3,7 +3,7 @@
 ghost use Rattle.std.specs.Prelude.{◌≡◌};
 
 use super::*;
-use can_bus::{Event, Record, Reply, RingBus, answer};
+use can_bus::{Event, Record, Reply, RingBus};
 use can_filter::{Filter, FilterSet};
 use can_station::{Open, Wake};
 use std::marker::Brand;
@@ -141,7 +141,7 @@ fn call_bus(bus: &mut RingBus, source: &mut Script, alloc: Global, event: Event)
         Event::Attempt(moment, _) => Event::Attempt(moment, source.verdict(bus.next_attempt())),
         other => other,
     };
-    let _ = answer(bus, alloc, &event);
+    let _ = bus.answer(alloc, &event);
 }
 
 /// How a wait for this socket has to end, by the bus's counts: `None` where it may not.
@@ -259,7 +259,7 @@ fn is_answered<N: RollName>(pass: &Pass<N>, place: usize, record: &Record) -> bo
 /// Whether the call of a pass at this place was an idle attempt that restarted these.
 fn is_idle<N: RollName>(pass: &Pass<N>, place: usize, restarted: IfaceSet) -> bool {
     match pass.call(place) {
-        Some(call) => call.entry().reply == Reply::Idle(restarted),
+        Some(call) => call.entry().reply == Reply::Idle { restarted },
         None => false,
     }
 }

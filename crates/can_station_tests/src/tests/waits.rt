@@ -127,6 +127,64 @@ fn each_call_wakes<N: RollName + MeterName + Send + Sync, R: Threads + Wait + Ab
     assert!(rt; woken(rt, &mut caller, Awaited::Frame(sender), Act::Stop) == Wake::Stopped);
 }
 
+/// How the waits of two sockets end, where another thread makes a step.
+fn woken_both<N: RollName + MeterName + Send + Sync, R: Threads + Wait + Abort + Clock + Sync>(
+    rt: &R,
+    caller: &mut Party<'_, N, R>,
+    sockets: [SocketId; 2],
+) -> (Wake, Wake) {
+    let station = caller.station;
+    let [one, other] = sockets;
+    let (begun, ended) = (AtomicU64::new(0), AtomicU64::new(0));
+    let (other_begun, other_ended) = (AtomicU64::new(0), AtomicU64::new(0));
+    let (is_woken, wakes) = join(
+        rt,
+        || {
+            assert!(rt; reaches(rt, &other_begun, 1));
+            wake_up(caller, Act::Step, &begun, &ended) && reaches(rt, &other_ended, 1)
+        },
+        || {
+            join(
+                rt,
+                || wait(rt, station, Awaited::Frame(one), &begun, &ended),
+                || wait(rt, station, Awaited::Frame(other), &other_begun, &other_ended),
+            )
+        },
+    );
+    assert!(rt; is_woken);
+    wakes
+}
+
+/// A frame wakes each receiver that gets it, also where the second socket was opened as the 64th after the first.
+fn a_frame_wakes_all<
+    N: RollName + MeterName + Send + Sync,
+    R: Threads + Wait + Abort + Clock + Sync,
+>(
+    rt: &R,
+    alloc: Global,
+    blanks: Blanks,
+)
+    requires { (blanks.roll ≡ N.roll 0) × (blanks.meter ≡ N.meter 0) }
+{
+    let faults = script(rt, alloc, "");
+    let station = made::<N, _, _, _>(rt, alloc, blanks, 0, config(), faults, Open);
+    let mut caller = entered(rt, alloc, &station);
+    let (sender, first) = (caller.open(0, 4), caller.open(1, 4));
+    for _ in 0..63 {
+        let between = caller.open(1, 4);
+        assert!(rt; caller.close(between).is_ok());
+    }
+    let last = caller.open(1, 4);
+    assert!(rt; (first, last) == (SocketId(1), SocketId(65)));
+    for _ in 0..2 {
+        assert!(rt; caller.send(sender, 0x123).is_ok());
+        let wakes = woken_both(rt, &mut caller, [first, last]);
+        assert!(rt; wakes == (Wake::Ready, Wake::Ready));
+        assert!(rt; matches!(caller.receive(first), Ok(Some(_))));
+        assert!(rt; matches!(caller.receive(last), Ok(Some(_))));
+    }
+}
+
 /// The sender is told of restarts alone, and its frame is destroyed until can0 is bus off.
 fn goes_off<N: RollName + MeterName, R: Wait + Abort>(
     caller: &mut Party<'_, N, R>,
@@ -179,5 +237,12 @@ fn each_call_wakes_who_waits_for_it(rt: HostRuntime) -> Result<(), Fail> {
 fn a_stop_wakes_a_driver(rt: HostRuntime) -> Result<(), Fail> {
     let blanks = Blanks::new(rt.alloc(), 2)?;
     stop_wakes::<Brand, _>(&rt, rt.alloc(), blanks);
+    Ok(())
+}
+
+#[test]
+fn a_frame_wakes_each_who_gets_it(rt: HostRuntime) -> Result<(), Fail> {
+    let blanks = Blanks::new(rt.alloc(), 2)?;
+    a_frame_wakes_all::<Brand, _>(&rt, rt.alloc(), blanks);
     Ok(())
 }

@@ -108,17 +108,15 @@ fn holds(record: &PackedRecord, place: usize, event: &Event, reply: &Reply) -> b
 fn comes_back(rt: &(impl Abort + AllocGlobal), event: Event, reply: Reply) -> Result<(), Fail>
     requires { is_wide event reply ≡ false }
 {
-    let given = event.try_copy(rt.alloc())?;
-    let (long, short) = (fd(rt, 64), fd(rt, 12));
-    let refused = Reply::Refused(Refusal::FdOff);
+    let first = Event::Send(SocketId(1), fd(rt, 64));
+    let last = Event::Send(SocketId(2), fd(rt, 12));
+    let (sent, refused) = (Reply::Sent(5), Reply::Refused(Refusal::FdOff));
     let mut record = PackedRecord::with_capacity(rt.alloc(), 3)?;
-    record.push(Event::Send(SocketId(1), long), Reply::Sent(5));
-    record.push(given, reply);
-    record.push(Event::Send(SocketId(2), short), refused);
-    let first = Event::Send(SocketId(1), long);
-    same(rt, holds(&record, 0, &first, &Reply::Sent(5)), true);
+    record.push(&first, &sent);
+    record.push(&event, &reply);
+    record.push(&last, &refused);
+    same(rt, holds(&record, 0, &first, &sent), true);
     same(rt, holds(&record, 1, &event, &reply), true);
-    let last = Event::Send(SocketId(2), short);
     same(rt, holds(&record, 2, &last, &refused), true);
     Ok(())
 }
@@ -251,7 +249,9 @@ fn attempts_come_back(rt: HostRuntime) -> Result<(), Fail> {
         comes_back(
             &rt,
             Event::Attempt(at, verdict),
-            Reply::Idle(IfaceSet(0xFFFF)),
+            Reply::Idle {
+                restarted: IfaceSet(0xFFFF),
+            },
         )?;
         let refused = Reply::Refused(Refusal::RecordFull);
         comes_back(&rt, Event::Attempt(at, verdict), refused)?;
@@ -300,9 +300,10 @@ fn closed_at(record: &PackedRecord, place: usize) -> Option<u32> {
 fn a_packed_record_lists_its_entries(rt: HostRuntime) -> Result<(), Fail> {
     let mut record = PackedRecord::with_capacity(rt.alloc(), 3)?;
     same(&rt, record.len(), 0);
-    record.push(Event::Close(SocketId(4)), Reply::Refused(Refusal::NoSocket));
-    record.push(Event::Close(SocketId(5)), Reply::Refused(Refusal::NoSocket));
-    record.push(Event::Close(SocketId(6)), Reply::Refused(Refusal::NoSocket));
+    let refused = Reply::Refused(Refusal::NoSocket);
+    record.push(&Event::Close(SocketId(4)), &refused);
+    record.push(&Event::Close(SocketId(5)), &refused);
+    record.push(&Event::Close(SocketId(6)), &refused);
     same(&rt, record.len(), 3);
     for (place, number) in [(0, Some(4)), (1, Some(5)), (2, Some(6)), (3, None)] {
         same_at(&rt, place, closed_at(&record, place), number);

@@ -54,6 +54,8 @@ fn reads_command_lines(rt: HostRuntime) -> Result<(), Fail> {
         "canbusd serve --pace 60001 can0",
         "canbusd serve --pace x can0",
         "canbusd serve --pace= can0",
+        "canbusd serve --write 255 can0",
+        "canbusd serve --write 65537 can0",
         "canbusd serve --limit 4294967296 can0",
         "canbusd serve --txqueue x can0",
         "canbusd serve --rxqueue +1 can0",
@@ -78,6 +80,8 @@ fn reads_command_lines(rt: HostRuntime) -> Result<(), Fail> {
         "canbusd bench --record ../run.rec --log run.rec can0,can0",
         "canbusd bench --strict can0,can0",
         "canbusd serve --pace 60000 can0,can0",
+        "canbusd serve --write 256 can0,can0",
+        "canbusd serve --write 65536 can0,can0",
         "canbusd serve --sessions 4000 can0,can0",
     ];
     for line in taken {

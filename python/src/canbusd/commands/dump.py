@@ -144,7 +144,7 @@ def opened(text: str, options: argparse.Namespace) -> Tuple[str, CanbusdBus]:
 
 
 class Drops:
-    """Reports what found no room in the receive queues of the sessions, at most once in so many seconds."""
+    """Reports what found no room in the receive queues of the sessions, at most once in this time."""
 
     INTERVAL = 1.0
 
@@ -192,7 +192,7 @@ def run(options: argparse.Namespace) -> None:
 
 
 def print_frames(name: str, bus: CanbusdBus, view: View, most: int) -> int:
-    """Prints the frames that are at hand, but no more than so many; how many there were."""
+    """Prints the frames that are at hand, up to a number of them; how many there were."""
     for count in range(min(most, BATCH)):
         message = bus.recv(0)
         if message is None:

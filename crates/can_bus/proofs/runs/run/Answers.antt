@@ -9,7 +9,7 @@ loop-event-preserved g c =
     record {
       count = counted_more c.loop-event.replies.items c.note.new.replies.items c.answer-reply.result c.loop-event.event-index c.note.ensures.items so_far.count;
       room = omega (arith, so_far.room, c.note.ensures.room);
-      ran = ran_more c.args.bus.now c.loop-event.bus c.answer-reply.new.bus c.args.events.now c.loop-event.event-index c.loop-event.replies.items c.note.new.replies.items c.event-item.result c.answer-reply.result so_far.ran c.loop-event-test.true c.event-item.is c.answer-reply.ensures.answer c.answer-reply.ensures.after c.note.ensures.items;
+      ran = ran_more c.args.bus.now c.loop-event.bus c.answer-reply.new.self c.args.events.now c.loop-event.event-index c.loop-event.replies.items c.note.new.replies.items c.event-item.result c.answer-reply.result so_far.ran c.loop-event-test.true c.event-item.is c.answer-reply.ensures.answer c.answer-reply.ensures.after c.note.ensures.items;
     }
 
 pub loop-event-init : goal.loop-event-init

@@ -1,8 +1,10 @@
 use Rattle.std.proofs.Common.{◌≡◌, IsTrue, Bool, true, false, [], drop, length, refl, subst, arith}
 use Rattle.can_event.specs.declared.events.Entry.{Entry}
-use Rattle.can_bus.specs.Lean.{Enters, Stands}
+use Rattle.can_event.specs.Replies.{Enters}
+use Rattle.can_bus.specs.Lean.{Stands}
 use Rattle.can_record.specs.Spelling.{entry_line}
-use Rattle.can_text_audit.proofs.Answering.{entered, not_an_entry, other_reply}
+use Rattle.can_bus.proofs.Answering.{history-entered}
+use Rattle.can_text_audit.proofs.Answering.{not_an_entry, other_reply}
 use Rattle.can_text_audit.proofs.carrying.carry_line.Goals as goal
 
 never : (b : Bool) → IsTrue b → b ≡ false → ⊥
@@ -23,7 +25,7 @@ returns-in-Ok-true-clause-carried c = λ past stands.
       good = record { spelled = c.answer-reply.ensures.spelled enters; version = λ fd. refl; event = c.hold_event.ensures; reply = c.hold_reply.ensures };
       is_fd = c.has_fd.ensures;
       stands = c.in-Ok-true.ensures.yes c.in-Ok-true.field-0-test;
-      after = subst (Stands c.answer-reply.new.self) (entered c.in-Ok.event c.answer-reply.result past enters) (c.answer-reply.ensures.after past stands);
+      after = subst (Stands c.answer-reply.new.self) (history-entered c.in-Ok.event c.answer-reply.result past enters) (c.answer-reply.ensures.after past stands);
     }
 
 pub returns-in-Ok-false-clause-carried : goal.returns-in-Ok-false-clause-carried

@@ -10,6 +10,7 @@ use Rattle.can_bus.proofs.Narrow.{legal_fits}
 use Rattle.can_bus.proofs.Receiving.{received_follows}
 use Rattle.can_bus.proofs.buses.Bus.receive.Given as given
 use Rattle.can_bus.proofs.buses.Bus.receive.Goals as goal
+use Rattle.can_bus.proofs.buses.Bus.receive.Goals.{Joined-this}
 
 pub receive-outcome-requires : goal.receive-outcome-requires
 receive-outcome-requires g c = small_taken _ _ c.self.invariant
@@ -24,7 +25,7 @@ push-requires-clause-fits g c =
     let receives = subst (λ (p : Parts). Receives p c.args.id.0 c.receive-outcome.result c.receive-outcome.new.self) c.self.invariant.of_parts c.receive-outcome.ensures in
     legal_fits c.self.inside.record c.self.inside.state (event.Receive c.args.id) _ c.self.invariant (λ none. none) (c.received_reply.ensures ∙ (received_follows _ _ c.args.id _ _ receives).lawful)
 
-is_done : (g : given.Over) (c : goal.After-push g) → IsDone reply.Received c.args.self.now (event.Receive c.args.id) c.receive-outcome.result c.push.new.self c.receive-outcome.new.self
+is_done : (g : given.Over) (c : Joined-this g) → IsDone reply.Received c.args.self.now (event.Receive c.args.id) c.receive-outcome.result c.push.new.self c.receive-outcome.new.self
 is_done g c =
     done reply.Received (λ (p : Parts). Receives p c.args.id.0 c.receive-outcome.result c.receive-outcome.new.self)
     c.self.view_is c.self.invariant c.is_full.ensures c.if-is_full.false c.receive-outcome.ensures c.received_reply.ensures c.push.ensures

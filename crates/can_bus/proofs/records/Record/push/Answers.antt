@@ -10,7 +10,7 @@ pub invariant_of-self : goal.invariant_of-self
 invariant_of-self c =
     let config = c.self.inside.config in
     let es = entries_in c.self.inside.held in
-    let e : Entry = record { event = c.args.event; reply = c.args.reply } in
+    let e : Entry = record { event = c.args.event.now; reply = c.args.reply.now } in
     let fits : IsSpelled config e = subst (λ (k : Kept). IsSpelled k.config e) (sym c.self.view_is) c.requires.spelled in
     record {
       proper = c.self.invariant.proper;

@@ -1,0 +1,87 @@
+use Rattle.std.proofs.Common.{◌≡◌, ◌<◌, List, ◌∷◌, length, refl, sym, ap, ◌∙◌, subst, arith}
+use Rattle.can_filter.specs.Filters.{CanFilter}
+use Rattle.can_event.specs.declared.events.BusConfig.{BusConfig}
+use Rattle.can_event.specs.declared.events.Entry.{Entry}
+use Rattle.can_event.specs.declared.events.Event.{Event}
+use Rattle.can_event.specs.declared.events.Event.TheVariants.{SetFilters}
+use Rattle.can_event.specs.declared.events.Reply.{Reply}
+use Rattle.can_event.specs.declared.events.Reply.TheVariants as reply
+use Rattle.can_event.specs.declared.events.Refusal.TheVariants as refusal
+use Rattle.can_event.specs.declared.events.SocketId.{SocketId}
+use Rattle.can_event.specs.Replies.{Enters, Suits}
+use Rattle.can_event.specs.Spelled.{IsSpelled}
+use Rattle.can_bus.specs.Journal.{Journal, Kept}
+use Rattle.can_bus.specs.Lean.{Carries, IsReady, record_of}
+use Rattle.can_bus.specs.Legal.{legal_reply}
+use Rattle.can_bus.specs.Run.{IsAnswer, history_after}
+use Rattle.can_bus.specs.State.{Parts, kept_parts, IsKept, IsLonger}
+use Rattle.can_bus.proofs.Fitting.{legal_has_line, answer_suits}
+use Rattle.can_bus.proofs.Keeping.{kept_more, noted}
+use Rattle.can_bus.proofs.Narrow.{SetsFilters}
+
+-- A bus answers an event as its parts do, and notes it.
+
+-- ---- what an answer says of its reply
+
+-- a reply that enters the record is the legal one, and there was room for it
+pub entered_is_legal : (c : BusConfig) (past : List Entry) (e : Event) (r : Reply) → IsAnswer c past e r → Enters r → (length past < c.limit) × (r ≡ legal_reply c past e)
+entered_is_legal c past e (reply.Refused refusal.RecordFull) answer enters = absurd enters
+entered_is_legal c past e (reply.Refused refusal.NoMemory) answer enters = absurd enters
+entered_is_legal c past e r answer enters = answer
+
+-- an answer that enters the record has a line
+pub answer_is_spelled : (c : BusConfig) (past : List Entry) (e : Event) (r : Reply) → IsAnswer c past e r → Enters r → IsSpelled c (record { event = e; reply = r })
+answer_is_spelled c past e r answer enters = legal_has_line c past e r (entered_is_legal c past e r answer enters).1
+
+-- and is noted
+pub history-entered : (e : Event) (r : Reply) (past : List Entry) → Enters r → history_after e r past ≡ record { event = e; reply = r } ∷ past
+history-entered e (reply.Refused refusal.RecordFull) past enters = absurd enters
+history-entered e (reply.Refused refusal.NoMemory) past enters = absurd enters
+history-entered e r past enters = refl
+
+-- ---- the parts and the record
+
+-- a record says no less than its history
+of_history : (j : Kept) (parts : Parts) → IsKept j parts → IsKept (record_of j.config j.history) parts
+of_history j parts kept = record { of_parts = kept.of_parts; legal = kept.legal; proper = kept.proper; room = omega arith }
+
+-- where there is room one more entry may come
+pub is_ready : (j : Kept) (parts : Parts) (c : BusConfig) → IsKept j parts → length j.history < j.config.limit → c ≡ j.config → IsReady c parts
+is_ready j parts c kept room same = subst (λ (k : BusConfig). IsReady k parts) (sym same) (record { past = j.history; kept = of_history j parts kept; room = room })
+
+-- the parts carried the event out, whatever the entries are
+abbrev pub CarriesAll : BusConfig → Parts → Event → Reply → Parts → Type 0
+CarriesAll c parts e r new = (past : List Entry) → IsKept (record_of c past) parts → length past < c.limit → Carries c past e r new
+
+pub carries : {j : Kept} {parts new : Parts} {c : BusConfig} {e called : Event} {r : Reply} → IsKept j parts → length j.history < j.config.limit → c ≡ j.config
+    → called ≡ e → CarriesAll c parts called r new → Carries j.config j.history e r new
+carries {j} {parts} {new} {c} {e} {called} {r} kept room same is all =
+    subst (λ (x : Event). Carries j.config j.history x r new) is ((subst (λ (k : BusConfig). CarriesAll k parts called r new) same all) j.history (of_history j parts kept) room)
+
+-- an event that a bus answered: what is kept, and what that says of its history
+pub record IsAnswered (before : Journal) (e : Event) (r : Reply) (new : Kept) (parts : Parts) : Type 0 where
+  pub kept : IsKept new parts
+  pub answer : IsAnswer before.config before.history e r
+  pub after : ◌≡◌ {A = Journal} (record { config = new.config; history = new.history }) (record before { history = history_after e r before.history })
+  pub suits : Suits e r
+
+-- the record has an entry more
+pub entered : {j new : Kept} {before : Journal} {parts parts' : Parts} {e : Event} {r : Reply}
+    → ◌≡◌ {A = Journal} (record { config = j.config; history = j.history }) before → IsKept j parts
+    → Carries j.config j.history e r parts' → Enters r → IsLonger j (record { event = e; reply = r }) new → IsAnswered before e r new parts'
+entered {j} {new} {before} {parts} {parts'} {e} {r} view kept carries enters longer =
+    let here : Entry = record { event = e; reply = r } in
+    let legal = entered_is_legal j.config j.history e r carries.answer enters in
+    let is_noted = noted j new before here view longer legal.0 legal.1 in
+    record {
+      kept = kept_more j new here parts parts' kept longer legal.0 (record { lawful = legal.1; after = carries.after.of_parts ∙ ap (kept_parts j.config) (history-entered e r j.history enters) });
+      answer = subst (λ (b : Journal). IsAnswer b.config b.history e r) view carries.answer;
+      after = is_noted.new_is ∙ ap (λ (h : List Entry). record before { history = h }) (sym (history-entered e r before.history enters));
+      suits = answer_suits j.config j.history e r carries.answer;
+    }
+
+-- ---- events that are no setting of filters
+
+pub not_filters : (e : Event) → ((s : SocketId) (fs : List CanFilter) → e ≡ SetFilters s fs → ⊥) → ¬ SetsFilters e
+not_filters (SetFilters s fs) other sets = other s fs refl
+not_filters _ other sets = absurd sets

@@ -1,0 +1,94 @@
+-- The lines that a reader holds.
+use Rattle.std.proofs.Common.{◌≡◌, ◌≢◌, ◌+◌, ◌-◌, ◌<◌, ℕ, List, [], ◌++◌, All, length, take, drop, Option, Some, None, Err, append_assoc, arith, eqb-true, eq-eqb, get_or, get_or-take, length-take-le, sym, ap, subst, ◌∙◌}
+use Rattle.std.proofs.Math.Seq.{take-add}
+use Rattle.std.proofs.Transfers.{StopsAt-take}
+use Rattle.std.proofs.BufReadLemmas.{through_part}
+use Rattle.std.proofs.lemmas.List.{take-append-drop}
+use Rattle.std.proofs.lemmas.List.Elements.{All-from_get_or}
+use Rattle.std.specs.Io.{IsEmptyOrEndsWith, StartsWith, StopsAt}
+use Rattle.std.specs.Io.KnownBytes.{Consumes}
+use Rattle.std.specs.Prelude.{IfSome}
+use Rattle.memchr.specs.Find.{IsFirstByte, is_byte}
+use Rattle.can_record.specs.declared.faults.ReadFault.{ReadFault}
+use Rattle.can_record.specs.RecordFaults.{Reads}
+use Rattle.can_text_audit.specs.declared.text_audits.TextAudit.{TextAudit}
+use Rattle.can_text_audit.specs.TextAudits.{AreTaken, IsLine, MayFollow}
+use Rattle.canbusd_audit.specs.Audited.{GoesOn, IsAtFault}
+use Rattle.canbusd_audit.proofs.Underway.{more_read}
+
+-- ---- a line that is cut behind its LF, which is the first one
+
+module _ (left : List ℕ) (place : ℕ) (found : IsFirstByte (is_byte 10) left (Some place)) where
+  no_end_before : All (λ (x : ℕ). x ≢ 10) (take place left)
+  no_end_before = All-from_get_or (λ (x : ℕ). x ≢ 10) (take place left) 0 (λ k lt is.
+      let low : k < place = omega (arith, lt, length-take-le place left (omega (arith, found.0.high))) in
+      found.0.before k (omega arith) low (eq-eqb _ _ (sym (get_or-take place left k 0 low) ∙ is)))
+
+  long : length (take (place + 1) left) ≡ place + 1
+  long = length-take-le (place + 1) left (omega (arith, found.0.high))
+
+  pub stops : StopsAt (take (place + 1) left) 10
+  stops = StopsAt-take left 10 (place + 1) (omega (arith, found.0.high)) (subst (λ (n : ℕ). All (λ (x : ℕ). x ≢ 10) (take n left)) (omega arith) no_end_before)
+
+  ends : IsEmptyOrEndsWith (take (place + 1) left) 10
+  ends some = ap (λ (n : ℕ). get_or (take (place + 1) left) (n - 1) 0) long ∙ ap (λ (n : ℕ). get_or (take (place + 1) left) n 0) (omega arith) ∙ get_or-take (place + 1) left place 0 (omega arith) ∙ eqb-true _ _ found.1
+
+  pub is_line : IsLine (take (place + 1) left)
+  is_line = record { some = λ none. absurd (omega (arith, long, ap length none)); stops = stops }
+
+  pub may_follow : (after : List ℕ) → MayFollow (take (place + 1) left) after
+  may_follow after = (through_part 10 (take (place + 1) left) after stops ends (λ none. absurd (omega (arith, long, none)))).0
+
+-- ---- the lines of some bytes
+
+module _ (held : List ℕ) (len place : ℕ) (text : List ℕ) where
+  abbrev left : List ℕ
+  left = drop len held
+
+  abbrev line : List ℕ
+  line = take (place + 1) left
+
+  one_more : (text ++ take len held) ++ line ≡ text ++ take (len + (place + 1)) held
+  one_more = append_assoc text (take len held) line ∙ ap (λ (x : List ℕ). text ++ x) (sym (take-add len (place + 1) held))
+
+  whole : (after : List ℕ) → (text ++ take len held) ++ (line ++ (drop (place + 1) left ++ after)) ≡ text ++ (held ++ after)
+  whole after =
+      append_assoc text (take len held) (line ++ (drop (place + 1) left ++ after))
+      ∙ ap (λ (x : List ℕ). text ++ (take len held ++ x)) (sym (append_assoc line (drop (place + 1) left) after) ∙ ap (λ (x : List ℕ). x ++ after) (take-append-drop (place + 1) left))
+      ∙ ap (λ (x : List ℕ). text ++ x) (sym (append_assoc (take len held) left after) ∙ ap (λ (x : List ℕ). x ++ after) (take-append-drop len held))
+
+-- a line more was taken
+pub takes_more : (held : List ℕ) (len place : ℕ) (old now new : TextAudit) → IsFirstByte (is_byte 10) (drop len held) (Some place) → ((text : List ℕ) → AreTaken text old → AreTaken (text ++ take len held) now)
+    → ((text : List ℕ) → AreTaken text now → IsLine (take (place + 1) (drop len held)) → AreTaken (text ++ take (place + 1) (drop len held)) new)
+    → (text : List ℕ) → AreTaken text old → AreTaken (text ++ take (len + (place + 1)) held) new
+takes_more held len place old now new found taken step text start =
+    subst (λ (x : List ℕ). AreTaken x new) (one_more held len place text) (step (text ++ take len held) (taken text start) (is_line (drop len held) place found))
+
+-- the line is at fault
+pub fails_in : (held : List ℕ) (len place : ℕ) (old now : TextAudit) (why : ReadFault) → IsFirstByte (is_byte 10) (drop len held) (Some place) → ((text : List ℕ) → AreTaken text old → AreTaken (text ++ take len held) now)
+    → ((text after : List ℕ) → AreTaken text now → IsLine (take (place + 1) (drop len held)) → MayFollow (take (place + 1) (drop len held)) after → Reads (text ++ (take (place + 1) (drop len held) ++ after)) (Err why))
+    → (text after : List ℕ) → AreTaken text old → Reads (text ++ (held ++ after)) (Err why)
+fails_in held len place old now why found taken step text after start =
+    let rest = drop (place + 1) (drop len held) ++ after in
+    subst (λ (x : List ℕ). Reads x (Err why)) (whole held len place text after) (step (text ++ take len held) rest (taken text start) (is_line (drop len held) place found) (may_follow (drop len held) place found rest))
+
+-- ---- what a reader shows
+
+pub goes_on_by : (old new : Option (List ℕ)) (before after : TextAudit) (bytes : List ℕ) → Consumes old new bytes → ((text : List ℕ) → AreTaken text before → AreTaken (text ++ bytes) after) → GoesOn old new before after
+goes_on_by old new before after bytes consumed taken = λ first u.
+    record { text = u.text ++ bytes; consumed = more_read first old new u.text bytes u.consumed consumed; taken = taken u.text u.taken }
+
+-- what it shows is at fault, whatever follows
+at_fault : (old : Option (List ℕ)) (audit : TextAudit) (why : ReadFault) (held : List ℕ) → IfSome old (λ xs. StartsWith xs held) → ((text after : List ℕ) → AreTaken text audit → Reads (text ++ (held ++ after)) (Err why))
+    → IsAtFault old audit why
+at_fault None audit why held shows fails None u = (u.text ++ (held ++ []), tt, fails u.text [] u.taken)
+at_fault None audit why held shows fails (Some all) u = absurd u.consumed
+at_fault (Some xs) audit why held shows fails None u = (u.text ++ (held ++ []), tt, fails u.text [] u.taken)
+at_fault (Some xs) audit why held shows fails (Some all) u =
+    let split : held ++ drop (length held) xs ≡ xs = ap (λ (x : List ℕ). x ++ drop (length held) xs) (sym shows) ∙ take-append-drop (length held) xs in
+    (u.text ++ (held ++ drop (length held) xs), ap (λ (x : List ℕ). u.text ++ x) split ∙ sym u.consumed, fails u.text (drop (length held) xs) u.taken)
+
+pub may_be_at_fault : (old : Option (List ℕ)) (audit : TextAudit) (found : Option ReadFault) (held : List ℕ) → IfSome old (λ xs. StartsWith xs held)
+    → IfSome found (λ why. (text after : List ℕ) → AreTaken text audit → Reads (text ++ (held ++ after)) (Err why)) → IfSome found (λ why. IsAtFault old audit why)
+may_be_at_fault old audit None held shows fails = tt
+may_be_at_fault old audit (Some why) held shows fails = at_fault old audit why held shows fails

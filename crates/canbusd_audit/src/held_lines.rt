@@ -1,0 +1,69 @@
+ghost use Rattle.std.specs.Prelude.{◌≡◌, ◌≤◌, ◌++◌, Err, IfOk, IfSome, IsNone, List, None, length, take, ℕ};
+ghost use Rattle.can_record.specs.RecordFaults.{Reads};
+ghost use Rattle.can_text_audit.specs.TextAudits.{AreTaken};
+ghost use Rattle.canbusd_audit.specs.Audited.{GoesOn, IsAtFault};
+
+use can_record::ReadFault;
+use can_text_audit::TextAudit;
+use memchr::memchr;
+use std::alloc::Global;
+use std::io;
+use std::io::{BufRead, Error, ErrorKind};
+
+/// Takes the whole lines that an input holds, and counts them: the fault of the line that follows them, if it is at fault. The
+/// input holds that line then, and else no whole line more.
+///
+/// A read that was interrupted takes no line.
+pub fn take_held<R: BufRead>(
+    alloc: Global,
+    input: &mut R,
+    audit: &mut TextAudit,
+    lines: &mut u64,
+) -> io::Result<Option<ReadFault>>
+    ensures taken { IfOk result (λ fault. IsNone fault → GoesOn (R.remaining input.old) (R.remaining input.new) audit.old audit.new) }
+    ensures fault { IfOk result (λ fault. IfSome fault (λ why. IsAtFault (R.remaining input.old) audit.old why)) }
+{
+    let held = match input.fill_buf() {
+        Ok(held) => held,
+        Err(error) => return unfilled(error),
+    };
+    let (len, fault) = carry_held(alloc, held, audit, lines);
+    input.consume(len);
+    Ok(fault)
+}
+
+// What became of a read that failed.
+fn unfilled(error: Error) -> io::Result<Option<ReadFault>>
+    ensures { IfOk result IsNone }
+{
+    if error.kind() == ErrorKind::Interrupted {
+        Ok(None)
+    } else {
+        Err(error)
+    }
+}
+
+// Takes the whole lines that these bytes begin with, and counts them: how many bytes they have, and the fault of the line that
+// follows them, if it is at fault.
+fn carry_held(
+    alloc: Global,
+    held: &[u8],
+    audit: &mut TextAudit,
+    lines: &mut u64,
+) -> (usize, Option<ReadFault>)
+    ensures within { result.0 ≤ length held.now }
+    ensures taken { IsNone result.1 → (text : List ℕ) → AreTaken text audit.old → AreTaken (text ++ take result.0 held.now) audit.new }
+    ensures fault { IfSome result.1 (λ why. (text after : List ℕ) → AreTaken text audit.old → Reads (text ++ (held.now ++ after)) (Err why)) }
+{
+    let mut len = 0;
+    while let Some(place) = memchr(b'\n', &held[len..]) {
+        let end = len + place + 1;
+        match audit.carry(alloc, &held[len..end]) {
+            Ok(()) => {}
+            Err(fault) => return (len, Some(fault)),
+        }
+        *lines = lines.saturating_add(1);
+        len = end;
+    }
+    (len, None)
+}

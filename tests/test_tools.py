@@ -1,0 +1,309 @@
+"""The tools for runs, and the package's drawings: pages in a browser, drawings, and the replay beside the
+program.
+"""
+
+import os
+import re
+import subprocess
+import sys
+
+import pytest
+
+from canbusd.record import read_record
+from canbusd.replay import Run
+from commands import BROWSER, call, example, examples, is_clean
+from random_benches import Maker
+from serving import ROOT, program
+
+REPORT = os.path.join(ROOT, "tools", "canbusd-report")
+DRAW = [sys.executable, "-m", "canbusd", "report"]
+# How many random runs are replayed.
+RUNS = 300
+STATES = ["active", "warning", "passive", "off"]
+
+
+def numbers_asked(written, sessions):
+    """The last answers of each session to `stats` and `status`, as tuples of words."""
+    found = re.findall(
+        r"< stats ([0-9 ]+) >< status (\w+) (\d+) (\d+) >$", "\n".join(written.splitlines()[-sessions:]), re.M
+    )
+    return [(*stats.split(), *status) for stats, *status in found]
+
+
+def numbers_replayed(run):
+    """The same of each socket that is open at the end of a replay."""
+    for socket in run.sockets:
+        if socket.closed_after is None:
+            iface = run.ifaces[socket.iface]
+            yield tuple(
+                map(
+                    str,
+                    (
+                        socket.queued,
+                        socket.dropped,
+                        socket.taken,
+                        iface.sent,
+                        iface.done,
+                        len(iface.waiting),
+                        iface.lost,
+                        iface.refused,
+                        STATES[iface.state()],
+                        iface.tec,
+                        iface.rec,
+                    ),
+                )
+            )
+
+
+def test_replay(tmp_path):
+    """random runs: each reply, and the statistics of sockets and interfaces, are what the program says"""
+    maker, runs, asked, off = Maker(20), 0, 0, 0
+    for _ in range(RUNS):
+        case = maker.case()
+        case.write_to(tmp_path)
+        sessions = re.findall(rb"^session ([0-9]+)$", case.text, re.M)
+        text = case.text.rstrip(b"\n") + b"\n" + b"".join(b"feed %s < stats >< status >\n" % one for one in sessions)
+        done = subprocess.run(
+            [program(), *case.words, "--record", "run.rec"], input=text, cwd=tmp_path, capture_output=True, check=False
+        )
+        if done.returncode:
+            continue
+        run = Run(read_record(os.path.join(tmp_path, "run.rec")))
+        replayed = list(numbers_replayed(run))
+        for numbers in numbers_asked(done.stdout.decode("utf-8", "replace"), len(sessions)):
+            assert numbers in replayed, f"{numbers} is none of {replayed}"
+            asked += 1
+        runs += 1
+        off += sum(bool(step.off) for step in run.steps)
+    assert runs > RUNS // 3 and off and asked, f"only {runs} runs"
+
+
+def test_record_of_another_history(tmp_path):
+    """each reply changed in each line of a record is seen, as by the audit"""
+    record, _ = example("last_bit", tmp_path)
+    with open(record, encoding="ascii") as file:
+        lines = file.read().splitlines()
+    for place, (old, new) in enumerate((old, new) for old in lines[2:-1] for new in replies_like(old)):
+        other = [new if line is old else line for line in lines]
+        with open(record, "w", encoding="ascii") as file:
+            file.write("\n".join(other) + "\n")
+        audit, seen = call(program(), "audit", record), call(*DRAW, "--counters", record)
+        entry = re.match(r"canbusd: (entry \d+): wrong\n", audit[2])
+        assert entry and f": {entry[1]}: wrong" in seen[2] and seen[0] == 1, f"{place}: {new}: {audit} {seen}"
+
+
+def replies_like(line):
+    """Other replies that a line may have."""
+    event, reply = line.split(" = ")
+    others = {
+        "open": ["socket 7", "too-many-sockets"],
+        "send": ["number 9", "bus-off"],
+        "receive": ["none", "no-socket"],
+        "attempt": ["idle", reply.replace("done", "noack").replace("lastbit", "done")],
+        "option": ["no-socket"],
+    }
+    return [f"{event} = {other}" for other in others.get(event.split(" ")[0], []) if other != reply]
+
+
+def test_faults_of_records(tmp_path):
+    """missing, empty, binary, cut, damaged; a reader that goes; a full device"""
+    record, _ = example("bus_off_attack", tmp_path)
+    with open(record, "rb") as file:
+        text = file.read()
+    texts = {
+        "empty": b"",
+        "binary": os.urandom(4096),
+        "cut in a line": text[:200],
+        "cut after a line": text[: text.index(b"attempt")],
+        "first line alone": b"canbus record 1\n",
+        "without its end": text[: text.rindex(b"end")],
+        "text after it": text + b"x\n",
+        "no bus": text.replace(b"bus 2", b"bus 17"),
+        "no set": text.replace(b"0002", b"2", 1),
+        "another count": text.replace(b"end ", b"end 1"),
+        "CRLF": text.replace(b"\n", b"\r\n"),
+        "binary within": text[:300] + b"\x00\xff\x1b" + text[300:],
+    }
+    for command in ([REPORT], [*DRAW, "--counters"], [*DRAW, "--arbitration"]):
+        path = os.path.join(tmp_path, "bad.rec")
+        for what, damaged in texts.items():
+            with open(path, "wb") as file:
+                file.write(damaged)
+            fault = call(*command, path)
+            assert is_clean(fault) and "\x1b" not in fault[2], f"{what}: {fault}"
+        for other in (os.path.join(tmp_path, "none"), tmp_path):
+            assert is_clean(call(*command, other)), other
+        status, _, told = call("sh", "-c", '"$@" | head -c 10; "$@" --help | head -n 1', "sh", *command, record)
+        assert (status, told) == (0, ""), told
+        with open("/dev/full", "w", encoding="ascii") as full:
+            done = subprocess.run([*command, record], stdout=full, stderr=subprocess.PIPE, text=True, check=False)
+        assert (
+            done.returncode == (0 if command[-1] == "--arbitration" else 1) and "Traceback" not in done.stderr
+        ), done.stderr
+
+
+def test_names_of_interfaces(tmp_path):
+    """those given, those of the log beside the record, never those of another run's log"""
+    record, _ = example("lost_arbitration", tmp_path)
+
+    def winners():
+        return re.findall(r"attempt \d+: (.+) wins", call(*DRAW, "--arbitration", record)[1])
+
+    assert winners() == ["interface 1", "interface 2"], f"{winners()}"
+    log = os.path.join(tmp_path, "lost_arbitration.log")
+    lines = [
+        "(0000000000.000100) body 123#\n",
+        "(0000000000.000200) door 048C0000#\n",
+        "(0000000000.000300) seat 124#\n",
+    ]
+    for written, wanted in [
+        (lines, ["body", "door"]),
+        (lines[:1], ["body", "interface 2"]),
+        (lines[1:], ["interface 1", "interface 2"]),
+        (["\x00\xff\n"], ["interface 1", "interface 2"]),
+    ]:
+        with open(log, "w", encoding="latin-1") as file:
+            file.writelines(written)
+        assert winners() == wanted, f"{winners()}, not {wanted}"
+    for names in ("a,b", "a,b,b", "a,,c", "a,b,c,d", "a,b,<c>"):
+        assert is_clean(call(*DRAW, "--arbitration", "--names", names, record)), names
+    with open(log, "w", encoding="ascii") as file:
+        file.writelines(lines)
+    given = call(*DRAW, "--arbitration", "--names", "x,y,z", record)[1]
+    assert "y wins" in given and "body" not in given, given
+
+
+def test_drawings(tmp_path):
+    """that of the guide is what `report` draws; none is wider than 120 columns"""
+    with open(os.path.join(ROOT, "docs", "GUIDE.md"), encoding="utf-8") as file:
+        guide = file.read()
+    widest = 0
+    for name in examples():
+        record, names = example(name, tmp_path)
+        for drawing in ("arbitration", "counters"):
+            drawn = call(*DRAW, f"--{drawing}", "--names", names, record)[1].rstrip("\n").splitlines()
+            widest = max([widest, *map(len, drawn)])
+            # The guide shows the first attempt of three nodes.
+            if (name, drawing) == ("lost_arbitration", "arbitration"):
+                assert "\n".join(f"    {line}" for line in drawn[:4]) in guide, f"the guide has another {drawing}"
+    widest = max(widest, width_of_sixteen(tmp_path))
+    assert widest <= 120, f"{widest} columns"
+
+
+def width_of_sixteen(folder):
+    """The widest line of the drawings of a long run of 16 interfaces with long names."""
+    long = ",".join(f"longest-name.{number:02}" for number in range(16))
+    record = os.path.join(folder, "long.rec")
+    lines = [f"session {s}\nfeed {s} < open longest-name.{s - 1:02} >< rawmode >\n" for s in range(1, 17)]
+    lines += [f"feed {s} < send 1FFFFFF{s % 16:X} 8 1 2 3 4 5 6 7 8 >\n" for s in range(1, 17)] + ["attempt\n"] * 600
+    script = os.path.join(folder, "long.script")
+    with open(script, "w", encoding="ascii") as file:
+        file.writelines(f"{number} global bit\n" for number in range(500))
+    done = subprocess.run(
+        [program(), "bench", "--record", record, f"{long}@{script}"],
+        input="".join(lines),
+        text=True,
+        capture_output=True,
+        check=False,
+    )
+    assert done.returncode == 0, done.stderr
+    drawn = "".join(call(*DRAW, f"--{drawing}", "--names", long, record)[1] for drawing in ("arbitration", "counters"))
+    return max(map(len, drawn.splitlines()))
+
+
+def page_in_browser(page, step):
+    """What a page shows, as the text of its elements, with a step chosen."""
+    done = call(
+        BROWSER,
+        "--headless",
+        "--no-sandbox",
+        "--disable-gpu",
+        "--host-resolver-rules=MAP * ~NOTFOUND",
+        # The page unpacks its data before it draws.
+        "--virtual-time-budget=20000",
+        "--dump-dom",
+        f"file://{page}#step={step}",
+    )
+    shown = re.sub(r"<(script|style)\b.*?</\1>", "", done[1], flags=re.S)
+    return re.sub(
+        r"\s+",
+        " ",
+        re.sub(r"</?(?:div|b|i|label)[^>]*>", "", re.sub(r"</?(?:td|th|tr|p|h\d|option)[^>]*>", " | ", shown)),
+    )
+
+
+# Of examples, the step to choose and what the page has to show then.
+SHOWN = [
+    (
+        "lost_arbitration",
+        1,
+        [
+            "can2 wins with its frame 0, 048C0000#. Fault: none. Outcome: done. Accepted by can0, can1.",
+            "can0 001001001 loses here: 124#",
+            "can2 00100100011 11 000000000000000000 0 wins with 048C0000#",
+        ],
+    ),
+    (
+        "bus_off_attack",
+        31,
+        [
+            "can0 wins with its frame 0, 123#. Fault: global bit. Outcome: destroyed.",
+            "Accepted by nobody. can0 goes bus off.",
+            "248 \u2192 256",
+            "bus off",
+            "error warning, transmit count 96, receive count 0",
+        ],
+    ),
+    ("missed_frame", 16, ["Fault: local crc at can2. Outcome: done. Accepted by can1.", "local fault"]),
+    ("last_bit", 0, ["Fault: last bit, at the sender only. Outcome: last bit. Accepted by can1.", "0 \u2192 8"]),
+]
+
+
+@pytest.mark.parametrize("name", examples())
+def test_page(name, tmp_path):
+    """a page of each example: one file without a link"""
+    record, names = example(name, tmp_path)
+    status, page, told = call(REPORT, "--names", names, record)
+    assert (status, told) == (0, "") and page.endswith("</html>\n"), told
+    assert not re.search(r"https?:|\bsrc=|\bhref=|@import|url\(", page), "a link"
+
+
+@pytest.mark.browser
+@pytest.mark.parametrize("name, step, texts", SHOWN)
+def test_page_in_a_browser(name, step, texts, tmp_path):
+    """it shows the chosen attempt"""
+    record, names = example(name, tmp_path)
+    path = tmp_path / f"{name}.html"
+    path.write_text(call(REPORT, "--names", names, record)[1], encoding="utf-8")
+    shown = page_in_browser(path, step)
+    for text in texts:
+        assert text in shown, f"no `{text}` in {shown[:1500]}"
+
+
+@pytest.mark.slow
+def test_page_of_a_long_run(tmp_path):
+    """100,000 attempts: the page is made, and opens in a browser"""
+    lines = ["session 1\nfeed 1 < open can0 >< rawmode >\nsession 2\nfeed 2 < open can1 >< rawmode >\n"]
+    lines += [
+        f"at {number // 1000}.{number % 1000:03}000\n"
+        f"feed {1 + number % 2} < send 1{number % 256:02X} 1 {number % 256:X} >\nattempt\n"
+        + "drain 1\ndrain 2\n" * (number % 100 == 99)
+        for number in range(100000)
+    ]
+    record, path = os.path.join(tmp_path, "long.rec"), os.path.join(tmp_path, "long.html")
+    done = subprocess.run(
+        [program(), "bench", "--record", record, "can0,can1"],
+        input="".join(lines),
+        text=True,
+        capture_output=True,
+        check=False,
+    )
+    assert done.returncode == 0, done.stderr
+    status, page, told = call(REPORT, record)
+    assert status == 0, told
+    with open(path, "w", encoding="utf-8") as file:
+        file.write(page)
+    if not BROWSER:
+        pytest.skip("the page is made, but there is no browser to show it")
+    shown = page_in_browser(path, 99999)
+    assert "Attempt 99999 at 99.999000" in shown and "100,000 of 100,000" in shown, shown[:500]

@@ -1,0 +1,67 @@
+# Completions of canbusd and its tools for bash.
+_canbusd() {
+    local text=$2 before=$3
+    COMPREPLY=()
+    # The value of an option follows a blank or `=`, at which bash parts words unless COMP_WORDBREAKS lacks it.
+    [ "$before" != = ] || before=${COMP_WORDS[COMP_CWORD - 2]}
+    case $text in --*=*) before=${text%%=*} ;; esac
+    local options="--ack --report --txqueue --rxqueue --limit --auto-restart --help"
+    case $COMP_CWORD,$before,${COMP_WORDS[1]} in
+    # A file follows a redirection.
+    *,*[\<\>]*,*) compopt -o default ;;
+    1,*) _canbusd_offer "bench serve audit help --help --version" ;;
+    *,audit) compopt -o default ;;
+    *,help) _canbusd_offer "bench serve audit" ;;
+    *,bench) _canbusd_word "$options --record --log --strict" ;;
+    *,serve) _canbusd_word "$options --listen --sessions --pace --write --out --until-eof --verbose" ;;
+    esac
+}
+
+# Completes a word of bench or serve: what an option takes, the file after a bus, or one of the options.
+_canbusd_word() {
+    case $before,$text in
+    --ack,*) _canbusd_offer "always peers" ;;
+    --record,* | --log,* | --listen,* | *@*) _canbusd_files -f default ;;
+    --out,*) _canbusd_files -d dirnames ;;
+    --txqueue,* | --rxqueue,* | --limit,* | --auto-restart,* | --sessions,* | --pace,* | --write,*) ;;
+    *) _canbusd_offer "$1" ;;
+    esac
+}
+
+# Offers these words, after a front of the word such as `--ack=`.
+_canbusd_offer() {
+    local front=
+    case $text in --*=*) front=${text%%=*}= ;; esac
+    mapfile -t COMPREPLY < <(compgen -P "$front" -W "$1" -- "${text#"$front"}")
+}
+
+# Offers files (-f) or folders (-d): readline does, but after a front of the word such as `can0@` or `--out=`.
+_canbusd_files() {
+    local rest=${text#*[@=]} place
+    local front=${text%"$rest"}
+    if [ -z "$front" ]; then
+        compopt -o "$2"
+        return
+    fi
+    # The rest without its backslashes, as files are named.
+    mapfile -t COMPREPLY < <(compgen "$1" -- "$(printf '%s' "$rest" | sed 's/\\\(.\)/\1/g')")
+    for place in "${!COMPREPLY[@]}"; do
+        if [ -d "${COMPREPLY[place]}" ]; then
+            compopt -o nospace
+            COMPREPLY[place]+=/
+        fi
+        COMPREPLY[place]=$front$(printf '%q' "${COMPREPLY[place]}")
+    done
+}
+complete -F _canbusd canbusd
+
+# The tools: the options that their help has, and files.
+_canbusd_tool() {
+    local text=$2
+    COMPREPLY=()
+    case $text in
+    -*) _canbusd_offer "$("$1" --help 2>/dev/null | grep -oE -- '--[a-z-]+')" ;;
+    *) compopt -o default ;;
+    esac
+}
+complete -F _canbusd_tool canbusd-report candump2bench

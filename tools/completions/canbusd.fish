@@ -1,0 +1,48 @@
+# Completions of canbusd and its tools for fish.
+
+# The file of faults after the `@` of a bus.
+function __canbusd_scripts
+    set -l parts (string split --max 1 @ -- (commandline --current-token --cut-at-cursor))
+    if set --query parts[2]
+        for file in (__fish_complete_path $parts[2])
+            echo $parts[1]@$file
+        end
+    end
+end
+
+set -l commands bench serve audit help
+set -l first "not __fish_seen_subcommand_from $commands"
+set -l runs "__fish_seen_subcommand_from bench serve"
+complete -c canbusd --no-files
+complete -c canbusd -n $first -a bench -d "Run a bus from lines of standard input"
+complete -c canbusd -n $first -a serve -d "Serve clients on buses"
+complete -c canbusd -n $first -a audit -d "Check a record"
+complete -c canbusd -n $first -a help -d "Show the help of a command"
+complete -c canbusd -n $first -l version -d "Show the version"
+complete -c canbusd -l help -d "Show the help"
+complete -c canbusd -n "__fish_seen_subcommand_from help" -a "bench serve audit"
+complete -c canbusd -n "__fish_seen_subcommand_from audit" -F
+complete -c canbusd -n $runs -a "(__canbusd_scripts)"
+complete -c canbusd -n $runs -x -l ack -a "always peers" -d "Who acknowledges frames"
+complete -c canbusd -n $runs -l report -d "Make error message frames for each fault"
+complete -c canbusd -n $runs -x -l txqueue -d "Capacity of a transmit queue"
+complete -c canbusd -n $runs -x -l rxqueue -d "Capacity of a receive queue"
+complete -c canbusd -n $runs -x -l limit -d "Most events of a bus"
+complete -c canbusd -n $runs -x -l auto-restart -d "Attempts from bus off to an automatic restart"
+complete -c canbusd -n "__fish_seen_subcommand_from bench" -r -F -l record -d "Write the record of the run"
+complete -c canbusd -n "__fish_seen_subcommand_from bench" -r -F -l log -d "Write the frames as candump logs them"
+complete -c canbusd -n "__fish_seen_subcommand_from bench" -f -l strict -d "End with status 1 if a message was refused"
+set -l serves "__fish_seen_subcommand_from serve"
+complete -c canbusd -n $serves -r -F -l listen -d "Where clients connect"
+complete -c canbusd -n $serves -x -l sessions -d "How many sessions before the end"
+complete -c canbusd -n $serves -x -l pace -d "Milliseconds of rest after each attempt"
+complete -c canbusd -n $serves -x -l write -d "Most bytes of frames in one write to a client"
+complete -c canbusd -n $serves -x -l out -a "(__fish_complete_directories)" -d "Where logs and records go"
+complete -c canbusd -n $serves -l until-eof -d "End at the end of standard input"
+complete -c canbusd -n $serves -l verbose -d "Report clients and bus off on standard error"
+
+# The tools: the options that their help has, and files.
+for tool in canbusd-report candump2bench
+    complete -c $tool -n "string match --quiet -- '-*' (commandline --current-token)" \
+        -a "($tool --help | string match --all --regex -- '--[a-z-]+' | sort --unique)"
+end

@@ -1,0 +1,65 @@
+#compdef canbusd canbusd-report candump2bench
+# Completions of canbusd and its tools for zsh.
+
+_canbusd() {
+    # The tools: the options that their help has, and files.
+    if [[ $service != canbusd ]]; then
+        _gnu_generic
+        return
+    fi
+    local curcontext=$curcontext state line
+    typeset -A opt_args
+    _arguments -C \
+        '(- *)--help[show the help]' \
+        '(- *)--version[show the version]' \
+        '1:command:((
+            bench\:"run a bus from lines of standard input"
+            serve\:"serve clients on buses"
+            audit\:"check a record"
+            help\:"show the help of a command"
+        ))' \
+        '*::argument:->argument'
+    [[ $state == argument ]] || return
+    local -a shared=(
+        '--ack=[who acknowledges frames]:mode:(always peers)'
+        '--report[make error message frames for each fault]'
+        '--txqueue=[capacity of a transmit queue]:frames:'
+        '--rxqueue=[capacity of a receive queue]:items:'
+        '--limit=[most events of a bus]:events:'
+        '--auto-restart=[attempts from bus off to an automatic restart]:attempts:'
+        '(- *)--help[show the help]'
+    )
+    case $line[1] in
+    bench)
+        _arguments $shared \
+            '--record=[write the record of the run]:file:_files' \
+            '--log=[write the frames of the run as candump logs them]:file:_files' \
+            '--strict[end with status 1 if a message was refused]' \
+            '1:bus:_canbusd_bus'
+        ;;
+    serve)
+        _arguments $shared \
+            '--listen=[where clients connect]:address:_files' \
+            '--sessions=[how many sessions before the end]:number:' \
+            '--pace=[milliseconds of rest after each attempt]:milliseconds:' \
+            '--write=[most bytes of frames in one write to a client]:bytes:' \
+            '--out=[where logs and records go]:folder:_files -/' \
+            '--until-eof[end at the end of standard input]' \
+            '--verbose[report clients and bus off on standard error]' \
+            '*:bus:_canbusd_bus'
+        ;;
+    audit) _arguments '(- *)--help[show the help]' '1:record:_files' ;;
+    help) _arguments '1:command:(bench serve audit)' ;;
+    esac
+}
+
+# The names of a bus, and the file of faults after `@`.
+_canbusd_bus() {
+    if compset -P '*@'; then
+        _files
+    else
+        _message 'names, and @FILE'
+    fi
+}
+
+_canbusd "$@"
