@@ -147,7 +147,13 @@ fn woken_both<N: RollName + MeterName + Send + Sync, R: Threads + Wait + Abort +
             join(
                 rt,
                 || wait(rt, station, Awaited::Frame(one), &begun, &ended),
-                || wait(rt, station, Awaited::Frame(other), &other_begun, &other_ended),
+                || wait(
+                    rt,
+                    station,
+                    Awaited::Frame(other),
+                    &other_begun,
+                    &other_ended,
+                ),
             )
         },
     );
@@ -159,11 +165,7 @@ fn woken_both<N: RollName + MeterName + Send + Sync, R: Threads + Wait + Abort +
 fn a_frame_wakes_all<
     N: RollName + MeterName + Send + Sync,
     R: Threads + Wait + Abort + Clock + Sync,
->(
-    rt: &R,
-    alloc: Global,
-    blanks: Blanks,
-)
+>(rt: &R, alloc: Global, blanks: Blanks)
     requires { (blanks.roll ≡ N.roll 0) × (blanks.meter ≡ N.meter 0) }
 {
     let faults = script(rt, alloc, "");
