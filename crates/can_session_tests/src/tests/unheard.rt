@@ -4,7 +4,7 @@ use std::process::Abort;
 use std::test::Fail;
 
 const FED: &str =
-    "session 1\nsession 2\nsession 3\nfeed 1 < echo\nfeed 2 echo >\nfeed 3 < echo > < ec\nfeed 3 ho >\n";
+    "session 1\nsession 2\nsession 3\nfeed 1 < echo\nfeed 2 echo >\nfeed 3 < echo > < ec\nfeed 3 ho >\nsession 4\nsession 5\nfeed 4 < ec < echo >\nfeed 5 < echo > ho >\n";
 
 #[test]
 fn what_is_in_no_message_is_noted(rt: HostRuntime) -> Result<(), Fail> {
@@ -15,7 +15,13 @@ fn what_is_in_no_message_is_noted(rt: HostRuntime) -> Result<(), Fail> {
     let ended = bench_noting(alloc, config, FED.as_bytes(), &mut output, &mut unheard);
     assert!(rt; ended.is_ok());
     // Whether a message was begun and not ended, and whether bytes stood outside messages.
-    for (number, wanted) in [(1, (true, false)), (2, (false, true)), (3, (false, false))] {
+    for (number, wanted) in [
+        (1, (true, false)),
+        (2, (false, true)),
+        (3, (false, false)),
+        (4, (false, true)),
+        (5, (false, true)),
+    ] {
         let noted = SessionNumber::new(number).map(|session| (
             unheard.has_begun(session),
             unheard.has_outside(session),
