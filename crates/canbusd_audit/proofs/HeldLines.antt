@@ -88,7 +88,7 @@ at_fault (Some xs) audit why held shows fails (Some all) u =
     let split : held ++ drop (length held) xs ≡ xs = ap (λ (x : List ℕ). x ++ drop (length held) xs) (sym shows) ∙ take-append-drop (length held) xs in
     (u.text ++ (held ++ drop (length held) xs), ap (λ (x : List ℕ). u.text ++ x) split ∙ sym u.consumed, fails u.text (drop (length held) xs) u.taken)
 
-pub may_be_at_fault : (old : Option (List ℕ)) (audit : TextAudit) (found : Option ReadFault) (held : List ℕ) → IfSome old (λ xs. StartsWith xs held)
-    → IfSome found (λ why. (text after : List ℕ) → AreTaken text audit → Reads (text ++ (held ++ after)) (Err why)) → IfSome found (λ why. IsAtFault old audit why)
-may_be_at_fault old audit None held shows fails = tt
-may_be_at_fault old audit (Some why) held shows fails = at_fault old audit why held shows fails
+pub may_be_at_fault : (old : Option (List ℕ)) (audit : TextAudit) (found : Option ReadFault) (why : ReadFault) (held : List ℕ) → found ≡ Some why → IfSome old (λ xs. StartsWith xs held)
+    → IfSome found (λ why. (text after : List ℕ) → AreTaken text audit → Reads (text ++ (held ++ after)) (Err why)) → IsAtFault old audit why
+may_be_at_fault old audit None why held is shows fails = absurd cc
+may_be_at_fault old audit (Some w) why held is shows fails = at_fault old audit why held shows (grind (arith, is, fails))

@@ -16,6 +16,8 @@ use Rattle.can_text_audit.specs.TextAudits.{AreTaken, IsLine, MayFollow}
 use Rattle.canbusd_faults.specs.declared.faults.Fault.{Fault}
 use Rattle.canbusd_faults.specs.declared.faults.Fault.TheVariants as fault
 use Rattle.canbusd_files.specs.Files.{IsOfReading}
+use Rattle.canbusd_audit.specs.declared.held_lines.Held.{Held}
+use Rattle.canbusd_audit.specs.declared.held_lines.Held.TheVariants as held
 
 -- What an audit of a text answers (own choice).
 
@@ -90,6 +92,12 @@ GoesOn old new before after = (first : Option (List ℕ)) → IsUnderway first o
 -- behind the lines that were taken, what a reader has left is at fault so
 abbrev pub IsAtFault : Option (List ℕ) → TextAudit → ReadFault → Type 0
 IsAtFault now audit why = (first : Option (List ℕ)) → IsUnderway first now audit → (text : List ℕ) × IsTextIn first text × Reads text (Err why)
+
+-- what a reader held was taken by an audit
+abbrev pub BecomesOf : Held → Option (List ℕ) → Option (List ℕ) → TextAudit → TextAudit → Type 0
+BecomesOf held.End old new before after = IsAtEnd old × (after ≡ before)
+BecomesOf held.Lines old new before after = GoesOn old new before after
+BecomesOf (held.Wrong why) old new before after = IsAtFault old before why
 
 -- a wrong entry has a line, and so has its event with the legal reply
 pub record FitsLines (w : WrongLine) : Type 0 where

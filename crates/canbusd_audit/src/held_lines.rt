@@ -1,7 +1,7 @@
-ghost use Rattle.std.specs.Prelude.{◌≡◌, ◌≤◌, ◌++◌, Err, IfOk, IfSome, IsNone, List, None, length, take, ℕ};
+ghost use Rattle.std.specs.Prelude.{◌≡◌, ◌≤◌, ◌++◌, Err, IfOk, IfSome, IsNone, List, length, take, ℕ};
 ghost use Rattle.can_record.specs.RecordFaults.{Reads};
 ghost use Rattle.can_text_audit.specs.TextAudits.{AreTaken};
-ghost use Rattle.canbusd_audit.specs.Audited.{GoesOn, IsAtFault};
+ghost use Rattle.canbusd_audit.specs.Audited.{BecomesOf};
 
 use can_record::ReadFault;
 use can_text_audit::TextAudit;
@@ -10,34 +10,47 @@ use std::alloc::Global;
 use std::io;
 use std::io::{BufRead, Error, ErrorKind};
 
-/// Takes the whole lines that an input holds, and counts them: the fault of the line that follows them, if it is at fault. The
-/// input holds that line then, and else no whole line more.
-///
-/// A read that was interrupted takes no line.
+/// What an input held.
+#[derive(Debug, Clone, Copy)]
+pub enum Held {
+    /// No byte, since the input has ended.
+    End,
+    /// Whole lines, which were taken, and maybe a part of the next one; or nothing, where the read was interrupted.
+    Lines,
+    /// A line at fault, which it holds still, behind those that were taken.
+    Wrong(ReadFault),
+}
+
+/// Takes the whole lines that an input holds, and counts them. It reads once where the input holds nothing.
 pub fn take_held<R: BufRead>(
     alloc: Global,
     input: &mut R,
     audit: &mut TextAudit,
     lines: &mut u64,
-) -> io::Result<Option<ReadFault>>
-    ensures taken { IfOk result (λ fault. IsNone fault → GoesOn (R.remaining input.old) (R.remaining input.new) audit.old audit.new) }
-    ensures fault { IfOk result (λ fault. IfSome fault (λ why. IsAtFault (R.remaining input.old) audit.old why)) }
+) -> io::Result<Held>
+    ensures { IfOk result (λ held. BecomesOf held (R.remaining input.old) (R.remaining input.new) audit.old audit.new) }
 {
     let held = match input.fill_buf() {
         Ok(held) => held,
         Err(error) => return unfilled(error),
     };
+    if held.is_empty() {
+        return Ok(Held::End);
+    }
     let (len, fault) = carry_held(alloc, held, audit, lines);
     input.consume(len);
-    Ok(fault)
+    match fault {
+        None => Ok(Held::Lines),
+        Some(fault) => Ok(Held::Wrong(fault)),
+    }
 }
 
 // What became of a read that failed.
-fn unfilled(error: Error) -> io::Result<Option<ReadFault>>
-    ensures { IfOk result IsNone }
+fn unfilled(error: Error) -> io::Result<Held>
+    ensures { IfOk result (λ held. held ≡ Held.Lines) }
 {
     if error.kind() == ErrorKind::Interrupted {
-        Ok(None)
+        Ok(Held::Lines)
     } else {
         Err(error)
     }

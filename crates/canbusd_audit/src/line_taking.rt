@@ -3,7 +3,7 @@ ghost use Rattle.can_text_audit.specs.TextAudits.{AreTaken};
 ghost use Rattle.canbusd_audit.specs.Audited.{Faults, IsNextLine, IsOfLine, IsTextIn};
 ghost use Rattle.canbusd_files.specs.Files.{IsOfReading};
 
-use crate::held_lines::take_held;
+use crate::held_lines::{Held, take_held};
 use crate::notes::record_note;
 use can_record::ReadFault;
 use can_text_audit::TextAudit;
@@ -31,8 +31,9 @@ pub fn take_lines<'a, R: BufRead>(
     let mut lines = 0;
     for _ in 0..u64::MAX {
         match take_held(alloc, input, audit, &mut lines) {
-            Ok(None) => {}
-            Ok(Some(fault)) => {
+            Ok(Held::Lines) => {}
+            Ok(Held::End) => return Ok(lines),
+            Ok(Held::Wrong(fault)) => {
                 return Err(held_failure(alloc, path, lines, input, &mut line, fault));
             }
             Err(error) => return Err(read_failure(alloc, path, &error)),

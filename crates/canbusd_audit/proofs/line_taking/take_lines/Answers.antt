@@ -1,18 +1,24 @@
-use Rattle.std.proofs.Common.{◌++◌, Bool, Err, List, Option, ℕ, refl, subst, sym}
-use Rattle.std.specs.Prelude.{IfSome, IsNone}
-use Rattle.can_record.specs.declared.faults.ReadFault.{ReadFault}
+use Rattle.std.proofs.Common.{◌++◌, Bool, Err, List, ℕ, subst, sym}
 use Rattle.can_record.specs.RecordFaults.{Reads}
 use Rattle.can_text_audit.specs.TextAudits.{AreTaken, IsLine, MayFollow}
 use Rattle.canbusd_files.specs.Files.{IsOfReading}
-use Rattle.canbusd_audit.specs.Audited.{IsAtFault, IsNextLine}
+use Rattle.canbusd_audit.specs.Audited.{BecomesOf, IsNextLine}
+use Rattle.canbusd_audit.specs.declared.held_lines.Held.{Held}
 use Rattle.canbusd_audit.proofs.Underway.{ends, fails_held, fails_so, goes_on, stops}
 use Rattle.canbusd_audit.proofs.line_taking.take_lines.Goals as goal
 
-pub returns-in-Ok-Some-clause-fault : goal.returns-in-Ok-Some-clause-fault
-returns-in-Ok-Some-clause-fault g c =
+pub returns-in-Ok-End-clause-taken : goal.returns-in-Ok-End-clause-taken
+returns-in-Ok-End-clause-taken g c =
     let now = g.R.Read.remaining c.loop.input in
-    fails_held (g.R.Read.remaining c.args.input.now) now c.loop.audit c.in-Ok-Some.fault c.held_failure.result.fault c.held_failure.ensures c.loop.invariant
-    (subst (λ (o : Option ReadFault). IfSome o (λ why. IsAtFault now c.loop.audit why)) c.in-Ok-Some.field-0-is c.in-Ok-Some.ensures.fault)
+    let ended = subst (λ (h : Held). BecomesOf h now (g.R.Read.remaining c.take_held.new.input) c.loop.audit c.take_held.new.audit) c.in-Ok-End.field-0-is c.in-Ok-End.ensures in
+    let all = ends (g.R.Read.remaining c.args.input.now) now c.loop.audit c.loop.invariant ended.0 in
+    (all.0, all.1, subst (AreTaken all.0) (sym ended.1) all.2)
+
+pub returns-in-Ok-Wrong-clause-fault : goal.returns-in-Ok-Wrong-clause-fault
+returns-in-Ok-Wrong-clause-fault g c =
+    let now = g.R.Read.remaining c.loop.input in
+    fails_held (g.R.Read.remaining c.args.input.now) now c.loop.audit c.in-Ok-Wrong.fault c.held_failure.result.fault c.held_failure.ensures c.loop.invariant
+    (subst (λ (h : Held). BecomesOf h now (g.R.Read.remaining c.take_held.new.input) c.loop.audit c.take_held.new.audit) c.in-Ok-Wrong.field-0-is c.in-Ok-Wrong.ensures)
 
 pub returns-in-Err-clause-fault : goal.returns-in-Err-clause-fault
 returns-in-Err-clause-fault g c = stops (g.R.Read.remaining c.args.input.now) c.read_failure.result.fault c.read_failure.ensures
@@ -22,7 +28,7 @@ returns-in-Ok-false-clause-taken g c =
     let first = g.R.Read.remaining c.args.input.now in
     let held = g.R.Read.remaining c.take_held.new.input in
     let after = g.R.Read.remaining c.next_line.new.input in
-    ends first held c.take_held.new.audit (c.in-Ok-None.ensures.taken (subst IsNone (sym c.in-Ok-None.field-0-is) refl) first c.loop.invariant)
+    ends first held c.take_held.new.audit (subst (λ (h : Held). BecomesOf h (g.R.Read.remaining c.loop.input) held c.loop.audit c.take_held.new.audit) c.in-Ok-Lines.field-0-is c.in-Ok-Lines.ensures first c.loop.invariant)
     (subst (λ (b : Bool). IsNextLine b held after c.next_line.new.line.items) c.in-Ok-false.field-0-test c.in-Ok-false.ensures.read)
 
 pub returns-in-Err-next_line-clause-fault : goal.returns-in-Err-next_line-clause-fault
@@ -35,7 +41,7 @@ returns-in-Err-carry-clause-fault g c =
     let after = g.R.Read.remaining c.next_line.new.input in
     let line = c.next_line.new.line.items in
     fails_so first held after line c.take_held.new.audit c.in-Err-carry.fault c.line_failure.result.fault c.line_failure.ensures
-    (c.in-Ok-None.ensures.taken (subst IsNone (sym c.in-Ok-None.field-0-is) refl) first c.loop.invariant)
+    (subst (λ (h : Held). BecomesOf h (g.R.Read.remaining c.loop.input) held c.loop.audit c.take_held.new.audit) c.in-Ok-Lines.field-0-is c.in-Ok-Lines.ensures first c.loop.invariant)
     (subst (λ (b : Bool). IsNextLine b held after line) c.in-Ok-true.field-0-test c.in-Ok-true.ensures.read)
     (subst (λ (l : List ℕ). (text rest : List ℕ) → AreTaken text c.take_held.new.audit → IsLine l → MayFollow l rest → Reads (text ++ (l ++ rest)) (Err c.in-Err-carry.fault)) c.deref.ensures.value c.in-Err-carry.ensures.fault)
 
@@ -46,7 +52,7 @@ loop-preserved g c =
     let after = g.R.Read.remaining c.next_line.new.input in
     let line = c.next_line.new.line.items in
     goes_on first held after line c.take_held.new.audit c.carry.new.self
-    (c.in-Ok-None.ensures.taken (subst IsNone (sym c.in-Ok-None.field-0-is) refl) first c.loop.invariant)
+    (subst (λ (h : Held). BecomesOf h (g.R.Read.remaining c.loop.input) held c.loop.audit c.take_held.new.audit) c.in-Ok-Lines.field-0-is c.in-Ok-Lines.ensures first c.loop.invariant)
     (subst (λ (b : Bool). IsNextLine b held after line) c.in-Ok-true.field-0-test c.in-Ok-true.ensures.read)
     (subst (λ (l : List ℕ). (text : List ℕ) → AreTaken text c.take_held.new.audit → IsLine l → AreTaken (text ++ l) c.carry.new.self) c.deref.ensures.value c.in-Ok.ensures.taken)
 
