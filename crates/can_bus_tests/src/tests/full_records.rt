@@ -75,7 +75,7 @@ fn are_of(entries: &[Entry], events: &[Event], replies: &[Reply]) -> bool {
 }
 
 fn looked_at(record: &Record, place: usize) -> Option<Looked<'_>> {
-    record.entry(place)
+    record.entries().get(place)
 }
 
 /// Whether what is looked at is this entry.
@@ -86,11 +86,21 @@ fn is_seen(looked: &Option<Looked<'_>>, entry: &Entry) -> bool {
     }
 }
 
+/// Whether a record gives these entries to who goes over them.
+fn goes_over(record: &Record, entries: &[Entry]) -> bool {
+    let seen = record.entries();
+    let mut pairs = seen.iter().zip(entries);
+    seen.len() == entries.len()
+        && seen.is_empty() == entries.is_empty()
+        && pairs.all(|(looked, entry)| is_of(&looked, &entry.event, &entry.reply))
+}
+
 /// Whether a record gives these entries one by one, and no other.
 pub fn shows(record: &Record, entries: &[Entry]) -> bool {
     let mut places = entries.iter().enumerate();
     places.all(|(place, entry)| is_seen(&looked_at(record, place), entry))
         && looked_at(record, entries.len()).is_none()
+        && goes_over(record, entries)
 }
 
 pub fn copied(rt: &impl AllocGlobal, record: &Record) -> Result<Vec<Entry>, Fail> {
