@@ -1,8 +1,21 @@
-use Rattle.std.specs.Prelude.{ℕ, List, Some}
-use Rattle.can_bus.specs.declared.posting.News.{News}
-use Rattle.can_bus.specs.Attempted.{transmission_of}
-use Rattle.can_bus.specs.Posts.{Post, attempt_posts}
+use Rattle.std.specs.Prelude.{ℕ, List, [], ◌++◌, Some, if◌then◌else◌}
+use Rattle.can_frame.specs.Sets.{is_in}
+use Rattle.can_frame.specs.declared.ifaces.IfaceSet.{IfaceSet}
+use Rattle.can_attempt.specs.Attempts.{counts_after}
+use Rattle.can_errframe.specs.ErrorMessages.{state_message}
+use Rattle.can_event.specs.declared.events.Pending.{Pending}
+use Rattle.can_event.specs.declared.events.Tried.{Tried}
+use Rattle.can_bus.specs.Attempted.{Outcome, transmission_of}
+use Rattle.can_bus.specs.Posts.{Post, data_posts, error_posts, fault_message_for, role_at}
 
--- what is put to the sockets of each interface, from what is kept of an attempt
-abbrev pub told_news : News → ℕ → List Post
-told_news n i = attempt_posts n.reporting (transmission_of n.attempted) n.attempted.tried (Some n.pending) i
+-- What an attempt puts to the sockets of each interface, in two parts.
+
+-- the frame that was tried, which waited so
+abbrev pub frame_posts : Tried → Pending → ℕ → List Post
+frame_posts t p i = data_posts i t (Some p)
+
+-- the fault where faults are reported, and a change of state
+abbrev pub fault_posts : IfaceSet → Outcome → ℕ → List Post
+fault_posts reporting o i =
+    (if is_in i reporting then error_posts i o.tried.moment (fault_message_for o.tried.class o.verdict (role_at (transmission_of o) i)) else [])
+    ++ error_posts i o.tried.moment (state_message ((transmission_of o).counts i) (counts_after (transmission_of o) i))

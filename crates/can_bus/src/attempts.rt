@@ -4,9 +4,8 @@ ghost use Rattle.can_confine.specs.Confinement.{at_start};
 ghost use Rattle.can_attempt.specs.Attempts.{counts_at};
 ghost use Rattle.can_bus.specs.Changes.{AreReady, Attempts, Restarts, Tries, after_auto_restart, begun_anew};
 
-use crate::lines;
-use crate::posting::{self, News};
 use crate::state::State;
+use crate::{lines, posting};
 use can_arbiter::Arbiter;
 use can_attempt::{Judgement, Nodes, judge};
 use can_confine::Counters;
@@ -93,11 +92,18 @@ impl<T: BoundedQueue<Pending>, R: BoundedQueue<Received>, A: Arbiter> State<T, R
             is_off,
         );
         self.countdown.start(winner, config.auto_restart, is_off);
-        let news = News::new(tried, pending, verdict, config, self.nodes, judgement);
-        posting::tell_all(&mut self.sockets, &news);
+        posting::tell_attempt(
+            &mut self.sockets,
+            &self.nodes,
+            config,
+            verdict,
+            &tried,
+            &pending,
+            &judgement,
+        );
         self.nodes.counters = judgement.counters;
         self.tried += 1;
-        Some(news.attempted.tried())
+        Some(tried)
     }
 
     /// Restarts these interfaces at the end of an attempt, if any, and tells the sockets.

@@ -1,4 +1,6 @@
-ghost use Rattle.std.specs.Prelude.{◌≡◌};
+ghost use Rattle.std.specs.Prelude.{◌≡◌, ◌||◌, ◌&&◌, ◌==◌};
+ghost use Rattle.can_frame.specs.Sets.{is_in};
+ghost use Rattle.can_bus.specs.Transmit.{is_done};
 ghost use Rattle.can_bus.specs.Attempted.{IsJudged};
 
 use can_attempt::{AckMode, Class, Judgement, Nodes};
@@ -28,6 +30,14 @@ impl Model for Attempted {
     ghost view = { λ a. record { tried = a.tried; verdict = a.verdict; ack = a.ack; nodes = a.nodes } };
 
     ghost invariant = { λ a. IsJudged (record { tried = a.tried; verdict = a.verdict; ack = a.ack; nodes = a.nodes }) a.judgement };
+}
+
+/// Whether a frame that was tried, and waited with this loopback option, is put to the sockets of an interface.
+pub fn is_posted(tried: &Tried, iface: Iface, loopback: bool) -> bool
+    ensures { result ≡ (is_in iface tried.now.accepted || ((iface == tried.now.winner) && (is_done tried.now.class && loopback))) }
+{
+    tried.accepted.contains(iface)
+        || (iface == tried.winner && matches!(tried.class, Class::Done) && loopback)
 }
 
 impl Attempted {
@@ -71,17 +81,11 @@ impl Attempted {
     pub fn is_posted(&self, iface: Iface, pending: Option<Pending>) -> bool
         ensures { result ≡ (is_in iface self.now.tried.accepted || ((iface == self.now.tried.winner) && is_looped_back self.now.tried.class pending)) }
     {
-        if self.tried.accepted.contains(iface) {
-            return true;
-        }
-        match pending {
-            Some(pending) => {
-                iface.number() == self.tried.winner.number()
-                    && matches!(self.tried.class, Class::Done)
-                    && pending.loopback
-            }
+        let loopback = match pending {
+            Some(pending) => pending.loopback,
             None => false,
-        }
+        };
+        is_posted(&self.tried, iface, loopback)
     }
 
     /// The part that an interface has in the attempt: none where it is bus off, or not there.

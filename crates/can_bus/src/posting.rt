@@ -1,53 +1,23 @@
-ghost use Rattle.std.specs.Prelude.{◌≡◌, ◌<◌, ◌+◌, ◌^◌, All, Some, map};
-ghost use Rattle.can_bus.specs.News.{told_news};
-ghost use Rattle.can_bus.specs.Posts.{restart_posts, auto_restart_posts, data_posts, error_posts};
+ghost use Rattle.std.specs.Prelude.{◌≡◌, ◌<◌, ◌+◌, ◌^◌, All, IsTrue, Some, map};
+ghost use Rattle.can_confine.specs.Confinement.{at_start};
+ghost use Rattle.can_fault.specs.declared.verdicts.Verdict.TheVariants.{Good};
+ghost use Rattle.can_attempt.specs.Attempts.{attempt_between};
+ghost use Rattle.can_attempt.specs.declared.classes.Class.TheVariants.{Done};
+ghost use Rattle.can_bus.specs.Attempted.{IsJudged};
+ghost use Rattle.can_bus.specs.News.{fault_posts, frame_posts};
+ghost use Rattle.can_bus.specs.Posts.{restart_posts, attempt_posts, auto_restart_posts, error_posts};
 ghost use Rattle.can_event.specs.Events.{tried_item};
 ghost use Rattle.can_bus.specs.Queues.{passing};
 ghost use Rattle.can_bus.specs.State.{filled, reached};
 
-use crate::outcomes::Attempted;
+use crate::outcomes::{Attempted, is_posted};
 use crate::socket::Socket;
-use can_attempt::{Judgement, Nodes};
+use can_attempt::{Class, Judgement, Nodes};
 use can_errframe::restart_frame;
 use can_event::{BusConfig, Pending, Received, Tried};
 use can_fault::Verdict;
 use can_frame::{ErrorFrame, Iface, IfaceSet, Item, Moment};
 use can_queue::BoundedQueue;
-
-/// What an attempt has to tell the sockets.
-#[derive(Debug, Drop)]
-pub struct News {
-    /// The attempt, and all that followed.
-    pub attempted: Attempted,
-    /// The frame that was tried, as it waited.
-    pub pending: Pending,
-    /// The interfaces whose sockets are told of faults.
-    pub reporting: IfaceSet,
-}
-
-impl News {
-    ghost use Rattle.can_bus.specs.Attempted.{IsJudged};
-
-    /// What is to be told of an attempt under these faults, where the interfaces were so before it, and of
-    /// what `judge` answers of it.
-    pub fn new(
-        tried: Tried,
-        pending: Pending,
-        verdict: Verdict,
-        config: BusConfig,
-        nodes: Nodes,
-        judgement: Judgement,
-    ) -> News
-        requires { IsJudged (record { tried = tried; verdict = verdict; ack = config.ack; nodes = nodes }) judgement }
-        ensures { result ≡ record { attempted = record { tried = tried; verdict = verdict; ack = config.ack; nodes = nodes }; pending = pending; reporting = config.reporting } }
-    {
-        News {
-            attempted: Attempted::new(tried, verdict, config.ack, nodes, judgement),
-            pending,
-            reporting: config.reporting,
-        }
-    }
-}
 
 /// Puts an error message frame of its interface to a socket, if there is one.
 fn post_error<R: BoundedQueue<Received>>(
@@ -69,40 +39,114 @@ fn post_error<R: BoundedQueue<Received>>(
     }
 }
 
-/// Puts the frame that was tried to a socket.
-fn post_frame<R: BoundedQueue<Received>>(socket: &mut Socket<R>, news: &News, frame: &Received)
+/// Puts the frame that was tried, which waited so, to a socket.
+fn post_frame<R: BoundedQueue<Received>>(
+    socket: &mut Socket<R>,
+    tried: &Tried,
+    pending: &Pending,
+    frame: &Received,
+)
     requires small { socket.old.dropped + 1 < 2 ^ 64 }
-    requires frame { frame.now ≡ tried_item news.now.attempted.tried }
-    ensures { socket.new ≡ filled socket.old (passing socket.old.filters socket.old.options socket.old.number (data_posts socket.old.iface news.now.attempted.tried (Some news.now.pending))) }
+    requires frame { frame.now ≡ tried_item tried.now }
+    ensures { socket.new ≡ reached (frame_posts tried.now pending.now) socket.old }
 {
-    if news.attempted.is_posted(socket.iface(), Some(news.pending)) {
-        socket.post(frame, Some(news.pending.socket));
+    if is_posted(tried, socket.iface(), pending.loopback) {
+        socket.post(frame, Some(pending.socket));
     }
 }
 
-/// Tells one socket of an attempt.
-fn tell<R: BoundedQueue<Received>>(socket: &mut Socket<R>, news: &News, frame: &Received)
-    requires small { socket.old.dropped + 3 < 2 ^ 64 }
-    requires frame { frame.now ≡ tried_item news.now.attempted.tried }
-    ensures { socket.new ≡ reached (told_news news.now) socket.old }
+/// Puts the frame that was tried, which waited so, to every socket that is to have it.
+fn tell_frame<R: BoundedQueue<Received>>(
+    sockets: &mut [Socket<R>],
+    tried: &Tried,
+    pending: &Pending,
+)
+    requires { All (λ v. v.dropped + 1 < 2 ^ 64) sockets.old }
+    ensures { sockets.new ≡ map (reached (frame_posts tried.now pending.now)) sockets.old }
+{
+    let frame = tried.received();
+    for socket in sockets.iter_mut() {
+        post_frame(socket, tried, pending, &frame);
+    }
+}
+
+/// Tells one socket what went wrong in an attempt, where its interface is among these, and of a change of state.
+fn tell_faults_to<R: BoundedQueue<Received>>(
+    socket: &mut Socket<R>,
+    attempted: &Attempted,
+    reporting: IfaceSet,
+)
+    requires { socket.old.dropped + 2 < 2 ^ 64 }
+    ensures { socket.new ≡ reached (fault_posts reporting attempted.now) socket.old }
 {
     let iface = socket.iface();
-    let moment = news.attempted.tried().moment;
-    post_frame(socket, news, frame);
-    if news.reporting.contains(iface) {
-        post_error(socket, moment, news.attempted.fault_at(iface));
+    let moment = attempted.tried().moment;
+    if reporting.contains(iface) {
+        post_error(socket, moment, attempted.fault_at(iface));
     }
-    post_error(socket, moment, news.attempted.state_change_at(iface));
+    post_error(socket, moment, attempted.state_change_at(iface));
 }
 
-/// Tells every socket of an attempt.
-pub fn tell_all<R: BoundedQueue<Received>>(sockets: &mut [Socket<R>], news: &News)
-    requires { All (λ v. v.dropped + 3 < 2 ^ 64) sockets.old }
-    ensures { sockets.new ≡ map (reached (told_news news.now)) sockets.old }
+/// Tells every socket what went wrong in an attempt, where its interface is among these, and of a change of state.
+fn tell_faults<R: BoundedQueue<Received>>(
+    sockets: &mut [Socket<R>],
+    attempted: &Attempted,
+    reporting: IfaceSet,
+)
+    requires { All (λ v. v.dropped + 2 < 2 ^ 64) sockets.old }
+    ensures { sockets.new ≡ map (reached (fault_posts reporting attempted.now)) sockets.old }
 {
-    let frame = news.attempted.tried().received();
     for socket in sockets.iter_mut() {
-        tell(socket, news, &frame);
+        tell_faults_to(socket, attempted, reporting);
+    }
+}
+
+/// Tells every socket what went wrong in an attempt that was judged so.
+#[inline(never)]
+fn tell_judged<R: BoundedQueue<Received>>(
+    sockets: &mut [Socket<R>],
+    nodes: &Nodes,
+    config: BusConfig,
+    verdict: Verdict,
+    tried: &Tried,
+    judgement: &Judgement,
+)
+    requires judged { IsJudged (record { tried = tried.now; verdict = verdict; ack = config.ack; nodes = nodes.now }) judgement.now }
+    requires dropped { All (λ v. v.dropped + 2 < 2 ^ 64) sockets.old }
+    ensures { sockets.new ≡ map (reached (fault_posts config.reporting (record { tried = tried.now; verdict = verdict; ack = config.ack; nodes = nodes.now }))) sockets.old }
+{
+    let attempted = Attempted::new(*tried, verdict, config.ack, *nodes, *judgement);
+    tell_faults(sockets, &attempted, config.reporting);
+}
+
+/// Whether an attempt that came to this finds all counts 0, and leaves them so: the frame went over the bus without a
+/// fault.
+fn is_calm(nodes: &Nodes, verdict: Verdict, class: Class) -> bool
+    ensures class { IsTrue result → class ≡ Done }
+    ensures verdict { IsTrue result → verdict ≡ Good }
+    ensures counters { IsTrue result → All (λ c. c ≡ at_start) nodes.now.counters }
+{
+    matches!(class, Class::Done) && matches!(verdict, Verdict::Good) && nodes.are_at_start()
+}
+
+/// Tells every socket of an attempt under these faults, where the interfaces were so before it, and which was judged so.
+pub fn tell_attempt<R: BoundedQueue<Received>>(
+    sockets: &mut [Socket<R>],
+    nodes: &Nodes,
+    config: BusConfig,
+    verdict: Verdict,
+    tried: &Tried,
+    pending: &Pending,
+    judgement: &Judgement,
+)
+    requires judged { IsJudged (record { tried = tried.now; verdict = verdict; ack = config.ack; nodes = nodes.now }) judgement.now }
+    requires class { tried.now.class ≡ judgement.now.class }
+    requires dropped { All (λ v. v.dropped + 3 < 2 ^ 64) sockets.old }
+    ensures { sockets.new ≡ map (reached (attempt_posts config.reporting (attempt_between nodes.now tried.now.winner verdict config.ack) tried.now (Some pending.now))) sockets.old }
+{
+    tell_frame(sockets, tried, pending);
+    if !is_calm(nodes, verdict, tried.class) {
+        tell_judged(sockets, nodes, config, verdict, tried, judgement);
     }
 }
 

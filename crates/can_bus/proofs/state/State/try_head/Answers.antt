@@ -2,9 +2,7 @@ use Rattle.std.proofs.Common.{◌≡◌, ℕ, ◌<◌, ◌≤◌, ◌+◌, ◌^�
 use Rattle.can_attempt.specs.Attempts.{attempt_between, judged}
 use Rattle.can_attempt.specs.declared.judgements.Judgement.{Judgement}
 use Rattle.can_event.specs.declared.events.Tried.{Tried}
-use Rattle.can_bus.specs.declared.posting.News.{News}
 use Rattle.can_bus.specs.Changes.{Carries, settled, after_try, counting_down}
-use Rattle.can_bus.specs.News.{told_news}
 use Rattle.can_bus.specs.Posts.{attempt_posts}
 use Rattle.can_bus.specs.State.{LineState, SocketState, Parts, key_in, reached}
 use Rattle.can_bus.proofs.Keeping.{parts-are}
@@ -34,21 +32,24 @@ settle-requires-clause-gone g c = subst (λ (p : Parts). All (λ (l : LineState)
 pub settle-requires-clause-done : goal.settle-requires-clause-done
 settle-requires-clause-done g c = subst (λ (p : Parts). All (λ (l : LineState). l.done + 1 < 2 ^ 64) p.lines) (sym c.self.view_is) c.requires.done
 
-pub new-news-requires : goal.new-news-requires
-new-news-requires g c = record {
+pub tell_attempt-requires-clause-judged : goal.tell_attempt-requires-clause-judged
+tell_attempt-requires-clause-judged g c = record {
   judged = c.judge-judgement.ensures ∙ ap (λ (u : Tried). judged (attempt_between c.self.inside.nodes u.winner c.args.verdict c.args.config.ack)) (sym c.tried_as-tried.ensures);
   few = subst (λ (p : Parts). p.nodes.count ≤ 16) (sym c.self.view_is) c.requires.few;
 }
 
-pub tell_all-requires : goal.tell_all-requires
-tell_all-requires g c =
+pub tell_attempt-requires-clause-class : goal.tell_attempt-requires-clause-class
+tell_attempt-requires-clause-class g c = ap (λ (u : Tried). u.class) c.tried_as-tried.ensures
+
+pub tell_attempt-requires-clause-dropped : goal.tell_attempt-requires-clause-dropped
+tell_attempt-requires-clause-dropped g c =
     let dropped = subst (λ (p : Parts). All (λ (v : SocketState). v.dropped + 3 < 2 ^ 64) p.sockets) (sym c.self.view_is) c.requires.dropped in
     subst (All (λ (v : SocketState). v.dropped + 3 < 2 ^ 64)) (sym c.deref_mut.ensures.value) dropped
 
 pub returns : goal.returns
 returns g c =
     let p : Parts = record { lines = c.self.inside.lines.items; keys = g.A.Arbiter.keys_of c.self.inside.arbiter; nodes = c.self.inside.nodes; left = c.self.inside.countdown; sockets = c.self.inside.sockets.items; opened = c.self.inside.opened; tried = c.self.inside.tried } in
-    let told = take c.self.inside.sockets.len (c.tell_all.new.sockets ++ drop (length c.tell_all.new.sockets) p.sockets) in
+    let told = take c.self.inside.sockets.len (c.tell_attempt.new.sockets ++ drop (length c.tell_attempt.new.sockets) p.sockets) in
     let new : Parts = record { lines = c.settle.new.lines.items; keys = g.A.Arbiter.keys_of c.settle.new.arbiter; nodes = record p.nodes { counters = c.judge-judgement.result.counters }; left = c.start.new.self; sockets = told; opened = p.opened; tried = p.tried + 1 } in
     let w = c.in_ok-winner.winner in
     let line = c.index-line.result.now in
@@ -58,9 +59,7 @@ returns g c =
     let who : t.winner ≡ w = ap (λ (u : Tried). u.winner) c.tried_as-tried.ensures in
     let ready = winner-ready _ _ _ c.self.view_is c.requires.ready c.in_ok-winner.ensures.first in
     let there : slice_get p.lines w ≡ Some line = line-at _ _ _ _ c.number.ensures.number ready c.index-line.ensures in
-    let answer : c.tried.result ≡ t = c.tried.ensures ∙ ap (λ (n : News). n.attempted.tried) c.new-news.ensures in
-    subst (λ (u : Tried). Carries c.args.self.now c.args.config c.args.moment c.args.verdict c.args.restarted u new) (sym answer)
-    (subst (λ (o : Parts). Carries o c.args.config c.args.moment c.args.verdict c.args.restarted t new) c.self.view_is
+    subst (λ (o : Parts). Carries o c.args.config c.args.moment c.args.verdict c.args.restarted t new) c.self.view_is
     (record {
       place = w;
       line = line;
@@ -76,8 +75,7 @@ returns g c =
           (c.settle.ensures.keys line there ∙ ap (λ (b : Bool). slice_set p.keys w (key_in (slice_get (settled t.class b line).waiting 0))) c.contains-is_off.ensures)
           (ap (λ (j : Judgement). record p.nodes { counters = j.counters }) c.judge-judgement.ensures)
           (c.start.ensures ∙ ap (λ (b : Bool). counting_down c.args.config.auto_restart w b p.left) c.contains-is_off.ensures)
-          (written_back _ _ _ _ _ _ c.tell_all.ensures c.deref_mut.ensures.value c.deref_mut.ensures.len
-          ∙ ap (λ (n : News). map (reached (told_news n)) p.sockets) c.new-news.ensures
+          (written_back _ _ _ _ _ _ c.tell_attempt.ensures c.deref_mut.ensures.value c.deref_mut.ensures.len
           ∙ ap (λ (k : ℕ). map (reached (attempt_posts c.args.config.reporting (attempt_between p.nodes k c.args.verdict c.args.config.ack) t (Some pending))) p.sockets) who)
           refl refl;
-    }))
+    })
