@@ -254,7 +254,7 @@ received_number (Send s f) r h = absurd h
 received_number (Restart i m) r h = absurd h
 
 may_leave : (e : Event) (why : Refusal) → MayRefuse e why → LeavesEntry why
-may_leave e refusal.FdOff h = tt
+may_leave e refusal.FdOff h = refl
 may_leave e refusal.NoInterface h = h
 may_leave e refusal.BadCapacity h = h
 may_leave e refusal.TooManySockets h = h
@@ -291,8 +291,8 @@ refused_again refusal.FdOff moment rest h = refl
 refused_again refusal.BusOff moment rest h = refl
 refused_again refusal.NoBuffers moment rest h = refl
 refused_again refusal.NotBusOff moment rest h = refl
-refused_again refusal.RecordFull moment rest h = absurd h
-refused_again refusal.NoMemory moment rest h = absurd h
+refused_again refusal.RecordFull moment rest h = absurd (cc (h))
+refused_again refusal.NoMemory moment rest h = absurd (cc (h))
 
 reply_again : (e : Event) (r : Reply) (rest : List ℕ) → FitsReply e r → HoldsReply r → reply_at (moment_of e) (spell (reply_words r) rest) ≡ Some (r, rest)
 unfolding reply_at fixed_in word after

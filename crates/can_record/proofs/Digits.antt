@@ -1,15 +1,17 @@
 -- What was written is read again.
-use Rattle.std.proofs.Common.{◌≡◌, ℕ, zero, suc, ◌+◌, ◌-◌, ◌*◌, ◌/◌, ◌%◌, ◌^◌, ◌<◌, ◌≤◌, true, false, not, ◌&&◌, leb, ltb, append_assoc, length-append, List, [], ◌∷◌, ◌++◌, length, take, drop, Option, Some, inl, inr, refl, ap, ◌∙◌, arith}
+use Rattle.std.proofs.Common.{◌≡◌, ℕ, zero, suc, ◌+◌, ◌-◌, ◌*◌, ◌/◌, ◌%◌, ◌^◌, ◌<◌, ◌≤◌, ◌==◌, true, false, not, ◌&&◌, leb, ltb, append_assoc, length-append, List, [], ◌∷◌, ◌++◌, length, take, drop, slice_index, Option, Some, inl, inr, refl, ap, ◌∙◌, arith}
 use Rattle.std.specs.Prelude.{decimal}
 use Rattle.std.proofs.lemmas.Fmt.{decimal_by_steps, decimal_nonempty, decimal_step, length-decimal-le}
+use Rattle.std.proofs.Math.Seq.{get_or-append_seam}
 use Rattle.std.proofs.lemmas.List.{length_push, take_at, drop_at}
 use Rattle.std.proofs.lemmas.Bool.{cases_lt, le-leb, le-ltb, lt-leb, lt-ltb}
 use Rattle.can_frame.specs.FrameText.{digits, digit_of}
+use Rattle.can_frame.specs.Moments.{moment_in}
 use Rattle.can_frame.specs.Numbers.{digit_in, number_after, number_in, one_more}
 use Rattle.can_frame.proofs.Lengths.{seconds_fit}
 use Rattle.can_frame.proofs.Numerals.{value-decimal, value-digits}
 use Rattle.can_record.specs.inner.Words.{is_word}
-use Rattle.can_record.specs.inner.Numerals.{long_in, moment_in}
+use Rattle.can_record.specs.inner.Numerals.{long_in}
 use Rattle.can_record.specs.Spelling.{moment_word}
 
 -- ---- numbers
@@ -102,9 +104,14 @@ moment_back a b h = rw (← append_assoc a (46 ∷ []) b) (drop_at (a ++ 46 ∷ 
 moment_long : (a b : List ℕ) → length b ≡ 6 → ltb (length (a ++ 46 ∷ b)) 7 ≡ false
 moment_long a b h = le-ltb _ _ (omega (arith, length-append a (46 ∷ b), h))
 
+moment_point : (a b : List ℕ) → length b ≡ 6 → (slice_index (a ++ 46 ∷ b) (length (a ++ 46 ∷ b) - 7) == 46) ≡ true
+moment_point a b h =
+    let at : length (a ++ 46 ∷ b) - 7 ≡ length a = omega (arith, length-append a (46 ∷ b), h) in
+    rw (at, get_or-append_seam a 46 b 0) refl
+
 moment_of : (a b : List ℕ) (s u : ℕ) → length b ≡ 6 → number_in 10 10 a ≡ Some s → number_in 10 6 b ≡ Some u → moment_in (a ++ 46 ∷ b) ≡ Some (s * 1000000 + u)
 unfolding moment_in
-moment_of a b s u six front back = rw (moment_long a b six, moment_front a b six, moment_back a b six, front, back) refl
+moment_of a b s u six front back = rw (moment_long a b six, moment_point a b six, moment_front a b six, moment_back a b six, front, back) refl
 
 pub moment_again : (m : ℕ) → m < 10 ^ 16 → moment_in (moment_word m) ≡ Some m
 unfolding moment_word

@@ -67,8 +67,8 @@ ended e (reply.Refused why) h = refused_ended why (leaves e why h)
     refused_ended refusal.BusOff h = refl
     refused_ended refusal.NoBuffers h = refl
     refused_ended refusal.NotBusOff h = refl
-    refused_ended refusal.RecordFull h = absurd h
-    refused_ended refusal.NoMemory h = absurd h
+    refused_ended refusal.RecordFull h = absurd (cc (h))
+    refused_ended refusal.NoMemory h = absurd (cc (h))
 
 pub spell-append : (ws vs : List (List ℕ)) (v rest : List ℕ) → spaced ws ++ spell (v ∷ vs) rest ≡ spell (ws ++ v ∷ vs) rest
 spell-append [] vs v rest = refl

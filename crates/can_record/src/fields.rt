@@ -2,10 +2,12 @@ ghost use Rattle.std.specs.Prelude.{IfSome, IsTrue, ◌≡◌, ◌^◌, ◌≤�
 ghost use Rattle.std.specs.Option.{option_map};
 ghost use Rattle.can_record.specs.inner.Reading.{number_at, long_at, mask_at, moment_at, socket_at, set_at, set_behind, flag_at, item_at, frame_at, begins_with};
 
-use crate::numbers::{long_number, moment};
+use crate::numbers::long_number;
 use crate::words::{next_word, same_word};
 use can_bus::SocketId;
-use can_frame::{Frame, Iface, IfaceSet, Item, Moment, guess_item, read_decimal, read_hexadecimal};
+use can_frame::{
+    Frame, Iface, IfaceSet, Item, Moment, guess_item, read_decimal, read_hexadecimal, read_moment,
+};
 
 /// A number below the limit, and what follows it.
 #[tactic(auto, unfolding(crate::specs::inner::Reading::number_at))]
@@ -65,7 +67,7 @@ pub fn moment_field(text: &[u8]) -> Option<(Moment, &[u8])>
     ensures { option_map (λ x. (x.0, x.1.now)) result ≡ moment_at text.now }
 {
     let (word, rest) = next_word(text);
-    let m = moment(word)?;
+    let m = read_moment(word)?;
     Some((m, rest))
 }
 

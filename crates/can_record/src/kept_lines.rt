@@ -60,14 +60,14 @@ fn push_kept_attempt(line: &mut ShortLine, kept: &Kept) -> bool
 {
     match kept {
         Kept::Idle(restarted, verdict, moment) => {
-            if restarted.0 != 0 {
+            if !restarted.is_empty() {
                 return false;
             }
             push_idle(line, *moment, *verdict, *restarted);
             true
         }
         Kept::Tried(end, named, word, number, accepted, restarted, bytes, stamp) => {
-            if asks(*word) || restarted.0 != 0 {
+            if asks(*word) || !restarted.is_empty() {
                 return false;
             }
             push_attempt(line, stamp_moment(*stamp), verdict_in(*end / 4, *named));

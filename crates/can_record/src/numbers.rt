@@ -1,7 +1,7 @@
 ghost use Rattle.std.specs.Prelude.{◌≡◌};
-ghost use Rattle.can_record.specs.inner.Numerals.{with_digit, long_in, moment_in};
+ghost use Rattle.can_record.specs.inner.Numerals.{with_digit, long_in};
 
-use can_frame::{Moment, read_decimal};
+use can_frame::read_decimal;
 
 /// A number with a decimal digit more, where it has 64 bits.
 fn with_digit(front: u64, last: u64) -> Option<u64>
@@ -22,17 +22,4 @@ pub fn long_number(word: &[u8]) -> Option<u64>
     let front = read_decimal(&word[..place], 19)?;
     let last = read_decimal(&word[place..], 1)?;
     with_digit(front, last)
-}
-
-/// Seconds, a point and six digits of microseconds.
-#[tactic(auto, unfolding(crate::specs::inner::Numerals::moment_in))]
-pub fn moment(word: &[u8]) -> Option<Moment>
-    ensures { result ≡ moment_in word.now }
-{
-    if word.len() < 7 {
-        return None;
-    }
-    let seconds = read_decimal(&word[..word.len() - 7], 10)?;
-    let micros = read_decimal(&word[word.len() - 6..], 6)?;
-    Moment::new(seconds * 1_000_000 + micros).ok()
 }

@@ -90,14 +90,14 @@ fn put_off(out: &mut Vec<u8>, off: IfaceSet, restarted: IfaceSet) -> Result<(), 
 fn gap_before(restarted: IfaceSet) -> u8
     ensures { result ≡ gap_before (restarted_words restarted) }
 {
-    if restarted.0 == 0 { b'\n' } else { b' ' }
+    if restarted.is_empty() { b'\n' } else { b' ' }
 }
 
 /// The interfaces that an attempt restarted, and the end of their line; nothing where there are none.
 fn put_restarted(out: &mut Vec<u8>, set: IfaceSet) -> Result<(), AllocError>
     ensures { OnOk result (out.new.items ≡ out.old.items ++ spell (restarted_words set) []) }
 {
-    if set.0 == 0 {
+    if set.is_empty() {
         return Ok(());
     }
     put_word(out, b"restarted", b' ')?;

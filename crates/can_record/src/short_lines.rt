@@ -103,7 +103,7 @@ fn push_attempted(line: &mut ShortLine, moment: Moment, verdict: Verdict, reply:
 {
     match reply {
         Reply::Idle { restarted } => {
-            if restarted.0 != 0 {
+            if !restarted.is_empty() {
                 return false;
             }
             push_idle(line, moment, verdict, *restarted);
@@ -119,7 +119,7 @@ fn push_tried(line: &mut ShortLine, moment: Moment, verdict: Verdict, tried: &Tr
     requires { line.old ≡ [] }
     ensures { IsTrue result → line.new ≡ answered_line (event.Attempt moment verdict) (reply.Tried tried.now) [] }
 {
-    if tried.restarted.0 != 0 || !is_short(&tried.frame) {
+    if !tried.restarted.is_empty() || !is_short(&tried.frame) {
         return false;
     }
     push_attempt(line, moment, verdict);

@@ -3,7 +3,6 @@ ghost use Rattle.can_frame.specs.FrameText.{frame_spelling};
 ghost use Rattle.can_record.specs.Spelling.{mask_word, moment_word, set_word};
 
 use can_frame::{IfaceSet, Item, Moment, Text, frame_text};
-use itoa::Buffer;
 use std::alloc::AllocError;
 
 /// A word, and the byte that ends it.
@@ -22,8 +21,10 @@ pub fn put_count(out: &mut Vec<u8>, n: u64, gap: u8) -> Result<(), AllocError>
     if n < 10 {
         return put_digit(out, n as u8, gap);
     }
-    let mut buffer = Buffer::new();
-    put_word(out, buffer.format(n).as_bytes(), gap)
+    let mut word: Text<24> = Text::new();
+    word.push_count(n);
+    word.push(gap);
+    out.extend_from_slice(word.as_bytes())
 }
 
 /// A number of one digit, and the byte that ends it.

@@ -1,5 +1,5 @@
 ghost use Rattle.std.specs.Prelude.{◌≡◌, ℕ, ◌≤◌, ◌<◌, ◌↔◌, [], ◌∷◌, ◌++◌, reverse, length, IfOk, OnOk, Err};
-ghost use Rattle.can_event.specs.Events.{IsConfig};
+ghost use Rattle.can_event.specs.Events.{IsConfig, max_limit};
 ghost use Rattle.can_bus.specs.Legal.{lacks_fd, legal_reply, if_open};
 ghost use Rattle.can_bus.specs.Sockets.{options_of};
 ghost use Rattle.can_event.specs.declared.events.Event.TheVariants as event;
@@ -13,6 +13,7 @@ use crate::queues::{arrivals_at, item_at, taken_from};
 use crate::sockets::{options_of, sockets_of};
 use crate::transmit::{gone_count, sent_by};
 use can_bus::{BusConfig, Closed, Entry, Event, Received, Refusal, Reply, SocketId};
+use can_event::MAX_RX_CAPACITY;
 use can_frame::{Frame, Iface, Item};
 use std::alloc::{AllocError, Global};
 use thiserror::Error;
@@ -36,13 +37,13 @@ fn open_reply(
     iface: Iface,
     capacity: u32,
 ) -> Result<Reply, AllocError>
-    requires { length past.now ≤ 16777216 }
+    requires { length past.now ≤ max_limit }
     ensures { IfOk result (λ r. r ≡ legal_reply config (reverse past.now) (event.Open iface capacity)) }
 {
     if iface.number() >= config.ifaces {
         return Ok(Reply::Refused(Refusal::NoInterface));
     }
-    if capacity < 1 || capacity > 65536 {
+    if capacity < 1 || capacity > MAX_RX_CAPACITY {
         return Ok(Reply::Refused(Refusal::BadCapacity));
     }
     let sockets = sockets_of(alloc, past)?;
@@ -156,7 +157,7 @@ fn legal_reply(
     past: &[Entry],
     event: &Event,
 ) -> Result<Reply, AllocError>
-    requires { length past.now ≤ 16777216 }
+    requires { length past.now ≤ max_limit }
     ensures { IsHistory config (reverse past.now) → IfOk result (λ r. r ≡ legal_reply config (reverse past.now) event.now) }
 {
     match event {

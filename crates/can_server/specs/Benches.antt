@@ -1,7 +1,7 @@
 use Rattle.std.specs.Prelude.{◌≡◌, ◌≤◌, ℕ, suc, List, [], ◌∷◌, length, map, All}
 use Rattle.atomic_table.specs.Seated.{TableId}
 use Rattle.can_frame.specs.Names.{AreNames}
-use Rattle.can_event.specs.Events.{IsConfig}
+use Rattle.can_event.specs.Events.{IsConfig, max_rx_capacity}
 use Rattle.can_server.specs.Buses.{BusSeen, AllApart}
 use Rattle.can_server.specs.declared.benches.Bench.{Bench}
 
@@ -16,7 +16,7 @@ module _ {F G : Type 0} where
     pub names : length b.names ≡ b.config.ifaces
     pub good : AreNames b.names
     pub some_items : 1 ≤ b.rx_capacity
-    pub few_items : b.rx_capacity ≤ 65536
+    pub few_items : b.rx_capacity ≤ max_rx_capacity
 
   -- the names of each bus
   abbrev pub bench_names : List (Bench F G) → List (List (List ℕ))

@@ -3,6 +3,7 @@ ghost use Rattle.can_server.specs.Buses.{Apart, ApartFrom, AllApart};
 ghost use Rattle.can_server.specs.Benches.{IsProper, MakeHub, bench_names};
 
 use can_bus::BusConfig;
+use can_event::MAX_RX_CAPACITY;
 use can_fault::FaultSource;
 use can_frame::{Iface, Names};
 use can_station::{Blanks, Gate};
@@ -35,7 +36,7 @@ impl<F: FaultSource + Drop, G: Gate + Drop> Bench<F, G> {
             && self.blanks.meter.ifaces() == usize::from(ifaces)
             && self.names.count() == ifaces
             && self.rx_capacity >= 1
-            && self.rx_capacity <= 65_536
+            && self.rx_capacity <= MAX_RX_CAPACITY
     }
 }
 

@@ -145,7 +145,7 @@ impl Changes {
     }
 
     fn are_some(&self) -> bool {
-        self.off != IfaceSet::empty() || self.restarted != IfaceSet::empty()
+        !self.off.is_empty() || !self.restarted.is_empty()
     }
 
     fn note(&mut self, attempt: &Attempt) {
@@ -163,8 +163,7 @@ impl Changes {
 /// the record.
 fn is_in_vain(attempt: &Attempt) -> bool {
     match attempt {
-        Attempt::Idle { restarted } => *restarted == IfaceSet::empty(),
-        Attempt::Tried(tried) => tried.class == Class::NoAck
-            && tried.restarted == IfaceSet::empty(),
+        Attempt::Idle { restarted } => restarted.is_empty(),
+        Attempt::Tried(tried) => tried.class == Class::NoAck && tried.restarted.is_empty(),
     }
 }

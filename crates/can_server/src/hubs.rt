@@ -102,9 +102,7 @@ impl<N: RollName + MeterName, F: FaultSource + Drop, G: Gate + Drop> Hub<N, F, G
         if !make_hub(&benches) {
             return Err(BusFault::BadConfig);
         }
-        let Ok(settled) = Vec::with_capacity(alloc, benches.len()) else {
-            return Err(BusFault::NoMemory);
-        };
+        let settled = Vec::with_capacity(alloc, benches.len())?;
         let wires = wires_of::<N, F, G>(alloc, benches)?;
         Ok(Hub { wires, settled })
     }
@@ -229,9 +227,7 @@ fn wires_of<N: RollName + MeterName, F: FaultSource + Drop, G: Gate + Drop>(
     ensures made { IfOk result (λ v. v.items ≡ buses_from 0 benches.items) }
     ensures fault { IfErr result (λ e. e ≡ BusFault.NoMemory) }
 {
-    let Ok(mut wires) = Vec::with_capacity(alloc, benches.len()) else {
-        return Err(BusFault::NoMemory);
-    };
+    let mut wires = Vec::with_capacity(alloc, benches.len())?;
     for bench in benches {
         let number = wires.len() as u8;
         wires.push_reserved(Wire::new(alloc, number, bench)?);

@@ -1,5 +1,6 @@
-use Rattle.std.specs.Prelude.{ℕ, Bool, true, ◌+◌, ◌*◌, ◌&&◌, ◌==◌, nat_le, if◌then◌else◌, List, [], ◌∷◌, length, take, drop, slice_index, position, codes, Option, Some, None}
+use Rattle.std.specs.Prelude.{ℕ, Bool, true, ◌+◌, ◌&&◌, ◌==◌, nat_le, if◌then◌else◌, List, [], ◌∷◌, take, drop, slice_index, position, codes, Option, Some, None}
 use Rattle.std.specs.Option.{option_map, option_and_then}
+use Rattle.can_frame.specs.Moments.{moment_in}
 use Rattle.can_frame.specs.Numbers.{number_in}
 use Rattle.can_proto.specs.Verbs.{is_word}
 use Rattle.can_session.specs.declared.orders.Order.{Order}
@@ -39,19 +40,6 @@ session_number n = if nat_le 1 n && nat_le n 64 then Some n else None
 abbrev pub session_of : List ℕ → Option ℕ
 session_of word = if slice_index word 0 == 48 then None else option_and_then session_number (number_in 10 2 word)
 
--- seconds and microseconds
-abbrev pub joined : Option ℕ → Option ℕ → Option ℕ
-joined (Some seconds) (Some micros) = Some (seconds * 1000000 + micros)
-joined _ _ = None
-
--- 1 to 10 digits of seconds before the point, and 6 digits of microseconds after it
-abbrev pub seconds_of : List ℕ × List ℕ → Option ℕ
-seconds_of (before, behind) = if length behind == 6 then joined (number_in 10 10 before) (number_in 10 6 behind) else None
-
--- a moment in microseconds
-abbrev pub moment_of : List ℕ → Option ℕ
-moment_of word = option_and_then seconds_of (parted 46 word)
-
 -- a session's number, a space, and the bytes that it is fed
 abbrev pub fed_by : List ℕ × List ℕ → Option Effect
 fed_by (session, bytes) = option_map (λ s. Feeds s bytes) (session_of session)
@@ -59,7 +47,7 @@ fed_by (session, bytes) = option_map (λ s. Feeds s bytes) (session_of session)
 -- what a line with a space does, by the word before the space and what follows it
 abbrev pub asked_by : List ℕ × List ℕ → Option Effect
 asked_by (word, rest) =
-    if is_word word (codes "at") then option_map Sets (moment_of rest) else
+    if is_word word (codes "at") then option_map Sets (moment_in rest) else
     if is_word word (codes "session") then option_map Starts (session_of rest) else
     if is_word word (codes "feed") then option_and_then fed_by (parted 32 rest) else
     if is_word word (codes "drain") then option_map Drains (session_of rest) else

@@ -4,7 +4,7 @@ use Rattle.std.specs.Io.KnownBytes.{Appends}
 use Rattle.can_fault.specs.Sources.{VerdictMap}
 use Rattle.can_event.specs.declared.events.BusConfig.{BusConfig}
 use Rattle.can_bus.specs.Journal.{Kept}
-use Rattle.can_event.specs.Events.{IsConfig}
+use Rattle.can_event.specs.Events.{IsConfig, max_rx_capacity}
 use Rattle.can_session.specs.declared.lines.LineFault.{LineFault}
 use Rattle.can_session.specs.declared.lines.LineFault.TheVariants as line
 use Rattle.can_session.specs.declared.bench_run.BenchFault.{BenchFault}
@@ -20,7 +20,7 @@ pub record IsBench (names : List (List ℕ)) (config : BusConfig) (capacity : �
   pub bus : IsConfig config
   pub named : length names ≡ config.ifaces
   pub some_items : 1 ≤ capacity
-  pub few_items : capacity ≤ 65536
+  pub few_items : capacity ≤ max_rx_capacity
 
 -- a bench before its first line
 abbrev pub at_start : List (List ℕ) → BusConfig → ℕ → BenchState

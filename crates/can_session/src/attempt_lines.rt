@@ -63,7 +63,7 @@ fn put_ending(said: &mut Vec<u8>, names: &Names, tried: &Tried) -> Result<(), Al
 fn put_restarted(said: &mut Vec<u8>, names: &Names, restarted: IfaceSet) -> Result<(), AllocError>
     ensures { OnOk result (said.new.items ≡ said.old.items ++ restarted_text names.now restarted) }
 {
-    if restarted == IfaceSet::empty() {
+    if restarted.is_empty() {
         return Ok(());
     }
     said.extend_from_slice(b" restarted ")?;
@@ -83,7 +83,7 @@ fn put_name(said: &mut Vec<u8>, names: &Names, iface: Iface) -> Result<(), Alloc
 fn put_set(said: &mut Vec<u8>, names: &Names, set: IfaceSet) -> Result<(), AllocError>
     ensures { OnOk result (said.new.items ≡ said.old.items ++ set_text names.now set) }
 {
-    if set == IfaceSet::empty() {
+    if set.is_empty() {
         return said.extend_from_slice(b"-");
     }
     let mut is_first = true;

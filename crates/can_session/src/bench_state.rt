@@ -16,6 +16,7 @@ use crate::turns::{self, Act, BenchPort, NoMemory};
 use crate::unheard::Unheard;
 use can_bus::{BusConfig, Record};
 use can_dialog::{BusPort, Session};
+use can_event::MAX_RX_CAPACITY;
 use can_fault::FaultSource;
 use can_frame::{Moment, Names};
 use std::alloc::Global;
@@ -56,7 +57,7 @@ impl Bench {
         ensures bad { (result ≡ Err BenchFault.BadConfig) ↔ (¬ IsBench names config capacity) }
         ensures faults { IfErr result (λ e. (e ≡ BenchFault.BadConfig) ⊎ (e ≡ BenchFault.NoMemory)) }
     {
-        if config.ifaces != names.count() || capacity < 1 || capacity > 65_536 {
+        if config.ifaces != names.count() || capacity < 1 || capacity > MAX_RX_CAPACITY {
             return Err(BenchFault::BadConfig);
         }
         let bus = make_bus(alloc, config)?;

@@ -1,7 +1,7 @@
 ghost use Rattle.std.specs.Prelude.{◌≡◌, ◌++◌, OnOk};
 ghost use Rattle.std.specs.Fmt.{decimal};
 
-use itoa::Buffer;
+use can_frame::Text;
 use std::alloc::AllocError;
 
 /// Adds a number in decimal.
@@ -12,6 +12,7 @@ pub fn put_number(said: &mut Vec<u8>, number: u64) -> Result<(), AllocError>
         said.push(b'0' + number as u8)?;
         return Ok(());
     }
-    let mut digits = Buffer::new();
-    said.extend_from_slice(digits.format(number).as_bytes())
+    let mut digits: Text<20> = Text::new();
+    digits.push_count(number);
+    said.extend_from_slice(digits.as_bytes())
 }

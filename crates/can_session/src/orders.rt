@@ -1,9 +1,10 @@
 ghost use Rattle.std.specs.Prelude.{◌≡◌, ◌≤◌, ◌<◌, ◌^◌, ◌∷◌, length, option_map, option_and_then, IfSome};
-ghost use Rattle.can_session.specs.Orders.{Effect, effect_of, order_of, asked_by, fed_by, is_remark, session_number, session_of, moment_of, parted};
+ghost use Rattle.can_session.specs.Orders.{Effect, effect_of, order_of, asked_by, fed_by, is_remark, session_number, session_of, parted};
+ghost use Rattle.can_frame.specs.Moments.{moment_in};
 ghost use Rattle.can_proto.specs.Verbs.{is_word};
 
 use crate::byte_search::place_of;
-use can_frame::{Moment, read_decimal};
+use can_frame::{Moment, read_decimal, read_moment};
 use std::marker::Model;
 
 /// The number of a session, 1 to 64.
@@ -136,7 +137,7 @@ fn after_drain(line: &[u8]) -> Option<&[u8]>
 
 // What the word `at` asks for, by what follows it.
 fn read_at(rest: &[u8]) -> Option<Order<'_>>
-    ensures { option_map effect_of result ≡ option_map Effect.Sets (moment_of rest.now) }
+    ensures { option_map effect_of result ≡ option_map Effect.Sets (moment_in rest.now) }
 {
     Some(Order::At(read_moment(rest)?))
 }
@@ -188,17 +189,4 @@ fn read_session(word: &[u8]) -> Option<SessionNumber>
     }
     let number = read_decimal(word, 2)?;
     SessionNumber::new(number as u8)
-}
-
-/// A moment: 1 to 10 digits of seconds, a point and 6 digits of microseconds.
-fn read_moment(word: &[u8]) -> Option<Moment>
-    ensures { result ≡ moment_of word.now }
-{
-    let (before, behind) = split_at_first(word, b'.')?;
-    if behind.len() != 6 {
-        return None;
-    }
-    let seconds = read_decimal(before, 10)?;
-    let micros = read_decimal(behind, 6)?;
-    Moment::new(seconds * 1_000_000 + micros).ok()
 }

@@ -12,7 +12,8 @@ use Rattle.can_roll.specs.Lists.{row, added, entry, AllBelow}
 use Rattle.can_roll.specs.Seen.{RollSeen, roll_seen}
 use Rattle.can_roll.proofs.Rows.{row_added, row_added_else, length-added, row_front}
 use Rattle.can_roll.proofs.Passes.{below_more}
-use Rattle.can_station.specs.Held.{enters, lists_after, marks_after}
+use Rattle.can_event.specs.Replies.{enters}
+use Rattle.can_station.specs.Held.{lists_after, marks_after}
 use Rattle.can_station.specs.Marks.{marked, IsMarked, IsBooked}
 use Rattle.can_station.specs.Passes.{PassSeen, AllMatch, AllMarked}
 use Rattle.std.proofs.lemmas.List.Elements.{All-weaker}

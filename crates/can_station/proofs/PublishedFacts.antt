@@ -21,7 +21,7 @@ use Rattle.can_meter.specs.declared.status.Status.{Status}
 use Rattle.can_meter.specs.Publications.{published, newest, Ends}
 use Rattle.can_meter.specs.Readings.{Readings, readings}
 use Rattle.can_roll.specs.Lists.{entry}
-use Rattle.can_station.specs.Held.{enters}
+use Rattle.can_event.specs.Replies.{enters}
 use Rattle.can_station.specs.Published.{published_after, publications_of, counts_before, counts_in, IsPublished, AllSeen, AllTrue}
 use Rattle.can_station.proofs.Replies.{after-entered, after-kept}
 

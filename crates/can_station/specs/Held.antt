@@ -1,9 +1,8 @@
-use Rattle.std.specs.Prelude.{ℕ, Bool, true, false, List, [], ◌∷◌, ◌++◌, if◌then◌else◌}
+use Rattle.std.specs.Prelude.{ℕ, Bool, List, [], ◌∷◌, ◌++◌, if◌then◌else◌}
 use Rattle.can_event.specs.declared.events.Entry.{Entry}
 use Rattle.can_event.specs.declared.events.Event.{Event}
 use Rattle.can_event.specs.declared.events.Reply.{Reply}
-use Rattle.can_event.specs.declared.events.Reply.TheVariants as reply
-use Rattle.can_event.specs.declared.events.Refusal.TheVariants as refusal
+use Rattle.can_event.specs.Replies.{enters}
 use Rattle.can_bus.specs.Journal.{Journal}
 use Rattle.can_bus.specs.Run.{history_after}
 use Rattle.can_roll.specs.Lists.{added, entry}
@@ -18,12 +17,6 @@ pub record Held (F : Type 0) : Type 0 where
   pub lists : List (List Entry)
   pub source : F
   pub stopped : Bool
-
--- whether a call with this reply is an entry of the record
-abbrev pub enters : Reply → Bool
-enters (reply.Refused refusal.RecordFull) = false
-enters (reply.Refused refusal.NoMemory) = false
-enters _ = true
 
 -- the calls of each pass, after a call of pass p
 abbrev pub lists_after : ℕ → Event → Reply → List (List Entry) → List (List Entry)

@@ -1,6 +1,4 @@
 ghost use Rattle.std.specs.Prelude.{◌≡◌, reverse, IfOk};
-ghost use Rattle.can_event.specs.declared.events.Event.TheVariants as event;
-ghost use Rattle.can_event.specs.declared.events.Reply.TheVariants as reply;
 ghost use Rattle.can_bus.specs.Run.{history_after};
 ghost use Rattle.can_bus.specs.Answer.{told_attempt};
 ghost use Rattle.can_station.specs.Held.{held_after, slip_after};
@@ -14,9 +12,9 @@ use crate::refusals::StationRefusal;
 use crate::state::StationState;
 use crate::stations::Station;
 use crate::waits::News;
-use can_bus::{Attempt, Event, Received, Refusal, Reply, SocketId};
+use can_bus::{Attempt, Event, Refusal, Reply};
 use can_fault::FaultSource;
-use can_frame::{Frame, Moment};
+use can_frame::Moment;
 use can_meter::MeterName;
 use can_packed::PackedList;
 use can_roll::{RollName, Slip};
@@ -99,41 +97,6 @@ impl<'s, N: RollName + MeterName, F: FaultSource + Drop, G: Gate + Drop> Hold<'s
         self.news.add(&event, &reply);
         keep(calls, event, &reply);
         reply
-    }
-
-    /// Sends a frame on a socket, as the station's `send` does.
-    pub fn send(
-        &mut self,
-        alloc: Global,
-        pass: &mut Pass<N>,
-        socket: SocketId,
-        frame: Frame,
-    ) -> Result<u64, StationRefusal>
-        ensures made { Made reply.Sent self.old pass.old (event.Send socket frame) result self.new pass.new }
-        ensures called { Called reply.Sent self.old.number pass.old (event.Send socket frame) result pass.new }
-    {
-        match self.call(alloc, pass, Event::Send(socket, frame))? {
-            Reply::Sent(number) => Ok(number),
-            Reply::Refused(why) => Err(StationRefusal::Bus(why)),
-            _ => unreachable!(),
-        }
-    }
-
-    /// Takes the oldest item of a socket, as the station's `receive` does.
-    pub fn receive(
-        &mut self,
-        alloc: Global,
-        pass: &mut Pass<N>,
-        socket: SocketId,
-    ) -> Result<Option<Received>, StationRefusal>
-        ensures made { Made reply.Received self.old pass.old (event.Receive socket) result self.new pass.new }
-        ensures called { Called reply.Received self.old.number pass.old (event.Receive socket) result pass.new }
-    {
-        match self.call(alloc, pass, Event::Receive(socket))? {
-            Reply::Received(item) => Ok(item),
-            Reply::Refused(why) => Err(StationRefusal::Bus(why)),
-            _ => unreachable!(),
-        }
     }
 
     /// Tries the frame that wins the bus, as the station's `step` does.

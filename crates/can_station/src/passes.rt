@@ -2,10 +2,9 @@ ghost use Rattle.std.specs.Prelude.{◌≡◌, ◌<◌, ◌≤◌, [], length, r
 ghost use Rattle.can_bus.specs.Run.{history_after};
 ghost use Rattle.can_roll.specs.Seen.{roll_seen};
 ghost use Rattle.can_roll.specs.Lists.{Distinct, AllBelow};
-ghost use Rattle.can_station.specs.Held.{enters};
 ghost use Rattle.can_station.specs.Passes.{AllOf, AllMatch, CanClose, IsReady, IsReadyFor, Suits, numbers_of};
 
-use can_bus::{Event, Looked, Record, Refusal, Reply};
+use can_bus::{Event, Looked, Record, Reply};
 use can_packed::PackedList;
 use can_roll::{Roll, RollName, Slip};
 use std::alloc::{AllocError, Global};
@@ -74,16 +73,6 @@ pub struct Settled {
     pub passes: u32,
 }
 
-/// Whether a call with this reply is an entry of the record.
-pub(crate) fn enters(reply: &Reply) -> bool
-    ensures { result ≡ enters reply.now }
-{
-    !matches!(
-        reply,
-        Reply::Refused(Refusal::RecordFull | Refusal::NoMemory)
-    )
-}
-
 /// Takes the memory for a call that is no close. A place is left for a close, so the close of a socket that the pass
 /// opened is never refused for memory.
 pub(crate) fn make_ready(calls: &mut PackedList, alloc: Global) -> Result<(), AllocError>
@@ -116,7 +105,7 @@ pub(crate) fn keep(calls: &mut PackedList, event: Event, reply: &Reply)
     requires suits { Suits event reply.now }
     ensures { reverse calls.new.entries ≡ history_after event reply.now (reverse calls.old.entries) }
 {
-    if enters(reply) {
+    if reply.enters() {
         calls.push(event, *reply);
     }
 }

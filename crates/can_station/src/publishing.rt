@@ -1,9 +1,8 @@
 ghost use Rattle.std.specs.Prelude.{◌≡◌, ◌≢◌, ◌<◌, ◌≤◌, ℕ, true, if◌then◌else◌};
 ghost use Rattle.can_meter.specs.Publications.{published, newest};
-ghost use Rattle.can_station.specs.Held.{enters};
+ghost use Rattle.can_event.specs.Replies.{enters};
 ghost use Rattle.can_station.specs.Published.{published_after, counts_in, counts_before};
 
-use crate::passes::enters;
 use can_bus::{Event, Reply, RingBus};
 use can_confine::Counters;
 use can_meter::{Keeper, MeterName};
@@ -33,7 +32,7 @@ pub(crate) fn publish_changes<N: MeterName>(
     ensures ifaces { keeper.new.ifaces ≡ keeper.old.ifaces }
     ensures lists { (i : ℕ) → i < keeper.old.ifaces → published keeper.new.lists i ≡ (if enters reply.now then published_after (counts_in before.now i) (counts_in after.now i) at (published keeper.old.lists i) else published keeper.old.lists i) }
 {
-    if enters(reply) {
+    if reply.enters() {
         publish_all(keeper, at, before, after);
     }
 }

@@ -1,20 +1,21 @@
 ghost use Rattle.std.specs.Prelude.{◌≡◌, ◌<◌, ◌≤◌, ◌⊎◌, ℕ, [], true, false, List, length, reverse, IfOk, OnErr, MatchResult, vec_len, vec_capacity};
 ghost use Rattle.can_fault.specs.Sources.{verdict_in};
 ghost use Rattle.can_event.specs.Events.{IsConfig};
+ghost use Rattle.can_event.specs.Replies.{enters};
 ghost use Rattle.can_bus.specs.Legal.{IsLegal};
 ghost use Rattle.can_bus.specs.Run.{IsAnswer};
 ghost use Rattle.can_bus.specs.Transmit.{tape};
 ghost use Rattle.can_event.specs.declared.events.Event.TheVariants as event;
 ghost use Rattle.can_meter.specs.Readings.{readings};
 ghost use Rattle.can_roll.specs.Seen.{roll_seen, slip_seen};
-ghost use Rattle.can_station.specs.Held.{enters, held_after, lists_after, marks_after, slip_after, with_pass};
+ghost use Rattle.can_station.specs.Held.{held_after, lists_after, marks_after, slip_after, with_pass};
 ghost use Rattle.can_station.specs.Marks.{IsMarked};
 ghost use Rattle.can_station.specs.Passes.{AllOf, SomeOther, Settles, Suits};
 ghost use Rattle.can_station.specs.Published.{AllTrue, GaugesOf, SomeOtherGauge, IsPublished};
 ghost use Rattle.can_station.specs.Waits.{AreCounts, frame_wake, has_work, work_wake, stopped_wake, waiting_at};
 
 use crate::gauges::{absorb_all, are_gauges_of};
-use crate::passes::{Pass, Settled, are_all_of, enters, recall_all};
+use crate::passes::{Pass, Settled, are_all_of, recall_all};
 use crate::publishing::{counters_before, publish_changes};
 use crate::refusals::{TooManyPasses, WrongStation};
 use crate::rooms::{ROOMS, RoomSet, Sleeper, Sleepers};
@@ -336,7 +337,7 @@ fn book<N: RollName>(
     ensures slip { slip.new ≡ slip_after event.now reply.now slip.old }
     ensures below { enters reply.now ≡ true → slip.old.pass < length roll.old.lists }
 {
-    if enters(reply) {
+    if reply.enters() {
         roll.note(slip, event, reply);
         marks.push_reserved(slip.pass());
     }

@@ -93,9 +93,7 @@ impl<N: RollName + MeterName, F: FaultSource + Drop, G: Gate + Drop> Station<N, 
             return Err(BusFault::BadConfig);
         }
         let bus = RingBus::new(alloc, config)?;
-        let Ok(marks) = Vec::with_capacity(alloc, config.limit as usize) else {
-            return Err(BusFault::NoMemory);
-        };
+        let marks = Vec::with_capacity(alloc, config.limit as usize)?;
         let Blanks { roll, meter: blank } = blanks;
         let Ok((keeper, spare)) = meter::<N>(alloc, blank, number) else {
             return Err(BusFault::NoMemory);

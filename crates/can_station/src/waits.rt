@@ -9,7 +9,7 @@ use crate::state::StationState;
 use crate::stations::Station;
 use can_bus::{Event, IfaceStats, Refusal, Reply, SocketId, SocketStats};
 use can_fault::FaultSource;
-use can_frame::{Iface, IfaceSet};
+use can_frame::Iface;
 use can_meter::MeterName;
 use can_roll::RollName;
 use std::sync::Wait;
@@ -64,7 +64,7 @@ impl News {
         match (event, reply) {
             (_, Reply::Refused(Refusal::RecordFull)) => self.is_full = true,
             (_, Reply::Refused(_)) => {}
-            (_, Reply::Idle { restarted }) if *restarted == IfaceSet::empty() => {}
+            (_, Reply::Idle { restarted }) if restarted.is_empty() => {}
             (Event::Send(_, _), _) => self.has_work = true,
             (Event::Close(_) | Event::Attempt(_, _) | Event::Restart(_, _), _) => {
                 self.has_items = true;

@@ -1,10 +1,8 @@
 //! What is reported of a wrong line of the bench's input.
+use can_session::lines::LONGEST_LINE;
 use can_session::{Order, SessionNumber, read_order};
 use canbusd_faults::{Line, WITH_CR, fixed_note};
 use std::alloc::{AllocError, Global};
-
-/// How many bytes a line of the bench's input has at most.
-const LONGEST_LINE: usize = 4096;
 
 /// The line of the bench's input that is wrong, and why.
 pub fn input_note(

@@ -5,6 +5,7 @@ ghost use Rattle.canbusd_files.specs.Buses.{first_ifaces as first_ifaces_of};
 
 use crate::scripts::read_script;
 use can_bus::BusConfig;
+use can_event::{MAX_AUTO_RESTART, MAX_LIMIT, MAX_RX_CAPACITY, MAX_TX_CAPACITY};
 use can_fault::{FaultSource, Perfect, Script, Verdict};
 use can_frame::{IfaceSet, Names};
 use canbusd_faults::Failure;
@@ -78,10 +79,10 @@ fn first_ifaces(count: u8) -> IfaceSet
 /// Which option is past its limits.
 pub fn limits_note(alloc: Global, settings: &BusSettings) -> Result<String, AllocError> {
     let limits = [
-        ("txqueue", settings.tx_capacity, 1, 1024),
-        ("rxqueue", settings.rx_capacity, 1, 65_536),
-        ("limit", settings.limit, 1, 16_777_216),
-        ("auto-restart", settings.auto_restart, 0, 1_000_000),
+        ("txqueue", settings.tx_capacity, 1, MAX_TX_CAPACITY),
+        ("rxqueue", settings.rx_capacity, 1, MAX_RX_CAPACITY),
+        ("limit", settings.limit, 1, MAX_LIMIT),
+        ("auto-restart", settings.auto_restart, 0, MAX_AUTO_RESTART),
     ];
     for (option, number, least, most) in limits {
         if number < least || number > most {

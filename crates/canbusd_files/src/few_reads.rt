@@ -1,11 +1,12 @@
 //! Readers that are read a bounded number of times, so that none is read for ever.
 
+use can_session::lines::LONGEST_INPUT;
 use std::alloc::Global;
 use std::io;
 use std::io::{Error, ErrorKind, Read};
 
 /// How often a file is read at most: the last read finds its end.
-pub(crate) const MOST_READS: u32 = 16_777_216;
+pub(crate) const MOST_READS: u32 = LONGEST_INPUT as u32;
 
 /// A reader that is read at most this many times. One more is a fault that says how many there were.
 #[derive(Drop)]

@@ -70,8 +70,8 @@ fn is_fd(received: &Received, len: u8) -> bool {
 /// Whether an attempt restarted an interface.
 fn is_restarting(reply: &Reply) -> bool {
     match reply {
-        Reply::Idle { restarted } => *restarted != IfaceSet(0),
-        Reply::Tried(tried) => tried.restarted != IfaceSet(0),
+        Reply::Idle { restarted } => !restarted.is_empty(),
+        Reply::Tried(tried) => !tried.restarted.is_empty(),
         _ => false,
     }
 }
@@ -81,7 +81,7 @@ fn is_of(reply: &Reply, kind: Kind) -> bool {
         Kind::Idle => matches!(reply, Reply::Idle { .. }),
         Kind::Restarts => is_restarting(reply),
         Kind::Tried(class) => matches!(reply, Reply::Tried(tried) if tried.class == class),
-        Kind::GoesOff => matches!(reply, Reply::Tried(tried) if tried.off != IfaceSet(0)),
+        Kind::GoesOff => matches!(reply, Reply::Tried(tried) if !tried.off.is_empty()),
         Kind::Refused(why) => matches!(reply, Reply::Refused(refusal) if *refusal == why),
         Kind::Data => matches!(reply, Reply::Received(Some(received)) if !is_error(received)),
         Kind::Fd(len) => matches!(reply, Reply::Received(Some(received)) if is_fd(received, len)),

@@ -1,7 +1,7 @@
-use Rattle.std.specs.Prelude.{ℕ, ◌+◌, ◌-◌, ◌*◌, ◌^◌, nat_le, nat_lt, List, length, take, drop, Option, Some, None, option_and_then, if◌then◌else◌}
+use Rattle.std.specs.Prelude.{ℕ, ◌+◌, ◌-◌, ◌*◌, ◌^◌, nat_le, List, length, take, drop, Option, Some, None, option_and_then, if◌then◌else◌}
 use Rattle.can_frame.specs.Numbers.{number_in}
 
--- Long numbers and moments as they are read (own choice): what was read is written again and compared, so it may be read
+-- Long numbers as they are read (own choice): what was read is written again and compared, so it may be read
 -- loosely.
 
 -- a number with a digit more; there is none from 2 ^ 64 on
@@ -13,9 +13,3 @@ unfoldable pub long_in : List ℕ → Option ℕ
 long_in w =
     if nat_le (length w) 19 then number_in 10 19 w
     else option_and_then (λ n. option_and_then (λ d. with_digit n d) (number_in 10 1 (drop (length w - 1) w))) (number_in 10 19 (take (length w - 1) w))
-
--- the moment of this word: its last six bytes are microseconds, and what stands before the seventh from the end is seconds
-unfoldable pub moment_in : List ℕ → Option ℕ
-moment_in w =
-    if nat_lt (length w) 7 then None
-    else option_and_then (λ s. option_and_then (λ u. Some (s * 1000000 + u)) (number_in 10 6 (drop (length w - 6) w))) (number_in 10 10 (take (length w - 7) w))

@@ -1,5 +1,6 @@
 use Rattle.std.specs.Prelude.{ℕ, zero, suc, ◌^◌, nat_lt, ◌==◌, bit_and, Bool, true, false, List, [], ◌∷◌, ◌++◌, length, take, drop, codes, Option, Some, None, Result, Ok, Err, ◌≡◌, if◌then◌else◌}
 use Rattle.std.specs.Str.{bytes_eq}
+use Rattle.can_frame.specs.Moments.{moment_in}
 use Rattle.can_frame.specs.Numbers.{number_in}
 use Rattle.can_frame.specs.Frames.{CanFrame}
 use Rattle.can_frame.specs.FrameGuess.{item_in}
@@ -32,7 +33,7 @@ use Rattle.can_record.specs.declared.faults.Unread.TheVariants as unread
 use Rattle.can_record.specs.declared.versions.Version.{Version}
 use Rattle.can_record.specs.declared.versions.Version.TheVariants as version
 use Rattle.can_record.specs.inner.Words.{word, after}
-use Rattle.can_record.specs.inner.Numerals.{long_in, moment_in}
+use Rattle.can_record.specs.inner.Numerals.{long_in}
 
 -- An entry as a line seems to spell it. It is written again and compared, so here it may be read loosely (own choice).
 

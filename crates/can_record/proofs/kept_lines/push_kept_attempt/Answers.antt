@@ -1,11 +1,11 @@
-use Rattle.std.proofs.Common.{◌∙◌, ◌/◌, refl}
+use Rattle.std.proofs.Common.{◌∙◌, ◌/◌, refl, arith}
 use Rattle.can_packed.specs.Kept.{tried_in, stamp_moment}
 use Rattle.can_packed.specs.Verdicts.{verdict_in}
 use Rattle.can_record.proofs.TriedLines.{tried_line}
 use Rattle.can_record.proofs.kept_lines.push_kept_attempt.Goals as goal
 
-pub returns-else-restarted-ne0-2 : goal.returns-else-restarted-ne0-2
-returns-else-restarted-ne0-2 c =
+pub returns-else-not-is_empty-2 : goal.returns-else-not-is_empty-2
+returns-else-not-is_empty-2 c =
     let k = c.in-Tried in
     λ frames yes. rw k.is (tried_line (stamp_moment k.stamp) (verdict_in (k.end / 4) k.named) (tried_in k.end k.word k.number k.accepted k.restarted k.bytes k.stamp)
     c.push_attempt.new.line c.push_winner.new.line c.push_packed.new.line c.push_outcome.new.line
@@ -13,4 +13,4 @@ returns-else-restarted-ne0-2 c =
     (c.push_winner.ensures.text ∙ rw c.from.ensures refl)
     c.push_packed.ensures.text
     (c.push_outcome.ensures ∙ rw (c.class_in.ensures, c.off_in.ensures) refl)
-    c.if-restarted-ne0-2.false)
+    (grind (arith, c.is_empty-2.ensures, c.if-not-is_empty-2.false)))

@@ -6,9 +6,9 @@ use Rattle.can_server.proofs.hubs.wires_of.Goals as goal
 
 pub loop-bench-init : goal.loop-bench-init
 loop-bench-init g c =
-    let made = c.in-Ok.wires.items in
+    let made = c.in_ok-wires.wires.items in
     let items = into_iter_items c.into_iter-bench-iterator.result in
-    let none : made ≡ [] = c.in-Ok.ensures.items in
+    let none : made ≡ [] = c.in_ok-wires.ensures.items in
     let zero = ap length none in
     let given = c.into_iter-bench-iterator.ensures.into_iter_gives in
     let long = ap length given.0 in
@@ -18,7 +18,7 @@ loop-bench-init g c =
       proper = subst (λ (r : List _). All (λ b. IsProper b) r) (sym given.0) c.requires.proper;
       left = omega (arith, given.1, long, c.args.benches.ok.0);
       count = omega (arith, zero, given.1, c.args.benches.ok.0);
-      room = search (rules, c.in-Ok.ensures, c.len.ensures, c.args.benches.ok);
+      room = search (rules, c.in_ok-wires.ensures, c.len.ensures, c.args.benches.ok);
       few = c.requires.few;
     }
 

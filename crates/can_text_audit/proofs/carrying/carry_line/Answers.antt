@@ -18,7 +18,7 @@ pub returns-in-Ok-true-clause-carried : goal.returns-in-Ok-true-clause-carried
 returns-in-Ok-true-clause-carried c = λ past stands.
     let e : Entry = record { event = c.in-Ok.event; reply = c.answer-reply.result } in
     let test : IsTrue c.enters.result = grind (arith, c.if-not-enters.false) in
-    let enters : Enters c.answer-reply.result = c.enters.ensures.0 test in
+    let enters : Enters c.answer-reply.result = subst IsTrue c.enters.ensures test in
     record {
       entry = e;
       rest = drop (length (entry_line e [])) c.args.line.now;
@@ -31,6 +31,6 @@ returns-in-Ok-true-clause-carried c = λ past stands.
 pub returns-in-Ok-false-clause-carried : goal.returns-in-Ok-false-clause-carried
 returns-in-Ok-false-clause-carried c = λ past stands v e rest good is.
     let test : IsTrue c.enters.result = grind (arith, c.if-not-enters.false) in
-    let enters : Enters c.answer-reply.result = c.enters.ensures.0 test in
+    let enters : Enters c.answer-reply.result = subst IsTrue c.enters.ensures test in
     other_reply v c.args.bus.now.config past c.args.line.now rest c.in-Ok.field-0-1.now e c.in-Ok.event c.answer-reply.result good is c.in-Ok.ensures enters (c.answer-reply.ensures.answer past stands)
     (λ same. never c.in-Ok-false.field-0 (c.in-Ok-false.ensures.no rest same) c.in-Ok-false.field-0-test)

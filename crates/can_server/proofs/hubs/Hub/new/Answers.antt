@@ -16,8 +16,8 @@ invariant_of-result g c =
       subst (λ (bs : List BusSeen). AllApart (names_of bs)) (sym made) (subst AllApart (sym (same_names 0 benches)) hub.apart),
       subst (λ (bs : List BusSeen). All (λ b. AreNames b.names) bs) (sym made) (good_names 0 benches hub.proper),
       omega (arith, long, same, hub.few),
-      c.in-Ok.ensures.items,
-      omega (arith, long, same, c.in-Ok.ensures.capacity, c.len.ensures, c.args.benches.ok.0),
+      c.in_ok-settled.ensures.items,
+      omega (arith, long, same, c.in_ok-settled.ensures.capacity, c.len.ensures, c.args.benches.ok.0),
     )
 
 pub returns-clause-bad : goal.returns-clause-bad
