@@ -18,7 +18,7 @@ never false h e = absurd cc
 next : (c : After-has_fd-fd) (past : List Entry) → Stands c.args.self.now.bus past → IsNext c.args.self.now.bus.config past c.args.line.now c.has_fd-fd.result c.answer-reply.new.self
 next c past stands =
     let test : IsTrue c.enters.result = grind (arith, c.if-not-enters.false) in
-    let enters : Enters c.answer-reply.result = c.enters.ensures.0 test in
+    let enters : Enters c.answer-reply.result = subst IsTrue c.enters.ensures test in
     next_is c.args.self.now.bus.config past c.args.line.now c.args.event.now c.answer-reply.result c.has_fd-fd.result c.answer-reply.new.self enters (c.answer-reply.ensures.spelled enters) c.hold_event.ensures c.hold_reply.ensures c.has_fd-fd.ensures
     (c.in-Ok-true.ensures.yes c.in-Ok-true.field-0-test) (c.answer-reply.ensures.after past stands)
 
@@ -30,7 +30,7 @@ returns-then-is_past_limit c =
 pub returns-in-Ok-false : goal.returns-in-Ok-false
 returns-in-Ok-false c =
     let test : IsTrue c.enters.result = grind (arith, c.if-not-enters.false) in
-    let enters : Enters c.answer-reply.result = c.enters.ensures.0 test in
+    let enters : Enters c.answer-reply.result = subst IsTrue c.enters.ensures test in
     takes_blamed c.args.self.now c.blame_reply.new.self c.answer-reply.new.self c.args.line.now (Some c.answer-reply.result) c.blame_reply.result c.requires.legal c.answer-reply.ensures.config
     (λ past stands v e rest good is.
     other_reply v c.args.self.now.bus.config past c.args.line.now rest c.requires.seems.0 e c.args.event.now c.answer-reply.result good is c.requires.seems.1 enters (c.answer-reply.ensures.answer past stands)
