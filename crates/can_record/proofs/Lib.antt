@@ -10,3 +10,4 @@ pub mod Whole
 pub mod Growing
 pub mod Short
 pub mod TriedLines
+pub mod Fronts

@@ -1,7 +1,8 @@
-ghost use Rattle.std.specs.Prelude.{IsTrue, IfOk, OnOk, ◌++◌, ◌∷◌, [], ◌+◌, ◌≡◌, ◌≤◌, ◌<◌, length};
+ghost use Rattle.std.specs.Prelude.{IsTrue, IfOk, IfSome, OnOk, ◌++◌, ◌∷◌, [], ◌+◌, ◌≡◌, ◌≤◌, ◌<◌, length};
 ghost use Rattle.std.specs.Option.{option_map};
 ghost use Rattle.std.specs.Result.{result_map_both};
-ghost use Rattle.can_record.specs.inner.Reading.{Gives, GivesFilters, option_at, verdict_at, filter_at, filters_at, set_filters_at, setting_at, plain_at, event_at};
+ghost use Rattle.can_record.specs.inner.Reading.{Gives, GivesFilters, option_at, verdict_at, filter_at, filters_at, set_filters_at, setting_at, plain_at, event_at, attempted_in, sent_in, SeemsToBe};
+ghost use Rattle.can_event.specs.declared.events.Event.TheVariants as event;
 
 use crate::faults::Unread;
 use crate::fields::{
@@ -9,10 +10,10 @@ use crate::fields::{
     set_behind, short_field, socket_field,
 };
 use crate::words::{next_word, same_word};
-use can_bus::{Event, Opt};
+use can_bus::{Event, Opt, SocketId};
 use can_fault::{GlobalKind, LocalKind, Verdict};
 use can_filter::{Filter, FilterError, FilterSet};
-use can_frame::IfaceSet;
+use can_frame::{Frame, IfaceSet, Moment};
 use std::alloc::{AllocError, Global};
 
 /// The event of a line as it seems to be spelled, and what follows it: the line has to be written again and compared.
@@ -25,6 +26,54 @@ pub fn guess_event(alloc: Global, text: &[u8]) -> Result<(Event, &[u8]), Unread>
         return guess_filters(alloc, rest);
     }
     guess_plain(word, rest).ok_or(Unread::Bad)
+}
+
+/// The socket of a receive, where a text begins as the line of one seems to: the line has to be written again and
+/// compared.
+pub fn receive_front(text: &[u8]) -> Option<SocketId>
+    ensures { IfSome result (λ id. SeemsToBe text.now (event.Receive id)) }
+{
+    let rest = text.strip_prefix(b"receive ")?;
+    let (id, _) = socket_field(rest)?;
+    Some(id)
+}
+
+/// The same of an attempt: its moment and its verdict.
+pub fn attempt_front(text: &[u8]) -> Option<(Moment, Verdict)>
+    ensures { IfSome result (λ x. SeemsToBe text.now (event.Attempt x.0 x.1)) }
+{
+    attempt_fields(text.strip_prefix(b"attempt ")?)
+}
+
+/// The same of a send: its socket and its frame.
+pub fn send_front(text: &[u8]) -> Option<(SocketId, Frame)>
+    ensures { IfSome result (λ x. SeemsToBe text.now (event.Send x.0 x.1)) }
+{
+    send_fields(text.strip_prefix(b"send ")?)
+}
+
+/// The moment and the verdict of an attempt, after its first word.
+#[tactic(auto, unfolding(crate::specs::inner::Reading::attempted_in))]
+fn attempt_fields(text: &[u8]) -> Option<(Moment, Verdict)>
+    ensures { result ≡ attempted_in text.now }
+{
+    let Some((moment, rest)) = moment_field(text) else {
+        return None;
+    };
+    let (verdict, _) = verdict_field(rest)?;
+    Some((moment, verdict))
+}
+
+/// The socket and the frame of a send, after its first word.
+#[tactic(auto, unfolding(crate::specs::inner::Reading::sent_in))]
+fn send_fields(text: &[u8]) -> Option<(SocketId, Frame)>
+    ensures { result ≡ sent_in text.now }
+{
+    let (id, rest) = socket_field(text)?;
+    let Some((frame, _)) = frame_field(rest) else {
+        return None;
+    };
+    Some((id, frame))
 }
 
 /// An event whose line begins with this word and goes on with this text; of all but those that set filters.

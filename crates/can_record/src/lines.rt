@@ -57,6 +57,41 @@ fn put_words(out: &mut Vec<u8>, event: &Event, reply: &Reply) -> Result<(), Allo
     put_reply(out, reply)
 }
 
+/// Whether a text begins with the line of an event with this reply.
+pub fn is_line_of(
+    buffer: &mut Vec<u8>,
+    event: &Event,
+    reply: &Reply,
+    text: &[u8],
+) -> Result<bool, AllocError>
+    requires { FitsReply event.now reply.now }
+    ensures yes { IfOk result (λ same. IsTrue same → text.now ≡ answered_line event.now reply.now (drop (length (answered_line event.now reply.now [])) text.now)) }
+    ensures no { (rest : List ℕ) → text.now ≡ answered_line event.now reply.now rest → IfOk result IsTrue }
+{
+    let mut line = Text::new();
+    if push_answered(&mut line, event, reply) {
+        return Ok(begins(text, line.as_bytes()));
+    }
+    has_words_of(buffer, event, reply, text)
+}
+
+/// The same of a line that is written word by word.
+#[inline(never)]
+fn has_words_of(
+    buffer: &mut Vec<u8>,
+    event: &Event,
+    reply: &Reply,
+    text: &[u8],
+) -> Result<bool, AllocError>
+    requires { FitsReply event.now reply.now }
+    ensures yes { IfOk result (λ same. IsTrue same → text.now ≡ answered_line event.now reply.now (drop (length (answered_line event.now reply.now [])) text.now)) }
+    ensures no { (rest : List ℕ) → text.now ≡ answered_line event.now reply.now rest → IfOk result IsTrue }
+{
+    buffer.clear();
+    put_words(buffer, event, reply)?;
+    Ok(begins(text, buffer))
+}
+
 /// The line of a bus.
 pub(crate) fn put_bus(
     out: &mut Vec<u8>,

@@ -1,24 +1,28 @@
 -- A line against what a bus answers.
-use Rattle.std.proofs.Common.{◌≡◌, nat_le, ℕ, List, length, Option, Some, None, Err, inr, refl, sym, ap, ◌∙◌}
-use Rattle.std.proofs.lemmas.Bool.{cond-false, lt-leb}
+use Rattle.std.proofs.Common.{◌≡◌, ◌≤◌, nat_le, ℕ, Bool, List, [], drop, length, Option, Some, None, Err, inl, inr, refl, sym, subst, ap, ◌∙◌}
+use Rattle.std.proofs.lemmas.Bool.{cond-false, le-leb, lt-leb}
 use Rattle.std.proofs.lemmas.Option.{none-some, same_Some}
 use Rattle.can_event.specs.declared.events.BusConfig.{BusConfig}
 use Rattle.can_event.specs.declared.events.Entry.{Entry}
 use Rattle.can_event.specs.declared.events.Event.{Event}
 use Rattle.can_event.specs.declared.events.Reply.{Reply}
+use Rattle.can_event.specs.declared.events.Reply.TheVariants as reply
+use Rattle.can_event.specs.declared.events.Refusal.TheVariants as refusal
 use Rattle.can_event.specs.Replies.{Enters}
+use Rattle.can_event.specs.Spelled.{IsSpelled}
+use Rattle.can_bus.specs.Lean.{Lean, Stands}
 use Rattle.can_bus.specs.Legal.{legal_reply}
-use Rattle.can_bus.specs.Run.{IsAnswer}
-use Rattle.can_bus.proofs.Answering.{entered_is_legal}
+use Rattle.can_bus.specs.Run.{IsAnswer, history_after}
+use Rattle.can_bus.proofs.Answering.{entered_is_legal, history-entered}
 use Rattle.can_record.specs.declared.faults.Unread.{Unread}
 use Rattle.can_record.specs.declared.faults.Unread.TheVariants as unread
 use Rattle.can_record.specs.declared.versions.Version.{Version}
 use Rattle.can_record.specs.inner.Words.{after}
 use Rattle.can_record.specs.inner.Reading.{Gives, entry_at, event_at, moment_of, reply_at, ◌>>=◌}
-use Rattle.can_record.specs.Spelling.{answered_line, entry_line}
-use Rattle.can_record.specs.Values.{HasLine}
+use Rattle.can_record.specs.Spelling.{answered_line, entry_line, has_fd}
+use Rattle.can_record.specs.Values.{HasLine, HoldsEvent, HoldsReply}
 use Rattle.can_record.proofs.Again.{entry_again}
-use Rattle.can_text_audit.specs.inner.Carried.{IsWrongNext}
+use Rattle.can_text_audit.specs.inner.Carried.{IsNext, IsOther, IsWrongNext}
 
 -- what spells no event spells no entry
 pub not_an_entry : (u : Unread) (text : List ℕ) → Gives {X = Event × List ℕ} (Err u) (event_at text) → u ≡ unread.Bad → entry_at text ≡ None
@@ -47,3 +51,21 @@ other_reply v c past line rest more e ev r good is guessed enters answer other =
           other (is ∙ ap (λ (x : Event). answered_line x e.reply rest) same ∙ ap (λ (x : Reply). answered_line ev x rest) (right ∙ sym law)));
       is_allowed = ap Some law ∙ sym (cond-false (nat_le c.limit (length past)) None (Some (legal_reply c past e.event)) (lt-leb c.limit (length past) lawful.0));
     }
+
+-- past the limit any entry is wrong
+pub other_past : (c : BusConfig) (past : List Entry) (line : List ℕ) (ev : Event) (r : Reply) → r ≡ reply.Refused refusal.RecordFull → IsAnswer c past ev r → IsOther c past line None
+other_past c past line ev r is answer v e rest good stands =
+    let full : c.limit ≤ length past = subst (IsAnswer c past ev) is answer in
+    record { wrong = inl full; is_allowed = rw (le-leb c.limit (length past) full) refl }
+
+-- the line of an event with the reply of a bus is that of the next entry
+pub next_is : (c : BusConfig) (past : List Entry) (line : List ℕ) (ev : Event) (r : Reply) (fd : Bool) (bus : Lean) → Enters r → IsSpelled c (record { event = ev; reply = r }) → HoldsEvent ev → HoldsReply r
+    → fd ≡ has_fd (record { event = ev; reply = r }) → line ≡ answered_line ev r (drop (length (answered_line ev r [])) line) → Stands bus (history_after ev r past) → IsNext c past line fd bus
+next_is c past line ev r fd bus enters spelled event reply is_fd stands after = record {
+  entry = record { event = ev; reply = r };
+  rest = drop (length (answered_line ev r [])) line;
+  good = record { spelled = spelled; version = λ has. refl; event = event; reply = reply };
+  is_fd = is_fd;
+  stands = stands;
+  after = subst (Stands bus) (history-entered ev r past enters) after;
+}

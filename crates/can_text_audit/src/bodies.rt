@@ -1,16 +1,18 @@
-ghost use Rattle.std.specs.Prelude.{◌≡◌, ◌≢◌, ◌+◌, ◌-◌, ◌^◌, ◌<◌, ◌||◌, ◌++◌, Err, IfErr, IfOk, IsSome, IsTrue, List, None, OnOk, false, true, ℕ};
+ghost use Rattle.std.specs.Prelude.{◌≡◌, ◌≢◌, ◌↔◌, ◌+◌, ◌-◌, ◌^◌, ◌<◌, ◌||◌, ◌++◌, Err, IfErr, IfOk, IsSome, IsTrue, List, None, OnOk, Some, false, true, ℕ};
 ghost use Rattle.can_record.specs.RecordFaults.{Reads};
 ghost use Rattle.can_record.specs.Spelling.{first_line};
+ghost use Rattle.can_record.specs.inner.Reading.{SeemsToBe};
 ghost use Rattle.can_text_audit.specs.TextAudits.{IsLine, MayFollow, Tells};
 ghost use Rattle.can_text_audit.specs.inner.Bodies.{IsGoing};
 ghost use Rattle.can_text_audit.specs.inner.Steps.{Blames, IsUnended, StandsEnd, Takes};
 
-use crate::carrying::{Carried, carry_line};
 use crate::faults::{TextFault, WrongLine};
-use can_bus::{BusConfig, LeanRingBus, Reply};
+use can_bus::{BusConfig, Event, LeanRingBus, Refusal, Reply};
 use can_record::ReadFault;
+use can_record::event_reading::{attempt_front, guess_event, receive_front, send_front};
 use can_record::faults::Unread;
-use can_record::lines::{begins, put_end, read_bus, read_line};
+use can_record::lines::{begins, is_line_of, put_end, read_bus, read_line};
+use can_record::values::{hold_event, hold_reply};
 use can_record::versions::{Version, has_fd};
 use std::alloc::Global;
 
@@ -104,11 +106,92 @@ impl Body {
         requires few { self.old.count < 2 ^ 32 - 1 }
         ensures { Takes self.old self.new line.now result }
     {
-        let fd = match carry_line(alloc, &mut self.bus, buffer, line) {
-            Ok(Carried::Legal(fd)) => fd,
-            Ok(Carried::Other(legal)) => return self.blame(alloc, buffer, line, legal),
-            Err(why) => return Err(why),
-        };
+        match receive_front(line) {
+            Some(id) => self.carry_event(alloc, buffer, &Event::Receive(id), line),
+            None => self.carry_attempt(alloc, buffer, line),
+        }
+    }
+
+    // The same of a line that is no receive's.
+    #[inline(never)]
+    fn carry_attempt(
+        &mut self,
+        alloc: Global,
+        buffer: &mut Vec<u8>,
+        line: &[u8],
+    ) -> Result<(), Unread>
+        requires legal { self.old.wrong ≡ None }
+        requires few { self.old.count < 2 ^ 32 - 1 }
+        ensures { Takes self.old self.new line.now result }
+    {
+        match attempt_front(line) {
+            Some((moment, verdict)) => {
+                self.carry_event(alloc, buffer, &Event::Attempt(moment, verdict), line)
+            }
+            None => self.carry_send(alloc, buffer, line),
+        }
+    }
+
+    // The same of a line that is no attempt's either.
+    #[inline(never)]
+    fn carry_send(&mut self, alloc: Global, buffer: &mut Vec<u8>, line: &[u8]) -> Result<(), Unread>
+        requires legal { self.old.wrong ≡ None }
+        requires few { self.old.count < 2 ^ 32 - 1 }
+        ensures { Takes self.old self.new line.now result }
+    {
+        match send_front(line) {
+            Some((id, frame)) => self.carry_event(alloc, buffer, &Event::Send(id, frame), line),
+            None => self.carry_other(alloc, buffer, line),
+        }
+    }
+
+    // The same of a line of any kind.
+    #[inline(never)]
+    fn carry_other(
+        &mut self,
+        alloc: Global,
+        buffer: &mut Vec<u8>,
+        line: &[u8],
+    ) -> Result<(), Unread>
+        requires legal { self.old.wrong ≡ None }
+        requires few { self.old.count < 2 ^ 32 - 1 }
+        ensures { Takes self.old self.new line.now result }
+    {
+        match guess_event(alloc, line) {
+            Ok((event, _)) => self.carry_event(alloc, buffer, &event, line),
+            Err(why) => Err(why),
+        }
+    }
+
+    // The line of this event, which it seems to be of, while all were legal: it is compared with the line of the event with
+    // the reply of the bus.
+    fn carry_event(
+        &mut self,
+        alloc: Global,
+        buffer: &mut Vec<u8>,
+        event: &Event,
+        line: &[u8],
+    ) -> Result<(), Unread>
+        requires legal { self.old.wrong ≡ None }
+        requires few { self.old.count < 2 ^ 32 - 1 }
+        requires seems { SeemsToBe line.now event.now }
+        ensures { Takes self.old self.new line.now result }
+    {
+        let reply = self.bus.answer(alloc, event);
+        if is_past_limit(&reply) {
+            return self.blame_past(alloc, buffer, line);
+        }
+        if !reply.enters() {
+            return Err(Unread::NoMemory);
+        }
+        match is_line_of(buffer, event, &reply, line) {
+            Ok(true) => {}
+            Ok(false) => return self.blame_reply(alloc, buffer, line, reply),
+            Err(_) => return Err(Unread::NoMemory),
+        }
+        hold_event(event);
+        hold_reply(&reply);
+        let fd = has_fd(event, &reply);
         if !may_stand(self.version, fd) {
             return Err(Unread::Bad);
         }
@@ -116,8 +199,33 @@ impl Body {
         Ok(())
     }
 
-    // The first entry's line that is not legal.
+    // The first line past the limit.
     #[inline(never)]
+    fn blame_past(&mut self, alloc: Global, buffer: &mut Vec<u8>, line: &[u8]) -> Result<(), Unread>
+        requires legal { self.old.wrong ≡ None }
+        requires few { self.old.count < 2 ^ 32 - 1 }
+        ensures { Blames self.old self.new line.now None result }
+    {
+        self.blame(alloc, buffer, line, None)
+    }
+
+    // The first line whose reply is not this one, which would be legal.
+    #[inline(never)]
+    fn blame_reply(
+        &mut self,
+        alloc: Global,
+        buffer: &mut Vec<u8>,
+        line: &[u8],
+        legal: Reply,
+    ) -> Result<(), Unread>
+        requires legal { self.old.wrong ≡ None }
+        requires few { self.old.count < 2 ^ 32 - 1 }
+        ensures { Blames self.old self.new line.now (Some legal) result }
+    {
+        self.blame(alloc, buffer, line, Some(legal))
+    }
+
+    // The first entry's line that is not legal.
     fn blame(
         &mut self,
         alloc: Global,
@@ -220,4 +328,11 @@ fn is_needless(version: Version, fd: bool) -> bool
     ensures no { result ≡ false → version ≡ Version.Three → fd ≡ true }
 {
     version == Version::Three && !fd
+}
+
+/// Whether the record was full.
+fn is_past_limit(reply: &Reply) -> bool
+    ensures { IsTrue result ↔ (reply.now ≡ Reply.Refused Refusal.RecordFull) }
+{
+    matches!(reply, Reply::Refused(Refusal::RecordFull))
 }

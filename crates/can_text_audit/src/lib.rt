@@ -6,7 +6,6 @@
 #![tactic(auto)]
 
 mod bodies;
-mod carrying;
 pub mod faults;
 pub mod text_audits;
 

@@ -260,9 +260,21 @@ plain_at w t =
     else if bytes_eq w (codes "send") then (socket_at t >>= λ s. frame_at s.1 >>= λ f. Some (Send s.0 f.0, f.1))
     else setting_at w t
 
+-- the moment and the verdict of an attempt, behind its first word
+unfoldable pub attempted_in : List ℕ → Option (ℕ × Verdict)
+attempted_in t = moment_at t >>= λ m. verdict_at m.1 >>= λ v. Some (m.0, v.0)
+
+-- the socket and the frame of a send, behind its first word
+unfoldable pub sent_in : List ℕ → Option (SocketId × CanFrame)
+sent_in t = socket_at t >>= λ s. frame_at s.1 >>= λ f. Some (s.0, f.0)
+
 -- the event of a line as it seems to be spelled, and what follows it
 unfoldable pub event_at : List ℕ → Option (Event × List ℕ)
 event_at t = if bytes_eq (word t) (codes "filters") then set_filters_at (after t) else plain_at (word t) (after t)
+
+-- the event that a line seems to be of
+abbrev pub SeemsToBe : List ℕ → Event → Type 0
+SeemsToBe t e = (rest : List ℕ) × (event_at t ≡ Some (e, rest))
 
 -- an entry as its line seems to spell it
 unfoldable pub entry_at : List ℕ → Option Entry

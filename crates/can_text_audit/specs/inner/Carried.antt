@@ -9,8 +9,6 @@ use Rattle.can_record.specs.declared.versions.Version.{Version}
 use Rattle.can_record.specs.declared.versions.Version.TheVariants as version
 use Rattle.can_record.specs.Spelling.{entry_line, has_fd}
 use Rattle.can_record.specs.Values.{HasLine}
-use Rattle.can_text_audit.specs.declared.carrying.Carried.{Carried}
-use Rattle.can_text_audit.specs.declared.carrying.Carried.TheVariants as carried
 
 -- One entry's line against what a bus answers.
 
@@ -35,8 +33,3 @@ pub record IsWrongNext (c : BusConfig) (past : List Entry) (e : Entry) (legal : 
 -- where an entry's line stands here, the entry is wrong
 abbrev pub IsOther : BusConfig → List Entry → List ℕ → Option Reply → Type 0
 IsOther c past line legal = (v : Version) (e : Entry) (rest : List ℕ) → HasLine v c e → line ≡ entry_line e rest → IsWrongNext c past e legal
-
--- what became of a line
-abbrev pub IsCarried : BusConfig → List Entry → List ℕ → Carried → Lean → Type 0
-IsCarried c past line (carried.Legal fd) bus = IsNext c past line fd bus
-IsCarried c past line (carried.Other legal) bus = IsOther c past line legal

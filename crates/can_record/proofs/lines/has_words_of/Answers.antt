@@ -2,14 +2,14 @@ use Rattle.std.proofs.Common.{◌≡◌, ◌++◌, ◌∙◌, [], ap, drop, leng
 use Rattle.can_event.specs.declared.events.Entry.{Entry}
 use Rattle.can_record.specs.Spelling.{entry_line, entry_words}
 use Rattle.can_record.proofs.Again.{kept, spell-rest}
-use Rattle.can_text_audit.proofs.carrying.is_line_of.Goals as goal
-use Rattle.can_text_audit.proofs.carrying.is_line_of.Goals.{After-begins}
+use Rattle.can_record.proofs.lines.has_words_of.Goals as goal
+use Rattle.can_record.proofs.lines.has_words_of.Goals.{After-begins}
 
 abbrev entry : After-begins → Entry
 entry c = record { event = c.args.event.now; reply = c.args.reply.now }
 
 written : (c : After-begins) → c.deref.result.now ≡ entry_line (entry c) []
-written c = c.deref.ensures.value ∙ kept c.clear.new.self.items c.put_answered.new.out.items (entry_line (entry c) []) c.clear.ensures.items c.in_ok-put_answered.ensures
+written c = c.deref.ensures.value ∙ kept c.clear.new.self.items c.put_words.new.out.items (entry_line (entry c) []) c.clear.ensures.items c.in_ok-put_words.ensures
 
 pub returns-clause-yes : goal.returns-clause-yes
 returns-clause-yes c = λ same.
