@@ -46,7 +46,7 @@ impl Iface {
 pub struct IfaceSet(pub u16);
 
 impl IfaceSet {
-    ghost use Rattle.std.specs.Prelude.{◌≡◌, ◌^◌, bit_or};
+    ghost use Rattle.std.specs.Prelude.{◌≡◌, ◌==◌, ◌^◌, bit_or};
     ghost use Rattle.can_frame.specs.Sets.{is_in, no_ifaces};
 
     /// The set of no interface.
@@ -54,6 +54,13 @@ impl IfaceSet {
         ensures { result ≡ no_ifaces }
     {
         IfaceSet(0)
+    }
+
+    /// Whether no interface is in the set.
+    pub fn is_empty(self) -> bool
+        ensures { result ≡ (self.0 == 0) }
+    {
+        self.0 == 0
     }
 
     /// Whether the interface is in the set.

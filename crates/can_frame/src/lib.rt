@@ -11,7 +11,8 @@
 //!
 //! `frame_text` writes an item in the shape of candump's logs, and `read_frame_text` reads it in either case:
 //! it answers an item exactly where the text spells one, and no text spells two. A `Text` is a text kept in place, to
-//! which identifiers, moments, numbers and data are added; `read_decimal` and `read_hexadecimal` read words of digits.
+//! which identifiers, moments, numbers and data are added; `read_decimal` and `read_hexadecimal` read words of digits, and
+//! `read_moment` a moment.
 #![tactic(auto)]
 
 pub mod arbitration;
@@ -36,7 +37,7 @@ pub use frames::{BadFdLength, Frame, TooLong, is_fd_length};
 pub use identifiers::{CanId, IdTooLarge};
 pub use ifaces::{Iface, IfaceSet};
 pub use items::Item;
-pub use moments::{Moment, MomentTooLarge};
+pub use moments::{Moment, MomentTooLarge, read_moment};
 pub use names::{Names, NamesError, is_name};
 pub use numbers::{read_decimal, read_digit, read_hexadecimal};
 pub use texts::Text;

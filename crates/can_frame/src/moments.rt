@@ -1,5 +1,7 @@
 ghost use Rattle.std.specs.Prelude.{◌≡◌, ◌<◌, ◌^◌, ℕ, OkIff};
+ghost use Rattle.can_frame.specs.Moments.{moment_in};
 
+use crate::numbers::read_decimal;
 use std::marker::Model;
 use thiserror::Error;
 
@@ -44,4 +46,17 @@ impl Moment {
     {
         self.micros
     }
+}
+
+/// The moment that 1 to 10 digits of seconds, a point and 6 digits of microseconds stand for; `None` of other words.
+#[tactic(auto, unfolding(crate::specs::Moments::moment_in))]
+pub fn read_moment(word: &[u8]) -> Option<Moment>
+    ensures { result ≡ moment_in word.now }
+{
+    if word.len() < 7 || word[word.len() - 7] != b'.' {
+        return None;
+    }
+    let seconds = read_decimal(&word[..word.len() - 7], 10)?;
+    let micros = read_decimal(&word[word.len() - 6..], 6)?;
+    Moment::new(seconds * 1_000_000 + micros).ok()
 }

@@ -1,6 +1,6 @@
 ghost use Rattle.std.specs.Prelude.{◌≡◌, ◌∷◌, ◌++◌, ◌<◌, ◌≤◌, ◌↔◌, [], ℕ, List, length, drop, slice_get, IfOk, IfErr, OnOk, OnErr, option_copied};
 
-use std::alloc::Global;
+use std::alloc::{AllocError, Global};
 use thiserror::Error;
 
 /// Why no queue was made.
@@ -12,6 +12,16 @@ pub enum QueueError {
     /// Memory was refused.
     #[error("no memory")]
     NoMemory,
+}
+
+impl From<AllocError> for QueueError {
+    ghost use Rattle.can_queue.specs.declared.bounded_queue.QueueError.TheVariants.{NoMemory};
+
+    ghost from_gives = { λ _ fault. fault ≡ NoMemory };
+
+    fn from(_refused: AllocError) -> QueueError {
+        QueueError::NoMemory
+    }
 }
 
 /// A first-in first-out queue, whose capacity is at least 1 and stays.

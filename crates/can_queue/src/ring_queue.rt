@@ -25,10 +25,8 @@ impl<T: Drop> BoundedQueue<T> for RingQueue<T> {
         if capacity == 0 {
             return Err(QueueError::BadCapacity);
         }
-        match HeapCircularBuffer::with_capacity(alloc, capacity) {
-            Ok(ring) => Ok(RingQueue { ring }),
-            Err(_) => Err(QueueError::NoMemory),
-        }
+        let ring = HeapCircularBuffer::with_capacity(alloc, capacity)?;
+        Ok(RingQueue { ring })
     }
 
     fn try_push(&mut self, item: T) -> Result<(), T> {
