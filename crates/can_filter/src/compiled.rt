@@ -1,6 +1,6 @@
 ghost use Rattle.std.specs.Prelude.{◌≡◌, ℕ, IfOk};
 ghost use Rattle.std.specs.List.Sorted.{IsNonDecreasing};
-ghost use Rattle.can_filter.specs.Gates.{IsGate};
+ghost use Rattle.can_filter.specs.Gates.{IsGate, IsGateTo};
 ghost use Rattle.can_filter.specs.Lookups.{is_found, is_listed, is_marked, is_matched};
 
 use crate::filters::Filter;
@@ -13,9 +13,12 @@ use std::alloc::{AllocError, Global};
 #[derive(Drop)]
 pub struct Compiled {
     parts: Parts,
+    // A gate of all the filters, and one of those that are neither marked nor listed nor inverted.
     gate: Filter,
+    masked_gate: Filter,
     ghost in_order: { IsNonDecreasing parts.extended.items },
-    ghost gated: { IsGate gate parts.masked.items },
+    ghost gated: { IsGateTo gate (is_found parts.standard parts.extended.items parts.masked.items parts.inverted.items) },
+    ghost masked_gated: { IsGate masked_gate parts.masked.items },
 }
 
 impl Compiled {
@@ -28,14 +31,26 @@ impl Compiled {
             parts.add(*filter)?;
         }
         parts.extended.sort_unstable();
-        let gate = gate_of(&parts.masked);
-        Ok(Compiled { parts, gate })
+        let gate = gate_of(filters);
+        let masked_gate = gate_of(&parts.masked);
+        Ok(Compiled {
+            parts,
+            gate,
+            masked_gate,
+        })
     }
 
     /// Whether some filter matches the word, asked in the order of what it costs. The time grows with the
-    /// filters that are neither marked nor listed, and with the logarithm of those that are listed.
+    /// filters that are neither marked nor listed, and with the logarithm of those that are listed; a word that differs
+    /// in a bit that all filters compare alike is known at once.
     #[inline]
     pub fn finds(&self, word: u32) -> bool
+        ensures { result ≡ is_found self.now.parts.standard self.now.parts.extended.items self.now.parts.masked.items self.now.parts.inverted.items word }
+    {
+        self.gate.agrees(word) && self.is_somewhere(word)
+    }
+
+    fn is_somewhere(&self, word: u32) -> bool
         ensures { result ≡ is_found self.now.parts.standard self.now.parts.extended.items self.now.parts.masked.items self.now.parts.inverted.items word }
     {
         self.is_masked(word)
@@ -63,7 +78,7 @@ impl Compiled {
         ensures { result ≡ is_matched self.now.parts.masked.items word }
     {
         !self.parts.masked.is_empty()
-            && self.gate.agrees(word)
+            && self.masked_gate.agrees(word)
             && some_match(&self.parts.masked, word)
     }
 

@@ -29,18 +29,20 @@ pub enum FilterError {
 pub struct FilterSet {
     filters: Vec<Filter>,
     compiled: Option<Box<Compiled>>,
+    // Whether it is known to be the one filter that receives everything.
+    is_open: bool,
 }
 
 impl Model for FilterSet {
     ghost use Rattle.std.specs.Prelude.{◌≤◌, List, length};
     ghost use Rattle.can_filter.specs.Filters.{CanFilter};
-    ghost use Rattle.can_filter.specs.Compiled.{IsCompiledOf};
+    ghost use Rattle.can_filter.specs.Compiled.{IsCompiledOf, IsOpenOf};
 
     ghost Value = { List CanFilter };
 
     ghost view = { λ s. s.filters.items };
 
-    ghost invariant = { λ s. (length s.filters.items ≤ 512) × IsCompiledOf s.compiled s.filters.items };
+    ghost invariant = { λ s. (length s.filters.items ≤ 512) × IsCompiledOf s.compiled s.filters.items × IsOpenOf s.is_open s.filters.items };
 }
 
 impl fmt::Debug for FilterSet {
@@ -78,7 +80,9 @@ impl FilterSet {
     pub fn all(alloc: Global) -> Result<FilterSet, AllocError>
         ensures { IfOk result (λ set. set ≡ receives_all) }
     {
-        FilterSet::list(alloc, &[Filter::everything()])
+        let mut set = FilterSet::list(alloc, &[Filter::everything()])?;
+        set.is_open = true;
+        Ok(set)
     }
 
     /// No filters, so that no data frame passes. It takes no memory.
@@ -88,6 +92,7 @@ impl FilterSet {
         FilterSet {
             filters: Vec::new(alloc),
             compiled: None,
+            is_open: false,
         }
     }
 
@@ -136,11 +141,14 @@ impl FilterSet {
 
     /// Whether a data frame with this identifier word passes the filters, which are joined by AND where
     /// `join` says so and else by OR. The time grows with the number of filters; joined by OR, compiled filters that
-    /// single out one data identifier each are looked up all at once.
+    /// single out one data identifier each are looked up all at once. The filter that receives everything is not looked at.
     #[inline]
     pub fn passes(&self, word: u32, join: bool) -> bool
         ensures { result ≡ passes self.now join word }
     {
+        if self.is_open {
+            return true;
+        }
         if join {
             return !self.filters.is_empty() && all_match(&self.filters, word);
         }
@@ -157,6 +165,7 @@ impl FilterSet {
         Ok(FilterSet {
             filters: Vec::from_slice(alloc, filters)?,
             compiled: None,
+            is_open: false,
         })
     }
 
