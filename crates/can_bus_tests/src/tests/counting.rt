@@ -123,10 +123,10 @@ end 267";
 
 #[test]
 fn errors_are_counted(rt: HostRuntime) -> Result<(), Fail> {
-    let peers = LAST_BIT_ALONE.replace(rt.alloc(), "ACK", "peers")?;
-    plays_with(&rt, &peers, "CLASS", "noack")?;
-    let always = LAST_BIT_ALONE.replace(rt.alloc(), "ACK", "always")?;
-    plays_with(&rt, &always, "CLASS", "lastbit")?;
+    for (ack, class) in [("peers", "noack"), ("always", "lastbit")] {
+        let dialogue = LAST_BIT_ALONE.replace(rt.alloc(), "ACK", ack)?;
+        plays_with(&rt, &dialogue, "CLASS", class)?;
+    }
     all_play(
         &rt,
         &[

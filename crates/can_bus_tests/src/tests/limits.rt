@@ -1,7 +1,7 @@
 // At the limits: the longest list of filters, the most sockets, the longest queues.
 
 use super::{all_play, plays_with};
-use std::alloc::Global;
+use can_test_support::times;
 use std::test::Fail;
 
 /// Of 512 filters the last lets 123 pass, and no other does.
@@ -17,15 +17,6 @@ attempt 0.000002 good = tried 0 1 124# done FFFE 0000
 receive 1 = data 0 0 123# 0.000001
 receive 1 = none
 end 9";
-
-/// A text so many times.
-fn times(alloc: Global, text: &str, count: usize) -> Result<String, Fail> {
-    let mut all = String::new(alloc);
-    for _ in 0..count {
-        all.push_str(text)?;
-    }
-    Ok(all)
-}
 
 #[test]
 fn the_last_of_512_filters_counts(rt: HostRuntime) -> Result<(), Fail> {

@@ -80,16 +80,10 @@ bus 2 always 0000 10 1000
 open 0 100 = socket 0
 send 0 123# = number 0
 option 0 recvown 1 = ok
-option 0 recvown OWN
+option 0 recvown OWN = ok
+attempt 0.000001 good = tried 0 0 123# done 0002 0000
+receive 0 = RECEIVED
 end 6";
-
-const OWN_WANTED: &str = "1 = ok
-attempt 0.000001 good = tried 0 0 123# done 0002 0000
-receive 0 = data 0 0 123# 0.000001";
-
-const OWN_NOT_WANTED: &str = "0 = ok
-attempt 0.000001 good = tried 0 0 123# done 0002 0000
-receive 0 = none";
 
 /// Bits 29 to 31 of an error mask pass nothing. Bit 9 passes class 204.
 const ERROR_MASKS: &str = "canbus record 1
@@ -98,10 +92,10 @@ open 0 100 = socket 0
 option 0 errmask MASK = ok
 send 0 123# = number 0
 1..12: attempt 0.0000NN global-bit = tried 0 0 123# destroyed 0000 0000
-RECEIVED
+receive 0 = RECEIVED
 end 16";
 
-const PASSED: &str = "receive 0 = error 0 20000204#0008000000006000 0.000012";
+const PASSED: &str = "error 0 20000204#0008000000006000 0.000012";
 
 /// Faults are told where they are reported: at the transmitter, and at a receiver.
 const FAULTS_ARE_REPORTED: &str = "canbus record 1
@@ -116,10 +110,20 @@ end 8";
 #[test]
 fn sockets_get_what_they_ask_for(rt: HostRuntime) -> Result<(), Fail> {
     all_play(&rt, &[LOOPBACK_AS_AT_THE_SEND, FAULTS_ARE_REPORTED])?;
-    plays_with(&rt, OWN_MESSAGES_AT_THE_ATTEMPT, "OWN", OWN_WANTED)?;
-    plays_with(&rt, OWN_MESSAGES_AT_THE_ATTEMPT, "OWN", OWN_NOT_WANTED)?;
-    let high_bits = ERROR_MASKS.replace(rt.alloc(), "MASK", "E0000000")?;
-    plays_with(&rt, &high_bits, "RECEIVED", "receive 0 = none")?;
-    let bit_9 = ERROR_MASKS.replace(rt.alloc(), "MASK", "00000200")?;
-    plays_with(&rt, &bit_9, "RECEIVED", PASSED)
+    let rows = [
+        (
+            OWN_MESSAGES_AT_THE_ATTEMPT,
+            "OWN",
+            "1",
+            "data 0 0 123# 0.000001",
+        ),
+        (OWN_MESSAGES_AT_THE_ATTEMPT, "OWN", "0", "none"),
+        (ERROR_MASKS, "MASK", "E0000000", "none"),
+        (ERROR_MASKS, "MASK", "00000200", PASSED),
+    ];
+    for (dialogue, word, asked, received) in rows {
+        let dialogue = dialogue.replace(rt.alloc(), word, asked)?;
+        plays_with(&rt, &dialogue, "RECEIVED", received)?;
+    }
+    Ok(())
 }

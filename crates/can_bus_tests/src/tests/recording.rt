@@ -2,10 +2,9 @@
 
 use super::all_play;
 use super::playing::{entries_of, made_of};
-use can_attempt::AckMode;
-use can_bus::{BusConfig, Entry, Event, Refusal, Reply};
-use can_frame::IfaceSet;
+use can_bus::{Entry, Event, Refusal, Reply};
 use can_record::read_record;
+use can_test_support::config;
 use std::alloc::AllocGlobal;
 use std::process::Abort;
 use std::test::Fail;
@@ -24,17 +23,6 @@ end 7";
 
 /// The record of one entry.
 const ONE_ENTRY: &str = "canbus record 1\nbus 2 always 0000 10 1000\nENTRY\nend 1\n";
-
-fn config(ifaces: u8) -> BusConfig {
-    BusConfig {
-        ifaces,
-        ack: AckMode::Always,
-        reporting: IfaceSet::empty(),
-        tx_capacity: 10,
-        limit: 1000,
-        auto_restart: 0,
-    }
-}
 
 /// The entry of a line.
 fn entry(rt: &impl AllocGlobal, line: &str) -> Result<Entry, Fail> {

@@ -1,7 +1,8 @@
 //! Lines that are carried out, and the limits of lines and of the input.
 use super::support::{
-    Owned, Sockets, TWO_SESSIONS, TWO_STARTED, carries_out, joined, runs, runs_however_cut, times,
+    Owned, Sockets, TWO_SESSIONS, TWO_STARTED, carries_out, runs, runs_however_cut,
 };
+use can_test_support::{joined, times};
 use canbusd_serve::ServerRuntime;
 use std::alloc::Global;
 use std::fs;
