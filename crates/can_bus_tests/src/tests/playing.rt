@@ -141,6 +141,14 @@ fn stays_full(
     Ok(())
 }
 
+/// A bus reports what a dialogue says of one reading.
+fn reports(rt: &(impl Abort + AllocGlobal), bus: &ListBus, reading: &str) -> Result<(), Fail> {
+    let (reading, numbers) = reading.split_once(" = ").ok_or("no numbers")?;
+    let reported = Readings::of(bus)?.numbers(rt.alloc(), reading)?;
+    assert_eq!(rt; reported.as_str(), numbers, "{reading}");
+    Ok(())
+}
+
 /// Carries out the entries on both buses, and compares what a dialogue says of their readings.
 fn carries_all_out(
     rt: &(impl Abort + AllocGlobal),
@@ -149,18 +157,17 @@ fn carries_all_out(
     text: &str,
     entries: &[Entry],
 ) -> Result<(), Fail> {
-    let mut rest = entries.iter().enumerate();
+    let mut place = 0usize;
     // The first two lines are the version and the bus.
     for line in text.split('\n').skip(2) {
         if let Some(reading) = line.strip_prefix("? ") {
-            let (reading, numbers) = reading.split_once(" = ").ok_or("no numbers")?;
-            let reported = Readings::of(lists)?.numbers(rt.alloc(), reading)?;
-            assert_eq!(rt; reported.as_str(), numbers, "{reading}");
-        } else if let Some((place, entry)) = rest.next() {
+            reports(rt, lists, reading)?;
+        } else if let Some(entry) = entries.get(place) {
             carries_out(rt, lists, rings, place, entry)?;
+            place = place.saturating_add(1);
         }
     }
-    assert!(rt; rest.next().is_none());
+    same_at(rt, place, place, entries.len());
     Ok(())
 }
 

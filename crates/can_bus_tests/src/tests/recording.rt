@@ -2,7 +2,7 @@
 
 use super::all_play;
 use super::playing::{entries_of, made_of};
-use can_bus::{Entry, Event, Refusal, Reply};
+use can_bus::{Entry, Event, Received, Refusal, Reply};
 use can_record::read_record;
 use can_test_support::config;
 use std::alloc::AllocGlobal;
@@ -76,11 +76,15 @@ fn refuses_replies_without_a_line(rt: &(impl Abort + AllocGlobal)) -> Result<(),
     let full = Reply::Refused(Refusal::RecordFull);
     assert!(rt; !fits(rt, entry(rt, "receive 0 = none")?.event, full)?);
     let error = entry(rt, "receive 0 = error 1 20000100#0000000000000000 0.000001")?;
-    let Reply::Received(Some(mut received)) = error.reply else {
+    let Entry { event, reply } = error;
+    let Reply::Received(Some(received)) = reply else {
         return Err(Fail::from("nothing was received"));
     };
-    received.number = 1;
-    assert!(rt; !fits(rt, error.event, Reply::Received(Some(received)))?);
+    let numbered = Received {
+        number: 1,
+        ..received
+    };
+    assert!(rt; !fits(rt, event, Reply::Received(Some(numbered)))?);
     Ok(())
 }
 
