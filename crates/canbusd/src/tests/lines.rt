@@ -318,10 +318,8 @@ fn tells_lines_that_are_too_long(rt: HostRuntime) -> Result<(), Fail> {
 
 /// What is told of a line of which so much is shown.
 fn too_long(alloc: Global, place: &str, shown: &str) -> Result<String, Fail> {
-    joined(
-        alloc,
-        &[place, shown, "..\n  a line has at most 4096 bytes\n"],
-    )
+    let rest = "..\n  a line has at most 4096 bytes\n";
+    Ok(joined(alloc, &[place, shown, rest])?)
 }
 
 /// A line of session 1, and what is told then, the errors and the status.
