@@ -10,6 +10,7 @@ mod texts;
 use can_attempt::AckMode;
 use can_bus::{BusConfig, Event, SocketId};
 use can_frame::{CanId, Frame, Iface, IfaceSet, Moment};
+use can_test_support::{frame, iface};
 use std::fmt::Debug;
 use std::process::Abort;
 use std::test::Fail;
@@ -32,26 +33,15 @@ fn same_at<T: PartialEq + Debug + Drop, C: Debug + Drop>(
 /// A bus of so many interfaces, made for so many events.
 fn config(ifaces: u8, limit: u32) -> BusConfig {
     BusConfig {
-        ifaces,
-        ack: AckMode::Always,
         reporting: IfaceSet(0b101),
         tx_capacity: 4,
         limit,
-        auto_restart: 0,
+        ..can_test_support::config(ifaces)
     }
-}
-
-fn iface(number: u8) -> Result<Iface, Fail> {
-    Ok(Iface::new(number).ok_or("no interface")?)
 }
 
 fn moment(micros: u64) -> Result<Moment, Fail> {
     Ok(Moment::new(micros)?)
-}
-
-/// A data frame with an 11-bit identifier.
-fn frame(id: u16, bytes: &[u8]) -> Result<Frame, Fail> {
-    Ok(Frame::data(CanId::standard(id)?, bytes)?)
 }
 
 fn open(number: u8, capacity: u32) -> Result<Event, Fail> {

@@ -35,49 +35,30 @@ use std::sync::Wait;
 /// A bus as it is by default, of two interfaces and with room for 100 entries.
 fn config() -> BusConfig {
     BusConfig {
-        ifaces: 2,
-        ack: AckMode::Always,
-        reporting: IfaceSet(0),
-        tx_capacity: 10,
         limit: 100,
-        auto_restart: 0,
+        ..can_test_support::config(2)
     }
-}
-
-fn blanks<R: Abort>(rt: &R, alloc: Global) -> Blanks {
-    let Ok(blanks) = Blanks::new(alloc, 2) else {
-        panic!(rt; "no blanks");
-    };
-    blanks
-}
-
-fn names<R: Abort>(rt: &R, alloc: Global, names: &str) -> Names {
-    let Ok(names) = Names::read(alloc, names) else {
-        panic!(rt; "no names");
-    };
-    names
 }
 
 /// The script that a text spells, for a bus of can0 and can1.
 fn script<R: Abort>(rt: &R, alloc: Global, text: &str) -> Script {
-    let Ok(script) = Script::read(alloc, text, &names(rt, alloc, "can0,can1")) else {
-        panic!(rt; "no script");
-    };
-    script
+    can_test_support::script(alloc, "can0,can1", text).expect(rt, "a script")
 }
 
 fn iface<R: Abort>(rt: &R, number: u8) -> Iface {
-    let Some(iface) = Iface::new(number) else {
-        panic!(rt; "no interface");
-    };
-    iface
+    can_test_support::iface(number).expect(rt, "an interface")
+}
+
+fn blanks<R: Abort>(rt: &R, alloc: Global) -> Blanks {
+    Blanks::new(alloc, 2).expect(rt, "blanks")
+}
+
+fn names<R: Abort>(rt: &R, alloc: Global, names: &str) -> Names {
+    Names::read(alloc, names).expect(rt, "names")
 }
 
 fn moment<R: Abort>(rt: &R, micros: u64) -> Moment {
-    let Ok(moment) = Moment::new(micros) else {
-        panic!(rt; "no moment");
-    };
-    moment
+    Moment::new(micros).expect(rt, "a moment")
 }
 
 /// What a bus of these names, two as it is, is made of. It has no faults and holds nobody.

@@ -19,6 +19,7 @@ use can_frame::{CanId, Frame, Iface, IfaceSet, Moment, Names};
 use can_meter::{Gauge, MeterName, Status};
 use can_roll::RollName;
 use can_station::{Blanks, Gate, Pass, Settled, Station, StationRefusal};
+use can_test_support::config;
 use std::alloc::Global;
 use std::process::Abort;
 use std::sync::Wait;
@@ -29,60 +30,22 @@ use std::time::{Clock, Duration};
 /// How many looks are made before a test gives up.
 const TURNS: u32 = 10_000;
 
-/// The first 32 attempts are destroyed, which takes an interface off that makes them all.
-const DESTROYED: &str = "\
-0 global bit\n1 global bit\n2 global bit\n3 global bit\n4 global bit\n5 global bit\n6 global bit\n7 global bit\n\
-8 global bit\n9 global bit\n10 global bit\n11 global bit\n12 global bit\n13 global bit\n14 global bit\n\
-15 global bit\n16 global bit\n17 global bit\n18 global bit\n19 global bit\n20 global bit\n21 global bit\n\
-22 global bit\n23 global bit\n24 global bit\n25 global bit\n26 global bit\n27 global bit\n28 global bit\n\
-29 global bit\n30 global bit\n31 global bit\n";
-
-/// A bus as it is by default, of two interfaces.
-fn config() -> BusConfig {
-    BusConfig {
-        ifaces: 2,
-        ack: AckMode::Always,
-        reporting: IfaceSet::empty(),
-        tx_capacity: 10,
-        limit: 1000,
-        auto_restart: 0,
-    }
-}
-
 fn iface<R: Abort>(rt: &R, number: u8) -> Iface {
-    let Some(iface) = Iface::new(number) else {
-        panic!(rt; "no interface");
-    };
-    iface
-}
-
-fn moment<R: Abort>(rt: &R, micros: u64) -> Moment {
-    let Ok(moment) = Moment::new(micros) else {
-        panic!(rt; "no moment");
-    };
-    moment
+    can_test_support::iface(number).expect(rt, "an interface")
 }
 
 /// A frame with this 11-bit identifier and no data.
 fn frame<R: Abort>(rt: &R, number: u16) -> Frame {
-    let Ok(id) = CanId::standard(number) else {
-        panic!(rt; "no identifier");
-    };
-    let Ok(frame) = Frame::data(id, &[]) else {
-        panic!(rt; "no frame");
-    };
-    frame
+    can_test_support::frame(number, &[]).expect(rt, "a frame")
 }
 
 /// The script that a text spells, for a bus of can0, can1 and can2.
 fn script<R: Abort>(rt: &R, alloc: Global, text: &str) -> Script {
-    let Ok(names) = Names::read(alloc, "can0,can1,can2") else {
-        panic!(rt; "no names");
-    };
-    let Ok(script) = Script::read(alloc, text, &names) else {
-        panic!(rt; "no script");
-    };
-    script
+    can_test_support::script(alloc, "can0,can1,can2", text).expect(rt, "a script")
+}
+
+fn moment<R: Abort>(rt: &R, micros: u64) -> Moment {
+    Moment::new(micros).expect(rt, "a moment")
 }
 
 /// Looks until the count is reached, a millisecond apart. Whether it was.

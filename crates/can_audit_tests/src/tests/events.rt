@@ -81,7 +81,7 @@ fn some_frame(dice: &mut Dice) -> Result<Frame, Fail> {
     if dice.is_one_of(6) {
         return Ok(Frame::data(CanId::extended(id as u32)?, &bytes)?);
     }
-    frame(id, &bytes)
+    Ok(frame(id, &bytes)?)
 }
 
 fn some_event(alloc: Global, dice: &mut Dice, micros: u64) -> Result<Event, Fail> {

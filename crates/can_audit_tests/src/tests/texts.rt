@@ -9,6 +9,7 @@ use can_bus::{Bus, BusConfig, Event, ListBus, Record, SocketId, run};
 use can_fault::Verdict;
 use can_frame::{CanId, Frame, Iface, IfaceSet, Moment};
 use can_record::text_laws::read_back;
+use can_test_support::iface;
 use std::alloc::AllocGlobal;
 use std::io;
 use std::io::Write;
@@ -94,10 +95,6 @@ pub fn again(rt: &impl AllocGlobal, text: &str) -> Result<Vec<u8>, Fail> {
 
 pub fn fault(rt: &impl AllocGlobal, text: &str) -> Option<ReadFault> {
     read(rt, text).err()
-}
-
-fn iface(number: u8) -> Result<Iface, Fail> {
-    Ok(Iface::new(number).ok_or("no interface")?)
 }
 
 /// What is done in the text above.

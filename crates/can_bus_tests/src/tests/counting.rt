@@ -1,206 +1,140 @@
-// Error counts, retries, bus off and restart, on both pairs of types.
+// Error counts, retries, bus off and restart.
 
-use super::pairs::{Scenario, Told, on_both};
-use super::*;
-use can_attempt::Class;
-use can_fault::LocalKind;
-use std::ops::Range;
-
-const AT_CAN2: Verdict = Verdict::Local(IfaceSet(4), LocalKind::Crc);
+use super::{all_play, plays_with};
+use std::test::Fail;
 
 /// A fault in the last bit makes the transmitter send again: the receivers have the frame twice, the
 /// transmitter's own interface once.
-fn last_bit(rt: &(impl Abort + AllocGlobal)) -> Result<(), Fail> {
-    let mut asked = Scenario::new(rt, &[0, 1, 0])?;
-    let _ = asked.send(0, 0x123)?;
-    let first = asked.attempt(1, Verdict::LastBit)?;
-    let second = asked.attempt(2, Verdict::Good)?;
-    let (once, twice, nothing) = (asked.receive(1)?, asked.receive(1)?, asked.receive(1)?);
-    let (beside, no_more) = (asked.receive(2)?, asked.receive(2)?);
-    let own = asked.receive(0)?;
-    let told = on_both(rt, config(2), &asked)?;
-    told.tries(rt, first, (0, 0, Class::LastBit, 2, 0))?;
-    same(rt, told.counts(first, 0)?, (8, 0));
-    told.tries(rt, second, (0, 0, Class::Done, 2, 0))?;
-    same(rt, told.counts(second, 0)?, (7, 0));
-    told.gives_frame(rt, once, 0, 1)?;
-    told.gives_frame(rt, twice, 0, 2)?;
-    told.gives_nothing(rt, nothing)?;
-    told.gives_frame(rt, beside, 0, 2)?;
-    told.gives_nothing(rt, no_more)?;
-    told.gives_nothing(rt, own)
-}
+const LAST_BIT: &str = "canbus record 1
+bus 2 always 0000 10 1000
+open 0 100 = socket 0
+open 1 100 = socket 1
+open 0 100 = socket 2
+send 0 123# = number 0
+attempt 0.000001 lastbit = tried 0 0 123# lastbit 0002 0000
+? counts 0 = 8 0
+attempt 0.000002 good = tried 0 0 123# done 0002 0000
+? counts 0 = 7 0
+receive 1 = data 0 0 123# 0.000001
+receive 1 = data 0 0 123# 0.000002
+receive 1 = none
+receive 2 = data 0 0 123# 0.000002
+receive 2 = none
+receive 0 = none
+end 12";
 
 /// Alone on the bus, a fault in the last bit is a missing acknowledgement where peers acknowledge.
-fn last_bit_alone(rt: &(impl Abort + AllocGlobal), ack: AckMode, class: Class) -> Result<(), Fail> {
-    let mut asked = Scenario::new(rt, &[0])?;
-    let _ = asked.send(0, 0x123)?;
-    let attempt = asked.attempt(1, Verdict::LastBit)?;
-    let told = on_both(rt, BusConfig { ack, ..config(1) }, &asked)?;
-    told.tries(rt, attempt, (0, 0, class, 0, 0))?;
-    same(rt, told.counts(attempt, 0)?, (8, 0));
-    Ok(())
-}
+const LAST_BIT_ALONE: &str = "canbus record 1
+bus 1 ACK 0000 10 1000
+open 0 100 = socket 0
+send 0 123# = number 0
+attempt 0.000001 lastbit = tried 0 0 123# CLASS 0000 0000
+? counts 0 = 8 0
+end 3";
 
 /// Nobody acknowledges: the transmitter becomes error passive, and its count then stays.
-fn nobody_acknowledges(rt: &(impl Abort + AllocGlobal)) -> Result<(), Fail> {
-    let ack = AckMode::Peers;
-    let mut asked = Scenario::new(rt, &[0])?;
-    let _ = asked.set(0, Opt::ErrMask(0x204))?;
-    let _ = asked.send(0, 0x123)?;
-    let attempts = asked.attempts(1..=17, Verdict::Good)?;
-    let (warning, passive, nothing) = (asked.receive(0)?, asked.receive(0)?, asked.receive(0)?);
-    let told = on_both(rt, BusConfig { ack, ..config(1) }, &asked)?;
-    for (place, micros) in attempts.zip(1..=17) {
-        told.tries(rt, place, (0, 0, Class::NoAck, 0, 0))?;
-        if micros >= 16 {
-            same(rt, told.counts(place, 0)?, (128, 0));
-        }
-    }
-    told.gives_error(rt, warning, 12, 0x204, [0, 0x08, 0, 0, 0, 0, 0x60, 0])?;
-    told.gives_error(rt, passive, 16, 0x204, [0, 0x20, 0, 0, 0, 0, 0x80, 0])?;
-    told.gives_nothing(rt, nothing)
-}
-
-/// These 32 attempts end so, and the last takes the first interface off.
-fn all_end(
-    rt: &impl Abort,
-    told: &Told,
-    attempts: Range<usize>,
-    class: Class,
-    accepted: u16,
-) -> Result<(), Fail> {
-    for (place, micros) in attempts.zip(1..=32) {
-        let off = if micros == 32 { 1 } else { 0 };
-        told.tries(rt, place, (0, 0, class, accepted, off))?;
-    }
-    Ok(())
-}
+const NOBODY_ACKNOWLEDGES: &str = "canbus record 1
+bus 1 peers 0000 10 1000
+open 0 100 = socket 0
+option 0 errmask 00000204 = ok
+send 0 123# = number 0
+1..15: attempt 0.0000NN good = tried 0 0 123# noack 0000 0000
+16..17: attempt 0.0000NN good = tried 0 0 123# noack 0000 0000 | ? counts 0 = 128 0
+receive 0 = error 0 20000204#0008000000006000 0.000012
+receive 0 = error 0 20000204#0020000000008000 0.000016
+receive 0 = none
+end 23";
 
 /// 32 destroyed frames take the transmitter off the bus; its frames are lost, until it is restarted.
-fn bus_off_and_restart(rt: &(impl Abort + AllocGlobal)) -> Result<(), Fail> {
-    let mut asked = Scenario::new(rt, &[0, 1])?;
-    let _ = asked.set(0, Opt::ErrMask(0x140))?;
-    let sends = [
-        asked.send(0, 0x123)?,
-        asked.send(0, 0x123)?,
-        asked.send(0, 0x123)?,
-    ];
-    let attempts = asked.attempts(1..=32, BIT)?;
-    let off = asked.receive(0)?;
-    let refused = asked.send(0, 0x123)?;
-    let idle = asked.attempt(33, Verdict::Good)?;
-    let restart = asked.restart(0, 40)?;
-    let back = asked.receive(0)?;
-    let sent = asked.send(0, 0x123)?;
-    let done = asked.attempt(41, Verdict::Good)?;
-    let told = on_both(rt, config(2), &asked)?;
-    for (place, number) in sends.into_iter().zip(0..3) {
-        told.replies(rt, place, Reply::Sent(number))?;
-    }
-    all_end(rt, &told, attempts, Class::Destroyed, 0)?;
-    told.gives_error(rt, off, 32, 0x040, [0; 8])?;
-    told.refuses(rt, refused, Refusal::BusOff)?;
-    let restarted = IfaceSet(0);
-    told.replies(rt, idle, Reply::Idle { restarted })?;
-    told.replies(rt, restart, Reply::Done)?;
-    told.gives_error(rt, back, 40, 0x100, [0; 8])?;
-    same(rt, told.items(back, 0)?, [2, 0, 2]);
-    same(rt, told.frames(back, 0)?, [3, 0, 0, 3, 0]);
-    told.replies(rt, sent, Reply::Sent(3))?;
-    told.tries(rt, done, (0, 3, Class::Done, 2, 0))
-}
+const BUS_OFF_AND_RESTART: &str = "canbus record 1
+bus 2 always 0000 10 1000
+open 0 100 = socket 0
+open 1 100 = socket 1
+option 0 errmask 00000140 = ok
+0..2: send 0 123# = number N
+1..31: attempt 0.0000NN global-bit = tried 0 0 123# destroyed 0000 0000
+attempt 0.000032 global-bit = tried 0 0 123# destroyed 0000 0001
+receive 0 = error 0 20000040#0000000000000000 0.000032
+send 0 123# = bus-off
+attempt 0.000033 good = idle
+restart 0 0.000040 = ok
+receive 0 = error 0 20000100#0000000000000000 0.000040
+? items 0 = 2 0 2
+? frames 0 = 3 0 0 3 0
+send 0 123# = number 3
+attempt 0.000041 good = tried 0 3 123# done 0002 0000
+end 45";
 
 /// 32 faults in the last bit: the receiver has 32 copies, and the frame is lost.
-fn last_bit_to_bus_off(rt: &(impl Abort + AllocGlobal)) -> Result<(), Fail> {
-    let mut asked = Scenario::new(rt, &[0, 1])?;
-    let _ = asked.send(0, 0x123)?;
-    let attempts = asked.attempts(1..=32, Verdict::LastBit)?;
-    let copies = asked.receive_times(1, 32)?;
-    let nothing = asked.receive(1)?;
-    let told = on_both(rt, config(2), &asked)?;
-    all_end(rt, &told, attempts, Class::LastBit, 2)?;
-    for (place, micros) in copies.zip(1..=32) {
-        told.gives_frame(rt, place, 0, micros)?;
-    }
-    told.gives_nothing(rt, nothing)?;
-    same(rt, told.items(nothing, 0)?, [0, 0, 0]);
-    same(rt, told.frames(nothing, 0)?, [1, 0, 0, 1, 0]);
-    Ok(())
-}
+const LAST_BIT_TO_BUS_OFF: &str = "canbus record 1
+bus 2 always 0000 10 1000
+open 0 100 = socket 0
+open 1 100 = socket 1
+send 0 123# = number 0
+1..31: attempt 0.0000NN lastbit = tried 0 0 123# lastbit 0002 0000
+attempt 0.000032 lastbit = tried 0 0 123# lastbit 0002 0001
+1..32: receive 1 = data 0 0 123# 0.0000NN
+receive 1 = none
+? items 0 = 0 0 0
+? frames 0 = 1 0 0 1 0
+end 68";
 
-/// The frame of a socket is tried so often, and each time leaves its queue. Gives the place of the last
-/// attempt.
-fn goes_over(
-    asked: &mut Scenario,
-    socket: u32,
-    verdict: Verdict,
-    times: usize,
-) -> Result<usize, Fail> {
-    let mut last = 0;
-    for _ in 0..times {
-        let _ = asked.send(socket, 0x123)?;
-        last = asked.attempt(1, verdict)?;
-    }
-    Ok(last)
-}
-
-/// The frame of a socket is destroyed until its interface, of the same number, is off; then it is
-/// restarted.
-fn goes_off(asked: &mut Scenario, socket: u8) -> Result<(), Fail> {
-    let _ = asked.send(socket as u32, 0x123)?;
-    let _ = asked.attempts(1..=32, BIT)?;
-    let _ = asked.restart(socket, 33)?;
-    Ok(())
-}
-
-/// The transmit and receive counts of three interfaces.
-fn counts_are(
-    rt: &impl Abort,
-    told: &Told,
-    place: usize,
-    expected: [(u16, u16); 3],
-) -> Result<(), Fail> {
-    for (number, counts) in expected.into_iter().enumerate() {
-        same(rt, told.counts(place, number)?, counts);
-    }
-    Ok(())
-}
-
-/// The third of three interfaces becomes error passive, after many frames destroyed by the others. Gives
-/// the place of the last attempt.
-fn becomes_passive(asked: &mut Scenario) -> Result<usize, Fail> {
-    for socket in [1, 0, 1, 0] {
-        goes_off(asked, socket)?;
-    }
-    let _ = goes_over(asked, 2, Verdict::Good, 32)?;
-    goes_over(asked, 0, AT_CAN2, 2)
-}
-
-/// A receiver that sees a fault destroys the frame, unless it is error passive.
-fn passive_receivers_destroy_nothing(rt: &(impl Abort + AllocGlobal)) -> Result<(), Fail> {
-    let ack = AckMode::Peers;
-    let mut asked = Scenario::new(rt, &[0, 1, 2])?;
-    let passive = becomes_passive(&mut asked)?;
-    let done = goes_over(&mut asked, 0, AT_CAN2, 1)?;
-    let good = goes_over(&mut asked, 0, Verdict::Good, 28)?;
-    let destroyed = goes_over(&mut asked, 0, AT_CAN2, 1)?;
-    let told = on_both(rt, BusConfig { ack, ..config(3) }, &asked)?;
-    counts_are(rt, &told, passive, [(0, 0), (0, 0), (0, 130)])?;
-    told.tries(rt, done, (0, 4, Class::Done, 2, 0))?;
-    counts_are(rt, &told, done, [(0, 0), (0, 0), (0, 131)])?;
-    counts_are(rt, &told, good, [(0, 0), (0, 0), (0, 100)])?;
-    told.tries(rt, destroyed, (0, 33, Class::Destroyed, 0, 0))?;
-    counts_are(rt, &told, destroyed, [(8, 0), (0, 1), (0, 101)])
-}
+/// A receiver that sees a fault destroys the frame, unless it is error passive. The third of three interfaces becomes
+/// so after many frames destroyed by the others.
+const PASSIVE_RECEIVERS_DESTROY_NOTHING: &str = "canbus record 1
+bus 3 peers 0000 10 1000
+0..2: open N 100 = socket N
+send 1 123# = number 0
+1..31: attempt 0.0000NN global-bit = tried 1 0 123# destroyed 0000 0000
+attempt 0.000032 global-bit = tried 1 0 123# destroyed 0000 0002
+restart 1 0.000033 = ok
+send 0 123# = number 0
+1..31: attempt 0.0000NN global-bit = tried 0 0 123# destroyed 0000 0000
+attempt 0.000032 global-bit = tried 0 0 123# destroyed 0000 0001
+restart 0 0.000033 = ok
+send 1 123# = number 1
+1..31: attempt 0.0000NN global-bit = tried 1 1 123# destroyed 0000 0000
+attempt 0.000032 global-bit = tried 1 1 123# destroyed 0000 0002
+restart 1 0.000033 = ok
+send 0 123# = number 1
+1..31: attempt 0.0000NN global-bit = tried 0 1 123# destroyed 0000 0000
+attempt 0.000032 global-bit = tried 0 1 123# destroyed 0000 0001
+restart 0 0.000033 = ok
+0..31: send 2 123# = number N | attempt 0.000001 good = tried 2 N 123# done 0003 0000
+2..3: send 0 123# = number N | attempt 0.000001 local-crc:0004 = tried 0 N 123# done 0002 0000
+? counts 0 = 0 0
+? counts 1 = 0 0
+? counts 2 = 0 130
+send 0 123# = number 4
+attempt 0.000001 local-crc:0004 = tried 0 4 123# done 0002 0000
+? counts 0 = 0 0
+? counts 1 = 0 0
+? counts 2 = 0 131
+5..32: send 0 123# = number N | attempt 0.000001 good = tried 0 N 123# done 0006 0000
+? counts 0 = 0 0
+? counts 1 = 0 0
+? counts 2 = 0 100
+send 0 123# = number 33
+attempt 0.000001 local-crc:0004 = tried 0 33 123# destroyed 0000 0000
+? counts 0 = 8 0
+? counts 1 = 0 1
+? counts 2 = 0 101
+end 267";
 
 #[test]
 fn errors_are_counted(rt: HostRuntime) -> Result<(), Fail> {
-    last_bit(&rt)?;
-    last_bit_alone(&rt, AckMode::Peers, Class::NoAck)?;
-    last_bit_alone(&rt, AckMode::Always, Class::LastBit)?;
-    nobody_acknowledges(&rt)?;
-    bus_off_and_restart(&rt)?;
-    last_bit_to_bus_off(&rt)?;
-    passive_receivers_destroy_nothing(&rt)
+    for (ack, class) in [("peers", "noack"), ("always", "lastbit")] {
+        let dialogue = LAST_BIT_ALONE.replace(rt.alloc(), "ACK", ack)?;
+        plays_with(&rt, &dialogue, "CLASS", class)?;
+    }
+    all_play(
+        &rt,
+        &[
+            LAST_BIT,
+            NOBODY_ACKNOWLEDGES,
+            BUS_OFF_AND_RESTART,
+            LAST_BIT_TO_BUS_OFF,
+            PASSIVE_RECEIVERS_DESTROY_NOTHING,
+        ],
+    )
 }

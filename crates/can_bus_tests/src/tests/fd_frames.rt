@@ -1,163 +1,127 @@
 // FD frames: which sockets may send them, and which receive them.
 
-use super::*;
-use can_attempt::Class;
-
-/// The FD frame 123 of 12 bytes.
-fn fd_frame() -> Result<Frame, Fail> {
-    let bytes = [1, 2, 3, 4, 5, 6, 7, 8, 9, 10, 11, 12];
-    Ok(Frame::fd(CanId::standard(0x123)?, &bytes)?)
-}
-
-fn send_fd(bus: &mut ListBus, socket: u32) -> Result<u64, Fail> {
-    Ok(try_send(bus, socket, fd_frame()?)?)
-}
-
-/// Sending an FD frame on a socket is refused so.
-fn refuses_fd(
-    rt: &impl Abort,
-    bus: &mut ListBus,
-    socket: u32,
-    refusal: Refusal,
-) -> Result<(), Fail> {
-    let refused = try_send(bus, socket, fd_frame()?);
-    same(rt, refused, Err(refusal));
-    Ok(())
-}
-
-/// The next item of a socket is this frame.
-fn gets(rt: &impl Abort, bus: &mut ListBus, socket: u32, frame: Frame) -> Result<(), Fail> {
-    let received = receive(bus, socket)?.ok_or("no item")?;
-    same(rt, received.item, Item::Data(frame));
-    Ok(())
-}
+use super::all_play;
+use std::test::Fail;
 
 /// A socket that did not ask for FD frames sends none. Each refusal is an entry, and no frame that
 /// found no room.
-fn only_those_that_ask_send(rt: &(impl Abort + AllocGlobal)) -> Result<(), Fail> {
-    let mut bus = bus(rt, config(2), &[0, 1])?;
-    refuses_fd(rt, &mut bus, 0, Refusal::FdOff)?;
-    same(rt, entries(&bus), 3);
-    same(rt, frames(&bus, 0)?, [0, 0, 0, 0, 0]);
-    set(&mut bus, 0, Opt::FdFrames(true))?;
-    same(rt, send_fd(&mut bus, 0)?, 0);
-    set(&mut bus, 0, Opt::FdFrames(false))?;
-    refuses_fd(rt, &mut bus, 0, Refusal::FdOff)?;
-    same(rt, send(&mut bus, 0, 0x123)?, 1);
-    let tried = attempt(&mut bus, 1, Verdict::Good)?;
-    same(rt, tried.frame, fd_frame()?);
-    same(rt, (tried.number, tried.class), (0, Class::Done));
-    same(rt, tried.accepted, IfaceSet(2));
-    same(rt, frames(&bus, 0)?, [2, 1, 1, 0, 0]);
-    Ok(())
-}
+const ONLY_THOSE_THAT_ASK_SEND: &str = "canbus record 3
+bus 2 always 0000 10 1000 0
+open 0 100 = socket 0
+open 1 100 = socket 1
+send 0 123##00102030405060708090A0B0C = fd-off
+? frames 0 = 0 0 0 0 0
+option 0 fd 1 = ok
+send 0 123##00102030405060708090A0B0C = number 0
+option 0 fd 0 = ok
+send 0 123##00102030405060708090A0B0C = fd-off
+send 0 123# = number 1
+attempt 0.000001 good = tried 0 0 123##00102030405060708090A0B0C done 0002 0000
+? frames 0 = 2 1 1 0 0
+end 9";
 
 /// Whether the socket is open is asked first, then whether it may send the frame, then whether its
 /// interface is bus off.
-fn refuses_in_order(rt: &(impl Abort + AllocGlobal)) -> Result<(), Fail> {
-    let mut bus = bus(rt, config(2), &[0, 0])?;
-    let _ = close(&mut bus, 1)?;
-    refuses_fd(rt, &mut bus, 1, Refusal::NoSocket)?;
-    refuses_fd(rt, &mut bus, 7, Refusal::NoSocket)?;
-    let _ = send(&mut bus, 0, 0x123)?;
-    for micros in 1..=32 {
-        let _ = attempt(&mut bus, micros, BIT)?;
-    }
-    refuses_fd(rt, &mut bus, 0, Refusal::FdOff)?;
-    same(
-        rt,
-        try_send(&mut bus, 0, frame(0x123)?),
-        Err(Refusal::BusOff),
-    );
-    set(&mut bus, 0, Opt::FdFrames(true))?;
-    refuses_fd(rt, &mut bus, 0, Refusal::BusOff)?;
-    same(rt, frames(&bus, 0)?, [1, 0, 0, 1, 0]);
-    Ok(())
-}
+const REFUSES_IN_ORDER: &str = "canbus record 3
+bus 2 always 0000 10 1000 0
+0..1: open 0 100 = socket N
+close 1 = closed 0 0
+send 1 123##00102030405060708090A0B0C = no-socket
+send 7 123##00102030405060708090A0B0C = no-socket
+send 0 123# = number 0
+1..31: attempt 0.0000NN global-bit = tried 0 0 123# destroyed 0000 0000
+attempt 0.000032 global-bit = tried 0 0 123# destroyed 0000 0001
+send 0 123##00102030405060708090A0B0C = fd-off
+send 0 123# = bus-off
+option 0 fd 1 = ok
+send 0 123##00102030405060708090A0B0C = bus-off
+? frames 0 = 1 0 0 1 0
+end 42";
 
 /// Where there is no room, an FD frame that may be sent is refused for it, and counted.
-fn counts_only_for_room(rt: &(impl Abort + AllocGlobal)) -> Result<(), Fail> {
-    let narrow = BusConfig {
-        tx_capacity: 1,
-        ..config(1)
-    };
-    let mut bus = bus(rt, narrow, &[0])?;
-    let _ = send(&mut bus, 0, 0x123)?;
-    refuses_fd(rt, &mut bus, 0, Refusal::FdOff)?;
-    same(rt, frames(&bus, 0)?, [1, 0, 1, 0, 0]);
-    set(&mut bus, 0, Opt::FdFrames(true))?;
-    refuses_fd(rt, &mut bus, 0, Refusal::NoBuffers)?;
-    same(rt, frames(&bus, 0)?, [1, 0, 1, 0, 1]);
-    Ok(())
-}
+const COUNTS_ONLY_FOR_ROOM: &str = "canbus record 3
+bus 1 always 0000 1 1000 0
+open 0 100 = socket 0
+send 0 123# = number 0
+send 0 123##00102030405060708090A0B0C = fd-off
+? frames 0 = 1 0 1 0 0
+option 0 fd 1 = ok
+send 0 123##00102030405060708090A0B0C = no-buffers
+? frames 0 = 1 0 1 0 1
+end 5";
 
 /// A socket receives FD frames if it asks for them when the frame is posted. Those that it did not ask
 /// for are not dropped.
-fn only_those_that_ask_receive(rt: &(impl Abort + AllocGlobal)) -> Result<(), Fail> {
-    let mut bus = bus(rt, config(2), &[0, 1, 1, 1])?;
-    set(&mut bus, 0, Opt::FdFrames(true))?;
-    set(&mut bus, 2, Opt::FdFrames(true))?;
-    let _ = send_fd(&mut bus, 0)?;
-    set(&mut bus, 0, Opt::FdFrames(false))?;
-    set(&mut bus, 1, Opt::FdFrames(true))?;
-    set(&mut bus, 2, Opt::FdFrames(false))?;
-    let _ = attempt(&mut bus, 1, Verdict::Good)?;
-    set(&mut bus, 3, Opt::FdFrames(true))?;
-    gets(rt, &mut bus, 1, fd_frame()?)?;
-    gets_nothing(rt, &mut bus, 1)?;
-    gets_nothing(rt, &mut bus, 2)?;
-    gets_nothing(rt, &mut bus, 3)?;
-    same(rt, items(&bus, 2)?, [0, 0, 0]);
-    Ok(())
-}
+const ONLY_THOSE_THAT_ASK_RECEIVE: &str = "canbus record 3
+bus 2 always 0000 10 1000 0
+open 0 100 = socket 0
+1..3: open 1 100 = socket N
+option 0 fd 1 = ok
+option 2 fd 1 = ok
+send 0 123##00102030405060708090A0B0C = number 0
+option 0 fd 0 = ok
+option 1 fd 1 = ok
+option 2 fd 0 = ok
+attempt 0.000001 good = tried 0 0 123##00102030405060708090A0B0C done 0002 0000
+option 3 fd 1 = ok
+receive 1 = data 0 0 123##00102030405060708090A0B0C 0.000001
+1..3: receive N = none
+? items 2 = 0 0 0
+end 16";
 
 /// On the sending interface too a socket has to ask for FD frames; for its own it asks for both.
-fn loopback_is_asked_for(rt: &(impl Abort + AllocGlobal)) -> Result<(), Fail> {
-    let mut bus = bus(rt, config(1), &[0, 0, 0])?;
-    set(&mut bus, 0, Opt::FdFrames(true))?;
-    set(&mut bus, 1, Opt::FdFrames(true))?;
-    let _ = send_fd(&mut bus, 0)?;
-    let _ = attempt(&mut bus, 1, Verdict::Good)?;
-    set(&mut bus, 0, Opt::RecvOwn(true))?;
-    let _ = send_fd(&mut bus, 0)?;
-    let _ = attempt(&mut bus, 2, Verdict::Good)?;
-    let _ = send_fd(&mut bus, 0)?;
-    set(&mut bus, 0, Opt::FdFrames(false))?;
-    set(&mut bus, 1, Opt::FdFrames(false))?;
-    let _ = attempt(&mut bus, 3, Verdict::Good)?;
-    gets_frame(rt, &mut bus, 0, 1, 2)?;
-    gets_nothing(rt, &mut bus, 0)?;
-    gets_frame(rt, &mut bus, 1, 0, 1)?;
-    gets_frame(rt, &mut bus, 1, 1, 2)?;
-    gets_nothing(rt, &mut bus, 1)?;
-    gets_nothing(rt, &mut bus, 2)
-}
+const LOOPBACK_IS_ASKED_FOR: &str = "canbus record 3
+bus 1 always 0000 10 1000 0
+0..2: open 0 100 = socket N
+option 0 fd 1 = ok
+option 1 fd 1 = ok
+send 0 123##00102030405060708090A0B0C = number 0
+attempt 0.000001 good = tried 0 0 123##00102030405060708090A0B0C done 0000 0000
+option 0 recvown 1 = ok
+send 0 123##00102030405060708090A0B0C = number 1
+attempt 0.000002 good = tried 0 1 123##00102030405060708090A0B0C done 0000 0000
+send 0 123##00102030405060708090A0B0C = number 2
+option 0 fd 0 = ok
+option 1 fd 0 = ok
+attempt 0.000003 good = tried 0 2 123##00102030405060708090A0B0C done 0000 0000
+receive 0 = data 0 1 123##00102030405060708090A0B0C 0.000002
+receive 0 = none
+receive 1 = data 0 0 123##00102030405060708090A0B0C 0.000001
+receive 1 = data 0 1 123##00102030405060708090A0B0C 0.000002
+receive 1 = none
+receive 2 = none
+end 20";
 
 /// Data frames and remote frames go from and to every socket, whatever it asks for.
-fn other_frames_go_everywhere(rt: &(impl Abort + AllocGlobal)) -> Result<(), Fail> {
-    let remote = Frame::remote(CanId::standard(0x123)?, 8)?;
-    let mut bus = bus(rt, config(2), &[0, 0, 1, 1])?;
-    set(&mut bus, 1, Opt::FdFrames(true))?;
-    set(&mut bus, 3, Opt::FdFrames(true))?;
-    for sender in 0..2 {
-        same(rt, try_send(&mut bus, sender, remote)?, 2 * sender as u64);
-        let _ = send(&mut bus, sender, 0x7FF)?;
-        let _ = attempt(&mut bus, 1, Verdict::Good)?;
-        let _ = attempt(&mut bus, 2, Verdict::Good)?;
-        for receiver in 2..4 {
-            gets(rt, &mut bus, receiver, remote)?;
-            gets(rt, &mut bus, receiver, frame(0x7FF)?)?;
-        }
-    }
-    Ok(())
-}
+const OTHER_FRAMES_GO_EVERYWHERE: &str = "canbus record 3
+bus 2 always 0000 10 1000 0
+0..1: open 0 100 = socket N
+2..3: open 1 100 = socket N
+option 1 fd 1 = ok
+option 3 fd 1 = ok
+send 0 123#R8 = number 0
+send 0 7FF# = number 1
+attempt 0.000001 good = tried 0 0 123#R8 done 0002 0000
+attempt 0.000002 good = tried 0 1 7FF# done 0002 0000
+2..3: receive N = data 0 0 123#R8 0.000001 | receive N = data 0 1 7FF# 0.000002
+send 1 123#R8 = number 2
+send 1 7FF# = number 3
+attempt 0.000001 good = tried 0 2 123#R8 done 0002 0000
+attempt 0.000002 good = tried 0 3 7FF# done 0002 0000
+2..3: receive N = data 0 2 123#R8 0.000001 | receive N = data 0 3 7FF# 0.000002
+end 22";
 
 #[test]
 fn fd_frames_go_between_sockets_that_ask_for_them(rt: HostRuntime) -> Result<(), Fail> {
-    only_those_that_ask_send(&rt)?;
-    refuses_in_order(&rt)?;
-    counts_only_for_room(&rt)?;
-    only_those_that_ask_receive(&rt)?;
-    loopback_is_asked_for(&rt)?;
-    other_frames_go_everywhere(&rt)
+    all_play(
+        &rt,
+        &[
+            ONLY_THOSE_THAT_ASK_SEND,
+            REFUSES_IN_ORDER,
+            COUNTS_ONLY_FOR_ROOM,
+            ONLY_THOSE_THAT_ASK_RECEIVE,
+            LOOPBACK_IS_ASKED_FOR,
+            OTHER_FRAMES_GO_EVERYWHERE,
+        ],
+    )
 }

@@ -1,35 +1,38 @@
 // At the limits: the longest list of filters, the most sockets, the longest queues.
 
-use super::*;
+use super::{all_play, plays_with};
+use can_test_support::times;
+use std::test::Fail;
 
-/// This many filters, of which the last alone lets 123 pass.
-fn last_of(rt: &impl AllocGlobal, count: usize) -> Result<FilterSet, Fail> {
-    let mut list = Vec::new(rt.alloc());
-    for _ in 1..count {
-        list.push(Filter::new(1, 0x7FF)?)?;
-    }
-    list.push(Filter::new(0x123, 0x7FF)?)?;
-    Ok(FilterSet::from_slice(rt.alloc(), &list)?)
-}
+/// Of 512 filters the last lets 123 pass, and no other does.
+const LAST_OF_512: &str = "canbus record 1
+bus 16 always 0000 10 1000
+open 0 100 = socket 0
+open 15 100 = socket 1
+filters 1 512 OTHERS00000123 000007FF = ok
+send 0 123# = number 0
+send 0 124# = number 1
+attempt 0.000001 good = tried 0 0 123# done FFFE 0000
+attempt 0.000002 good = tried 0 1 124# done FFFE 0000
+receive 1 = data 0 0 123# 0.000001
+receive 1 = none
+end 9";
 
 #[test]
 fn the_last_of_512_filters_counts(rt: HostRuntime) -> Result<(), Fail> {
-    let mut bus = bus(&rt, config(16), &[0, 15])?;
-    set_filters(&rt, &mut bus, 1, &last_of(&rt, 512)?)?;
-    same(&rt, send(&mut bus, 0, 0x123)?, 0);
-    same(&rt, send(&mut bus, 0, 0x124)?, 1);
-    let _ = attempt(&mut bus, 1, Verdict::Good)?;
-    let _ = attempt(&mut bus, 2, Verdict::Good)?;
-    gets_frame(&rt, &mut bus, 1, 0, 1)?;
-    gets_nothing(&rt, &mut bus, 1)
+    let others = times(rt.alloc(), "00000001 000007FF ", 511)?;
+    plays_with(&rt, LAST_OF_512, "OTHERS", &others)
 }
+
+const AT_MOST_64_SOCKETS: &str = "canbus record 1
+bus 1 always 0000 10 1000
+0..63: open 0 100 = socket N
+open 0 1 = too-many-sockets
+close 63 = closed 0 0
+open 0 1 = socket 64
+end 67";
 
 #[test]
 fn at_most_64_sockets_are_open(rt: HostRuntime) -> Result<(), Fail> {
-    let mut bus = bus(&rt, config(1), &[0; 64])?;
-    let refused = bus.open(rt.alloc(), iface(0)?, 1);
-    same(&rt, refused, Err(Refusal::TooManySockets));
-    let _ = close(&mut bus, 63)?;
-    same(&rt, open(&rt, &mut bus, 0, 1)?, SocketId(64));
-    Ok(())
+    all_play(&rt, &[AT_MOST_64_SOCKETS])
 }

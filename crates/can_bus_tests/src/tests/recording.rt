@@ -1,197 +1,103 @@
 // Records that are made of entries.
 
-use super::*;
-use can_attempt::Class;
-use can_bus::{Entry, Record, is_spelled};
-use can_frame::ErrorFrame;
-
-/// Adds an entry where there is room for it.
-fn note(entries: &mut Vec<Entry>, event: Event, reply: Reply) {
-    // The checker has to meet the types inside a reply before a vector takes one.
-    let _types: Option<(Item, Received)> = None;
-    let _ = entries.push(Entry { event, reply });
-}
-
-/// The frame 123 with the data 01 FF.
-fn two_bytes() -> Result<Frame, Fail> {
-    Ok(Frame::data(CanId::standard(0x123)?, &[0x01, 0xFF])?)
-}
-
-/// That frame, tried by interface 0 and accepted by interface 1.
-fn tried_at(micros: u64) -> Result<Tried, Fail> {
-    Ok(Tried {
-        moment: Moment::new(micros)?,
-        winner: iface(0)?,
-        number: 0,
-        frame: two_bytes()?,
-        class: Class::Done,
-        accepted: IfaceSet(2),
-        off: IfaceSet(0),
-        restarted: IfaceSet(0),
-    })
-}
-
-/// That frame, as interface 1 receives it.
-fn received() -> Result<Received, Fail> {
-    Ok(Received {
-        item: Item::Data(two_bytes()?),
-        from: iface(0)?,
-        number: 0,
-        moment: Moment::new(1)?,
-    })
-}
-
-/// An error message frame, received under this number.
-fn error_item(number: u64) -> Result<Received, Fail> {
-    Ok(Received {
-        item: Item::Error(ErrorFrame::new(0x100, [0; 8])?),
-        from: iface(1)?,
-        number,
-        moment: Moment::new(1)?,
-    })
-}
+use super::all_play;
+use super::playing::{entries_of, made_of};
+use can_bus::{Entry, Event, Received, Refusal, Reply};
+use can_record::read_record;
+use can_test_support::config;
+use std::alloc::AllocGlobal;
+use std::process::Abort;
+use std::test::Fail;
 
 /// A frame goes from interface 0 to interface 1, and is taken there.
-fn one_frame(rt: &impl AllocGlobal) -> Result<Vec<Entry>, Fail> {
-    let mut entries = Vec::with_capacity(rt.alloc(), 7)?;
-    note(
-        &mut entries,
-        Event::Open(iface(0)?, 256),
-        Reply::Opened(SocketId(0)),
-    );
-    note(
-        &mut entries,
-        Event::Open(iface(1)?, 1),
-        Reply::Opened(SocketId(1)),
-    );
-    note(
-        &mut entries,
-        Event::Send(SocketId(0), two_bytes()?),
-        Reply::Sent(0),
-    );
-    note(
-        &mut entries,
-        Event::Attempt(Moment::new(1)?, Verdict::Good),
-        Reply::Tried(tried_at(1)?),
-    );
-    note(
-        &mut entries,
-        Event::Receive(SocketId(1)),
-        Reply::Received(Some(received()?)),
-    );
-    note(
-        &mut entries,
-        Event::Receive(SocketId(1)),
-        Reply::Received(None),
-    );
-    let closed = Closed {
-        unread: 0,
-        dropped: 0,
-    };
-    note(
-        &mut entries,
-        Event::Close(SocketId(1)),
-        Reply::Closed(closed),
-    );
-    Ok(entries)
-}
+const ONE_FRAME: &str = "canbus record 1
+bus 2 always 0000 10 1000
+open 0 256 = socket 0
+open 1 1 = socket 1
+send 0 123#01FF = number 0
+attempt 0.000001 good = tried 0 0 123#01FF done 0002 0000
+receive 1 = data 0 0 123#01FF 0.000001
+receive 1 = none
+close 1 = closed 0 0
+end 7";
 
-// The calls, without their clauses.
+/// The record of one entry.
+const ONE_ENTRY: &str = "canbus record 1\nbus 2 always 0000 10 1000\nENTRY\nend 1\n";
 
-fn answered(rt: &impl AllocGlobal, bus: &mut ListBus, event: &Event) -> Reply {
-    bus.answer(rt.alloc(), event)
-}
-
-fn made_again(config: BusConfig, entries: Vec<Entry>) -> Result<Record, Fail> {
-    Ok(Record::from_entries(config, entries).ok_or("no record")?)
-}
-
-fn made_with(record: &Record) -> BusConfig {
-    record.config()
-}
-
-fn count(record: &Record) -> usize {
-    record.len()
-}
-
-/// The reply at a place of a record.
-fn reply_at(record: &Record, place: usize) -> Option<Reply> {
-    match record.entry(place) {
-        Some(looked) => Some(looked.entry().reply),
-        None => None,
-    }
-}
-
-fn same_replies(left: &Record, right: &Record) -> bool {
-    for place in 0..left.len() {
-        if reply_at(left, place) != reply_at(right, place) {
-            return false;
-        }
-    }
-    left.len() == right.len()
-}
-
-fn has_line(entry: &Entry) -> bool {
-    is_spelled(config(2), entry)
-}
-
-/// A bus answers each event as its entry says, and the record made of the entries is the bus's.
-fn is_the_record_of_its_entries(rt: &(impl Abort + AllocGlobal)) -> Result<(), Fail> {
-    let mut bus = made(rt, config(2))?;
-    let entries = one_frame(rt)?;
-    for entry in &entries {
-        assert!(rt; has_line(entry));
-        same(rt, answered(rt, &mut bus, &entry.event), entry.reply);
-    }
-    let record = made_again(config(2), entries)?;
-    let of_bus = bus.into_record();
-    same(rt, made_with(&record), made_with(&of_bus));
-    same(rt, (count(&record), count(&of_bus)), (7, 7));
-    assert!(rt; same_replies(&record, &of_bus));
-    Ok(())
+/// The entry of a line.
+fn entry(rt: &impl AllocGlobal, line: &str) -> Result<Entry, Fail> {
+    let text = ONE_ENTRY.replace(rt.alloc(), "ENTRY", line)?;
+    let record = read_record(rt.alloc(), &text)?;
+    let mut entries = entries_of(rt.alloc(), &record)?;
+    Ok(entries.pop().ok_or("no entry")?)
 }
 
 /// Whether a record can be made of this one entry.
-fn stands(rt: &impl AllocGlobal, event: Event, reply: Reply) -> Result<bool, Fail> {
-    let mut entries = Vec::with_capacity(rt.alloc(), 1)?;
-    note(&mut entries, event, reply);
-    Ok(Record::from_entries(config(2), entries).is_some())
+fn fits(rt: &impl AllocGlobal, event: Event, reply: Reply) -> Result<bool, Fail> {
+    let mut entries = Vec::new(rt.alloc());
+    entries.push(Entry { event, reply })?;
+    Ok(made_of(config(2), entries).is_some())
+}
+
+/// Whether the reply of one line fits the event of another.
+fn fit(rt: &impl AllocGlobal, event: &str, reply: &str) -> Result<bool, Fail> {
+    fits(rt, entry(rt, event)?.event, entry(rt, reply)?.reply)
 }
 
 /// A reply has to fit its event.
 fn refuses_replies_that_do_not_fit(rt: &(impl Abort + AllocGlobal)) -> Result<(), Fail> {
-    let close = stands(rt, Event::Close(SocketId(0)), Reply::Done)?;
-    assert!(rt; !close);
+    let rows = [
+        ("close 0 = no-socket", "option 0 join 1 = ok", false),
+        ("receive 0 = none", "close 0 = no-socket", true),
+        (
+            "receive 0 = none",
+            "receive 0 = error 1 20000100#0000000000000000 0.000001",
+            true,
+        ),
+        (
+            "attempt 0.000001 good = idle",
+            "attempt 0.000001 good = tried 0 0 123#01FF done 0002 0000",
+            true,
+        ),
+        (
+            "attempt 0.000001 good = idle",
+            "attempt 0.000002 good = tried 0 0 123#01FF done 0002 0000",
+            false,
+        ),
+    ];
+    for (event, reply, expected) in rows {
+        assert_eq!(rt; fit(rt, event, reply)?, expected, "{event}, {reply}");
+    }
+    Ok(())
+}
+
+/// No line has the reply of a full record, or an error message frame with a number.
+fn refuses_replies_without_a_line(rt: &(impl Abort + AllocGlobal)) -> Result<(), Fail> {
     let full = Reply::Refused(Refusal::RecordFull);
-    assert!(rt; !stands(rt, Event::Receive(SocketId(0)), full)?);
-    let shut = Reply::Refused(Refusal::NoSocket);
-    assert!(rt; stands(rt, Event::Receive(SocketId(0)), shut)?);
-    for number in 0..2 {
-        let item = Reply::Received(Some(error_item(number)?));
-        same(
-            rt,
-            stands(rt, Event::Receive(SocketId(0)), item)?,
-            number == 0,
-        );
-    }
-    for micros in 1..3 {
-        let attempt = Event::Attempt(Moment::new(1)?, Verdict::Good);
-        let tried = Reply::Tried(tried_at(micros)?);
-        same(rt, stands(rt, attempt, tried)?, micros == 1);
-    }
+    assert!(rt; !fits(rt, entry(rt, "receive 0 = none")?.event, full)?);
+    let error = entry(rt, "receive 0 = error 1 20000100#0000000000000000 0.000001")?;
+    let Entry { event, reply } = error;
+    let Reply::Received(Some(received)) = reply else {
+        return Err(Fail::from("nothing was received"));
+    };
+    let numbered = Received {
+        number: 1,
+        ..received
+    };
+    assert!(rt; !fits(rt, event, Reply::Received(Some(numbered)))?);
     Ok(())
 }
 
 /// A bus has at least one interface.
-fn refuses_no_interfaces(rt: &(impl Abort + AllocGlobal)) -> Result<(), Fail> {
-    let none = Vec::new(rt.alloc());
-    assert!(rt; Record::from_entries(config(0), none).is_none());
-    Ok(())
+fn refuses_no_interfaces(rt: &(impl Abort + AllocGlobal)) {
+    assert!(rt; made_of(config(0), Vec::new(rt.alloc())).is_none());
 }
 
 #[test]
 fn records_are_made_of_entries_that_fit(rt: HostRuntime) -> Result<(), Fail> {
-    is_the_record_of_its_entries(&rt)?;
+    all_play(&rt, &[ONE_FRAME])?;
     refuses_replies_that_do_not_fit(&rt)?;
-    refuses_no_interfaces(&rt)
+    refuses_replies_without_a_line(&rt)?;
+    refuses_no_interfaces(&rt);
+    Ok(())
 }

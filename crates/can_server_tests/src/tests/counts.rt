@@ -6,7 +6,7 @@ ghost use Rattle.can_server.specs.Benches.{NamedFrom};
 use super::*;
 use can_dialog::Session;
 use can_server::HeldPort;
-use can_test_streams::Output;
+use can_test_support::Output;
 use std::marker::Brand;
 
 /// A session over a pass, each of whose pieces goes through one held port, as a server's do.

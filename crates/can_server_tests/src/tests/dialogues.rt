@@ -5,7 +5,7 @@ ghost use Rattle.can_server.specs.Benches.{NamedFrom};
 
 use super::*;
 use can_dialog::Session;
-use can_test_streams::Output;
+use can_test_support::Output;
 use std::marker::Brand;
 
 /// Two sessions on one bus, and a step between them.

@@ -4,9 +4,9 @@ ghost use Rattle.std.specs.Prelude.{◌≡◌};
 ghost use Rattle.can_server.specs.Benches.{NamedFrom};
 
 use super::clients::*;
-use super::restarts::SCRIPT;
 use super::*;
 use can_server::{Clock, Notice, serve};
+use can_test_support::DESTROYED;
 use std::marker::Brand;
 use std::sync::atomic::{AtomicU64, Ordering};
 use std::thread::join;
@@ -113,7 +113,7 @@ fn told<N: RollName + MeterName + Send + Sync, R: Machine>(
 #[test]
 fn a_host_is_told_of_sessions_and_of_bus_off(rt: HostRuntime) {
     let alloc = rt.alloc();
-    let (names, faults) = (names(&rt, alloc, "can0,can1"), script(&rt, alloc, SCRIPT));
+    let (names, faults) = (names(&rt, alloc, "can0,can1"), script(&rt, alloc, DESTROYED));
     let benches = one(&rt, alloc, held_bench(&rt, alloc, names, faults, Open));
     told::<Brand, _>(&rt, alloc, benches, Entrance::new(&rt, 2));
 }

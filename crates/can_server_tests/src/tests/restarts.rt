@@ -7,16 +7,9 @@ use super::clients::*;
 use super::*;
 use can_attempt::Class;
 use can_bus::{Record, Reply};
+use can_test_support::DESTROYED;
 use std::marker::Brand;
 use std::thread::join;
-
-/// The first 32 attempts are destroyed.
-pub const SCRIPT: &str = "\
-0 global bit\n1 global bit\n2 global bit\n3 global bit\n4 global bit\n5 global bit\n6 global bit\n7 global bit\n\
-8 global bit\n9 global bit\n10 global bit\n11 global bit\n12 global bit\n13 global bit\n14 global bit\n\
-15 global bit\n16 global bit\n17 global bit\n18 global bit\n19 global bit\n20 global bit\n21 global bit\n\
-22 global bit\n23 global bit\n24 global bit\n25 global bit\n26 global bit\n27 global bit\n28 global bit\n\
-29 global bit\n30 global bit\n31 global bit\n";
 
 /// The first client is told that its interface went off and came back, and sends once more.
 fn talk<R: Abort>(mut first: Client<'_, R>, mut second: Client<'_, R>) {
@@ -101,7 +94,10 @@ fn a_driver_steps_until_an_interface_is_back(rt: HostRuntime) {
     // The checker has to meet the types of the run before its call.
     let _types: Option<(Record, Entrance)> = None;
     let alloc = rt.alloc();
-    let (names, faults) = (names(&rt, alloc, "can0,can1"), script(&rt, alloc, SCRIPT));
+    let (names, faults) = (
+        names(&rt, alloc, "can0,can1"),
+        script(&rt, alloc, DESTROYED),
+    );
     let bench = restarting(held_bench(&rt, alloc, names, faults, Open));
     let benches = one(&rt, alloc, bench);
     comes_back::<Brand, _>(&rt, alloc, benches);

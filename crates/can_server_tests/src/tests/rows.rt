@@ -7,7 +7,7 @@ use super::clients::*;
 use super::*;
 use can_bus::Record;
 use can_logfile::write_tape;
-use can_test_streams::Output;
+use can_test_support::Output;
 use std::marker::Brand;
 use std::thread::join;
 use std::time::{Duration, Instant};

@@ -7,7 +7,7 @@ use super::*;
 use can_bus::Attempt;
 use can_dialog::Session;
 use can_station::Station;
-use can_test_streams::Output;
+use can_test_support::Output;
 use std::marker::Brand;
 
 /// A session over a pass.

@@ -2,9 +2,11 @@ use super::same;
 use can_attempt::AckMode;
 use can_bus::BusConfig;
 use can_fault::Script;
-use can_frame::{IfaceSet, Names};
+use can_frame::Names;
 use can_session::{BenchConfig, BenchFault, LineFault, Lines, bench, bench_lines};
-use can_test_streams::{Closed, Pieces};
+use can_test_support::{
+    Closed, Pieces, attempts, config, ever, joined, script as script_of, times,
+};
 use std::alloc::Global;
 use std::process::Abort;
 use std::test::Fail;
@@ -42,18 +44,15 @@ struct Ran {
 
 pub fn config_of(alloc: Global, made: Made, script: &str) -> Result<BenchConfig<Script>, Fail> {
     let names = Names::read(alloc, made.names).map_err(|_| Fail::new("not made"))?;
-    let script = Script::read(alloc, script, &names).map_err(|_| Fail::new("not made"))?;
     Ok(BenchConfig {
         config: BusConfig {
-            ifaces: names.count(),
             ack: made.ack,
-            reporting: IfaceSet::empty(),
-            tx_capacity: 10,
             limit: made.limit,
             auto_restart: made.auto_restart,
+            ..config(names.count())
         },
         names,
-        script,
+        script: script_of(alloc, made.names, script)?,
         rx_capacity: 256,
     })
 }
@@ -110,49 +109,6 @@ fn stops(
     same(rt, ran.output.as_slice(), wanted.as_bytes());
     same(rt, ran.fault, Some(fault));
     Ok(())
-}
-
-/// The pieces, one behind the other.
-pub fn joined(alloc: Global, pieces: &[&str]) -> Result<String, Fail> {
-    let mut text = String::new(alloc);
-    for piece in pieces {
-        text.push_str(piece)?;
-    }
-    Ok(text)
-}
-
-/// A text so many times.
-pub fn times(alloc: Global, text: &str, count: usize) -> Result<String, Fail> {
-    let mut all = String::new(alloc);
-    for _ in 0..count {
-        all.push_str(text)?;
-    }
-    Ok(all)
-}
-
-/// The lines of so many attempts, a microsecond after one another, from 0.000001 on: at most 99 of them.
-pub fn attempts(alloc: Global, count: u8) -> Result<String, Fail> {
-    let mut lines = String::new(alloc);
-    for number in 1..count.saturating_add(1) {
-        lines.push_str("at 0.0000")?;
-        lines.push(char::from(b'0' + number / 10 % 10))?;
-        lines.push(char::from(b'0' + number % 10))?;
-        lines.push_str("\nattempt\n")?;
-    }
-    Ok(lines)
-}
-
-/// A script that gives so many attempts this verdict, at most 99 of them.
-pub fn ever(alloc: Global, verdict: &str, count: u8) -> Result<String, Fail> {
-    let mut script = String::new(alloc);
-    for number in 0..count {
-        script.push(char::from(b'0' + number / 10 % 10))?;
-        script.push(char::from(b'0' + number % 10))?;
-        script.push(' ')?;
-        script.push_str(verdict)?;
-        script.push('\n')?;
-    }
-    Ok(script)
 }
 
 const STARTED: &str =

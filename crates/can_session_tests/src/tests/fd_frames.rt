@@ -1,5 +1,6 @@
 //! FD frames, which sockets send and get only where their option for such is on.
-use crate::tests::bench::{attempts, ever, joined, times, two_write};
+use crate::tests::bench::two_write;
+use can_test_support::{attempts, ever, joined, times};
 use std::test::Fail;
 
 #[test]

@@ -1,6 +1,6 @@
 use super::same;
 use can_session::{LineFault, Lines, Order, read_order};
-use can_test_streams::Pieces;
+use can_test_support::Pieces;
 use std::alloc::{AllocError, Global};
 use std::io::Read;
 

@@ -1,5 +1,6 @@
 //! Interfaces that come back by themselves, so many attempts after they went bus off.
-use crate::tests::bench::{Made, TWO, attempts, ever, joined, times, two_write_on};
+use crate::tests::bench::{Made, TWO, two_write_on};
+use can_test_support::{attempts, ever, joined, times};
 use std::alloc::Global;
 use std::process::Abort;
 use std::test::Fail;

@@ -10,7 +10,7 @@ use can_fault::{GlobalKind, Verdict};
 use can_frame::{CanId, Frame, Iface, IfaceSet, Item, Moment, Names};
 use can_queue::ListQueue;
 use can_session::{BusPort, Port, PortRefusal, Session, SessionFault, Stage};
-use can_test_streams::Output;
+use can_test_support::Output;
 use std::alloc::{AllocGlobal, Global};
 use std::process::Abort;
 

@@ -71,9 +71,9 @@ fn gives_verdicts<N: RollName + MeterName, R: Wait + Abort>(rt: &R, alloc: Globa
 {
     let (none, can1) = (IfaceSet(0), IfaceSet(2));
     let source = script(rt, alloc, SCRIPT);
-    let station = made::<N, _, _, _>(rt, alloc, blanks, 0, config(), source, Open);
+    let station = made::<N, _, _, _>(rt, alloc, blanks, 0, config(2), source, Open);
     let mut gauge = gauge(rt, &station);
-    let Ok(bus) = RingBus::new(alloc, config()) else {
+    let Ok(bus) = RingBus::new(alloc, config(2)) else {
         panic!(rt; "no bus");
     };
     let caller = entered(rt, alloc, &station);
@@ -142,8 +142,8 @@ fn strange_attempt<N: RollName + MeterName, R: Wait + Abort>(
     requires here { (here.roll ≡ N.roll 0) × (here.meter ≡ N.meter 0) }
     requires there { (there.roll ≡ N.roll 1) × (there.meter ≡ N.meter 1) }
 {
-    let station = made::<N, _, _, _>(rt, alloc, here, 0, config(), Perfect, Open);
-    let far = made::<N, _, _, _>(rt, alloc, there, 1, config(), Perfect, Open);
+    let station = made::<N, _, _, _>(rt, alloc, here, 0, config(2), Perfect, Open);
+    let far = made::<N, _, _, _>(rt, alloc, there, 1, config(2), Perfect, Open);
     let mut caller = entered(rt, alloc, &station);
     assert!(rt; caller.open(0, 4) == SocketId(0));
     assert!(rt; caller.send(SocketId(0), 0x123) == Ok(0));
@@ -162,7 +162,7 @@ fn attempt_wakes<N: RollName + MeterName + Send + Sync, R: Threads + Wait + Abor
     requires { (blanks.roll ≡ N.roll 0) × (blanks.meter ≡ N.meter 0) }
 {
     let source = script(rt, alloc, "0 global bit\n");
-    let station = made::<N, _, _, _>(rt, alloc, blanks, 0, config(), source, Open);
+    let station = made::<N, _, _, _>(rt, alloc, blanks, 0, config(2), source, Open);
     let mut caller = entered(rt, alloc, &station);
     let (sender, receiver) = (caller.open(0, 4), caller.open(1, 4));
     assert!(rt; caller.send(sender, 0x123) == Ok(0));

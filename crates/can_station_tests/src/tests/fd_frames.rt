@@ -7,6 +7,7 @@ use can_bus::Refusal;
 use can_fault::Perfect;
 use can_frame::Item;
 use can_station::{Open, Wake};
+use can_test_support::fd_frame;
 use std::marker::Brand;
 use std::test::Fail;
 use std::thread::{Threads, join};
@@ -18,20 +19,14 @@ const SENDER: SocketId = SocketId(0);
 const RECEIVER: SocketId = SocketId(1);
 
 /// An FD frame of 12 bytes.
-fn fd_frame<R: Abort>(rt: &R) -> Frame {
-    let Ok(id) = CanId::standard(0x123) else {
-        panic!(rt; "no identifier");
-    };
-    let Ok(frame) = Frame::fd(id, &[1, 2, 3, 4, 5, 6, 7, 8, 9, 10, 11, 12]) else {
-        panic!(rt; "no frame");
-    };
-    frame
+fn twelve<R: Abort>(rt: &R) -> Frame {
+    fd_frame(0x123, &[1, 2, 3, 4, 5, 6, 7, 8, 9, 10, 11, 12]).expect(rt, "a frame")
 }
 
 /// Is refused the frame, and sends it once the option is on.
 fn sends<N: RollName + MeterName, R: Wait + Abort>(mut caller: Party<'_, N, R>) -> Pass<N> {
     let rt = caller.rt;
-    let frame = fd_frame(rt);
+    let frame = twelve(rt);
     let refused = caller.send_frame(SENDER, frame);
     assert!(rt; refused == Err(StationRefusal::Bus(Refusal::FdOff)));
     assert!(rt; caller.set_option(SENDER, Opt::FdFrames(true)).is_ok());
@@ -48,7 +43,7 @@ fn receives<N: RollName + MeterName, R: Wait + Abort>(mut caller: Party<'_, N, R
     let Ok(Some(received)) = caller.receive(RECEIVER) else {
         panic!(rt; "no item");
     };
-    assert!(rt; received.item == Item::Data(fd_frame(rt)));
+    assert!(rt; received.item == Item::Data(twelve(rt)));
     assert!(rt; caller.receive(RECEIVER) == Ok(None));
     caller.leave()
 }
@@ -61,7 +56,7 @@ fn two_sides<N: RollName + MeterName + Send + Sync, R: Threads + Wait + Abort + 
 )
     requires { (blanks.roll ≡ N.roll 0) × (blanks.meter ≡ N.meter 0) }
 {
-    let station = made::<N, _, _, _>(rt, alloc, blanks, 0, config(), Perfect, Open);
+    let station = made::<N, _, _, _>(rt, alloc, blanks, 0, config(2), Perfect, Open);
     let mut first = entered(rt, alloc, &station);
     let mut second = entered(rt, alloc, &station);
     assert!(rt; first.open(0, 1) == SENDER);

@@ -18,7 +18,7 @@ type Party<'s, N, R> = Caller<'s, N, Perfect, Open, R>;
 fn small() -> BusConfig {
     BusConfig {
         limit: 3,
-        ..config()
+        ..config(2)
     }
 }
 

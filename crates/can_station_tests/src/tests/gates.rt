@@ -91,9 +91,9 @@ fn two_stations<N: RollName + MeterName + Send + Sync, R: Threads + Wait + Abort
         signals: &signals,
     };
     let faults = script(rt, alloc, "0 lastbit");
-    let station = made::<N, _, _, _>(rt, alloc, here, 0, config(), faults, gate);
+    let station = made::<N, _, _, _>(rt, alloc, here, 0, config(2), faults, gate);
     let perfect = script(rt, alloc, "");
-    let other = made::<N, _, _, _>(rt, alloc, there, 1, config(), perfect, Open);
+    let other = made::<N, _, _, _>(rt, alloc, there, 1, config(2), perfect, Open);
     let mut gauge = gauge(rt, &station);
     let mut stepping = entered(rt, alloc, &station);
     let mut sending = entered(rt, alloc, &other);

@@ -14,7 +14,7 @@ fn last_bit<N: RollName + MeterName, R: Wait + Abort>(rt: &R, alloc: Global, bla
     requires { (blanks.roll ≡ N.roll 0) × (blanks.meter ≡ N.meter 0) }
 {
     let faults = script(rt, alloc, "0 lastbit");
-    let station = made::<N, _, _, _>(rt, alloc, blanks, 0, config(), faults, Open);
+    let station = made::<N, _, _, _>(rt, alloc, blanks, 0, config(2), faults, Open);
     let mut gauge = gauge(rt, &station);
     let mut caller = entered(rt, alloc, &station);
     assert!(rt; reading(rt, &mut gauge, 0) == (0, 0, 0));
@@ -36,7 +36,7 @@ fn alone() -> BusConfig {
     BusConfig {
         ifaces: 1,
         ack: AckMode::Peers,
-        ..config()
+        ..config(2)
     }
 }
 
@@ -91,8 +91,8 @@ fn strange_gauge<N: RollName + MeterName, R: Wait + Abort>(
     requires here { (here.roll ≡ N.roll 0) × (here.meter ≡ N.meter 0) }
     requires there { (there.roll ≡ N.roll 1) × (there.meter ≡ N.meter 1) }
 {
-    let station = made::<N, _, _, _>(rt, alloc, here, 0, config(), Perfect, Open);
-    let far = made::<N, _, _, _>(rt, alloc, there, 1, config(), Perfect, Open);
+    let station = made::<N, _, _, _>(rt, alloc, here, 0, config(2), Perfect, Open);
+    let far = made::<N, _, _, _>(rt, alloc, there, 1, config(2), Perfect, Open);
     let gauges = one(rt, alloc, gauge(rt, &far));
     let outcome = station.settle(rt, Vec::new(alloc), gauges);
     assert!(rt; matches!(outcome, Err(WrongStation)));
@@ -107,7 +107,7 @@ fn two_gauges<N: RollName + MeterName, R: Wait + Abort>(
 )
     requires { (blanks.roll ≡ N.roll number) × (blanks.meter ≡ N.meter number) }
 {
-    let station = made::<N, _, _, _>(rt, alloc, blanks, number, config(), Perfect, Open);
+    let station = made::<N, _, _, _>(rt, alloc, blanks, number, config(2), Perfect, Open);
     let gauges = two(rt, alloc, gauge(rt, &station), gauge(rt, &station));
     let settled = settled(rt, station, Vec::new(alloc), gauges);
     assert!(rt; settled.history.is_empty());

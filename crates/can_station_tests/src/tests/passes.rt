@@ -12,7 +12,7 @@ use std::test::Fail;
 fn enter_often<N: RollName + MeterName, R: Wait + Abort>(rt: &R, alloc: Global, blanks: Blanks)
     requires { (blanks.roll ≡ N.roll 0) × (blanks.meter ≡ N.meter 0) }
 {
-    let station = made::<N, _, _, _>(rt, alloc, blanks, 0, config(), Perfect, Open);
+    let station = made::<N, _, _, _>(rt, alloc, blanks, 0, config(2), Perfect, Open);
     for _ in 0..4096 {
         let pass = entered(rt, alloc, &station).leave();
         assert!(rt; pass.number() == 0 && pass.is_empty());

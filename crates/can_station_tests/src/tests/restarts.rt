@@ -6,6 +6,7 @@ use super::waits::{Act, Awaited, Party, woken};
 use super::*;
 use can_frame::Item;
 use can_station::{Open, Wake};
+use can_test_support::DESTROYED;
 use std::marker::Brand;
 use std::test::Fail;
 use std::thread::Threads;
@@ -17,7 +18,7 @@ const NOBODY: Attempt = Attempt::Idle {
 fn restarting() -> BusConfig {
     BusConfig {
         auto_restart: 2,
-        ..config()
+        ..config(2)
     }
 }
 

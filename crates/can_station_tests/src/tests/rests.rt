@@ -45,7 +45,7 @@ fn rest_often<N: RollName + MeterName + Send + Sync, R: Threads + Wait + Abort +
 )
     requires { (blanks.roll ≡ N.roll 0) × (blanks.meter ≡ N.meter 0) }
 {
-    let station = made::<N, _, _, _>(rt, alloc, blanks, 0, config(), Perfect, Open);
+    let station = made::<N, _, _, _>(rt, alloc, blanks, 0, config(2), Perfect, Open);
     station.rest(rt, Duration::ZERO);
     station.rest(rt, Duration::from_millis(1));
     let (begun, ended) = (AtomicU64::new(0), AtomicU64::new(0));
@@ -62,7 +62,7 @@ fn rest_often<N: RollName + MeterName + Send + Sync, R: Threads + Wait + Abort +
 fn count_items<N: RollName + MeterName, R: Wait + Abort>(rt: &R, alloc: Global, blanks: Blanks)
     requires { (blanks.roll ≡ N.roll 0) × (blanks.meter ≡ N.meter 0) }
 {
-    let station = made::<N, _, _, _>(rt, alloc, blanks, 0, config(), Perfect, Open);
+    let station = made::<N, _, _, _>(rt, alloc, blanks, 0, config(2), Perfect, Open);
     let mut caller = entered(rt, alloc, &station);
     let (sender, receiver) = (caller.open(0, 4), caller.open(1, 4));
     for micros in 1..=3 {

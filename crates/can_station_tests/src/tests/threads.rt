@@ -18,7 +18,7 @@ fn long() -> BusConfig {
     BusConfig {
         ifaces: 3,
         tx_capacity: 1024,
-        ..config()
+        ..config(2)
     }
 }
 
@@ -150,8 +150,8 @@ fn strange_pass<N: RollName + MeterName, R: Wait + Abort>(
     requires here { (here.roll ≡ N.roll 0) × (here.meter ≡ N.meter 0) }
     requires there { (there.roll ≡ N.roll 1) × (there.meter ≡ N.meter 1) }
 {
-    let station = made::<N, _, _, _>(rt, alloc, here, 0, config(), Perfect, Open);
-    let far = made::<N, _, _, _>(rt, alloc, there, 1, config(), Perfect, Open);
+    let station = made::<N, _, _, _>(rt, alloc, here, 0, config(2), Perfect, Open);
+    let far = made::<N, _, _, _>(rt, alloc, there, 1, config(2), Perfect, Open);
     let socket = entered(rt, alloc, &station).open(0, 1);
     let pass = entered(rt, alloc, &far).leave();
     let mut stranger = Caller {

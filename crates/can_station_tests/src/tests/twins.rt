@@ -6,16 +6,17 @@ use super::*;
 use can_bus::{Event, Record, Reply, RingBus};
 use can_filter::{Filter, FilterSet};
 use can_station::{Open, Wake};
+use can_test_support::{DESTROYED, joined};
 use std::marker::Brand;
 use std::test::Fail;
 
-/// The first 32 attempts are destroyed; three later ones go wrong in other ways.
-const SCRIPT: &str = "\
-0 global bit\n1 global bit\n2 global bit\n3 global bit\n4 global bit\n5 global bit\n6 global bit\n7 global bit\n\
-8 global bit\n9 global bit\n10 global bit\n11 global bit\n12 global bit\n13 global bit\n14 global bit\n\
-15 global bit\n16 global bit\n17 global bit\n18 global bit\n19 global bit\n20 global bit\n21 global bit\n\
-22 global bit\n23 global bit\n24 global bit\n25 global bit\n26 global bit\n27 global bit\n28 global bit\n\
-29 global bit\n30 global bit\n31 global bit\n36 lastbit\n40 local crc can1\n44 global form\n";
+/// Three attempts after the first 32, which are destroyed, go wrong in other ways.
+const LATER: &str = "36 lastbit\n40 local crc can1\n44 global form\n";
+
+fn faults<R: Abort>(rt: &R, alloc: Global) -> Script {
+    let text = joined(alloc, &[DESTROYED, LATER]).expect(rt, "memory");
+    script(rt, alloc, &text)
+}
 
 /// How the calls are made.
 #[derive(Clone, Copy)]
@@ -49,7 +50,7 @@ fn busy(run: Run) -> BusConfig {
         reporting: IfaceSet(2),
         tx_capacity: 4,
         auto_restart: run.auto_restart,
-        ..config()
+        ..config(2)
     }
 }
 
@@ -211,12 +212,12 @@ fn run_both<N: RollName + MeterName, R: Wait + Abort>(
 )
     requires { (blanks.roll ≡ N.roll 0) × (blanks.meter ≡ N.meter 0) }
 {
-    let faults = script(rt, alloc, SCRIPT);
-    let station = made::<N, _, _, _>(rt, alloc, blanks, 0, busy(run), faults, Open);
+    let followed = faults(rt, alloc);
+    let station = made::<N, _, _, _>(rt, alloc, blanks, 0, busy(run), followed, Open);
     let Ok(mut bus) = RingBus::new(alloc, busy(run)) else {
         panic!(rt; "no bus");
     };
-    let mut source = script(rt, alloc, SCRIPT);
+    let mut source = faults(rt, alloc);
     if run.is_stopped {
         station.stop(rt);
     }

@@ -113,7 +113,7 @@ fn each_call_wakes<N: RollName + MeterName + Send + Sync, R: Threads + Wait + Ab
     requires { (blanks.roll ≡ N.roll 0) × (blanks.meter ≡ N.meter 0) }
 {
     let faults = script(rt, alloc, SCRIPT);
-    let station = made::<N, _, _, _>(rt, alloc, blanks, 0, config(), faults, Open);
+    let station = made::<N, _, _, _>(rt, alloc, blanks, 0, config(2), faults, Open);
     let mut caller = entered(rt, alloc, &station);
     let (sender, receiver) = (caller.open(0, 4), caller.open(1, 4));
     assert!(rt; woken(rt, &mut caller, Awaited::Work, Act::Send(sender)) == Wake::Ready);
@@ -169,7 +169,7 @@ fn a_frame_wakes_all<
     requires { (blanks.roll ≡ N.roll 0) × (blanks.meter ≡ N.meter 0) }
 {
     let faults = script(rt, alloc, "");
-    let station = made::<N, _, _, _>(rt, alloc, blanks, 0, config(), faults, Open);
+    let station = made::<N, _, _, _>(rt, alloc, blanks, 0, config(2), faults, Open);
     let mut caller = entered(rt, alloc, &station);
     let (sender, first) = (caller.open(0, 4), caller.open(1, 4));
     for _ in 0..63 {
@@ -222,7 +222,7 @@ fn stop_wakes<N: RollName + MeterName + Send + Sync, R: Threads + Wait + Abort +
     requires { (blanks.roll ≡ N.roll 0) × (blanks.meter ≡ N.meter 0) }
 {
     let faults = script(rt, alloc, "");
-    let station = made::<N, _, _, _>(rt, alloc, blanks, 0, config(), faults, Open);
+    let station = made::<N, _, _, _>(rt, alloc, blanks, 0, config(2), faults, Open);
     let mut caller = entered(rt, alloc, &station);
     assert!(rt; woken(rt, &mut caller, Awaited::Work, Act::Stop) == Wake::Stopped);
     drives_to_the_end(caller);

@@ -1,7 +1,6 @@
 //! Runs at the limits: the longest lists and queues, the most sessions and interfaces, long runs and their records.
-use super::support::{
-    Owned, Sockets, TWO_SESSIONS, TWO_STARTED, carries_out, joined, run, runs, times,
-};
+use super::support::{Owned, Sockets, TWO_SESSIONS, TWO_STARTED, carries_out, run, runs};
+use can_test_support::{joined, times};
 use std::alloc::Global;
 use std::fs;
 use std::test::Fail;

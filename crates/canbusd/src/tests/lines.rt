@@ -1,7 +1,8 @@
 //! Lines that are carried out, and the limits of lines and of the input.
 use super::support::{
-    Owned, Sockets, TWO_SESSIONS, TWO_STARTED, carries_out, joined, runs, runs_however_cut, times,
+    Owned, Sockets, TWO_SESSIONS, TWO_STARTED, carries_out, runs, runs_however_cut,
 };
+use can_test_support::{joined, times};
 use canbusd_serve::ServerRuntime;
 use std::alloc::Global;
 use std::fs;
@@ -317,10 +318,8 @@ fn tells_lines_that_are_too_long(rt: HostRuntime) -> Result<(), Fail> {
 
 /// What is reported of a line of which this much is shown.
 fn too_long(alloc: Global, place: &str, shown: &str) -> Result<String, Fail> {
-    joined(
-        alloc,
-        &[place, shown, "..\n  a line has at most 4096 bytes\n"],
-    )
+    let rest = "..\n  a line has at most 4096 bytes\n";
+    Ok(joined(alloc, &[place, shown, rest])?)
 }
 
 /// A line of session 1, and what is reported then, the errors and the status.

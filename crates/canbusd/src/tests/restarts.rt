@@ -1,6 +1,7 @@
 //! Interfaces that come back by themselves, and the records of such runs.
 use super::serving::{connect, has_shape, hears, say};
-use super::support::{Sockets, carries_out, ever, joined, run, runs, same, times};
+use super::support::{Sockets, carries_out, run, runs, same};
+use can_test_support::{attempts, ever, joined, times};
 use canbusd_serve::ServerRuntime;
 use std::alloc::Global;
 use std::io::Read;
@@ -12,16 +13,6 @@ const NOTHING: &[u8] = b"";
 
 /// Session 1 asks for the frames of bus off and of restarts, and sends a frame.
 const ONE_SENT: &str = "feed 1 < errmask 140 >< send 123 0 >\n";
-
-/// The attempts at 0.000001 to 0.000034.
-fn attempts(alloc: Global) -> Result<String, Fail> {
-    let mut lines = String::new(alloc);
-    for number in 1..35_u32 {
-        let line = format!(in alloc; "at 0.{number:06}\nattempt\n")?;
-        lines.push_str(&line)?;
-    }
-    Ok(lines)
-}
 
 /// What is written from the 32nd attempt on.
 const BACK_AGAIN: &str = "tried can0 0 destroyed - can0
@@ -42,9 +33,9 @@ const LEFT_OUT: &str = "canbusd: entry 37: wrong
 fn the_record_of_a_restart_is_audited(rt: HostRuntime) -> Result<(), Fail> {
     let _sockets: Sockets = None;
     let alloc = rt.alloc();
-    let script = ever(alloc, "global bit")?;
+    let script = ever(alloc, "global bit", 32)?;
     fs::write(&rt, "restarted.script", script.as_bytes())?;
-    let tried = attempts(alloc)?;
+    let tried = attempts(alloc, 34)?;
     let then = "drain 1\nfeed 1 < send 123 0 >\nattempt\n";
     let rest = joined(alloc, &[ONE_SENT, &tried, then])?;
     let told = times(alloc, "tried can0 0 destroyed - -\n", 31)?;
@@ -83,7 +74,7 @@ fn comes_back<R: Abort + ServerRuntime>(rt: &R, opens: &str) {
 fn each_bus_of_a_server_restarts(rt: HostRuntime) -> Result<(), Fail> {
     let _sockets: Sockets = None;
     let alloc = rt.alloc();
-    let script = ever(alloc, "global bit")?;
+    let script = ever(alloc, "global bit", 32)?;
     fs::write(&rt, "back.script", script.as_bytes())?;
     let line =
         "canbusd serve --auto-restart 5 --sessions 2 --listen ./back can0@back.script can1@back.script";

@@ -1,5 +1,6 @@
 //! Scripts that are followed, and those that are refused.
-use super::support::{Sockets, carries_out, ever, joined, runs, times};
+use super::support::{Sockets, carries_out, runs};
+use can_test_support::{ever, joined, times};
 use canbusd_serve::ServerRuntime;
 use std::alloc::Global;
 use std::fs;
@@ -17,7 +18,7 @@ fn goes_off(
     wanted: (&str, &str, &str),
 ) -> Result<(), Fail> {
     let (each, last, received) = wanted;
-    let script = ever(alloc, verdict)?;
+    let script = ever(alloc, verdict, 32)?;
     fs::write(rt, SCRIPT, script.as_bytes())?;
     let attempts = times(alloc, "attempt\n", 32)?;
     let sent = "feed 1 < send 123 0 >< send 124 0 >\n";

@@ -1,6 +1,6 @@
 //! Streams and files that fail.
 use super::support::{Sockets, run_over, runs, same};
-use can_test_streams::{Closed, Pieces};
+use can_test_support::{Closed, Pieces};
 use canbusd_audit::audit_lines;
 use canbusd_faults::Fault;
 use canbusd_files::{FewReads, read_text};

@@ -1,5 +1,6 @@
 //! A command line carried out over an input, and what it wrote.
 use crate::program::run_words;
+use can_test_support::joined;
 use canbusd_serve::ServerRuntime;
 use std::alloc::Global;
 use std::fmt::Debug;
@@ -116,37 +117,6 @@ pub fn runs<R: Read + Drop + Send + 'static>(
     same(rt, ended.errors.as_slice(), errors.as_bytes());
     same(rt, ended.status, status);
     Ok(())
-}
-
-/// The pieces, one after the other.
-pub fn joined(alloc: Global, pieces: &[&str]) -> Result<String, Fail> {
-    let mut text = String::new(alloc);
-    for piece in pieces {
-        text.push_str(piece)?;
-    }
-    Ok(text)
-}
-
-/// A text this many times.
-pub fn times(alloc: Global, text: &str, count: usize) -> Result<String, Fail> {
-    let mut all = String::new(alloc);
-    for _ in 0..count {
-        all.push_str(text)?;
-    }
-    Ok(all)
-}
-
-const NUMBERS: &str =
-    "0 1 2 3 4 5 6 7 8 9 10 11 12 13 14 15 16 17 18 19 20 21 22 23 24 25 26 27 28 29 30 31";
-
-/// The script that gives the attempts 0 to 31 this verdict.
-pub fn ever(alloc: Global, verdict: &str) -> Result<String, Fail> {
-    let mut script = String::new(alloc);
-    for number in NUMBERS.split(' ') {
-        let line = joined(alloc, &[number, " ", verdict, "\n"])?;
-        script.push_str(&line)?;
-    }
-    Ok(script)
 }
 
 pub const TWO_SESSIONS: &str =

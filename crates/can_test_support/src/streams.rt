@@ -1,6 +1,4 @@
-//! Readers and writers for tests: they fail, they give or take little at a time, or they count.
-#![tactic(auto)]
-
+//! Readers and writers that fail, that give or take little at a time, or that count.
 use std::alloc::Global;
 use std::io;
 use std::io::{ErrorKind, Read, Write};

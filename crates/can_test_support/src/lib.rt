@@ -1,0 +1,13 @@
+//! What the crates of tests share: values that are made in one call, texts that repeat, and streams that fail or give
+//! little.
+//!
+//! What ends a test where two values differ is in each of those crates, since only a test may end the process.
+#![tactic(auto)]
+
+mod streams;
+mod texts;
+mod values;
+
+pub use streams::{Closed, Output, Pieces};
+pub use texts::{DESTROYED, attempts, ever, joined, times};
+pub use values::{Unmade, config, fd_frame, frame, iface, script};

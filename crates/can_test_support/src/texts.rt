@@ -1,0 +1,57 @@
+//! Texts that are made of pieces.
+use std::alloc::{AllocError, Global};
+
+/// The pieces, one after the other.
+pub fn joined(alloc: Global, pieces: &[&str]) -> Result<String, AllocError> {
+    let mut text = String::new(alloc);
+    for piece in pieces {
+        text.push_str(piece)?;
+    }
+    Ok(text)
+}
+
+/// A text this many times.
+pub fn times(alloc: Global, text: &str, count: usize) -> Result<String, AllocError> {
+    let mut all = String::new(alloc);
+    for _ in 0..count {
+        all.push_str(text)?;
+    }
+    Ok(all)
+}
+
+/// Adds a number of at most two digits.
+fn put_digits(text: &mut String, number: u8) -> Result<(), AllocError> {
+    text.push(char::from(b'0' + number / 10 % 10))?;
+    text.push(char::from(b'0' + number % 10))
+}
+
+/// The script that gives this many attempts the same verdict, at most 99 of them.
+pub fn ever(alloc: Global, verdict: &str, count: u8) -> Result<String, AllocError> {
+    let mut script = String::new(alloc);
+    for number in 0..count {
+        put_digits(&mut script, number)?;
+        script.push(' ')?;
+        script.push_str(verdict)?;
+        script.push('\n')?;
+    }
+    Ok(script)
+}
+
+/// The lines of this many attempts of a bench, a microsecond after one another, from 0.000001 on: at most 99 of them.
+pub fn attempts(alloc: Global, count: u8) -> Result<String, AllocError> {
+    let mut lines = String::new(alloc);
+    for number in 0..count {
+        lines.push_str("at 0.0000")?;
+        put_digits(&mut lines, number.saturating_add(1))?;
+        lines.push_str("\nattempt\n")?;
+    }
+    Ok(lines)
+}
+
+/// The script of a bus whose first 32 attempts are destroyed, which takes an interface off that makes them all.
+pub const DESTROYED: &str = "\
+0 global bit\n1 global bit\n2 global bit\n3 global bit\n4 global bit\n5 global bit\n6 global bit\n7 global bit\n\
+8 global bit\n9 global bit\n10 global bit\n11 global bit\n12 global bit\n13 global bit\n14 global bit\n\
+15 global bit\n16 global bit\n17 global bit\n18 global bit\n19 global bit\n20 global bit\n21 global bit\n\
+22 global bit\n23 global bit\n24 global bit\n25 global bit\n26 global bit\n27 global bit\n28 global bit\n\
+29 global bit\n30 global bit\n31 global bit\n";
