@@ -3,3 +3,4 @@ pub mod Benches
 pub mod Settling
 pub mod PassSteps
 pub mod Guests
+pub mod Driving

@@ -8,7 +8,11 @@ use Rattle.can_event.specs.declared.events.Event.TheVariants as event
 use Rattle.can_event.specs.declared.events.Reply.{Reply}
 use Rattle.can_event.specs.declared.events.Reply.TheVariants as reply
 use Rattle.can_event.specs.declared.events.Refusal.TheVariants as refusal
+use Rattle.can_event.specs.declared.stats.SocketStats.{SocketStats}
+use Rattle.can_event.specs.declared.stats.IfaceStats.{IfaceStats}
 use Rattle.can_bus.specs.Answer.{done_reply, told_attempt}
+use Rattle.can_bus.specs.Journal.{Journal}
+use Rattle.can_bus.specs.Stats.{socket_stats_of, iface_stats_of}
 use Rattle.can_dialog.specs.declared.port.PortRefusal.{PortRefusal}
 use Rattle.can_dialog.specs.declared.port.PortRefusal.TheVariants as port
 use Rattle.can_dialog.specs.Calls.{Call}
@@ -102,6 +106,16 @@ abbrev pub TellsCounters : Option EnteredSeen → ℕ → ErrorCounts → Option
 TellsCounters None iface answer new = (answer ≡ at_start) × (new ≡ None)
 TellsCounters (Some old) iface answer new = (gauge : Readings) × GaugeTells old.gauge iface answer gauge × (new ≡ Some (record old { gauge = gauge }))
 
+-- a socket's counts in some state of the bus that was entered; where none was, it is not open
+abbrev pub CountsSocket : Option EnteredSeen → ℕ → Option SocketStats → Type 0
+CountsSocket None socket answer = answer ≡ None
+CountsSocket (Some e) socket answer = (bus : Journal) × (answer ≡ socket_stats_of bus.config bus.history socket)
+
+-- an interface's counts in some state of the bus that was entered; where none was, there is no such interface
+abbrev pub CountsIface : Option EnteredSeen → ℕ → Option IfaceStats → Type 0
+CountsIface None iface answer = answer ≡ None
+CountsIface (Some e) iface answer = (bus : Journal) × (answer ≡ iface_stats_of bus.config bus.history iface)
+
 -- a call on a port over a pass
 abbrev pub PassStep : PortSeen → (call : Call) → CallReply call → PortSeen → Type 0
 PassStep old (Attach name) answer new = Attaches old name answer new
@@ -113,6 +127,6 @@ PassStep old (Send socket frame) answer new = OnPort reply.Sent old (event.Send 
 PassStep old (Receive socket) answer new = OnPort reply.Received old (event.Receive socket) answer new
 PassStep old (Restart iface moment) answer new = OnPort done_reply old (event.Restart iface moment) answer new
 PassStep old (Attempt moment verdict) answer new = OnPort told_attempt old (event.Attempt moment verdict) answer new
-PassStep old (CountsOfSocket socket) answer new = new ≡ old
-PassStep old (CountsOfIface iface) answer new = new ≡ old
+PassStep old (CountsOfSocket socket) answer new = CountsSocket old.entered socket.0 answer × (new ≡ old)
+PassStep old (CountsOfIface iface) answer new = CountsIface old.entered iface answer × (new ≡ old)
 PassStep old (CountersOfIface iface) answer new = TellsCounters old.entered iface answer new.entered × (new.buses ≡ old.buses)

@@ -1,3 +1,6 @@
+ghost use Rattle.std.specs.Prelude.{◌≡◌};
+ghost use Rattle.can_server.specs.Driving.{off_in, restarted_in};
+
 use crate::notices::Notice;
 use crate::server::Server;
 use crate::serving::Clock;
@@ -100,7 +103,7 @@ impl<
             let Ok(attempt) = hold.step(self.alloc, pass, self.host.now()) else {
                 return Stepped::Refused;
             };
-            changes.note(&attempt);
+            *changes = Changes::of(&attempt);
             if changes.are_some() {
                 break;
             }
@@ -137,6 +140,7 @@ struct Changes {
 }
 
 impl Changes {
+    /// Of no attempt.
     fn none() -> Changes {
         Changes {
             off: IfaceSet::empty(),
@@ -148,13 +152,20 @@ impl Changes {
         !self.off.is_empty() || !self.restarted.is_empty()
     }
 
-    fn note(&mut self, attempt: &Attempt) {
+    /// Of this attempt.
+    fn of(attempt: &Attempt) -> Changes
+        ensures off { result.off ≡ off_in attempt.now }
+        ensures restarted { result.restarted ≡ restarted_in attempt.now }
+    {
         match attempt {
-            Attempt::Idle { restarted } => self.restarted.0 |= restarted.0,
-            Attempt::Tried(tried) => {
-                self.off.0 |= tried.off.0;
-                self.restarted.0 |= tried.restarted.0;
-            }
+            Attempt::Idle { restarted } => Changes {
+                off: IfaceSet::empty(),
+                restarted: *restarted,
+            },
+            Attempt::Tried(tried) => Changes {
+                off: tried.off,
+                restarted: tried.restarted,
+            },
         }
     }
 }

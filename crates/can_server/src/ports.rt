@@ -188,13 +188,14 @@ impl<'a, N: RollName + MeterName, F: FaultSource + Drop, G: Gate + Drop, R: Wait
     }
 
     fn socket_stats(&mut self, socket: SocketId) -> Option<SocketStats> {
-        let station = self.station()?;
-        station.stats(self.rt, socket, Iface::new(0)?).0
+        let first = Iface::new(0).unwrap();
+        let entered = self.entered.as_ref()?;
+        entered.station.stats(self.rt, socket, first).0
     }
 
     fn iface_stats(&mut self, iface: Iface) -> Option<IfaceStats> {
-        let station = self.station()?;
-        station.stats(self.rt, SocketId(0), iface).1
+        let entered = self.entered.as_ref()?;
+        entered.station.stats(self.rt, SocketId(0), iface).1
     }
 
     fn status(&mut self, iface: Iface) -> Counters {

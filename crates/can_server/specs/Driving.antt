@@ -1,0 +1,16 @@
+use Rattle.can_frame.specs.Sets.{no_ifaces}
+use Rattle.can_frame.specs.declared.ifaces.IfaceSet.{IfaceSet}
+use Rattle.can_event.specs.declared.events.Attempt.{Attempt}
+use Rattle.can_event.specs.declared.events.Attempt.TheVariants as attempt
+
+-- What a driver sees change in an attempt (own choice).
+
+-- the interfaces that went bus off
+abbrev pub off_in : Attempt → IfaceSet
+off_in (attempt.Idle restarted) = no_ifaces
+off_in (attempt.Tried tried) = tried.off
+
+-- the interfaces that were restarted at its end
+abbrev pub restarted_in : Attempt → IfaceSet
+restarted_in (attempt.Idle restarted) = restarted
+restarted_in (attempt.Tried tried) = tried.restarted
