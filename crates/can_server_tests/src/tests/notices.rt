@@ -113,7 +113,10 @@ fn told<N: RollName + MeterName + Send + Sync, R: Machine>(
 #[test]
 fn a_host_is_told_of_sessions_and_of_bus_off(rt: HostRuntime) {
     let alloc = rt.alloc();
-    let (names, faults) = (names(&rt, alloc, "can0,can1"), script(&rt, alloc, DESTROYED));
+    let (names, faults) = (
+        names(&rt, alloc, "can0,can1"),
+        script(&rt, alloc, DESTROYED),
+    );
     let benches = one(&rt, alloc, held_bench(&rt, alloc, names, faults, Open));
     told::<Brand, _>(&rt, alloc, benches, Entrance::new(&rt, 2));
 }
