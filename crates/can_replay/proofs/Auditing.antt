@@ -89,23 +89,9 @@ blamed c es k e bus r t other =
 
 -- an entry of a record enters a history
 entered : (v : Event) (r : Reply) (past : List Entry) → FitsReply v r → history_after v r past ≡ record { event = v; reply = r } ∷ past
-entered v (reply.Refused refusal.RecordFull) past fits = absurd fits
-entered v (reply.Refused refusal.NoMemory) past fits = absurd fits
-entered v (reply.Refused refusal.NoInterface) past fits = refl
-entered v (reply.Refused refusal.BadCapacity) past fits = refl
-entered v (reply.Refused refusal.TooManySockets) past fits = refl
-entered v (reply.Refused refusal.NoSocket) past fits = refl
-entered v (reply.Refused refusal.FdOff) past fits = refl
-entered v (reply.Refused refusal.BusOff) past fits = refl
-entered v (reply.Refused refusal.NoBuffers) past fits = refl
-entered v (reply.Refused refusal.NotBusOff) past fits = refl
-entered v (reply.Opened s) past fits = refl
-entered v (reply.Closed n) past fits = refl
-entered v reply.Done past fits = refl
-entered v (reply.Sent n) past fits = refl
-entered v (reply.Received x) past fits = refl
-entered v (reply.Idle set) past fits = refl
-entered v (reply.Tried t) past fits = refl
+entered v (reply.Refused refusal.RecordFull) past fits = absurd (cc (fits))
+entered v (reply.Refused refusal.NoMemory) past fits = absurd (cc (fits))
+entered v r past fits = refl
 
 -- the bus answers as the entry says
 pub replayed_more : (es : List Entry) (k : ℕ) (e : Entry) (bus after : Lean) (r : Reply) → k < length es → e ≡ get_or es k e → FitsReply e.event e.reply → r ≡ e.reply → Stands bus (before es k)
