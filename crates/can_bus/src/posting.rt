@@ -39,7 +39,7 @@ fn post_error<R: BoundedQueue<Received>>(
     }
 }
 
-/// Puts the frame that was tried, which waited so, to a socket.
+/// Puts the frame that was tried to a socket; `pending` is the frame as it waited.
 fn post_frame<R: BoundedQueue<Received>>(
     socket: &mut Socket<R>,
     tried: &Tried,
@@ -55,7 +55,7 @@ fn post_frame<R: BoundedQueue<Received>>(
     }
 }
 
-/// Puts the frame that was tried, which waited so, to every socket that is to have it.
+/// Puts the frame that was tried to every socket that is to have it; `pending` is the frame as it waited.
 fn tell_frame<R: BoundedQueue<Received>>(
     sockets: &mut [Socket<R>],
     tried: &Tried,
@@ -70,7 +70,8 @@ fn tell_frame<R: BoundedQueue<Received>>(
     }
 }
 
-/// Tells one socket what went wrong in an attempt, where its interface is among these, and of a change of state.
+/// Puts to a socket the error message frames of an attempt: of its fault, where the socket's interface is reporting,
+/// and of a change of state.
 fn tell_faults_to<R: BoundedQueue<Received>>(
     socket: &mut Socket<R>,
     attempted: &Attempted,
@@ -87,7 +88,7 @@ fn tell_faults_to<R: BoundedQueue<Received>>(
     post_error(socket, moment, attempted.state_change_at(iface));
 }
 
-/// Tells every socket what went wrong in an attempt, where its interface is among these, and of a change of state.
+/// Puts the error message frames of an attempt to every socket.
 fn tell_faults<R: BoundedQueue<Received>>(
     sockets: &mut [Socket<R>],
     attempted: &Attempted,
@@ -101,7 +102,7 @@ fn tell_faults<R: BoundedQueue<Received>>(
     }
 }
 
-/// Tells every socket what went wrong in an attempt that was judged so.
+/// Puts the error message frames of an attempt with this judgement to every socket.
 #[inline(never)]
 fn tell_judged<R: BoundedQueue<Received>>(
     sockets: &mut [Socket<R>],
@@ -119,8 +120,7 @@ fn tell_judged<R: BoundedQueue<Received>>(
     tell_faults(sockets, &attempted, config.reporting);
 }
 
-/// Whether an attempt that came to this finds all counts 0, and leaves them so: the frame went over the bus without a
-/// fault.
+/// Whether an attempt of this class was without a fault and found all counts 0, so that it leaves them 0.
 fn is_calm(nodes: &Nodes, verdict: Verdict, class: Class) -> bool
     ensures class { IsTrue result → class ≡ Done }
     ensures verdict { IsTrue result → verdict ≡ Good }
@@ -129,7 +129,7 @@ fn is_calm(nodes: &Nodes, verdict: Verdict, class: Class) -> bool
     matches!(class, Class::Done) && matches!(verdict, Verdict::Good) && nodes.are_at_start()
 }
 
-/// Tells every socket of an attempt under these faults, where the interfaces were so before it, and which was judged so.
+/// Puts all items of an attempt with this judgement to every socket; `nodes` are the interfaces before it.
 pub fn tell_attempt<R: BoundedQueue<Received>>(
     sockets: &mut [Socket<R>],
     nodes: &Nodes,

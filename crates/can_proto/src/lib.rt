@@ -31,6 +31,6 @@ pub use answers::{Answer, Cause};
 pub use commands::{Command, Mode, WantedName};
 pub use faults::ProtoFault;
 pub use messages::{Incoming, Message};
-pub use spelling::{item_text, refusal_text, reply_text};
+pub use spelling::{item_text, push_item, refusal_text, reply_text};
 pub use stream::Reader;
 pub use texts::{ItemText, Text};

@@ -1,4 +1,4 @@
-ghost use Rattle.std.specs.Prelude.{◌≡◌, ◌≤◌, ◌<◌, ◌+◌, ◌^◌, ◌++◌, length, true, codes};
+ghost use Rattle.std.specs.Prelude.{◌≡◌, ◌≤◌, ◌<◌, ◌+◌, ◌^◌, ◌++◌, [], length, true, codes};
 ghost use Rattle.std.specs.Fmt.{decimal};
 ghost use Rattle.can_frame.specs.Frames.{is_remote, payload_bytes};
 ghost use Rattle.can_frame.specs.FrameText.{id_text, pairs};
@@ -19,19 +19,28 @@ pub fn item_text(item: Item, moment: Moment, errdata: bool) -> ItemText
     ensures short { length result ≤ 167 }
 {
     let mut text = ItemText::new();
+    push_item(&mut text, &item, moment, errdata);
+    text
+}
+
+/// Puts what `item_text` says of an item into an empty text.
+pub fn push_item(text: &mut ItemText, item: &Item, moment: Moment, errdata: bool)
+    requires { text.old ≡ [] }
+    ensures text { text.new ≡ item_text errdata item.now moment }
+    ensures short { length text.new ≤ 167 }
+{
     match item {
         Item::Data(frame) => {
             if frame.is_remote() {
-                push_remote(&mut text, &frame, moment);
+                push_remote(text, frame, moment);
             } else if frame.is_fd() {
-                push_fd(&mut text, &frame, moment);
+                push_fd(text, frame, moment);
             } else {
-                push_classic(&mut text, &frame, moment);
+                push_classic(text, frame, moment);
             }
         }
-        Item::Error(error) => push_error(&mut text, error, moment, errdata),
+        Item::Error(error) => push_error(text, *error, moment, errdata),
     }
-    text
 }
 
 /// The text of a reply.
