@@ -8,7 +8,7 @@ use crate::output::put;
 use crate::port::Port;
 use crate::stages::Stage;
 use can_bus::Received;
-use can_proto::{Cause, item_text, refusal_text};
+use can_proto::{Cause, ItemText, push_item, refusal_text};
 use std::io::Write;
 
 /// What one receive gives a client.
@@ -41,7 +41,8 @@ impl Delivery {
         match self {
             Delivery::Nothing => true,
             Delivery::Item(received, errdata) => {
-                let text = item_text(received.item, received.moment, *errdata);
+                let mut text = ItemText::new();
+                push_item(&mut text, &received.item, received.moment, *errdata);
                 put(out, text.as_bytes())
             }
             Delivery::Refused(cause) => {
