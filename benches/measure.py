@@ -39,7 +39,7 @@ def quickest(program, words, path, out, runs):
 
 
 def write_workload(name, rounds, path):
-    """Writes the input, in a process of its own so that this one stays small. Answers its words."""
+    """Writes the input, in a process of its own so that this one stays small. Returns its words."""
     with open(path, "wb") as file:
         made = subprocess.run([sys.executable, os.path.join(ROOT, "benches/workloads.py"), name, "--rounds", str(rounds)],
                               stdout=file, stderr=subprocess.PIPE, text=True, check=True)

@@ -193,7 +193,7 @@ def test_bytes_of_the_example(tried):
 
 @pytest.mark.slow
 def test_bytes_of_a_record_with_a_restart(tried):
-    """the same of version 2"""
+    """the same for version 2"""
     data = restarted()
     assert audit(data) == "ok 42 entries", f"the record: {audit(data)}"
     # The attempts before it went off are all alike.
@@ -203,7 +203,7 @@ def test_bytes_of_a_record_with_a_restart(tried):
 
 @pytest.mark.slow
 def test_bytes_of_a_record_with_fd_frames(tried):
-    """the same of version 3"""
+    """the same for version 3"""
     assert audit(with_fd()) == "ok 15 entries", f"the record: {audit(with_fd())}"
     change_bytes(tried, with_fd())
 

@@ -269,7 +269,7 @@ def test_four_thousand_sessions():
 
 
 def visit(server, count):
-    """So many sessions from 8 threads, every other one in raw mode."""
+    """This many sessions from 8 threads, every other one in raw mode."""
     failed = []
 
     def come(first):

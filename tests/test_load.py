@@ -104,7 +104,7 @@ class Client:
             self.last[sender] = number
 
     def burst(self, count):
-        """So many commands that send the next frames."""
+        """This many commands that send the next frames."""
         first = self.first + self.sent + self.refused
         numbers = range(first, first + count)
         start = f"< send {identifier(self.place):X} 5 {self.place:x} "

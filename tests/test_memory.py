@@ -144,7 +144,7 @@ class Bench:
         return done.stdout, self.written(), done.returncode, done.stderr
 
     def refuses(self, command):
-        """What it does where the command does nothing and is answered with the words of refused memory."""
+        """What it does where the command does nothing and the reply is the words of refused memory."""
         begin, end = command
         output, *others = self.runs(self.text[:begin] + UNKNOWN + self.text[end:])
         return output.replace(TELLS_UNKNOWN, TELLS_NO_MEMORY), *others

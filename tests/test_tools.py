@@ -31,7 +31,7 @@ def numbers_asked(written, sessions):
 
 
 def numbers_replayed(run):
-    """The same of each socket that is open at the end of a replay."""
+    """The same for each socket that is open at the end of a replay."""
     for socket in run.sockets:
         if socket.closed_after is None:
             iface = run.ifaces[socket.iface]

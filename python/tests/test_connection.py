@@ -15,7 +15,7 @@ from canbusd.server import Server
 
 
 class Played:
-    """A server of one session on a Unix path, which answers each message as `answer` says."""
+    """A server of one session on a Unix path, which replies to each message as `answers` says."""
 
     def __init__(self, path, greeting=b"< hi >", cut=False):
         self.address, self._greeting, self._cut = str(path), greeting, cut

@@ -51,7 +51,7 @@ steps_behind others ranks new at behind rank next inside put is =
     is ∙ (ap (λ (r : List ℕ). slice_set (slice_set r at (get_or r behind 0)) behind rank) put
     ∙ subst (λ (n : ℕ). slice_set (slice_set (insert others at rank) at (get_or (insert others at rank) n 0)) n rank ≡ insert others n rank) next (put_behind others at rank inside))
 
--- what stands next to the rank
+-- what is next to the rank
 next_before : (others ranks : List ℕ) (at rank : ℕ) → 0 < at → at ≤ length others → ranks ≡ insert others at rank → get_or ranks (at - 1) 0 ≡ get_or others (at - 1) 0
 next_before others ranks at rank after inside put = ap (λ (r : List ℕ). get_or r (at - 1) 0) put ∙ get_or-insert_below others at rank 0 (at - 1) (omega arith) inside
 

@@ -27,7 +27,7 @@ keys_in-from : (ranks : List ℕ) (keys : List (Option ℕ)) → length keys ≡
 unfolding keys_in
 keys_in-from ranks keys long each = sym (fill_by_all (key_in ranks) keys 16 None long each)
 
--- two rows that differ in interface n alone
+-- two rows that differ only in interface n
 pub keys_in-set : (old new : List ℕ) (n : ℕ) (held : Option ℕ) → n < 16 → key_in new n ≡ held → ((i : ℕ) → i ≢ n → key_in new i ≡ key_in old i) → keys_in new ≡ slice_set (keys_in old) n held
 keys_in-set old new n held inside at others =
     keys_in-from new (slice_set (keys_in old) n held) (length-set (keys_in old) n held ∙ length-keys_in old) each
@@ -174,7 +174,7 @@ at_most_16 ranks ordered = pigeonhole (length ranks) 16 number (λ i inside. ome
 
 -- ---- who goes first
 
--- the rank behind a key
+-- the rank of a key
 rank_of : (ranks : List ℕ) (i key : ℕ) → key_in ranks i ≡ Some key → (k : ℕ) × (k < length ranks) × (get_or ranks k 0 % 16 ≡ i) × (get_or ranks k 0 / 16 ≡ key)
 rank_of [] i key held = absurd (cc)
 rank_of (rank ∷ ranks) i key held = elim (cases_eq (rank % 16) i) [
@@ -241,7 +241,7 @@ clears old new n inside is =
 pub keeps_order : (old new : List ℕ) (n : ℕ) → new ≡ filter (is_others n) old → AllPairs GoesBefore old → AllPairs GoesBefore new
 keeps_order old new n is ordered = subst (AllPairs GoesBefore) (sym is) (AllPairs-filter GoesBefore (is_others n) old ordered)
 
--- ---- what `winner` answers by the first place
+-- ---- what `winner` returns by the first place
 
 not_idle_at : (ranked : List ℕ) (first : ℕ) → slice_get ranked 0 ≡ Some first → IsIdle (keys_in ranked) → ⊥
 not_idle_at [] first is idle = absurd (cc)

@@ -4,7 +4,7 @@ use Rattle.std.specs.Option.{option_map}
 use Rattle.can_frame.specs.Frames.{CanFrame}
 use Rattle.can_frame.specs.Arbitration.{arbitration_bits, Outranks, key_of}
 
--- The frames that stand at the heads of the interfaces' queues: place i of the list is interface i's.
+-- The frames at the heads of the interfaces' queues: place i of the list is interface i's.
 
 -- their keys
 abbrev pub keys_of_heads : List (Option CanFrame) → List (Option ℕ)

@@ -3,7 +3,7 @@ use Rattle.std.specs.List.{range_with_len, insert}
 use mathlib.Core.Path.{refl}
 
 -- The ranks of the interfaces that hold a key: a rank is the key times 16 plus the interface's number. What a
--- row of ranks stands for; nothing that a caller of an arbiter has to know.
+-- row of ranks means; nothing that a caller of an arbiter has to know.
 
 -- the key that interface i has in this row
 abbrev pub key_in : List ℕ → ℕ → Option ℕ
@@ -19,7 +19,7 @@ pub length-keys_in : (ranks : List ℕ) → length (keys_in ranks) ≡ 16
 unfolding keys_in
 length-keys_in ranks = refl
 
--- these are the others with this rank put among them, behind those that are less and before those that are not
+-- these are the others with this rank put among them, after those that are less and before those that are not
 abbrev pub IsPutAmong : List ℕ → ℕ → List ℕ → Type 0
 IsPutAmong others rank ranks = (place : ℕ) × (place ≤ length others) × (ranks ≡ insert others place rank)
     × ((k d : ℕ) → k < place → slice_index_or others k d < rank) × ((k d : ℕ) → place ≤ k → k < length others → rank ≤ slice_index_or others k d)

@@ -9,7 +9,7 @@ use can_frame::Iface;
 
 /// An arbiter that keeps the interfaces that hold a key in a row, in the order in which they go: who is
 /// first is read and not looked for, and `set` and `clear` move at most 15 of them. A rank in the row is moved
-/// from where it stands.
+/// from its place.
 #[derive(Debug, Drop)]
 pub struct IndexArbiter {
     // The rank of each interface that holds a key.

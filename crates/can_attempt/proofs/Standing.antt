@@ -25,7 +25,7 @@ other_bit true b n i other =
     bit_at_or b (2 ^ n) i ∙ rw none (omega arith)
 
 -- the bits below n are those of the places that pass
-bit_at-bits_where : (p : ℕ → Bool) (n i : ℕ) → bit_at (bits_where p n) i ≡ (if nat_lt i n && p i then 1 else 0)
+pub bit_at-bits_where : (p : ℕ → Bool) (n i : ℕ) → bit_at (bits_where p n) i ≡ (if nat_lt i n && p i then 1 else 0)
 bit_at-bits_where p zero i =
     let past : nat_lt i 0 ≡ false = grind arith in
     bit_at_above 0 0 i (omega arith) (omega arith) ∙ rw past refl

@@ -1,5 +1,6 @@
-ghost use Rattle.std.specs.Prelude.{◌≡◌, ◌<◌, ◌≤◌, ◌||◌, [], ◌∷◌, map, false, if◌then◌else◌, All, IsTrue};
+ghost use Rattle.std.specs.Prelude.{◌≡◌, ◌==◌, ◌<◌, ◌≤◌, ◌||◌, [], ◌∷◌, map, false, not, nat_lt, if◌then◌else◌, All, IsTrue};
 ghost use Rattle.std.specs.List.{range_with_len};
+ghost use Rattle.can_frame.specs.Sets.{set_where};
 ghost use Rattle.can_confine.specs.Confinement.{all_stepped, at_start, is_off, state_of};
 ghost use Rattle.can_attempt.specs.Attempts.{Transmission, accepted_in, attempt_between, class_when, counts_in, counts_at, is_always, is_global, is_last_bit, judged, set_of, unhurt, winner_step, receiver_step};
 ghost use Rattle.can_attempt.specs.declared.acks.AckMode.{AckMode};
@@ -77,20 +78,8 @@ fn counters_after(
     }
 }
 
-/// Whether all counts are 0, as on a bus without faults. There is no branch for each interface.
-fn all_at_start(counters: &[Counters; 16]) -> bool
-    ensures { IsTrue result → All (λ c. c ≡ at_start) counters.now }
-{
-    let mut all = true;
-    for one in counters {
-        all &= *one == Counters::zero();
-    }
-    all
-}
-
-/// All counters after an attempt of this class, looked at one by one: those of interfaces that are not there
-/// stay.
-fn each_counters_after(
+/// All counters after an attempt of this class: those of interfaces that are not there stay.
+fn all_counters_after(
     nodes: &Nodes,
     winner: Iface,
     verdict: Verdict,
@@ -107,37 +96,6 @@ fn each_counters_after(
         counters[place as usize] = counters_after(nodes, winner, verdict, class, iface);
     }
     counters
-}
-
-/// Whether an attempt of this class finds all counts 0, and leaves them so: the frame went over the bus
-/// without a fault.
-fn is_calm(nodes: &Nodes, verdict: Verdict, class: Class) -> bool
-    ensures class { IsTrue result → class ≡ Done }
-    ensures verdict { IsTrue result → verdict ≡ Good }
-    ensures counters { IsTrue result → All (λ c. c ≡ at_start) nodes.now.counters }
-{
-    matches!(class, Class::Done)
-        && matches!(verdict, Verdict::Good)
-        && all_at_start(&nodes.counters)
-}
-
-/// All counters after an attempt of this class: most often they are all 0, and stay so.
-fn all_counters_after(
-    nodes: &Nodes,
-    winner: Iface,
-    verdict: Verdict,
-    class: Class,
-) -> [Counters; 16]
-    requires count { nodes.now.count ≤ 16 }
-    requires winner { winner < nodes.now.count }
-    requires live { (counts_at nodes.now winner).tec < 256 }
-    ensures { (a : AckMode) → result ≡ map (counts_in class (attempt_between nodes.now winner verdict a)) (range_with_len 0 16) }
-{
-    if is_calm(nodes, verdict, class) {
-        nodes.counters
-    } else {
-        each_counters_after(nodes, winner, verdict, class)
-    }
 }
 
 /// The receivers that accept the frame in an attempt of this class, of those that got every bit right.
@@ -161,10 +119,46 @@ fn off_of(winner: Iface, counters: Counters) -> IfaceSet
     }
 }
 
-/// Judges an attempt of the winner to send a frame: what becomes of it, who accepts it and who was hit, the
-/// error counters after it, and whether the winner went off the bus. The winner is below `count`, which is
-/// 1 to 16, and is not bus off. It looks at each interface three times at most and takes no memory.
-pub fn judge(nodes: &Nodes, winner: Iface, verdict: Verdict, ack: AckMode) -> Judgement
+/// Whether nothing can go wrong: no fault, somebody who acknowledges, and all counts 0.
+fn is_calm(nodes: &Nodes, verdict: Verdict, ack: AckMode) -> bool
+    ensures verdict { IsTrue result → verdict ≡ Good }
+    ensures acknowledged { IsTrue result → IsTrue (is_always ack || nat_lt 1 nodes.now.count) }
+    ensures counters { IsTrue result → All (λ c. c ≡ at_start) nodes.now.counters }
+{
+    matches!(verdict, Verdict::Good)
+        && (ack == AckMode::Always || nodes.count > 1)
+        && nodes.are_at_start()
+}
+
+/// All interfaces of a bus but one.
+fn others(count: u8, one: Iface) -> IfaceSet
+    requires count { count ≤ 16 }
+    requires there { one < count }
+    ensures { result ≡ set_where (λ i. not (i == one)) count }
+{
+    let all = u16::MAX >> (16 - count);
+    IfaceSet(all ^ (1 << one.number()))
+}
+
+/// What follows where nothing can go wrong: the others accept the frame, and all counts stay.
+fn judge_calm(nodes: &Nodes, winner: Iface) -> Judgement
+    requires count { nodes.now.count ≤ 16 }
+    requires there { winner < nodes.now.count }
+    requires calm { All (λ c. c ≡ at_start) nodes.now.counters }
+    ensures { (a : AckMode) → IsTrue (is_always a || nat_lt 1 nodes.now.count) → result ≡ judged (attempt_between nodes.now winner Good a) }
+{
+    Judgement {
+        class: Class::Done,
+        accepted: others(nodes.count, winner),
+        hit: IfaceSet::empty(),
+        counters: nodes.counters,
+        off: IfaceSet::empty(),
+    }
+}
+
+/// What follows where each interface has to be looked at.
+#[inline(never)]
+fn judge_each(nodes: &Nodes, winner: Iface, verdict: Verdict, ack: AckMode) -> Judgement
     requires count { nodes.now.count ≤ 16 }
     requires there { winner < nodes.now.count }
     requires live { is_off (state_of (counts_at nodes.now winner)) ≡ false }
@@ -179,5 +173,21 @@ pub fn judge(nodes: &Nodes, winner: Iface, verdict: Verdict, ack: AckMode) -> Ju
         hit: seen.hit,
         counters,
         off: off_of(winner, counters[winner.number() as usize]),
+    }
+}
+
+/// Judges an attempt of the winner to send a frame: what becomes of it, who accepts it and who was hit, the
+/// error counters after it, and whether the winner went off the bus. The winner is below `count`, which is
+/// 1 to 16, and is not bus off. It looks at each interface three times at most and takes no memory.
+pub fn judge(nodes: &Nodes, winner: Iface, verdict: Verdict, ack: AckMode) -> Judgement
+    requires count { nodes.now.count ≤ 16 }
+    requires there { winner < nodes.now.count }
+    requires live { is_off (state_of (counts_at nodes.now winner)) ≡ false }
+    ensures { result ≡ judged (attempt_between nodes.now winner verdict ack) }
+{
+    if is_calm(nodes, verdict, ack) {
+        judge_calm(nodes, winner)
+    } else {
+        judge_each(nodes, winner, verdict, ack)
     }
 }

@@ -12,8 +12,8 @@ pub struct Nodes {
 }
 
 impl Nodes {
-    ghost use Rattle.std.specs.Prelude.{◌≡◌};
-    ghost use Rattle.can_confine.specs.Confinement.{is_off, state_of};
+    ghost use Rattle.std.specs.Prelude.{◌≡◌, All, IsTrue};
+    ghost use Rattle.can_confine.specs.Confinement.{at_start, is_off, state_of};
     ghost use Rattle.can_attempt.specs.Attempts.{counts_at};
 
     /// The error counters of an interface.
@@ -28,5 +28,16 @@ impl Nodes {
         ensures { result ≡ is_off (state_of (counts_at self.now iface)) }
     {
         self.counters_of(iface).state().is_off()
+    }
+
+    /// Whether all counts are 0, as on a bus without faults. There is no branch for each interface.
+    pub fn are_at_start(&self) -> bool
+        ensures { IsTrue result → All (λ c. c ≡ at_start) self.now.counters }
+    {
+        let mut all = true;
+        for one in &self.counters {
+            all &= *one == Counters::zero();
+        }
+        all
     }
 }

@@ -8,12 +8,12 @@ use Rattle.can_event.specs.declared.events.Reply.{Reply}
 use Rattle.can_event.specs.declared.events.Reply.TheVariants as reply
 use Rattle.can_event.specs.declared.events.Refusal.TheVariants as refusal
 use Rattle.can_event.specs.declared.events.SocketId.{SocketId}
-use Rattle.can_event.specs.Replies.{Enters, Suits}
+use Rattle.can_event.specs.Replies.{Enters}
 use Rattle.can_event.specs.Spelled.{IsSpelled}
 use Rattle.can_bus.specs.Journal.{Journal, Kept}
 use Rattle.can_bus.specs.Lean.{Carries, IsReady, record_of}
 use Rattle.can_bus.specs.Legal.{legal_reply}
-use Rattle.can_bus.specs.Run.{IsAnswer, history_after}
+use Rattle.can_bus.specs.Run.{IsAnswer, IsAnswered, history_after}
 use Rattle.can_bus.specs.State.{Parts, kept_parts, IsKept, IsLonger}
 use Rattle.can_bus.proofs.Fitting.{legal_has_line, answer_suits}
 use Rattle.can_bus.proofs.Keeping.{kept_more, noted}
@@ -25,8 +25,8 @@ use Rattle.can_bus.proofs.Narrow.{SetsFilters}
 
 -- a reply that enters the record is the legal one, and there was room for it
 pub entered_is_legal : (c : BusConfig) (past : List Entry) (e : Event) (r : Reply) → IsAnswer c past e r → Enters r → (length past < c.limit) × (r ≡ legal_reply c past e)
-entered_is_legal c past e (reply.Refused refusal.RecordFull) answer enters = absurd enters
-entered_is_legal c past e (reply.Refused refusal.NoMemory) answer enters = absurd enters
+entered_is_legal c past e (reply.Refused refusal.RecordFull) answer enters = absurd (cc (enters))
+entered_is_legal c past e (reply.Refused refusal.NoMemory) answer enters = absurd (cc (enters))
 entered_is_legal c past e r answer enters = answer
 
 -- an answer that enters the record has a line
@@ -35,8 +35,8 @@ answer_is_spelled c past e r answer enters = legal_has_line c past e r (entered_
 
 -- and is noted
 pub history-entered : (e : Event) (r : Reply) (past : List Entry) → Enters r → history_after e r past ≡ record { event = e; reply = r } ∷ past
-history-entered e (reply.Refused refusal.RecordFull) past enters = absurd enters
-history-entered e (reply.Refused refusal.NoMemory) past enters = absurd enters
+history-entered e (reply.Refused refusal.RecordFull) past enters = absurd (cc (enters))
+history-entered e (reply.Refused refusal.NoMemory) past enters = absurd (cc (enters))
 history-entered e r past enters = refl
 
 -- ---- the parts and the record
@@ -59,25 +59,25 @@ carries {j} {parts} {new} {c} {e} {called} {r} kept room same is all =
     subst (λ (x : Event). Carries j.config j.history x r new) is ((subst (λ (k : BusConfig). CarriesAll k parts called r new) same all) j.history (of_history j parts kept) room)
 
 -- an event that a bus answered: what is kept, and what that says of its history
-pub record IsAnswered (before : Journal) (e : Event) (r : Reply) (new : Kept) (parts : Parts) : Type 0 where
+pub record KeepsAnswer (before : Journal) (e : Event) (r : Reply) (new : Kept) (parts : Parts) : Type 0 where
   pub kept : IsKept new parts
-  pub answer : IsAnswer before.config before.history e r
-  pub after : ◌≡◌ {A = Journal} (record { config = new.config; history = new.history }) (record before { history = history_after e r before.history })
-  pub suits : Suits e r
+  pub answered : IsAnswered before e r (record { config = new.config; history = new.history })
 
 -- the record has an entry more
 pub entered : {j new : Kept} {before : Journal} {parts parts' : Parts} {e : Event} {r : Reply}
     → ◌≡◌ {A = Journal} (record { config = j.config; history = j.history }) before → IsKept j parts
-    → Carries j.config j.history e r parts' → Enters r → IsLonger j (record { event = e; reply = r }) new → IsAnswered before e r new parts'
+    → Carries j.config j.history e r parts' → Enters r → IsLonger j (record { event = e; reply = r }) new → KeepsAnswer before e r new parts'
 entered {j} {new} {before} {parts} {parts'} {e} {r} view kept carries enters longer =
     let here : Entry = record { event = e; reply = r } in
     let legal = entered_is_legal j.config j.history e r carries.answer enters in
     let is_noted = noted j new before here view longer legal.0 legal.1 in
     record {
       kept = kept_more j new here parts parts' kept longer legal.0 (record { lawful = legal.1; after = carries.after.of_parts ∙ ap (kept_parts j.config) (history-entered e r j.history enters) });
-      answer = subst (λ (b : Journal). IsAnswer b.config b.history e r) view carries.answer;
-      after = is_noted.new_is ∙ ap (λ (h : List Entry). record before { history = h }) (sym (history-entered e r before.history enters));
-      suits = answer_suits j.config j.history e r carries.answer;
+      answered = record {
+        answer = subst (λ (b : Journal). IsAnswer b.config b.history e r) view carries.answer;
+        after = is_noted.new_is ∙ ap (λ (h : List Entry). record before { history = h }) (sym (history-entered e r before.history enters));
+        suits = answer_suits j.config j.history e r carries.answer;
+      };
     }
 
 -- ---- events that are no setting of filters

@@ -30,7 +30,7 @@ use Rattle.can_bus.specs.Queues.{passing, candidates_of, queued_to, taken_from}
 use Rattle.can_bus.specs.Legal.{lacks_fd, legal_reply, IsLegal}
 use Rattle.can_bus.specs.Run.{IsAnswer}
 use Rattle.can_bus.specs.AutoRestart.{attempts_off, is_nth_after, is_due, restarted_next}
-use Rattle.can_event.specs.Events.{restarted_in}
+use Rattle.can_event.specs.Events.{max_rx_capacity, restarted_in}
 use Rattle.can_event.specs.Replies.{Suits}
 use Rattle.can_event.specs.Spelled.{IsNumbered, AreNumbered, FitsReply, MayRestart, IsSpelled}
 use Rattle.can_frame.specs.Frames.{CanFrame, is_fd}
@@ -120,19 +120,19 @@ attempt-fits c past m v None = tt
 attempt-fits c past m v (Some w) = head-fits c past m v w (head_of past w)
 
 legal-fits : (c : BusConfig) (past : List Entry) (e : Event) → FitsReply e (legal_reply c past e)
-legal-fits c past (Open i n) = if-holds (FitsReply (Open i n)) (nat_le c.ifaces i) _ _ tt (if-holds (FitsReply (Open i n)) (not (nat_le 1 n && nat_le n 65536)) _ _ tt (if-holds (FitsReply (Open i n)) (nat_le 64 (length (open_sockets past))) _ _ tt tt))
-legal-fits c past (Close s) = if-holds (FitsReply (Close s)) (is_open past s.0) _ _ tt tt
-legal-fits c past (SetFilters s f) = if-holds (FitsReply (SetFilters s f)) (is_open past s.0) _ _ tt tt
-legal-fits c past (SetOption s o) = if-holds (FitsReply (SetOption s o)) (is_open past s.0) _ _ tt tt
+legal-fits c past (Open i n) = if-holds (FitsReply (Open i n)) (nat_le c.ifaces i) _ _ refl (if-holds (FitsReply (Open i n)) (not (nat_le 1 n && nat_le n max_rx_capacity)) _ _ refl (if-holds (FitsReply (Open i n)) (nat_le 64 (length (open_sockets past))) _ _ refl tt))
+legal-fits c past (Close s) = if-holds (FitsReply (Close s)) (is_open past s.0) _ _ tt refl
+legal-fits c past (SetFilters s f) = if-holds (FitsReply (SetFilters s f)) (is_open past s.0) _ _ tt refl
+legal-fits c past (SetOption s o) = if-holds (FitsReply (SetOption s o)) (is_open past s.0) _ _ tt refl
 legal-fits c past (Send s f) =
     let i = iface_of past s.0 in
     let full : Bool = length (sent_by past i) - gone_count past i == c.tx_capacity in
     if-holds (FitsReply (Send s f)) (is_open past s.0) _ _
-    (if-told (FitsReply (Send s f)) (lacks_fd f (options_of past s.0)) _ _ (asks-fd f (options_of past s.0)) (if-holds (FitsReply (Send s f)) (is_off (state_at c past i)) _ _ tt (if-holds (FitsReply (Send s f)) full _ _ tt tt)))
-    tt
-legal-fits c past (Receive s) = if-holds (FitsReply (Receive s)) (is_open past s.0) _ _ (given-numbered (queued_to c past s.0) (length (taken_from past s.0)) (queued-numbered c past s.0)) tt
+    (if-told (FitsReply (Send s f)) (lacks_fd f (options_of past s.0)) _ _ (asks-fd f (options_of past s.0)) (if-holds (FitsReply (Send s f)) (is_off (state_at c past i)) _ _ refl (if-holds (FitsReply (Send s f)) full _ _ refl tt)))
+    refl
+legal-fits c past (Receive s) = if-holds (FitsReply (Receive s)) (is_open past s.0) _ _ (given-numbered (queued_to c past s.0) (length (taken_from past s.0)) (queued-numbered c past s.0)) refl
 legal-fits c past (Attempt m v) = attempt-fits c past m v (winner c past)
-legal-fits c past (Restart i m) = if-holds (FitsReply (Restart i m)) (nat_le c.ifaces i) _ _ tt (if-holds (FitsReply (Restart i m)) (is_off (state_at c past i)) _ _ tt tt)
+legal-fits c past (Restart i m) = if-holds (FitsReply (Restart i m)) (nat_le c.ifaces i) _ _ refl (if-holds (FitsReply (Restart i m)) (is_off (state_at c past i)) _ _ tt refl)
 
 -- an entry with the legal reply has a line
 pub legal_is_spelled : (c : BusConfig) (past : List Entry) (e : Event) (r : Reply) → r ≡ legal_reply c past e → FitsReply e r
@@ -173,7 +173,7 @@ attempt-restarts c past m v None never = never-restarted c past never
 attempt-restarts c past m v (Some w) never = head-restarts c past m v w (head_of past w) never
 
 legal-restarts : (c : BusConfig) (past : List Entry) (e : Event) → MayRestart c (legal_reply c past e)
-legal-restarts c past (Open i n) never = none-if (nat_le c.ifaces i) _ _ refl (none-if (not (nat_le 1 n && nat_le n 65536)) _ _ refl (none-if (nat_le 64 (length (open_sockets past))) _ _ refl refl))
+legal-restarts c past (Open i n) never = none-if (nat_le c.ifaces i) _ _ refl (none-if (not (nat_le 1 n && nat_le n max_rx_capacity)) _ _ refl (none-if (nat_le 64 (length (open_sockets past))) _ _ refl refl))
 legal-restarts c past (Close s) never = none-if (is_open past s.0) _ _ refl refl
 legal-restarts c past (SetFilters s f) never = none-if (is_open past s.0) _ _ refl refl
 legal-restarts c past (SetOption s o) never = none-if (is_open past s.0) _ _ refl refl

@@ -1,4 +1,5 @@
 pub mod Lists
+pub mod Places
 pub mod Opened
 pub mod Quiet
 pub mod Rising

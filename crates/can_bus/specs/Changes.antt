@@ -12,6 +12,7 @@ use Rattle.can_attempt.specs.declared.nodes.Nodes.{Nodes}
 use Rattle.can_attempt.specs.Attempts.{Transmission, attempt_between, counts_at, judged}
 use Rattle.can_event.specs.declared.events.Attempt.{Attempt}
 use Rattle.can_event.specs.declared.events.Attempt.TheVariants as attempt
+use Rattle.can_event.specs.Events.{max_rx_capacity}
 use Rattle.can_event.specs.declared.events.BusConfig.{BusConfig}
 use Rattle.can_event.specs.declared.events.Received.{Received}
 use Rattle.can_event.specs.declared.events.Closed.{Closed}
@@ -92,7 +93,7 @@ Closes old s (reply.Refused why) new = FindsNone old s why new
 Closes old s _ new = ⊥
 
 abbrev pub IsCapacity : ℕ → Type 0
-IsCapacity n = (1 ≤ n) × (n ≤ 65536)
+IsCapacity n = (1 ≤ n) × (n ≤ max_rx_capacity)
 
 -- a socket as it is opened
 abbrev pub fresh : ℕ → ℕ → ℕ → SocketState

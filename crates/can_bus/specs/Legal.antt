@@ -1,6 +1,7 @@
 use Rattle.std.specs.Prelude.{◌≡◌, ℕ, ◌-◌, ◌==◌, ◌<◌, nat_le, Bool, not, ◌&&◌, List, [], ◌∷◌, length, slice_get, if◌then◌else◌}
 use Rattle.can_frame.specs.Frames.{CanFrame, is_fd}
 use Rattle.can_filter.specs.declared.socket_options.Options.{Options}
+use Rattle.can_event.specs.Events.{max_rx_capacity}
 use Rattle.can_event.specs.declared.events.BusConfig.{BusConfig}
 use Rattle.can_event.specs.declared.events.Entry.{Entry}
 use Rattle.can_event.specs.declared.events.Event.{Event}
@@ -27,7 +28,7 @@ lacks_fd frame options = is_fd frame.payload && not options.fd
 
 -- the reply of an event after these entries
 abbrev pub legal_reply : BusConfig → List Entry → Event → Reply
-legal_reply c past (Open i capacity) = if nat_le c.ifaces i then reply.Refused refusal.NoInterface else if not (nat_le 1 capacity && nat_le capacity 65536) then reply.Refused refusal.BadCapacity else if nat_le 64 (length (open_sockets past)) then reply.Refused refusal.TooManySockets else reply.Opened (record { 0 = length (places past) })
+legal_reply c past (Open i capacity) = if nat_le c.ifaces i then reply.Refused refusal.NoInterface else if not (nat_le 1 capacity && nat_le capacity max_rx_capacity) then reply.Refused refusal.BadCapacity else if nat_le 64 (length (open_sockets past)) then reply.Refused refusal.TooManySockets else reply.Opened (record { 0 = length (places past) })
 legal_reply c past (Close s) = if_open past s.0 (reply.Closed (record { unread = length (queued_to c past s.0) - length (taken_from past s.0); dropped = length (dropped_at c past s.0) }))
 legal_reply c past (SetFilters s filters) = if_open past s.0 reply.Done
 legal_reply c past (SetOption s option) = if_open past s.0 reply.Done

@@ -5,6 +5,8 @@ use Rattle.can_event.specs.declared.events.Reply.TheVariants as reply
 use Rattle.can_event.specs.declared.events.Refusal.TheVariants as refusal
 use Rattle.can_event.specs.declared.events.Entry.{Entry}
 use Rattle.can_event.specs.declared.events.BusConfig.{BusConfig}
+use Rattle.can_event.specs.Replies.{Suits}
+use Rattle.can_bus.specs.Journal.{Journal}
 use Rattle.can_bus.specs.Legal.{legal_reply}
 use Rattle.can_bus.specs.Answer.{TakesMemory}
 
@@ -19,6 +21,12 @@ abbrev pub IsAnswer : BusConfig → List Entry → Event → Reply → Type 0
 IsAnswer c past e (reply.Refused refusal.RecordFull) = c.limit ≤ length past
 IsAnswer c past e (reply.Refused refusal.NoMemory) = (length past < c.limit) × TakesMemory e (legal_reply c past e)
 IsAnswer c past e r = (length past < c.limit) × (r ≡ legal_reply c past e)
+
+-- an event was answered, and noted with its reply, which is of the event's kind
+pub record IsAnswered (old : Journal) (e : Event) (r : Reply) (new : Journal) : Type 0 where
+  pub answer : IsAnswer old.config old.history e r
+  pub after : new ≡ record old { history = history_after e r old.history }
+  pub suits : Suits e r
 
 -- events with their replies, one after another
 unfoldable pub history_after_all : List Event → List Reply → List Entry → List Entry

@@ -106,7 +106,7 @@ impl<T: BoundedQueue<Pending>, R: BoundedQueue<Received>, A: Arbiter> State<T, R
         requires dropped { All (λ v. v.dropped + 1 < 2 ^ 64) self.old.sockets }
         ensures { self.new ≡ after_auto_restart self.old restarted moment }
     {
-        if restarted.0 == 0 {
+        if restarted.is_empty() {
             return;
         }
         self.nodes.counters = begun_anew(&self.nodes, restarted);

@@ -4,9 +4,8 @@ ghost use Rattle.can_bus.specs.Attempts.{winner};
 ghost use Rattle.can_bus.specs.AutoRestart.{is_counting};
 ghost use Rattle.can_bus.specs.Headline.{Headline};
 ghost use Rattle.can_event.specs.Events.{IsConfig};
-ghost use Rattle.can_event.specs.Replies.{Suits};
 ghost use Rattle.can_bus.specs.Legal.{IsLegal};
-ghost use Rattle.can_bus.specs.Run.{IsAnswer, history_after};
+ghost use Rattle.can_bus.specs.Run.{IsAnswered};
 ghost use Rattle.can_bus.specs.Stats.{socket_stats_of, iface_stats_of, all_counts};
 ghost use Rattle.can_bus.specs.Transmit.{tape};
 ghost use Rattle.can_event.specs.declared.events.Event.TheVariants as event;
@@ -38,6 +37,16 @@ pub enum BusFault {
     /// Memory was refused.
     #[error("no memory")]
     NoMemory,
+}
+
+impl From<AllocError> for BusFault {
+    ghost use Rattle.can_bus.specs.declared.buses.BusFault.TheVariants.{NoMemory};
+
+    ghost from_gives = { λ _ fault. fault ≡ NoMemory };
+
+    fn from(_refused: AllocError) -> BusFault {
+        BusFault::NoMemory
+    }
 }
 
 /// A bus: interfaces that share one wire, and the sockets open on them.
@@ -95,12 +104,9 @@ impl<T: BoundedQueue<Pending>, R: BoundedQueue<Received>, A: Arbiter> Bus<T, R, 
         let Ok(state) = State::new(alloc, config) else {
             return Err(BusFault::NoMemory);
         };
-        let Ok(record) = Record::new(alloc, config) else {
-            return Err(BusFault::NoMemory);
-        };
         Ok(Bus {
             alloc,
-            record,
+            record: Record::new(alloc, config)?,
             state,
         })
     }
@@ -138,9 +144,7 @@ impl<T: BoundedQueue<Pending>, R: BoundedQueue<Received>, A: Arbiter> Bus<T, R, 
     /// The event enters the record with its reply, unless that is `RecordFull` or `NoMemory`: then nothing has changed.
     /// Memory is taken for `Open` and `SetFilters` alone. It costs what the event's own call does.
     pub fn answer(&mut self, alloc: Global, event: &Event) -> Reply
-        ensures answer { IsAnswer self.old.config self.old.history event.now result }
-        ensures after { self.new ≡ record self.old { history = history_after event.now result self.old.history } }
-        ensures suits { Suits event.now result }
+        ensures { IsAnswered self.old event.now result self.new }
     {
         if self.record.is_full() {
             return Reply::Refused(Refusal::RecordFull);
@@ -160,9 +164,7 @@ impl<T: BoundedQueue<Pending>, R: BoundedQueue<Received>, A: Arbiter> Bus<T, R, 
     #[inline(never)]
     fn answer_filters(&mut self, alloc: Global, id: SocketId, filters: &FilterSet) -> Reply
         requires room { length self.old.history < self.old.config.limit }
-        ensures answer { IsAnswer self.old.config self.old.history (event.SetFilters id filters.now) result }
-        ensures after { self.new ≡ record self.old { history = history_after (event.SetFilters id filters.now) result self.old.history } }
-        ensures suits { Suits (event.SetFilters id filters.now) result }
+        ensures { IsAnswered self.old (event.SetFilters id filters.now) result self.new }
     {
         let Ok(mut entry) = filters_entry(alloc, id, filters) else {
             return Reply::Refused(Refusal::NoMemory);

@@ -52,6 +52,16 @@ impl Held {
         }
     }
 
+    /// The entry at a place, if there is one.
+    pub fn entry(&self, place: usize) -> Option<Looked<'_>>
+        ensures { result ≡ slice_get (entries_in self.now) place }
+    {
+        match self.stored(place) {
+            Some(stored) => Some(Looked::of(&stored)),
+            None => None,
+        }
+    }
+
     /// A copy of all entries.
     pub fn to_entries(&self, alloc: Global) -> Result<Vec<Entry>, AllocError>
         ensures { IfOk result (λ es. es.items ≡ entries_in self.now) }

@@ -9,6 +9,7 @@
 mod attempts;
 pub mod buses;
 mod countdowns;
+pub mod entries;
 mod held;
 pub mod laws;
 pub mod lean;
@@ -30,6 +31,7 @@ pub use can_event::{
     SocketId, SocketStats, Tried, is_spelled,
 };
 pub use can_packed::{Looked, Stored};
+pub use entries::{Entries, EntriesIter};
 pub use lean::{LeanBus, LeanRingBus};
 pub use outcomes::Attempted;
 pub use records::Record;

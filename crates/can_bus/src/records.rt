@@ -5,6 +5,7 @@ ghost use Rattle.can_event.specs.Spelled.{IsSpelled, IsRecord};
 ghost use Rattle.can_packed.specs.Stored.{entry_stored, IsStored};
 ghost use Rattle.can_packed.specs.Wide.{is_wide};
 
+use crate::entries::Entries;
 use crate::held::Held;
 use can_event::{BusConfig, Entry, Event, Reply, is_spelled};
 use can_packed::{Looked, Stored};
@@ -89,15 +90,20 @@ impl Record {
         self.config
     }
 
+    /// The entries, the oldest first. No memory is taken.
+    pub fn entries(&self) -> Entries<'_>
+        ensures entries { result ≡ reverse self.now.history }
+        ensures spelled { All (IsSpelled self.now.config) result }
+    {
+        Entries::of(&self.held)
+    }
+
     /// The entry at a place, from 0 for the oldest, if there is one. No memory is taken.
     pub fn entry(&self, place: usize) -> Option<Looked<'_>>
         ensures entry { result ≡ slice_get (reverse self.now.history) place }
         ensures spelled { IfSome result (IsSpelled self.now.config) }
     {
-        match self.held.stored(place) {
-            Some(stored) => Some(Looked::of(&stored)),
-            None => None,
-        }
+        self.held.entry(place)
     }
 
     /// The entry at a place as it is stored, if there is one, for those who read many. No memory is taken.

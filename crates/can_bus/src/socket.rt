@@ -44,13 +44,10 @@ impl<R: BoundedQueue<Received>> Socket<R> {
         ensures made { IfOk result (λ s. s ≡ fresh number iface capacity) }
         ensures bad { (capacity ≢ 0) → (result ≢ Err QueueError.BadCapacity) }
     {
-        let Ok(filters) = FilterSet::all(alloc) else {
-            return Err(QueueError::NoMemory);
-        };
         Ok(Socket {
             number,
             iface,
-            filters,
+            filters: FilterSet::all(alloc)?,
             options: Options::at_open(),
             queue: R::with_capacity(alloc, capacity)?,
             taken: 0,

@@ -7,7 +7,7 @@ ghost use Rattle.can_bus.specs.Stats.{TellsSocket};
 use crate::socket::Socket;
 use crate::state::State;
 use can_arbiter::Arbiter;
-use can_event::{Opt, Pending, Received, Refusal, Reply, SocketId, SocketStats};
+use can_event::{MAX_RX_CAPACITY, Opt, Pending, Received, Refusal, Reply, SocketId, SocketStats};
 use can_filter::FilterSet;
 use can_frame::Iface;
 use can_queue::BoundedQueue;
@@ -40,7 +40,7 @@ impl<T: BoundedQueue<Pending>, R: BoundedQueue<Received>, A: Arbiter> State<T, R
         if iface.number() >= self.nodes.count {
             return Reply::Refused(Refusal::NoInterface);
         }
-        if capacity < 1 || capacity > 65536 {
+        if capacity < 1 || capacity > MAX_RX_CAPACITY {
             return Reply::Refused(Refusal::BadCapacity);
         }
         if self.sockets.len() >= 64 {

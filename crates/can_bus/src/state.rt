@@ -57,9 +57,7 @@ impl<T: BoundedQueue<Pending>, R: BoundedQueue<Received>, A: Arbiter> State<T, R
         ensures { IfOk result (λ s. s ≡ kept_parts config []) }
     {
         let lines = lines::make(alloc, config.ifaces, config.tx_capacity as usize)?;
-        let Ok(sockets) = Vec::with_capacity(alloc, 64) else {
-            return Err(QueueError::NoMemory);
-        };
+        let sockets = Vec::with_capacity(alloc, 64)?;
         Ok(State {
             lines,
             arbiter: A::new(),

@@ -25,7 +25,7 @@ pub fn errors_never_better()
     ensures receive { (c : ErrorCounts) → c.rec ≤ 255 → severity (state_of c) ≤ severity (state_of (stepped c ReceiveError)) }
 {}
 
-/// The receive count alone never takes an interface off.
+/// The receive count by itself never takes an interface off.
 pub fn receive_count_never_takes_off()
     ensures { (c : ErrorCounts) → (r : ℕ) → is_off (state_of (record { tec = c.tec; rec = r })) ≡ is_off (state_of c) }
 {}

@@ -1,7 +1,7 @@
 //! Fault confinement: an interface's error counters and the state that they give.
 //!
 //! A `Counters` keeps its transmit count at most 263 and its receive count at most 255. Each method
-//! answers the counters after one step; the contracts see counters as the two counts.
+//! returns the counters after one step; the contracts see counters as the two counts.
 #![tactic(auto)]
 
 pub mod counters;

@@ -1,4 +1,4 @@
--- How many answers a piece can ask for.
+-- How many replies a piece can ask for.
 use Rattle.std.proofs.Common.{◌≡◌, ℕ, ◌+◌, ◌*◌, ◌≤◌, List, [], ◌∷◌, ◌++◌, length, cond, refl, ap, arith, length-append}
 use Rattle.std.proofs.lemmas.List.Sums.{sum_by-append, sum_by-cons}
 use Rattle.can_proto.specs.declared.messages.Incoming.{Incoming}

@@ -24,7 +24,7 @@ pub record NamedBus : Type 0 where
   pub names : List (List ℕ)
   pub journal : Journal
 
--- a bus's answer, as a port gives it
+-- a bus's reply, as a port gives it
 abbrev pub passed_on : {A : Type 0} → Result A Refusal → Result A PortRefusal
 passed_on (Ok a) = Ok a
 passed_on (Err why) = Err (port.Bus why)
@@ -39,7 +39,7 @@ abbrev pub counters_in : Option IfaceStats → ErrorCounts
 counters_in None = at_start
 counters_in (Some counts) = counts.counters
 
--- one event of the bus, answered as the bus answers it
+-- one event of the bus, with the bus's reply
 abbrev pub IsEvent : {A : Type 0} → (A → Reply) → NamedBus → Event → Result A PortRefusal → NamedBus → Type 0
 IsEvent {A} told old event answer new = (outcome : Result A Refusal) × (answer ≡ passed_on outcome) × Answers told old.journal event outcome new.journal × (new.names ≡ old.names)
 

@@ -21,7 +21,7 @@ use Rattle.can_proto.specs.Causes.{cause_of_refusal}
 use Rattle.can_dialog.specs.declared.port.PortRefusal.{PortRefusal}
 use Rattle.can_dialog.specs.declared.port.PortRefusal.TheVariants as port
 
--- What may be asked of a port, and what a port may answer (own choice).
+-- The calls of a port, and the replies that it may give (own choice).
 
 -- a call of a port, with its arguments: interfaces and moments are numbers. No session tries frames
 pub data Call : Type 0 where
@@ -38,7 +38,7 @@ pub data Call : Type 0 where
   CountsOfIface : ℕ → Call
   CountersOfIface : ℕ → Call
 
--- the answers that a call can have
+-- the replies that a call can have
 abbrev pub Reply : Call → Type 0
 Reply (Attach name) = Result ℕ PortRefusal
 Reply (Open iface capacity) = Result SocketId PortRefusal
@@ -53,7 +53,7 @@ Reply (CountsOfSocket socket) = Option SocketStats
 Reply (CountsOfIface iface) = Option IfaceStats
 Reply (CountersOfIface iface) = ErrorCounts
 
--- what a port's refusal is told to a client as
+-- how a port's refusal is reported to a client
 abbrev pub cause_of_port : PortRefusal → Cause
 cause_of_port (port.Bus why) = cause_of_refusal why
 cause_of_port port.TooManyPasses = cause.TooManyPasses

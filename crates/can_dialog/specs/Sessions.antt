@@ -29,19 +29,19 @@ Turns {P} step moment d (forgot ∷ more) (item ∷ items) p q text after =
     × Plays step (turn forgot moment d item) p port first mid × Turns step moment mid more items port q others after × (text ≡ first ++ others)
 Turns {P} step moment d _ _ p q text after = ⊥
 
--- a writer takes a text; an empty text leaves it alone
+-- a writer takes a text; an empty text leaves it as it is
 pub record Wrote {W : Type 0} (contents : W → Option (List ℕ)) (old : W) (text : List ℕ) (new : W) : Type 0 where
   pub grows : Appends (contents old) (contents new) text
   pub alone : text ≡ [] → new ≡ old
 
--- the items are answered over the port, and the writer takes what is said
+-- the items are carried out over the port, and the writer takes what is said
 pub record Says {P W : Type 0} (step : P → (call : Call) → Reply call → P → Type 0) (contents : W → Option (List ℕ)) (moment : ℕ) (before : Dialog) (items : List Incoming) (p q : P) (out new : W) (after : Dialog) : Type 0 where
   pub forgotten : List Bool
   pub text : List ℕ
   pub turns : Turns step moment before forgotten items p q text after
   pub wrote : Wrote contents out text new
 
--- the items are answered over the port, what is said does not reach the client, and the session ends
+-- the items are carried out over the port, what is said does not reach the client, and the session ends
 pub record Cut {P : Type 0} (step : P → (call : Call) → Reply call → P → Type 0) (moment : ℕ) (before : Dialog) (items : List Incoming) (p q : P) (after : Dialog) : Type 0 where
   pub forgotten : List Bool
   pub text : List ℕ

@@ -33,7 +33,7 @@ use Rattle.can_dialog.specs.Calls.Call.{Attach, Open, Close, SetFilters, SetOpti
 use Rattle.can_dialog.specs.Plans.{Plan}
 use Rattle.can_dialog.specs.Plans.Plan.{Tell, Ask}
 
--- The turns of a session: for each command the calls that it makes, what the client is told, and what the session knows
+-- The turns of a session: for each command the calls that it makes, what the client gets, and what the session knows
 -- after it (the commands are those of socketcand's raw mode; filter and what follows it is own choice).
 
 -- the mode that a stage has
@@ -43,20 +43,20 @@ mode_of (Opened iface) = mode.Opened
 mode_of (Raw raw) = mode.Raw
 mode_of Ended = mode.Ended
 
--- the text of an answer, if there is one
+-- the text of a reply, if there is one
 abbrev pub voiced : Option Answer → List ℕ
 voiced None = []
 voiced (Some a) = reply_text a
 
--- an answer without a call
+-- a reply without a call
 abbrev pub tells : Answer → Dialog → Plan Dialog
 tells a d = Tell (reply_text a) d
 
--- no answer
+-- no reply
 abbrev pub silent : Dialog → Plan Dialog
 silent d = Tell [] d
 
--- a refusal of the port: it is told, and nothing changes
+-- a refusal of the port: it is reported, and nothing changes
 abbrev pub refused : PortRefusal → Dialog → Plan Dialog
 refused why d = tells (answer.Refused (cause_of_port why)) d
 
@@ -73,12 +73,12 @@ abbrev pub attached : Dialog → Result ℕ PortRefusal → Plan Dialog
 attached d (Ok iface) = tells answer.Done (at_stage (Opened iface) d)
 attached d (Err why) = refused why d
 
--- after the port was asked for a socket; the data of error message frames are not told at first
+-- after the port was asked for a socket; the data of error message frames are left out at first
 abbrev pub entered : Dialog → ℕ → Result SocketId PortRefusal → Plan Dialog
 entered d iface (Ok socket) = tells answer.Done (at_stage (Raw (record { iface = iface; socket = socket; errdata = false })) d)
 entered d iface (Err why) = refused why d
 
--- after a frame was sent: only a refusal is told
+-- after a frame was sent: only a refusal is reported
 abbrev pub sent : Dialog → Result ℕ PortRefusal → Plan Dialog
 sent d (Ok number) = silent d
 sent d (Err why) = refused why d
@@ -87,7 +87,7 @@ sent d (Err why) = refused why d
 abbrev pub sending : Dialog → RawSocket → CanFrame → Plan Dialog
 sending d raw frame = Ask (Send raw.socket frame) (sent d)
 
--- what is told of a call that has nothing to say but that it was done
+-- the text of a call that was done and has nothing else to say
 abbrev pub told : Result (Unit {0}) PortRefusal → Answer
 told (Ok _) = answer.Done
 told (Err why) = answer.Refused (cause_of_port why)
@@ -166,7 +166,7 @@ abbrev pub read_as : Bool → Result Command ProtoFault → Result Command Proto
 read_as false read = read
 read_as true read = without_memory read
 
--- a fault of a message is told, and nothing is done
+-- a fault of a message is reported, and nothing is done
 abbrev pub answering : ℕ → Dialog → Result Command ProtoFault → Plan Dialog
 answering moment d (Ok c) = doing moment d d.stage c
 answering moment d (Err e) = tells (answer.Refused (cause_of_fault e)) d
@@ -185,7 +185,7 @@ unless_over _ plan d = plan
 abbrev pub turn : Bool → ℕ → Dialog → Incoming → Plan Dialog
 turn forgot moment d item = unless_over d.stage (heard forgot moment d item) d
 
--- after the socket of a session that ends was closed, whatever the port answered
+-- after the socket of a session that ends was closed, whatever the port replied
 abbrev pub ended_by : Dialog → Result Closed PortRefusal → Plan Dialog
 ended_by d _ = silent (at_stage Ended d)
 
@@ -194,7 +194,7 @@ abbrev pub ending : Stage → Dialog → Plan Dialog
 ending (Raw raw) d = Ask (Close raw.socket) (ended_by d)
 ending _ d = silent (at_stage Ended d)
 
--- after one receive: an item is told, and there may be more
+-- after one receive: an item is written, and there may be more
 abbrev pub delivered : Bool → Result (Option Received) PortRefusal → Plan Bool
 delivered errdata (Ok (Some r)) = Tell (item_text errdata r.item r.moment) true
 delivered errdata (Ok None) = Tell [] false

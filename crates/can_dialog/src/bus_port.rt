@@ -74,7 +74,7 @@ impl<T: BoundedQueue<Pending>, R: BoundedQueue<Received>, A: Arbiter> BusPort<T,
     }
 }
 
-/// A bus's answer, as a port gives it.
+/// A bus's reply, as a port gives it.
 fn pass_on<V>(outcome: Result<V, Refusal>) -> Result<V, PortRefusal>
     ensures { result ≡ passed_on outcome }
 {

@@ -18,7 +18,7 @@ pub fn count_of(text: &[u8], mark: u8) -> usize
     count
 }
 
-/// The same of few bytes. No byte decides what is done, so that the compiler can count many at once.
+/// The same for few bytes. Branch-free, so that it vectorises.
 #[tactic(auto, using(crate::proofs::Counts::counted_more))]
 fn count_in_block(block: &[u8], mark: u8) -> u8
     requires { length block.now ≤ 128 }

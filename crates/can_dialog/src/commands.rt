@@ -9,14 +9,14 @@ use can_bus::Refusal;
 use can_frame::{Frame, Iface, Moment};
 use can_proto::{Answer, Cause, Command};
 
-/// What a client is told of a refusal.
+/// The text of a refusal.
 fn refused(refusal: PortRefusal) -> Option<Answer>
     ensures { result ≡ Some (Answer.Refused (cause_of_port refusal)) }
 {
     Some(Answer::Refused(refusal.cause()))
 }
 
-/// What a client is told of a call that has nothing to say but that it was done.
+/// The text of a call that was done and has nothing else to say.
 fn told(outcome: Result<(), PortRefusal>) -> Option<Answer>
     ensures { result ≡ Some (told_of outcome) }
 {
@@ -69,7 +69,7 @@ fn do_opened<P: Port>(
     }
 }
 
-/// A frame is sent: only a refusal is told.
+/// Sends a frame: only a refusal is reported.
 pub fn send<P: Port>(dialog: Dialog, raw: RawSocket, frame: Frame, port: &mut P) -> Option<Answer>
     ensures { Plays P.step (sending dialog raw frame) port.old port.new (voiced result) dialog }
 {
@@ -133,7 +133,7 @@ fn do_raw<P: Port>(
     }
 }
 
-/// Carries out a command: what the client is told, if anything.
+/// Carries out a command, and returns the text for the client, if any.
 pub fn carry_out<P: Port>(
     dialog: &mut Dialog,
     command: Command,

@@ -9,7 +9,7 @@ use can_frame::Moment;
 use can_proto::{Answer, Cause, Command, Incoming};
 use std::alloc::Global;
 
-/// One item of the client's stream: what the client is told, if anything.
+/// One item of the client's stream: the text for the client, if any.
 pub fn take_turn<P: Port>(
     dialog: &mut Dialog,
     alloc: Global,
@@ -33,7 +33,7 @@ pub fn take_turn<P: Port>(
     }
 }
 
-/// The end of a session: a raw socket is closed, whatever the port answers.
+/// The end of a session: a raw socket is closed, whatever the port replies.
 pub fn finish<P: Port>(dialog: &mut Dialog, port: &mut P)
     ensures { Plays P.step (ending dialog.old.stage dialog.old) port.old port.new [] dialog.new }
 {

@@ -18,7 +18,7 @@ pub fn every_cut_says_the_same<P: Port>()
     every_cut_gives_the_same_messages();
 }
 
-/// All that a session writes is the text of its turns, one after another, over what the port answers. The
+/// All that a session writes is the text of its turns, one after another, over what the port replies. The
 /// turns are those of the calls made, and what is heard in them is what the whole stream gives, however its
 /// bytes were cut into pieces.
 pub fn calls_come_to_turns<P: Port>()

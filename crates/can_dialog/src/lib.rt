@@ -1,10 +1,10 @@
 //! Sessions of the protocol over any port, and a bus as a port.
 //!
-//! `Port` is what a session calls: its law is one relation of the port's state before, a call, its answer and
+//! `Port` is what a session calls: its law is one relation of the port's state before, a call, its reply and
 //! the state after. `Session` reads pieces of a client's stream, makes the calls that the commands ask for,
-//! and writes what the client is told. Which calls, which text and which stage follow is fixed by the port's
-//! answers alone: `specs/Turns.antt` has the plan of each command. The laws say that the cuts of the stream have
-//! no say, and that all that a session writes is the text of its turns.
+//! and writes the texts for the client. Which calls, which text and which stage follow depends only on the
+//! port's replies: `specs/Turns.antt` has the plan of each command. The laws say that the cuts of the stream
+//! make no difference, and that all that a session writes is the text of its turns.
 #![tactic(auto)]
 
 pub mod bus_port;

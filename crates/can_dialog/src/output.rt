@@ -7,10 +7,10 @@ use can_proto::{Answer, reply_text};
 use std::alloc::AllocError;
 use std::io::Write;
 
-/// The most bytes that an answer takes.
+/// The most bytes that a reply takes.
 const LONGEST: usize = 256;
 
-/// Empties the text, and makes room for the answers to all messages that a piece can end: those that it
+/// Empties the text, and makes room for the replies to all messages that a piece can end: those that it
 /// begins, and one begun before.
 pub fn make_room(said: &mut Vec<u8>, piece: &[u8]) -> Result<(), AllocError>
     ensures empty { said.new.items ≡ [] }
@@ -23,7 +23,7 @@ pub fn make_room(said: &mut Vec<u8>, piece: &[u8]) -> Result<(), AllocError>
     said.reserve(room)
 }
 
-/// Adds the text of an answer where there is room for it.
+/// Adds the text of a reply if there is room for it.
 pub fn say(said: &mut Vec<u8>, answer: Answer)
     requires { length said.old.items + 256 ≤ vec_capacity said.old }
     ensures text { said.new.items ≡ said.old.items ++ reply_text answer }
@@ -37,7 +37,7 @@ pub fn say(said: &mut Vec<u8>, answer: Answer)
     }
 }
 
-/// Writes a text in one call, an empty one in none. It answers whether the writer took it.
+/// Writes a text in one call, an empty one in none. Returns whether the writer took it.
 pub fn put<W: Write>(out: &mut W, text: &[u8]) -> bool
     ensures wrote { IsTrue result → Wrote W.contents out.old text.now out.new }
     ensures some { result ≡ false → text.now ≢ [] }

@@ -11,7 +11,7 @@ use thiserror::Error;
 /// Why a port refuses a call.
 #[derive(Debug, Clone, Copy, PartialEq, Eq, Error)]
 pub enum PortRefusal {
-    /// The bus behind it refuses, or memory was refused.
+    /// The port's bus refuses, or memory was refused.
     #[error("{0}")]
     Bus(Refusal),
     /// As many passes were entered as a station has.
@@ -23,7 +23,7 @@ pub enum PortRefusal {
 }
 
 impl PortRefusal {
-    /// What a client is told of it.
+    /// What a client reads.
     pub fn cause(self) -> Cause
         ensures { result ≡ cause_of_port self }
     {
@@ -37,14 +37,14 @@ impl PortRefusal {
 
 /// What a session calls: a bus, or a way to one.
 ///
-/// A port states by `step` how its state before a call, the call, its answer and the state after it belong
+/// A port states by `step` how its state before a call, the call, its reply and the state after it belong
 /// together; each call is one such step. A port may take memory. An implementation writes `call`, `attach`, the two
 /// counts and the status; the calls that are named for an event make it by `call`.
 pub trait Port {
     ghost use Rattle.can_dialog.specs.Calls.{Call, Reply, Steps};
     ghost use Rattle.can_dialog.specs.Calls.Call.{Attach, Open, Close, SetFilters, SetOption, Send, Receive, Restart, CountsOfSocket, CountsOfIface, CountersOfIface};
 
-    /// The state before, a call, its answer and the state after.
+    /// The state before, a call, its reply and the state after.
     ghost step: { Self → (call : Call) → Reply call → Self → Type 0 };
 
     /// Makes an event, and returns the bus's reply, which is of the event's kind or a refusal. `Err` where the event did

@@ -32,7 +32,7 @@ pub enum SessionFault {
     Write,
 }
 
-/// A session over any port: it reads a client's stream in pieces, and writes what the client is told.
+/// A session over any port: it reads a client's stream in pieces, and writes the texts for the client.
 ///
 /// Between calls it keeps the text of a message begun, the capacity of its socket and its stage. Each text
 /// that a call writes goes to the writer in one `write_all`.
@@ -54,7 +54,7 @@ impl Model for Session {
     ghost invariant = { λ s. begun s.reader ≤ 1 };
 }
 
-/// The turns of items in order: what is told is added to `said`, where there is room for it.
+/// The turns of items in order: their texts are added to `said`, if there is room for them.
 fn take_turns<P: Port>(
     dialog: &mut Dialog,
     alloc: Global,
@@ -121,12 +121,12 @@ impl Session {
     }
 
     /// Takes the next piece of the client's stream: carries out the messages that it ends, in order, and
-    /// writes what the client is told of all of them in one `write_all`, or nothing where there is no text.
+    /// writes the texts of all of them in one `write_all`, or nothing where there is no text.
     /// A restart happens at `moment`.
     ///
     /// Refusals, in this order: `Ended`; `NoMemory`, before anything of the piece was taken; `Write`, after
     /// the messages of the piece were carried out. Where memory is refused while a command is read or by the
-    /// port, the client is told so and the piece goes on.
+    /// port, this is reported to the client and the piece goes on.
     ///
     /// The time grows with the piece. It takes 256 bytes for each `<` of the piece and 256 more, and keeps
     /// this room for the next call.
@@ -173,7 +173,7 @@ impl Session {
         Ok(())
     }
 
-    /// Sends a frame, and writes what the client is told of it, if anything.
+    /// Sends a frame, and writes the text for the client, if any.
     fn pass_on<P: Port, W: Write>(
         &mut self,
         raw: RawSocket,
@@ -198,7 +198,7 @@ impl Session {
     }
 
     /// Takes one item from the socket and writes its text: whether there was one. Outside raw mode there is
-    /// none, and no call is made. A refusal of the port is told to the client, and is no item. No memory is
+    /// none, and no call is made. A refusal of the port is reported to the client, and is no item. No memory is
     /// taken but what the port and the writer take.
     ///
     /// Refusals: `Ended`; `Write`, where the item is lost.

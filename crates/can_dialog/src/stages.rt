@@ -6,7 +6,7 @@ use can_frame::Iface;
 use can_proto::Mode;
 
 /// The socket of a session in raw mode, its interface, and whether the data of error message frames are
-/// told.
+/// sent.
 #[derive(Debug, Clone, Copy, PartialEq, Eq)]
 pub struct RawSocket {
     pub iface: Iface,
@@ -28,7 +28,7 @@ pub enum Stage {
 }
 
 impl Stage {
-    /// The mode that decides which commands may stand.
+    /// The mode that decides which commands there are.
     pub fn mode(self) -> Mode
         ensures { result ≡ mode_of self }
     {

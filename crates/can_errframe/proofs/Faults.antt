@@ -7,7 +7,7 @@ use Rattle.can_attempt.specs.Attempts.{Transmission, is_global, is_named, is_des
 
 -- Which faults destroy a frame.
 
--- a fault at receivers alone
+-- a fault at receivers only
 abbrev pub is_local : Verdict → Bool
 is_local (verdict.Local set kind) = true
 is_local _ = false

@@ -2,11 +2,11 @@ use Rattle.std.specs.Prelude.{ℕ}
 
 -- The numbers of error message frames, with the names that linux/can/error.h gives them.
 
--- class: controller problems, told in byte 1
+-- class: controller problems, given in byte 1
 abbrev pub err_crtl : ℕ
 err_crtl = 0x004
 
--- class: protocol violations, told in bytes 2 and 3
+-- class: protocol violations, given in bytes 2 and 3
 abbrev pub err_prot : ℕ
 err_prot = 0x008
 
@@ -26,7 +26,7 @@ err_buserror = 0x080
 abbrev pub err_restarted : ℕ
 err_restarted = 0x100
 
--- class: the transmit and receive error counts stand in bytes 6 and 7
+-- class: the transmit and receive error counts are in bytes 6 and 7
 abbrev pub err_cnt : ℕ
 err_cnt = 0x200
 

@@ -18,10 +18,10 @@ use Rattle.can_errframe.specs.declared.roles.Role.TheVariants.{Winner, Named, Ot
 use Rattle.can_errframe.specs.ErrorCodes.{err_crtl, err_prot, err_ack, err_busoff, err_buserror, err_restarted, err_cnt, crtl_rx_warning, crtl_tx_warning, crtl_rx_passive, crtl_tx_passive}
 use Rattle.can_errframe.specs.ErrorCodes.{crtl_active, prot_unspec, prot_bit, prot_form, prot_stuff, prot_tx, loc_unspec, loc_crc_seq, loc_data, loc_ack, loc_eof, loc_ack_del}
 
--- Which error message frames tell of what. The numbers are those of linux/can/error.h, the choice of frames is
+-- Which error message frame reports what. The numbers are those of linux/can/error.h, the choice of frames is
 -- an own one.
 
--- eight bytes that tell nothing
+-- eight bytes that say nothing
 abbrev pub no_bytes : List ℕ
 no_bytes = replicate 8 0
 
@@ -49,7 +49,7 @@ rx_code side.Active = crtl_active
 rx_code side.Warning = crtl_rx_warning
 rx_code side.Passive = crtl_rx_passive
 
--- a side's code stands if the side is as far as the other
+-- a side's code is there if the side is as far as the other
 abbrev pub controller_code : Side → Side → ℕ
 controller_code tx rx = bit_or (if nat_le (level rx) (level tx) then tx_code tx else 0) (if nat_le (level tx) (level rx) then rx_code rx else 0)
 
@@ -61,7 +61,7 @@ controller_message c = record { class = err_crtl + err_cnt; bytes = 0 ∷ contro
 abbrev pub bus_off_message : ErrorMessage
 bus_off_message = record { class = err_busoff; bytes = no_bytes }
 
--- what tells of a change of counts: nothing where the state stays
+-- the report of a change of counts: nothing if the state stays
 abbrev pub state_message : ErrorCounts → ErrorCounts → Option ErrorMessage
 state_message old new = if severity (state_of old) == severity (state_of new) then None else if is_off (state_of new) then Some bus_off_message else Some (controller_message new)
 
@@ -105,7 +105,7 @@ abbrev pub fault_class : Class → Role → ℕ
 fault_class class.NoAck Winner = err_buserror + err_ack
 fault_class _ _ = err_buserror + err_prot
 
--- what tells an interface of the fault that it saw
+-- the report to an interface of the fault that it saw
 abbrev pub fault_message : Class → Verdict → Role → Option ErrorMessage
 fault_message c v r = option_map (λ codes. record { class = fault_class c r; bytes = 0 ∷ 0 ∷ codes.0 ∷ codes.1 ∷ 0 ∷ 0 ∷ 0 ∷ 0 ∷ [] }) (fault_codes c v r)
 

@@ -1,9 +1,9 @@
 //! The numbers of error message frames, with the names that linux/can/error.h gives them. Those that no
 //! frame of this crate has are left out.
 
-/// Class: controller problems, told in byte 1.
+/// Class: controller problems, given in byte 1.
 pub const CAN_ERR_CRTL: u32 = 0x004;
-/// Class: protocol violations, told in bytes 2 and 3.
+/// Class: protocol violations, given in bytes 2 and 3.
 pub const CAN_ERR_PROT: u32 = 0x008;
 /// Class: no acknowledgement on transmission.
 pub const CAN_ERR_ACK: u32 = 0x020;
@@ -13,7 +13,7 @@ pub const CAN_ERR_BUSOFF: u32 = 0x040;
 pub const CAN_ERR_BUSERROR: u32 = 0x080;
 /// Class: the controller was restarted.
 pub const CAN_ERR_RESTARTED: u32 = 0x100;
-/// Class: the transmit and receive error counts stand in bytes 6 and 7.
+/// Class: the transmit and receive error counts are in bytes 6 and 7.
 pub const CAN_ERR_CNT: u32 = 0x200;
 
 /// Byte 1: the warning level for receive errors.

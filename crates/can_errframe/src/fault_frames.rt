@@ -89,8 +89,8 @@ fn fault_class(class: Class, role: Role) -> u32
     }
 }
 
-/// The frame that tells an interface of the fault that it saw in an attempt, by the attempt's class, its
-/// verdict and the interface's part in it: `None` where it saw none.
+/// The frame that reports to an interface the fault that it saw in an attempt, by the attempt's class,
+/// its verdict and the interface's part in it: `None` where it saw none.
 pub fn fault_frame(class: Class, verdict: Verdict, role: Role) -> Option<ErrorFrame>
     ensures { result ≡ fault_message class verdict role }
 {

@@ -25,22 +25,22 @@ pub fn counts_stand_in_their_bytes()
     ensures { (old new : ErrorCounts) → is_off (state_of new) ≡ false → IfSome (state_message old new) (λ e. (slice_index e.bytes 6 ≡ new.tec) × (slice_index e.bytes 7 ≡ new.rec)) }
 {}
 
-/// An attempt without a fault tells nobody of one.
+/// In an attempt without a fault none is reported.
 pub fn good_attempts_tell_nothing()
     ensures { (role : Role) → fault_message Done Good role ≡ None }
 {}
 
-/// Which interfaces a local fault names has no say in its frames.
+/// Which interfaces a local fault names makes no difference to its frames.
 pub fn named_set_has_no_say()
     ensures { (class : Class) (s z : IfaceSet) (kind : LocalKind) (role : Role) → fault_message class (Local s kind) role ≡ fault_message class (Local z kind) role }
 {}
 
-/// The winner of an attempt is told of a fault exactly where its frame did not go over the bus whole.
+/// The winner of an attempt gets the report of a fault exactly where its frame did not go out whole.
 pub fn winner_is_told_of_each_failure()
     ensures { (t : Transmission) → is_some (fault_message (class_of t) t.verdict Winner) ≡ not (is_done (class_of t)) }
 {}
 
-/// A receiver is told of a fault exactly where the attempt gives it a receive error.
+/// A receiver gets the report of a fault exactly where the attempt gives it a receive error.
 pub fn receivers_are_told_of_each_error()
     ensures { (t : Transmission) (i : ℕ) → is_among i (receivers t) ≡ true → is_some (fault_message (class_of t) t.verdict (receiver_role t i)) ≡ is_receive_error (steps_at i t) }
 {}

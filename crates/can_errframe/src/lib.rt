@@ -1,5 +1,5 @@
-//! Error message frames: which frames tell the sockets of an interface of its changes of state, of its
-//! restart, and of the faults that it saw.
+//! Error message frames: which frames report to the sockets of an interface its changes of state, its
+//! restart, and the faults that it saw.
 //!
 //! The numbers are those of linux/can/error.h. The contracts say each frame byte for byte, by the tables of
 //! `specs/ErrorMessages.antt`. Nothing here takes memory.

@@ -17,7 +17,7 @@ pub(crate) fn frame_of(class: u32, bytes: [u8; 8]) -> ErrorFrame
     }
 }
 
-/// The frame that tells of a change of an interface's counters: `None` where its state stays, a bus off
+/// The frame that reports a change of an interface's counters: `None` where its state stays, a bus off
 /// frame where it went off, else a controller frame with both counts.
 #[inline]
 pub fn state_frame(old: Counters, new: Counters) -> Option<ErrorFrame>
@@ -46,7 +46,7 @@ fn frame_of_change(old: Counters, new: Counters) -> Option<ErrorFrame>
     Some(frame_of(CAN_ERR_CRTL | CAN_ERR_CNT, bytes))
 }
 
-/// The frame that tells of an interface's restart.
+/// The frame that reports an interface's restart.
 pub fn restart_frame() -> ErrorFrame
     ensures { result ≡ restart_message }
 {

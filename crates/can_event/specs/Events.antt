@@ -1,4 +1,4 @@
-use Rattle.std.specs.Prelude.{◌≤◌}
+use Rattle.std.specs.Prelude.{ℕ, ◌≤◌}
 use Rattle.can_frame.specs.declared.items.Item.TheVariants as item
 use Rattle.can_frame.specs.Sets.{no_ifaces}
 use Rattle.can_frame.specs.declared.ifaces.IfaceSet.{IfaceSet}
@@ -19,15 +19,31 @@ restarted_in (reply.Idle restarted) = restarted
 restarted_in (reply.Tried t) = t.restarted
 restarted_in _ = no_ifaces
 
+-- how many frames wait at most in a transmit queue
+abbrev pub max_tx_capacity : ℕ
+max_tx_capacity = 1024
+
+-- how many items wait at most at a socket
+abbrev pub max_rx_capacity : ℕ
+max_rx_capacity = 65536
+
+-- how many entries a record has at most
+abbrev pub max_limit : ℕ
+max_limit = 16777216
+
+-- after how many attempts at most an interface that went bus off is restarted by itself
+abbrev pub max_auto_restart : ℕ
+max_auto_restart = 1000000
+
 -- the limits of a bus
 pub record IsConfig (c : BusConfig) : Type 0 where
   pub some_ifaces : 1 ≤ c.ifaces
   pub few_ifaces : c.ifaces ≤ 16
   pub some_frames : 1 ≤ c.tx_capacity
-  pub few_frames : c.tx_capacity ≤ 1024
+  pub few_frames : c.tx_capacity ≤ max_tx_capacity
   pub some_entries : 1 ≤ c.limit
-  pub few_entries : c.limit ≤ 16777216
-  pub few_attempts : c.auto_restart ≤ 1000000
+  pub few_entries : c.limit ≤ max_limit
+  pub few_attempts : c.auto_restart ≤ max_auto_restart
 
 -- a frame that was tried, as a socket receives it
 abbrev pub tried_item : Tried → Received

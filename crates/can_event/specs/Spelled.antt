@@ -1,4 +1,4 @@
-use Rattle.std.specs.Prelude.{IsTrue, ◌≡◌, ℕ, List, Option, Some, None, All}
+use Rattle.std.specs.Prelude.{Bool, true, false, IsTrue, ◌≡◌, ℕ, List, Option, Some, None, All}
 use Rattle.can_frame.specs.Frames.{is_fd}
 use Rattle.can_frame.specs.Sets.{no_ifaces}
 use Rattle.can_frame.specs.declared.items.Item.{Item}
@@ -17,10 +17,13 @@ use Rattle.can_event.specs.Events.{IsConfig, restarted_in}
 -- Which entries the text of a record has a line for.
 
 -- a refusal that leaves an entry: all but that of a full record and that of want of memory (own choice)
+abbrev pub leaves_entry : Refusal → Bool
+leaves_entry refusal.RecordFull = false
+leaves_entry refusal.NoMemory = false
+leaves_entry _ = true
+
 abbrev pub LeavesEntry : Refusal → Type 0
-LeavesEntry refusal.RecordFull = ⊥
-LeavesEntry refusal.NoMemory = ⊥
-LeavesEntry _ = Unit {0}
+LeavesEntry why = IsTrue (leaves_entry why)
 
 -- to send an FD frame is asked for
 abbrev pub SendsFd : Event → Type 0

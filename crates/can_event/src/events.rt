@@ -1,7 +1,7 @@
 ghost use Rattle.std.specs.Prelude.{◌≡◌, ◌↔◌, IsTrue, IfOk};
 ghost use Rattle.can_event.specs.Events.{IsConfig, tried_item, with_option};
-ghost use Rattle.can_event.specs.Replies.{Enters};
-ghost use Rattle.can_event.specs.Spelled.{LeavesEntry};
+ghost use Rattle.can_event.specs.Replies.{enters};
+ghost use Rattle.can_event.specs.Spelled.{leaves_entry};
 
 use can_attempt::{AckMode, Class};
 use can_fault::Verdict;
@@ -9,6 +9,18 @@ use can_filter::{FilterSet, Options};
 use can_frame::{Frame, Iface, IfaceSet, Item, Moment};
 use std::alloc::{AllocError, Global};
 use thiserror::Error;
+
+/// How many frames wait at most in a transmit queue.
+pub const MAX_TX_CAPACITY: u32 = 1024;
+
+/// How many items wait at most at a socket.
+pub const MAX_RX_CAPACITY: u32 = 65_536;
+
+/// How many events a bus is made for at most.
+pub const MAX_LIMIT: u32 = 16_777_216;
+
+/// After how many attempts at most an interface that went bus off is restarted by itself.
+pub const MAX_AUTO_RESTART: u32 = 1_000_000;
 
 /// What a bus is made with.
 #[derive(Debug, Clone, Copy, PartialEq, Eq)]
@@ -42,10 +54,10 @@ impl BusConfig {
         ifaces >= 1
             && ifaces <= 16
             && tx_capacity >= 1
-            && tx_capacity <= 1024
+            && tx_capacity <= MAX_TX_CAPACITY
             && limit >= 1
-            && limit <= 16_777_216
-            && auto_restart <= 1_000_000
+            && limit <= MAX_LIMIT
+            && auto_restart <= MAX_AUTO_RESTART
     }
 }
 
@@ -170,7 +182,7 @@ pub enum Refusal {
 impl Refusal {
     /// Whether a call that is refused so leaves an entry in the record: all but `RecordFull` and `NoMemory`.
     pub fn leaves_entry(self) -> bool
-        ensures { IsTrue result ↔ LeavesEntry self }
+        ensures { result ≡ leaves_entry self }
     {
         !matches!(self, Refusal::RecordFull | Refusal::NoMemory)
     }
@@ -255,7 +267,7 @@ pub enum Reply {
 impl Reply {
     /// Whether a call with this reply leaves an entry in the record: all but the refusals `RecordFull` and `NoMemory`.
     pub fn enters(&self) -> bool
-        ensures { IsTrue result ↔ Enters self.now }
+        ensures { result ≡ enters self.now }
     {
         match self {
             Reply::Refused(why) => why.leaves_entry(),

@@ -10,8 +10,8 @@ pub mod spelled;
 pub mod stats;
 
 pub use events::{
-    Attempt, BusConfig, Closed, Entry, Event, Opt, Pending, Received, Refusal, Reply, SocketId,
-    Tried,
+    Attempt, BusConfig, Closed, Entry, Event, MAX_AUTO_RESTART, MAX_LIMIT, MAX_RX_CAPACITY,
+    MAX_TX_CAPACITY, Opt, Pending, Received, Refusal, Reply, SocketId, Tried,
 };
 pub use spelled::is_spelled;
 pub use stats::{IfaceStats, SocketStats};

@@ -24,7 +24,7 @@ fn may_restart(config: BusConfig, reply: &Reply) -> bool
         Reply::Tried(tried) => tried.restarted,
         _ => IfaceSet::empty(),
     };
-    config.auto_restart != 0 || restarted == IfaceSet::empty()
+    config.auto_restart != 0 || restarted.is_empty()
 }
 
 /// Whether this reply may stand with this event.

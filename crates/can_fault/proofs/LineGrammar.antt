@@ -201,7 +201,7 @@ local_missing (Some kind) (Err line.BadLine) e = cc
 local_missing (Some kind) (Err line.UnknownInterface) e = (kind, refl, refl)
 local_missing (Some kind) (Ok set) e = cc
 
--- a text behind which nothing is missing but an interface
+-- a text after which nothing is missing but an interface
 abbrev LacksAfter : List (List ℕ) → List ℕ → Type 0
 LacksAfter names text = (kind : LocalKind) × (list : List ℕ) × (text ≡ kind_word kind ++ 32 ∷ list) × (list_all is_name (names_in list) ≡ true) × (list_all (λ piece. is_some (place_of names piece)) (names_in list) ≡ false)
 

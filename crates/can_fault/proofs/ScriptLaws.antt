@@ -33,7 +33,7 @@ same_entry p q e = cc
 same_place : (p q : ℕ × Verdict) → ◌≡◌ {A = Option Saying} (Some (Ok (Some p))) (Some (Ok (Some q))) → p.0 ≡ q.0
 same_place p q e = let same : p ≡ q = cc in ap (λ (x : ℕ × Verdict). x.0) same
 
--- a line gives the verdict, or one behind it does
+-- a line gives the verdict, or one after it does
 Gives-cons : (s : Saying) (more : List Saying) (k : ℕ) (v : Verdict) → Gives (s ∷ more) k v → (s ≡ Ok (Some (k, v))) ⊎ Gives more k v
 Gives-cons s more k v (zero, at) = inl (let same : Some s ≡ Some (Ok (Some (k, v))) = at in cc)
 Gives-cons s more k v (suc p, at) = inr (p, at)
@@ -110,7 +110,7 @@ one_line known n (Ok (Some (a, u)) ∷ more) verdicts (suc i) (suc j) k v w e p 
     let rest = after_entry known n a u more verdicts e in
     ap suc (one_line (insert known a u) (n + 1) more verdicts i j k v w rest.1 p q)
 
--- as `HasFault`, for lines from number n on behind lines that gave `known`
+-- as `HasFault`, for lines from number n on after lines that gave `known`
 abbrev pub HasFaultAfter : VerdictMap → ℕ → List Saying → ℕ → ScriptError → Type 0
 HasFaultAfter known n lines place (script.BadLine m) = (m ≡ n + place) × (slice_get lines place ≡ Some (Err line.BadLine))
 HasFaultAfter known n lines place (script.UnknownInterface m) = (m ≡ n + place) × (slice_get lines place ≡ Some (Err line.UnknownInterface))
@@ -163,7 +163,7 @@ first_fault known n (Ok (Some (a, w)) ∷ more) fault e =
           (suc rest.0, subst (λ b. IsOk (if b then Err (script.RepeatedAttempt n) else spelled_after (insert known a w) (n + 1) (take rest.0 more))) (sym none) rest.1, past_entry known n a w more rest.0 fault rest.2)
     ] refl e
 
--- behind no line
+-- after no line
 pub from_start : (lines : List Saying) (place : ℕ) (fault : ScriptError) → HasFaultAfter no_verdicts 1 lines place fault → HasFault lines place fault
 from_start lines place (script.BadLine m) h = (omega (arith, h.0), h.1)
 from_start lines place (script.UnknownInterface m) h = (omega (arith, h.0), h.1)
@@ -172,7 +172,7 @@ from_start lines place (script.RepeatedAttempt m) (number, (attempt, now, there,
     (omega (arith, number), (attempt, now, before, there, given))
 from_start lines place script.NoMemory h = h
 
--- behind a line that says nothing
+-- after a line that says nothing
 before_silent : (known : VerdictMap) (n : ℕ) (more : List Saying) (place : ℕ) (fault : ScriptError) → HasFaultAfter known n (Ok None ∷ more) (suc place) fault → HasFaultAfter known (n + 1) more place fault
 before_silent known n more place (script.BadLine m) h = (omega (arith, h.0), h.1)
 before_silent known n more place (script.UnknownInterface m) h = (omega (arith, h.0), h.1)
@@ -181,7 +181,7 @@ before_silent known n more place (script.RepeatedAttempt m) (number, (attempt, n
     (omega (arith, number), (attempt, now, there, ⊎_elim (λ other. cc) (λ later. inr (before, later)) (Gives-cons (Ok None) (take place more) attempt before given)))
 before_silent known n more place script.NoMemory h = h
 
--- behind a line that gives a verdict
+-- after a line that gives a verdict
 before_entry : (known : VerdictMap) (n a : ℕ) (w : Verdict) (more : List Saying) (place : ℕ) (fault : ScriptError) → HasFaultAfter known n (Ok (Some (a, w)) ∷ more) (suc place) fault → HasFaultAfter (insert known a w) (n + 1) more place fault
 before_entry known n a w more place (script.BadLine m) h = (omega (arith, h.0), h.1)
 before_entry known n a w more place (script.UnknownInterface m) h = (omega (arith, h.0), h.1)
@@ -227,7 +227,7 @@ again known n a w more (script.RepeatedAttempt m) (number, (attempt, now, there,
 again known n a w more (script.RepeatedAttempt m) (number, (attempt, now, there, inr (before, given))) = let none : ◌≡◌ {A = Option Saying} None (Some (Ok (Some (attempt, before)))) = given.1 in cc
 again known n a w more script.NoMemory h = absurd h
 
--- what the first faulty line has is what is told
+-- what the first faulty line has is what is reported
 pub fault_told : (known : VerdictMap) (n : ℕ) (lines : List Saying) (place : ℕ) (fault : ScriptError) → IsOk (spelled_after known n (take place lines)) → HasFaultAfter known n lines place fault → spelled_after known n lines ≡ Err fault
 fault_told known n [] place fault good has = absurd (no_line known n place fault has)
 fault_told known n (Err own ∷ more) zero fault good has = ap Err (own_fault known n own more fault has)

@@ -30,7 +30,7 @@ abbrev pub ◌>>=◌ : {A B : Type 0} → Result A LineFault → (A → Result B
 abbrev pub word : List ℕ → List ℕ
 word text = before_first (λ b. b == 32) text
 
--- the text behind its first space, or nothing
+-- the text after its first space, or nothing
 abbrev pub after : List ℕ → List ℕ
 after text = after_first (λ b. b == 32) text
 
@@ -56,7 +56,7 @@ set_spelling names text =
 abbrev pub kind_spelling : List ℕ → Option LocalKind
 kind_spelling text = if bytes_eq text (codes "stuff") then Some local.Stuff else if bytes_eq text (codes "crc") then Some local.Crc else if bytes_eq text (codes "form") then Some local.Form else None
 
--- behind `local`: the fault, a space, and the interfaces that see it
+-- after `local`: the fault, a space, and the interfaces that see it
 unfoldable pub local_spelling : List (List ℕ) → List ℕ → Result Verdict LineFault
 local_spelling names text = do
   kind ← ok_or (kind_spelling (word text)) line.BadLine
@@ -89,7 +89,7 @@ abbrev pub line_spelling : List (List ℕ) → List ℕ → Saying
 line_spelling names [] = Ok None
 line_spelling names (b ∷ bs) = if b == 35 then Ok None else entry_spelling names (b ∷ bs)
 
--- the lines of a text: the pieces between its line feeds. Behind a last line feed stands an empty
+-- the lines of a text: the pieces between its line feeds. After a last line feed comes an empty
 -- one, which says nothing
 abbrev pub lines_in : List ℕ → List (List ℕ)
 lines_in text = slice_split (λ b. b == 10) text
@@ -121,7 +121,7 @@ takes_memory (Err fault ∷ more) = false
 takes_memory (Ok None ∷ more) = takes_memory more
 takes_memory (Ok (Some entry) ∷ more) = true
 
--- what reading a text answers: what the text spells, or NoMemory where that takes memory
+-- what reading a text returns: what the text spells, or NoMemory where that takes memory
 abbrev pub Reads : List (List ℕ) → List ℕ → Result VerdictMap ScriptError → Type 0
 Reads names text (Err script.NoMemory) = IsTrue (takes_memory (sayings names text))
 Reads names text answer = script_spelling names text ≡ answer
@@ -130,7 +130,7 @@ Reads names text answer = script_spelling names text ≡ answer
 abbrev pub Gives : List Saying → ℕ → Verdict → Type 0
 Gives lines attempt verdict = (place : ℕ) × (slice_get lines place ≡ Some (Ok (Some (attempt, verdict))))
 
--- the line at a place, counted from 0, has this fault, which tells the line by its number, from 1
+-- the line at a place, counted from 0, has this fault, which names the line by its number, from 1
 abbrev pub HasFault : List Saying → ℕ → ScriptError → Type 0
 HasFault lines place (script.BadLine n) = (n ≡ place + 1) × (slice_get lines place ≡ Some (Err line.BadLine))
 HasFault lines place (script.UnknownInterface n) = (n ≡ place + 1) × (slice_get lines place ≡ Some (Err line.UnknownInterface))

@@ -1,7 +1,7 @@
 //! The faults of a bus: the verdict of each attempt, and the sources that verdicts come from.
 //!
-//! A source is a finite map from the numbers of attempts to verdicts. What it answers is that map at
-//! the attempt's number, and `Good` elsewhere, however often it is asked.
+//! A source is a finite map from the numbers of attempts to verdicts. It returns what that map has
+//! at the attempt's number, and `Good` elsewhere, however often it is asked.
 #![tactic(auto)]
 
 pub mod laws;

@@ -53,7 +53,7 @@ fn read_verdict(text: &str, names: &Names) -> Result<Verdict, LineFault>
     }
 }
 
-// What stands behind `local`.
+// What follows `local`.
 #[tactic(auto, unfolding(crate::specs::Scripts::local_spelling))]
 fn read_local(text: &str, names: &Names) -> Result<Verdict, LineFault>
     ensures { result ≡ local_spelling names.now text.now }

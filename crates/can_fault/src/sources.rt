@@ -11,7 +11,7 @@ pub trait FaultSource {
     ghost verdicts: { Self → VerdictMap };
 
     /// The verdict of the attempt with this number: what the source's map has there, and `Good`
-    /// where it has nothing. Asking changes no answer.
+    /// where it has nothing. Asking changes nothing.
     fn verdict(&mut self, attempt: u64) -> Verdict
         ensures answer { result ≡ verdict_in (verdicts self.old) attempt }
         ensures keeps { verdicts self.new ≡ verdicts self.old };

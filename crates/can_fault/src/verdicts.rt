@@ -27,9 +27,9 @@ pub enum Verdict {
     Good,
     /// A fault for the whole bus.
     Global(GlobalKind),
-    /// A fault for the receivers among these interfaces alone.
+    /// A fault for the receivers among these interfaces only.
     Local(IfaceSet, LocalKind),
-    /// The transmitter alone sees a fault, in the last bit of end of frame: the receivers have the
+    /// Only the transmitter sees a fault, in the last bit of end of frame: the receivers have the
     /// frame already, and it is sent again.
     LastBit,
 }

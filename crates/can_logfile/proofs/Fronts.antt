@@ -64,7 +64,7 @@ lines-more names k past e t lt at is =
     ∙ flat_map-append (λ line. line) (map (log_line names) (tape (front k past))) (log_line names t ∷ [])
     ∙ ap (λ (x : List ℕ). joined (log_lines names (front k past)) ++ x) (append-nil (log_line names t))
 
--- the place behind a front holds what stands there
+-- the place after a front holds what is there
 at_length : (xs : List (List ℕ)) (x : List ℕ) (ys : List (List ℕ)) → get_or (xs ++ x ∷ ys) (length xs) x ≡ x
 at_length [] x ys = refl
 at_length (y ∷ xs) x ys = at_length xs x ys

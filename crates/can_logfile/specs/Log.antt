@@ -50,7 +50,7 @@ tried_in (Some e) = tried_of e.reply
 abbrev pub log_lines : List (List ℕ) → List Entry → List (List ℕ)
 log_lines names past = map (log_line names) (tape past)
 
--- lines one behind another
+-- lines one after another
 abbrev pub joined : List (List ℕ) → List ℕ
 joined lines = flat_map (λ line. line) lines
 
@@ -59,7 +59,7 @@ abbrev pub LineGoesOut : Option (List ℕ) → Option (List ℕ) → List ℕ �
 LineGoesOut old new line true = Appends old new line
 LineGoesOut old new line false = (front : ℕ) × (front < length line) × Appends old new (take front line)
 
--- so many whole lines went out, and a proper front of the next line
+-- this many whole lines went out, and a proper front of the next line
 pub record TornAfter (old new : Option (List ℕ)) (lines : List (List ℕ)) (whole : ℕ) : Type 0 where
   pub next : List ℕ
   pub there : slice_get lines whole ≡ Some next

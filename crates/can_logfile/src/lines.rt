@@ -6,7 +6,7 @@ use can_attempt::Class;
 use can_bus::Tried;
 use can_frame::{Iface, Item, Moment, Names, Text, frame_text};
 
-/// A line of the log. The longest has 176 bytes: 20 to the space behind the moment, 15 of a name, a space, 139
+/// A line of the log. The longest has 176 bytes: 20 to the space after the moment, 15 of a name, a space, 139
 /// of a frame and one LF.
 pub type LogLine = Text<192>;
 

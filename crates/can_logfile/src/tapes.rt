@@ -7,7 +7,7 @@ use can_frame::Names;
 use std::io::Write;
 use thiserror::Error;
 
-/// The writer failed, after so many whole lines.
+/// The writer failed, after this many whole lines.
 #[derive(Debug, Clone, Copy, PartialEq, Eq, Error)]
 #[error("write fault")]
 pub struct LogFault {
@@ -15,7 +15,7 @@ pub struct LogFault {
     pub whole_lines: u64,
 }
 
-/// Writes the record's tape: a line for each tried frame, the oldest first. Answers how many lines.
+/// Writes the record's tape: a line for each tried frame, the oldest first. Returns how many lines.
 ///
 /// A line is `(SSSSSSSSSS.MMMMMM) NAME TEXT` and LF: the moment in seconds, the name of the winner's
 /// interface (`?` where it has none), and the frame's text. Where the frame was destroyed the text is
@@ -28,7 +28,7 @@ pub struct LogFault {
 pub fn write_tape<W: Write>(names: &Names, record: &Record, writer: &mut W) -> Result<u64, LogFault>
     ensures { LinesGoOut (W.contents writer.old) (W.contents writer.new) (log_lines names.now «record».now.history) result }
 {
-    // Counting the names tells the proof that none is long.
+    // Counting the names shows that none is long.
     let _count = names.count();
     let mut whole_lines = 0;
     for place in 0..record.len() {
@@ -54,7 +54,7 @@ fn tried_at(record: &Record, place: usize) -> Option<Tried>
     }
 }
 
-/// Writes a line. Answers false where the writer failed: then only a proper front of the line is out.
+/// Writes a line. Returns false if the writer failed: then only a proper front of the line is out.
 fn write_line<W: Write>(writer: &mut W, line: &[u8]) -> bool
     ensures { LineGoesOut (W.contents writer.old) (W.contents writer.new) line.now result }
 {

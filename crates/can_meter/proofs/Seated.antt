@@ -92,7 +92,7 @@ module _ {S : Type 0} (word found : ℕ) (me after : Me S View) where
   shows_one r =
       ap lists_of r.1 ∙ ap (with_list (lists_of me.0) word) (sym (ap (λ v. published (lists_of v) word) r.1 ∙ published-with_list (lists_of me.0) word r.0))
 
--- what a keeper is told that took in one gauge
+-- what a keeper learns that took in one gauge
 pub keeper_learns : {S : Type 0} (me other taken : Me S View) (mine theirs : List (List Status)) → me ≡ (Keeps mine [], []) → other ≡ (Watches theirs [], [])
     → taken ≡ (taken_in me.0 other.0, me.1) → AllEnd (olds_of taken.0) (lists_of taken.0) → Ends theirs mine
 keeper_learns {S} me other taken mine theirs is other_is taken_is all =

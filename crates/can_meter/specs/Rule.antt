@@ -10,7 +10,8 @@ use Rattle.can_meter.specs.declared.rule.View.TheVariants.{Keeps, Watches, Spent
 use Rattle.can_meter.specs.Publications.{newest, published, with_list, with_newest, longer_lists, Ends}
 use Rattle.can_meter.specs.Words.{meant, Fits}
 
--- The rule that a meter's words and seats keep between any two steps, and what each step tells its caller. No caller's contract speaks of it.
+-- The rule that a meter's words and seats keep between any two steps, and what each step returns to its caller. No caller's
+-- contract speaks of it.
 
 -- each publication fits in a word, and is of a longer record than the one before it
 abbrev pub AreRising : List Status → Type 0
@@ -63,7 +64,7 @@ taken_in (Keeps lists olds) w = Keeps lists (lists_of w ∷ olds)
 taken_in (Watches lists olds) w = Watches (longer_lists lists (lists_of w)) (lists ∷ lists_of w ∷ olds)
 taken_in Spent w = Spent
 
--- a seat that was told of its old lists, and dropped them
+-- a seat once it has dropped its old lists
 abbrev pub told : View → View
 told (Keeps lists olds) = Keeps lists []
 told (Watches lists olds) = Watches lists []

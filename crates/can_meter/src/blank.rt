@@ -14,7 +14,7 @@ pub(crate) type Words = Table<(), View, usize, Law, Global>;
 /// What its holder knows of the words. It has no bytes.
 pub(crate) type Place = Seat<(), View>;
 
-/// Names one meter for each number, for contracts alone. It has no calls.
+/// Names one meter for each number, for contracts only. It has no calls.
 ///
 /// A keeper and its gauges are of a type that names their meter, so no contract takes a gauge for one of
 /// another meter.

@@ -62,7 +62,7 @@ impl<N: MeterName> Gauge<N> {
         read_word(word)
     }
 
-    /// Two gauges that have seen as much as this one. It comes back alone where `another` is refused.
+    /// Two gauges that have seen as much as this one. Only this one comes back if `another` is refused.
     pub fn split(mut self) -> Result<(Gauge<N>, Gauge<N>), Gauge<N>>
         ensures { MatchResult result (λ gauges. (gauges.0 ≡ self) × (gauges.1 ≡ self)) (λ gauge. gauge ≡ self) }
     {

@@ -1,5 +1,5 @@
-//! The rule of a meter's table, and the kinds of step that keep it. All of this exists for contracts
-//! alone: no value of these types is made.
+//! The rule of a meter's table, and the kinds of step that keep it. All of this exists only for
+//! contracts: no value of these types is made.
 
 use crate::status::Status;
 use atomic_table::{Join, Play, Split, TableRule};

@@ -5,6 +5,7 @@ use crate::stored::Stored;
 use crate::unpacking::{event_in, reply_in};
 use can_event::Entry;
 use std::marker::Model;
+use std::ops::Deref;
 
 /// An entry that is looked at: made for the look, or borrowed from where it is kept. Contracts see the entry.
 #[derive(Drop)]
@@ -52,5 +53,15 @@ impl<'a> Looked<'a> {
             Sight::Made(entry) => entry,
             Sight::Lent(entry) => entry,
         }
+    }
+}
+
+impl<'a> Deref for Looked<'a> {
+    type Target = Entry;
+
+    ghost deref_gives = { λ looked entry. entry ≡ looked };
+
+    fn deref(&self) -> &Entry {
+        self.entry()
     }
 }

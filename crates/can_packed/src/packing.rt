@@ -242,6 +242,6 @@ fn stamp_of(moment: Moment, winner: Iface, len: u8, off: IfaceSet) -> u64
     ensures len { stamp_len result ≡ len }
     ensures off { stamp_off result ≡ off }
 {
-    let went_off = if off.0 == 0 { 0 } else { 1 };
+    let went_off = if off.is_empty() { 0 } else { 1 };
     moment.micros() * 512 + u64::from(winner.number()) * 32 + u64::from(len) * 2 + went_off
 }

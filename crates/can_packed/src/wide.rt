@@ -38,5 +38,5 @@ fn is_large(number: u64) -> bool
 fn is_off_alone(winner: Iface, off: IfaceSet) -> bool
     ensures { result ≡ is_off_alone winner off }
 {
-    off.0 == 0 || off.0 == 1 << winner.number()
+    off.is_empty() || off.0 == 1 << winner.number()
 }

@@ -2,17 +2,17 @@ use Rattle.std.proofs.Common.{◌≡◌, ℕ, Bool, true, false, if◌then◌els
 
 -- Texts are cut at marks.
 
--- no mark stands in it
+-- no mark is in it
 abbrev pub clear : (ℕ → Bool) → List ℕ → Bool
 clear mark [] = true
 clear mark (b ∷ bs) = if mark b then false else clear mark bs
 
--- what stands before the first mark
+-- what comes before the first mark
 abbrev up_to : (ℕ → Bool) → List ℕ → List ℕ
 up_to mark [] = []
 up_to mark (b ∷ bs) = if mark b then [] else b ∷ up_to mark bs
 
--- what stands behind it
+-- what comes after it
 abbrev past : (ℕ → Bool) → List ℕ → List ℕ
 past mark [] = []
 past mark (b ∷ bs) = if mark b then bs else past mark bs

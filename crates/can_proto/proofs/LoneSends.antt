@@ -14,7 +14,7 @@ use Rattle.can_proto.specs.Words.{is_blank, front, words_after, words_of}
 use Rattle.can_proto.specs.Commands.{◌>>=◌, or_fault, short_id, long_id, id_of, length_of, bytes_of, send_of, arguments_of, reading, IsLoneSend}
 use Rattle.can_proto.proofs.Pieces.{closes}
 
--- no mark stands in any of the words
+-- no mark is in any of the words
 abbrev AreClear : List (List ℕ) → Type 0
 AreClear [] = Unit {0}
 AreClear (word ∷ words) = (has_mark word ≡ false) × AreClear words
@@ -36,7 +36,7 @@ head-clear b bs h = by (is_mark b) (has_mark bs) h
 cons-clear : (b : ℕ) (bs : List ℕ) → is_mark b ≡ false → has_mark bs ≡ false → has_mark (b ∷ bs) ≡ false
 cons-clear b bs h k = rw h k
 
--- by the rest of a word and the words behind it
+-- by the rest of a word and the words after it
 clear-after : (text : List ℕ) → ((AreClear (words_after true text) → has_mark text ≡ false) × (has_mark (front text) ≡ false → AreClear (words_after false text) → has_mark text ≡ false))
 clear-after [] = (λ h. refl, λ h k. refl)
 clear-after (b ∷ bs) =

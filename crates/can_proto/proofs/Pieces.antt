@@ -59,7 +59,7 @@ run-all a h = ap run_of (sym (append-nil a)) ∙ run-on a [] h ∙ append-nil a
 closed-none : (a : List ℕ) → has_mark a ≡ false → is_closed a ≡ false
 closed-none a h = ap is_closed (sym (append-nil a)) ∙ closed-on a [] h
 
--- what a `<` gives, and what it leaves, with a mark behind it
+-- what a `<` gives, and what it leaves, with a mark after it
 given-within : (a b : List ℕ) → has_mark a ≡ true → given_by (a ++ b) ≡ given_by a
 given-within a b h = rw (run-within a b h, closed-within a b h) refl
 
@@ -103,7 +103,7 @@ messages-none a h = ap messages_of (sym (append-nil a)) ∙ messages-past a [] h
 kept-none : (a : List ℕ) → has_open_mark a ≡ false → kept_of a ≡ []
 kept-none a h = ap kept_of (sym (append-nil a)) ∙ kept-past a [] h
 
--- a `<` with no other behind it
+-- a `<` with no other after it
 last_open : (a b : List ℕ) → has_open_mark a ≡ false → given_by (a ++ b) ++ messages_of (a ++ b) ≡ (given_by a ++ messages_of a) ++ messages_of (left_by a ++ b)
 last_open a b h =
     let none = messages-none a h in
@@ -281,7 +281,7 @@ too_long run more h k long =
 pub passes_by : (more : List ℕ) → has_mark more ≡ false → (messages_of more ≡ []) × (kept_of more ≡ [])
 passes_by more h = let none = no_open more h in (messages-none more none, kept-none more none)
 
--- a message that stands whole
+-- a message that is there whole
 pub message-between : (inside rest : List ℕ) → has_mark inside ≡ false → length inside ≤ limit → messages_of ((60 ∷ (inside ++ 62 ∷ [])) ++ rest) ≡ Message inside ∷ messages_of rest
 message-between inside rest clear short =
     let c = closes inside clear short in

@@ -1,11 +1,11 @@
--- The words of a cause tell it.
+-- The words of a cause determine it.
 use Rattle.std.proofs.Common.{◌≡◌, ℕ, List, if◌then◌else◌, codes, refl, sym, ap, ◌∙◌}
 use Rattle.can_proto.specs.declared.answers.Cause.{Cause}
 use Rattle.can_proto.specs.declared.answers.Cause.TheVariants as cause
 use Rattle.can_proto.specs.Causes.{cause_text}
 use Rattle.can_proto.specs.Verbs.{is_word}
 
--- the cause that words tell, none but theirs
+-- the cause that has these words
 abbrev cause_in : List ℕ → Cause
 cause_in text =
     if is_word text (codes "record full") then cause.RecordFull else

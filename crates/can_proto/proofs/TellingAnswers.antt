@@ -25,14 +25,14 @@ use Rattle.can_proto.proofs.Numerals.{clear-decimal}
 use Rattle.can_proto.proofs.Telling.{one-cause}
 use Rattle.can_proto.proofs.TellingItems.{is_space, is_point, no-space, no-point}
 
--- The text of an answer tells it.
+-- The text of a reply determines it.
 
--- counts with a space before each, behind a text
+-- counts with a space before each, after a text
 abbrev behind : List ℕ → List ℕ → List ℕ
 behind text [] = text
 behind text (n ∷ ns) = behind ((text ++ 32 ∷ []) ++ decimal n) ns
 
--- counts with a space behind each, and the mark
+-- counts with a space after each, and the mark
 abbrev row : List ℕ → List ℕ
 row [] = 62 ∷ []
 row (n ∷ ns) = decimal n ++ 32 ∷ row ns
@@ -69,7 +69,7 @@ clear-state Warning = (refl, refl)
 clear-state Passive = (refl, refl)
 clear-state Off = (refl, refl)
 
--- the fourth and the seventh byte tell what kind of answer it is
+-- the fourth and the seventh byte say what kind of reply it is
 abbrev kind : List ℕ → ℕ
 kind text = get_or text 3 0 + get_or text 6 0
 
@@ -118,7 +118,7 @@ one-answer (Closing c) (Closing d) ha hb e =
 one-answer (Refused a) (Refused b) ha hb e = ap Refused (one-cause a b (append_cancel_right (cause_text a) (cause_text b) (codes " >") (ap (drop 8) e)))
 one-answer a b ha hb e = let k = same-mark a b e in absurd (omega (arith, k))
 
--- a moment has a point, and no answer has one
+-- a moment has a point, and no reply has one
 
 clear-row : (ns : List ℕ) → AreSmall ns → clear is_point (row ns) ≡ true
 clear-row [] h = refl
@@ -142,7 +142,7 @@ clear-answer (Status c) h =
 clear-answer (Closing c) h = clear-behind c.unread (c.dropped ∷ []) h
 clear-answer (Refused why) h = clear-cause why
 
--- a text in which a moment stands behind a word
+-- a text in which a moment follows a word
 pointed : (front : List ℕ) (m : ℕ) (rest : List ℕ) → clear is_point ((front ++ moment_text m) ++ rest) ≡ false
 pointed front m rest =
     marked-left is_point (front ++ moment_text m) rest

@@ -13,7 +13,7 @@ use Rattle.can_proto.proofs.Cuts.{clear, clear-append, cut}
 use Rattle.can_proto.proofs.Numerals.{IsMark, clear-digits, clear-pairs, clear-decimal}
 use Rattle.can_frame.proofs.Numerals.{left, value-digits, same-digits}
 
--- What a client is told of items tells them apart.
+-- Different items have different texts.
 
 abbrev pub is_space : ℕ → Bool
 is_space b = b == 32
@@ -110,7 +110,7 @@ same-identifier a b ha hb e =
     let h = same-id a.extended b.extended a.number b.number ha hb e in
     ap (λ (x : Bool). record { extended = x; number = a.number }) h.0 ∙ ap (λ (k : ℕ). record { extended = b.extended; number = k }) h.1
 
--- the third byte tells what kind of text it is
+-- the third byte says what kind of text it is
 third : List ℕ → ℕ
 third text = get_or text 2 0
 

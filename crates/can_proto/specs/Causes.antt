@@ -6,9 +6,9 @@ use Rattle.can_proto.specs.declared.faults.ProtoFault.TheVariants as fault
 use Rattle.can_proto.specs.declared.answers.Cause.{Cause}
 use Rattle.can_proto.specs.declared.answers.Cause.TheVariants as cause
 
--- Why a client's message was not carried out, and how that is told (own choice).
+-- Why a client's message was not carried out, and how that is reported (own choice).
 
--- the words that tell it
+-- its words
 abbrev pub cause_text : Cause → List ℕ
 cause_text cause.NoMemory = codes "no memory"
 cause_text cause.RecordFull = codes "record full"
@@ -36,7 +36,7 @@ cause_text cause.MessageTooLong = codes "message too long"
 cause_text cause.TooManySessions = codes "too many sessions"
 cause_text cause.WrongStation = codes "wrong station"
 
--- what a fault of a message is told as
+-- how a fault of a message is reported
 abbrev pub cause_of_fault : ProtoFault → Cause
 cause_of_fault fault.NoMemory = cause.NoMemory
 cause_of_fault fault.InvalidFilter = cause.InvalidFilter
@@ -51,7 +51,7 @@ cause_of_fault fault.BadLength = cause.BadLength
 cause_of_fault fault.BadByte = cause.BadByte
 cause_of_fault fault.BadNumber = cause.BadNumber
 
--- what a refusal of the bus is told as
+-- how a refusal of the bus is reported
 abbrev pub cause_of_refusal : Refusal → Cause
 cause_of_refusal refusal.RecordFull = cause.RecordFull
 cause_of_refusal refusal.NoInterface = cause.NoInterface

@@ -36,12 +36,12 @@ abbrev pub TakesMemory : {A : Type 0} → (A → Bool) → Result A ProtoFault �
 TakesMemory heavy (Ok x) = IsTrue (heavy x)
 TakesMemory heavy (Err e) = ⊥
 
--- the answer is what reading gives, but for want of memory where that would be kept on the heap
+-- the result is what reading gives, but for want of memory where that would be kept on the heap
 abbrev pub GivesBut : {A : Type 0} → (A → Bool) → Result A ProtoFault → Result A ProtoFault → Type 0
 GivesBut heavy (Err NoMemory) read = TakesMemory heavy read
 GivesBut heavy answer read = read ≡ answer
 
--- the answer is what reading gives
+-- the result is what reading gives
 abbrev pub Gives : {A : Type 0} → Result A ProtoFault → Result A ProtoFault → Type 0
 Gives answer read = GivesBut (λ _. false) answer read
 
@@ -50,7 +50,7 @@ abbrev pub or_fault : {A : Type 0} → ProtoFault → Option A → Result A Prot
 or_fault fault None = Err fault
 or_fault fault (Some x) = Ok x
 
--- bit 31, by which linux/can.h marks 29-bit identifiers, may stand and is cleared
+-- bit 31, by which linux/can.h marks 29-bit identifiers, may be set and is cleared
 abbrev pub cleared : ℕ → ℕ
 cleared n = if nat_lt n (2 ^ 31) then n else n - 2 ^ 31
 
@@ -170,7 +170,7 @@ abbrev pub alone : Command → List (List ℕ) → Result Command ProtoFault
 alone command [] = Ok command
 alone command _ = Err BadCount
 
--- what the words behind the first one say
+-- what the words after the first one say
 unfoldable pub arguments_of : Verb → List (List ℕ) → Result Command ProtoFault
 arguments_of verb.Echo words = alone Echo words
 arguments_of verb.Open words = open_of words
@@ -191,7 +191,7 @@ arguments_of verb.Status words = alone Status words
 arguments_of verb.Restart words = alone Restart words
 arguments_of verb.Close words = alone Close words
 
--- what a verb says with the words behind it, in a mode
+-- what a verb says with the words after it, in a mode
 abbrev pub command_of : Mode → List (List ℕ) → Option Verb → Result Command ProtoFault
 command_of mode words None = Err UnknownCommand
 command_of mode words (Some v) = if stands_in v mode then arguments_of v words else Err WrongState

@@ -23,7 +23,7 @@ abbrev pub is_closed : List ℕ → Bool
 is_closed [] = false
 is_closed (b ∷ bs) = if is_close_mark b then true else if is_open_mark b then false else is_closed bs
 
--- how many bytes may stand inside a message (own choice)
+-- how many bytes may be inside a message (own choice)
 abbrev pub limit : ℕ
 limit = 1024
 
@@ -36,12 +36,12 @@ abbrev pub messages_of : List ℕ → List Incoming
 messages_of [] = []
 messages_of (b ∷ bs) = if is_open_mark b then given_by bs ++ messages_of bs else messages_of bs
 
--- a `<` stands in it
+-- it has a `<`
 abbrev pub has_open_mark : List ℕ → Bool
 has_open_mark [] = false
 has_open_mark (b ∷ bs) = is_open_mark b || has_open_mark bs
 
--- a mark stands in it
+-- it has a mark
 abbrev pub has_mark : List ℕ → Bool
 has_mark [] = false
 has_mark (b ∷ bs) = (is_open_mark b || is_close_mark b) || has_mark bs

@@ -2,7 +2,7 @@ use Rattle.std.specs.Prelude.{ℕ, Bool, if◌then◌else◌, List, [], ◌∷�
 use Rattle.can_proto.specs.declared.scanning.Place.{Place}
 use Rattle.can_proto.specs.declared.scanning.Place.TheVariants.{Outside, Carried, At}
 
--- What the parts of a reader stand for.
+-- What the parts of a reader mean.
 
 -- the text kept: `<` and the bytes inside where a run is being read
 abbrev pub text_of : Bool → List ℕ → List ℕ
@@ -14,7 +14,7 @@ text_at held piece i Outside = []
 text_at held piece i Carried = 60 ∷ (held ++ take i piece)
 text_at held piece i (At start) = 60 ∷ drop start (take i piece)
 
--- the place is not behind byte i
+-- the place is not after byte i
 abbrev pub IsWithin : Place → ℕ → Type 0
 IsWithin (At start) i = start ≤ i
 IsWithin _ i = Unit {0}

@@ -15,7 +15,7 @@ use Rattle.can_proto.specs.declared.answers.Answer.{Answer}
 use Rattle.can_proto.specs.declared.answers.Answer.TheVariants.{Greeting, Done, Echo, Stats, Status, Closing, Refused}
 use Rattle.can_proto.specs.Causes.{cause_text}
 
--- How answers and received items are written to a client (socketcand's raw mode; the exact texts are own choice).
+-- How replies and received items are written to a client (socketcand's raw mode; the exact texts are own choice).
 
 -- how many hexadecimal digits an error class takes, at least 3
 abbrev pub class_width : ℕ → ℕ
@@ -30,7 +30,7 @@ class_width class =
 abbrev pub class_text : ℕ → List ℕ
 class_text class = digits 16 (class_width class) class
 
--- a data frame with its moment; without data two spaces stand together
+-- a data frame with its moment; without data there are two spaces
 abbrev pub data_text : CanFrame → ℕ → List ℕ
 data_text frame micros = codes "< frame " ++ id_text frame.id ++ codes " " ++ moment_text micros ++ codes " " ++ pairs (payload_bytes frame.payload) ++ codes " >"
 
@@ -47,12 +47,12 @@ abbrev pub error_text : Bool → ErrorMessage → ℕ → List ℕ
 error_text false e micros = codes "< error " ++ class_text e.class ++ codes " " ++ moment_text micros ++ codes " >"
 error_text true e micros = codes "< error " ++ class_text e.class ++ codes " " ++ moment_text micros ++ codes " " ++ pairs e.bytes ++ codes " >"
 
--- what a client is told of an item that its socket received
+-- the text of an item that a client's socket received
 abbrev pub item_text : Bool → Item → ℕ → List ℕ
 item_text errdata (item.Data frame) micros = if is_remote frame.payload then remote_text frame micros else if is_fd frame.payload then fd_text frame micros else data_text frame micros
 item_text errdata (item.Error e) micros = error_text errdata e micros
 
--- what is told of an item where the data of error message frames are not asked for: of these the class alone
+-- the text of an item where the data of error message frames are not asked for: of these only the class
 abbrev pub without_data : Item → Item
 without_data (item.Data frame) = item.Data frame
 without_data (item.Error e) = item.Error (record { class = e.class; bytes = [] })
@@ -72,7 +72,7 @@ state_word Off = codes "off"
 abbrev pub status_text : ErrorCounts → List ℕ
 status_text c = codes "< status " ++ state_word (state_of c) ++ codes " " ++ decimal c.tec ++ codes " " ++ decimal c.rec ++ codes " >"
 
--- what a client is answered
+-- the reply to a client
 abbrev pub reply_text : Answer → List ℕ
 reply_text Greeting = codes "< hi >"
 reply_text Done = codes "< ok >"
@@ -82,7 +82,7 @@ reply_text (Status c) = status_text c
 reply_text (Closing c) = codes "< closed " ++ decimal c.unread ++ codes " " ++ decimal c.dropped ++ codes " >"
 reply_text (Refused why) = codes "< error " ++ cause_text why ++ codes " >"
 
--- the eight counts of `stats` that are told; an interface's error counters are not
+-- the eight counts of `stats` that are shown; an interface's error counters are not
 abbrev pub told_counts : SocketStats → IfaceStats → List ℕ
 told_counts s i = s.queued ∷ s.dropped ∷ s.taken ∷ i.sent ∷ i.done ∷ i.waiting ∷ i.lost ∷ i.refused ∷ []
 
@@ -93,7 +93,7 @@ IsAnswer (Status c) = All (λ n. n < 2 ^ 64) (c.tec ∷ c.rec ∷ [])
 IsAnswer (Closing c) = All (λ n. n < 2 ^ 64) (c.unread ∷ c.dropped ∷ [])
 IsAnswer _ = Unit {0}
 
--- answers that are one but for what is not told
+-- replies that are equal in all that is shown
 abbrev pub AreAlike : Answer → Answer → Type 0
 AreAlike (Stats s i) (Stats t j) = told_counts s i ≡ told_counts t j
 AreAlike one other = one ≡ other

@@ -38,7 +38,7 @@ named word =
     if is_word word (codes "close") then Some Close else
     if is_other_mode word then Some OtherMode else None
 
--- the mode has the command: `open` stands before an interface is opened, `echo` always, the modes once it is opened,
+-- the mode has the command: `open` before an interface is opened, `echo` always, the modes once it is opened,
 -- all others in raw mode; a session that has ended has none
 abbrev pub stands_in : Verb → Mode → Bool
 stands_in Open NoBus = true

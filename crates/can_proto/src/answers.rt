@@ -5,14 +5,14 @@ use crate::faults::ProtoFault;
 use can_confine::Counters;
 use can_event::{Closed, IfaceStats, Refusal, SocketStats};
 
-/// What a client is answered.
+/// A reply to a client.
 #[derive(Debug, Clone, Copy, PartialEq, Eq)]
 pub enum Answer {
     /// The first text of a session.
     Greeting,
     /// The command was done.
     Done,
-    /// The answer to echo.
+    /// The reply to `echo`.
     Echo,
     /// What became of the items offered to the socket and of the frames of its interface.
     Stats(SocketStats, IfaceStats),
@@ -55,7 +55,7 @@ pub enum Cause {
 }
 
 impl Cause {
-    /// The words that tell it, at most 18 bytes.
+    /// Its words, at most 18 bytes.
     pub fn text(self) -> &'static [u8]
         ensures text { result.now ≡ cause_text self }
         ensures short { length result.now ≤ 18 }

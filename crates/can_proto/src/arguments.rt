@@ -74,7 +74,7 @@ fn read_open(alloc: Global, rest: &[u8]) -> Result<Command, ProtoFault>
     }
 }
 
-/// A command that stands alone.
+/// A command without arguments.
 fn read_alone(command: Command, rest: &[u8]) -> Result<Command, ProtoFault>
     ensures { Gives result (alone command (words_of rest.now)) }
 {
@@ -84,7 +84,7 @@ fn read_alone(command: Command, rest: &[u8]) -> Result<Command, ProtoFault>
     }
 }
 
-/// What the words behind a verb say.
+/// What the words after a verb say.
 #[tactic(auto, unfolding(crate::specs::Commands::arguments_of))]
 pub fn read_arguments(alloc: Global, verb: Verb, rest: &[u8]) -> Result<Command, ProtoFault>
     ensures { GivesBut takes_memory result (arguments_of verb (words_of rest.now)) }

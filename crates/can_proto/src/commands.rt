@@ -60,7 +60,7 @@ impl WantedName {
 /// What a client asks for.
 #[derive(Debug, Drop)]
 pub enum Command {
-    /// To be answered.
+    /// To get a reply.
     Echo,
     /// To open the interface of this name.
     Open(WantedName),
@@ -72,11 +72,11 @@ pub enum Command {
     SetFilters(FilterSet),
     /// To change an option of the socket.
     SetOption(Opt),
-    /// To be told the data of error message frames, or their classes alone.
+    /// To get the data of error message frames, or only their classes.
     ErrData(bool),
-    /// To be told what became of the frames.
+    /// To get the counts of frames and items.
     Stats,
-    /// To be told the error counters of the interface, and the state that they give.
+    /// To get the error counters of the interface, and the state that they give.
     Status,
     /// To take the interface out of bus off.
     Restart,

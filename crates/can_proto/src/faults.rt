@@ -1,6 +1,6 @@
 use thiserror::Error;
 
-/// Why a message is no command. The text is what the client is told.
+/// Why a message is no command. The text is what the client reads.
 #[derive(Debug, Clone, Copy, PartialEq, Eq, Error)]
 pub enum ProtoFault {
     /// Memory was refused.

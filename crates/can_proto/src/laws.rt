@@ -25,13 +25,13 @@ pub fn bytes_between_marks_are_a_message()
     ensures { (inside rest : List ℕ) → has_mark inside ≡ false → length inside ≤ 1024 → messages_of (codes "<" ++ inside ++ codes ">" ++ rest) ≡ Incoming.Message inside ∷ messages_of rest }
 {}
 
-/// No two causes are told by the same words.
+/// No two causes have the same words.
 pub fn words_tell_one_cause()
     ensures { (one other : Cause) → cause_text one ≡ cause_text other → one ≡ other }
 {}
 
-/// What a client is told of items tells them apart, and their moments. Where the data of error message
-/// frames are not asked for they are left out, and their classes and moments alone are told apart.
+/// Different items, or moments, have different texts. Where the data of error message
+/// frames are not asked for they are left out, and only their classes and moments differ in the text.
 pub fn texts_tell_items_apart()
     ensures whole { (i j : AnItem) (m n : ℕ) →
         IsItem i → IsItem j → m < 10 ^ 16 → n < 10 ^ 16 →
@@ -52,8 +52,8 @@ pub fn written_commands_are_read()
         reading mode (words_of (codes " " ++ command_spelling c ++ codes " ")) ≡ Ok c }
 {}
 
-/// No text belongs to two answers, but that those to `stats` leave the error counters out; and none to an
-/// answer and an item.
+/// No text belongs to two replies, except that those to `stats` leave the error counters out; and none to
+/// a reply and an item.
 pub fn answers_tell_apart()
     ensures one_answer { (one other : AnAnswer) →
         IsAnswer one → IsAnswer other → reply_text one ≡ reply_text other → AreAlike one other }

@@ -1,12 +1,12 @@
 //! The protocol between a session and its client, in the shape of socketcand's raw mode.
 //!
 //! A client's bytes come in pieces that end anywhere. `Reader` makes messages of them: what it gives is
-//! fixed by the bytes alone, however they were cut. `Command::read` says what a message asks for in the
-//! session's mode, or the first fault in it. `reply_text` and `item_text` write what a client is answered and
+//! fixed by the bytes, however they were cut. `Command::read` says what a message asks for in the
+//! session's mode, or the first fault in it. `reply_text` and `item_text` write what a client gets as a reply and
 //! what it receives, byte for byte as their definitions spell it.
 //!
 //! The laws say that nothing is lost on the way: every cut of a stream gives the same messages, what is written of
-//! a command is read back as that command, and the texts of items and answers tell them apart.
+//! a command is read back as that command, and different items and replies have different texts.
 #![tactic(auto)]
 
 pub mod answers;

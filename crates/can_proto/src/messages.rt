@@ -41,6 +41,6 @@ impl Message {
 pub enum Incoming {
     /// A whole message.
     Message(Message),
-    /// A `<` with more than 1,024 bytes behind it before the next mark.
+    /// A `<` with more than 1,024 bytes after it before the next mark.
     TooLong,
 }

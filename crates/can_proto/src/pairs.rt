@@ -3,10 +3,10 @@ ghost use Rattle.can_proto.specs.Words.{is_blank, words_of};
 ghost use Rattle.can_frame.specs.Numbers.{hex_digit, number_in};
 ghost use Rattle.can_proto.specs.Pairs.{IsFirstByte};
 
-/// What a byte that is no digit stands for.
+/// The value of a byte that is no digit.
 const NO_DIGIT: u8 = 16;
 
-/// What a hexadecimal digit stands for, or else 16.
+/// The value of a hexadecimal digit, or else 16.
 #[inline(always)]
 fn digit_or_16(byte: u8) -> u8
     ensures value { MatchOption (hex_digit byte) (result ≡ 16) (λ v. (result ≡ v) × (v < 16)) }

@@ -5,7 +5,7 @@ ghost use Rattle.can_proto.specs.Scanning.{text_at, text_of, IsWithin};
 use crate::messages::{Incoming, Message};
 use std::alloc::{AllocError, Global};
 
-/// How many bytes may stand inside a message.
+/// How many bytes may be inside a message.
 pub const LIMIT: usize = 1024;
 
 /// Where the run that is being read began.
@@ -22,8 +22,8 @@ pub enum Place {
 /// How many bytes are looked through at once.
 const BLOCK: usize = 16;
 
-/// Whether a mark stands in the block from a byte on. No byte of it decides early, so that the
-/// compiler can compare them all at once.
+/// Whether the block from a byte on has a mark. Branch-free, so that the
+/// compiler can compare all bytes at once.
 fn block_has_mark(piece: &[u8], from: usize) -> bool
     requires { from + 16 ≤ length piece.now }
     ensures { result ≡ has_mark (drop from (take (from + 16) piece.now)) }
@@ -35,7 +35,7 @@ fn block_has_mark(piece: &[u8], from: usize) -> bool
     found
 }
 
-/// Behind the whole blocks from a byte on that have no mark.
+/// After the whole blocks from a byte on that have no mark.
 fn clear_blocks(piece: &[u8], from: usize) -> usize
     requires { from ≤ length piece.now }
     ensures after { from ≤ result }

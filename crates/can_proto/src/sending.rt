@@ -71,7 +71,7 @@ fn read_fd_length(word: &[u8]) -> Result<usize, ProtoFault>
     }
 }
 
-/// The byte that 1 or 2 hexadecimal digits stand for.
+/// The byte that 1 or 2 hexadecimal digits spell.
 fn read_byte(word: &[u8]) -> Option<u8>
     ensures { result ≡ number_in 16 2 word.now }
 {
@@ -79,8 +79,8 @@ fn read_byte(word: &[u8]) -> Option<u8>
     Some(number as u8)
 }
 
-/// The bytes that so many words spell, in the first places of `N`. A wrong count comes before a word
-/// that spells no byte.
+/// The bytes that this many words spell, in the first places of `N`. A wrong count comes before a
+/// word that spells no byte.
 fn read_bytes<const N: usize>(rest: &[u8], len: usize) -> Result<[u8; N], ProtoFault>
     requires small { len ≤ N }
     ensures count { IfOk result (λ bytes. (length (words_of rest.now) == len) ≡ true) }
@@ -100,7 +100,7 @@ fn read_bytes<const N: usize>(rest: &[u8], len: usize) -> Result<[u8; N], ProtoF
     }
 }
 
-/// The byte that the first word spells, and what follows it, where so many words should follow.
+/// The byte that the first word spells, and what follows it, where this many words should follow.
 #[inline(always)]
 fn next_byte(text: &[u8], left: usize) -> Result<(u8, &[u8]), ProtoFault>
     ensures value { IfOk result (λ found. IsFirstByte found.0 (words_of text.now) (words_of found.1.now)) }
@@ -112,7 +112,7 @@ fn next_byte(text: &[u8], left: usize) -> Result<(u8, &[u8]), ProtoFault>
     }
 }
 
-/// The same, however the word stands in the text.
+/// The same, wherever the word is in the text.
 fn spelled_byte(text: &[u8], left: usize) -> Result<(u8, &[u8]), ProtoFault>
     ensures value { IfOk result (λ found. IsFirstByte found.0 (words_of text.now) (words_of found.1.now)) }
     ensures fault { IfErr result (IsDataFault (left + 1) (words_of text.now)) }
@@ -126,7 +126,7 @@ fn spelled_byte(text: &[u8], left: usize) -> Result<(u8, &[u8]), ProtoFault>
     }
 }
 
-/// The fault where a word spells no byte and so many words should follow it.
+/// The fault where a word spells no byte and this many words should follow it.
 fn bad_byte(after: &[u8], left: usize) -> ProtoFault
     ensures { result ≡ if length (words_of after.now) == left then ProtoFault.BadByte else ProtoFault.BadCount }
 {

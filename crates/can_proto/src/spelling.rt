@@ -12,7 +12,7 @@ use can_confine::{Counters, State};
 use can_event::{IfaceStats, SocketStats};
 use can_frame::{ErrorFrame, Frame, Item, Moment};
 
-/// What a client is told of an item that its socket received, with the data of error message frames
+/// The text of an item that a client's socket received, with the data of error message frames
 /// where `errdata` asks for them.
 pub fn item_text(item: Item, moment: Moment, errdata: bool) -> ItemText
     ensures text { result ≡ item_text errdata item moment }
@@ -34,7 +34,7 @@ pub fn item_text(item: Item, moment: Moment, errdata: bool) -> ItemText
     text
 }
 
-/// What a client is answered.
+/// The text of a reply.
 pub fn reply_text(answer: Answer) -> Text
     ensures { result ≡ reply_text answer }
 {
@@ -55,7 +55,7 @@ pub fn reply_text(answer: Answer) -> Text
     }
 }
 
-/// What a client is told of a refusal: the text of `reply_text`, in the room of an item's.
+/// The text of a refusal: that of `reply_text`, in the room of an item's.
 pub fn refusal_text(cause: Cause) -> ItemText
     ensures { result ≡ reply_text (Refused cause) }
 {
@@ -105,7 +105,7 @@ fn push_class(text: &mut ItemText, class: u32)
     text.push_hex(class_width(class), u64::from(class));
 }
 
-/// Adds a data frame. Without data two spaces stand together.
+/// Adds a data frame. Without data there are two spaces.
 fn push_classic(text: &mut ItemText, frame: &Frame, moment: Moment)
     requires { length text.old + 167 ≤ 192 }
     ensures text { text.new ≡ text.old ++ data_text frame.now moment }

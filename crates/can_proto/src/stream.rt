@@ -10,7 +10,7 @@ use std::alloc::{AllocError, Global};
 use std::marker::Model;
 
 /// Reads the messages of a stream that comes in pieces. Between two calls it keeps the last `<` and the
-/// at most 1,024 bytes behind it, where these may still become a message.
+/// at most 1,024 bytes after it, where these may still become a message.
 #[derive(Drop)]
 pub struct Reader {
     is_open: bool,

@@ -1,7 +1,7 @@
 ghost use Rattle.std.specs.Prelude.{◌≡◌, ◌≤◌, ◌+◌, ◌++◌, length, codes};
 ghost use Rattle.std.specs.Fmt.{decimal};
 
-/// A text that a client is answered, kept in place. The longest, `stats`, has 177 bytes.
+/// The text of a reply, kept in place. The longest, `stats`, has 177 bytes.
 pub type Text = can_frame::Text<256>;
 
 /// The text of an item or of a refusal, kept in place. The longest, an FD frame of 64 bytes, has 167

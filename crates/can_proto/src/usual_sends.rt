@@ -10,7 +10,7 @@ use can_frame::Frame;
 /// not read in vain.
 const USUAL: usize = 48;
 
-/// The frame of a piece `< send ID LEN b .. >` with nothing before or behind it.
+/// The frame of a piece `< send ID LEN b .. >` with nothing before or after it.
 pub fn lone_send(piece: &[u8]) -> Option<Frame>
     ensures { IfSome result (λ frame. IsLoneSend piece.now frame) }
 {
@@ -24,7 +24,7 @@ pub fn lone_send(piece: &[u8]) -> Option<Frame>
     }
 }
 
-/// What stands between a `<` and a `>` at the ends of a piece.
+/// What is between a `<` and a `>` at the ends of a piece.
 fn between_marks(piece: &[u8]) -> Option<&[u8]>
     ensures { IfSome result (λ inside. piece.now ≡ 60 ∷ inside.now ++ 62 ∷ []) }
 {

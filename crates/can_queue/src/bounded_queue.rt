@@ -32,7 +32,7 @@ pub trait BoundedQueue<T>: Drop {
     /// How many items may wait.
     ghost capacity_of: { Self → ℕ };
 
-    /// An empty queue for so many items. `NoMemory` comes only where memory was really refused.
+    /// An empty queue with room for this many items. `NoMemory` only if memory was refused.
     fn with_capacity(alloc: Global, capacity: usize) -> Result<Self, QueueError>
         ensures empty { IfOk result (λ queue. contents queue ≡ []) }
         ensures capacity { IfOk result (λ queue. capacity_of queue ≡ capacity) }
@@ -49,7 +49,7 @@ pub trait BoundedQueue<T>: Drop {
         ensures unchanged { OnErr result (contents self.new ≡ contents self.old) }
         ensures capacity { capacity_of self.new ≡ capacity_of self.old };
 
-    /// Takes the oldest item, or answers `None` where none waits.
+    /// Takes the oldest item, or returns `None` if none waits.
     fn pop(&mut self) -> Option<T>
         ensures taken { result ≡ slice_get (contents self.old) 0 }
         ensures rest { contents self.new ≡ drop 1 (contents self.old) }
@@ -67,7 +67,7 @@ pub trait BoundedQueue<T>: Drop {
     fn capacity(&self) -> usize
         ensures { result ≡ capacity_of self.now };
 
-    /// Drops all that waits, and answers how many items these were.
+    /// Drops all items, and returns how many there were.
     fn clear(&mut self) -> usize
         ensures removed { result ≡ length (contents self.old) }
         ensures empty { contents self.new ≡ [] }

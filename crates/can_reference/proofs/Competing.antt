@@ -23,7 +23,7 @@ use Rattle.can_bus.proofs.Winning.{winner-is, idle-is}
 use Rattle.can_replay.specs.Histories.{IsHistory}
 use Rattle.can_reference.proofs.Counting.{IsLive, live-kept}
 
--- Who wins the bus, and what the attempt answers.
+-- Who wins the bus, and what the reply to the attempt is.
 
 -- one place more of a list is filled
 pub set_more : (f : ℕ → Option ℕ) (keys new : List (Option ℕ)) (i : ℕ) → i < length keys → ((k : ℕ) → k < i → get_or keys k None ≡ f k) → new ≡ slice_set keys i (f i) → (k : ℕ) → k < i + 1 → get_or new k None ≡ f k

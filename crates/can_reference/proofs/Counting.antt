@@ -126,7 +126,7 @@ tried-law c past e t old new h law are =
     let live : IsLive old t.winner = subst (λ (n : Nodes). IsLive n t.winner) (sym are) (winner-live c past m v t h w) in
     nodes-tried c past m v t old new h are (counted live.few live.there live.live))
 
--- a restart that is answered so is of an interface that is there
+-- a restart with this reply is of an interface that is there
 restart-below : (c : BusConfig) (past : List Entry) (i m : ℕ) → reply.Done ≡ legal_reply c past (Restart i m) → i < c.ifaces
 restart-below c past i m law = when (nat_le c.ifaces i) refl law
   where

@@ -26,7 +26,7 @@ passing_more fs o s posts k p now new wanted lt read asked so_far stepped =
     choose true = refl
     choose false = sym (append-nil (passing fs o s (take k posts)))
 
--- an item is put behind the others, or not
+-- an item is put after the others, or not
 pub pushed : (b : Bool) (xs new : List Received) (x : Received) → b ≡ true → new ≡ xs ++ x ∷ [] → new ≡ (if b then xs ++ x ∷ [] else xs)
 pushed b xs new x is_true is = is ∙ sym (cond-true b _ _ is_true)
 

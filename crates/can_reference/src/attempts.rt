@@ -17,9 +17,9 @@ use can_fault::Verdict;
 use can_frame::{Iface, IfaceSet, Moment};
 use std::alloc::{AllocError, Global};
 
-// What an attempt answers, by the entries before it.
+// The reply to an attempt, by the entries before it.
 
-/// Tells an arbiter the frame that an interface competes with, if any.
+/// Gives an arbiter the frame that an interface competes with, if any.
 fn compete<A: Arbiter>(arbiter: &mut A, iface: Iface, head: Option<Pending>)
     ensures { A.keys_of arbiter.new ≡ slice_set (A.keys_of arbiter.old) iface (key_in head) }
 {
@@ -51,7 +51,7 @@ fn winner(alloc: Global, past: &[Entry]) -> Result<Option<Iface>, AllocError>
     Ok(first)
 }
 
-/// The answer of an attempt that was judged.
+/// The reply to an attempt that was judged.
 fn tried_as(
     moment: Moment,
     winner: Iface,

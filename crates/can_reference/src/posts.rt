@@ -113,7 +113,7 @@ fn attempt_posts(
     Ok(posts)
 }
 
-/// Adds what an attempt that restarted these interfaces tells at an interface.
+/// Adds what an attempt that restarted these interfaces posts at an interface.
 fn put_restarted(
     posts: &mut Vec<Post>,
     restarted: IfaceSet,

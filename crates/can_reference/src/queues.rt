@@ -87,7 +87,7 @@ pub(crate) struct Arrivals {
     pub dropped: Vec<Received>,
 }
 
-/// How many items more may wait on a socket, on which so many were queued.
+/// How many more items may wait on a socket to which this many were queued.
 fn room_of(alloc: Global, past: &[Entry], id: SocketId, queued: usize) -> Result<u128, AllocError>
     ensures { IfOk result (λ n. n ≡ capacity_of (reverse past.now) id.0 + length (taken_from (reverse past.now) id.0) - queued) }
 {

@@ -197,7 +197,7 @@ fn note(past: &mut Vec<Entry>, event: Event, reply: Reply) -> Result<(), AllocEr
     Ok(())
 }
 
-/// Answers one event, and adds it to the entries unless there are as many as the limit.
+/// Replies to one event, and adds it to the entries unless there are as many as the limit.
 fn answer(
     alloc: Global,
     config: BusConfig,

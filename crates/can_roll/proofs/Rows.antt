@@ -32,7 +32,7 @@ length-added [] p c = refl
 length-added (l ∷ ls) zero c = refl
 length-added (l ∷ ls) (suc p) c = ap suc (length-added ls p c)
 
--- what stands in a list with one more at its end
+-- what is in a list with one more at its end
 pub at_end : {A : Type 0} (l : List A) (a b : A) (j : ℕ) → get_elem? (l ++ a ∷ []) j ≡ some b → (get_elem? l j ≡ some b) ⊎ ((j ≡ length l) × (a ≡ b))
 at_end [] a b zero e = inr (refl, some-injective a b e)
 at_end [] a b (suc j) e = absurd (some-ne-none b (sym e))

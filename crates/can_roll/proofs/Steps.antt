@@ -13,7 +13,7 @@ use Rattle.can_roll.specs.Rule.{IsBrought, Knows, Apart, IsRolled, entered, newc
 use Rattle.can_roll.proofs.Rows.{row_front, row_past, row_added_else, length-added, at_end}
 use Rattle.can_roll.proofs.Passes.{not_in_below, below_more, last_at_end, without_at_end, not_in_end, distinct_end, below_end, not_the_last, not_in_rest, distinct_rest, last_not_in_rest, below_rest, last_below}
 
--- ---- the rule where a roll's view stands
+-- ---- the rule where a roll's view is
 
 -- the rule, in the words of that view
 abbrev Standing : List ℕ → List View → ℕ → List (List Entry) → List ℕ → List (List Entry) → Type 0
@@ -333,7 +333,7 @@ pub joined : {S : Type 0} (new me you : Me S View) (lists : List (List Entry)) (
     → new ≡ (OfRoll lists (called ++ p ∷ []) (calls ∷ []), [])
 joined new me you lists called p calls e is that = e ∙ (λ k. (called_in (is k).0 (that k).0, (is k).1))
 
--- and once its calls are told, with what that shows
+-- and once its calls are returned, with what that shows
 pub then_told : {S : Type 0} (new me : Me S View) (lists : List (List Entry)) (called : List ℕ) (p : ℕ) (calls : List Entry)
     → me ≡ (OfRoll lists (called ++ p ∷ []) (calls ∷ []), []) → (new.0 ≡ told me.0) × (new.1 ≡ me.1) × Shows me.0
     → (new ≡ (OfRoll lists (called ++ p ∷ []) [], [])) × (row lists p ≡ calls) × (p < length lists) × NotIn p called

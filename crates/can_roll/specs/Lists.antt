@@ -37,7 +37,7 @@ abbrev pub NotIn : ℕ → List ℕ → Type 0
 NotIn p [] = Unit {0}
 NotIn p (q ∷ qs) = (p ≢ q) × NotIn p qs
 
--- no pass stands twice among these
+-- no pass is twice among these
 abbrev pub Distinct : List ℕ → Type 0
 Distinct [] = Unit {0}
 Distinct (p ∷ ps) = NotIn p ps × Distinct ps

@@ -1,4 +1,4 @@
--- The rule of a roll, and what each kind of step does to the views and tells.
+-- The rule of a roll, and what each kind of step does to the views and returns.
 use Rattle.std.specs.Prelude.{◌≡◌, ℕ, ◌<◌, List, [], ◌∷◌, ◌++◌, length}
 use mathlib.Core.Option.{some}
 use lib.ListN.{get_elem?}
@@ -11,7 +11,7 @@ use Rattle.can_roll.specs.Lists.{row, added, last_of, without_last, NotIn, Disti
 
 -- ---- the rule
 
--- the calls that the pass called in last has brought are the roll's list of that pass; once told, there are none
+-- the calls that the pass called in last has brought are the roll's list of that pass; once returned, there are none
 abbrev pub IsBrought : List (List Entry) → List ℕ → List (List Entry) → Type 0
 IsBrought lists called [] = Unit {0}
 IsBrought lists called (calls ∷ more) = row lists (last_of called) ≡ calls
@@ -58,20 +58,20 @@ called_in (OfRoll lists called brought) Spent = OfRoll lists called brought
 called_in (OfSlip p calls) other = OfSlip p calls
 called_in Spent other = Spent
 
--- the roll once the calls brought are told: it keeps them no longer
+-- the roll once the calls brought are returned: it keeps them no longer
 abbrev pub told : View → View
 told (OfRoll lists called brought) = OfRoll lists called []
 told (OfSlip p calls) = OfSlip p calls
 told Spent = Spent
 
--- what is told: the calls brought are the roll's list of the pass, which has entered and had not been called in before
+-- what is returned: the calls brought are the roll's list of the pass, which has entered and was not called in before
 abbrev pub Shows : View → Type 0
 Shows (OfRoll lists called (calls ∷ more)) = (row lists (last_of called) ≡ calls) × (last_of called < length lists) × NotIn (last_of called) (without_last called)
 Shows (OfRoll lists called []) = Unit {0}
 Shows (OfSlip p calls) = Unit {0}
 Shows Spent = Unit {0}
 
--- the load that tells
+-- the load that returns them
 abbrev pub Tells : {S : Type 0} → Step S → Me S View → ℕ → Me S View → Type 0
 Tells step old found new = (new.0 ≡ told old.0) × (new.1 ≡ old.1) × Shows old.0
 
@@ -126,7 +126,7 @@ view_in (v ∷ vs) = v
 abbrev pub IsAtTable : TableId → TableId → TableId → Type 0
 IsAtTable name table seat = (table ≡ name) × (seat ≡ name) × (name.words ≡ 1)
 
--- a roll's seat between two calls: its view is a roll's of so many passes, and nothing is left to be told
+-- a roll's seat between two calls: its view is a roll's of this many passes, and nothing is left to return
 abbrev pub IsRollSeat : {S : Type 0} → Me S View → ℕ → Type 0
 IsRollSeat me passes = (me ≡ (OfRoll (lists_of me.0) (called_of me.0) [], [])) × (length (lists_of me.0) ≡ passes)
 

@@ -1,6 +1,6 @@
 use std::marker::Brand;
 
-/// Names one roll for each number, 0 to 15, for contracts alone: it has no calls.
+/// Names one roll for each number, 0 to 15, for contracts only: it has no calls.
 pub trait RollName {
     ghost use Rattle.std.specs.Prelude.{ℕ};
     ghost use Rattle.atomic_table.specs.Seated.{TableId};

@@ -3,10 +3,10 @@ use can_event::Entry;
 use std::collections::LinkedList;
 use std::marker::{Brand, PhantomData};
 
-/// What a seat of the table knows. It is for contracts alone: the program makes no value of it.
+/// What a seat of the table knows. It is for contracts only: the program makes no value of it.
 pub enum View {
     /// A roll's seat: the calls of each pass, the passes called in with the last at the end, and, until it is
-    /// told, the one list of calls that the last one brought.
+    /// returned, the one list of calls that the last one brought.
     OfRoll(LinkedList<LinkedList<Entry>>, LinkedList<u64>, LinkedList<LinkedList<Entry>>),
     /// A slip's seat: its pass and its calls.
     OfSlip(u64, LinkedList<Entry>),
@@ -50,7 +50,7 @@ impl Join<View> for CallsIn {
     ghost spent = { Spent };
 }
 
-/// A load that tells what the pass called in last has brought.
+/// A load that returns what the pass called in last has brought.
 pub struct Tell;
 
 impl<S> Play<S, View> for Tell {
@@ -81,7 +81,7 @@ impl Split<View> for Sends {
     ghost right = { sent };
 }
 
-/// Names a call with its reply, for contracts alone.
+/// Names a call with its reply, for contracts only.
 pub trait Says {
     ghost use Rattle.can_event.specs.declared.events.Entry.{Entry};
 

@@ -47,7 +47,7 @@ module _ (buses : List BusSeen) (now : EnteredSeen) (pass : PassSeen) where
   gives e (reply.Refused why) called fits = on done_reply _ (Err (station.Bus why)) (inr called.0, called.1)
   gives e r called fits = absurd fits
 
-  -- a refusal says the same of every call
+  -- a refusal is the same for every call
   refused : {A : Type 0} (told : A → Reply) (e : Event) (why : StationRefusal) → Called same now.number now.pass e (Err why) pass → OnPort told (over buses now) e (Err (refused_as why)) (over buses (record now { pass = pass }))
   refused told e (station.Bus why) called = on told e (Err (station.Bus why)) called
   refused told e station.WrongStation called = on told e (Err station.WrongStation) called
@@ -82,7 +82,7 @@ pub shared : (e : Event) (room : ℕ) → true ≡ is_shared e → with_room e r
 shared (event.Open iface asked) room is = absurd (cc (is))
 shared e room is = refl
 
--- what its gauge tells is told by the port
+-- what its gauge returns is returned by the port
 pub on_gauge : (old : PortSeen) (buses : List BusSeen) (inside : Option EnteredSeen) (now : EnteredSeen) (gauge : Readings) (iface : ℕ) (answer : ErrorCounts)
     → ◌≡◌ {A = PortSeen} (record { buses = buses; entered = inside }) old → inside ≡ Some now → GaugeTells now.gauge iface answer gauge
     → TellsCounters old.entered iface answer (Some (record now { gauge = gauge })) × (buses ≡ old.buses)

@@ -22,17 +22,17 @@ numbered_from n (b ∷ more) (suc k) d h lt =
 pub number_at : (buses : List BusSeen) (k : ℕ) (d : BusSeen) → NumberedFrom 0 buses → k < length buses → (slice_index_or buses k d).number ≡ k
 number_at buses k d h lt = let at = numbered_from 0 buses k d h lt in omega (arith, at)
 
--- an element is the same whatever stands for a missing one
+-- an element is the same whatever replaces a missing one
 index_default : {X : Type 0} (xs : List X) (k : ℕ) (d e : X) → k < length xs → slice_index_or xs k d ≡ slice_index_or xs k e
 index_default [] k d e lt = absurd (omega (arith, lt))
 index_default (x ∷ xs) zero d e lt = refl
 index_default (x ∷ xs) (suc k) d e lt = index_default xs k d e (omega (arith, lt))
 
--- what a bus's names say of a name, whatever stands for a missing bus
+-- what a bus's names say of a name, whatever replaces a missing bus
 pub named_at : (buses : List BusSeen) (k : ℕ) (d e : BusSeen) (name : List ℕ) → k < length buses → place_of (slice_index_or buses k d).names name ≡ place_of (slice_index_or buses k e).names name
 named_at buses k d e name lt = ap (λ (b : BusSeen). place_of b.names name) (index_default buses k d e lt)
 
--- how long a bus's driver sleeps, whatever stands for a missing bus
+-- how long a bus's driver sleeps, whatever replaces a missing bus
 pub pace_at : (buses : List BusSeen) (k : ℕ) (d e : BusSeen) → k < length buses → (slice_index_or buses k d).pace_ms ≡ (slice_index_or buses k e).pace_ms
 pace_at buses k d e lt = ap (λ (b : BusSeen). b.pace_ms) (index_default buses k d e lt)
 
@@ -42,7 +42,7 @@ items_at [] k b d lt same = absurd (omega (arith, lt))
 items_at (x ∷ xs) zero b d lt same = ap (λ (s : BusSeen). s.rx_capacity) same
 items_at (x ∷ xs) (suc k) b d lt same = items_at xs k b d (omega (arith, lt)) same
 
--- no bus stands past the last
+-- no bus comes after the last
 pub items_past : (buses : List BusSeen) (k : ℕ) → length buses ≤ k → 0 ≡ items_on (slice_get buses k)
 items_past [] zero le = refl
 items_past [] (suc k) le = refl

@@ -57,7 +57,7 @@ abbrev pub refused_as : StationRefusal → PortRefusal
 refused_as (station.Bus why) = port.Bus why
 refused_as station.WrongStation = port.WrongStation
 
--- a station's answer, as a port gives it
+-- a station's reply, as a port gives it
 abbrev pub passed_on : {A : Type 0} → Result A StationRefusal → Result A PortRefusal
 passed_on (Ok a) = Ok a
 passed_on (Err why) = Err (refused_as why)
@@ -88,8 +88,8 @@ Attaches old name (Err (port.Bus refusal.NoMemory)) new = SomeNamed old.buses na
 Attaches old name (Err port.TooManyPasses) new = SomeNamed old.buses name × (new ≡ old)
 Attaches old name (Err _) new = ⊥
 
--- a gauge tells the error counters that it now knows as the last published of an interface, and knows no less than
--- before; of an interface that its meter has not it tells 0/0
+-- a gauge returns the error counters that it now knows as the last published of an interface, and knows no less than
+-- before; of an interface that its meter has not it returns 0/0
 abbrev pub GaugeTells : Readings → ℕ → ErrorCounts → Readings → Type 0
 GaugeTells old iface answer new =
     ((iface < old.ifaces)
@@ -97,7 +97,7 @@ GaugeTells old iface answer new =
     × (new ≡ knowing_of old iface (published new.lists iface)))
     ⊎ ((old.ifaces ≤ iface) × (answer ≡ at_start) × (new ≡ old))
 
--- the gauge of the station that was entered tells the error counters of an interface; where none was, they are 0/0
+-- the gauge of the station that was entered returns the error counters of an interface; where none was, they are 0/0
 abbrev pub TellsCounters : Option EnteredSeen → ℕ → ErrorCounts → Option EnteredSeen → Type 0
 TellsCounters None iface answer new = (answer ≡ at_start) × (new ≡ None)
 TellsCounters (Some old) iface answer new = (gauge : Readings) × GaugeTells old.gauge iface answer gauge × (new ≡ Some (record old { gauge = gauge }))

@@ -4,7 +4,7 @@ use Rattle.can_station.specs.Passes.{PassSeen, AllOf, SomeOther, Settles}
 
 -- The end of a hub: each bus is settled with its list of passes.
 
--- each list has passes of its own bus alone, the first of them of bus n
+-- each list has passes of its own bus only, the first of them of bus n
 abbrev pub AllOwn : {A : Type 0} → ℕ → List (Vec PassSeen A) → Type 0
 AllOwn n [] = Unit {0}
 AllOwn n (own ∷ more) = AllOf n own.items × AllOwn (suc n) more

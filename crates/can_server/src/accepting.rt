@@ -107,7 +107,7 @@ impl<
         self.guests.lock(self.rt).leave(place);
     }
 
-    /// Tells the host that a session is over.
+    /// Reports to the host that a session is over.
     pub fn tell_end(&self, session: u32, sums: Sums) {
         self.host.tell(Notice::Went {
             session,
@@ -117,7 +117,7 @@ impl<
     }
 
     /// Takes a connection in, if the server is not closed. Where as many sessions are at work as a server has, and none
-    /// of them is idle, the client is told so.
+    /// of them is idle, the client gets `too many sessions`.
     fn admit(&self, conn: Conn, session: u32) -> Next {
         let from = if self.host.is_curious() {
             conn.peer()

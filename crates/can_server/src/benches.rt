@@ -53,7 +53,7 @@ fn are_proper<F: FaultSource + Drop, G: Gate + Drop>(benches: &[Bench<F, G>]) ->
     benches.iter().all(|bench| bench.is_proper())
 }
 
-/// Whether no name stands on two of these.
+/// Whether no name is on two of these.
 fn are_all_apart<F: FaultSource + Drop, G: Gate + Drop>(benches: &[Bench<F, G>]) -> bool
     ensures { IsTrue result ↔ AllApart (bench_names benches.now) }
 {
@@ -63,7 +63,7 @@ fn are_all_apart<F: FaultSource + Drop, G: Gate + Drop>(benches: &[Bench<F, G>])
     }
 }
 
-/// Whether none of these names stands on one of the benches.
+/// Whether none of these names is on one of the benches.
 fn is_apart<F: FaultSource + Drop, G: Gate + Drop>(names: &Names, benches: &[Bench<F, G>]) -> bool
     ensures { IsTrue result ↔ ApartFrom names.now (bench_names benches.now) }
 {

@@ -62,7 +62,7 @@ pub struct Door {
 }
 
 impl Door {
-    /// A door for so many sessions. It takes a file descriptor.
+    /// A door for this many sessions. It takes a file descriptor.
     pub fn new(listener: Listener, sessions: u32) -> io::Result<Door> {
         let latch = listener.latch()?;
         Ok(Door {

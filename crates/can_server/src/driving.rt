@@ -37,7 +37,7 @@ impl<
     R: Wait + time::Clock,
 > Server<'a, N, F, G, C, R> {
     /// Steps a bus while an interface has a frame to send or counts towards its restart, until its station is stopped,
-    /// and hands the pass back. Then it tells the host of a full record, and of refused memory.
+    /// and hands the pass back. Then it reports a full record, and refused memory, to the host.
     pub fn drive(&self, bus: usize) {
         if bus >= self.hub.count() {
             return;
@@ -84,7 +84,7 @@ impl<
         false
     }
 
-    /// Steps a bus up to so many times in one hold of its lock, while an interface has a frame to send or counts towards
+    /// Steps a bus up to this many times in one hold of its lock, while an interface has a frame to send or counts towards
     /// its restart. The attempt in which an interface went bus off, or was restarted, is the last.
     fn step_some(
         &self,
@@ -111,7 +111,7 @@ impl<
         Stepped::On
     }
 
-    /// Tells the host which interfaces went bus off in an attempt, and which were restarted.
+    /// Reports to the host which interfaces went bus off in an attempt, and which were restarted.
     fn tell_changes(&self, bus: usize, changes: Changes) {
         if !changes.are_some() {
             return;

@@ -93,7 +93,7 @@ impl<N: RollName + MeterName, F: FaultSource + Drop, G: Gate + Drop> Hub<N, F, G
     ///
     /// `BadConfig` exactly where there are no benches or more than 16, where a configuration is outside the limits
     /// of a bus or has another number of interfaces than the blanks or the names, where the receive capacity is
-    /// none that a socket may have, or where a name stands on two of them; else `NoMemory` where memory was refused.
+    /// none that a socket may have, or where a name is on two of them; else `NoMemory` where memory was refused.
     pub fn new(alloc: Global, benches: Vec<Bench<F, G>>) -> Result<Hub<N, F, G>, BusFault>
         requires { NamedFrom N.roll N.meter 0 benches.items }
         ensures made { IfOk result (λ h. h ≡ buses_from 0 benches.items) }

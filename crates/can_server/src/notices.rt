@@ -1,7 +1,7 @@
 use can_frame::Iface;
 use std::net::SocketAddr;
 
-/// What a server tells its host of while it runs. The sessions of a door are numbered from 1.
+/// What a server reports to its host while it runs. The sessions of a door are numbered from 1.
 #[derive(Debug, Clone, Copy)]
 pub enum Notice {
     /// A session begins. Its client has this address, or came to a Unix path.
@@ -9,7 +9,7 @@ pub enum Notice {
         session: u32,
         from: Option<SocketAddr>,
     },
-    /// A client was told that there are too many sessions.
+    /// A client was refused, as there are too many sessions.
     TurnedAway {
         session: u32,
         from: Option<SocketAddr>,
@@ -20,8 +20,8 @@ pub enum Notice {
         bus: usize,
         iface: Iface,
     },
-    /// A session is over. So many frames that it sent were refused, and so many items found no room at its socket, as
-    /// far as that is known where the record is full.
+    /// A session is over. This many frames that it sent were refused, and this many items found no room at its
+    /// socket, as far as that is known where the record is full.
     Went {
         session: u32,
         refused: u64,
@@ -37,11 +37,11 @@ pub enum Notice {
         bus: usize,
         iface: Iface,
     },
-    /// The record of this bus is full, so its calls are refused from now on. It is told once.
+    /// The record of this bus is full, so its calls are refused from now on. It is reported once.
     Full {
         bus: usize,
     },
-    /// Memory was refused to the driver of this bus, so no frame is tried on it any more. It is told once.
+    /// Memory was refused to the driver of this bus, so no frame is tried on it any more. It is reported once.
     NoDriver {
         bus: usize,
     },

@@ -40,7 +40,7 @@ impl<'a, N: RollName + MeterName, F: FaultSource + Drop, G: Gate + Drop> Model
 /// pass, and may wait for its lock; a socket holds as many items as its bus says, whatever is asked. Where no station
 /// was entered there is no socket.
 ///
-/// `status` tells the error counters that were published last, as the gauge reads them: it takes no lock and waits
+/// `status` returns the error counters that were published last, as the gauge reads them: it takes no lock and waits
 /// for nobody. They are 0/0 where no station was entered, or where its bus has no such interface.
 #[derive(Drop)]
 pub struct PassPort<'a, N: RollName + MeterName, F: FaultSource + Drop, G: Gate + Drop, R: Wait> {
@@ -112,7 +112,7 @@ fn sized(event: Event, room: u32) -> Event
     }
 }
 
-/// A station's answer, as a port gives it.
+/// A station's reply, as a port gives it.
 pub(crate) fn pass_on<V>(outcome: Result<V, StationRefusal>) -> Result<V, PortRefusal>
     ensures { result ≡ passed_on outcome }
 {

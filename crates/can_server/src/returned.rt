@@ -16,7 +16,7 @@ pub struct Returned<N: RollName + MeterName> {
 }
 
 impl<N: RollName + MeterName> Returned<N> {
-    /// No pass, with room for so many of each of the first buses.
+    /// No pass, with room for this many of each of the first buses.
     pub fn new(alloc: Global, buses: usize, room: usize) -> Result<Returned<N>, AllocError> {
         let mut lists = Vec::with_capacity(alloc, MOST_BUSES)?;
         for bus in 0..MOST_BUSES {
@@ -33,7 +33,7 @@ impl<N: RollName + MeterName> Returned<N> {
         }
     }
 
-    /// The lists of so many buses.
+    /// The lists of this many buses.
     pub fn into_lists(self, buses: usize) -> Vec<Vec<Pass<N>>>
         requires { buses ≤ 16 }
         ensures { length result.items ≡ buses }

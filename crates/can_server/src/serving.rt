@@ -24,14 +24,14 @@ const MOST_PASSES: u32 = 4096;
 /// Some clients, as python-can's, read 1,024 bytes at a time and lose a message that is cut.
 const DEFAULT_WRITE: usize = 1024;
 
-/// What a server asks and tells while it runs. Only the time is asked for; what is told is dropped where the host does not
-/// say otherwise. No lock is held while the host is told something.
+/// What a server asks and reports while it runs. Only the time is asked for; a report is dropped where the host does not
+/// say otherwise. No lock is held during a report.
 pub trait Clock {
     /// The moment of a call.
     fn now(&self) -> Moment;
 
-    /// Whether the host wants to be told of sessions, which takes a look at each call that they made. It is asked at
-    /// any time, and its answer stays the same.
+    /// Whether the host wants reports of sessions, which take a look at each call that they made. It is asked at
+    /// any time, and the reply stays the same.
     fn is_curious(&self) -> bool {
         false
     }
@@ -53,12 +53,12 @@ pub trait Clock {
 /// thread that accepts; each session one that reads and, in raw mode, one that delivers. It returns once as many
 /// sessions as the doors have were accepted and all are over, or after the end of `until`: then nobody comes in any
 /// more, and the sessions at work are shut down. After the last of its sessions a door is closed, so that the system
-/// refuses who comes later. The 65th session at once is told so and counts as one that was accepted, unless a session
-/// has not been raw for 60 seconds by the clock: that one is closed, and the newcomer gets its place. Where no
+/// refuses who comes later. The 65th session at once gets `too many sessions` and counts as one that was accepted, unless
+/// a session has not been raw for 60 seconds by the clock: that one is closed, and the newcomer gets its place. Where no
 /// connection can be accepted, as for want of file descriptors, a door tries again each 100 ms; 64 tries in vain count
 /// as one session.
 ///
-/// A fault of a session's connection, or memory refused to it, ends that session alone. `AllocError` where memory was
+/// A fault of a session's connection, or memory refused to it, ends only that session. `AllocError` where memory was
 /// refused to the server's own start; then the threads that were started are over too, and the stations are stopped.
 pub fn serve<
     N: RollName + MeterName + Send + Sync,

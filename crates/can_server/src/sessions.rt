@@ -18,7 +18,7 @@ use std::{thread, time};
 /// The most bytes of a piece that is read.
 const PIECE: usize = 4096;
 
-/// How long the delivering thread waits at first. Some clients read the answer to `rawmode` and whatever came with
+/// How long the delivering thread waits at first. Some clients read the reply to `rawmode` and whatever came with
 /// it as one text.
 const BEFORE_ITEMS_MS: u64 = 20;
 
@@ -157,14 +157,14 @@ impl<
     }
 
     /// Ends the waits of a station whose record is full: no call changes it any more, not even one that closes a socket.
-    /// Its driver ends, and tells the host.
+    /// Its driver ends, and reports that to the host.
     fn stop_full(&self, station: &Station<N, F, G>) {
         if station.is_full() {
             station.stop(self.rt);
         }
     }
 
-    /// Tells the host that a session has restarted an interface, if it has.
+    /// Reports to the host that a session has restarted an interface, if it has.
     fn tell_restart(&self, station: &Station<N, F, G>, restarted: Option<Iface>) {
         if let Some(iface) = restarted {
             let bus = usize::from(station.number());
@@ -196,7 +196,7 @@ impl<
         if goes_on { Heard::More } else { Heard::Over }
     }
 
-    /// Gives the client the items that wait, so many: whether there can be more.
+    /// Gives the client the items that wait, of which there are `waiting`. Returns whether there can be more.
     fn deliver_waiting(
         &self,
         talk: &Mutex<Talk<'_, N, F, G, R>>,

@@ -49,7 +49,7 @@ impl<'a, N: RollName + MeterName, F: FaultSource + Drop, G: Gate + Drop, R: Wait
     G,
     R,
 > {
-    /// A session that has just begun, which writes at most so many bytes of items at once.
+    /// A session that has just begun, which writes at most this many bytes of items at once.
     pub fn new(
         rt: &'a R,
         alloc: Global,
@@ -86,8 +86,8 @@ impl<'a, N: RollName + MeterName, F: FaultSource + Drop, G: Gate + Drop, R: Wait
         self.goes_on(is_taken, conn) && fed.is_ok() && !self.is_over()
     }
 
-    /// Gives the client up to so many items: how many it took, or `None` where there can be no more. They are received
-    /// in one hold of the bus's lock, and their texts are made and written after it.
+    /// Gives the client up to this many items: how many it took, or `None` where there can be no more. They are
+    /// received in one hold of the bus's lock, and their texts are made and written after it.
     pub fn deliver(&mut self, waiting: u64, conn: &Conn) -> Option<u64> {
         let can_be_more = self.receive(waiting);
         if self.write_items(conn) && can_be_more {
@@ -97,7 +97,7 @@ impl<'a, N: RollName + MeterName, F: FaultSource + Drop, G: Gate + Drop, R: Wait
         }
     }
 
-    /// Receives up to so many items in one hold of the bus's lock: whether there can be more.
+    /// Receives up to this many items in one hold of the bus's lock: whether there can be more.
     fn receive(&mut self, waiting: u64) -> bool {
         self.deliveries.clear();
         let mut port = HeldPort::new(&mut self.port);
@@ -175,7 +175,7 @@ impl<'a, N: RollName + MeterName, F: FaultSource + Drop, G: Gate + Drop, R: Wait
     }
 }
 
-/// Writes the texts of what was received, in writes of at most so many bytes: whether the client took them.
+/// Writes the texts of what was received, in writes of at most this many bytes: whether the client took them.
 fn write_texts(
     deliveries: &[Delivery],
     batch: &mut Vec<u8>,
@@ -195,7 +195,7 @@ fn write_texts(
     write_out(batch, conn)
 }
 
-/// Writes what a client is told, with no lock but its session's, and empties it: whether the client took it.
+/// Writes the texts for a client, with no lock but its session's, and empties them: whether the client took it.
 fn write_out(batch: &mut Vec<u8>, conn: &Conn) -> bool {
     let is_taken = Out(conn).write_all(batch).is_ok();
     batch.clear();

@@ -12,7 +12,7 @@ one_of [] h = absurd (omega (arith, h))
 one_of (x ∷ []) h = (x, refl)
 one_of (x ∷ (y ∷ ys)) h = absurd (omega (arith, h))
 
--- bytes that a reader gave, behind what was held
+-- bytes that a reader gave, after what was held
 pub joined : (w bytes : List ℕ) (a b : Option (List ℕ)) → Consumes a b bytes → Consumes (prepend_known w a) b (w ++ bytes)
 joined w bytes None b h = tt
 joined w bytes (Some x) None h = absurd h
@@ -36,7 +36,7 @@ passed None coming held front rest h e = tt
 passed (Some x) None held front rest h e = absurd h
 passed (Some x) (Some y) held front rest h e = sym h ∙ ap (λ l. l ++ y) e ∙ append_assoc front rest y
 
--- the line that stands was at the front of what was held
+-- the current line was at the front of what was held
 pub takes : (old mid new : Input) (len : ℕ) → old.ended ≡ false → mid.fault ≡ old.fault → Waits old mid → LineAt mid.held len → new ≡ record mid { line = take len mid.held; given = mid.given + (len + 1); held = drop (len + 1) mid.held } → TakesLine old new
 takes old mid new len going fine waits at is =
     let front = take len mid.held ++ 10 ∷ [] in

@@ -17,7 +17,7 @@ use Rattle.can_session.specs.Benches.{BenchState, IsCarriedOut, AreCarriedOut, I
 use Rattle.can_session.specs.Runs.{AreAll, AreFirst, IsNext, ComeBeforeBad, ComeBeforeStop, Ran, Ends, EndsAt}
 use Rattle.can_session.proofs.LineLaws.{first_lines, next, end, stop, all_given}
 
--- these lines were given of the input, where the reader tells its bytes
+-- these lines were given of the input, if the reader says what its bytes are
 abbrev pub AreOf : Option (List ℕ) → List (List ℕ) → Input → Type 0
 AreOf None lines now = Unit {0}
 AreOf (Some text) lines now = Given text lines now
@@ -41,7 +41,7 @@ pub of_all : (input : Option (List ℕ)) (lines : List (List ℕ)) (old new : In
 of_all None lines old new h k within = tt
 of_all (Some text) lines old new h k within = all_within text lines old new h k within
 
--- an input without a fault is so behind a line
+-- an input without a fault is so after a line
 pub fine_behind : (old new : Input) → old.fault ≡ None → TakesLine old new → new.fault ≡ None
 fine_behind old new fine (going, line, inl gives) = gives.fault ∙ fine
 fine_behind old new fine (going, line, inr last) = last.0.fault ∙ fine
@@ -90,7 +90,7 @@ ran_kept {W} contents v lines b after out between new h k =
 pub ran_start : {W : Type 0} (contents : W → Option (List ℕ)) (v : VerdictMap) (b : BenchState) (out : W) → Ran contents v [] b out b out
 ran_start {W} contents v b out = record { text = []; short = All-nil IsLine; carried = (refl, refl); wrote = Appends-nil (contents out) }
 
--- the line that stands is short
+-- the current line is short
 pub short_line : (old new : Input) → TakesLine old new → IsLine new.line
 short_line old new (going, line, gives) = line
 
@@ -100,7 +100,7 @@ within_behind text lines old new (inl so) (going, line, inl gives) within = inl 
 within_behind text lines old new (inl so) (going, line, inr last) within = inr (omega (arith, all_given text lines old new so last.0 last.2, within.bytes))
 within_behind text lines old new (inr done) (going, line, gives) within = let no = done.ended in cc
 
--- the next line comes behind the lines given
+-- the next line comes after the lines given
 is_next : (input : Option (List ℕ)) (lines : List (List ℕ)) (old new : Input) → AreOf input lines old → IsWithin new → TakesLine old new → IsNext input lines new.line
 is_next None lines old new h within k = tt
 is_next (Some text) lines old new h within k =

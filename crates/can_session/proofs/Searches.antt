@@ -30,7 +30,7 @@ is_ten b h = grind (arith, nat_tests)
 pub both : (a b : List ℕ) → list_any is_lf a ≡ false → list_any is_lf b ≡ false → list_any is_lf (a ++ b) ≡ false
 both a b p q = list_any-append is_lf a b ∙ ap (λ t. t || list_any is_lf b) p ∙ q
 
--- an LF behind what was searched ends a line
+-- an LF after what was searched ends a line
 pub found : (held : List ℕ) (m searched n : ℕ) → m ≤ length held → m ≤ 4097 → searched ≤ m → list_any is_lf (take searched held) ≡ false
     → Some n ≡ position is_lf (drop searched (take m held)) → n < length (drop searched (take m held)) → LineAt held (searched + n)
 found held m searched n within few fits before at inside =

@@ -20,7 +20,7 @@ use Rattle.can_session.specs.AttemptLines.{attempt_line}
 
 -- What the bench does and writes: its lines, one after another (own choice).
 
--- what stands on a bench: how many items a socket holds, the bus, the sessions by number, and the moment set
+-- the state of a bench: how many items a socket holds, the bus, the sessions by number, and the moment set
 pub record BenchState : Type 0 where
   pub capacity : ℕ
   pub bus : NamedBus
@@ -55,7 +55,7 @@ abbrev pub IsFed : Stage → ℕ → List ℕ → SessionState → NamedBus → 
 IsFed Ended moment bytes old p text new q = (new ≡ old) × (text ≡ []) × (q ≡ p)
 IsFed _ moment bytes old p text new q = Hears moment bytes old p text new q
 
--- so many items are given to a session, one after another
+-- this many items are given to a session, one after another
 abbrev pub AreGiven : ℕ → Stage → NamedBus → List ℕ → NamedBus → Type 0
 AreGiven zero stage p text q = (text ≡ []) × (q ≡ p)
 AreGiven (suc n) stage p text q = (before : List ℕ) × (mid : NamedBus) × (last : List ℕ) × AreGiven n stage p before mid × Plays BusStep (delivery stage) mid q last true × (text ≡ before ++ last)

@@ -10,7 +10,7 @@ use Rattle.can_session.specs.declared.lines.LineFault.TheVariants.{LineTooLong, 
 abbrev pub is_lf : ℕ → Bool
 is_lf b = b == 10
 
--- a byte at the front of the first line, or alone where there is no line
+-- a byte at the front of the first line, or on its own if there is no line
 abbrev pub with_byte : ℕ → List (List ℕ) → List (List ℕ)
 with_byte b [] = (b ∷ []) ∷ []
 with_byte b (line ∷ lines) = (b ∷ line) ∷ lines
@@ -34,7 +34,7 @@ pub record IsLong (text : List ℕ) : Type 0 where
   pub long : 4096 < length text
   pub unbroken : list_any is_lf (take 4097 text) ≡ false
 
--- an input that is read line by line: the line that stands, how many bytes were given as lines with their LFs, what was
+-- an input that is read line by line: the current line, how many bytes were given as lines with their LFs, what was
 -- read and not given, what the reader still has where that is known, how many reads gave bytes, whether all was given,
 -- and the fault that ended it, if one did
 pub record Input : Type 0 where
@@ -82,7 +82,7 @@ pub record Gives (old new : Input) (bytes : List ℕ) : Type 0 where
   pub reads : Counts old new
   pub fault : new.fault ≡ old.fault
 
--- the input had not ended, and the next line stands: it had its LF, or it is the last and not empty
+-- the input had not ended, and the next line is the current one: it had its LF, or it is the last and not empty
 abbrev pub TakesLine : Input → Input → Type 0
 TakesLine old new = (old.ended ≡ false) × IsLine new.line × (Gives old new (new.line ++ 10 ∷ []) ⊎ (Gives old new new.line × (0 < length new.line) × IsOver new))
 
@@ -115,15 +115,15 @@ abbrev pub Halts : LineFault → Input → Input → Type 0
 Halts LineTooLong old new = Waits old new × IsLong new.held
 Halts fault old new = IsLine new.held × Fails fault old new
 
--- the input had not ended, and there is no next line: the fault is told
+-- the input had not ended, and there is no next line: the fault is returned
 abbrev pub Stops : LineFault → Input → Input → Type 0
 Stops fault old new = (old.ended ≡ false) × (new.fault ≡ Some fault) × Halts fault old new
 
--- the fault was told before, and is told again
+-- the fault was returned before, and is returned again
 abbrev pub Repeats : LineFault → Input → Input → Type 0
 Repeats fault old new = (old.fault ≡ Some fault) × (new ≡ old)
 
--- one read put so many bytes behind what is held
+-- one read put this many bytes after what is held
 pub record Fills (old new : Input) (count : ℕ) : Type 0 where
   pub waits : Waits old new
   pub bytes : List ℕ
@@ -152,12 +152,12 @@ pub record HasEnded (text : List ℕ) (lines : List (List ℕ)) (now : Input) : 
   pub all : lines ≡ lines_of text
   pub counted : now.given ≡ length text
 
--- the lines that an input gave of a text, up to where it stands
+-- the lines that an input gave of a text, up to its current line
 abbrev pub Given : List ℕ → List (List ℕ) → Input → Type 0
 Given text lines now = GoesOn text lines now ⊎ HasEnded text lines now
 
 -- the reader gave so much of a text, at most 16,777,216 bytes, and has the rest; the lines that have their LF in it were
--- given, and no long line is begun behind them
+-- given, and no long line is begun after them
 pub record ReadsOn (text : List ℕ) (lines : List (List ℕ)) (now : Input) : Type 0 where
   pub read : List ℕ
   pub taken : Consumes (Some text) now.coming read
@@ -172,7 +172,7 @@ pub record ReadsOut (text : List ℕ) (lines : List (List ℕ)) (now : Input) : 
   pub reads : now.reads ≡ 16777216
 
 -- the reader gave the first 16,777,216 bytes of a text and one more; the lines that have their LF before that one were
--- given, and no long line is begun behind them
+-- given, and no long line is begun after them
 pub record ReadsOver (text : List ℕ) (lines : List (List ℕ)) (now : Input) : Type 0 where
   pub read : List ℕ
   pub byte : ℕ
@@ -181,7 +181,7 @@ pub record ReadsOver (text : List ℕ) (lines : List (List ℕ)) (now : Input) :
   pub whole : lines ≡ whole_lines read
   pub short : length read ≤ length (spelled lines) + 4096
 
--- the line behind these is too long, and its 4,097th byte is within the limit of an input
+-- the line after these is too long, and its 4,097th byte is within the limit of an input
 pub record ComesToLong (text : List ℕ) (lines : List (List ℕ)) : Type 0 where
   pub line : List ℕ
   pub more : List (List ℕ)
@@ -189,7 +189,7 @@ pub record ComesToLong (text : List ℕ) (lines : List (List ℕ)) : Type 0 wher
   pub long : 4096 < length line
   pub within : length (spelled lines) + 4097 ≤ 16777216
 
--- the lines that were given of a text before a fault: the one behind them is too long, no more may be read, or the reader
+-- the lines that were given of a text before a fault: the one after them is too long, no more may be read, or the reader
 -- failed before that
 abbrev pub StopsBehind : LineFault → List ℕ → List (List ℕ) → Input → Type 0
 StopsBehind LineTooLong text lines now = ComesToLong text lines

@@ -27,7 +27,7 @@ effect_of (Drain session) = Drains session
 effect_of (End session) = Ends session
 effect_of Attempt = Attempts
 
--- what stands before the first of these marks, and what follows it
+-- what comes before the first of these marks, and what follows it
 abbrev pub parted : ℕ → List ℕ → Option (List ℕ × List ℕ)
 parted mark text = option_map (λ n. (take n text, drop (n + 1) text)) (position (λ b. b == mark) text)
 
@@ -44,7 +44,7 @@ abbrev pub joined : Option ℕ → Option ℕ → Option ℕ
 joined (Some seconds) (Some micros) = Some (seconds * 1000000 + micros)
 joined _ _ = None
 
--- 1 to 10 digits of seconds before the point, and 6 digits of microseconds behind it
+-- 1 to 10 digits of seconds before the point, and 6 digits of microseconds after it
 abbrev pub seconds_of : List ℕ × List ℕ → Option ℕ
 seconds_of (before, behind) = if length behind == 6 then joined (number_in 10 10 before) (number_in 10 6 behind) else None
 

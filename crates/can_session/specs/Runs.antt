@@ -26,7 +26,7 @@ pub record IsBench (names : List (List ℕ)) (config : BusConfig) (capacity : �
 abbrev pub at_start : List (List ℕ) → BusConfig → ℕ → BenchState
 at_start names config capacity = record { capacity = capacity; bus = record { names = names; journal = record { config = config; history = [] } }; sessions = replicate 64 None; moment = 0 }
 
--- Of a reader that does not tell its bytes nothing is said of the lines.
+-- Of a reader that does not say what its bytes are nothing is said of the lines.
 
 -- these are all the lines of the input, which has at most 16,777,216 bytes
 abbrev pub AreAll : Option (List ℕ) → List (List ℕ) → Type 0
@@ -44,7 +44,7 @@ abbrev pub IsNext : Option (List ℕ) → List (List ℕ) → List ℕ → Type 
 IsNext None lines line = Unit {0}
 IsNext (Some text) lines line = (more : List (List ℕ)) × (lines_of text ≡ lines ++ line ∷ more) × ((length (spelled lines) + length line < 16777216) ⊎ (length text ≤ 16777216))
 
--- behind these lines of the input stands one of at most 4,096 bytes that the bench refuses
+-- after these lines of the input comes one of at most 4,096 bytes that the bench refuses
 pub record ComesToRefused (input : Option (List ℕ)) (lines : List (List ℕ)) (now : Input) (b : BenchState) : Type 0 where
   pub next : IsNext input lines now.line
   pub line : IsLine now.line
@@ -55,7 +55,7 @@ abbrev pub ComeBeforeStop : LineFault → Option (List ℕ) → List (List ℕ) 
 ComeBeforeStop fault None lines now = now.fault ≡ Some fault
 ComeBeforeStop fault (Some text) lines now = (now.fault ≡ Some fault) × StopsBehind fault text lines now
 
--- behind these lines of the input comes one that the bench refuses, or one that is too long
+-- after these lines of the input comes one that the bench refuses, or one that is too long
 abbrev pub ComeBeforeBad : Option (List ℕ) → List (List ℕ) → Input → BenchState → Type 0
 ComeBeforeBad input lines now b = ComesToRefused input lines now b ⊎ ComeBeforeStop line.LineTooLong input lines now
 
@@ -66,7 +66,7 @@ pub record Ran {W : Type 0} (contents : W → Option (List ℕ)) (verdicts : Ver
   pub carried : AreCarriedOut verdicts lines b text after
   pub wrote : Appends (contents out) (contents new) text
 
--- how a run over an input ends, and where the input stands then: at its end, or behind the lines that a fault leaves; of
+-- how a run over an input ends, and where in its input: at its end, or after the lines that a fault leaves; of
 -- what went out before a fault of the writer nothing is said
 abbrev pub Ends : {A W : Type 0} → (A → BenchState → Type 0) → (W → Option (List ℕ)) → VerdictMap → Option (List ℕ) → BenchState → W → Result A BenchFault → Input → W → Type 0
 Ends {A} {W} leaves contents verdicts input b out (Ok a) now new =
@@ -87,7 +87,7 @@ pub record IsRecordOf (r : Kept) (b : BenchState) : Type 0 where
   pub config : r.config ≡ b.bus.journal.config
   pub history : r.history ≡ b.bus.journal.history
 
--- what a fault at the next line, which has this number, is told as
+-- how a fault at the next line, which has this number, is reported
 abbrev pub fault_of : ℕ → LineFault → BenchFault
 fault_of number line.LineTooLong = BadLine number
 fault_of number line.TooLong = TooLong

@@ -56,10 +56,10 @@ pub struct BenchConfig<F> {
 /// Carries out the lines of an input on one bus, and writes what they put out: the bus's record.
 ///
 /// The output of each line that has any is written in one call, so a writer that is slow for small writes wants a
-/// buffer around it. Before each read the writer is flushed, so that whoever writes the input has the answers to all lines so far.
-/// Of the input no more than 8,192 bytes are kept, at any length. The time grows with the lines and with what they
+/// buffer around it. Before each read the writer is flushed, so that whoever writes the input has the replies to all lines
+/// so far. Of the input no more than 8,192 bytes are kept, at any length. The time grows with the lines and with what they
 /// do on the bus. `NoMemory` comes before the first line or in place of a line; what the lines before it put out was
-/// written. `bench_lines` tells more of how far the input was read.
+/// written. `bench_lines` says more on how far the input was read.
 pub fn bench<F: FaultSource + Drop, R: Read + Drop, W: Write>(
     alloc: Global,
     config: BenchConfig<F>,
@@ -99,7 +99,7 @@ pub fn bench_noting<F: FaultSource + Drop, R: Read + Drop, W: Write>(
     Ok(state.into_record())
 }
 
-/// As `bench`, over lines of which nothing was read: behind it they stand where the run ended. That tells how far the
+/// As `bench`, over lines of which nothing was read: afterwards they are where the run ended. That says how far the
 /// reader was read, so a reader that failed and too long an input are not taken for one another.
 pub fn bench_lines<F: FaultSource + Drop, R: Read + Drop, W: Write>(
     alloc: Global,
@@ -208,7 +208,7 @@ fn put<W: Write>(out: &mut W, said: &[u8]) -> Result<(), BenchFault>
     }
 }
 
-/// What a fault of the input is told as, at the line of this number.
+/// How a fault of the input is reported, at the line of this number.
 fn told(fault: LineFault, number: u32) -> BenchFault
     ensures { result ≡ fault_of number fault }
 {

@@ -119,7 +119,7 @@ impl Bench {
         }
     }
 
-    /// Has a session act, if it was started, and puts what it says behind its number: whether it was.
+    /// Runs one act of a session, if it was started, and puts its text after the number: whether it was.
     #[inline(always)]
     pub fn speak(
         &mut self,

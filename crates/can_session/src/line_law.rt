@@ -4,8 +4,8 @@ ghost use Rattle.can_session.specs.declared.lines.LineFault.{LineFault};
 ghost use Rattle.can_session.specs.declared.lines.LineFault.TheVariants.{TooLong, Read};
 
 /// What the calls of `Lines` give together are the lines of the text that the reader had, in order. At a fault they
-/// are the lines before too long a line, or those of all that was read which have their LF. Where an input stands tells
-/// a reader that failed from an input that is too long.
+/// are the lines before too long a line, or those of all that was read which have their LF. The place in the
+/// input distinguishes a reader that failed from an input that is too long.
 pub fn lines_given_are_those_of_the_text()
     ensures start { (text : List ℕ) (now : Input) → left_of now ≡ Some text → now.given ≡ 0 → Given text [] now }
     ensures next { (text : List ℕ) (lines : List (List ℕ)) (old new : Input) → Given text lines old → TakesLine old new → Given text (lines ++ new.line ∷ []) new }

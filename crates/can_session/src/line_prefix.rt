@@ -6,7 +6,7 @@ use crate::numbers::put_number;
 use crate::orders::SessionNumber;
 use std::alloc::AllocError;
 
-/// Puts the session's number and a space, and answers how long they are.
+/// Puts the session's number and a space, and returns how long they are.
 pub fn begin_spoken(said: &mut Vec<u8>, session: SessionNumber) -> Result<usize, AllocError>
     requires { said.old.items ≡ [] }
     ensures text { OnOk result (said.new.items ≡ decimal session ++ 32 ∷ []) }
@@ -17,7 +17,7 @@ pub fn begin_spoken(said: &mut Vec<u8>, session: SessionNumber) -> Result<usize,
     Ok(said.len())
 }
 
-/// Puts LF behind the words of a session, or takes all away where it said none. So many bytes stand before its words.
+/// Puts LF after the words of a session, or removes all if it said none. `begun` bytes come before its words.
 pub fn end_spoken(said: &mut Vec<u8>, begun: usize) -> Result<(), AllocError>
     ensures none { length said.old.items ≡ begun → said.new.items ≡ [] }
     ensures some { OnOk result (begun < length said.old.items → said.new.items ≡ said.old.items ++ 10 ∷ []) }

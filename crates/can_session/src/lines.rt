@@ -32,9 +32,9 @@ pub enum LineFault {
 #[derive(Drop)]
 pub struct Lines<R: Read + Drop> {
     input: R,
-    // It begins with the line that stands, and with the LF of that line if it has one.
+    // It begins with the current line, and with the LF of that line if it has one.
     buffer: ReadBuffer,
-    // How many bytes the line that stands has without its LF, and with it.
+    // How many bytes the current line has without its LF, and with it.
     line: usize,
     width: usize,
     given: usize,
@@ -73,7 +73,7 @@ impl<R: Read + Drop> Lines<R> {
         })
     }
 
-    /// The line that stands, without its LF: after `next_line` has answered true, the one that it found.
+    /// The current line, without its LF: after `next_line` has returned true, the one that it found.
     pub fn line(&self) -> &[u8]
         ensures { result.now ≡ self.now.line }
     {
@@ -98,10 +98,10 @@ impl<R: Read + Drop> Lines<R> {
         }
     }
 
-    /// Goes on to the next line, of at most 4,096 bytes, and answers whether there is one. It reads only while no
+    /// Goes on to the next line, of at most 4,096 bytes, and returns whether there is one. It reads only while no
     /// whole line was read, so at a fault all whole lines before it were given: `LineTooLong` at the 4,097th byte
     /// of a line, `TooLong` at the byte or the read past the limit, `Read` where the reader failed. After a
-    /// fault nothing more is read, and each call answers that fault.
+    /// fault nothing more is read, and each call returns that fault.
     pub fn next_line(&mut self) -> Result<bool, LineFault>
         ensures ok { IfOk result (λ found. MatchBool found (TakesLine self.old self.new) (FindsEnd self.old self.new)) }
         ensures fine { OnOk result (self.old.fault ≡ None) }
@@ -147,7 +147,7 @@ impl<R: Read + Drop> Lines<R> {
         }
     }
 
-    // Tells the fault from now on.
+    // Returns the fault from now on.
     fn stop(&mut self, fault: LineFault)
         ensures within { IsWithin self.new }
         ensures told { self.new ≡ record self.old { fault = Some fault } }
@@ -177,7 +177,7 @@ impl<R: Read + Drop> Lines<R> {
         &self.buffer.as_slice()[self.width..]
     }
 
-    // Gives the line of so many bytes, and with its LF of so many, that stands at the front of what is held.
+    // Gives the line at the front of what is held: `line` bytes, and `width` with its LF.
     fn give(&mut self, line: usize, width: usize)
         requires line { line ≤ width }
         requires width { width ≤ length self.old.held }
@@ -205,7 +205,7 @@ impl<R: Read + Drop> Lines<R> {
         self.is_over = true;
     }
 
-    // Reads once, and answers how many bytes came. The reader is asked for no byte past the input's limit, but for
+    // Reads once, and returns how many bytes came. The reader is asked for no byte past the input's limit, but for
     // the one that shows that the limit is passed.
     fn fill(&mut self) -> Result<usize, LineFault>
         requires short { length self.old.held ≤ 4096 }
@@ -237,9 +237,9 @@ impl<R: Read + Drop> Lines<R> {
     }
 }
 
-// What stands at the front of what is held.
+// What is at the front of what is held.
 enum Look {
-    // A line of so many bytes and its LF.
+    // A line of this many bytes and its LF.
     Line(usize),
     // More bytes than a line may have.
     Long,

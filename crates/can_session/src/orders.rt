@@ -87,7 +87,7 @@ pub fn read_order(line: &[u8]) -> Option<Order<'_>>
     read_asked(word, rest)
 }
 
-// The order of a line with a space, by what stands before the space and what follows it.
+// The order of a line with a space, by what comes before the space and what follows it.
 fn read_asked<'a>(word: &[u8], rest: &'a [u8]) -> Option<Order<'a>>
     ensures { option_map effect_of result ≡ asked_by (word.now, rest.now) }
 {
@@ -141,7 +141,7 @@ fn read_at(rest: &[u8]) -> Option<Order<'_>>
     Some(Order::At(read_moment(rest)?))
 }
 
-// The same of `feed`.
+// Parses what follows `feed`.
 fn read_feed(rest: &[u8]) -> Option<Order<'_>>
     ensures { option_map effect_of result ≡ option_and_then fed_by (parted 32 rest.now) }
 {
@@ -149,7 +149,7 @@ fn read_feed(rest: &[u8]) -> Option<Order<'_>>
     Some(Order::Feed(read_session(session)?, bytes))
 }
 
-// The same of `drain`.
+// Parses what follows `drain`.
 fn read_drain(rest: &[u8]) -> Option<Order<'_>>
     ensures { option_map effect_of result ≡ option_map Effect.Drains (session_of rest.now) }
 {
@@ -171,7 +171,7 @@ fn matches(word: &[u8], name: &[u8]) -> bool
     word == name
 }
 
-// What stands before the first of these marks, and what follows it.
+// What comes before the first of these marks, and what follows it.
 fn split_at_first(text: &[u8], mark: u8) -> Option<(&[u8], &[u8])>
     ensures { option_map (λ parts. (parts.0.now, parts.1.now)) result ≡ parted mark text.now }
 {

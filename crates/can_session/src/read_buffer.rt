@@ -50,7 +50,7 @@ impl ReadBuffer {
         &all[start..end]
     }
 
-    /// Takes so many bytes away at the front.
+    /// Removes this many bytes at the front.
     pub fn consume(&mut self, count: usize)
         requires { count ≤ length self.old }
         ensures { self.new ≡ drop count self.old }
@@ -58,7 +58,7 @@ impl ReadBuffer {
         self.start += count;
     }
 
-    /// Keeps so many bytes from the front.
+    /// Keeps this many bytes from the front.
     pub fn truncate(&mut self, count: usize)
         requires { count ≤ length self.old }
         ensures { self.new ≡ take count self.old }
@@ -66,7 +66,7 @@ impl ReadBuffer {
         self.end = self.start + count;
     }
 
-    /// Reads once, at most so many bytes, and answers how many came.
+    /// Reads once, at most this many bytes, and returns how many came.
     pub fn read_from<R: Read>(&mut self, input: &mut R, most: usize) -> io::Result<usize>
         requires some { 0 < most }
         requires room { length self.old < 8192 }
@@ -85,7 +85,7 @@ impl ReadBuffer {
     }
 }
 
-// Moves what stands between two places to the front, and answers where it ends then.
+// Moves what is between two places to the front, and returns where it ends then.
 fn move_to_front(bytes: &mut [u8], start: usize, end: usize) -> usize
     requires ordered { start ≤ end }
     requires within { end ≤ length bytes.old }
@@ -99,7 +99,7 @@ fn move_to_front(bytes: &mut [u8], start: usize, end: usize) -> usize
     end - start
 }
 
-// Reads once, behind the bytes that end here.
+// Reads once, after the bytes that end here.
 fn read_behind<R: Read>(
     bytes: &mut [u8],
     end: usize,

@@ -25,7 +25,7 @@ impl From<AllocError> for NoMemory {
     }
 }
 
-/// What a line has a session do.
+/// What a session does at a line.
 #[derive(Clone, Copy)]
 pub enum Act<'a> {
     /// It is fed these bytes.
@@ -63,7 +63,7 @@ fn greeted(alloc: Global, capacity: u32, said: &mut Vec<u8>) -> Result<Session, 
     }
 }
 
-/// Has a session act, and adds what it says.
+/// Runs one act of a session, and adds its text.
 #[inline(always)]
 pub fn carry_out(
     session: &mut Session,

@@ -1,4 +1,4 @@
-//! What sessions are fed that is in no message, so that a run can tell of it.
+//! What sessions are fed that is in no message, so that a run can report it.
 use crate::orders::SessionNumber;
 
 /// Which sessions of a run were fed bytes outside messages, and which a message that was not ended. Spaces, tabs, CR and

@@ -6,7 +6,7 @@ use Rattle.can_station.specs.Passes.{Answered, IsAnsweredIn, InSome, Tells}
 use Rattle.can_station.specs.declared.refusals.StationRefusal.{StationRefusal}
 use Rattle.can_station.specs.declared.refusals.StationRefusal.TheVariants as station
 
--- What a caller is told of a reply, where the reply is an answer of the record.
+-- What a caller gets of a reply, where the reply is one of the record.
 
 module _ (F : Type 0) {A : Type 0} (told : A → Reply) (number : ℕ) (e : Event) (r : Reply) where
   pub answered : (outcome : Result A StationRefusal) → Tells told outcome r → InSome F number (λ held. IsAnsweredIn held e r) → Answered F told number e outcome

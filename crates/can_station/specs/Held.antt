@@ -19,7 +19,7 @@ pub record Held (F : Type 0) : Type 0 where
   pub source : F
   pub stopped : Bool
 
--- whether a call with this answer is an entry of the record
+-- whether a call with this reply is an entry of the record
 abbrev pub enters : Reply → Bool
 enters (reply.Refused refusal.RecordFull) = false
 enters (reply.Refused refusal.NoMemory) = false

@@ -29,15 +29,15 @@ pub record PassSeen : Type 0 where
   pub pass : ℕ
   pub calls : List Entry
 
--- after a call: it is noted with its answer, unless the record was full or memory was refused
+-- after a call: it is noted with its reply, unless the record was full or memory was refused
 abbrev pub pass_after : Event → Reply → PassSeen → PassSeen
 pass_after e r p = record p { calls = history_after e r p.calls }
 
--- an answer that a bus may give of an attempt
+-- a reply that a bus may give to an attempt
 abbrev pub SuitsAttempt : Reply → Type 0
 SuitsAttempt r = (moment : ℕ) × (verdict : Verdict) × Suits (event.Attempt moment verdict) r
 
--- what the caller is told of a reply: the answer, or why the bus refuses
+-- what the caller gets of a reply: its value, or why the bus refuses
 abbrev pub Tells : {A : Type 0} → (A → Reply) → Result A StationRefusal → Reply → Type 0
 Tells told (Ok a) r = r ≡ told a
 Tells told (Err (station.Bus why)) r = r ≡ reply.Refused why
@@ -57,17 +57,17 @@ abbrev pub CanClose : Event → ListedEntries → Type 0
 CanClose (event.Close s) calls = length calls.entries < calls.room
 CanClose e calls = ⊥
 
--- what a call of the station with this number answers, and what it leaves of the caller's pass
+-- what a call of the station with this number returns, and what it leaves of the caller's pass
 abbrev pub Called : {A : Type 0} → (A → Reply) → ℕ → PassSeen → Event → Result A StationRefusal → PassSeen → Type 0
 Called told number old e (Ok a) new = (old.number ≡ number) × (new ≡ pass_after e (told a) old)
 Called told number old e (Err (station.Bus why)) new = ((why ≡ refusal.NoMemory) ⊎ (old.number ≡ number)) × (new ≡ pass_after e (reply.Refused why) old)
 Called told number old e (Err station.WrongStation) new = ¬ (old.number ≡ number) × (new ≡ old)
 
--- the answer to an event in this state of a station
+-- the result of an event in this state of a station
 abbrev pub IsAnsweredIn : {F : Type 0} → Held F → Event → Reply → Type 0
 IsAnsweredIn held e r = IsAnswer held.journal.config held.journal.history e r
 
--- a call that is carried out: it is answered from the record, noted there, and in the caller's pass
+-- a call that is carried out: its reply comes from the record, it is noted there, and in the caller's pass
 pub record IsMade {F : Type 0} (old : Held F) (pass : PassSeen) (e : Event) (r : Reply) (new : Held F) (pass' : PassSeen) : Type 0 where
   pub own : pass.number ≡ old.number
   pub answer : IsAnsweredIn old e r
@@ -93,7 +93,7 @@ next_attempt verdicts held moment = event.Attempt moment (verdict_in (verdicts h
 abbrev pub InSome : (F : Type 0) → ℕ → (Held F → Type 0) → Type 0
 InSome F number P = (held : Held F) × (held.number ≡ number) × P held
 
--- what a call answers is the answer in some state of the station, unless memory is refused or the pass is another's
+-- what a call returns is the result in some state of the station, unless memory is refused or the pass is another's
 abbrev pub Answered : (F : Type 0) {A : Type 0} → (A → Reply) → ℕ → Event → Result A StationRefusal → Type 0
 Answered F told number e (Ok a) = InSome F number (λ held. IsAnsweredIn held e (told a))
 Answered F told number e (Err (station.Bus refusal.NoMemory)) = Unit {0}
@@ -111,7 +111,7 @@ Stepped verdicts number old moment (Err (station.Bus refusal.NoMemory)) new = ne
 Stepped verdicts number old moment (Err (station.Bus why)) new = StepsIn verdicts number old moment (reply.Refused why) new
 Stepped verdicts number old moment (Err station.WrongStation) new = ¬ (old.number ≡ number) × (new ≡ old)
 
--- the reply itself, for a call that answers the bus's reply
+-- the reply itself, for a call that returns the bus's reply
 abbrev pub same : Reply → Reply
 same r = r
 
@@ -138,7 +138,7 @@ abbrev pub AllMatch : List (List Entry) → List PassSeen → Type 0
 AllMatch lists own = All (λ v. row lists v.pass ≡ v.calls) own
 
 -- the history is legal, and its entries can be marked with passes so that, for each of these passes, its calls are the
--- entries marked with it; there were so many passes, and these are different ones
+-- entries marked with it; there were this many passes, and these are different ones
 pub record Settles (config : BusConfig) (past : List Entry) (passes : ℕ) (own : List PassSeen) : Type 0 where
   pub legal : IsLegal config past
   pub marks : List ℕ

@@ -11,7 +11,7 @@ use Rattle.can_station.specs.declared.waits.Wake.TheVariants as wake
 
 -- How a wait ends, whether it does, and what a station reports without an event (own).
 
--- what a stop tells those who wait
+-- what a stop signals to those who wait
 abbrev pub stopped_wake : Bool → Option Wake
 stopped_wake stopped = if stopped then Some wake.Stopped else None
 

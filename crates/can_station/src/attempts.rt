@@ -4,7 +4,7 @@ ghost use Rattle.can_station.specs.Passes.{SuitsAttempt, Tells};
 use crate::refusals::StationRefusal;
 use can_bus::{Attempt, Reply};
 
-/// What the reply to an attempt tells its caller.
+/// What the caller of an attempt gets of its reply.
 pub(crate) fn attempt_in(reply: Reply) -> Result<Attempt, StationRefusal>
     requires { SuitsAttempt reply }
     ensures { Tells told_attempt result reply }

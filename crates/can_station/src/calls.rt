@@ -100,7 +100,7 @@ impl<N: RollName + MeterName, F: FaultSource + Drop, G: Gate + Drop> Station<N, 
         }
     }
 
-    /// Sends a frame on a socket, and answers its number at the interface. Refusals of the bus: `RecordFull`,
+    /// Sends a frame on a socket, and returns its number at the interface. Refusals of the bus: `RecordFull`,
     /// `NoSocket`, `FdOff`, `BusOff`, `NoBuffers`.
     pub fn send<R: Wait>(
         &self,

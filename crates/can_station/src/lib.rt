@@ -1,8 +1,8 @@
 //! A bus that threads share.
 //!
 //! A caller enters the station and gets a pass. Each call with a pass is one event of the bus, made under the
-//! station's lock, and the pass keeps it with its answer. A [`Hold`] of the lock makes several calls. At the end
-//! `settle` takes the passes back and hands out the record: a legal history in which each pass's calls stand in the
+//! station's lock, and the pass keeps it with its reply. A [`Hold`] of the lock makes several calls. At the end
+//! `settle` takes the passes back and hands out the record: a legal history in which each pass's calls are in the
 //! order that it made them.
 //!
 //! What the lock keeps is a [`StationState`]. Its calls carry the proofs; a [`Station`] adds the lock and the

@@ -51,14 +51,14 @@ impl<N: RollName> Pass<N> {
         self.calls.is_empty()
     }
 
-    /// The call at a place with its answer, from 0 for the oldest, if there is one. No memory is taken.
+    /// The call at a place with its reply, from 0 for the oldest, if there is one. No memory is taken.
     pub fn call(&self, place: usize) -> Option<Looked<'_>>
         ensures { result ≡ slice_get (reverse self.now.calls) place }
     {
         self.calls.look(place)
     }
 
-    /// Its slip alone.
+    /// Only its slip.
     fn into_slip(self) -> Slip<N>
         ensures { record { number = result.number; pass = result.pass; calls = result.calls } ≡ self }
     {
@@ -67,14 +67,14 @@ impl<N: RollName> Pass<N> {
     }
 }
 
-/// What a station leaves behind: the record of its bus, and how many passes there were.
+/// What a station leaves: the record of its bus, and how many passes there were.
 #[derive(Drop)]
 pub struct Settled {
     pub history: Record,
     pub passes: u32,
 }
 
-/// Whether a call with this answer is an entry of the record.
+/// Whether a call with this reply is an entry of the record.
 pub(crate) fn enters(reply: &Reply) -> bool
     ensures { result ≡ enters reply.now }
 {
@@ -110,7 +110,7 @@ pub(crate) fn make_ready_for(
     }
 }
 
-/// Keeps a call with its answer, where it is an entry. No memory is taken.
+/// Keeps a call with its reply, if it is an entry. No memory is taken.
 pub(crate) fn keep(calls: &mut PackedList, event: Event, reply: &Reply)
     requires ready { IsReadyFor event calls.old }
     requires suits { Suits event reply.now }

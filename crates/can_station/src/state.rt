@@ -134,8 +134,8 @@ impl<N: RollName + MeterName, F: FaultSource + Drop> StationState<N, F> {
         self.spare.another()
     }
 
-    /// Carries out an event for the pass of this slip: it is answered from the record, noted there and in the
-    /// pass's list, and what it changed of the error counters is published.
+    /// Carries out an event for the pass of this slip: its reply comes from the record, it is noted there and in
+    /// the pass's list, and what it changed of the error counters is published.
     pub fn call(&mut self, alloc: Global, slip: &mut Slip<N>, event: &Event) -> Reply
         requires { slip.old.number ≡ self.old.number }
         ensures answer { IsAnswer self.old.journal.config self.old.journal.history event.now result }
@@ -256,7 +256,7 @@ impl<N: RollName + MeterName, F: FaultSource + Drop> StationState<N, F> {
         }
     }
 
-    /// What a stop tells those who wait.
+    /// What a stop signals to those who wait.
     fn stopped_wake(&self) -> Option<Wake>
         ensures { result ≡ stopped_wake self.now.stopped }
     {

@@ -58,7 +58,7 @@ pub struct Station<N: RollName + MeterName, F: FaultSource + Drop, G: Gate + Dro
     pub(crate) ends: Condvar,
     pub(crate) gate: G,
     pub(crate) number: u8,
-    /// Whether a call met a full record, and whether that was told.
+    /// Whether a call met a full record, and whether that was reported.
     pub(crate) fullness: AtomicU8,
 }
 
@@ -143,7 +143,7 @@ impl<N: RollName + MeterName, F: FaultSource + Drop, G: Gate + Drop> Station<N, 
         unreachable!()
     }
 
-    /// Takes the lock for several calls. Until the answer is dropped, all other calls of the station wait.
+    /// Takes the lock for several calls. Until the hold is dropped, all other calls of the station wait.
     pub fn lock<R: Wait>(&self, rt: &R) -> Hold<'_, N, F, G>
         ensures { result.number ≡ self.now }
     {

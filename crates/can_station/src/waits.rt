@@ -57,7 +57,7 @@ impl News {
         }
     }
 
-    /// Adds what a call can have changed. A frame to send comes of `send` alone; items come of attempts and restarts,
+    /// Adds what a call can have changed. A frame to send comes only of `send`; items come of attempts and restarts,
     /// and a socket closes by `close`. An interface begins to count towards its restart where a frame was tried, whose
     /// `send` has woken who waits for work.
     pub(crate) fn add(&mut self, event: &Event, reply: &Reply) {
@@ -90,7 +90,7 @@ impl News {
     }
 }
 
-// What a station tells without an event. All of these may wait for the lock.
+// What a station signals without an event. All of these may wait for the lock.
 impl<N: RollName + MeterName, F: FaultSource + Drop, G: Gate + Drop> Station<N, F, G> {
     /// The counts of a socket and of an interface, both of one moment: `None` exactly where the socket is not
     /// open, and where there is no such interface.
@@ -200,7 +200,7 @@ impl<N: RollName + MeterName, F: FaultSource + Drop, G: Gate + Drop> Station<N, 
         self.fullness.load(SeqCst) != ROOM
     }
 
-    /// Ends all waits, now and from now on. Calls are answered as before.
+    /// Ends all waits, now and from now on. Calls have the same replies as before.
     pub fn stop<R: Wait>(&self, rt: &R) {
         self.state.lock(rt).stop();
         self.work.notify_all();

@@ -1,9 +1,9 @@
 //! canbusd: simulated CAN buses in user space.
 //!
 //! `canbusd bench BUS` reads lines that open sessions, feed them commands and put frames on one bus, and
-//! writes what the sessions are told; `canbusd serve BUS..` serves clients over sockets; `canbusd audit FILE` checks the
-//! record of such a run. `program` carries out a command line and answers its status; its words are canbusd_options', its jobs
-//! canbusd_bench's, canbusd_serve's and canbusd_audit's.
+//! writes the texts of the sessions; `canbusd serve BUS..` serves clients over sockets; `canbusd audit FILE` checks the
+//! record of such a run. `program` carries out a command line and returns its status; its words are canbusd_options', its
+//! jobs canbusd_bench's, canbusd_serve's and canbusd_audit's.
 //!
 //! What is proved here: no command line, file or input makes a function fail, none but `serve` waits for others, and status 0
 //! means that the job of the words was done and its output written.

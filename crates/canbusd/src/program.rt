@@ -22,8 +22,8 @@ const FAILED: u8 = 1;
 
 const BAD_WORDS: u8 = 2;
 
-/// Carries out a command line, the program's name among its words, and answers its status: 0, 1 with a line
-/// `canbusd: TEXT` among the errors and notes behind it, or 2 for a fault of the words with the parser's own text.
+/// Carries out a command line, the program's name among its words, and returns its status: 0, 1 with a line
+/// `canbusd: TEXT` among the errors and notes after it, or 2 for a fault of the words with the parser's own text.
 /// All output was written, or the status is 1 and the text `write fault`. Status 0 means that what the words ask for was
 /// done and put out.
 ///
@@ -51,7 +51,7 @@ pub fn run_words<
     }
 }
 
-// Carries out a job, and answers its status.
+// Carries out a job, and returns its status.
 fn carry_out<H: ServerRuntime, R: Read + Drop + Send + 'static, W: Write + Drop, E: Write + Send>(
     rt: &H,
     alloc: Global,
@@ -77,7 +77,7 @@ fn carry_out<H: ServerRuntime, R: Read + Drop + Send + 'static, W: Write + Drop,
     status
 }
 
-// Does a job. Answers whether all of it was done: where it was not, each fault was told.
+// Does a job. Returns whether all of it was done: if not, each fault was reported.
 fn do_job<'a, H: ServerRuntime, R: Read + Drop + Send + 'static, W: Write + Drop, E: Write + Send>(
     rt: &H,
     alloc: Global,
@@ -97,7 +97,7 @@ fn do_job<'a, H: ServerRuntime, R: Read + Drop + Send + 'static, W: Write + Drop
     Ok(true)
 }
 
-// Tells why the words ask for no job, or what help they ask for.
+// Reports why the words ask for no job, or what help they ask for.
 fn tell_words<W: Write + Drop, E: Write>(
     alloc: Global,
     error: &Error,
@@ -119,7 +119,7 @@ fn tell_words<W: Write + Drop, E: Write>(
     finish(alloc, outcome, output, errors)
 }
 
-// Writes what was put out, also before a fault. Where that fails this is what is told. Answers the status.
+// Writes what was put out, also before a fault. If that fails, that is reported. Returns the status.
 fn finish<W: Write + Drop, E: Write>(
     alloc: Global,
     outcome: Result<(), Failure<'_>>,
@@ -141,7 +141,7 @@ fn finish<W: Write + Drop, E: Write>(
     }
 }
 
-// The fault of a job whose output was not written: as the job tells it, if it met that itself.
+// The fault of a job whose output was not written: as the job reports it, if it met that itself.
 fn write_fault<'a>(outcome: Result<(), Failure<'a>>, late: Failure<'a>) -> Failure<'a> {
     let Err(failure) = outcome else {
         return late;
@@ -150,7 +150,7 @@ fn write_fault<'a>(outcome: Result<(), Failure<'a>>, late: Failure<'a>) -> Failu
     if fault == Fault::Write { failure } else { late }
 }
 
-/// Tells why a command line was not carried out, and answers its status.
+/// Reports why a command line was not carried out, and returns its status.
 pub fn fail<E: Write>(failure: &Failure<'_>, errors: &mut E) -> u8
     ensures { result ≡ 1 }
 {

@@ -19,7 +19,7 @@ use Rattle.canbusd_bench.proofs.Watching.{Watching, nothing, quiet_if, seen_whol
 
 -- A run of the bench over the configuration that options describe.
 
--- what a bench of this configuration answered
+-- what a bench of this configuration replied
 pub record Answered {W : Type 0} (contents : W → Option (List ℕ)) (c : BusConfig) (capacity : ℕ) (names : List (List ℕ)) (verdicts : VerdictMap) (input : Option (List ℕ)) (out : W) (r : Result Kept BenchFault) (new : W) : Type 0 where
   pub bad : (r ≡ Err BadConfig) ↔ (IsBench names c capacity → ⊥)
   pub untouched : r ≡ Err BadConfig → new ≡ out

@@ -6,7 +6,7 @@ use lib.Seq.{drop-append-le}
 use Rattle.canbusd_bench.specs.Refusals.{GrowsQuietly, HasRefusal}
 use Rattle.canbusd_bench.specs.inner.Watched.{saw, seen_after, seen_in, told}
 
--- What a watcher tells of its writer's bytes.
+-- What a watcher knows of its writer's bytes.
 
 -- both tests hold
 both : (a b : Bool) → (a && b) ≡ true → (a ≡ true) × (b ≡ true)
@@ -38,7 +38,7 @@ decide : (b : Bool) → (b ≡ true) ⊎ (b ≡ false)
 decide true = inl refl
 decide false = inr refl
 
--- what is told of a piece more
+-- what is known of a piece more
 grown : (name written seen : ℕ) (old new : Option (List ℕ)) (piece : List ℕ) → Appends old new piece
     → Appends (told name true written seen old) (told name true (written + length piece) (seen_in seen piece) new) piece
 grown name written seen None new piece a = tt
@@ -86,7 +86,7 @@ at_start name true text = told_on name 0 0 text (started text)
 parts : (a b c d : ℕ) (x y : List ℕ) → a ∷ b ∷ x ≡ c ∷ d ∷ y → (a ≡ c) × (b ≡ d) × (x ≡ y)
 parts a b c d x y e = (search (rules, e), search (rules, e), search (rules, e))
 
--- what is told, and what is there
+-- what is known, and what is there
 told_as : (name is : ℕ) (is_on : Bool) (written seen mark : ℕ) (text after : List ℕ) (piece : List ℕ) → Appends (Some (name ∷ mark ∷ text)) (told is is_on written seen (Some after)) piece
     → (is ≡ name) × (mark_of is_on (length after - written) ≡ mark) × (after ≡ text ++ piece) × ((is_on ≡ true) → saw written seen after ≡ true)
 told_as name is false written seen mark text after piece a = let t = parts _ _ _ _ _ _ a in (t.0, t.1, t.2, λ e. absurd (true≢false (sym e)))
@@ -95,7 +95,7 @@ told_as name is true written seen mark text after piece a = elim (decide (saw wr
   | inr not ↦ absurd (subst (λ o. Appends (Some (name ∷ mark ∷ text)) o piece) (told_off is written seen after not) a)
 ]
 
--- its writer's bytes grew by what it tells from its start on, and it is the same writer, where its bytes are known
+-- its writer's bytes grew by what it knows from its start on, and it is the same writer, where its bytes are known
 pub wrote : (name is : ℕ) (is_on on : Bool) (w s : ℕ) (old new : Option (List ℕ)) (text : List ℕ) → Appends (told name is_on 0 0 old) (told is on w s new) text → (old ≡ None) ⊎ ((is ≡ name) × Appends old new text)
 wrote name is is_on on w s None new text a = inl refl
 wrote name is is_on on w s (Some bytes) None text a = absurd (subst (λ o. Appends o None text) (at_start name is_on bytes) a)
@@ -140,11 +140,11 @@ quietly name is true w s (Some bytes) (Some after) text a (inr none) =
     ap (drop (length bytes)) t.2 ∙ drop-append-le (length bytes) bytes text (omega arith) ∙ ap (λ l. l ++ text) (drop_of_length-le bytes {i = length bytes} (omega arith)) in
     (text, t.2, λ r. none (sym here ∙ ap (seen_in 0) rest ∙ found text r))
 
--- what a watcher tells at its start
+-- what a watcher knows at its start
 pub first_told : (name w s : ℕ) (on strict : Bool) (now old : Option (List ℕ)) → on ≡ strict → w ≡ 0 → s ≡ 0 → now ≡ old → told name on w s now ≡ told name strict 0 0 old
 first_told name w s on strict now old a b c d = rw (a, b, c, d) refl
 
--- the watcher before and after a run, and the writer before it, behind it, flushed, and where its borrower gives it back
+-- the watcher before and after a run, and the writer before it, after it, flushed, and where its borrower gives it back
 pub record Watching {W : Type 0} (contents : W → Option (List ℕ)) (before after : Option (List ℕ)) (strict : Bool) (old behind flushed new : W) : Type 0 where
   pub name : ℕ
   pub is : ℕ

@@ -165,7 +165,7 @@ fn run_on<'a, F: FaultSource + Drop, R: Read + Drop, W: Write>(
     }
 }
 
-// What is told of a fault of the bench.
+// What is reported of a fault of the bench.
 fn bench_note<R: Read + Drop>(
     alloc: Global,
     fault: BenchFault,

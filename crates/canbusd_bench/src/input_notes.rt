@@ -1,4 +1,4 @@
-//! What is told of a line of the bench's input that is wrong.
+//! What is reported of a wrong line of the bench's input.
 use can_session::{Order, SessionNumber, read_order};
 use canbusd_faults::{Line, WITH_CR, fixed_note};
 use std::alloc::{AllocError, Global};

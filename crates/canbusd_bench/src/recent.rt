@@ -8,7 +8,7 @@ use std::io::{Error, Read};
 /// How many of the last bytes are kept at least. The bench has no more of its input at any time.
 const KEPT: usize = 8192;
 
-/// A reader that keeps the last bytes that it gave, so that a line among them can be told, and its last error.
+/// A reader that keeps the last bytes that it gave, to show a line among them, and its last error.
 #[derive(Drop)]
 pub struct Recent<R: Read + Drop> {
     input: R,

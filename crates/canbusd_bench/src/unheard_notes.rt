@@ -1,8 +1,8 @@
-//! What is told behind a run that came to its end.
+//! What is reported after a complete run.
 use can_session::{SessionNumber, Unheard};
 use std::io::Write;
 
-/// Tells which sessions were fed a message that was not ended, or bytes outside messages.
+/// Reports which sessions were fed a message that was not ended, or bytes outside messages.
 pub fn tell_unheard<E: Write>(unheard: Unheard, errors: &mut E) {
     for number in 1..65_u8 {
         if let Some(session) = SessionNumber::new(number) {

@@ -12,7 +12,7 @@ use std::io::{Error, ErrorKind, Write};
 /// What a refusal begins with, before a text that begins with a small letter.
 const FRONT: [u8; 8] = *b"< error ";
 
-/// What stands for a front that has its small letter.
+/// What a front that has its small letter counts as.
 const FOUND: u8 = 9;
 
 /// How many bytes of a piece are kept at most.
@@ -25,9 +25,9 @@ pub struct Watch<'w, W> {
     is_on: bool,
     // How many bytes it has seen.
     written: u64,
-    // How many bytes of the front stand last among them.
+    // How many bytes of the front come last among them.
     seen: u8,
-    // The first bytes of the piece with the first refusal, and how many bytes stand before the piece.
+    // The first bytes of the piece with the first refusal, and how many bytes come before the piece.
     piece: Vec<u8>,
     place: u64,
 }
@@ -114,7 +114,7 @@ impl<W: Write> Write for Watch<'_, W> {
     }
 }
 
-// How many bytes of the front stand last after these.
+// How many bytes of the front come last after these.
 #[tactic(auto, using(std::proofs::lemmas::List::Sums::fold_more))]
 fn seen_in(seen: u8, piece: &[u8]) -> u8
     ensures { result ≡ seen_in seen piece.now }

@@ -35,7 +35,7 @@ pub enum Fault<'a> {
     /// The first name of a bus to which a pass of another came back.
     #[error("bus {0}: wrong station")]
     WrongStation(&'a str),
-    /// The log of the bus with this first name has so many whole lines, and no more could be written.
+    /// The log of the bus with this first name has only this many whole lines.
     #[error("log of {name}: {whole_lines} whole lines")]
     Log { name: &'a str, whole_lines: u64 },
     #[error("{0}")]
@@ -49,7 +49,7 @@ pub enum Fault<'a> {
     NoMemory,
 }
 
-/// A fault with the lines that are told behind its text.
+/// A fault with the lines that follow its text.
 #[derive(Drop)]
 pub struct Failure<'a> {
     pub fault: Fault<'a>,
@@ -57,7 +57,7 @@ pub struct Failure<'a> {
 }
 
 impl<'a> Failure<'a> {
-    /// A fault alone.
+    /// A fault without notes.
     pub fn new(alloc: Global, fault: Fault<'a>) -> Failure<'a>
         ensures { result.fault ≡ fault.entry }
     {
@@ -67,7 +67,7 @@ impl<'a> Failure<'a> {
         }
     }
 
-    /// A fault with notes, or alone where there was no memory for them.
+    /// A fault with notes, or without if there was no memory for them.
     pub fn with(alloc: Global, fault: Fault<'a>, notes: Result<String, AllocError>) -> Failure<'a>
         ensures { result.fault ≡ fault.entry }
     {
@@ -93,7 +93,7 @@ impl<'a> Failure<'a> {
     }
 }
 
-/// Where faults are told that end a part of a job alone.
+/// Where faults are reported that end only a part of a job.
 #[derive(Drop)]
 pub struct Telling<'e, E: Write> {
     errors: &'e mut E,
@@ -101,7 +101,7 @@ pub struct Telling<'e, E: Write> {
 }
 
 impl<'e, E: Write> Telling<'e, E> {
-    /// Nothing was told yet.
+    /// Nothing was reported yet.
     pub fn new(errors: &'e mut E) -> Telling<'e, E>
         ensures { result.has_told ≡ false }
     {
@@ -111,7 +111,7 @@ impl<'e, E: Write> Telling<'e, E> {
         }
     }
 
-    /// Tells why a part of a job was not done, where it was not.
+    /// Reports why a part of a job was not done, if it was not.
     pub fn pass_on(&mut self, outcome: Result<(), Failure<'_>>)
         ensures kept { IsTrue self.old.has_told → IsTrue self.new.has_told }
         ensures told { IfErr outcome.entry (λ _. IsTrue self.new.has_told) }
@@ -122,7 +122,7 @@ impl<'e, E: Write> Telling<'e, E> {
         }
     }
 
-    /// Whether a fault was told.
+    /// Whether a fault was reported.
     pub fn has_told(&self) -> bool
         ensures { result ≡ self.now.has_told }
     {

@@ -1,6 +1,6 @@
-//! What the program tells of a command line that it did not carry out: a fault with its line of text, and notes behind it.
+//! What is reported of a command line that was not carried out: a fault with its line of text, and notes after it.
 //!
-//! What is proved here: a failure has the fault that it was made of; what was told stays told; only printable ASCII is
+//! What is proved here: a failure has the fault that it was made of; what was reported stays so; only printable ASCII is
 //! shown of what a file or a client holds.
 #![tactic(auto)]
 

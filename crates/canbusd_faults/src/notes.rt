@@ -1,10 +1,10 @@
-//! The lines that stand behind a fault's text: what was wrong, where, and the way out. Each begins with two spaces.
+//! The lines that follow a fault's text: what was wrong, where, and the way out. Each begins with two spaces.
 //! They are found anew from the texts that the program has, and one that there is no memory for is left out.
 use crate::shown::Shown;
 use std::alloc::{AllocError, Global};
 use std::io::Error;
 
-/// What is told of a line that ends as lines of other systems do.
+/// What is reported of a line that ends as lines of other systems do.
 pub const WITH_CR: &str = "this line ends with CR and LF: lines end with LF alone";
 
 /// A note that is the same for every run.
@@ -18,7 +18,7 @@ pub fn reason_note(alloc: Global, place: &str, error: &Error) -> Result<String, 
     format!(in alloc; "  {place}: {error}\n")
 }
 
-/// The line of this number, from 1; a text has an empty one behind its last LF.
+/// The line of this number, from 1; a text has an empty one after its last LF.
 pub fn line_of(text: &str, number: usize) -> &str {
     let place = number.saturating_sub(1);
     text.split('\n').nth(place).unwrap_or("")

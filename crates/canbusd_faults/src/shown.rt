@@ -55,7 +55,7 @@ fn printable(byte: u8) -> char
     }
 }
 
-/// A line and where it stands, as `FILE:NUMBER: TEXT`.
+/// A line and where it is, as `FILE:NUMBER: TEXT`.
 #[derive(Clone, Copy)]
 pub struct Line<'a> {
     file: &'a str,

@@ -1,7 +1,7 @@
 use Rattle.canbusd_faults.specs.declared.faults.Fault.{Fault}
 use Rattle.canbusd_faults.specs.declared.faults.Fault.TheVariants as fault
 
--- What is told of a file that cannot be read (own choice).
+-- What is reported of a file that cannot be read (own choice).
 
 -- a fault of reading or of memory
 abbrev pub IsOfReading : Fault → Type 0

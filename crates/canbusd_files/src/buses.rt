@@ -67,7 +67,7 @@ pub fn bus_config(settings: BusSettings, names: &Names) -> BusConfig
     }
 }
 
-// The interfaces of a bus that has so many.
+// The interfaces of a bus that has this many.
 fn first_ifaces(count: u8) -> IfaceSet
     requires { count ≤ 16 }
     ensures { result ≡ first_ifaces_of count }

@@ -7,7 +7,7 @@ use std::io::{Error, ErrorKind, Read};
 /// How often a file is read at most: the last read finds its end.
 pub(crate) const MOST_READS: u32 = 16_777_216;
 
-/// A reader that is read at most so many times. A read more is a fault that says how many were made.
+/// A reader that is read at most this many times. One more is a fault that says how many there were.
 #[derive(Drop)]
 pub struct FewReads<R> {
     reader: R,

@@ -77,7 +77,7 @@ pub fn utf8_note(
     format!(in alloc; "  {line}\n  this line is no UTF-8 text\n")
 }
 
-/// What a file or a stream that was not opened is told as.
+/// How a file or a stream that was not opened is reported.
 pub(crate) fn open_failure<'a>(alloc: Global, path: &'a str, error: &Error) -> Failure<'a> {
     Failure::with(
         alloc,
@@ -86,7 +86,7 @@ pub(crate) fn open_failure<'a>(alloc: Global, path: &'a str, error: &Error) -> F
     )
 }
 
-/// What a fault of reading a file or a stream is told as.
+/// How a fault of reading a file or a stream is reported.
 pub fn read_failure<'a>(alloc: Global, place: &str, error: &Error) -> Failure<'a>
     ensures { IsOfReading result.fault }
 {
@@ -97,7 +97,7 @@ pub fn read_failure<'a>(alloc: Global, place: &str, error: &Error) -> Failure<'a
     }
 }
 
-/// What a fault of writing to a file or a stream is told as.
+/// How a fault of writing to a file or a stream is reported.
 pub fn write_failure<'a>(alloc: Global, place: &str, error: &Error) -> Failure<'a>
     ensures { result.fault ≡ fault.Write }
 {

@@ -19,7 +19,7 @@ pub fn read_names<'a>(alloc: Global, names: &str) -> Result<Names, Failure<'a>>
     })
 }
 
-// Which name is wrong, stands twice, or is one too many.
+// Which name is wrong, is there twice, or is one too many.
 fn names_note(alloc: Global, names: &str) -> Result<String, AllocError> {
     let count = names.split(',').count();
     if count > 16 {

@@ -31,7 +31,7 @@ pub fn save_record<'a, H: Files>(
     save_record_at(rt, alloc, path, path, record)
 }
 
-/// The same, to the file `at`: its faults are told of `path`, whose file it will be.
+/// The same, to the file `at`: its faults are reported for `path`, whose file it will be.
 pub fn save_record_at<'a, H: Files>(
     rt: &H,
     alloc: Global,
@@ -44,8 +44,8 @@ pub fn save_record_at<'a, H: Files>(
     put_record(alloc, path, record, &mut file)
 }
 
-/// Writes the log of a bus's record to the file with this path. A fault tells how many whole lines the file has. It calls the
-/// log by the first name of the bus.
+/// Writes the log of a bus's record to the file with this path. A fault says how many whole lines the file has, and calls
+/// the log by the first name of the bus.
 pub fn save_log<'a, H: Files>(
     rt: &H,
     alloc: Global,
@@ -56,7 +56,7 @@ pub fn save_log<'a, H: Files>(
     save_log_at(rt, alloc, path, path, bus, record)
 }
 
-/// The same, to the file `at`: its faults are told of `path`, whose file it will be.
+/// The same, to the file `at`: its faults are reported for `path`, whose file it will be.
 pub fn save_log_at<'a, H: Files>(
     rt: &H,
     alloc: Global,
@@ -143,13 +143,13 @@ fn put_log<W: Write>(names: &Names, record: &Record, file: &mut W) -> Result<(),
     file.flush().map_err(|_| lines)
 }
 
-// What a fault of writing a log is told as: a buffer took so many lines whole, and has these bytes left.
+// How a fault of writing a log is reported: a buffer took this many whole lines, and has these bytes left.
 fn log_failure<'a>(alloc: Global, name: &'a str, lines: u64, unwritten: &[u8]) -> Failure<'a> {
     let whole_lines = lines.saturating_sub(count_of(unwritten, b'\n') as u64);
     Failure::new(alloc, Fault::Log { name, whole_lines })
 }
 
-// What a fault of writing a record is told as.
+// How a fault of writing a record is reported.
 fn record_failure<'a>(alloc: Global, path: &str, error: &Error) -> Failure<'a> {
     if error.kind() == ErrorKind::OutOfMemory {
         Failure::new(alloc, Fault::NoMemory)

@@ -1,4 +1,4 @@
-//! Scripts of faults: a file, and what is told of a line of it that is wrong.
+//! Scripts of faults: a file, and what is reported of a wrong line of it.
 ghost use Rattle.std.specs.Prelude.{List, ℕ, IfOk, Ok};
 ghost use Rattle.can_fault.specs.Scripts.{Reads as Spells};
 
@@ -90,7 +90,7 @@ fn bad_verdict_note(alloc: Global, line: &str) -> Result<String, AllocError> {
     fixed_note(alloc, verdict_note(verdict))
 }
 
-// What is wrong with what stands behind the number of a line and a space.
+// What is wrong with what follows the number of a line and a space.
 fn verdict_note(verdict: &str) -> &'static str {
     if verdict.starts_with(' ') || verdict.contains("  ") {
         return "one space stands between two words";
@@ -124,7 +124,7 @@ fn has_number(line: &str) -> bool {
     }
 }
 
-// The first name behind the last space that the bus does not have.
+// The first name after the last space that the bus does not have.
 fn unknown_note(alloc: Global, line: &str, names: &str) -> Result<String, AllocError> {
     let list = line.rsplit(' ').next().unwrap_or("");
     match list.split(',').find(|name| !has_name(names, name)) {

@@ -1,13 +1,13 @@
 use Rattle.std.specs.Prelude.{ℕ, ◌==◌, nat_lt, Bool, List, length, Option, Some, None, if◌then◌else◌}
 use Rattle.std.specs.List.{after_first, before_first, position_or_len}
 
--- The parts of a word BUS: names, and the script of faults behind the first @ (own choice).
+-- The parts of a word BUS: names, and the script of faults after the first @ (own choice).
 
 -- the byte that parts the names of a bus from its script: @
 abbrev pub is_at : ℕ → Bool
 is_at b = b == 64
 
--- the names: what stands before the first @, or all of it
+-- the names: what comes before the first @, or all of it
 abbrev pub names_part : List ℕ → List ℕ
 names_part bus = before_first is_at bus
 
@@ -15,6 +15,6 @@ names_part bus = before_first is_at bus
 abbrev pub first_name_of : List ℕ → List ℕ
 first_name_of names = before_first (λ b. b == 44) names
 
--- the path of the script: what stands behind the first @, if there is one
+-- the path of the script: what comes after the first @, if there is one
 abbrev pub script_part : List ℕ → Option (List ℕ)
 script_part bus = if nat_lt (position_or_len is_at bus) (length bus) then Some (after_first is_at bus) else None

@@ -10,7 +10,7 @@ use Rattle.canbusd_options.specs.declared.bench_options.BenchOptions.{BenchOptio
 use Rattle.canbusd_options.specs.declared.serve_options.ServeOptions.{ServeOptions}
 use Rattle.canbusd_options.specs.BusWords.{names_part, script_part}
 
--- The options that the values of a command line's arguments stand for. A row has the values of one argument: those that
+-- The options that the values of a command line's arguments mean. A row has the values of one argument: those that
 -- the words give it, or its default (own choice).
 
 -- the rows that a parse found
@@ -21,11 +21,11 @@ rows_in m = rows_of (found_of m)
 abbrev pub given : List Row → List ℕ → List ℕ
 given rows id = unwrap_or (first_of id rows) []
 
--- a number is the one that a text of decimal digits alone writes
+-- a number is the one that a text of only decimal digits writes
 abbrev pub IsNumberOf : ℕ → List ℕ → Type 0
 IsNumberOf n text = IsNumeral 10 text × (n ≡ digits_value 10 text)
 
--- a text of decimal digits alone writes a number within limits, which 32 bits hold
+-- a text of only decimal digits writes a number within limits, which 32 bits hold
 abbrev pub IsNumberWithin : ℕ → ℕ → List ℕ → Type 0
 IsNumberWithin least most text = IsNumeral 10 text × (least ≤ digits_value 10 text) × (digits_value 10 text ≤ most) × (digits_value 10 text < 2 ^ 32)
 

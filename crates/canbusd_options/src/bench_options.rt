@@ -64,7 +64,7 @@ fn are_one_file(kept: Option<&str>, log: Option<&str>) -> bool
     }
 }
 
-// Whether two paths differ at most in what stands for nothing: `.` between slashes, and slashes more than one.
+// Whether two paths differ at most in what means nothing: `.` between slashes, and slashes more than one.
 fn is_spelling_of(path: &str, other: &str) -> bool {
     let parts = path.split('/').filter(|part| is_step(part));
     let others = other.split('/').filter(|part| is_step(part));

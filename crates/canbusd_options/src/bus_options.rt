@@ -37,7 +37,7 @@ pub const BUS: &str = "BUS";
 pub struct BusSettings {
     /// Who acknowledges frames.
     pub ack: AckMode,
-    /// Whether sockets are told of each fault.
+    /// Whether each fault is reported to the sockets.
     pub is_reporting: bool,
     /// How many frames an interface keeps to be sent.
     pub tx_capacity: u32,
@@ -103,7 +103,7 @@ fn ack_mode(alloc: Global, verb: Verb, matches: &ArgMatches<'_>) -> Result<AckMo
     Err(verb.error(alloc, &message)?)
 }
 
-// The number that an option was given, in decimal digits alone. Whether it is within these limits is the bus's to say.
+// The number that an option was given, in only decimal digits. Whether it is within these limits is the bus's to say.
 #[tactic(auto, using(crate::proofs::Rules::text_in_rows))]
 fn number_given(
     alloc: Global,
@@ -123,7 +123,7 @@ fn number_given(
     }
 }
 
-/// The number that an option was given, in decimal digits alone, within limits.
+/// The number that an option was given, in only decimal digits, within limits.
 #[tactic(auto, using(crate::proofs::Rules::text_in_rows))]
 pub fn number_within(
     alloc: Global,
@@ -165,7 +165,7 @@ fn number_error(
     verb.error(alloc, &message)
 }
 
-// The number that a text of decimal digits alone writes.
+// The number that a text of only decimal digits writes.
 fn number_in(text: &str) -> Option<u32>
     ensures some { IfSome result (λ n. IsNumberOf n text.now) }
     ensures none { IfNone result (IsNumeral 10 text.now → 2 ^ 32 ≤ digits_value 10 text.now) }

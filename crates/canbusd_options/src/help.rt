@@ -1,4 +1,4 @@
-//! The texts that `--help` adds behind the options.
+//! The texts that `--help` adds after the options.
 
 pub const PROGRAM_HELP: &str =
     "`canbusd help bench` has the options of bench, the lines that it reads, and an example to copy; `canbusd help serve`

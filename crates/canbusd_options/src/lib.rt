@@ -1,6 +1,6 @@
 //! The words of the command line of canbusd: its commands, their options and their help.
 //!
-//! `read_options` reads the words: the job that it answers is the one that they ask for, by the arguments and defaults of
+//! `read_options` reads the words: the job that it returns is the one that they ask for, by the arguments and defaults of
 //! specs/Program and clap's definition of how words are read. A misspelt name of an option is refused by that proof.
 #![tactic(auto)]
 

@@ -55,7 +55,7 @@ pub struct ServeOptions<'a> {
     pub folder: Option<&'a str>,
     /// Whether the end of standard input ends the run.
     pub is_until_eof: bool,
-    /// Whether sessions and changes of the buses are told while they happen.
+    /// Whether sessions and changes of the buses are reported while they happen.
     pub is_verbose: bool,
 }
 

@@ -60,7 +60,7 @@ settles-legal (p ∷ ps) (s ∷ ss) all = All-cons (λ s. IsLegalEnd s) s ss all
 settles-legal [] (s ∷ ss) all = absurd all
 settles-legal (p ∷ ps) [] all = absurd all
 
--- where nothing was told, the outcome was good
+-- if nothing was reported, the outcome was good
 pub not-told : {A E : Type 0} (P : Type 0) (r : Result A E) (told : Bool) → IfErr r (λ _. IsTrue told) → OnOk r P → told ≡ false → P
 not-told P (Ok a) told if_bad if_good quiet = if_good
 not-told P (Err e) told if_bad if_good quiet = absurd (search rules)

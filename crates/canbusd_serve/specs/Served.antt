@@ -41,15 +41,15 @@ end_lines [] settled = []
 end_lines (bus ∷ buses) [] = []
 end_lines (bus ∷ buses) (s ∷ settled) = end_line bus s ++ end_lines buses settled
 
--- the line that tells where a server listens
+-- the line that says where a server listens
 abbrev pub listening_line : List ℕ → List ℕ
 listening_line heard = codes "listening " ++ heard ++ 10 ∷ []
 
--- it was told where a server listens
+-- it was reported where a server listens
 abbrev pub IsListening : {W : Type 0} → (W → Option (List ℕ)) → W → W → Type 0
 IsListening contents old new = (heard : List ℕ) × Appends (contents old) (contents new) (listening_line heard)
 
--- a server told where it listens, and at its end how many entries each bus has, whose records are legal
+-- a server reported where it listens, and at its end how many entries the legal record of each bus has
 pub record IsServed {W : Type 0} (contents : W → Option (List ℕ)) (o : ServeOptions) (old new : W) : Type 0 where
   pub named : All (λ bus. AreNames (names_in bus.names.now)) o.buses.items
   pub settled : List Settled

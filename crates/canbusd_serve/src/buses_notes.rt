@@ -18,7 +18,7 @@ pub fn buses_note(
     }
 }
 
-// A name that stands on two buses, none of which has it twice.
+// A name that is on two buses, none of which has it twice.
 fn shared_name<'a>(buses: &[BusWord<'a>]) -> Option<&'a str> {
     buses.iter().flat_map(|bus| bus.names.split(',')).find(|name| {
         buses.iter().filter(|bus| has_name(bus.names, name)).count() > 1

@@ -6,7 +6,7 @@ use std::io::Error;
 use std::rt::Files;
 use std::{fs, io};
 
-/// A file of a folder, and where it is written: beside it with `.new` behind the name. Where something is there that is no
+/// A file of a folder, and where it is written: beside it with `.new` after the name. Where something is there that is no
 /// plain file, as a device or a folder, it is written in place.
 #[derive(Drop)]
 pub struct Draft {

@@ -1,4 +1,4 @@
-//! What a server asks and tells while it runs.
+//! What a server asks and reports while it runs.
 ghost use Rattle.std.specs.Prelude.{◌≡◌, ◌-◌, ◌^◌, ◌/◌, min};
 ghost use Rattle.std.specs.Duration.{as_nanos};
 
@@ -16,8 +16,8 @@ use std::time::Duration;
 /// The last moment, in microseconds.
 const LAST: u128 = 9_999_999_999_999_999;
 
-/// The system's clock, and where it is told that a bus came to its end before the server, and all else if that is asked
-/// for.
+/// The system's clock, and where it is reported that a bus came to its end before the server, and all else if that is
+/// asked for.
 #[derive(Drop)]
 pub struct Host<'h, 'a, 'l, H, E: Write> {
     pub rt: &'h H,

@@ -20,7 +20,7 @@ pub struct Listening {
     pub file: Option<SocketFile>,
 }
 
-/// Listens at an address, for so many sessions: a Unix path where it begins with `/` or `.`, else host and port.
+/// Listens at an address, for this many sessions: a Unix path if it begins with `/` or `.`, else host and port.
 pub fn listen<'a, H: Files<File = File> + Net<Listener = TcpListener, Stream = TcpStream>>(
     rt: &H,
     alloc: Global,

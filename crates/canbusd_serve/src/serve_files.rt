@@ -31,7 +31,7 @@ pub fn look_at_folder<H: Files, E: Write>(
     }
 }
 
-/// Writes the record and the log of each bus into a folder. A fault ends its file alone.
+/// Writes the record and the log of each bus into a folder. A fault ends only its file.
 pub fn save_all<H: Files, E: Write>(
     rt: &H,
     alloc: Global,

@@ -48,7 +48,7 @@ impl<
 /// Serves the buses that the options describe until their sessions have come and ended, or, where that is asked for,
 /// until the input has ended. It puts out where it listens, and at the end how many entries the record of each bus
 /// has; then it writes the records and logs. Returns whether all of that was written and each bus kept its driver: each
-/// fault is told among the errors, as is a bus whose record is full.
+/// fault is reported among the errors, as is a bus whose record is full.
 ///
 /// Bus by bus the names are looked at first, then the script; then the limits of the buses, and then it listens. A
 /// folder that takes no files is noted before anybody can connect. The input is read only where its end is asked for.
@@ -87,7 +87,7 @@ struct ServerRun<'r, 'a, H: ServerRuntime> {
     rt: &'r H,
     alloc: Global,
     options: &'r ServeOptions<'a>,
-    // Whether a bus has lost its driver, which was told.
+    // Whether a bus has lost its driver, which was reported.
     has_lost: AtomicBool,
 }
 

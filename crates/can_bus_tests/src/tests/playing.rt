@@ -34,7 +34,7 @@ pub fn entries_of(alloc: Global, record: &Record) -> Result<Vec<Entry>, Fail> {
 }
 
 fn looked_at(record: &Record, place: usize) -> Option<Looked<'_>> {
-    record.entry(place)
+    record.entries().get(place)
 }
 
 pub fn made_of(config: BusConfig, entries: Vec<Entry>) -> Option<Record> {
@@ -171,6 +171,19 @@ fn carries_all_out(
     Ok(())
 }
 
+fn is_seen(seen: &Entry, entry: &Entry) -> bool {
+    seen == entry
+}
+
+/// Whether a record gives these entries to who goes over them.
+fn goes_over(record: &Record, entries: &[Entry]) -> bool {
+    let seen = record.entries();
+    let mut pairs = seen.iter().zip(entries);
+    seen.len() == entries.len()
+        && seen.is_empty() == entries.is_empty()
+        && pairs.all(|(looked, entry)| is_seen(&looked, entry))
+}
+
 /// A record has this text, and gives these entries one by one, each with a line, and no other.
 fn keeps(
     rt: &(impl Abort + AllocGlobal),
@@ -185,6 +198,7 @@ fn keeps(
         assert!(rt; has_line(record.config(), entry), "at entry {place}");
     }
     assert!(rt; looked_at(record, entries.len()).is_none());
+    assert!(rt; goes_over(record, entries));
     Ok(())
 }
 

@@ -72,11 +72,8 @@ fn comes_back<N: RollName + MeterName + Send + Sync, R: Machine>(
     let entrance = Entrance::new(rt, 2);
     let kept = record::<N, _>(rt, alloc, benches, entrance);
     let mut attempts = 0_u32;
-    for place in 0..kept.len() {
-        let Some(looked) = kept.entry(place) else {
-            break;
-        };
-        let reply = &looked.entry().reply;
+    for looked in kept.entries().iter() {
+        let reply = &looked.reply;
         if matches!(reply, Reply::Tried(_) | Reply::Idle { .. }) {
             assert!(rt; is_wanted(attempts, reply));
             attempts = attempts.wrapping_add(1);

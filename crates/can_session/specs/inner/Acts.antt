@@ -5,7 +5,7 @@ use Rattle.can_session.specs.declared.turns.Act.{Act}
 use Rattle.can_session.specs.declared.turns.Act.TheVariants.{Feed, Drain, End}
 use Rattle.can_session.specs.Benches.{IsFed, IsDrained, IsEnded}
 
--- What a line has a session do (own choice).
+-- What a session does at a line (own choice).
 
 -- what a session does at a moment, and what it says
 abbrev pub done_by : Act → ℕ → SessionState → NamedBus → List ℕ → SessionState → NamedBus → Type 0

@@ -5,7 +5,7 @@ use Rattle.can_session.specs.declared.lines.Look.TheVariants.{Line, Long, Begun}
 
 -- What one look at the bytes that are held finds (own choice).
 
--- a line of so many bytes with its LF stands at the front
+-- a line of this many bytes, and then its LF, is at the front
 pub record LineAt (held : List ℕ) (len : ℕ) : Type 0 where
   pub line : IsLine (take len held)
   pub ended : take (len + 1) held ≡ take len held ++ 10 ∷ []

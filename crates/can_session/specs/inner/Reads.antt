@@ -3,7 +3,7 @@ use Rattle.std.specs.Io.KnownBytes.{Consumes}
 
 -- What one read does to the bytes that a buffer holds (own choice).
 
--- so many bytes, of those that the reader had left, stand behind the bytes that were held
+-- this many bytes, of those that the reader had left, come after the bytes that were held
 pub record Gains (old new : List ℕ) (before after : Option (List ℕ)) (count : ℕ) : Type 0 where
   pub bytes : List ℕ
   pub counted : length bytes ≡ count

@@ -6,7 +6,7 @@ use std::test::Fail;
 fn refuses_buses(rt: HostRuntime) -> Result<(), Fail> {
     let _sockets: Sockets = None;
     let alloc = rt.alloc();
-    // The words, and what is told of them.
+    // The words, and what is reported of them.
     let table = [
         (
             "canbusd bench can0,can0",

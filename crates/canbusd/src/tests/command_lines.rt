@@ -73,7 +73,7 @@ fn reads_command_lines(rt: HostRuntime) -> Result<(), Fail> {
     for line in faulty {
         tells(&rt, alloc, line, ("", "error: ", 2))?;
     }
-    // Words that are taken: what is told is of the bus.
+    // Words that are taken: what is reported is of the bus.
     let taken = [
         "canbusd bench --record run.rec --log /run.rec can0,can0",
         "canbusd bench --record run.rec --log a/run.rec can0,can0",

@@ -48,7 +48,7 @@ fn of_each_session(alloc: Global, line: &str) -> Result<String, Fail> {
     Ok(all)
 }
 
-// A message has at most 1,024 bytes, so these have one digit each: the last alone lets 123 pass.
+// A message has at most 1,024 bytes, so these have one digit each: only the last lets 123 pass.
 #[test]
 fn a_message_sets_250_filters(rt: HostRuntime) -> Result<(), Fail> {
     let _sockets: Sockets = None;
@@ -145,7 +145,7 @@ fn a_bus_has_sixteen_interfaces(rt: HostRuntime) -> Result<(), Fail> {
     Ok(())
 }
 
-/// What so many rounds of a frame, an attempt and a drain write.
+/// What this many rounds of a frame, an attempt and a drain write.
 fn rounds_told(alloc: Global, count: u32) -> Result<String, Fail> {
     let mut all = String::new(alloc);
     for number in 0..count {

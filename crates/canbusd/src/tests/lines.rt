@@ -86,7 +86,7 @@ const BEGUN: &str = "note: session 1: the last message has no >\n";
 fn tells_what_is_in_no_message(rt: HostRuntime) -> Result<(), Fail> {
     let _sockets: Sockets = None;
     let alloc = rt.alloc();
-    // What follows the two sessions, what they write then, and what is told behind the run.
+    // What follows the two sessions, what they write then, and what is reported after the run.
     let table = [
         (
             "feed 1 < echo >  < echo >\t\nfeed 1 < ec\nfeed 1 ho >\n",
@@ -208,7 +208,7 @@ const OTHER: &str =
 fn refuses_lines(rt: HostRuntime) -> Result<(), Fail> {
     let _sockets: Sockets = None;
     let alloc = rt.alloc();
-    // A line that is refused, how it is shown, and what is told of it.
+    // A line that is refused, how it is shown, and what is reported of it.
     let faulty = [
         ("at 10000000000.000000", "at 10000000000.000000", AT),
         ("at 1.00000", "at 1.00000", AT),
@@ -252,7 +252,7 @@ fn refuses_lines(rt: HostRuntime) -> Result<(), Fail> {
 fn tells_lines_far_down(rt: HostRuntime) -> Result<(), Fail> {
     let _sockets: Sockets = None;
     let alloc = rt.alloc();
-    // So many lines of 8 bytes stand before a line that is refused: more than are kept.
+    // This many lines of 8 bytes come before a line that is refused: more than are kept.
     for count in [0, 1, 1023, 1024, 1025, 2048, 2049, 5000] {
         let remarks = times(alloc, "# seven\n", count)?;
         let input = joined(alloc, &[&remarks, "drain 64\n# seven\n"])?;
@@ -269,7 +269,7 @@ fn tells_lines_far_down(rt: HostRuntime) -> Result<(), Fail> {
 fn keeps_limits_of_lines(rt: HostRuntime) -> Result<(), Fail> {
     let _sockets: Sockets = None;
     let alloc = rt.alloc();
-    // What stands before and behind so many bytes, what is told then, the errors and the status.
+    // What comes before and after this many bytes, what is reported then, the errors and the status.
     let table = [
         (("", "#", 4096, "\n"), ("", "", 0)),
         (("", "#", 4096, ""), ("", "", 0)),
@@ -316,13 +316,13 @@ fn tells_lines_that_are_too_long(rt: HostRuntime) -> Result<(), Fail> {
     answers(&rt, alloc, ("\n", "#", 4096, "#\n"), ("", &third, 1))
 }
 
-/// What is told of a line of which so much is shown.
+/// What is reported of a line of which this much is shown.
 fn too_long(alloc: Global, place: &str, shown: &str) -> Result<String, Fail> {
     let rest = "..\n  a line has at most 4096 bytes\n";
     Ok(joined(alloc, &[place, shown, rest])?)
 }
 
-/// A line of session 1, and what is told then, the errors and the status.
+/// A line of session 1, and what is reported then, the errors and the status.
 fn answers(
     rt: &(impl Abort + ServerRuntime),
     alloc: Global,

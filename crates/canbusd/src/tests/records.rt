@@ -88,7 +88,7 @@ fn writes_logs(rt: HostRuntime) -> Result<(), Fail> {
     )?;
     let log = fs::read_to_string(&rt, "run.log")?;
     same(&rt, log.as_str(), logged);
-    // The log is written also where the record cannot be, whose fault is told.
+    // The log is written also where the record cannot be, whose fault is reported.
     fs::remove_file(&rt, "run.log")?;
     let line = "canbusd bench --record none/run.rec --log run.log can0";
     let told =
@@ -124,7 +124,7 @@ fn writes_logs(rt: HostRuntime) -> Result<(), Fail> {
 fn tells_what_is_wrong_with_records(rt: HostRuntime) -> Result<(), Fail> {
     let _sockets: Sockets = None;
     let alloc = rt.alloc();
-    // What is put in place of what, and what is told then.
+    // What is put in place of what, and what is reported then.
     let table = [
         (
             "done 0002",
@@ -199,7 +199,7 @@ fn tells_what_is_wrong_with_records(rt: HostRuntime) -> Result<(), Fail> {
             ("", told, 1),
         )?;
     }
-    // Bytes that are no text go before a line that cannot be read, wherever they stand.
+    // Bytes that are no text go before a line that cannot be read, wherever they are.
     fs::write(&rt, "damaged.rec", b"canbus record 9\n\xFF\n")?;
     let told = "canbusd: read fault\n  damaged.rec:2: ?\n  this line is no UTF-8 text\n";
     let told = ("", told, 1);

@@ -10,7 +10,7 @@ use std::test::Fail;
 const SCRIPT: &str = "followed.script";
 
 /// A frame of session 1 that goes out under this verdict until can0 is bus off: what each attempt but the
-/// last of them tells, what that one tells, and what session 2 has received then.
+/// last of them reports, what that one reports, and what session 2 has received then.
 fn goes_off(
     rt: &(impl Abort + ServerRuntime),
     alloc: Global,
@@ -100,7 +100,7 @@ fn reports_faults_where_it_is_told_to(rt: HostRuntime) -> Result<(), Fail> {
 fn tells_faults_of_scripts(rt: HostRuntime) -> Result<(), Fail> {
     let _sockets: Sockets = None;
     let alloc = rt.alloc();
-    // The script, the words, and what is told of them.
+    // The script, the words, and what is reported of them.
     let faulty = [
         (
             b"0 good\n5 local crc can1\n# 05\n05 good".as_slice(),

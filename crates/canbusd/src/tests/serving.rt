@@ -15,7 +15,7 @@ const NOTHING: &[u8] = b"";
 fn refuses_buses_and_addresses(rt: HostRuntime) -> Result<(), Fail> {
     let _sockets: Sockets = None;
     let alloc = rt.alloc();
-    // The words, and what is told of them.
+    // The words, and what is reported of them.
     let table = [
         (
             "canbusd serve --limit 0 --listen ./none/socket can0@none",
@@ -177,7 +177,7 @@ pub fn hears<R: Abort>(rt: &R, client: &UnixStream, text: &str) {
     same(rt, &*heard, text.as_bytes());
 }
 
-/// Whether a text has the shape of another, where `0` stands for any digit.
+/// Whether a text has the shape of another, where `0` means any digit.
 pub fn has_shape(text: &[u8], shape: &str) -> bool {
     text.len() == shape.len()
         && text.iter().zip(shape.as_bytes()).all(|(byte, wanted)| {

@@ -51,7 +51,7 @@ fn makes_no_record_where_the_last_flush_fails(rt: HostRuntime) -> Result<(), Fai
 #[test]
 fn reads_files_in_so_many_reads(rt: HostRuntime) -> Result<(), Fail> {
     let alloc = rt.alloc();
-    // Three bytes take three reads, and one more finds the end. What is told where it does not.
+    // Three bytes take three reads, and one more finds the end. What is reported if it does not.
     for (most_reads, is_broken, told) in [
         (4, false, ""),
         (3, false, "  f.rec: it is not read in 3 reads\n"),
@@ -80,7 +80,7 @@ fn reads_files_in_so_many_reads(rt: HostRuntime) -> Result<(), Fail> {
 #[test]
 fn reads_records_in_so_many_reads(rt: HostRuntime) -> Result<(), Fail> {
     let alloc = rt.alloc();
-    // These 44 bytes take 44 reads, and one more finds the end. What is told where it does not.
+    // These 44 bytes take 44 reads, and one more finds the end. What is reported if it does not.
     let record = b"canbus record 1\nbus 1 always 0000 1 1\nend 0\n";
     for (most_reads, told) in [(45, ""), (44, "  f.rec: it is not read in 44 reads\n")] {
         let file = Pieces {

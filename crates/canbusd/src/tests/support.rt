@@ -18,7 +18,7 @@ pub fn same<T: PartialEq + Debug + Drop>(rt: &impl Abort, got: T, expected: T) {
     assert_eq!(rt; got, expected);
 }
 
-/// A reader of a text that it owns, in pieces of so many bytes.
+/// A reader of a text that it owns, in pieces of this many bytes.
 #[derive(Drop)]
 pub struct Owned {
     text: String,
@@ -80,7 +80,7 @@ pub fn run<R: Read + Drop + Send + 'static>(
     })
 }
 
-/// Runs the words of a line over this output. Gives what it tells of errors, and its status.
+/// Runs the words of a line over this output. Gives what it reports of errors, and its status.
 pub fn run_over<R: Read + Drop + Send + 'static, W: Write + Drop>(
     rt: &impl ServerRuntime,
     alloc: Global,
@@ -124,7 +124,7 @@ pub const TWO_SESSIONS: &str =
 
 pub const TWO_STARTED: &str = "1 < hi >\n2 < hi >\n1 < ok >< ok >\n2 < ok >< ok >\n";
 
-/// Runs the words of a line over an input behind two sessions.
+/// Runs the words of a line over an input after two sessions.
 pub fn carries_out(
     rt: &(impl Abort + ServerRuntime),
     alloc: Global,

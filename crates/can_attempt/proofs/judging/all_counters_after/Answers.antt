@@ -4,7 +4,7 @@ use Rattle.std.proofs.lemmas.List.FromFn.{fill_by_all}
 use Rattle.can_confine.specs.Confinement.{at_start}
 use Rattle.can_attempt.specs.Attempts.{Transmission, attempt_between, counts_in}
 use Rattle.can_attempt.proofs.Places.{counts_in-beyond}
-use Rattle.can_attempt.proofs.judging.each_counters_after.Goals as goal
+use Rattle.can_attempt.proofs.judging.all_counters_after.Goals as goal
 
 pub returns : goal.returns
 returns c a =

@@ -2,7 +2,7 @@ use Rattle.std.proofs.Common.{◌≡◌, ℕ, ◌<◌, ◌≤◌, length, get_or
 use Rattle.can_confine.specs.Confinement.{at_start}
 use Rattle.can_attempt.specs.declared.acks.AckMode.{AckMode}
 use Rattle.can_attempt.specs.Attempts.{attempt_between, counts_at, counts_in}
-use Rattle.can_attempt.proofs.judging.each_counters_after.Given as goal
+use Rattle.can_attempt.proofs.judging.all_counters_after.Given as goal
 
 abbrev pub invariant-loop-place : goal.invariant-loop-place
 invariant-loop-place l =

@@ -5,7 +5,7 @@ use Rattle.can_confine.specs.Confinement.{ErrorCounts, is_off, state_of}
 use Rattle.can_attempt.specs.declared.classes.Class.{Class}
 use Rattle.can_attempt.specs.Attempts.{Transmission, attempt_between, counts_in, counts_after, class_of, class_when, is_global, is_always, is_last_bit, is_destroyed, set_of, accepted_in}
 use Rattle.can_attempt.proofs.Judged.{same_judgement}
-use Rattle.can_attempt.proofs.judging.judge.Goals as goal
+use Rattle.can_attempt.proofs.judging.judge_each.Goals as goal
 
 pub returns : goal.returns
 returns c =

@@ -13,7 +13,7 @@ errors_add_8 (suc n) c =
 off_from_256 : (n t : ℕ) → t ≡ 8 * n → nat_le 256 t ≡ nat_le 32 n
 off_from_256 n t e = grind arith
 
--- only the transmit count tells whether it is off
+-- only the transmit count decides whether it is off
 off_by_transmit_count : (c : ErrorCounts) → is_off (state_of c) ≡ nat_le 256 c.tec
 off_by_transmit_count c = grind arith
 

@@ -12,7 +12,7 @@ digit n d is = grind arith
 other : (n d : ℕ) → is_ascii_digit d ≡ false → one_more 10 n (digit_in 10 d) ≡ None
 other n d not = grind arith
 
--- digits behind a number, as texts are parsed
+-- digits after a number, as texts are parsed
 all : (n : ℕ) (ds : List ℕ) → number_after 10 (Some n) ds ≡ cond (list_all is_ascii_digit ds) (Some (digits_value_after 10 n ds)) None
 all n [] = refl
 all n (d ∷ ds) = by_digit (is_ascii_digit d) refl (all (n * 10 + digit_value d) ds)

@@ -4,7 +4,7 @@ use Rattle.canbusd_options.specs.BusWords.{names_part, script_part}
 use Rattle.canbusd_options.proofs.Rules.{texts_in_rows}
 use Rattle.canbusd_options.proofs.serve_options.buses_given.Goals as goal
 
--- what is in an option is what stands there
+-- what is in an option is what is there
 within : {A : Type 0} (f : A → List (List ℕ)) (r : Option A) (o : Option (List (List ℕ))) (x : A) → r ≡ Some x → option_map f r ≡ o → f x ≡ unwrap_or o []
 within f r o x is same = ap (λ q. unwrap_or (option_map f q) []) (sym is) ∙ ap (λ q. unwrap_or q []) same
 

@@ -10,7 +10,7 @@ use Rattle.canbusd_serve.proofs.serve_job.run_serve.Goals.{in-Some, in_default}
 pub serve_named-requires-after_bounds : goal.serve_named-requires-after_bounds
 serve_named-requires-after_bounds g c lifetimes met = named c.in_ok-benches.benches.items
 
--- nothing was told before, where nothing was told after
+-- nothing was reported before, if nothing was reported after
 quiet : (before after result : Bool) → (IsTrue before → IsTrue after) → result ≡ after → IsTrue (not result) → before ≡ false
 quiet before after result kept is whole = grind rules
 

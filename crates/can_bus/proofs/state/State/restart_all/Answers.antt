@@ -1,10 +1,10 @@
-use Rattle.std.proofs.Common.{◌+◌, ◌^◌, ◌<◌, All, sym, subst}
+use Rattle.std.proofs.Common.{◌+◌, ◌^◌, ◌<◌, All, sym, subst, arith}
 use Rattle.can_bus.specs.State.{SocketState, Parts}
 use Rattle.can_bus.proofs.Between.{none-restarted}
 use Rattle.can_bus.proofs.state.State.restart_all.Goals as goal
 
-pub returns-then-restarted-eq0 : goal.returns-then-restarted-eq0
-returns-then-restarted-eq0 g c = none-restarted c.args.self.now c.args.restarted c.args.moment c.if-restarted-eq0.true c.requires.sixteen
+pub returns-then-is_empty : goal.returns-then-is_empty
+returns-then-is_empty g c = none-restarted c.args.self.now c.args.restarted c.args.moment (grind (arith, c.is_empty.ensures, c.if-is_empty.true)) c.requires.sixteen
 
 pub tell_restarts-requires : goal.tell_restarts-requires
 tell_restarts-requires g c =

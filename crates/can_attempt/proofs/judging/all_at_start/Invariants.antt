@@ -1,6 +1,0 @@
-use Rattle.std.proofs.Common.{◌≡◌, take, All, IsTrue}
-use Rattle.can_confine.specs.Confinement.{at_start}
-use Rattle.can_attempt.proofs.judging.all_at_start.Given as goal
-
-abbrev pub invariant-loop-one : goal.invariant-loop-one
-invariant-loop-one l = IsTrue l.all → All (λ c. c ≡ at_start) (take l.one-index l.counters)

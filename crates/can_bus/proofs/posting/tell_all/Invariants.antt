@@ -1,7 +1,0 @@
-use Rattle.std.proofs.Common.{◌≡◌, ◌++◌, take, drop, map}
-use Rattle.can_bus.specs.News.{told_news}
-use Rattle.can_bus.specs.State.{reached}
-use Rattle.can_bus.proofs.posting.tell_all.Given as goal
-
-abbrev pub invariant-loop-socket : goal.invariant-loop-socket
-invariant-loop-socket g l = l.sockets ≡ map (reached (told_news l.news)) (take l.socket-index l.fn.sockets) ++ drop l.socket-index l.fn.sockets
