@@ -34,17 +34,7 @@ pub fn entries_of(alloc: Global, record: &Record) -> Result<Vec<Entry>, Fail> {
 }
 
 fn looked_at(record: &Record, place: usize) -> Option<Looked<'_>> {
-    record.entry(place)
-}
-
-/// Whether a record lends these entries as a list, and no other.
-fn lends(record: &Record, entries: &[Entry]) -> bool {
-    let lent = record.entries();
-    let mut pairs = lent.iter().zip(entries);
-    lent.len() == entries.len()
-        && lent.is_empty() == entries.is_empty()
-        && lent.get(entries.len()).is_none()
-        && pairs.all(|(looked, entry)| looked.entry() == entry)
+    record.entries().get(place)
 }
 
 pub fn made_of(config: BusConfig, entries: Vec<Entry>) -> Option<Record> {
@@ -181,7 +171,20 @@ fn carries_all_out(
     Ok(())
 }
 
-/// A record has this text, and gives these entries one by one and as a list, each with a line, and no other.
+fn is_seen(seen: &Entry, entry: &Entry) -> bool {
+    seen == entry
+}
+
+/// Whether a record gives these entries to who goes over them.
+fn goes_over(record: &Record, entries: &[Entry]) -> bool {
+    let seen = record.entries();
+    let mut pairs = seen.iter().zip(entries);
+    seen.len() == entries.len()
+        && seen.is_empty() == entries.is_empty()
+        && pairs.all(|(looked, entry)| is_seen(&looked, entry))
+}
+
+/// A record has this text, and gives these entries one by one, each with a line, and no other.
 fn keeps(
     rt: &(impl Abort + AllocGlobal),
     record: &Record,
@@ -195,7 +198,7 @@ fn keeps(
         assert!(rt; has_line(record.config(), entry), "at entry {place}");
     }
     assert!(rt; looked_at(record, entries.len()).is_none());
-    assert!(rt; lends(record, entries));
+    assert!(rt; goes_over(record, entries));
     Ok(())
 }
 
