@@ -8,6 +8,7 @@ use super::*;
 use can_attempt::Class;
 use can_bus::{Record, Reply};
 use std::marker::Brand;
+use std::sync::atomic::Ordering;
 use std::thread::join;
 
 /// The first 32 attempts are destroyed.
@@ -29,7 +30,7 @@ fn talk<R: Abort>(mut first: Client<'_, R>, mut second: Client<'_, R>) {
     second.hear("< frame 123 23.424242  >");
 }
 
-/// The record of a bus of can0 and can1 whose two clients talk.
+/// The record of a bus of can0 and can1 whose two clients talk, and whose host is told that can0 went off and came back.
 fn record<N: RollName + MeterName + Send + Sync, R: Machine>(
     rt: &R,
     alloc: Global,
@@ -47,6 +48,9 @@ fn record<N: RollName + MeterName + Send + Sync, R: Machine>(
         || serves(rt, alloc, &hub, &doors, &host, None),
         || talk(first, second),
     );
+    for count in [&host.off, &host.restarted] {
+        assert!(rt; count.load(Ordering::SeqCst) == 1);
+    }
     let Some(bus) = settled(rt, alloc, hub, passes).pop() else {
         panic!(rt; "no bus");
     };
