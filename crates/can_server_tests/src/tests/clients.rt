@@ -34,13 +34,15 @@ const PATIENCE: u64 = 20;
 const TURNS: u32 = 10_000;
 
 /// The host of a test: its clock stands, until it is a minute later, and it counts how often it was told of a full
-/// record.
+/// record, and of an interface that went bus off or was restarted.
 #[derive(Drop)]
 pub struct Host {
     moment: Moment,
     later: Moment,
     pub is_later: AtomicBool,
     pub told: AtomicU64,
+    pub off: AtomicU64,
+    pub restarted: AtomicU64,
 }
 
 impl Host {
@@ -51,6 +53,8 @@ impl Host {
             later: moment(rt, 83_424_242),
             is_later: AtomicBool::new(false),
             told: AtomicU64::new(0),
+            off: AtomicU64::new(0),
+            restarted: AtomicU64::new(0),
         }
     }
 }
@@ -65,9 +69,13 @@ impl can_server::Clock for Host {
     }
 
     fn tell(&self, notice: Notice) {
-        if let Notice::Full { .. } = notice {
-            self.told.fetch_add(1, Ordering::SeqCst);
-        }
+        let count = match notice {
+            Notice::Full { .. } => &self.told,
+            Notice::WentOff { .. } => &self.off,
+            Notice::Restarted { .. } => &self.restarted,
+            _ => return,
+        };
+        count.fetch_add(1, Ordering::SeqCst);
     }
 }
 
@@ -96,6 +104,17 @@ impl Address {
             panic!(rt; "no connection");
         };
         Client::new(rt, alloc, conn)
+    }
+
+    /// Looks until nobody can come to it any more, a millisecond apart. Whether it came to that.
+    pub fn closes<R: Machine>(&self, rt: &R) -> bool {
+        for _ in 0..TURNS {
+            if self.connect(rt).is_err() {
+                return true;
+            }
+            thread::sleep(rt, Duration::from_millis(1));
+        }
+        false
     }
 }
 

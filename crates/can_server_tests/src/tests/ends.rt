@@ -1,4 +1,4 @@
-// A server that is told to end.
+// A server that is told to end, and one whose last frame nobody acknowledges.
 
 ghost use Rattle.std.specs.Prelude.{◌≡◌};
 ghost use Rattle.can_server.specs.Benches.{NamedFrom};
@@ -8,6 +8,7 @@ use super::*;
 use std::io;
 use std::marker::Brand;
 use std::os::unix::net::UnixStream;
+use std::sync::atomic::Ordering;
 use std::thread::join;
 
 /// One client is raw and one has only been greeted when the server is told to end.
@@ -51,4 +52,47 @@ fn a_server_that_is_told_ends_all_sessions(rt: HostRuntime) -> io::Result<()> {
     let benches = one_bus(&rt, rt.alloc());
     ends::<Brand, _>(&rt, rt.alloc(), benches, Entrance::new(&rt, 3), told, until);
     Ok(())
+}
+
+/// A client sends a frame that nobody acknowledges, and goes away.
+fn send_in_vain<R: Abort>(mut only: Client<'_, R>) {
+    only.ask("< open can0 >< rawmode >", "< hi >< ok >< ok >");
+    only.say("< send 123 0 >");
+}
+
+/// The driver of its bus ends before the record is full.
+fn ends_in_vain<N: RollName + MeterName + Send + Sync, R: Machine>(
+    rt: &R,
+    alloc: Global,
+    benches: Vec<Bench<Perfect, Open>>,
+    entrance: Entrance,
+)
+    requires { NamedFrom N.roll N.meter 0 benches.items }
+{
+    let hub = made::<N, _, _, _>(rt, alloc, benches);
+    let host = Host::new(rt);
+    let only = entrance.admit(rt, alloc);
+    let doors = entrance.into_doors(rt, alloc);
+    let (passes, ()) = join(
+        rt,
+        || serves(rt, alloc, &hub, &doors, &host, None),
+        || send_in_vain(only),
+    );
+    assert!(rt; host.told.load(Ordering::SeqCst) == 0);
+    assert!(rt; settled(rt, alloc, hub, passes).len() == 1);
+}
+
+#[test]
+fn a_driver_ends_though_nobody_acknowledges(rt: HostRuntime) {
+    let alloc = rt.alloc();
+    let Ok(blanks) = Blanks::new(alloc, 1) else {
+        panic!(&rt; "no blanks");
+    };
+    let mut bench = bench(&rt, alloc, names(&rt, alloc, "can0"));
+    bench.blanks = blanks;
+    bench.config.ifaces = 1;
+    bench.config.ack = AckMode::Peers;
+    bench.pace_ms = 100;
+    let benches = one(&rt, alloc, bench);
+    ends_in_vain::<Brand, _>(&rt, alloc, benches, Entrance::new(&rt, 1));
 }

@@ -12,14 +12,20 @@ use std::thread::join;
 /// How many sessions a server has at once.
 const MOST: u32 = 64;
 
-/// Each hears the greeting, and the one that comes last that it is one too many.
-fn crowd<R: Abort>(clients: Vec<Client<'_, R>>, mut last: Client<'_, R>) {
+/// Each hears the greeting, and the one that comes last that it is one too many. It was the last that the door takes.
+fn crowd<R: Machine>(
+    rt: &R,
+    address: &Address,
+    clients: Vec<Client<'_, R>>,
+    mut last: Client<'_, R>,
+) {
     let mut clients = clients;
     for client in clients.iter_mut() {
         client.hear("< hi >");
     }
     last.hear("< error too many sessions >");
     last.hear_end();
+    assert!(rt; address.closes(rt));
     for client in clients.iter_mut() {
         client.ask("< open can0 >", "< ok >");
     }
@@ -41,11 +47,11 @@ fn fills<N: RollName + MeterName + Send + Sync, R: Machine>(
         assert!(rt; clients.push(entrance.admit(rt, alloc)).is_ok());
     }
     let last = entrance.admit(rt, alloc);
-    let doors = entrance.into_doors(rt, alloc);
+    let (doors, address) = entrance.into_parts(rt, alloc);
     let (passes, ()) = join(
         rt,
         || serves(rt, alloc, &hub, &doors, &host, None),
-        || crowd(clients, last),
+        || crowd(rt, &address, clients, last),
     );
     let Some(bus) = settled(rt, alloc, hub, passes).pop() else {
         panic!(rt; "no bus");

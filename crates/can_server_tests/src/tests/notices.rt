@@ -15,12 +15,13 @@ use std::thread::join;
 #[derive(Drop)]
 struct Counting {
     moment: Moment,
-    /// Sessions that came from an address, that opened can0 or can1, and that went.
+    /// Sessions, the first or the second, that came from an address, that opened can0 or can1, and that went.
     came: AtomicU64,
     opened: AtomicU64,
     went: AtomicU64,
-    /// Frames that were refused.
+    /// Frames that were refused, and items that found no room.
     refused: AtomicU64,
+    dropped: AtomicU64,
     /// How often an interface went bus off, and was restarted.
     off: AtomicU64,
     restarted: AtomicU64,
@@ -34,6 +35,7 @@ impl Counting {
             opened: AtomicU64::new(0),
             went: AtomicU64::new(0),
             refused: AtomicU64::new(0),
+            dropped: AtomicU64::new(0),
             off: AtomicU64::new(0),
             restarted: AtomicU64::new(0),
         }
@@ -51,11 +53,23 @@ impl Clock for Counting {
 
     fn tell(&self, notice: Notice) {
         match notice {
-            Notice::Came { from: Some(_), .. } => add(&self.came, 1),
-            Notice::Opened { bus: 0, .. } => add(&self.opened, 1),
-            Notice::Went { refused, .. } => {
+            Notice::Came {
+                session: 1 | 2,
+                from: Some(_),
+            } => add(&self.came, 1),
+            Notice::Opened {
+                session: 1 | 2,
+                bus: 0,
+                ..
+            } => add(&self.opened, 1),
+            Notice::Went {
+                session: 1 | 2,
+                refused,
+                dropped,
+            } => {
                 add(&self.went, 1);
                 add(&self.refused, refused);
+                add(&self.dropped, dropped);
             }
             Notice::WentOff { bus: 0, .. } => add(&self.off, 1),
             Notice::Restarted { bus: 0, .. } => add(&self.restarted, 1),
@@ -68,7 +82,8 @@ fn add(count: &AtomicU64, more: u64) {
     count.fetch_add(more, Ordering::SeqCst);
 }
 
-/// The first client's interface goes off, it sends in vain, restarts the interface and sends again.
+/// The first client's interface goes off, it sends in vain, restarts the interface, which it can't do again, and sends two
+/// frames, of which the second client's socket holds one.
 fn talk<R: Abort>(mut first: Client<'_, R>, mut second: Client<'_, R>) {
     second.ask("< open can1 >< rawmode >", "< hi >< ok >< ok >");
     first.ask(
@@ -78,7 +93,8 @@ fn talk<R: Abort>(mut first: Client<'_, R>, mut second: Client<'_, R>) {
     first.ask("< send 123 0 >", "< error 040 23.424242 >");
     first.ask("< send 123 0 >", "< error bus off >");
     first.ask("< restart >", "< ok >");
-    first.say("< send 123 0 >");
+    first.ask("< restart >", "< error not bus off >");
+    first.say("< send 123 0 >< send 124 0 >");
     second.hear("< frame 123 23.424242  >");
 }
 
@@ -105,7 +121,7 @@ fn told<N: RollName + MeterName + Send + Sync, R: Machine>(
     for count in counts {
         assert!(rt; count.load(Ordering::SeqCst) == 2);
     }
-    for count in [&host.refused, &host.off, &host.restarted] {
+    for count in [&host.refused, &host.dropped, &host.off, &host.restarted] {
         assert!(rt; count.load(Ordering::SeqCst) == 1);
     }
 }
@@ -117,6 +133,8 @@ fn a_host_is_told_of_sessions_and_of_bus_off(rt: HostRuntime) {
         names(&rt, alloc, "can0,can1"),
         script(&rt, alloc, DESTROYED),
     );
-    let benches = one(&rt, alloc, held_bench(&rt, alloc, names, faults, Open));
+    let mut bench = held_bench(&rt, alloc, names, faults, Open);
+    bench.rx_capacity = 1;
+    let benches = one(&rt, alloc, bench);
     told::<Brand, _>(&rt, alloc, benches, Entrance::new(&rt, 2));
 }

@@ -9,6 +9,7 @@ use can_attempt::Class;
 use can_bus::{Record, Reply};
 use can_test_support::DESTROYED;
 use std::marker::Brand;
+use std::sync::atomic::Ordering;
 use std::thread::join;
 
 /// The first client is told that its interface went off and came back, and sends once more.
@@ -22,7 +23,7 @@ fn talk<R: Abort>(mut first: Client<'_, R>, mut second: Client<'_, R>) {
     second.hear("< frame 123 23.424242  >");
 }
 
-/// The record of a bus of can0 and can1 whose two clients talk.
+/// The record of a bus of can0 and can1 whose two clients talk, and whose host is told that can0 went off and came back.
 fn record<N: RollName + MeterName + Send + Sync, R: Machine>(
     rt: &R,
     alloc: Global,
@@ -40,6 +41,9 @@ fn record<N: RollName + MeterName + Send + Sync, R: Machine>(
         || serves(rt, alloc, &hub, &doors, &host, None),
         || talk(first, second),
     );
+    for count in [&host.off, &host.restarted] {
+        assert!(rt; count.load(Ordering::SeqCst) == 1);
+    }
     let Some(bus) = settled(rt, alloc, hub, passes).pop() else {
         panic!(rt; "no bus");
     };

@@ -45,11 +45,11 @@ fn record<N: RollName + MeterName + Send + Sync, R: Machine>(
     bus.history
 }
 
-/// The log of a record of can0 and can1.
-fn log<R: Abort>(rt: &R, alloc: Global, record: &Record) -> Vec<u8> {
+/// The log of a record of can0 and can1, with so many frames.
+fn log<R: Abort>(rt: &R, alloc: Global, record: &Record, frames: u64) -> Vec<u8> {
     let mut log = Output::new(alloc, 1_000);
     let lines = write_tape(&names(rt, alloc, "can0,can1"), record, &mut log);
-    assert!(rt; lines == Ok(1));
+    assert!(rt; lines == Ok(frames));
     log.text
 }
 
@@ -59,7 +59,7 @@ fn a_frame_crosses_a_server_over_tcp(rt: HostRuntime) {
     let benches = one_bus(&rt, alloc);
     let record = record::<Brand, _>(&rt, alloc, benches, Entrance::new(&rt, 2));
     let wanted = "(0000000023.424242) can0 123#11223344\n";
-    assert!(&rt; log(&rt, alloc, &record).as_slice() == wanted.as_bytes());
+    assert!(&rt; log(&rt, alloc, &record, 1).as_slice() == wanted.as_bytes());
 }
 
 #[test]
@@ -71,14 +71,23 @@ fn a_frame_crosses_a_server_over_a_unix_path(rt: HostRuntime) -> io::Result<()> 
     let record = record::<Brand, _>(&rt, alloc, benches, entrance);
     fs::remove_file(&rt, &path)?;
     let wanted = "(0000000023.424242) can0 123#11223344\n";
-    assert!(&rt; log(&rt, alloc, &record).as_slice() == wanted.as_bytes());
+    assert!(&rt; log(&rt, alloc, &record, 1).as_slice() == wanted.as_bytes());
     Ok(())
 }
 
 /// How many milliseconds a driver sleeps after each step.
 const PACE_MS: u32 = 100;
 
-/// Two frames that were sent in one piece, and how long it takes until both are there.
+/// The log of the five frames that it tries.
+const FIVE: &str = "\
+(0000000023.424242) can0 123#\n\
+(0000000023.424242) can0 124#\n\
+(0000000023.424242) can0 125#\n\
+(0000000023.424242) can0 126#\n\
+(0000000023.424242) can0 127#\n";
+
+/// Two frames that were sent in one piece, and how long it takes until both are there. Then the first client sends three
+/// more, and both go away.
 fn time_two<R: Machine>(rt: &R, mut first: Client<'_, R>, mut second: Client<'_, R>) -> Duration {
     second.ask("< open can1 >< rawmode >", "< hi >< ok >< ok >");
     first.ask("< open can0 >< rawmode >", "< hi >< ok >< ok >");
@@ -90,6 +99,7 @@ fn time_two<R: Machine>(rt: &R, mut first: Client<'_, R>, mut second: Client<'_,
     let Ok(taken) = before.elapsed(rt) else {
         panic!(rt; "no clock");
     };
+    first.say("< send 125 0 >< send 126 0 >< send 127 0 >");
     taken
 }
 
@@ -111,7 +121,11 @@ fn keeps_pace<N: RollName + MeterName + Send + Sync, R: Machine>(
         || time_two(rt, first, second),
     );
     assert!(rt; taken >= Duration::from_millis(u64::from(PACE_MS)));
-    assert!(rt; settled(rt, alloc, hub, passes).len() == 1);
+    let Some(bus) = settled(rt, alloc, hub, passes).pop() else {
+        panic!(rt; "no bus");
+    };
+    // The driver ended once no frame waited.
+    assert!(rt; log(rt, alloc, &bus.history, 5).as_slice() == FIVE.as_bytes());
 }
 
 #[test]

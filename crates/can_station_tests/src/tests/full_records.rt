@@ -30,7 +30,8 @@ fn counts<N: RollName + MeterName, R: Wait + Abort>(
     caller.station.stats(caller.rt, SocketId(0), can0)
 }
 
-/// Open, send, attempt; the fourth call finds the record full, and changes nothing.
+/// Open, send, attempt; the fourth call finds the record full, and changes nothing. Who asks first learns of it, and
+/// nobody after it.
 fn one_caller<N: RollName + MeterName, R: Wait + Abort>(rt: &R, alloc: Global, blanks: Blanks)
     requires { (blanks.roll ≡ N.roll 0) × (blanks.meter ≡ N.meter 0) }
 {
@@ -40,7 +41,11 @@ fn one_caller<N: RollName + MeterName, R: Wait + Abort>(rt: &R, alloc: Global, b
     assert!(rt; caller.send(socket, 0x123) == Ok(0));
     assert!(rt; matches!(caller.step(1), Ok(Attempt::Tried(_))));
     let before = counts(&caller);
+    assert!(rt; !station.became_full() && !station.is_full());
     assert!(rt; caller.receive(socket) == Err(FULL));
+    assert!(rt; station.became_full() && !station.became_full());
+    assert!(rt; caller.receive(socket) == Err(FULL));
+    assert!(rt; !station.became_full() && station.is_full());
     assert!(rt; counts(&caller) == before);
     assert!(rt; caller.calls() == 3);
     let passes = one(rt, alloc, caller.leave());
