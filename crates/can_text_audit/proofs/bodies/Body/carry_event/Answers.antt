@@ -1,4 +1,4 @@
-use Rattle.std.proofs.Common.{◌++◌, IsTrue, Bool, Some, None, List, refl, reverse, subst, sym, true, false, arith}
+use Rattle.std.proofs.Common.{◌≡◌, ◌++◌, IsTrue, Bool, Some, None, List, refl, reverse, subst, sym, true, false, arith}
 use Rattle.can_event.specs.declared.events.BusConfig.{BusConfig}
 use Rattle.can_event.specs.declared.events.Entry.{Entry}
 use Rattle.can_event.specs.Replies.{Enters}
@@ -8,19 +8,10 @@ use Rattle.can_text_audit.specs.inner.Carried.{IsNext}
 use Rattle.can_text_audit.proofs.Answering.{next_is, other_past, other_reply}
 use Rattle.can_text_audit.proofs.Taking.{legal_more, of_three, takes_blamed}
 use Rattle.can_text_audit.proofs.bodies.Body.carry_event.Goals as goal
-use Rattle.can_text_audit.proofs.bodies.Body.carry_event.Goals.{After-has_fd-fd}
 
 never : (b : Bool) → IsTrue b → b ≡ false → ⊥
 never true h e = absurd cc
 never false h e = absurd cc
-
--- the line is that of the next entry
-next : (c : After-has_fd-fd) (past : List Entry) → Stands c.args.self.now.bus past → IsNext c.args.self.now.bus.config past c.args.line.now c.has_fd-fd.result c.answer-reply.new.self
-next c past stands =
-    let test : IsTrue c.enters.result = grind (arith, c.if-not-enters.false) in
-    let enters : Enters c.answer-reply.result = subst IsTrue c.enters.ensures test in
-    next_is c.args.self.now.bus.config past c.args.line.now c.args.event.now c.answer-reply.result c.has_fd-fd.result c.answer-reply.new.self enters (c.answer-reply.ensures.spelled enters) c.hold_event.ensures c.hold_reply.ensures c.has_fd-fd.ensures
-    (c.in-Ok-true.ensures.yes c.in-Ok-true.field-0-test) (c.answer-reply.ensures.after past stands)
 
 pub returns-then-is_past_limit : goal.returns-then-is_past_limit
 returns-then-is_past_limit c =
@@ -41,15 +32,26 @@ returns-then-not-may_stand c = (
   refl,
   λ text g going.
       let old = c.args.self.now in
+      let line = c.args.line.now in
       let past = reverse g.read.entries in
-      let one = next c past (g.stands going c.requires.legal) in
+      let test : IsTrue c.enters.result = grind (arith, c.if-not-enters.false) in
+      let enters : Enters c.answer-reply.result = subst IsTrue c.enters.ensures test in
+      let one : IsNext old.bus.config past line c.has_fd-fd.result c.answer-reply.new.self =
+      next_is old.bus.config past line c.args.event.now c.answer-reply.result c.has_fd-fd.result c.answer-reply.new.self enters (c.answer-reply.ensures.spelled enters) c.hold_event.ensures c.hold_reply.ensures c.has_fd-fd.ensures
+      (c.in-Ok-true.ensures.yes c.in-Ok-true.field-0-test) (c.answer-reply.ensures.after past (g.stands going c.requires.legal)) in
       let no = c.may_stand.ensures.no c.if-not-may_stand.true in
-      of_three old.version old.config past c.args.line.now c.has_fd-fd.result c.answer-reply.new.self (subst (λ (d : BusConfig). IsNext d past c.args.line.now c.has_fd-fd.result c.answer-reply.new.self) (g.config going) one) no.0 no.1,
+      of_three old.version old.config past line c.has_fd-fd.result c.answer-reply.new.self (subst (λ (d : BusConfig). IsNext d past line c.has_fd-fd.result c.answer-reply.new.self) (g.config going) one) no.0 no.1,
 )
 
 pub returns : goal.returns
 returns c = λ text g going is.
+    let old = c.args.self.now in
     let line = c.args.line.now in
+    let test : IsTrue c.enters.result = grind (arith, c.if-not-enters.false) in
+    let enters : Enters c.answer-reply.result = subst IsTrue c.enters.ensures test in
     subst (IsGoing (text ++ line)) (sym c.add.ensures)
-    (legal_more text line c.args.self.now c.answer-reply.new.self c.has_fd-fd.result g c.requires.legal going is c.answer-reply.ensures.config (next c)
+    (legal_more text line old c.answer-reply.new.self c.has_fd-fd.result g c.requires.legal going is c.answer-reply.ensures.config
+    (λ past stands.
+    next_is old.bus.config past line c.args.event.now c.answer-reply.result c.has_fd-fd.result c.answer-reply.new.self enters (c.answer-reply.ensures.spelled enters) c.hold_event.ensures c.hold_reply.ensures c.has_fd-fd.ensures
+    (c.in-Ok-true.ensures.yes c.in-Ok-true.field-0-test) (c.answer-reply.ensures.after past stands))
     (c.may_stand.ensures.yes c.if-not-may_stand.false))
