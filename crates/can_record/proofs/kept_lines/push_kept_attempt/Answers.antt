@@ -13,4 +13,4 @@ returns-else-not-is_empty-2 c =
     (c.push_winner.ensures.text ∙ rw c.from.ensures refl)
     c.push_packed.ensures.text
     (c.push_outcome.ensures ∙ rw (c.class_in.ensures, c.off_in.ensures) refl)
-    (grind (arith, c.is_empty-2.ensures, c.if-not-is_empty-2.false)))
+    (grind (arith, c.is_empty-else-asks.ensures, c.if-not-is_empty-2.false)))
