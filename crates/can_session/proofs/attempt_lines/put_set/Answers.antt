@@ -1,4 +1,5 @@
 use Rattle.std.proofs.Common.{◌≡◌, sym, ap, subst, ◌∙◌, ◌++◌, codes, ℕ, ◌<◌, rules}
+use Rattle.std.proofs.lemmas.Bool.{eqb-true}
 use Rattle.can_session.specs.AttemptLines.{set_text}
 use Rattle.can_session.proofs.SetTexts.{member_kept, other_kept, none_text}
 use Rattle.can_session.proofs.attempt_lines.put_set.Goals as goal
@@ -16,7 +17,9 @@ loop-number-preserved c =
           c.if-contains.said.items whole lt at (sym c.contains.ensures ∙ w.if-contains.false) w.is_first-is (ap (λ v. v.items) w.said-is) c.loop-number.invariant
     ]
 
-pub returns-then-eq : goal.returns-then-eq
-returns-then-eq c =
-    let text : set_text c.args.names.now c.args.set ≡ codes "-" = ap (set_text c.args.names.now) (search (rules)) ∙ none_text c.args.names.now in
+pub returns-then-is_empty : goal.returns-then-is_empty
+returns-then-is_empty c =
+    let none : c.args.set.0 ≡ 0 = eqb-true c.args.set.0 0 (sym c.is_empty.ensures ∙ c.if-is_empty.true) in
+    let text : set_text c.args.names.now c.args.set ≡ codes "-" =
+    ap (λ (bits : ℕ). set_text c.args.names.now (record { 0 = bits })) none ∙ none_text c.args.names.now in
     rw text (search rules)
