@@ -106,12 +106,14 @@ abbrev pub TellsCounters : Option EnteredSeen → ℕ → ErrorCounts → Option
 TellsCounters None iface answer new = (answer ≡ at_start) × (new ≡ None)
 TellsCounters (Some old) iface answer new = (gauge : Readings) × GaugeTells old.gauge iface answer gauge × (new ≡ Some (record old { gauge = gauge }))
 
--- a socket's counts in some state of the bus that was entered; where none was, it is not open
+-- counts that a socket with this number has in some history of a bus (which history is not said); where no bus was
+-- entered, it is not open
 abbrev pub CountsSocket : Option EnteredSeen → ℕ → Option SocketStats → Type 0
 CountsSocket None socket answer = answer ≡ None
 CountsSocket (Some e) socket answer = (bus : Journal) × (answer ≡ socket_stats_of bus.config bus.history socket)
 
--- an interface's counts in some state of the bus that was entered; where none was, there is no such interface
+-- counts that this interface has in some history of a bus (which is not said); where no bus was entered, there is no
+-- such interface
 abbrev pub CountsIface : Option EnteredSeen → ℕ → Option IfaceStats → Type 0
 CountsIface None iface answer = answer ≡ None
 CountsIface (Some e) iface answer = (bus : Journal) × (answer ≡ iface_stats_of bus.config bus.history iface)
