@@ -41,15 +41,16 @@ fn a_full_record_gives_every_kind_of_entry_back(rt: HostRuntime) -> Result<(), F
     plays_with(&rt, EVERY_KIND, "LONG", LONG)
 }
 
-/// A short record, full after an attempt whose item then waits.
+/// A short record. Each of its calls is refused once it is full.
 const ENDS_AT_ITS_LIMIT: &str = "canbus record 1
-bus 1 always 0000 10 3
+bus 1 always 0000 10 4
 open 0 100 = socket 0
 send 0 123# = number 0
 attempt 0.000001 good = tried 0 0 123# done 0000 0000
+receive 0 = none
 ? items 0 = 0 0 0
 ? frames 0 = 1 1 0 0 0
-end 3";
+end 4";
 
 #[test]
 fn a_full_record_refuses_every_call(rt: HostRuntime) -> Result<(), Fail> {
