@@ -27,6 +27,18 @@ start_of-short names (suc k) good inside =
     length-name : (name : List ℕ) → is_name name ≡ true → length name ≤ 15
     length-name name h = grind (arith, h)
 
+-- each name takes at least its comma
+pub start_of-rises : (names : List (List ℕ)) (j k : ℕ) → j < k → k ≤ length names → start_of names j + 1 ≤ start_of names k
+start_of-rises names j zero up inside = absurd (omega (arith, up))
+start_of-rises names j (suc k) up inside =
+    let next : start_of names (suc k) ≡ start_of names k + (length (get_or names k []) + 1) = ap (start_of names) (sym (add-one k)) ∙ start_of-next names k (omega (arith, inside)) in
+    elim (cases_lt j k) [
+      | inl below ↦ omega (arith, next, start_of-rises names j k below (omega (arith, inside)))
+      | inr past ↦
+          let same : j ≡ k = omega (arith, up, past) in
+          omega (arith, next, ap (start_of names) same)
+    ]
+
 -- a name stands where it begins
 pub stands : (names : List (List ℕ)) (k : ℕ) → k < length names → start_of names k + length (get_or names k []) ≤ length (join_with_byte 44 names)
 stands [] k inside = elim inside [ ]
@@ -51,6 +63,53 @@ name-at (x ∷ y ∷ r) (suc k) inside =
     past (b ∷ x) rest n =
         let more : length (b ∷ x) + 1 + n ≡ suc (length x + 1 + n) = omega arith in
         ap (λ m. drop m ((b ∷ x) ++ 44 ∷ rest)) more ∙ past x rest n
+
+past : (x rest : List ℕ) (n : ℕ) → drop (length x + 1 + n) (x ++ 44 ∷ rest) ≡ drop n rest
+past [] rest n = grind (arith, common_steps)
+past (b ∷ x) rest n =
+    let more : length (b ∷ x) + 1 + n ≡ suc (length x + 1 + n) = omega arith in
+    ap (λ m. drop m ((b ∷ x) ++ 44 ∷ rest)) more ∙ past x rest n
+
+up_to : (x rest : List ℕ) (n : ℕ) → take (length x + 1 + n) (x ++ 44 ∷ rest) ≡ x ++ 44 ∷ take n rest
+up_to [] rest n = grind (arith, common_steps)
+up_to (b ∷ x) rest n =
+    let more : length (b ∷ x) + 1 + n ≡ suc (length x + 1 + n) = omega arith in
+    ap (λ m. take m ((b ∷ x) ++ 44 ∷ rest)) more ∙ ap (λ t. b ∷ t) (up_to x rest n)
+
+-- the first names are joined where they begin
+front-run : (names : List (List ℕ)) (n : ℕ) → n < length names → take (start_of names (suc n) - 1) (join_with_byte 44 names) ≡ join_with_byte 44 (take (suc n) names)
+front-run [] n inside = elim inside [ ]
+front-run (x ∷ []) zero inside = grind (arith, common_steps)
+front-run (x ∷ []) (suc n) inside = absurd (omega arith)
+front-run (x ∷ y ∷ r) zero inside = grind (arith, common_steps)
+front-run (x ∷ y ∷ r) (suc n) inside =
+    let rest = join_with_byte 44 (y ∷ r) in
+    let some : 1 ≤ start_of (y ∷ r) (suc n) = omega (arith, start_of-cons y r n) in
+    let len : start_of (x ∷ y ∷ r) (suc (suc n)) - 1 ≡ length x + 1 + (start_of (y ∷ r) (suc n) - 1) = omega (arith, start_of-cons x (y ∷ r) (suc n), some) in
+    ap (λ m. take m (x ++ 44 ∷ rest)) len
+    ∙ up_to x rest (start_of (y ∷ r) (suc n) - 1)
+    ∙ ap (λ t. x ++ 44 ∷ t) (front-run (y ∷ r) n (omega arith))
+
+-- some names in a row are joined where the first of them begins
+pub run-at : (names : List (List ℕ)) (k n e : ℕ) → suc (k + n) ≡ e → e ≤ length names → take (start_of names e - 1 - start_of names k) (drop (start_of names k) (join_with_byte 44 names)) ≡ join_with_byte 44 (take (suc n) (drop k names))
+run-at names zero n e is inside =
+    let same : e ≡ suc n = omega (arith, is) in
+    let all : start_of names (suc n) - 1 - 0 ≡ start_of names (suc n) - 1 = omega arith in
+    ap (λ m. take (start_of names m - 1 - 0) (join_with_byte 44 names)) same
+    ∙ ap (λ m. take m (join_with_byte 44 names)) all
+    ∙ front-run names n (omega (arith, same, inside))
+run-at [] (suc k) n e is inside = absurd (omega (arith, is, inside))
+run-at (x ∷ []) (suc k) n e is inside = absurd (omega (arith, is, inside))
+run-at (x ∷ y ∷ r) (suc k) n zero is inside = absurd (omega (arith, is))
+run-at (x ∷ y ∷ r) (suc k) n (suc e) is inside =
+    let rest = join_with_byte 44 (y ∷ r) in
+    let here = start_of-cons x (y ∷ r) k in
+    let there = start_of-cons x (y ∷ r) e in
+    let len : start_of (x ∷ y ∷ r) (suc e) - 1 - start_of (x ∷ y ∷ r) (suc k) ≡ start_of (y ∷ r) e - 1 - start_of (y ∷ r) k = omega (arith, here, there) in
+    ap (λ m. take m (drop (start_of (x ∷ y ∷ r) (suc k)) (x ++ 44 ∷ rest))) len
+    ∙ ap (λ m. take (start_of (y ∷ r) e - 1 - start_of (y ∷ r) k) (drop m (x ++ 44 ∷ rest))) here
+    ∙ ap (take (start_of (y ∷ r) e - 1 - start_of (y ∷ r) k)) (past x rest (start_of (y ∷ r) k))
+    ∙ run-at (y ∷ r) k n e (omega (arith, is)) (omega (arith, inside))
 
 low : (b : ℕ) → is_name_byte b ≡ true → b < 128
 low b h = grind (arith, h)
@@ -119,4 +178,35 @@ cut text starts count place kept below =
       within = omega (arith, start, end, stands names place inside, ap length joined);
       ascii = ascii-text text kept.good.good;
       is = ap (λ n. take n (drop (slice_index starts place) text)) len ∙ ap (λ n. take (length name) (drop n text)) start ∙ ap (λ t. take (length name) (drop (start_of names place) t)) (sym joined) ∙ name-at names place inside;
+    }
+
+-- what the kept starts say of the names from one place up to another
+pub record IsRun (text : List ℕ) (start end : ℕ) (names : List (List ℕ)) : Type 0 where
+  pub before : start + 1 ≤ end
+  pub within : end - 1 ≤ length text
+  pub ascii : IsAscii text
+  pub is : slice_range text start (end - 1) ≡ join_with_byte 44 names
+
+pub run : (text starts : List ℕ) (count first end : ℕ) → AreKept (names_in text) count starts → first < end → end ≤ count → IsRun text (slice_index starts first) (slice_index starts end) (slice_range (names_in text) first end)
+run text starts count first end kept some within =
+    let names = names_in text in
+    let n = end - first - 1 in
+    let is_end : suc (first + n) ≡ end = omega (arith, some) in
+    let is_len : suc n ≡ end - first = omega (arith, some) in
+    let joined = join_with_byte-slice_split 44 text in
+    let start = kept.places first (omega (arith, some, within, kept.all)) in
+    let stop = kept.places end (omega (arith, within, kept.all)) in
+    let last = end - 1 in
+    let last_cut = cut text starts count last kept (omega (arith, some, within)) in
+    let last_end : slice_index starts (last + 1) ≡ slice_index starts end = ap (slice_index starts) (omega (arith, some)) in
+    let rises = start_of-rises names first end some (omega (arith, within, kept.all)) in
+    record {
+      before = omega (arith, start, stop, rises);
+      within = omega (arith, last_cut.within, last_end);
+      ascii = last_cut.ascii;
+      is = ap (λ m. take (slice_index starts end - 1 - slice_index starts first) (drop (slice_index starts first) m)) (sym joined)
+          ∙ ap (λ m. take (m - 1 - slice_index starts first) (drop (slice_index starts first) (join_with_byte 44 names))) stop
+          ∙ ap (λ m. take (start_of names end - 1 - m) (drop m (join_with_byte 44 names))) start
+          ∙ run-at names first n end is_end (omega (arith, within, kept.all))
+          ∙ ap (λ m. join_with_byte 44 (take m (drop first names))) is_len;
     }

@@ -6,7 +6,8 @@ use Rattle.can_frame.specs.Numbers.{number_in}
 abbrev pub moment_text : ℕ → List ℕ
 moment_text micros = decimal (micros / 1000000) ++ 46 ∷ digits 10 6 (micros % 1000000)
 
--- the moment, in microseconds, of 1 to 10 digits of seconds, a point (46) and 6 digits of microseconds
+-- the moment, in microseconds, of 1 to 10 digits of seconds, a point (46) and 6 digits of microseconds, as socketcand
+-- and candump write it
 unfoldable pub moment_in : List ℕ → Option ℕ
 moment_in word =
     if nat_lt (length word) 7 then None

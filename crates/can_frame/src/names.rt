@@ -1,5 +1,5 @@
-ghost use Rattle.std.specs.Prelude.{ℕ, ◌≡◌, ◌≢◌, ◌↔◌, ◌≤◌, length, Some, Err, IsTrue, IsNone, IfOk, IfSome, OnOk, slice_get, slice_index};
-ghost use Rattle.std.specs.List.{Contains, AllPairs, list_all};
+ghost use Rattle.std.specs.Prelude.{ℕ, ◌≡◌, ◌≢◌, ◌↔◌, ◌<◌, ◌≤◌, length, Some, Err, IsTrue, IsNone, IfOk, IfSome, OnOk, slice_get, slice_index, slice_range};
+ghost use Rattle.std.specs.List.{Contains, AllPairs, join_with_byte, list_all};
 ghost use Rattle.std.specs.Option.{option_map};
 ghost use Rattle.can_frame.specs.Names.{names_in, is_name_byte, is_name as is_name_of, AreNames, start_of, place_of};
 
@@ -95,6 +95,17 @@ impl Names {
         let start = self.starts[place] as usize;
         let end = self.starts[place + 1] as usize - 1;
         Some(&self.text[start..end])
+    }
+
+    /// The names from one place up to another, joined by commas, in constant time.
+    pub fn run(&self, first: u8, end: u8) -> &str
+        requires some { first < end }
+        requires within { end ≤ length self.now }
+        ensures { result.now ≡ join_with_byte 44 (slice_range self.now first end) }
+    {
+        let start = self.starts[first as usize] as usize;
+        let stop = self.starts[end as usize] as usize - 1;
+        &self.text[start..stop]
     }
 }
 
