@@ -44,8 +44,16 @@ fn opened(iface: Iface, capacity: u32, reply: &Reply) -> Kept
     ensures within { frames_needed result ≡ 0 }
 {
     match reply {
-        Reply::Opened(id) => Kept::Opened(iface, capacity, *id),
-        Reply::Refused(why) => Kept::OpenRefused(iface, capacity, *why),
+        Reply::Opened(id) => Kept::Opened {
+            iface,
+            capacity,
+            socket: *id,
+        },
+        Reply::Refused(why) => Kept::OpenRefused {
+            iface,
+            capacity,
+            why: *why,
+        },
         _ => unreachable!(),
     }
 }
@@ -57,8 +65,14 @@ fn closed(id: SocketId, reply: &Reply) -> Kept
     ensures within { frames_needed result ≡ 0 }
 {
     match reply {
-        Reply::Closed(counts) => Kept::Closed(id, *counts),
-        Reply::Refused(why) => Kept::CloseRefused(id, *why),
+        Reply::Closed(counts) => Kept::Closed {
+            socket: id,
+            counts: *counts,
+        },
+        Reply::Refused(why) => Kept::CloseRefused {
+            socket: id,
+            why: *why,
+        },
         _ => unreachable!(),
     }
 }
@@ -70,8 +84,12 @@ fn option_set(id: SocketId, option: Opt, reply: &Reply) -> Kept
     ensures within { frames_needed result ≡ 0 }
 {
     match reply {
-        Reply::Done => Kept::OptionSet(id, option),
-        Reply::Refused(why) => Kept::OptionRefused(id, option, *why),
+        Reply::Done => Kept::OptionSet { socket: id, option },
+        Reply::Refused(why) => Kept::OptionRefused {
+            socket: id,
+            option,
+            why: *why,
+        },
         _ => unreachable!(),
     }
 }
@@ -83,8 +101,12 @@ fn restarted(iface: Iface, moment: Moment, reply: &Reply) -> Kept
     ensures within { frames_needed result ≡ 0 }
 {
     match reply {
-        Reply::Done => Kept::Restarted(iface, moment),
-        Reply::Refused(why) => Kept::RestartRefused(iface, moment, *why),
+        Reply::Done => Kept::Restarted { iface, moment },
+        Reply::Refused(why) => Kept::RestartRefused {
+            iface,
+            moment,
+            why: *why,
+        },
         _ => unreachable!(),
     }
 }
@@ -100,14 +122,34 @@ fn sent(frames: &mut Vec<Frame>, id: SocketId, frame: &Frame, reply: &Reply) -> 
 {
     let kept = kept_frame(frames, frame);
     match (reply, kept) {
-        (Reply::Sent(number), KeptFrame::Words(word, len, bytes)) => {
-            Kept::Sent(len, id, word, *number as u32, bytes)
+        (Reply::Sent(number), KeptFrame::Words { word, len, bytes }) => {
+            Kept::Sent {
+                len,
+                socket: id,
+                word,
+                number: *number as u32,
+                bytes,
+            }
         }
-        (Reply::Sent(number), KeptFrame::Place(place)) => Kept::FdSent(id, *number as u32, place),
-        (Reply::Refused(why), KeptFrame::Words(word, len, bytes)) => {
-            Kept::SendRefused(*why, len, id, word, bytes)
+        (Reply::Sent(number), KeptFrame::Place(place)) => Kept::FdSent {
+            socket: id,
+            number: *number as u32,
+            place,
+        },
+        (Reply::Refused(why), KeptFrame::Words { word, len, bytes }) => {
+            Kept::SendRefused {
+                why: *why,
+                len,
+                socket: id,
+                word,
+                bytes,
+            }
         }
-        (Reply::Refused(why), KeptFrame::Place(place)) => Kept::FdSendRefused(*why, id, place),
+        (Reply::Refused(why), KeptFrame::Place(place)) => Kept::FdSendRefused {
+            why: *why,
+            socket: id,
+            place,
+        },
         _ => unreachable!(),
     }
 }
@@ -123,8 +165,11 @@ fn received(frames: &mut Vec<Frame>, id: SocketId, reply: &Reply) -> Kept
 {
     match reply {
         Reply::Received(Some(received)) => item_received(frames, id, received),
-        Reply::Received(None) => Kept::NothingReceived(id),
-        Reply::Refused(why) => Kept::ReceiveRefused(id, *why),
+        Reply::Received(None) => Kept::NothingReceived { socket: id },
+        Reply::Refused(why) => Kept::ReceiveRefused {
+            socket: id,
+            why: *why,
+        },
         _ => unreachable!(),
     }
 }
@@ -147,12 +192,32 @@ fn item_received(frames: &mut Vec<Frame>, id: SocketId, received: &Received) -> 
     let number = number as u32;
     match &received.item {
         Item::Data(frame) => match kept_frame(frames, frame) {
-            KeptFrame::Words(word, len, bytes) => {
-                Kept::FrameReceived(from, len, id, word, number, bytes, moment)
+            KeptFrame::Words { word, len, bytes } => {
+                Kept::FrameReceived {
+                    from,
+                    len,
+                    socket: id,
+                    word,
+                    number,
+                    bytes,
+                    moment,
+                }
             }
-            KeptFrame::Place(place) => Kept::FdReceived(from, id, number, place, moment),
+            KeptFrame::Place(place) => Kept::FdReceived {
+                from,
+                socket: id,
+                number,
+                place,
+                moment,
+            },
         },
-        Item::Error(error) => Kept::ErrorReceived(from, id, number, *error, moment),
+        Item::Error(error) => Kept::ErrorReceived {
+            from,
+            socket: id,
+            number,
+            error: *error,
+            moment,
+        },
     }
 }
 
@@ -166,9 +231,17 @@ fn attempted(frames: &mut Vec<Frame>, moment: Moment, verdict: Verdict, reply: &
     ensures memory { vec_capacity frames.old ≤ vec_capacity frames.new }
 {
     match reply {
-        Reply::Idle { restarted } => Kept::Idle(*restarted, verdict, moment),
+        Reply::Idle { restarted } => Kept::Idle {
+            restarted: *restarted,
+            verdict,
+            moment,
+        },
         Reply::Tried(tried) => tried_at(frames, moment, verdict, tried),
-        Reply::Refused(why) => Kept::AttemptRefused(verdict, moment, *why),
+        Reply::Refused(why) => Kept::AttemptRefused {
+            verdict,
+            moment,
+            why: *why,
+        },
         _ => unreachable!(),
     }
 }
@@ -193,13 +266,30 @@ fn tried_at(frames: &mut Vec<Frame>, moment: Moment, verdict: Verdict, tried: &T
         ..
     } = *tried;
     match kept_frame(frames, &tried.frame) {
-        KeptFrame::Words(word, len, bytes) => {
+        KeptFrame::Words { word, len, bytes } => {
             let stamp = stamp_of(moment, winner, len, off);
-            Kept::Tried(end, named, word, number, accepted, restarted, bytes, stamp)
+            Kept::Tried {
+                end,
+                named,
+                word,
+                number,
+                accepted,
+                restarted,
+                bytes,
+                stamp,
+            }
         }
-        KeptFrame::Place(place) => Kept::FdTried(
-            end, winner, number, named, accepted, off, restarted, place, moment,
-        ),
+        KeptFrame::Place(place) => Kept::FdTried {
+            end,
+            winner,
+            number,
+            named,
+            accepted,
+            off,
+            restarted,
+            place,
+            moment,
+        },
     }
 }
 
@@ -219,7 +309,7 @@ fn kept_frame(frames: &mut Vec<Frame>, frame: &Frame) -> KeptFrame
         KeptFrame::Place(place)
     } else {
         let (word, len, bytes) = frame_words(frame);
-        KeptFrame::Words(word, len, bytes)
+        KeptFrame::Words { word, len, bytes }
     }
 }
 

@@ -14,33 +14,65 @@ pub fn event_in(frames: &[Frame], kept: &Kept) -> Event
     ensures { result ≡ (entry_in frames.now kept.now).event }
 {
     match kept {
-        Kept::Opened(iface, capacity, _) => Event::Open(*iface, *capacity),
-        Kept::OpenRefused(iface, capacity, _) => Event::Open(*iface, *capacity),
-        Kept::Closed(id, _) => Event::Close(*id),
-        Kept::CloseRefused(id, _) => Event::Close(*id),
-        Kept::OptionSet(id, option) => Event::SetOption(*id, *option),
-        Kept::OptionRefused(id, option, _) => Event::SetOption(*id, *option),
-        Kept::Sent(len, id, word, _, bytes) => Event::Send(*id, frame_in(*word, *len, bytes)),
-        Kept::FdSent(id, _, place) => Event::Send(*id, frames[*place]),
-        Kept::SendRefused(_, len, id, word, bytes) => {
-            Event::Send(*id, frame_in(*word, *len, bytes))
-        }
-        Kept::FdSendRefused(_, id, place) => Event::Send(*id, frames[*place]),
-        Kept::NothingReceived(id) => Event::Receive(*id),
-        Kept::FrameReceived(_, _, id, _, _, _, _) => Event::Receive(*id),
-        Kept::FdReceived(_, id, _, _, _) => Event::Receive(*id),
-        Kept::ErrorReceived(_, id, _, _, _) => Event::Receive(*id),
-        Kept::ReceiveRefused(id, _) => Event::Receive(*id),
-        Kept::Idle(_, verdict, moment) => Event::Attempt(*moment, *verdict),
-        Kept::Tried(end, named, _, _, _, _, _, stamp) => {
-            Event::Attempt(stamp_moment(*stamp), verdict_in(*end / 4, *named))
-        }
-        Kept::FdTried(end, _, _, named, _, _, _, _, moment) => {
-            Event::Attempt(*moment, verdict_in(*end / 4, *named))
-        }
-        Kept::AttemptRefused(verdict, moment, _) => Event::Attempt(*moment, *verdict),
-        Kept::Restarted(iface, moment) => Event::Restart(*iface, *moment),
-        Kept::RestartRefused(iface, moment, _) => Event::Restart(*iface, *moment),
+        Kept::Opened {
+            iface,
+            capacity,
+            ..
+        } => Event::Open(*iface, *capacity),
+        Kept::OpenRefused {
+            iface,
+            capacity,
+            ..
+        } => Event::Open(*iface, *capacity),
+        Kept::Closed { socket, .. } => Event::Close(*socket),
+        Kept::CloseRefused { socket, .. } => Event::Close(*socket),
+        Kept::OptionSet { socket, option } => Event::SetOption(*socket, *option),
+        Kept::OptionRefused { socket, option, .. } => Event::SetOption(*socket, *option),
+        Kept::Sent {
+            len,
+            socket,
+            word,
+            bytes,
+            ..
+        } => Event::Send(*socket, frame_in(*word, *len, bytes)),
+        Kept::FdSent { socket, place, .. } => Event::Send(*socket, frames[*place]),
+        Kept::SendRefused {
+            len,
+            socket,
+            word,
+            bytes,
+            ..
+        } => { Event::Send(*socket, frame_in(*word, *len, bytes)) }
+        Kept::FdSendRefused { socket, place, .. } => Event::Send(*socket, frames[*place]),
+        Kept::NothingReceived { socket } => Event::Receive(*socket),
+        Kept::FrameReceived { socket, .. } => Event::Receive(*socket),
+        Kept::FdReceived { socket, .. } => Event::Receive(*socket),
+        Kept::ErrorReceived { socket, .. } => Event::Receive(*socket),
+        Kept::ReceiveRefused { socket, .. } => Event::Receive(*socket),
+        Kept::Idle {
+            verdict,
+            moment,
+            ..
+        } => Event::Attempt(*moment, *verdict),
+        Kept::Tried {
+            end,
+            named,
+            stamp,
+            ..
+        } => { Event::Attempt(stamp_moment(*stamp), verdict_in(*end / 4, *named)) }
+        Kept::FdTried {
+            end,
+            named,
+            moment,
+            ..
+        } => { Event::Attempt(*moment, verdict_in(*end / 4, *named)) }
+        Kept::AttemptRefused {
+            verdict,
+            moment,
+            ..
+        } => Event::Attempt(*moment, *verdict),
+        Kept::Restarted { iface, moment } => Event::Restart(*iface, *moment),
+        Kept::RestartRefused { iface, moment, .. } => Event::Restart(*iface, *moment),
         Kept::Wide(_) => unreachable!(),
     }
 }
@@ -51,18 +83,26 @@ pub fn reply_in(frames: &[Frame], kept: &Kept) -> Reply
     ensures { result ≡ (entry_in frames.now kept.now).reply }
 {
     match kept {
-        Kept::Opened(_, _, id) => Reply::Opened(*id),
-        Kept::OpenRefused(_, _, why) => Reply::Refused(*why),
-        Kept::Closed(_, counts) => Reply::Closed(*counts),
-        Kept::CloseRefused(_, why) => Reply::Refused(*why),
-        Kept::OptionSet(_, _) => Reply::Done,
-        Kept::OptionRefused(_, _, why) => Reply::Refused(*why),
-        Kept::Sent(_, _, _, number, _) => Reply::Sent(u64::from(*number)),
-        Kept::FdSent(_, number, _) => Reply::Sent(u64::from(*number)),
-        Kept::SendRefused(why, _, _, _, _) => Reply::Refused(*why),
-        Kept::FdSendRefused(why, _, _) => Reply::Refused(*why),
-        Kept::NothingReceived(_) => Reply::Received(None),
-        Kept::FrameReceived(from, len, _, word, number, bytes, moment) => {
+        Kept::Opened { socket, .. } => Reply::Opened(*socket),
+        Kept::OpenRefused { why, .. } => Reply::Refused(*why),
+        Kept::Closed { counts, .. } => Reply::Closed(*counts),
+        Kept::CloseRefused { why, .. } => Reply::Refused(*why),
+        Kept::OptionSet { .. } => Reply::Done,
+        Kept::OptionRefused { why, .. } => Reply::Refused(*why),
+        Kept::Sent { number, .. } => Reply::Sent(u64::from(*number)),
+        Kept::FdSent { number, .. } => Reply::Sent(u64::from(*number)),
+        Kept::SendRefused { why, .. } => Reply::Refused(*why),
+        Kept::FdSendRefused { why, .. } => Reply::Refused(*why),
+        Kept::NothingReceived { .. } => Reply::Received(None),
+        Kept::FrameReceived {
+            from,
+            len,
+            word,
+            number,
+            bytes,
+            moment,
+            ..
+        } => {
             Reply::Received(Some(Received {
                 item: Item::Data(frame_in(*word, *len, bytes)),
                 from: *from,
@@ -70,27 +110,58 @@ pub fn reply_in(frames: &[Frame], kept: &Kept) -> Reply
                 moment: *moment,
             }))
         }
-        Kept::FdReceived(from, _, number, place, moment) => Reply::Received(Some(Received {
+        Kept::FdReceived {
+            from,
+            number,
+            place,
+            moment,
+            ..
+        } => Reply::Received(Some(Received {
             item: Item::Data(frames[*place]),
             from: *from,
             number: u64::from(*number),
             moment: *moment,
         })),
-        Kept::ErrorReceived(from, _, number, error, moment) => Reply::Received(Some(Received {
+        Kept::ErrorReceived {
+            from,
+            number,
+            error,
+            moment,
+            ..
+        } => Reply::Received(Some(Received {
             item: Item::Error(*error),
             from: *from,
             number: u64::from(*number),
             moment: *moment,
         })),
-        Kept::ReceiveRefused(_, why) => Reply::Refused(*why),
-        Kept::Idle(restarted, _, _) => Reply::Idle {
+        Kept::ReceiveRefused { why, .. } => Reply::Refused(*why),
+        Kept::Idle { restarted, .. } => Reply::Idle {
             restarted: *restarted,
         },
-        Kept::Tried(end, _, word, number, accepted, restarted, bytes, stamp) => {
+        Kept::Tried {
+            end,
+            word,
+            number,
+            accepted,
+            restarted,
+            bytes,
+            stamp,
+            ..
+        } => {
             let words = (*end, *word, *number);
             Reply::Tried(tried_in(words, *accepted, *restarted, bytes, *stamp))
         }
-        Kept::FdTried(end, winner, number, _, accepted, off, restarted, place, moment) => {
+        Kept::FdTried {
+            end,
+            winner,
+            number,
+            accepted,
+            off,
+            restarted,
+            place,
+            moment,
+            ..
+        } => {
             Reply::Tried(Tried {
                 moment: *moment,
                 winner: *winner,
@@ -102,9 +173,9 @@ pub fn reply_in(frames: &[Frame], kept: &Kept) -> Reply
                 restarted: *restarted,
             })
         }
-        Kept::AttemptRefused(_, _, why) => Reply::Refused(*why),
-        Kept::Restarted(_, _) => Reply::Done,
-        Kept::RestartRefused(_, _, why) => Reply::Refused(*why),
+        Kept::AttemptRefused { why, .. } => Reply::Refused(*why),
+        Kept::Restarted { .. } => Reply::Done,
+        Kept::RestartRefused { why, .. } => Reply::Refused(*why),
         Kept::Wide(entry) => entry.reply,
     }
 }

@@ -19,32 +19,52 @@ pub(crate) fn push_kept(line: &mut ShortLine, kept: &Kept) -> bool
     ensures { (frames : List CanFrame) → IsTrue result → line.new ≡ entry_line (entry_in frames kept.now) [] }
 {
     match kept {
-        Kept::NothingReceived(id) => {
-            push_nothing(line, *id);
+        Kept::NothingReceived { socket } => {
+            push_nothing(line, *socket);
             true
         }
-        Kept::FrameReceived(from, len, id, word, number, bytes, moment) => {
+        Kept::FrameReceived {
+            from,
+            len,
+            socket,
+            word,
+            number,
+            bytes,
+            moment,
+        } => {
             if asks(*word) {
                 return false;
             }
-            push_receive(line, *id);
+            push_receive(line, *socket);
             push_data(line, *from, u64::from(*number));
             push_packed(line, *word, *len, bytes);
             push_moment(line, *moment, b'\n');
             true
         }
-        Kept::ErrorReceived(from, id, _, error, moment) => {
-            push_receive(line, *id);
+        Kept::ErrorReceived {
+            from,
+            socket,
+            error,
+            moment,
+            ..
+        } => {
+            push_receive(line, *socket);
             push_error_from(line, *from);
             push_error(line, *error);
             push_moment(line, *moment, b'\n');
             true
         }
-        Kept::Sent(len, id, word, number, bytes) => {
+        Kept::Sent {
+            len,
+            socket,
+            word,
+            number,
+            bytes,
+        } => {
             if asks(*word) {
                 return false;
             }
-            push_send(line, *id);
+            push_send(line, *socket);
             push_packed(line, *word, *len, bytes);
             push_sent(line, u64::from(*number));
             true
@@ -59,14 +79,27 @@ fn push_kept_attempt(line: &mut ShortLine, kept: &Kept) -> bool
     ensures { (frames : List CanFrame) → IsTrue result → line.new ≡ entry_line (entry_in frames kept.now) [] }
 {
     match kept {
-        Kept::Idle(restarted, verdict, moment) => {
+        Kept::Idle {
+            restarted,
+            verdict,
+            moment,
+        } => {
             if !restarted.is_empty() {
                 return false;
             }
             push_idle(line, *moment, *verdict, *restarted);
             true
         }
-        Kept::Tried(end, named, word, number, accepted, restarted, bytes, stamp) => {
+        Kept::Tried {
+            end,
+            named,
+            word,
+            number,
+            accepted,
+            restarted,
+            bytes,
+            stamp,
+        } => {
             if asks(*word) || !restarted.is_empty() {
                 return false;
             }

@@ -99,12 +99,18 @@ fn kept_has_fd(frames: &[Frame], kept: &Kept) -> bool
     ensures { result ≡ has_fd (entry_in frames.now kept.now) }
 {
     match kept {
-        Kept::FdSent(_, _, place) => frames[*place].is_fd(),
-        Kept::FdSendRefused(_, _, place) => frames[*place].is_fd(),
-        Kept::FdReceived(_, _, _, place, _) => frames[*place].is_fd(),
-        Kept::FdTried(_, _, _, _, _, _, _, place, _) => frames[*place].is_fd(),
-        Kept::OptionSet(_, Opt::FdFrames(_)) => true,
-        Kept::OptionRefused(_, Opt::FdFrames(_), _) => true,
+        Kept::FdSent { place, .. } => frames[*place].is_fd(),
+        Kept::FdSendRefused { place, .. } => frames[*place].is_fd(),
+        Kept::FdReceived { place, .. } => frames[*place].is_fd(),
+        Kept::FdTried { place, .. } => frames[*place].is_fd(),
+        Kept::OptionSet {
+            option: Opt::FdFrames(_),
+            ..
+        } => true,
+        Kept::OptionRefused {
+            option: Opt::FdFrames(_),
+            ..
+        } => true,
         _ => false,
     }
 }
