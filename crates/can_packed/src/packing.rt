@@ -192,8 +192,8 @@ pub fn packed_receive(
 {
     match outcome {
         Ok(true) => item_received(frames, id, room),
-        Ok(false) => Kept::NothingReceived(id),
-        Err(why) => Kept::ReceiveRefused(id, why),
+        Ok(false) => Kept::NothingReceived { socket: id },
+        Err(why) => Kept::ReceiveRefused { socket: id, why },
     }
 }
 
