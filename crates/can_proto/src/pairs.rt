@@ -1,12 +1,12 @@
 //! Data and identifiers in their usual form: words of as many digits as they can have, with one space after each.
-ghost use Rattle.std.specs.Prelude.{◌≡◌, ◌≤◌, ◌<◌, ◌∷◌, [], Ok, Some, false, take, length, MatchOption, IfSome};
-ghost use Rattle.can_proto.specs.Words.{is_blank, words_of};
+ghost use Rattle.std.specs.Prelude.{◌≡◌, ◌≤◌, ◌<◌, ◌∷◌, [], Ok, take, length, MatchOption, IfSome};
+ghost use Rattle.can_proto.specs.Words.{IsSolid, words_of};
 ghost use Rattle.can_frame.specs.Numbers.{hex_digit, number_in};
 ghost use Rattle.can_proto.specs.Commands.{bytes_of, id_of};
 
 use can_frame::CanId;
 
-/// What stands in the table for a byte that is no digit.
+/// The entry of the table for a byte that is no digit.
 const NO_DIGIT: u8 = 64;
 
 /// The values of the hexadecimal digits, in either case, each at the place of its byte.
@@ -35,7 +35,7 @@ static DIGITS: [u8; 256] = [
 fn digit_or_64(byte: u8) -> u8
     ensures value { MatchOption (hex_digit byte) (result ≡ 64) (λ v. (result ≡ v) × (v < 16)) }
     ensures below { result ≤ 64 }
-    ensures solid { result < 16 → is_blank byte ≡ false }
+    ensures solid { result < 16 → IsSolid byte }
 {
     DIGITS[usize::from(byte)]
 }
@@ -44,7 +44,7 @@ fn digit_or_64(byte: u8) -> u8
 #[inline(always)]
 fn byte_of(high: u8, low: u8) -> Option<u8>
     ensures value { result ≡ number_in 16 2 (high ∷ low ∷ []) }
-    ensures solid { IfSome result (λ _. (is_blank high ≡ false) × (is_blank low ≡ false)) }
+    ensures solid { IfSome result (λ _. IsSolid high × IsSolid low) }
 {
     let high = digit_or_64(high);
     let low = digit_or_64(low);
@@ -59,7 +59,7 @@ fn byte_of(high: u8, low: u8) -> Option<u8>
 #[tactic(auto, unfolding(crate::specs::Commands::id_of))]
 pub fn short_id(high: u8, middle: u8, low: u8) -> Option<CanId>
     ensures value { IfSome result (λ id. id_of (high ∷ middle ∷ low ∷ []) ≡ Ok id) }
-    ensures solid { IfSome result (λ _. (is_blank high ≡ false) × (is_blank middle ≡ false) × (is_blank low ≡ false)) }
+    ensures solid { IfSome result (λ _. IsSolid high × IsSolid middle × IsSolid low) }
 {
     let high = digit_or_64(high);
     let middle = digit_or_64(middle);

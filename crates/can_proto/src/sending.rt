@@ -142,6 +142,7 @@ fn bad_byte(after: &[u8], left: usize) -> ProtoFault
 }
 
 /// The words of `send ID LEN b ..`.
+#[inline(never)]
 pub fn read_send(rest: &[u8]) -> Result<Command, ProtoFault>
     ensures { Gives result (send_of (words_of rest.now)) }
 {
@@ -199,6 +200,7 @@ fn spelled_frame(rest: &[u8]) -> Result<Frame, ProtoFault>
 }
 
 /// The words of `sendfd ID LEN b ..`.
+#[inline(never)]
 #[tactic(auto, unfolding(crate::specs::Commands::send_fd_of))]
 pub fn read_send_fd(rest: &[u8]) -> Result<Command, ProtoFault>
     ensures { Gives result (send_fd_of (words_of rest.now)) }
@@ -219,6 +221,7 @@ pub fn read_send_fd(rest: &[u8]) -> Result<Command, ProtoFault>
 }
 
 /// The words of `sendrtr ID LEN`.
+#[inline(never)]
 #[tactic(auto, unfolding(crate::specs::Commands::remote_of))]
 pub fn read_remote(rest: &[u8]) -> Result<Command, ProtoFault>
     ensures { Gives result (remote_of (words_of rest.now)) }
