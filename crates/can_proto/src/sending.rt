@@ -89,7 +89,9 @@ fn read_bytes<const N: usize>(rest: &[u8], len: usize) -> Result<[u8; N], ProtoF
     ensures value { IfOk result (λ bytes. bytes_of (words_of rest.now) ≡ Ok (take len bytes)) }
     ensures fault { IfErr result (IsDataFault len (words_of rest.now)) }
 {
-    if let [b' ', data @ ..] = rest && let Some(bytes) = paired_bytes::<N>(data, len) {
+    if let [b' ', data @ ..] = rest
+        && let Some(bytes) = paired_bytes::<N>(data, len)
+    {
         return Ok(bytes);
     }
     spelled_bytes::<N>(rest, len)

@@ -17,7 +17,6 @@ pair-drop text k few space high low =
     let third = drop_more text (k + 2) 0 (omega arith) in
     rw (first, second, two, third, three, space, high, low) refl
 
-
 -- one byte more is read, of those that are left from a place on
 one_more : (text bytes : List ℕ) (i b : ℕ) (words : List (List ℕ)) → i < length bytes → 3 * i + 2 < length text → slice_index text (3 * i + 2) ≡ 32 → is_blank (slice_index text (3 * i)) ≡ false → is_blank (slice_index text (3 * i + 1)) ≡ false
     → Some b ≡ number_in 16 2 (slice_index text (3 * i) ∷ slice_index text (3 * i + 1) ∷ [])
