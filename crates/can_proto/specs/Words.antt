@@ -1,10 +1,14 @@
-use Rattle.std.specs.Prelude.{ℕ, Bool, true, false, ◌||◌, ◌==◌, if◌then◌else◌, List, [], ◌∷◌}
+use Rattle.std.specs.Prelude.{◌≡◌, ℕ, Bool, true, false, ◌||◌, ◌==◌, if◌then◌else◌, List, [], ◌∷◌}
 
 -- The words of a message: its longest pieces without blanks (own choice after socketcand's protocol).
 
 -- a space, tab, CR or LF
 abbrev pub is_blank : ℕ → Bool
 is_blank b = (b == 32 || b == 9) || (b == 13 || b == 10)
+
+-- it is no blank
+abbrev pub IsSolid : ℕ → Type 0
+IsSolid b = is_blank b ≡ false
 
 -- the bytes up to the first blank
 abbrev pub front : List ℕ → List ℕ

@@ -58,6 +58,7 @@ fn read_switch(rest: &[u8]) -> Result<bool, ProtoFault>
 }
 
 /// The word of `open NAME`.
+#[inline(never)]
 #[tactic(auto, unfolding(crate::specs::Commands::open_of))]
 fn read_open(alloc: Global, rest: &[u8]) -> Result<Command, ProtoFault>
     ensures { GivesBut takes_memory result (open_of (words_of rest.now)) }
@@ -75,6 +76,7 @@ fn read_open(alloc: Global, rest: &[u8]) -> Result<Command, ProtoFault>
 }
 
 /// A command without arguments.
+#[inline(always)]
 fn read_alone(command: Command, rest: &[u8]) -> Result<Command, ProtoFault>
     ensures { Gives result (alone command (words_of rest.now)) }
 {

@@ -105,6 +105,7 @@ impl Command {
 }
 
 /// What a verb says in a mode, with what follows it.
+#[inline(always)]
 fn read_verb(alloc: Global, verb: Verb, mode: Mode, rest: &[u8]) -> Result<Command, ProtoFault>
     ensures { GivesBut takes_memory result (command_of mode (words_of rest.now) (Some verb)) }
 {

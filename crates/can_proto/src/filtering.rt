@@ -54,6 +54,7 @@ fn read_filters(rest: &[u8], count: usize) -> Result<[Filter; 512], ProtoFault>
 }
 
 /// The words of `filter N ID MASK ..`.
+#[inline(never)]
 #[tactic(auto, unfolding(crate::specs::Commands::set_of))]
 pub fn read_set(alloc: Global, rest: &[u8]) -> Result<Command, ProtoFault>
     ensures { GivesBut takes_memory result (set_of (words_of rest.now)) }

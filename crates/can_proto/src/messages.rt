@@ -28,6 +28,7 @@ impl Message {
     }
 
     /// The message of the bytes held and those that followed them.
+    #[inline(always)]
     pub(crate) fn joined(alloc: Global, held: &[u8], more: &[u8]) -> Result<Message, AllocError>
         ensures { IfOk result (λ m. m ≡ held.now ++ more.now) }
     {

@@ -1,54 +1,93 @@
-ghost use Rattle.std.specs.Prelude.{◌≡◌, ◌≤◌, ◌<◌, ◌∷◌, [], Some, false, MatchOption, IfSome};
-ghost use Rattle.can_proto.specs.Words.{is_blank, words_of};
+//! Data and identifiers in their usual form: words of as many digits as they can have, with one space after each.
+ghost use Rattle.std.specs.Prelude.{◌≡◌, ◌≤◌, ◌<◌, ◌∷◌, [], Ok, take, length, MatchOption, IfSome};
+ghost use Rattle.can_proto.specs.Words.{IsSolid, words_of};
 ghost use Rattle.can_frame.specs.Numbers.{hex_digit, number_in};
-ghost use Rattle.can_proto.specs.Pairs.{IsFirstByte};
+ghost use Rattle.can_proto.specs.Commands.{bytes_of, id_of};
 
-/// The value of a byte that is no digit.
-const NO_DIGIT: u8 = 16;
+use can_frame::CanId;
 
-/// The value of a hexadecimal digit, or else 16.
+/// The entry of the table for a byte that is no digit.
+const NO_DIGIT: u8 = 64;
+
+/// The values of the hexadecimal digits, in either case, each at the place of its byte.
+#[rattlefmt::skip]
+static DIGITS: [u8; 256] = [
+    64, 64, 64, 64, 64, 64, 64, 64, 64, 64, 64, 64, 64, 64, 64, 64,
+    64, 64, 64, 64, 64, 64, 64, 64, 64, 64, 64, 64, 64, 64, 64, 64,
+    64, 64, 64, 64, 64, 64, 64, 64, 64, 64, 64, 64, 64, 64, 64, 64,
+     0,  1,  2,  3,  4,  5,  6,  7,  8,  9, 64, 64, 64, 64, 64, 64,
+    64, 10, 11, 12, 13, 14, 15, 64, 64, 64, 64, 64, 64, 64, 64, 64,
+    64, 64, 64, 64, 64, 64, 64, 64, 64, 64, 64, 64, 64, 64, 64, 64,
+    64, 10, 11, 12, 13, 14, 15, 64, 64, 64, 64, 64, 64, 64, 64, 64,
+    64, 64, 64, 64, 64, 64, 64, 64, 64, 64, 64, 64, 64, 64, 64, 64,
+    64, 64, 64, 64, 64, 64, 64, 64, 64, 64, 64, 64, 64, 64, 64, 64,
+    64, 64, 64, 64, 64, 64, 64, 64, 64, 64, 64, 64, 64, 64, 64, 64,
+    64, 64, 64, 64, 64, 64, 64, 64, 64, 64, 64, 64, 64, 64, 64, 64,
+    64, 64, 64, 64, 64, 64, 64, 64, 64, 64, 64, 64, 64, 64, 64, 64,
+    64, 64, 64, 64, 64, 64, 64, 64, 64, 64, 64, 64, 64, 64, 64, 64,
+    64, 64, 64, 64, 64, 64, 64, 64, 64, 64, 64, 64, 64, 64, 64, 64,
+    64, 64, 64, 64, 64, 64, 64, 64, 64, 64, 64, 64, 64, 64, 64, 64,
+    64, 64, 64, 64, 64, 64, 64, 64, 64, 64, 64, 64, 64, 64, 64, 64,
+];
+
+/// The value of a hexadecimal digit, or else 64.
 #[inline(always)]
-fn digit_or_16(byte: u8) -> u8
-    ensures value { MatchOption (hex_digit byte) (result ≡ 16) (λ v. (result ≡ v) × (v < 16)) }
-    ensures solid { result < 16 → is_blank byte ≡ false }
+fn digit_or_64(byte: u8) -> u8
+    ensures value { MatchOption (hex_digit byte) (result ≡ 64) (λ v. (result ≡ v) × (v < 16)) }
+    ensures below { result ≤ 64 }
+    ensures solid { result < 16 → IsSolid byte }
 {
-    let number = byte.wrapping_sub(b'0');
-    let upper = byte.wrapping_sub(b'A');
-    let lower = byte.wrapping_sub(b'a');
-    if number < 10 {
-        number
-    } else if upper < 6 {
-        upper + 10
-    } else if lower < 6 {
-        lower + 10
-    } else {
-        NO_DIGIT
-    }
+    DIGITS[usize::from(byte)]
 }
 
 /// The byte of two hexadecimal digits.
 #[inline(always)]
 fn byte_of(high: u8, low: u8) -> Option<u8>
     ensures value { result ≡ number_in 16 2 (high ∷ low ∷ []) }
-    ensures solid { IfSome result (λ _. (is_blank high ≡ false) × (is_blank low ≡ false)) }
+    ensures solid { IfSome result (λ _. IsSolid high × IsSolid low) }
 {
-    let high = digit_or_16(high);
-    let low = digit_or_16(low);
-    if (high == NO_DIGIT) | (low == NO_DIGIT) {
+    let high = digit_or_64(high);
+    let low = digit_or_64(low);
+    if high + low >= NO_DIGIT {
         return None;
     }
     Some(high * 16 + low)
 }
 
-/// The byte that the first word spells, and what follows it, where the word has two digits between two
-/// spaces, as data mostly has.
+/// The identifier of three hexadecimal digits.
 #[inline(always)]
-pub fn next_pair(text: &[u8]) -> Option<(u8, &[u8])>
-    ensures { IfSome result (λ found. IsFirstByte found.0 (words_of text.now) (words_of found.1.now)) }
+#[tactic(auto, unfolding(crate::specs::Commands::id_of))]
+pub fn short_id(high: u8, middle: u8, low: u8) -> Option<CanId>
+    ensures value { IfSome result (λ id. id_of (high ∷ middle ∷ low ∷ []) ≡ Ok id) }
+    ensures solid { IfSome result (λ _. IsSolid high × IsSolid middle × IsSolid low) }
 {
-    if text.len() < 4 || text[0] != b' ' || text[3] != b' ' {
+    let high = digit_or_64(high);
+    let middle = digit_or_64(middle);
+    let low = digit_or_64(low);
+    if high + middle + low >= NO_DIGIT {
         return None;
     }
-    let byte = byte_of(text[1], text[2])?;
-    Some((byte, &text[3..]))
+    CanId::standard(u16::from(high) * 256 + u16::from(middle * 16 + low)).ok()
+}
+
+/// The bytes that this many words spell, in the first places of `N`, where each word has two digits and one space
+/// after it, as data mostly has.
+#[inline(always)]
+pub fn paired_bytes<const N: usize>(text: &[u8], len: usize) -> Option<[u8; N]>
+    requires small { len ≤ N }
+    requires few { len ≤ 64 }
+    ensures count { IfSome result (λ bytes. length (words_of text.now) ≡ len) }
+    ensures value { IfSome result (λ bytes. bytes_of (words_of text.now) ≡ Ok (take len bytes)) }
+{
+    if text.len() != 3 * len {
+        return None;
+    }
+    let mut bytes = [0; N];
+    for i in 0..len {
+        if text[3 * i + 2] != b' ' {
+            return None;
+        }
+        bytes[i] = byte_of(text[3 * i], text[3 * i + 1])?;
+    }
+    Some(bytes)
 }

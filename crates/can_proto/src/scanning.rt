@@ -1,5 +1,6 @@
 ghost use Rattle.std.specs.Prelude.{◌≡◌, ◌≤◌, ◌<◌, ◌+◌, ◌++◌, ◌∷◌, ◌||◌, [], true, false, length, take, drop, IfOk, slice_index};
 ghost use Rattle.can_proto.specs.Messages.{is_open_mark, is_close_mark, has_mark, messages_of, kept_of, IsKept};
+ghost use Rattle.can_proto.specs.declared.messages.Incoming.TheVariants.{Message as Given};
 ghost use Rattle.can_proto.specs.Scanning.{text_at, text_of, IsWithin};
 
 use crate::messages::{Incoming, Message};
@@ -130,14 +131,24 @@ fn at_mark(
     }
     match place {
         Place::Outside => {}
-        Place::Carried => out.push(Incoming::Message(Message::joined(alloc, held, &piece[..i])?))?,
-        Place::At(start) => out.push(Incoming::Message(Message::joined(
-            alloc,
-            &[],
-            &piece[start..i],
-        )?))?,
+        Place::Carried => push_message(alloc, out, held, &piece[..i])?,
+        Place::At(start) => push_message(alloc, out, &[], &piece[start..i])?,
     }
     Ok(Place::Outside)
+}
+
+/// The message of the bytes held and those that followed them.
+#[inline(never)]
+fn push_message(
+    alloc: Global,
+    out: &mut Vec<Incoming>,
+    held: &[u8],
+    more: &[u8],
+) -> Result<(), AllocError>
+    ensures { IfOk result (λ _. out.new.items ≡ out.old.items ++ Given (held.now ++ more.now) ∷ []) }
+{
+    out.push(Incoming::Message(Message::joined(alloc, held, more)?))?;
+    Ok(())
 }
 
 /// What a piece gives after the bytes held, and where the run at its end began. `is_open` says that a

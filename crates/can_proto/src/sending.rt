@@ -1,13 +1,14 @@
-ghost use Rattle.std.specs.Prelude.{IsTrue, ◌≡◌, ◌==◌, ◌≤◌, ◌+◌, true, if◌then◌else◌, Ok, Err, length, take, IfOk, IfErr};
+ghost use Rattle.std.specs.Prelude.{IsTrue, ◌≡◌, ◌==◌, ◌≤◌, ◌+◌, true, if◌then◌else◌, Ok, Err, length, take, IfOk, IfErr, IfSome};
 ghost use Rattle.can_frame.specs.Frames.{is_fd_length};
 ghost use Rattle.can_frame.specs.Numbers.{number_in};
 ghost use Rattle.can_proto.specs.Words.{words_of};
 ghost use Rattle.can_proto.specs.Pairs.{IsFirstByte};
+ghost use Rattle.can_proto.specs.declared.commands.Command.TheVariants.{Send};
 ghost use Rattle.can_proto.specs.Commands.{Gives, id_of, length_of, fd_length_of, bytes_of, IsDataFault, asked, send_of, send_fd_of, remote_of};
 
 use crate::commands::Command;
 use crate::faults::ProtoFault;
-use crate::pairs::next_pair;
+use crate::pairs::{paired_bytes, short_id};
 use crate::words::{has_words, next_word};
 use can_frame::{CanId, Frame, is_fd_length, read_decimal, read_hexadecimal};
 
@@ -83,6 +84,23 @@ fn read_byte(word: &[u8]) -> Option<u8>
 /// word that spells no byte.
 fn read_bytes<const N: usize>(rest: &[u8], len: usize) -> Result<[u8; N], ProtoFault>
     requires small { len ≤ N }
+    requires few { len ≤ 64 }
+    ensures count { IfOk result (λ bytes. (length (words_of rest.now) == len) ≡ true) }
+    ensures value { IfOk result (λ bytes. bytes_of (words_of rest.now) ≡ Ok (take len bytes)) }
+    ensures fault { IfErr result (IsDataFault len (words_of rest.now)) }
+{
+    if let [b' ', data @ ..] = rest
+        && let Some(bytes) = paired_bytes::<N>(data, len)
+    {
+        return Ok(bytes);
+    }
+    spelled_bytes::<N>(rest, len)
+}
+
+/// The same, wherever the words are in the text.
+#[inline(never)]
+fn spelled_bytes<const N: usize>(rest: &[u8], len: usize) -> Result<[u8; N], ProtoFault>
+    requires small { len ≤ N }
     ensures count { IfOk result (λ bytes. (length (words_of rest.now) == len) ≡ true) }
     ensures value { IfOk result (λ bytes. bytes_of (words_of rest.now) ≡ Ok (take len bytes)) }
     ensures fault { IfErr result (IsDataFault len (words_of rest.now)) }
@@ -90,7 +108,7 @@ fn read_bytes<const N: usize>(rest: &[u8], len: usize) -> Result<[u8; N], ProtoF
     let mut bytes = [0u8; N];
     let mut rest = rest;
     for i in 0..len {
-        let (byte, after) = next_byte(rest, len - i - 1)?;
+        let (byte, after) = spelled_byte(rest, len - i - 1)?;
         bytes[i] = byte;
         rest = after;
     }
@@ -101,18 +119,6 @@ fn read_bytes<const N: usize>(rest: &[u8], len: usize) -> Result<[u8; N], ProtoF
 }
 
 /// The byte that the first word spells, and what follows it, where this many words should follow.
-#[inline(always)]
-fn next_byte(text: &[u8], left: usize) -> Result<(u8, &[u8]), ProtoFault>
-    ensures value { IfOk result (λ found. IsFirstByte found.0 (words_of text.now) (words_of found.1.now)) }
-    ensures fault { IfErr result (IsDataFault (left + 1) (words_of text.now)) }
-{
-    match next_pair(text) {
-        Some(found) => Ok(found),
-        None => spelled_byte(text, left),
-    }
-}
-
-/// The same, wherever the word is in the text.
 fn spelled_byte(text: &[u8], left: usize) -> Result<(u8, &[u8]), ProtoFault>
     ensures value { IfOk result (λ found. IsFirstByte found.0 (words_of text.now) (words_of found.1.now)) }
     ensures fault { IfErr result (IsDataFault (left + 1) (words_of text.now)) }
@@ -138,6 +144,7 @@ fn bad_byte(after: &[u8], left: usize) -> ProtoFault
 }
 
 /// The words of `send ID LEN b ..`.
+#[inline(never)]
 pub fn read_send(rest: &[u8]) -> Result<Command, ProtoFault>
     ensures { Gives result (send_of (words_of rest.now)) }
 {
@@ -145,8 +152,38 @@ pub fn read_send(rest: &[u8]) -> Result<Command, ProtoFault>
 }
 
 /// The data frame that these words ask to be sent.
-#[tactic(auto, unfolding(crate::specs::Commands::send_of))]
 pub fn read_frame(rest: &[u8]) -> Result<Frame, ProtoFault>
+    ensures { Gives (asked result) (send_of (words_of rest.now)) }
+{
+    match usual_frame(rest) {
+        Some(frame) => Ok(frame),
+        None => spelled_frame(rest),
+    }
+}
+
+/// The data frame of words in their usual form: an identifier of three digits, a length, and two digits a byte, with one
+/// space after each of them.
+#[inline(always)]
+#[tactic(auto, unfolding(crate::specs::Commands::send_of))]
+fn usual_frame(text: &[u8]) -> Option<Frame>
+    ensures { IfSome result (λ frame. send_of (words_of text.now) ≡ Ok (Send frame)) }
+{
+    let [high, middle, low, b' ', len @ b'0'..=b'8', b' ', data @ ..] = text else {
+        return None;
+    };
+    let id = short_id(*high, *middle, *low)?;
+    let len = usize::from(*len - b'0');
+    let bytes = paired_bytes::<8>(data, len)?;
+    match Frame::data(id, &bytes[..len]) {
+        Ok(frame) => Some(frame),
+        Err(_) => None,
+    }
+}
+
+/// The data frame of words in any form.
+#[inline(never)]
+#[tactic(auto, unfolding(crate::specs::Commands::send_of))]
+fn spelled_frame(rest: &[u8]) -> Result<Frame, ProtoFault>
     ensures { Gives (asked result) (send_of (words_of rest.now)) }
 {
     let Some((id_word, rest)) = next_word(rest) else {
@@ -165,6 +202,7 @@ pub fn read_frame(rest: &[u8]) -> Result<Frame, ProtoFault>
 }
 
 /// The words of `sendfd ID LEN b ..`.
+#[inline(never)]
 #[tactic(auto, unfolding(crate::specs::Commands::send_fd_of))]
 pub fn read_send_fd(rest: &[u8]) -> Result<Command, ProtoFault>
     ensures { Gives result (send_fd_of (words_of rest.now)) }
@@ -185,6 +223,7 @@ pub fn read_send_fd(rest: &[u8]) -> Result<Command, ProtoFault>
 }
 
 /// The words of `sendrtr ID LEN`.
+#[inline(never)]
 #[tactic(auto, unfolding(crate::specs::Commands::remote_of))]
 pub fn read_remote(rest: &[u8]) -> Result<Command, ProtoFault>
     ensures { Gives result (remote_of (words_of rest.now)) }

@@ -27,17 +27,26 @@ impl Stored {
     }
 
     /// The bytes held and those that followed them. Memory is taken once, and only for more than 48.
+    #[inline(always)]
     pub fn joined(alloc: Global, held: &[u8], more: &[u8]) -> Result<Stored, AllocError>
         ensures { IfOk result (λ s. stored_bytes s ≡ held.now ++ more.now) }
     {
-        if let Some(bytes) = short(held, more) {
-            return Ok(Stored::Short(bytes));
+        match short(held, more) {
+            Some(bytes) => Ok(Stored::Short(bytes)),
+            None => Ok(Stored::Long(long(alloc, held, more)?)),
         }
-        let mut bytes = Vec::with_capacity(alloc, held.len().saturating_add(more.len()))?;
-        bytes.extend_from_slice(held)?;
-        bytes.extend_from_slice(more)?;
-        Ok(Stored::Long(bytes))
     }
+}
+
+/// Both one after the other.
+#[inline(never)]
+fn long(alloc: Global, held: &[u8], more: &[u8]) -> Result<Vec<u8>, AllocError>
+    ensures { IfOk result (λ v. v.items ≡ held.now ++ more.now) }
+{
+    let mut bytes = Vec::with_capacity(alloc, held.len().saturating_add(more.len()))?;
+    bytes.extend_from_slice(held)?;
+    bytes.extend_from_slice(more)?;
+    Ok(bytes)
 }
 
 /// Both one after the other, where they are few enough.

@@ -28,6 +28,7 @@ pub enum Verb {
     Close,
 }
 
+#[inline(always)]
 fn matches(word: &[u8], name: &[u8]) -> bool
     ensures { result ≡ is_word word.now name.now }
 {

@@ -1,0 +1,11 @@
+use Rattle.std.proofs.Common.{◌≡◌, ◌+◌, ◌*◌, take, drop, length}
+use Rattle.can_proto.specs.Words.{words_of}
+use Rattle.can_proto.specs.Commands.{with_front, bytes_of}
+use Rattle.can_proto.proofs.pairs.paired_bytes.Given as goal
+
+abbrev pub invariant-loop-i : goal.invariant-loop-i
+invariant-loop-i g l = record {
+  same : with_front (take l.i l.bytes) (bytes_of (words_of (drop (3 * l.i) l.text))) ≡ bytes_of (words_of l.text);
+  whole : length l.bytes ≡ g.row.N;
+  left : length (words_of (drop (3 * l.i) l.text)) + l.i ≡ length (words_of l.text);
+}
