@@ -1,6 +1,9 @@
-use Rattle.std.proofs.Common.{◌≡◌, ℕ, ◌+◌, ◌==◌, ◌<◌, Bool, true, false, if◌then◌else◌, List, [], ◌∷◌, ◌++◌, length, drop, get_or, slice_get, codes, refl, sym, ap, ◌∙◌, arith, append_assoc}
+use Rattle.std.proofs.Common.{◌≡◌, ℕ, zero, suc, ◌+◌, ◌-◌, ◌==◌, ◌<◌, ◌≤◌, Bool, true, false, if◌then◌else◌, List, [], ◌∷◌, ◌++◌, length, take, drop, get_or, slice_get, slice_range, codes, inl, inr, refl, sym, ap, ◌∙◌, arith, append_assoc}
+use Rattle.std.specs.List.{join_with_byte}
+use Rattle.std.proofs.lemmas.Bool.{cases_lt}
+use Rattle.std.proofs.lemmas.Grind.{common_steps}
 use Rattle.std.proofs.lemmas.Nat.Bits.{bit_at_above}
-use Rattle.std.proofs.lemmas.List.{drop_more}
+use Rattle.std.proofs.lemmas.List.{drop_more, length-drop}
 use Rattle.std.proofs.lemmas.Option.{slice_get-get_or}
 use Rattle.can_frame.specs.Sets.{is_in, no_ifaces}
 use Rattle.can_frame.specs.declared.ifaces.IfaceSet.{IfaceSet}
@@ -27,7 +30,7 @@ first_of true name names = refl
 first_of false name names = refl
 
 -- at an interface of the set its name is written, and then the others after commas
-pub member_step : (names : List (List ℕ)) (set : IfaceSet) (i : ℕ) (first : Bool) → i < length names → is_in i set ≡ true
+member_step : (names : List (List ℕ)) (set : IfaceSet) (i : ℕ) (first : Bool) → i < length names → is_in i set ≡ true
     → rest_text first (to_come names set i) ≡ member_text first (name_text (slice_get names i)) ++ rest_text false (to_come names set (i + 1))
 member_step names set i first lt is =
     ap (rest_text first) (names_here names set i lt)
@@ -36,32 +39,86 @@ member_step names set i first lt is =
     ∙ ap (λ (t : List ℕ). member_text first t ++ after_commas (to_come names set (i + 1))) (sym (name_here names i lt))
 
 -- at another interface nothing is written
-pub other_step : (names : List (List ℕ)) (set : IfaceSet) (i : ℕ) (first : Bool) → i < length names → is_in i set ≡ false
+other_step : (names : List (List ℕ)) (set : IfaceSet) (i : ℕ) (first : Bool) → i < length names → is_in i set ≡ false
     → rest_text first (to_come names set i) ≡ rest_text first (to_come names set (i + 1))
 other_step names set i first lt is =
     ap (rest_text first) (names_here names set i lt)
     ∙ ap (λ (b : Bool). rest_text first (if b then get_or names i [] ∷ to_come names set (i + 1) else to_come names set (i + 1))) is
 
--- the text so far and what is still to come stay the whole text, where the name was written
-pub member_kept : (names : List (List ℕ)) (set : IfaceSet) (i k : ℕ) (first next : Bool) (said more whole : List ℕ)
-    → i < length names → k ≡ i → is_in k set ≡ true → next ≡ false
-    → more ≡ said ++ member_text first (name_text (slice_get names k)) → said ++ rest_text first (to_come names set i) ≡ whole
-    → more ++ rest_text next (to_come names set (i + 1)) ≡ whole
-member_kept names set i k first next said more whole lt at is last wrote h =
-    ap (λ (b : Bool). more ++ rest_text b (to_come names set (i + 1))) last
-    ∙ ap (λ (t : List ℕ). t ++ rest_text false (to_come names set (i + 1))) (wrote ∙ ap (λ (j : ℕ). said ++ member_text first (name_text (slice_get names j))) at)
-    ∙ append_assoc said (member_text first (name_text (slice_get names i))) (rest_text false (to_come names set (i + 1)))
-    ∙ ap (λ (t : List ℕ). said ++ t) (sym (member_step names set i first lt (ap (λ (j : ℕ). is_in j set) (sym at) ∙ is)))
+member_longer : (first : Bool) (name more : List ℕ) → member_text first (name ++ more) ≡ member_text first name ++ more
+member_longer true name more = refl
+member_longer false name more = refl
+
+join_more : (name : List ℕ) (names : List (List ℕ)) (n : ℕ) → n < length names → join_with_byte 44 (take (suc (suc n)) (name ∷ names)) ≡ name ++ 44 ∷ join_with_byte 44 (take (suc n) names)
+join_more name [] n lt = elim lt [ ]
+join_more name (next ∷ names) n lt = refl
+
+-- at interfaces of the set in a row their names are written as they are joined
+run_step : (names : List (List ℕ)) (set : IfaceSet) (first : Bool) (n i : ℕ) → i + n < length names → ((k : ℕ) → i ≤ k → k ≤ i + n → is_in k set ≡ true)
+    → rest_text first (to_come names set i) ≡ member_text first (join_with_byte 44 (take (suc n) (drop i names))) ++ rest_text false (to_come names set (i + n + 1))
+run_step names set first zero i lt members =
+    let inside : i < length names = omega (arith, lt) in
+    let one : join_with_byte 44 (take 1 (drop i names)) ≡ get_or names i [] = ap (λ (ns : List (List ℕ)). join_with_byte 44 (take 1 ns)) (drop_more names i [] inside) in
+    let here : i + 1 ≡ i + 0 + 1 = omega arith in
+    member_step names set i first inside (members i (omega arith) (omega arith))
+    ∙ ap (λ (t : List ℕ). member_text first t ++ rest_text false (to_come names set (i + 1))) (name_here names i inside ∙ sym one)
+    ∙ ap (λ (k : ℕ). member_text first (join_with_byte 44 (take 1 (drop i names))) ++ rest_text false (to_come names set k)) here
+run_step names set first (suc n) i lt members =
+    let inside : i < length names = omega (arith, lt) in
+    let tail = join_with_byte 44 (take (suc n) (drop (i + 1) names)) in
+    let name = get_or names i [] in
+    let rest = rest_text false (to_come names set (i + 1 + n + 1)) in
+    let more : join_with_byte 44 (take (suc (suc n)) (drop i names)) ≡ name ++ 44 ∷ tail =
+        ap (λ (ns : List (List ℕ)). join_with_byte 44 (take (suc (suc n)) ns)) (drop_more names i [] inside) ∙ join_more name (drop (i + 1) names) n (omega (arith, length-drop (i + 1) names, lt)) in
+    let later : rest_text false (to_come names set (i + 1)) ≡ (44 ∷ tail) ++ rest = run_step names set false n (i + 1) (omega (arith, lt)) (λ k low high. members k (omega (arith, low)) (omega (arith, high))) in
+    let there : i + 1 + n + 1 ≡ i + suc n + 1 = omega arith in
+    member_step names set i first inside (members i (omega arith) (omega arith))
+    ∙ ap (λ (t : List ℕ). member_text first t ++ rest_text false (to_come names set (i + 1))) (name_here names i inside)
+    ∙ ap (λ (t : List ℕ). member_text first name ++ t) later
+    ∙ sym (append_assoc (member_text first name) (44 ∷ tail) rest)
+    ∙ ap (λ (t : List ℕ). t ++ rest) (sym (member_longer first name (44 ∷ tail)))
+    ∙ ap (λ (t : List ℕ). member_text first t ++ rest) (sym more)
+    ∙ ap (λ (k : ℕ). member_text first (join_with_byte 44 (take (suc (suc n)) (drop i names))) ++ rest_text false (to_come names set k)) there
+
+-- nothing is to come past the last name
+past_names : (names : List (List ℕ)) (set : IfaceSet) (i : ℕ) → length names ≤ i → to_come names set i ≡ []
+past_names names set i past =
+    let none : drop i names ≡ [] = grind (arith, common_steps, past) in
+    ap (λ (ns : List (List ℕ)). names_from i ns set) none
+
+-- the text so far and what is still to come stay the whole text, where names in a row were written
+pub run_kept : (names : List (List ℕ)) (set : IfaceSet) (i e : ℕ) (first next : Bool) (said more whole : List ℕ)
+    → i < e → e ≤ length names → ((k : ℕ) → i ≤ k → k < e → is_in k set ≡ true) → (e < length names → is_in e set ≡ false) → next ≡ false
+    → more ≡ said ++ member_text first (join_with_byte 44 (slice_range names i e)) → said ++ rest_text first (to_come names set i) ≡ whole
+    → more ++ rest_text next (to_come names set (e + 1)) ≡ whole
+run_kept names set i e first next said more whole some within members out last wrote h =
+    let n = e - i - 1 in
+    let len : suc n ≡ e - i = omega (arith, some) in
+    let end : i + n + 1 ≡ e = omega (arith, some) in
+    let text = member_text first (join_with_byte 44 (slice_range names i e)) in
+    let step : rest_text first (to_come names set i) ≡ text ++ rest_text false (to_come names set e) =
+    run_step names set first n i (omega (arith, end, within)) (λ k low high. members k low (omega (arith, high, end)))
+    ∙ ap (λ (m : ℕ). member_text first (join_with_byte 44 (take m (drop i names))) ++ rest_text false (to_come names set (i + n + 1))) len
+    ∙ ap (λ (k : ℕ). text ++ rest_text false (to_come names set k)) end in
+    let skip : rest_text false (to_come names set e) ≡ rest_text false (to_come names set (e + 1)) = elim (cases_lt e (length names)) [
+      | inl inside ↦ other_step names set e false inside (out inside)
+      | inr past ↦ ap (rest_text false) (past_names names set e past ∙ sym (past_names names set (e + 1) (omega (arith, past))))
+    ] in
+    ap (λ (b : Bool). more ++ rest_text b (to_come names set (e + 1))) last
+    ∙ ap (λ (t : List ℕ). t ++ rest_text false (to_come names set (e + 1))) wrote
+    ∙ ap (λ (t : List ℕ). (said ++ text) ++ t) (sym skip)
+    ∙ append_assoc said text (rest_text false (to_come names set e))
+    ∙ ap (λ (t : List ℕ). said ++ t) (sym step)
     ∙ h
 
--- and where the interface is none of the set
-pub other_kept : (names : List (List ℕ)) (set : IfaceSet) (i k : ℕ) (first next : Bool) (said more whole : List ℕ)
-    → i < length names → k ≡ i → is_in k set ≡ false → next ≡ first → more ≡ said
+-- and where an interface is none of the set
+pub other_kept : (names : List (List ℕ)) (set : IfaceSet) (i : ℕ) (first next : Bool) (said more whole : List ℕ)
+    → i < length names → is_in i set ≡ false → next ≡ first → more ≡ said
     → said ++ rest_text first (to_come names set i) ≡ whole → more ++ rest_text next (to_come names set (i + 1)) ≡ whole
-other_kept names set i k first next said more whole lt at is_not last same h =
+other_kept names set i first next said more whole lt is_not last same h =
     ap (λ (b : Bool). more ++ rest_text b (to_come names set (i + 1))) last
     ∙ ap (λ (t : List ℕ). t ++ rest_text first (to_come names set (i + 1))) same
-    ∙ ap (λ (t : List ℕ). said ++ t) (sym (other_step names set i first lt (ap (λ (j : ℕ). is_in j set) (sym at) ∙ is_not))) ∙ h
+    ∙ ap (λ (t : List ℕ). said ++ t) (sym (other_step names set i first lt is_not)) ∙ h
 
 none_named : (i : ℕ) (names : List (List ℕ)) → names_from i names no_ifaces ≡ []
 none_named i [] = refl

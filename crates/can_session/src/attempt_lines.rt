@@ -1,4 +1,6 @@
-ghost use Rattle.std.specs.Prelude.{◌≡◌, ◌++◌, OnOk, slice_get};
+ghost use Rattle.std.specs.Prelude.{ℕ, ◌≡◌, ◌<◌, ◌≤◌, ◌++◌, OnOk, true, false, length, slice_get, slice_range};
+ghost use Rattle.std.specs.List.{join_with_byte};
+ghost use Rattle.can_frame.specs.Sets.{is_in};
 ghost use Rattle.can_session.specs.AttemptLines.{set_text, name_text, member_text, whose_text, ending_text, restarted_text};
 ghost use Rattle.can_session.specs.AttemptLines.{attempt_line, idle_line, tried_line};
 
@@ -86,15 +88,16 @@ fn put_set(said: &mut Vec<u8>, names: &Names, set: IfaceSet) -> Result<(), Alloc
     if set.is_empty() {
         return said.extend_from_slice(b"-");
     }
+    let count = names.count();
     let mut is_first = true;
-    for number in 0..names.count() {
-        let Some(iface) = Iface::new(number) else {
-            return Ok(());
-        };
-        if set.contains(iface) {
-            put_member(said, names, iface, is_first)?;
+    let mut number = 0;
+    while number < count {
+        let end = run_end(set, number, count);
+        if number < end {
+            put_run(said, names, number, end, is_first)?;
             is_first = false;
         }
+        number = end + 1;
     }
     if is_first {
         said.extend_from_slice(b"-")?;
@@ -102,17 +105,38 @@ fn put_set(said: &mut Vec<u8>, names: &Names, set: IfaceSet) -> Result<(), Alloc
     Ok(())
 }
 
-// One name, with a comma before it if it is not the first.
-fn put_member(
+// The first number from one on that is not in the set, or the count.
+fn run_end(set: IfaceSet, from: u8, count: u8) -> u8
+    requires from { from < count }
+    requires few { count ≤ 16 }
+    ensures after { from ≤ result }
+    ensures within { result ≤ count }
+    ensures members { (i : ℕ) → from ≤ i → i < result → is_in i set ≡ true }
+    ensures next { result < count → is_in result set ≡ false }
+{
+    for number in from..count {
+        let iface = Iface::new(number).unwrap();
+        if !set.contains(iface) {
+            return number;
+        }
+    }
+    count
+}
+
+// The names from one place up to another, with a comma before them if they are not the first.
+fn put_run(
     said: &mut Vec<u8>,
     names: &Names,
-    iface: Iface,
+    first: u8,
+    end: u8,
     is_first: bool,
 ) -> Result<(), AllocError>
-    ensures { OnOk result (said.new.items ≡ said.old.items ++ member_text is_first (name_text (slice_get names.now iface))) }
+    requires some { first < end }
+    requires within { end ≤ length names.now }
+    ensures { OnOk result (said.new.items ≡ said.old.items ++ member_text is_first (join_with_byte 44 (slice_range names.now first end))) }
 {
     if !is_first {
         said.extend_from_slice(b",")?;
     }
-    put_name(said, names, iface)
+    said.extend_from_slice(names.run(first, end).as_bytes())
 }

@@ -1,20 +1,29 @@
-use Rattle.std.proofs.Common.{◌≡◌, sym, ap, subst, ◌∙◌, ◌++◌, codes, ℕ, ◌<◌, rules}
+use Rattle.std.proofs.Common.{◌≡◌, sym, ap, subst, ◌∙◌, ◌++◌, codes, ℕ, ◌<◌, ◌≤◌, length, arith, rules}
 use Rattle.std.proofs.lemmas.Bool.{eqb-true}
 use Rattle.can_session.specs.AttemptLines.{set_text}
-use Rattle.can_session.proofs.SetTexts.{member_kept, other_kept, none_text}
+use Rattle.can_session.proofs.SetTexts.{rest_text, to_come, run_kept, other_kept, none_text}
 use Rattle.can_session.proofs.attempt_lines.put_set.Goals as goal
-use Rattle.can_session.proofs.attempt_lines.put_set.Goals.{then-contains+in_ok-put_member, else-contains}
+use Rattle.can_session.proofs.attempt_lines.put_set.Goals.{then-number-end+in_ok-put_run, else-number-end}
 
 pub loop-number-preserved : goal.loop-number-preserved
 loop-number-preserved c =
-    let lt = subst (λ (n : ℕ). c.loop-number.number < n) c.count-number-end.ensures.count c.loop-number-test.true in
-    let at = c.in-Some.ensures.1 in
-    let whole = c.args.said.now.items ++ set_text c.args.names.now c.args.set in
-    elim c.if-contains.branch [
-      | then-contains+in_ok-put_member w ↦ member_kept c.args.names.now c.args.set c.loop-number.number c.in-Some.iface c.loop-number.is_first c.if-contains.is_first c.loop-number.said.items
-          c.if-contains.said.items whole lt at (sym c.contains.ensures ∙ w.if-contains.true) w.is_first-is (ap (λ v. v.items) w.said-is ∙ w.in_ok-put_member.ensures) c.loop-number.invariant
-      | else-contains w ↦ other_kept c.args.names.now c.args.set c.loop-number.number c.in-Some.iface c.loop-number.is_first c.if-contains.is_first c.loop-number.said.items
-          c.if-contains.said.items whole lt at (sym c.contains.ensures ∙ w.if-contains.false) w.is_first-is (ap (λ v. v.items) w.said-is) c.loop-number.invariant
+    let names = c.args.names.now in
+    let set = c.args.set in
+    let i = c.loop-number.number in
+    let e = c.run_end-end.result in
+    let said = c.loop-number.said.items in
+    let first = c.loop-number.is_first in
+    let whole = c.args.said.now.items ++ set_text names set in
+    let found = c.run_end-end.ensures in
+    let within : e ≤ length names = omega (arith, found.within, c.count-count.ensures.count) in
+    elim c.if-number-end.branch [
+      | then-number-end+in_ok-put_run w ↦ run_kept names set i e first c.if-number-end.is_first said c.if-number-end.said.items whole w.if-number-end.true within found.members
+          (λ inside. found.next (omega (arith, inside, c.count-count.ensures.count))) w.is_first-is (ap (λ v. v.items) w.said-is ∙ w.in_ok-put_run.ensures) c.loop-number.invariant
+      | else-number-end w ↦
+          let here : i ≡ e = omega (arith, found.after, w.if-number-end.false) in
+          let inside : e < length names = omega (arith, here, c.loop-number-test.true, c.count-count.ensures.count) in
+          other_kept names set e first c.if-number-end.is_first said c.if-number-end.said.items whole inside (found.next (omega (arith, inside, c.count-count.ensures.count)))
+            w.is_first-is (ap (λ v. v.items) w.said-is) (subst (λ (n : ℕ). said ++ rest_text first (to_come names set n) ≡ whole) here c.loop-number.invariant)
     ]
 
 pub returns-then-is_empty : goal.returns-then-is_empty
