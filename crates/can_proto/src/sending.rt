@@ -152,7 +152,7 @@ pub fn read_send(rest: &[u8]) -> Result<Command, ProtoFault>
 }
 
 /// The data frame that these words ask to be sent.
-pub fn read_frame(rest: &[u8]) -> Result<Frame, ProtoFault>
+fn read_frame(rest: &[u8]) -> Result<Frame, ProtoFault>
     ensures { Gives (asked result) (send_of (words_of rest.now)) }
 {
     match usual_frame(rest) {
