@@ -1,9 +1,9 @@
 -- A message that a `send` was read from has no mark in it, so it needs no search for one.
-use Rattle.std.proofs.Common.{◌≡◌, ℕ, ◌≤◌, ◌+◌, ◌*◌, ◌==◌, ◌∷◌, ◌++◌, [], Bool, true, false, ◌||◌, ◌&&◌, if◌then◌else◌, List, Option, Some, None, Result, Ok, Err, length, codes, refl, sym, ap, subst, ◌∙◌, arith, inl, inr, nat_lt, nat_le}
+use Rattle.std.proofs.Common.{◌≡◌, ℕ, ◌≤◌, ◌==◌, ◌∷◌, ◌++◌, [], Bool, true, false, ◌||◌, if◌then◌else◌, List, Option, Some, None, Result, Ok, Err, length, codes, refl, sym, ap, subst, ◌∙◌, arith, inl, inr}
 use Rattle.std.proofs.lemmas.Bool.{cases_Bool}
 use Rattle.can_frame.specs.Frames.{CanFrame, Identifier}
 use Rattle.can_frame.specs.Frames.Payload.{Data}
-use Rattle.can_frame.specs.Numbers.{hex_digit, digit_in, one_more, number_after, number_in}
+use Rattle.can_frame.specs.Numbers.{digit_in, number_in}
 use Rattle.can_proto.specs.declared.faults.ProtoFault.{ProtoFault}
 use Rattle.can_proto.specs.declared.faults.ProtoFault.TheVariants.{BadByte, BadCount}
 use Rattle.can_proto.specs.declared.commands.Command.{Command}
@@ -11,7 +11,7 @@ use Rattle.can_proto.specs.declared.commands.Command.TheVariants.{Send}
 use Rattle.can_proto.specs.declared.commands.Mode.TheVariants.{Raw}
 use Rattle.can_proto.specs.Messages.{messages_of, kept_of, has_mark, is_open_mark, is_close_mark}
 use Rattle.can_proto.specs.Words.{is_blank, front, words_after, words_of}
-use Rattle.can_proto.specs.Commands.{◌>>=◌, or_fault, short_id, long_id, id_of, length_of, bytes_of, send_of, arguments_of, reading, IsLoneSend}
+use Rattle.can_proto.specs.Commands.{◌>>=◌, or_fault, id_of, length_of, bytes_of, send_of, arguments_of, reading, IsLoneSend}
 use Rattle.can_proto.proofs.Pieces.{closes}
 use Rattle.can_proto.proofs.SpelledDigits.{Each, of-digits, of-id}
 

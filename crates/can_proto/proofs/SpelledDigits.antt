@@ -1,4 +1,4 @@
-use Rattle.std.proofs.Common.{◌≡◌, ℕ, ◌≤◌, ◌*◌, ◌+◌, ◌==◌, ◌∷◌, ◌++◌, [], Bool, true, false, ◌&&◌, if◌then◌else◌, List, Option, Some, None, Ok, length, refl, ap, ◌∙◌, arith, nat_lt, nat_le}
+use Rattle.std.proofs.Common.{◌≡◌, ℕ, ◌≤◌, ◌*◌, ◌+◌, ◌==◌, ◌∷◌, ◌++◌, [], Bool, true, false, ◌&&◌, if◌then◌else◌, List, Option, Some, None, Ok, length, refl, ap, arith, nat_lt, nat_le}
 use Rattle.can_frame.specs.Frames.{Identifier}
 use Rattle.can_frame.specs.Numbers.{digit_in, one_more, number_after, number_in}
 use Rattle.can_proto.specs.Words.{is_blank, front, words_after, words_of}

@@ -1,11 +1,11 @@
-use Rattle.std.proofs.Common.{◌≡◌, ◌≤◌, ◌-◌, ◌&&◌, ◌==◌, ◌∷◌, [], List, ℕ, true, false, nat_le, if◌then◌else◌, Ok, Err, length, take, drop, get_or, refl, sym, ap, ◌∙◌, arith}
+use Rattle.std.proofs.Common.{◌≡◌, ◌≤◌, ◌-◌, ◌∷◌, [], List, ℕ, false, Ok, length, take, drop, get_or, refl, sym, ap, ◌∙◌, arith}
 use Rattle.std.proofs.lemmas.List.{take_all, length-drop}
 use Rattle.std.proofs.lemmas.Bool.{eq-eqb}
 use Rattle.can_frame.specs.Frames.{Identifier}
 use Rattle.can_frame.specs.Frames.Payload.{Data}
 use Rattle.can_proto.specs.declared.commands.Command.TheVariants.{Send}
 use Rattle.can_proto.specs.Words.{is_blank, words_of}
-use Rattle.can_proto.specs.Commands.{◌>>=◌, id_of, length_of, bytes_of, send_of}
+use Rattle.can_proto.specs.Commands.{id_of, length_of, bytes_of, send_of}
 use Rattle.can_proto.proofs.sending.usual_payload.Goals as goal
 
 -- a byte that is no blank, and a space after it
