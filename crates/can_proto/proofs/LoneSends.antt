@@ -1,9 +1,9 @@
 -- A message that a `send` was read from has no mark in it, so it needs no search for one.
-use Rattle.std.proofs.Common.{◌≡◌, ℕ, ◌≤◌, ◌+◌, ◌*◌, ◌==◌, ◌∷◌, ◌++◌, [], Bool, true, false, ◌||◌, ◌&&◌, if◌then◌else◌, List, Option, Some, None, Result, Ok, Err, length, codes, refl, sym, ap, subst, ◌∙◌, arith, inl, inr, nat_lt, nat_le}
+use Rattle.std.proofs.Common.{◌≡◌, ℕ, ◌≤◌, ◌==◌, ◌∷◌, ◌++◌, [], Bool, true, false, ◌||◌, if◌then◌else◌, List, Option, Some, None, Result, Ok, Err, length, codes, refl, sym, ap, subst, ◌∙◌, arith, inl, inr}
 use Rattle.std.proofs.lemmas.Bool.{cases_Bool}
 use Rattle.can_frame.specs.Frames.{CanFrame, Identifier}
 use Rattle.can_frame.specs.Frames.Payload.{Data}
-use Rattle.can_frame.specs.Numbers.{hex_digit, digit_in, one_more, number_after, number_in}
+use Rattle.can_frame.specs.Numbers.{digit_in, number_in}
 use Rattle.can_proto.specs.declared.faults.ProtoFault.{ProtoFault}
 use Rattle.can_proto.specs.declared.faults.ProtoFault.TheVariants.{BadByte, BadCount}
 use Rattle.can_proto.specs.declared.commands.Command.{Command}
@@ -11,8 +11,9 @@ use Rattle.can_proto.specs.declared.commands.Command.TheVariants.{Send}
 use Rattle.can_proto.specs.declared.commands.Mode.TheVariants.{Raw}
 use Rattle.can_proto.specs.Messages.{messages_of, kept_of, has_mark, is_open_mark, is_close_mark}
 use Rattle.can_proto.specs.Words.{is_blank, front, words_after, words_of}
-use Rattle.can_proto.specs.Commands.{◌>>=◌, or_fault, short_id, long_id, id_of, length_of, bytes_of, send_of, arguments_of, reading, IsLoneSend}
+use Rattle.can_proto.specs.Commands.{◌>>=◌, or_fault, id_of, length_of, bytes_of, send_of, arguments_of, reading, IsLoneSend}
 use Rattle.can_proto.proofs.Pieces.{closes}
+use Rattle.can_proto.proofs.SpelledDigits.{Each, of-digits, of-id}
 
 -- no mark is in any of the words
 abbrev AreClear : List (List ℕ) → Type 0
@@ -54,37 +55,9 @@ clear-after (b ∷ bs) =
 digit-clear : (b v : ℕ) → digit_in 16 b ≡ Some v → is_mark b ≡ false
 digit-clear b v h = grind arith
 
-digits-clear : (n : Option ℕ) (word : List ℕ) (v : ℕ) → number_after 16 n word ≡ Some v → has_mark word ≡ false
-digits-clear None word v h = absurd cc
-digits-clear (Some n) [] v h = refl
-digits-clear (Some n) (d ∷ ds) v h = by (digit_in 16 d) refl h (λ m e. digits-clear m ds v e)
-  where
-    by : (digit : Option ℕ) → digit_in 16 d ≡ digit → number_after 16 (one_more 16 n digit) ds ≡ Some v → ((m : Option ℕ) → number_after 16 m ds ≡ Some v → has_mark ds ≡ false) → has_mark (d ∷ ds) ≡ false
-    by None is e again = absurd cc
-    by (Some x) is e again = cons-clear d ds (digit-clear d x is) (again (Some (n * 16 + x)) e)
-
-spelled-clear : (base most : ℕ) (word : List ℕ) (v : ℕ) → base ≡ 16 → number_in base most word ≡ Some v → has_mark word ≡ false
-spelled-clear base most word v is h = by (nat_lt 0 (length word) && nat_le (length word) most) (subst (λ (b : ℕ). number_in b most word ≡ Some v) is h)
-  where
-    by : (fits : Bool) → (if fits then number_after 16 (Some 0) word else None) ≡ Some v → has_mark word ≡ false
-    by true e = digits-clear (Some 0) word v e
-    by false e = absurd cc
-
-id-clear : (word : List ℕ) (id : Identifier) → id_of word ≡ Ok id → has_mark word ≡ false
-unfolding id_of
-id-clear word id h = by (length word == 8) h
-  where
-    short : (n : Option ℕ) → number_in 16 3 word ≡ n → short_id n ≡ Ok id → has_mark word ≡ false
-    short None is e = absurd cc
-    short (Some v) is e = spelled-clear 16 3 word v refl is
-
-    long : (n : Option ℕ) → number_in 16 8 word ≡ n → long_id n ≡ Ok id → has_mark word ≡ false
-    long None is e = absurd cc
-    long (Some v) is e = spelled-clear 16 8 word v refl is
-
-    by : (b : Bool) → (if b then long_id (number_in 16 8 word) else short_id (number_in 16 3 word)) ≡ Ok id → has_mark word ≡ false
-    by true e = long (number_in 16 8 word) refl e
-    by false e = short (number_in 16 3 word) refl e
+all-clear : (word : List ℕ) → Each (λ b. is_mark b ≡ false) word → has_mark word ≡ false
+all-clear [] h = refl
+all-clear (b ∷ bs) h = cons-clear b bs h.0 (all-clear bs h.1)
 
 length-clear : (word : List ℕ) (len : ℕ) → length_of word ≡ Ok len → has_mark word ≡ false
 unfolding length_of
@@ -100,7 +73,7 @@ bytes-clear (word ∷ words) bytes h = by (number_in 16 2 word) (bytes_of words)
     by : (byte : Option ℕ) (more : Result (List ℕ) ProtoFault) → number_in 16 2 word ≡ byte → (or_fault BadByte byte >>= λ b. more >>= λ bs. Ok (b ∷ bs)) ≡ Ok bytes → ((bs : List ℕ) → bytes_of words ≡ Ok bs → AreClear words) → bytes_of words ≡ more → AreClear (word ∷ words)
     by None more is e again are = absurd cc
     by (Some b) (Err fault) is e again are = absurd cc
-    by (Some b) (Ok bs) is e again are = (spelled-clear 16 2 word b refl is, again bs are)
+    by (Some b) (Ok bs) is e again are = (all-clear word (of-digits (λ b. is_mark b ≡ false) digit-clear 2 word b is), again bs are)
 
 send-clear : (words : List (List ℕ)) (command : Command) → send_of words ≡ Ok command → AreClear words
 unfolding send_of
@@ -117,7 +90,7 @@ send-clear (id_word ∷ len_word ∷ words) command h = by (id_of id_word) (leng
         → (id >>= λ i. len >>= λ n. if length words == n then bytes_of words >>= (λ bytes. Ok (Send (record { id = i; payload = Data bytes }))) else Err BadCount) ≡ Ok command → AreClear (id_word ∷ len_word ∷ words)
     by (Err fault) len is count e = absurd cc
     by (Ok id) (Err fault) is count e = absurd cc
-    by (Ok id) (Ok len) is count e = (id-clear id_word id is, (length-clear len_word len count, payload len id (length words == len) (bytes_of words) refl e))
+    by (Ok id) (Ok len) is count e = (all-clear id_word (of-id (λ b. is_mark b ≡ false) digit-clear id_word id is), (length-clear len_word len count, payload len id (length words == len) (bytes_of words) refl e))
 
 -- the message of a piece whose words ask for a frame to be sent
 pub lone : (piece inside rest : List ℕ) (frame : CanFrame) → piece ≡ 60 ∷ inside ++ 62 ∷ [] → length inside ≤ 1024 → words_of inside ≡ codes "send" ∷ words_of rest → send_of (words_of rest) ≡ Ok (Send frame) → IsLoneSend piece frame

@@ -2,7 +2,7 @@ ghost use Rattle.std.specs.Prelude.{IsTrue, ◌≡◌, ◌==◌, ◌≤◌, ◌+
 ghost use Rattle.can_frame.specs.Frames.{is_fd_length};
 ghost use Rattle.can_frame.specs.Numbers.{number_in};
 ghost use Rattle.can_proto.specs.Words.{words_of};
-ghost use Rattle.can_proto.specs.Pairs.{IsFirstByte};
+ghost use Rattle.can_proto.specs.Pairs.{IsFirstByte, IsFirstId, AsksFor};
 ghost use Rattle.can_proto.specs.declared.commands.Command.TheVariants.{Send};
 ghost use Rattle.can_proto.specs.Commands.{Gives, id_of, length_of, fd_length_of, bytes_of, IsDataFault, asked, send_of, send_fd_of, remote_of};
 
@@ -152,7 +152,7 @@ pub fn read_send(rest: &[u8]) -> Result<Command, ProtoFault>
 }
 
 /// The data frame that these words ask to be sent.
-pub fn read_frame(rest: &[u8]) -> Result<Frame, ProtoFault>
+fn read_frame(rest: &[u8]) -> Result<Frame, ProtoFault>
     ensures { Gives (asked result) (send_of (words_of rest.now)) }
 {
     match usual_frame(rest) {
@@ -161,21 +161,54 @@ pub fn read_frame(rest: &[u8]) -> Result<Frame, ProtoFault>
     }
 }
 
-/// The data frame of words in their usual form: an identifier of three digits, a length, and two digits a byte, with one
-/// space after each of them.
+/// The data frame of words in their usual form: an identifier of three or eight digits, a length, and two digits a byte,
+/// with one space after each of them.
 #[inline(always)]
-#[tactic(auto, unfolding(crate::specs::Commands::send_of))]
-fn usual_frame(text: &[u8]) -> Option<Frame>
+pub fn usual_frame(text: &[u8]) -> Option<Frame>
     ensures { IfSome result (λ frame. send_of (words_of text.now) ≡ Ok (Send frame)) }
 {
-    let [high, middle, low, b' ', len @ b'0'..=b'8', b' ', data @ ..] = text else {
+    match usual_id(text) {
+        Some((id, rest)) => usual_payload(id, rest),
+        None => None,
+    }
+}
+
+/// The data frame of this identifier and of a length and data in their usual form.
+#[inline(always)]
+fn usual_payload(id: CanId, text: &[u8]) -> Option<Frame>
+    ensures { IfSome result (λ frame. AsksFor frame id (words_of text.now)) }
+{
+    let [len @ b'0'..=b'8', b' ', data @ ..] = text else {
         return None;
     };
-    let id = short_id(*high, *middle, *low)?;
     let len = usize::from(*len - b'0');
     let bytes = paired_bytes::<8>(data, len)?;
     match Frame::data(id, &bytes[..len]) {
         Ok(frame) => Some(frame),
+        Err(_) => None,
+    }
+}
+
+/// The identifier of three or eight digits that the first word spells, and what follows one space after it.
+#[inline(always)]
+fn usual_id(text: &[u8]) -> Option<(CanId, &[u8])>
+    ensures { IfSome result (λ found. IsFirstId found.0 (words_of text.now) (words_of found.1.now)) }
+{
+    match text {
+        [high, middle, low, b' ', rest @ ..] => Some((short_id(*high, *middle, *low)?, rest)),
+        _ => usual_long_id(text),
+    }
+}
+
+/// The same of eight digits.
+fn usual_long_id(text: &[u8]) -> Option<(CanId, &[u8])>
+    ensures { IfSome result (λ found. IsFirstId found.0 (words_of text.now) (words_of found.1.now)) }
+{
+    if text.len() < 9 || text[8] != b' ' {
+        return None;
+    }
+    match read_id(&text[..8]) {
+        Ok(id) => Some((id, &text[9..])),
         Err(_) => None,
     }
 }

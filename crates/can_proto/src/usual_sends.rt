@@ -2,7 +2,7 @@
 ghost use Rattle.std.specs.Prelude.{◌≡◌, ◌∷◌, ◌++◌, [], IfSome};
 ghost use Rattle.can_proto.specs.Commands.{IsLoneSend};
 
-use crate::sending::read_frame;
+use crate::sending::usual_frame;
 use crate::verbs::after_send;
 use can_frame::Frame;
 
@@ -10,7 +10,7 @@ use can_frame::Frame;
 /// not read in vain.
 const USUAL: usize = 48;
 
-/// The frame of a piece `< send ID LEN b .. >` with nothing before or after it.
+/// The frame of a piece `< send ID LEN b .. >` in its usual form, with nothing before or after it.
 pub fn lone_send(piece: &[u8]) -> Option<Frame>
     ensures { IfSome result (λ frame. IsLoneSend piece.now frame) }
 {
@@ -18,10 +18,7 @@ pub fn lone_send(piece: &[u8]) -> Option<Frame>
     if inside.len() > USUAL {
         return None;
     }
-    match read_frame(after_send(inside)?) {
-        Ok(frame) => Some(frame),
-        Err(_) => None,
-    }
+    usual_frame(after_send(inside)?)
 }
 
 /// What is between a `<` and a `>` at the ends of a piece.

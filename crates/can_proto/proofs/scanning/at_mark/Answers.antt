@@ -1,4 +1,4 @@
-use Rattle.std.proofs.Common.{◌≤◌, ℕ, ◌∷◌, [], List, ap, sym, ◌∙◌}
+use Rattle.std.proofs.Common.{◌≤◌, ℕ, ◌∷◌, [], List, ap, ◌∙◌}
 use Rattle.can_proto.specs.declared.messages.Incoming.TheVariants.{Message}
 use Rattle.can_proto.proofs.Pieces.{close_mark}
 use Rattle.can_proto.proofs.Steps.{slice_is, opens-given, opens-kept, closes-at, text-carried, text-at, pushed}
