@@ -73,6 +73,8 @@ def test_what_send_takes():
         bench.run()
         texts = [str(frame) for frame in receiver.receive()]
     assert texts == ["123#01", "00000800#", "00000123#", "123#R3", "123#0102", "00000123#R5"]
+    with pytest.raises(ValueError, match="^frame .* not '123#01'$"):
+        sender.send("123#01")
 
 
 def test_lost_arbitration():
@@ -206,6 +208,9 @@ def test_options_of_a_session():
         assert [str(frame) for frame in own.receive()] == ["123#", "200#"]
         assert [str(frame) for frame in quiet.receive()] == ["123#", "200#"]
         assert [str(frame) for frame in joined.receive()] == ["200#"]
+        for wrong in ("all", 1 << 32):
+            with pytest.raises(ValueError, match="^error_frames "):
+                bench.open("can0", error_frames=wrong)
 
 
 def test_refusals():
@@ -296,6 +301,12 @@ def test_a_start_that_fails(words, said):
 def test_a_wrong_option_is_named(options):
     with pytest.raises(ValueError, match=f"^{next(iter(options))} "):
         Bench("can0", **options)
+
+
+@pytest.mark.parametrize("names", [[], ["can0", 1]])
+def test_names_that_are_none_are_named(names):
+    with pytest.raises(ValueError, match="^names "):
+        Bench(names)
 
 
 def test_a_bench_that_is_killed():

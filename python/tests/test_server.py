@@ -48,7 +48,7 @@ def test_what_a_server_leaves(tmp_path):
     assert page == tmp_path / "can0.html"
     assert page.read_text(encoding="utf-8").startswith("<!DOCTYPE html>")
     for wrong in (None, "can7"):
-        with pytest.raises(ValueError, match="name"):
+        with pytest.raises(ValueError, match=f"^name .* one of can0, can1, car0, car1, not {wrong!r}$"):
             server.log(wrong)
 
 

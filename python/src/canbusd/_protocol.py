@@ -71,11 +71,11 @@ def options(
 ) -> List[str]:
     """Returns the messages that give a new session these options.
 
-    `error_frames` is whether error message frames are received, or the mask of their classes.
+    `error_frames` is whether error message frames are received, or the mask of their classes; 0 and 1 are truth values.
     """
-    if error_frames is True:
+    if error_frames == 1:
         error_frames = ALL_CLASSES
-    if not 0 <= error_frames <= 0xFFFFFFFF:
+    if not isinstance(error_frames, int) or not 0 <= error_frames <= 0xFFFFFFFF:
         raise ValueError(f"error_frames is a truth value or a mask of 32 bits, not {error_frames!r}")
     messages = ["errdata 1"]
     messages += [f"errmask {error_frames:X}"] if error_frames else []

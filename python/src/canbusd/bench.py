@@ -86,6 +86,10 @@ class Session:
         if isinstance(frame, int):
             extended = frame > 0x7FF if is_extended_id is None else is_extended_id
             sent = Frame(frame, data, extended, is_remote_frame, is_fd=is_fd, dlc=dlc)
+        elif isinstance(frame, str):
+            raise ValueError(
+                f"frame is an identifier, a message or a Frame, such as Frame.parse('123#11'), not {frame!r}"
+            )
         else:
             sent = frame_like(frame)
         self.call(command_of(sent))
@@ -160,8 +164,10 @@ class Bench(Run):
         out: Union[str, "os.PathLike[str]", None] = None,
     ) -> None:
         words = option_words(ack, report, auto_restart=auto_restart, txqueue=txqueue, rxqueue=rxqueue, limit=limit)
-        super().__init__(out)
         self.names = tuple(names.split(",") if isinstance(names, str) else names)
+        if not self.names or not all(isinstance(name, str) for name in self.names):
+            raise ValueError(f"names are those of the interfaces, such as 'can0,can1', not {names!r}")
+        super().__init__(out)
         script = script_text(faults)
         self._verdicts = verdicts_of(script)
         self._attempts = self._sessions = 0
