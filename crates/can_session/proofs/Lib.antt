@@ -7,3 +7,4 @@ pub mod SetTexts
 pub mod Speaking
 pub mod Running
 pub mod FirstPlaces
+pub mod Heard

@@ -69,7 +69,7 @@ run_step names set first (suc n) i lt members =
     let name = get_or names i [] in
     let rest = rest_text false (to_come names set (i + 1 + n + 1)) in
     let more : join_with_byte 44 (take (suc (suc n)) (drop i names)) ≡ name ++ 44 ∷ tail =
-        ap (λ (ns : List (List ℕ)). join_with_byte 44 (take (suc (suc n)) ns)) (drop_more names i [] inside) ∙ join_more name (drop (i + 1) names) n (omega (arith, length-drop (i + 1) names, lt)) in
+    ap (λ (ns : List (List ℕ)). join_with_byte 44 (take (suc (suc n)) ns)) (drop_more names i [] inside) ∙ join_more name (drop (i + 1) names) n (omega (arith, length-drop (i + 1) names, lt)) in
     let later : rest_text false (to_come names set (i + 1)) ≡ (44 ∷ tail) ++ rest = run_step names set false n (i + 1) (omega (arith, lt)) (λ k low high. members k (omega (arith, low)) (omega (arith, high))) in
     let there : i + 1 + n + 1 ≡ i + suc n + 1 = omega arith in
     member_step names set i first inside (members i (omega arith) (omega arith))

@@ -3,4 +3,5 @@ pub mod Orders
 pub mod AttemptLines
 pub mod Benches
 pub mod Runs
+pub mod Unheard
 pub mod inner

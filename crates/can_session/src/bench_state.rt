@@ -131,7 +131,7 @@ impl Bench {
         requires { said.old.items ≡ [] }
         ensures { IfOk result (λ good. MatchBool good (Speaks (done_by act.entry self.old.moment) session self.old said.new.items self.new) (session_at self.old session ≡ Some None)) }
     {
-        match &mut self.sessions[place_of(session)] {
+        match &mut self.sessions[session.place()] {
             None => Ok(false),
             Some(speaker) => {
                 if let Act::Feed(bytes) = act {
@@ -150,7 +150,7 @@ impl Bench {
         requires { said.old.items ≡ [] }
         ensures { IfOk result (λ good. MatchBool good (Does no_verdicts (Effect.Starts session) self.old said.new.items self.new) (session_at self.old session ≢ Some None)) }
     {
-        let place = place_of(session);
+        let place = session.place();
         if self.sessions[place].is_some() {
             return Ok(false);
         }
@@ -181,12 +181,4 @@ impl Bench {
         put_attempt(said, self.port.names(), &outcome)?;
         Ok(())
     }
-}
-
-/// The place of a session.
-fn place_of(session: SessionNumber) -> usize
-    ensures place { result ≡ session - 1 }
-    ensures within { result < 64 }
-{
-    usize::from(session.number()) - 1
 }

@@ -5,6 +5,7 @@ use can_frame::Text;
 use std::alloc::AllocError;
 
 /// Adds a number in decimal.
+#[inline(always)]
 pub fn put_number(said: &mut Vec<u8>, number: u64) -> Result<(), AllocError>
     ensures { OnOk result (said.new.items ≡ said.old.items ++ decimal number) }
 {
@@ -12,6 +13,14 @@ pub fn put_number(said: &mut Vec<u8>, number: u64) -> Result<(), AllocError>
         said.push(b'0' + number as u8)?;
         return Ok(());
     }
+    put_digits(said, number)
+}
+
+// Adds a number by a text of its digits.
+#[inline(never)]
+fn put_digits(said: &mut Vec<u8>, number: u64) -> Result<(), AllocError>
+    ensures { OnOk result (said.new.items ≡ said.old.items ++ decimal number) }
+{
     let mut digits: Text<20> = Text::new();
     digits.push_count(number);
     said.extend_from_slice(digits.as_bytes())

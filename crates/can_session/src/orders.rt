@@ -1,4 +1,4 @@
-ghost use Rattle.std.specs.Prelude.{◌≡◌, ◌≤◌, ◌<◌, ◌^◌, ◌∷◌, length, option_map, option_and_then, IfSome};
+ghost use Rattle.std.specs.Prelude.{◌≡◌, ◌≤◌, ◌<◌, ◌-◌, ◌^◌, ◌∷◌, length, option_map, option_and_then, IfSome};
 ghost use Rattle.can_session.specs.Orders.{Effect, effect_of, order_of, asked_by, fed_by, is_remark, session_number, session_of, parted};
 ghost use Rattle.can_frame.specs.Moments.{moment_in};
 ghost use Rattle.can_proto.specs.Verbs.{is_word};
@@ -43,6 +43,14 @@ impl SessionNumber {
         ensures high { result ≤ 64 }
     {
         self.number
+    }
+
+    /// Its place among all sessions, from 0.
+    pub fn place(self) -> usize
+        ensures place { result ≡ self - 1 }
+        ensures within { result < 64 }
+    {
+        usize::from(self.number) - 1
     }
 }
 

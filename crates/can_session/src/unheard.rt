@@ -1,77 +1,112 @@
 //! What sessions are fed that is in no message, so that a run can report it.
+ghost use Rattle.std.specs.Prelude.{◌≡◌, true, false, replicate};
+ghost use Rattle.std.specs.List.{list_any};
+ghost use Rattle.can_session.specs.Unheard.{begun_after, begun_then, flag, has_outside, is_mark, outside_then};
+
 use crate::orders::SessionNumber;
 
 /// Which sessions of a run were fed bytes outside messages, and which a message that was not ended. Spaces, tabs, CR and
 /// LF outside messages do not count.
 #[derive(Debug, Clone, Copy, PartialEq, Eq)]
 pub struct Unheard {
-    // A bit for each session.
-    begun: u64,
-    outside: u64,
+    // A flag for each session.
+    begun: [bool; 64],
+    outside: [bool; 64],
 }
 
 impl Unheard {
     /// Of no session.
-    pub fn none() -> Unheard {
+    pub fn none() -> Unheard
+        ensures begun { result.begun ≡ replicate 64 false }
+        ensures outside { result.outside ≡ replicate 64 false }
+    {
         Unheard {
-            begun: 0,
-            outside: 0,
+            begun: [false; 64],
+            outside: [false; 64],
         }
     }
 
     /// Whether the session's last message was begun and not ended.
-    pub fn has_begun(self, session: SessionNumber) -> bool {
-        self.begun & bit_of(session) != 0
+    pub fn has_begun(&self, session: SessionNumber) -> bool
+        ensures { result ≡ flag self.now.begun session }
+    {
+        self.begun[session.place()]
     }
 
     /// Whether the session was fed bytes outside messages, or a message that a `<` inside began anew.
-    pub fn has_outside(self, session: SessionNumber) -> bool {
-        self.outside & bit_of(session) != 0
+    pub fn has_outside(&self, session: SessionNumber) -> bool
+        ensures { result ≡ flag self.now.outside session }
+    {
+        self.outside[session.place()]
     }
 
     /// Looks at what a session is fed.
-    pub fn hear(&mut self, session: SessionNumber, bytes: &[u8]) {
-        if !self.has_begun(session) && is_message(bytes) {
-            return;
+    pub fn hear(&mut self, session: SessionNumber, bytes: &[u8])
+        ensures begun { self.new.begun ≡ begun_then self.old.begun session bytes.now }
+        ensures outside { self.new.outside ≡ outside_then self.old.outside self.old.begun session bytes.now }
+    {
+        let place = session.place();
+        let was_begun = self.begun[place];
+        if !self.outside[place] {
+            self.outside[place] = are_outside(bytes, was_begun);
         }
-        let mut is_open = self.has_begun(session);
-        let mut is_outside = false;
-        for byte in bytes {
-            match *byte {
-                b'<' => {
-                    is_outside = is_outside || is_open;
-                    is_open = true;
-                }
-                b'>' if is_open => is_open = false,
-                b' ' | b'\t' | b'\r' | b'\n' => {}
-                _ => is_outside = is_outside || !is_open,
-            }
-        }
-        let bit = bit_of(session);
-        self.begun = if is_open {
-            self.begun | bit
-        } else {
-            self.begun & !bit
-        };
-        if is_outside {
-            self.outside |= bit;
-        }
+        self.begun[place] = is_begun_after(bytes, was_begun);
     }
 }
 
-// Whether the bytes are one message and no more, as they mostly are. No byte decides early, so that the compiler can
-// compare many at once.
-fn is_message(bytes: &[u8]) -> bool {
-    let [b'<', inside @ .., b'>'] = bytes else {
+// Whether a message is begun and not ended after these bytes: the last mark decides.
+fn is_begun_after(bytes: &[u8], was_begun: bool) -> bool
+    ensures { result ≡ begun_after was_begun bytes.now }
+{
+    let mut rest = bytes;
+    while let [front @ .., last] = rest {
+        match *last {
+            b'<' => return true,
+            b'>' => return false,
+            _ => rest = front,
+        }
+    }
+    was_begun
+}
+
+// Whether some of the bytes are outside messages, or in a message that a `<` begins anew.
+fn are_outside(bytes: &[u8], was_begun: bool) -> bool
+    ensures { result ≡ has_outside was_begun bytes.now }
+{
+    if !was_begun && is_message(bytes) {
         return false;
-    };
+    }
+    let mut is_begun = was_begun;
+    for byte in bytes {
+        match *byte {
+            b'<' if is_begun => return true,
+            b'<' => is_begun = true,
+            b'>' if is_begun => is_begun = false,
+            b' ' | b'\t' | b'\r' | b'\n' => {}
+            _ if is_begun => {}
+            _ => return true,
+        }
+    }
+    false
+}
+
+// Whether the bytes are one message and no more, as they mostly are.
+fn is_message(bytes: &[u8]) -> bool
+    ensures { result ≡ true → has_outside false bytes.now ≡ false }
+{
+    match bytes {
+        [b'<', inside @ .., b'>'] => !has_marks(inside),
+        _ => false,
+    }
+}
+
+// Whether a message begins or ends among the bytes. No byte decides early, so that the compiler can compare many at once.
+fn has_marks(bytes: &[u8]) -> bool
+    ensures { result ≡ list_any is_mark bytes.now }
+{
     let mut has_mark = false;
-    for byte in inside {
+    for byte in bytes {
         has_mark = has_mark | (*byte == b'<') | (*byte == b'>');
     }
-    !has_mark
-}
-
-fn bit_of(session: SessionNumber) -> u64 {
-    1 << (session.number() - 1)
+    has_mark
 }

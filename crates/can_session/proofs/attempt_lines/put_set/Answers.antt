@@ -23,7 +23,7 @@ loop-number-preserved c =
           let here : i ≡ e = omega (arith, found.after, w.if-number-end.false) in
           let inside : e < length names = omega (arith, here, c.loop-number-test.true, c.count-count.ensures.count) in
           other_kept names set e first c.if-number-end.is_first said c.if-number-end.said.items whole inside (found.next (omega (arith, inside, c.count-count.ensures.count)))
-            w.is_first-is (ap (λ v. v.items) w.said-is) (subst (λ (n : ℕ). said ++ rest_text first (to_come names set n) ≡ whole) here c.loop-number.invariant)
+          w.is_first-is (ap (λ v. v.items) w.said-is) (subst (λ (n : ℕ). said ++ rest_text first (to_come names set n) ≡ whole) here c.loop-number.invariant)
     ]
 
 pub returns-then-is_empty : goal.returns-then-is_empty
