@@ -1,3 +1,4 @@
+pub mod Received
 pub mod Held
 pub mod Waits
 pub mod Marks
