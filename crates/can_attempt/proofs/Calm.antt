@@ -1,11 +1,12 @@
-use Rattle.std.proofs.Common.{◌≡◌, ◌==◌, ℕ, zero, suc, ◌<◌, ◌≤◌, ◌+◌, ◌-◌, ◌%◌, ◌^◌, nat_lt, Bool, true, false, not, List, [], ◌∷◌, filter, length, All, IsTrue, bit_xor, refl, ap, sym, ◌∙◌, inl, inr, arith, if◌then◌else◌}
+use Rattle.std.proofs.Common.{◌≡◌, ◌==◌, ℕ, zero, suc, ◌<◌, ◌≤◌, ◌+◌, ◌-◌, ◌%◌, ◌^◌, nat_lt, Bool, true, false, not, List, [], ◌∷◌, filter, length, All, IsTrue, bit_or, bit_xor, max, refl, ap, sym, ◌∙◌, inl, inr, arith, if◌then◌else◌}
 use Rattle.std.specs.Prelude.{◌&&◌, ◌||◌}
 use Rattle.std.specs.Int.{bit_at}
 use Rattle.std.specs.List.{list_any}
-use Rattle.std.proofs.lemmas.Bool.{and_parts, eqb-true, cases_eq, cases_lt, false≢true}
+use Rattle.std.proofs.lemmas.Bool.{cases_eq, cases_lt, false≢true}
 use Rattle.std.proofs.lemmas.Grind.{common_steps}
 use Rattle.std.proofs.lemmas.List.FromFn.{fill_by_all}
-use Rattle.std.proofs.lemmas.Nat.Bits.{bit_at_ones, bit_at_ones_above, bit_at_xor, bit_at-pow_same, bit_at-pow_other, same_from_bits}
+use Rattle.std.proofs.lemmas.Nat.{or_comm}
+use Rattle.std.proofs.lemmas.Nat.Bits.{bit_at_ones, bit_at_ones_above, bit_at_or, bit_at_xor, bit_at-zero, bit_at-pow_same, bit_at-pow_other, same_from_bits}
 use Rattle.can_frame.specs.Sets.{bits_where, set_where, no_ifaces}
 use Rattle.can_confine.specs.Confinement.{ErrorCounts, all_stepped, at_start, is_off, is_passive, state_of}
 use Rattle.can_confine.specs.declared.states.State.{State}
@@ -27,12 +28,17 @@ use Rattle.can_attempt.proofs.Standing.{bit_at-bits_where}
 abbrev counts_of : ℕ → ℕ → ErrorCounts
 counts_of t r = record { tec = t; rec = r }
 
--- counts that are compared with those at the start
-pub compared : (c start : ErrorCounts) → start ≡ at_start → ((c.tec == start.tec) && (c.rec == start.rec)) ≡ true → c ≡ at_start
-compared c start is same =
-    let both = and_parts _ _ same in
-    let transmit : c.tec ≡ 0 = eqb-true _ _ both.0 ∙ ap (λ (k : ErrorCounts). k.tec) is in
-    let receive : c.rec ≡ 0 = eqb-true _ _ both.1 ∙ ap (λ (k : ErrorCounts). k.rec) is in
+-- numbers whose bits together are 0 are 0
+pub zero_of_or : (a b : ℕ) → bit_or a b ≡ 0 → a ≡ 0
+zero_of_or a b none = same_from_bits a 0 (λ i.
+    let most : max (bit_at a i) (bit_at b i) ≡ 0 = sym (bit_at_or a b i) ∙ ap (λ n. bit_at n i) none ∙ bit_at-zero i in
+    omega (arith, most) ∙ sym (bit_at-zero i))
+
+-- counts whose bits together are 0 are those at the start
+pub zero_counts : (c : ErrorCounts) (t r : ℕ) → t ≡ c.tec → r ≡ c.rec → bit_or t r ≡ 0 → c ≡ at_start
+zero_counts c t r tec rec none =
+    let transmit : c.tec ≡ 0 = sym tec ∙ zero_of_or t r none in
+    let receive : c.rec ≡ 0 = sym rec ∙ zero_of_or r t (or_comm r t ∙ none) in
     ap (λ (n : ℕ). counts_of n c.rec) transmit ∙ ap (counts_of 0) receive
 
 stays : (s : State) (wins hears named : Bool) → named ≡ false → all_stepped at_start (if wins then winner_step class.Done s else if hears then receiver_step class.Done named else []) ≡ at_start

@@ -1,4 +1,4 @@
-use Rattle.std.specs.Prelude.{◌≡◌, ◌<◌, ◌≤◌, ℕ, ◌==◌, Bool, true, false, not, ◌&&◌, ◌||◌, List, [], ◌∷◌, length, filter, map, slice_index_or, if◌then◌else◌}
+use Rattle.std.specs.Prelude.{◌≡◌, ◌<◌, ◌≤◌, ℕ, ◌==◌, Bool, true, false, not, ◌&&◌, ◌||◌, List, [], ◌∷◌, length, filter, map, slice_index_or, nat_lt, All, IsTrue, if◌then◌else◌}
 use Rattle.std.specs.List.{list_any, range_with_len}
 use Rattle.can_frame.specs.Sets.{is_in, set_where}
 use Rattle.can_frame.specs.declared.ifaces.IfaceSet.{IfaceSet}
@@ -166,3 +166,13 @@ attempt_between nodes w v a = record { count = nodes.count; counts = counts_at n
 -- all that follows from an attempt
 abbrev pub judged : Transmission → Judgement
 judged t = record { class = class_of t; accepted = set_of (accepted_in (class_of t) t); hit = set_of (hit t); counters = map (counts_after t) (range_with_len 0 16); off = set_of (off_after t) }
+
+-- nothing can go wrong between these nodes: no fault, somebody who acknowledges, and all counts 0
+pub record IsCalm (nodes : Nodes) (v : Verdict) (a : AckMode) : Type 0 where
+  pub good : v ≡ verdict.Good
+  pub acknowledged : IsTrue (is_always a || nat_lt 1 nodes.count)
+  pub zeros : All (λ c. c ≡ at_start) nodes.counters
+
+-- this follows from an attempt of w between these nodes, where nothing can go wrong
+abbrev pub IsCalmJudgement : Nodes → ℕ → Judgement → Type 0
+IsCalmJudgement nodes w j = (v : Verdict) (a : AckMode) → IsCalm nodes v a → j ≡ judged (attempt_between nodes w v a)

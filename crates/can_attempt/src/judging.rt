@@ -1,11 +1,9 @@
-ghost use Rattle.std.specs.Prelude.{◌≡◌, ◌==◌, ◌<◌, ◌≤◌, ◌||◌, [], ◌∷◌, map, false, not, nat_lt, if◌then◌else◌, All, IsTrue};
+ghost use Rattle.std.specs.Prelude.{◌≡◌, ◌==◌, ◌<◌, ◌≤◌, ◌||◌, [], ◌∷◌, map, false, not, if◌then◌else◌, IsTrue};
 ghost use Rattle.std.specs.List.{range_with_len};
 ghost use Rattle.can_frame.specs.Sets.{set_where};
-ghost use Rattle.can_confine.specs.Confinement.{all_stepped, at_start, is_off, state_of};
-ghost use Rattle.can_attempt.specs.Attempts.{Transmission, accepted_in, attempt_between, class_when, counts_in, counts_at, is_always, is_global, is_last_bit, judged, set_of, unhurt, winner_step, receiver_step};
+ghost use Rattle.can_confine.specs.Confinement.{all_stepped, is_off, state_of};
+ghost use Rattle.can_attempt.specs.Attempts.{IsCalm, IsCalmJudgement, Transmission, accepted_in, attempt_between, class_when, counts_in, counts_at, is_always, is_global, is_last_bit, judged, set_of, unhurt, winner_step, receiver_step};
 ghost use Rattle.can_attempt.specs.declared.acks.AckMode.{AckMode};
-ghost use Rattle.can_attempt.specs.declared.classes.Class.TheVariants.{Done};
-ghost use Rattle.can_fault.specs.declared.verdicts.Verdict.TheVariants.{Good};
 
 use crate::acks::AckMode;
 use crate::classes::Class;
@@ -119,11 +117,10 @@ fn off_of(winner: Iface, counters: Counters) -> IfaceSet
     }
 }
 
-/// Whether nothing can go wrong: no fault, somebody who acknowledges, and all counts 0.
-fn is_calm(nodes: &Nodes, verdict: Verdict, ack: AckMode) -> bool
-    ensures verdict { IsTrue result → verdict ≡ Good }
-    ensures acknowledged { IsTrue result → IsTrue (is_always ack || nat_lt 1 nodes.now.count) }
-    ensures counters { IsTrue result → All (λ c. c ≡ at_start) nodes.now.counters }
+/// Whether nothing can go wrong in an attempt: no fault, somebody who acknowledges, and all counts 0.
+/// It looks at all 16 places.
+pub fn is_calm(nodes: &Nodes, verdict: Verdict, ack: AckMode) -> bool
+    ensures { IsTrue result → IsCalm nodes.now verdict ack }
 {
     matches!(verdict, Verdict::Good)
         && (ack == AckMode::Always || nodes.count > 1)
@@ -140,12 +137,12 @@ fn others(count: u8, one: Iface) -> IfaceSet
     IfaceSet(all ^ (1 << one.number()))
 }
 
-/// What follows where nothing can go wrong: the others accept the frame, and all counts stay.
-fn judge_calm(nodes: &Nodes, winner: Iface) -> Judgement
+/// Judges an attempt in which nothing can go wrong: the others accept the frame, and all counts stay.
+/// No interface is looked at.
+pub fn judge_calm(nodes: &Nodes, winner: Iface) -> Judgement
     requires count { nodes.now.count ≤ 16 }
     requires there { winner < nodes.now.count }
-    requires calm { All (λ c. c ≡ at_start) nodes.now.counters }
-    ensures { (a : AckMode) → IsTrue (is_always a || nat_lt 1 nodes.now.count) → result ≡ judged (attempt_between nodes.now winner Good a) }
+    ensures { IsCalmJudgement nodes.now winner result }
 {
     Judgement {
         class: Class::Done,
@@ -156,9 +153,9 @@ fn judge_calm(nodes: &Nodes, winner: Iface) -> Judgement
     }
 }
 
-/// What follows where each interface has to be looked at.
+/// Judges an attempt as `judge` does, and looks at each interface also where nothing can go wrong.
 #[inline(never)]
-fn judge_each(nodes: &Nodes, winner: Iface, verdict: Verdict, ack: AckMode) -> Judgement
+pub fn judge_each(nodes: &Nodes, winner: Iface, verdict: Verdict, ack: AckMode) -> Judgement
     requires count { nodes.now.count ≤ 16 }
     requires there { winner < nodes.now.count }
     requires live { is_off (state_of (counts_at nodes.now winner)) ≡ false }

@@ -34,10 +34,10 @@ impl Nodes {
     pub fn are_at_start(&self) -> bool
         ensures { IsTrue result → All (λ c. c ≡ at_start) self.now.counters }
     {
-        let mut all = true;
+        let mut bits = 0;
         for one in &self.counters {
-            all &= *one == Counters::zero();
+            bits |= one.tec() | one.rec();
         }
-        all
+        bits == 0
     }
 }

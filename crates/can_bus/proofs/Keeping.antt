@@ -8,7 +8,8 @@ use Rattle.can_event.specs.declared.events.Reply.{Reply}
 use Rattle.can_event.specs.declared.events.Reply.TheVariants as reply
 use Rattle.can_event.specs.declared.events.Refusal.{Refusal}
 use Rattle.can_event.specs.declared.events.Refusal.TheVariants as refusal
-use Rattle.can_bus.specs.Answer.{Noted, Answers, Refuses, told}
+use Rattle.can_event.specs.Replies.{told}
+use Rattle.can_bus.specs.Answer.{Noted, Answers, Refuses}
 use Rattle.can_bus.specs.Journal.{Journal, Kept}
 use Rattle.can_bus.specs.Sockets.{places, open_sockets, iface_of, filters_of, options_of}
 use Rattle.can_bus.specs.Posts.{posts_of}

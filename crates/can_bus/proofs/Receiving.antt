@@ -8,7 +8,7 @@ use Rattle.can_event.specs.declared.events.Refusal.{Refusal}
 use Rattle.can_event.specs.declared.events.SocketId.{SocketId}
 use Rattle.can_event.specs.declared.events.Event.TheVariants.{Receive}
 use Rattle.can_event.specs.declared.events.Reply.TheVariants as reply
-use Rattle.can_bus.specs.Answer.{told}
+use Rattle.can_event.specs.Replies.{told}
 use Rattle.can_bus.specs.Sockets.{is_open}
 use Rattle.can_bus.specs.Queues.{taken_from, queued_to, dropped_at}
 use Rattle.can_bus.specs.Legal.{legal_reply}

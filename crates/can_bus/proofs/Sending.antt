@@ -11,7 +11,7 @@ use Rattle.can_event.specs.declared.events.Refusal.TheVariants as refusal
 use Rattle.can_event.specs.declared.events.SocketId.{SocketId}
 use Rattle.can_event.specs.declared.events.Event.TheVariants.{Send}
 use Rattle.can_event.specs.declared.events.Reply.TheVariants as reply
-use Rattle.can_bus.specs.Answer.{told}
+use Rattle.can_event.specs.Replies.{told}
 use Rattle.can_bus.specs.Counters.{state_at}
 use Rattle.can_event.specs.Events.{IsConfig}
 use Rattle.can_bus.specs.Legal.{lacks_fd, legal_reply, IsLegal}

@@ -37,9 +37,5 @@ abbrev pub told_attempt : Attempt → Reply
 told_attempt (attempt.Idle restarted) = reply.Idle restarted
 told_attempt (attempt.Tried t) = reply.Tried t
 
-abbrev pub told : {A : Type 0} → (A → Reply) → Result A Refusal → Reply
-told f (Ok a) = f a
-told f (Err why) = reply.Refused why
-
 abbrev pub done_reply : Unit {0} → Reply
 done_reply done = reply.Done

@@ -1,4 +1,5 @@
-use Rattle.std.specs.Prelude.{ℕ, ◌≤◌}
+use Rattle.std.specs.Prelude.{ℕ, ◌≤◌, false, []}
+use Rattle.can_frame.specs.Frames.Payload.{Data}
 use Rattle.can_frame.specs.declared.items.Item.TheVariants as item
 use Rattle.can_frame.specs.Sets.{no_ifaces}
 use Rattle.can_frame.specs.declared.ifaces.IfaceSet.{IfaceSet}
@@ -19,19 +20,20 @@ restarted_in (reply.Idle restarted) = restarted
 restarted_in (reply.Tried t) = t.restarted
 restarted_in _ = no_ifaces
 
--- how many frames wait at most in a transmit queue
+-- how many frames wait at most in a transmit queue (the product's own limit, as in the manual page)
 abbrev pub max_tx_capacity : ℕ
 max_tx_capacity = 1024
 
--- how many items wait at most at a socket
+-- how many items wait at most at a socket (the product's own limit, as in the manual page)
 abbrev pub max_rx_capacity : ℕ
 max_rx_capacity = 65536
 
--- how many entries a record has at most
+-- how many entries a record has at most (the product's own limit, as in the manual page)
 abbrev pub max_limit : ℕ
 max_limit = 16777216
 
 -- after how many attempts at most an interface that went bus off is restarted by itself
+-- (the product's own limit, as in the manual page)
 abbrev pub max_auto_restart : ℕ
 max_auto_restart = 1000000
 
@@ -48,6 +50,10 @@ pub record IsConfig (c : BusConfig) : Type 0 where
 -- a frame that was tried, as a socket receives it
 abbrev pub tried_item : Tried → Received
 tried_item t = record { item = item.Data t.frame; from = t.winner; number = t.number; moment = t.moment }
+
+-- nothing: an empty frame from the first interface, at moment 0 (own choice)
+abbrev pub no_item : Received
+no_item = record { item = item.Data (record { id = record { extended = false; number = 0 }; payload = Data [] }); from = 0; number = 0; moment = 0 }
 
 -- the options with one of them set (linux/can/raw.h)
 abbrev pub with_option : Opt → Options → Options

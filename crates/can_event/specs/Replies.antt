@@ -1,10 +1,12 @@
-use Rattle.std.specs.Prelude.{Bool, true, IsTrue}
+use Rattle.std.specs.Prelude.{Bool, true, IsTrue, Option, Some, None, Result, Ok, Err, if◌then◌else◌}
 use Rattle.can_event.specs.declared.events.Event.{Event}
+use Rattle.can_event.specs.declared.events.Received.{Received}
+use Rattle.can_event.specs.declared.events.Refusal.{Refusal}
 use Rattle.can_event.specs.declared.events.Reply.{Reply}
 use Rattle.can_event.specs.declared.events.Reply.TheVariants as reply
 use Rattle.can_event.specs.Spelled.{FitsReply, leaves_entry}
 
--- Which replies an event may have, and which of them the record keeps.
+-- Which replies an event may have, which of them the record keeps, and the reply to what a call came to.
 
 -- an answer that a bus may give: of the event's own kind, or a refusal
 abbrev pub Suits : Event → Reply → Type 0
@@ -18,3 +20,16 @@ enters _ = true
 
 abbrev pub Enters : Reply → Type 0
 Enters r = IsTrue (enters r)
+
+-- the reply to what a call came to, or its refusal (own choice)
+abbrev pub told : {A : Type 0} → (A → Reply) → Result A Refusal → Reply
+told f (Ok a) = f a
+told f (Err why) = reply.Refused why
+
+-- what a receive took into this room, if it took an item (own choice)
+abbrev pub taken_item : Received → Bool → Option Received
+taken_item room taken = if taken then Some room else None
+
+-- the reply to a receive that took an item into this room, or none (own choice)
+abbrev pub taken_reply : Received → Bool → Reply
+taken_reply room taken = reply.Received (taken_item room taken)

@@ -1,12 +1,12 @@
 ghost use Rattle.std.specs.Prelude.{◌≡◌, ◌↔◌, IsTrue, IfOk};
-ghost use Rattle.can_event.specs.Events.{IsConfig, tried_item, with_option};
+ghost use Rattle.can_event.specs.Events.{IsConfig, no_item, tried_item, with_option};
 ghost use Rattle.can_event.specs.Replies.{enters};
 ghost use Rattle.can_event.specs.Spelled.{leaves_entry};
 
 use can_attempt::{AckMode, Class};
 use can_fault::Verdict;
 use can_filter::{FilterSet, Options};
-use can_frame::{Frame, Iface, IfaceSet, Item, Moment};
+use can_frame::{CanId, Frame, Iface, IfaceSet, Item, Moment};
 use std::alloc::{AllocError, Global};
 use thiserror::Error;
 
@@ -197,6 +197,21 @@ pub struct Received {
     pub from: Iface,
     pub number: u64,
     pub moment: Moment,
+}
+
+impl Received {
+    /// Nothing: a room before an item is received into it. Its frame is empty, and comes from interface 0 at moment 0.
+    pub fn nothing() -> Received
+        ensures { result ≡ no_item }
+    {
+        let id = CanId::standard(0).unwrap();
+        Received {
+            item: Item::Data(Frame::data(id, &[]).unwrap()),
+            from: Iface::new(0).unwrap(),
+            number: 0,
+            moment: Moment::new(0).unwrap(),
+        }
+    }
 }
 
 /// What a closed socket leaves behind: items that nobody took, and items that found no room.

@@ -1,4 +1,4 @@
-use Rattle.std.specs.Prelude.{ℕ, ◌+◌, ◌/◌, ◌%◌, ◌^◌, ◌==◌, ◌≤◌, List, [], ◌∷◌, get_or, Some, None, if◌then◌else◌}
+use Rattle.std.specs.Prelude.{ℕ, ◌+◌, ◌/◌, ◌%◌, ◌^◌, ◌==◌, ◌≤◌, Bool, List, [], ◌∷◌, get_or, Some, None, Result, if◌then◌else◌}
 use Rattle.std.specs.List.{All}
 use Rattle.can_frame.specs.Frames.{CanFrame, is_fd}
 use Rattle.can_frame.specs.Sets.{no_ifaces}
@@ -8,9 +8,13 @@ use Rattle.can_frame.specs.declared.items.Item.TheVariants as item
 use Rattle.can_event.specs.declared.events.Entry.{Entry}
 use Rattle.can_event.specs.declared.events.Event.{Event}
 use Rattle.can_event.specs.declared.events.Event.TheVariants.{Open, Close, SetOption, Send, Receive, Attempt, Restart}
+use Rattle.can_event.specs.declared.events.Received.{Received}
+use Rattle.can_event.specs.declared.events.Refusal.{Refusal}
 use Rattle.can_event.specs.declared.events.Reply.{Reply}
 use Rattle.can_event.specs.declared.events.Reply.TheVariants as reply
+use Rattle.can_event.specs.declared.events.SocketId.{SocketId}
 use Rattle.can_event.specs.declared.events.Tried.{Tried}
+use Rattle.can_event.specs.Replies.{taken_reply, told}
 use Rattle.can_packed.specs.declared.kept.Kept.{Kept}
 use Rattle.can_packed.specs.declared.kept.Kept.TheVariants as kept
 use Rattle.can_packed.specs.declared.kept.KeptFrame.{KeptFrame}
@@ -116,3 +120,11 @@ fd_frames (Send s frame) r = fd_frames_of frame
 fd_frames (Receive s) (reply.Received (Some r)) = fd_frames_of_item r.item
 fd_frames (Attempt m v) (reply.Tried t) = fd_frames_of t.frame
 fd_frames _ _ = []
+
+-- the entry of a receive that came to this with the room
+abbrev pub receive_entry : SocketId → Received → Result Bool Refusal → Entry
+receive_entry s room outcome = both (Receive s) (told (taken_reply room) outcome)
+
+-- what it adds to that list
+abbrev pub receive_frames : SocketId → Received → Result Bool Refusal → List CanFrame
+receive_frames s room outcome = fd_frames (Receive s) (told (taken_reply room) outcome)

@@ -1,8 +1,9 @@
 ghost use Rattle.std.specs.Prelude.{◌≡◌, ◌<◌, ◌≤◌, ◌/◌, ◌%◌, ◌++◌, List, length, vec_capacity, false, IsTrue, Some};
 ghost use Rattle.can_event.specs.declared.events.Event.TheVariants as asked;
 ghost use Rattle.can_event.specs.declared.events.Reply.TheVariants as answer;
+ghost use Rattle.can_event.specs.Replies.{taken_reply, told};
 ghost use Rattle.can_frame.specs.Frames.{CanFrame};
-ghost use Rattle.can_packed.specs.Kept.{entry_in, frames_needed, frame_kept, frames_needed_for, fd_frames, fd_frames_of, fd_frames_of_item, IsShort, stamp_moment, stamp_winner, stamp_len, stamp_off};
+ghost use Rattle.can_packed.specs.Kept.{entry_in, frames_needed, frame_kept, frames_needed_for, fd_frames, fd_frames_of, fd_frames_of_item, receive_entry, receive_frames, IsShort, stamp_moment, stamp_winner, stamp_len, stamp_off};
 ghost use Rattle.can_packed.specs.Verdicts.{class_in, verdict_in, verdict_set};
 ghost use Rattle.can_packed.specs.Wide.{is_wide, is_large, is_off_alone};
 
@@ -10,7 +11,7 @@ use crate::frame_words::frame_words;
 use crate::kept::{Kept, KeptFrame};
 use crate::verdicts::{class_number, verdict_number, verdict_set};
 use can_attempt::Class;
-use can_event::{Event, Opt, Received, Reply, SocketId, Tried};
+use can_event::{Event, Opt, Received, Refusal, Reply, SocketId, Tried};
 use can_fault::Verdict;
 use can_frame::{Frame, Iface, IfaceSet, Item, Moment};
 
@@ -126,6 +127,28 @@ fn received(frames: &mut Vec<Frame>, id: SocketId, reply: &Reply) -> Kept
         Reply::Received(None) => Kept::NothingReceived(id),
         Reply::Refused(why) => Kept::ReceiveRefused(id, *why),
         _ => unreachable!(),
+    }
+}
+
+/// The entry of a receive, which took an item into the room, or took none, or was refused.
+#[inline(always)]
+pub fn packed_receive(
+    frames: &mut Vec<Frame>,
+    id: SocketId,
+    outcome: Result<bool, Refusal>,
+    room: &Received,
+) -> Kept
+    requires fits { is_wide (asked.Receive id) (told (taken_reply room.now) outcome) ≡ false }
+    requires room { length frames.old.items < vec_capacity frames.old }
+    ensures entry { entry_in frames.new.items result ≡ receive_entry id room.now outcome }
+    ensures within { frames_needed result ≤ length frames.new.items }
+    ensures frames { frames.new.items ≡ frames.old.items ++ receive_frames id room.now outcome }
+    ensures memory { vec_capacity frames.old ≤ vec_capacity frames.new }
+{
+    match outcome {
+        Ok(true) => item_received(frames, id, room),
+        Ok(false) => Kept::NothingReceived(id),
+        Err(why) => Kept::ReceiveRefused(id, why),
     }
 }
 

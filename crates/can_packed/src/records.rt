@@ -1,14 +1,16 @@
 ghost use Rattle.std.specs.Prelude.{◌≡◌, ◌<◌, ◌≤◌, ◌+◌, false, [], ◌∷◌, ◌++◌, length, slice_get, IfOk, IfSome, IsOk, OnOk};
 ghost use Rattle.std.specs.Option.{option_map};
-ghost use Rattle.can_packed.specs.Kept.{entry_in, frames_needed};
+ghost use Rattle.can_event.specs.Replies.{taken_reply, told};
+ghost use Rattle.can_event.specs.declared.events.Event.TheVariants as asked;
+ghost use Rattle.can_packed.specs.Kept.{entry_in, frames_needed, receive_entry};
 ghost use Rattle.can_packed.specs.Stored.{entry_stored, IsStored};
 ghost use Rattle.can_packed.specs.Wide.{is_wide};
 
 use crate::kept::Kept;
 use crate::looked::Looked;
-use crate::packing::packed;
+use crate::packing::{packed, packed_receive};
 use crate::stored::Stored;
-use can_event::{Entry, Event, Reply};
+use can_event::{Entry, Event, Received, Refusal, Reply, SocketId};
 use can_frame::Frame;
 use std::alloc::{AllocError, Global};
 use std::marker::Model;
@@ -82,6 +84,18 @@ impl PackedRecord {
         ensures room { self.old.room ≤ self.new.room }
     {
         let kept = packed(&mut self.frames, event, reply);
+        let _ = self.entries.push(kept);
+    }
+
+    /// Adds a receive that is not wide: it took an item into the room, or took none, or was refused. No memory is taken.
+    #[inline(always)]
+    pub fn push_receive(&mut self, id: SocketId, outcome: Result<bool, Refusal>, room: &Received)
+        requires room { length self.old.entries < self.old.room }
+        requires fits { is_wide (asked.Receive id) (told (taken_reply room.now) outcome) ≡ false }
+        ensures more { self.new.entries ≡ self.old.entries ++ receive_entry id room.now outcome ∷ [] }
+        ensures room { self.old.room ≤ self.new.room }
+    {
+        let kept = packed_receive(&mut self.frames, id, outcome, room);
         let _ = self.entries.push(kept);
     }
 
