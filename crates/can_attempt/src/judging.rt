@@ -137,9 +137,8 @@ fn others(count: u8, one: Iface) -> IfaceSet
     IfaceSet(all ^ (1 << one.number()))
 }
 
-/// Judges an attempt in which nothing can go wrong: the others accept the frame, and all counts stay.
-/// No interface is looked at.
-pub fn judge_calm(nodes: &Nodes, winner: Iface) -> Judgement
+/// What follows where nothing can go wrong: the others accept the frame, and all counts stay.
+fn judge_calm(nodes: &Nodes, winner: Iface) -> Judgement
     requires count { nodes.now.count ≤ 16 }
     requires there { winner < nodes.now.count }
     ensures { IsCalmJudgement nodes.now winner result }
@@ -153,9 +152,9 @@ pub fn judge_calm(nodes: &Nodes, winner: Iface) -> Judgement
     }
 }
 
-/// Judges an attempt as `judge` does, and looks at each interface also where nothing can go wrong.
+/// What follows where each interface has to be looked at.
 #[inline(never)]
-pub fn judge_each(nodes: &Nodes, winner: Iface, verdict: Verdict, ack: AckMode) -> Judgement
+fn judge_each(nodes: &Nodes, winner: Iface, verdict: Verdict, ack: AckMode) -> Judgement
     requires count { nodes.now.count ≤ 16 }
     requires there { winner < nodes.now.count }
     requires live { is_off (state_of (counts_at nodes.now winner)) ≡ false }
@@ -182,7 +181,25 @@ pub fn judge(nodes: &Nodes, winner: Iface, verdict: Verdict, ack: AckMode) -> Ju
     requires live { is_off (state_of (counts_at nodes.now winner)) ≡ false }
     ensures { result ≡ judged (attempt_between nodes.now winner verdict ack) }
 {
-    if is_calm(nodes, verdict, ack) {
+    let is_calm = is_calm(nodes, verdict, ack);
+    judge_asked(nodes, winner, verdict, ack, is_calm)
+}
+
+/// Judges an attempt as `judge` does, where it was asked before whether nothing can go wrong (`is_calm`).
+pub fn judge_asked(
+    nodes: &Nodes,
+    winner: Iface,
+    verdict: Verdict,
+    ack: AckMode,
+    is_calm: bool,
+) -> Judgement
+    requires count { nodes.now.count ≤ 16 }
+    requires there { winner < nodes.now.count }
+    requires live { is_off (state_of (counts_at nodes.now winner)) ≡ false }
+    requires calm { IsTrue is_calm → IsCalm nodes.now verdict ack }
+    ensures { result ≡ judged (attempt_between nodes.now winner verdict ack) }
+{
+    if is_calm {
         judge_calm(nodes, winner)
     } else {
         judge_each(nodes, winner, verdict, ack)

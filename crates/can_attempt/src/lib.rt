@@ -16,5 +16,5 @@ mod surveys;
 pub use acks::AckMode;
 pub use classes::Class;
 pub use judgements::Judgement;
-pub use judging::{is_calm, judge, judge_calm, judge_each};
+pub use judging::{is_calm, judge, judge_asked};
 pub use nodes::Nodes;
