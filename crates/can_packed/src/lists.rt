@@ -132,7 +132,7 @@ impl PackedList {
 }
 
 /// The reply to a receive, which took an item into the room, or took none, or was refused.
-fn receive_reply(outcome: Result<bool, Refusal>, room: &Received) -> Reply
+pub fn receive_reply(outcome: Result<bool, Refusal>, room: &Received) -> Reply
     ensures { result ≡ told (taken_reply room.now) outcome }
 {
     match outcome {

@@ -4,10 +4,11 @@ use Rattle.can_event.specs.declared.events.Received.{Received}
 use Rattle.can_event.specs.declared.events.Refusal.{Refusal}
 use Rattle.can_event.specs.declared.events.Refusal.TheVariants as refusal
 use Rattle.can_event.specs.declared.events.SocketId.{SocketId}
+use Rattle.can_event.specs.Replies.{taken_reply}
 use Rattle.can_bus.specs.Answer.{Answers}
 use Rattle.can_bus.specs.Journal.{Journal}
 use Rattle.can_bus.specs.Run.{IsAnswer, history_after}
-use Rattle.can_station.specs.Received.{receive_reply, taken_reply}
+use Rattle.can_station.specs.Held.{receive_reply}
 
 -- What a bus's receive into a room says of its reply.
 

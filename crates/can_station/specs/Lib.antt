@@ -1,4 +1,3 @@
-pub mod Received
 pub mod Held
 pub mod Waits
 pub mod Marks

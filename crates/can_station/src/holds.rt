@@ -1,16 +1,16 @@
 ghost use Rattle.std.specs.Prelude.{◌≡◌, ◌≢◌, Ok, true, reverse, IfOk};
 ghost use Rattle.can_bus.specs.Run.{history_after};
 ghost use Rattle.can_bus.specs.Answer.{told_attempt};
+ghost use Rattle.can_event.specs.Replies.{taken_reply};
 ghost use Rattle.can_event.specs.declared.events.Event.TheVariants as event;
-ghost use Rattle.can_station.specs.Held.{held_after, slip_after};
+ghost use Rattle.can_station.specs.Held.{held_after, receive_reply, slip_after};
 ghost use Rattle.can_station.specs.Passes.{IsAnsweredIn, IsReady, IsReadyFor, Suits, Called, Made, next_attempt, same};
-ghost use Rattle.can_station.specs.Received.{receive_reply, taken_reply};
 ghost use Rattle.can_station.specs.Waits.{has_work};
 
 use crate::attempts::attempt_in;
 use crate::gates::{Gate, Point};
 use crate::passes::{Pass, keep, make_ready, make_ready_for};
-use crate::receiving::keep_receive;
+use crate::receives::keep_receive;
 use crate::refusals::StationRefusal;
 use crate::state::StationState;
 use crate::stations::Station;

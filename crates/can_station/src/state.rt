@@ -8,17 +8,15 @@ ghost use Rattle.can_bus.specs.Transmit.{tape};
 ghost use Rattle.can_event.specs.declared.events.Event.TheVariants as event;
 ghost use Rattle.can_meter.specs.Readings.{readings};
 ghost use Rattle.can_roll.specs.Seen.{roll_seen, slip_seen};
-ghost use Rattle.can_station.specs.Held.{held_after, lists_after, marks_after, slip_after, with_pass};
+ghost use Rattle.can_station.specs.Held.{held_after, lists_after, marks_after, receive_reply, slip_after, with_pass};
 ghost use Rattle.can_station.specs.Marks.{IsMarked};
 ghost use Rattle.can_station.specs.Passes.{AllOf, IsAnsweredIn, SomeOther, Settles, Suits};
-ghost use Rattle.can_station.specs.Received.{receive_reply};
 ghost use Rattle.can_station.specs.Published.{AllTrue, GaugesOf, SomeOtherGauge, IsPublished};
 ghost use Rattle.can_station.specs.Waits.{AreCounts, frame_wake, has_work, work_wake, stopped_wake, waiting_at};
 
 use crate::gauges::{absorb_all, are_gauges_of};
 use crate::passes::{Pass, Settled, are_all_of, recall_all};
 use crate::publishing::{counters_before, publish_changes};
-use crate::receiving::{receive_reply, stand_in};
 use crate::refusals::{TooManyPasses, WrongStation};
 use crate::rooms::{ROOMS, RoomSet, Sleeper, Sleepers};
 use crate::waits::Wake;
@@ -28,6 +26,7 @@ use can_bus::{
 use can_fault::{FaultSource, Verdict};
 use can_frame::{Iface, Moment};
 use can_meter::{Gauge, Keeper, MeterName};
+use can_packed::receive_reply;
 use can_roll::{Roll, RollBlank, RollName, Slip};
 use std::alloc::{AllocError, Global};
 use std::marker::Model;
@@ -174,7 +173,7 @@ impl<N: RollName + MeterName, F: FaultSource + Drop> StationState<N, F> {
         ensures slip { slip.new ≡ slip_after (event.Receive socket) (receive_reply room.new result) slip.old }
         ensures stays { result ≢ Ok true → room.new ≡ room.old }
     {
-        let outcome = stand_in(&mut self.bus, socket, room);
+        let outcome = self.bus.receive_into(socket, room);
         let event = Event::Receive(socket);
         let reply = receive_reply(outcome, room);
         book(&mut self.roll, &mut self.marks, slip, &event, &reply);
