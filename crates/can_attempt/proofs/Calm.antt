@@ -123,7 +123,8 @@ module _ (nodes : Nodes) (w : ℕ) (zeros : All (λ c. c ≡ at_start) nodes.cou
   none_hit : (a : AckMode) → hit (attempt_between nodes w verdict.Good a) ≡ []
   none_hit a = filter_never (is_named verdict.Good) (λ i. refl) (receivers (attempt_between nodes w verdict.Good a))
 
-  calm_class : (a : AckMode) → IsTrue (is_always a || nat_lt 1 nodes.count) → class_of (attempt_between nodes w verdict.Good a) ≡ class.Done
+  -- a calm attempt is done
+  pub calm_class : (a : AckMode) → IsTrue (is_always a || nat_lt 1 nodes.count) → class_of (attempt_between nodes w verdict.Good a) ≡ class.Done
   calm_class a some =
       let t : Transmission = attempt_between nodes w verdict.Good a in
       ap (λ (struck : List ℕ). class_when (list_any (λ i. not (is_passive (state_at t i))) struck) (is_acknowledged t) false) (none_hit a)

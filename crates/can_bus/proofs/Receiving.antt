@@ -1,4 +1,4 @@
-use Rattle.std.proofs.Common.{◌≡◌, ◌≢◌, ℕ, ◌+◌, ◌==◌, List, [], ◌∷◌, ◌++◌, length, drop, slice_get, Option, Some, None, Result, Ok, Err, refl, sym, ap, ◌∙◌}
+use Rattle.std.proofs.Common.{◌≡◌, ◌≢◌, ℕ, ◌+◌, ◌==◌, Bool, List, [], ◌∷◌, ◌++◌, length, drop, slice_get, Option, Some, None, Result, Ok, Err, refl, sym, ap, ◌∙◌}
 use Rattle.std.proofs.lemmas.Bool.{eq-eqb, ne_eqb, cond-true, cond-false}
 use Rattle.std.proofs.lemmas.List.{drop-drop, length_push}
 use Rattle.can_event.specs.declared.events.Entry.{Entry}
@@ -8,7 +8,10 @@ use Rattle.can_event.specs.declared.events.Refusal.{Refusal}
 use Rattle.can_event.specs.declared.events.SocketId.{SocketId}
 use Rattle.can_event.specs.declared.events.Event.TheVariants.{Receive}
 use Rattle.can_event.specs.declared.events.Reply.TheVariants as reply
-use Rattle.can_event.specs.Replies.{told}
+use Rattle.can_event.specs.Replies.{taken_item, taken_reply, told}
+use Rattle.can_packed.specs.Kept.{receive_entry}
+use Rattle.can_bus.specs.Answer.{Answers, received_into}
+use Rattle.can_bus.specs.Journal.{Journal}
 use Rattle.can_bus.specs.Sockets.{is_open}
 use Rattle.can_bus.specs.Queues.{taken_from, queued_to, dropped_at}
 use Rattle.can_bus.specs.Legal.{legal_reply}
@@ -68,3 +71,13 @@ received_follows c past s (Ok item) new gives =
     (kept_sockets-one c past (given s item) (kept_sockets c past) _ s.0 gives.place gives.socket (relieved item) refl refl gives.stands (other c past s item) (same c past s item) refl)
     gives.after
 received_follows c past s (Err why) new none = none_follows c past (Receive s) s.0 _ why new refl tt none
+
+-- the same of a receive into a room
+pub into_follows : (c : BusConfig) (past : List Entry) (s : SocketId) (room : Received) (outcome : Result Bool Refusal) (new : Parts) → Receives (kept_parts c past) s.0 (received_into room outcome) new → Follows c past (receive_entry s room outcome) new
+into_follows c past s room (Ok taken) new gives = received_follows c past s (Ok (taken_item room taken)) new gives
+into_follows c past s room (Err why) new none = received_follows c past s (Err why) new none
+
+-- what a receive into a room answers, as one that gives the item
+pub answers_item : (old new : Journal) (s : SocketId) (room : Received) (outcome : Result Bool Refusal) → Answers (taken_reply room) old (Receive s) outcome new → Answers reply.Received old (Receive s) (received_into room outcome) new
+answers_item old new s room (Ok taken) answers = answers
+answers_item old new s room (Err why) answers = answers

@@ -1,12 +1,14 @@
-use Rattle.std.specs.Prelude.{◌≡◌, ◌<◌, ◌≤◌, ◌∷◌, length, Result, Ok, Err}
+use Rattle.std.specs.Prelude.{◌≡◌, ◌<◌, ◌≤◌, ◌∷◌, length, Bool, Option, Result, Ok, Err}
 use Rattle.can_event.specs.declared.events.Attempt.{Attempt}
 use Rattle.can_event.specs.declared.events.Attempt.TheVariants as attempt
 use Rattle.can_event.specs.declared.events.Event.{Event}
 use Rattle.can_event.specs.declared.events.Event.TheVariants.{Open, SetFilters}
+use Rattle.can_event.specs.declared.events.Received.{Received}
 use Rattle.can_event.specs.declared.events.Reply.{Reply}
 use Rattle.can_event.specs.declared.events.Reply.TheVariants as reply
 use Rattle.can_event.specs.declared.events.Refusal.{Refusal}
 use Rattle.can_event.specs.declared.events.Refusal.TheVariants as refusal
+use Rattle.can_event.specs.Replies.{taken_item}
 use Rattle.can_bus.specs.Journal.{Journal}
 use Rattle.can_bus.specs.Legal.{legal_reply}
 
@@ -39,3 +41,8 @@ told_attempt (attempt.Tried t) = reply.Tried t
 
 abbrev pub done_reply : Unit {0} → Reply
 done_reply done = reply.Done
+
+-- what a receive into this room came to, with the item
+abbrev pub received_into : {E : Type 0} → Received → Result Bool E → Result (Option Received) E
+received_into room (Ok taken) = Ok (taken_item room taken)
+received_into room (Err why) = Err why

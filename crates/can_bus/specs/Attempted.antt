@@ -15,6 +15,9 @@ pub record Outcome : Type 0 where
   pub ack : AckMode
   pub nodes : Nodes
 
+abbrev pub outcome_of : Tried → Verdict → AckMode → Nodes → Outcome
+outcome_of t v a nodes = record { tried = t; verdict = v; ack = a; nodes = nodes }
+
 -- the attempt
 abbrev pub transmission_of : Outcome → Transmission
 transmission_of o = attempt_between o.nodes o.tried.winner o.verdict o.ack

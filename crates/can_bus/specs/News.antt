@@ -6,7 +6,7 @@ use Rattle.can_errframe.specs.ErrorMessages.{state_message}
 use Rattle.can_event.specs.declared.events.Pending.{Pending}
 use Rattle.can_event.specs.declared.events.Tried.{Tried}
 use Rattle.can_bus.specs.Attempted.{Outcome, transmission_of}
-use Rattle.can_bus.specs.Posts.{Post, data_posts, error_posts, fault_message_for, role_at}
+use Rattle.can_bus.specs.Posts.{Post, attempt_posts, data_posts, error_posts, fault_message_for, role_at}
 
 -- What an attempt puts to the sockets of each interface, in two parts.
 
@@ -19,3 +19,7 @@ abbrev pub fault_posts : IfaceSet → Outcome → ℕ → List Post
 fault_posts reporting o i =
     (if is_in i reporting then error_posts i o.tried.moment (fault_message_for o.tried.class o.verdict (role_at (transmission_of o) i)) else [])
     ++ error_posts i o.tried.moment (state_message ((transmission_of o).counts i) (counts_after (transmission_of o) i))
+
+-- all of it
+abbrev pub outcome_posts : IfaceSet → Outcome → Pending → ℕ → List Post
+outcome_posts reporting o p = attempt_posts reporting (transmission_of o) o.tried (Some p)

@@ -39,9 +39,13 @@ abbrev pub sender_in : Option Pending → Option ℕ
 sender_in None = None
 sender_in (Some p) = Some p.socket.0
 
--- a frame that was tried is put to the interfaces that accepted it, and looped back to the winner's
+-- a frame that was tried goes to the interfaces that accepted it, and to the winner's where it is looped back
+abbrev pub goes_to : ℕ → Tried → Bool → Bool
+goes_to i t looped_back = is_in i t.accepted || ((i == t.winner) && looped_back)
+
+-- a frame that was tried is put to the interfaces that it goes to
 abbrev pub data_posts : ℕ → Tried → Option Pending → List Post
-data_posts i t p = if is_in i t.accepted || ((i == t.winner) && is_looped_back t.class p) then record { received = tried_item t; sender = sender_in p } ∷ [] else []
+data_posts i t p = if goes_to i t (is_looped_back t.class p) then record { received = tried_item t; sender = sender_in p } ∷ [] else []
 
 -- an error message frame of interface i: it comes from nobody else, and has no number
 abbrev pub error_posts : ℕ → ℕ → Option ErrorMessage → List Post

@@ -4,10 +4,11 @@ ghost use Rattle.can_confine.specs.Confinement.{at_start};
 ghost use Rattle.can_attempt.specs.Attempts.{counts_at};
 ghost use Rattle.can_bus.specs.Changes.{AreReady, Attempts, Restarts, Tries, after_auto_restart, begun_anew};
 
+use crate::outcomes::Attempted;
 use crate::state::State;
 use crate::{lines, posting};
 use can_arbiter::Arbiter;
-use can_attempt::{Judgement, Nodes, judge};
+use can_attempt::{Judgement, Nodes, is_calm, judge_asked};
 use can_confine::Counters;
 use can_event::{Attempt, BusConfig, Pending, Received, Refusal, Reply, Tried};
 use can_fault::Verdict;
@@ -81,7 +82,8 @@ impl<T: BoundedQueue<Pending>, R: BoundedQueue<Received>, A: Arbiter> State<T, R
         let winner = self.arbiter.winner()?;
         let line = &self.lines[winner.number() as usize];
         let pending = line.head()?;
-        let judgement = judge(&self.nodes, winner, verdict, config.ack);
+        let is_calm = is_calm(&self.nodes, verdict, config.ack);
+        let judgement = judge_asked(&self.nodes, winner, verdict, config.ack, is_calm);
         let tried = tried_as(moment, winner, line.gone(), &pending, &judgement, restarted);
         let is_off = tried.off.contains(winner);
         lines::settle(
@@ -92,14 +94,13 @@ impl<T: BoundedQueue<Pending>, R: BoundedQueue<Received>, A: Arbiter> State<T, R
             is_off,
         );
         self.countdown.start(winner, config.auto_restart, is_off);
+        let attempted = Attempted::new(&tried, verdict, config.ack, &self.nodes, &judgement);
         posting::tell_attempt(
             &mut self.sockets,
-            &self.nodes,
-            config,
-            verdict,
-            &tried,
+            &attempted,
             &pending,
-            &judgement,
+            config.reporting,
+            is_calm,
         );
         self.nodes.counters = judgement.counters;
         self.tried += 1;

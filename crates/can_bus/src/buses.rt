@@ -1,9 +1,10 @@
-ghost use Rattle.std.specs.Prelude.{◌≡◌, ◌<◌, [], length, IfOk, OnOk, ◌↔◌};
+ghost use Rattle.std.specs.Prelude.{◌≡◌, ◌≢◌, ◌<◌, true, [], length, Ok, IfOk, OnOk, ◌↔◌};
 ghost use Rattle.can_bus.specs.Answer.{Answers, done_reply, told_attempt};
 ghost use Rattle.can_bus.specs.Attempts.{winner};
 ghost use Rattle.can_bus.specs.AutoRestart.{is_counting};
 ghost use Rattle.can_bus.specs.Headline.{Headline};
 ghost use Rattle.can_event.specs.Events.{IsConfig};
+ghost use Rattle.can_event.specs.Replies.{taken_reply};
 ghost use Rattle.can_bus.specs.Legal.{IsLegal};
 ghost use Rattle.can_bus.specs.Run.{IsAnswered};
 ghost use Rattle.can_bus.specs.Stats.{socket_stats_of, iface_stats_of, all_counts};
@@ -12,7 +13,7 @@ ghost use Rattle.can_event.specs.declared.events.Event.TheVariants as event;
 ghost use Rattle.can_event.specs.declared.events.Reply.TheVariants as reply;
 
 use crate::records::Record;
-use crate::replies::{attempt_reply, received_reply, sent_reply};
+use crate::replies::{attempt_reply, sent_reply};
 use crate::state::State;
 use can_arbiter::{Arbiter, IndexArbiter, ScanArbiter};
 use can_confine::Counters;
@@ -260,12 +261,24 @@ impl<T: BoundedQueue<Pending>, R: BoundedQueue<Received>, A: Arbiter> Bus<T, R, 
     pub fn receive(&mut self, id: SocketId) -> Result<Option<Received>, Refusal>
         ensures { Answers reply.Received self.old (event.Receive id) result self.new }
     {
+        let mut room = Received::nothing();
+        let taken = self.receive_into(id, &mut room)?;
+        Ok(taken.then_some(room))
+    }
+
+    /// Takes the oldest item of a socket into the room, and returns whether there was one: where nothing waits the room
+    /// stays.
+    ///
+    /// Refusals: `RecordFull`, `NoSocket`. The room stays then, too.
+    pub fn receive_into(&mut self, id: SocketId, room: &mut Received) -> Result<bool, Refusal>
+        ensures answer { Answers (taken_reply room.new) self.old (event.Receive id) result self.new }
+        ensures stays { result ≢ Ok true → room.new ≡ room.old }
+    {
         if self.record.is_full() {
             return Err(Refusal::RecordFull);
         }
-        let outcome = self.state.receive(id);
-        self.record
-            .push(&Event::Receive(id), &received_reply(&outcome));
+        let outcome = self.state.receive_into(id, room);
+        self.record.push_receive(id, outcome, room);
         outcome
     }
 

@@ -1,10 +1,13 @@
 ghost use Rattle.std.specs.Prelude.{◌≡◌, ◌<◌, ◌≤◌, false, [], ◌∷◌, ◌++◌, length, slice_get, vec_capacity, IfOk, IfSome};
 ghost use Rattle.std.specs.Option.{option_map};
 ghost use Rattle.can_bus.specs.Held.{entries_in, room_in};
+ghost use Rattle.can_event.specs.Replies.{taken_reply, told};
+ghost use Rattle.can_event.specs.declared.events.Event.TheVariants as asked;
+ghost use Rattle.can_packed.specs.Kept.{receive_entry};
 ghost use Rattle.can_packed.specs.Stored.{entry_stored, IsStored};
 ghost use Rattle.can_packed.specs.Wide.{is_wide};
 
-use can_event::{Entry, Event, Received, Reply};
+use can_event::{Entry, Event, Received, Refusal, Reply, SocketId};
 use can_frame::Item;
 use can_packed::{Looked, PackedRecord, Stored};
 use std::alloc::{AllocError, Global};
@@ -86,6 +89,21 @@ impl Held {
     {
         match self {
             Held::Packed(entries) => entries.push(event, reply),
+            // There is no room in a list that was handed in.
+            Held::Given(_) => unreachable!(),
+        }
+    }
+
+    /// Adds a receive that is not wide: it took an item into the room, or took none, or was refused. No memory is taken.
+    #[inline(always)]
+    pub fn push_receive(&mut self, id: SocketId, outcome: Result<bool, Refusal>, room: &Received)
+        requires room { length (entries_in self.old) < room_in self.old }
+        requires fits { is_wide (asked.Receive id) (told (taken_reply room.now) outcome) ≡ false }
+        ensures more { entries_in self.new ≡ entries_in self.old ++ receive_entry id room.now outcome ∷ [] }
+        ensures room { room_in self.old ≤ room_in self.new }
+    {
+        match self {
+            Held::Packed(entries) => entries.push_receive(id, outcome, room),
             // There is no room in a list that was handed in.
             Held::Given(_) => unreachable!(),
         }

@@ -1,7 +1,7 @@
-ghost use Rattle.std.specs.Prelude.{◌≡◌, ◌||◌, ◌&&◌, ◌==◌};
-ghost use Rattle.can_frame.specs.Sets.{is_in};
+ghost use Rattle.std.specs.Prelude.{◌≡◌, ◌&&◌};
 ghost use Rattle.can_bus.specs.Transmit.{is_done};
 ghost use Rattle.can_bus.specs.Attempted.{IsJudged};
+ghost use Rattle.can_bus.specs.Posts.{goes_to};
 
 use can_attempt::{AckMode, Class, Judgement, Nodes};
 use can_errframe::{Role, fault_frame, state_frame};
@@ -14,51 +14,49 @@ use std::marker::Model;
 ///
 /// Contracts see the attempt alone, since what followed is fixed by it.
 #[derive(Debug, Drop)]
-pub struct Attempted {
-    tried: Tried,
+pub struct Attempted<'a> {
+    tried: &'a Tried,
     verdict: Verdict,
     ack: AckMode,
-    nodes: Nodes,
-    judgement: Judgement,
+    nodes: &'a Nodes,
+    judgement: &'a Judgement,
 }
 
-impl Model for Attempted {
-    ghost use Rattle.can_bus.specs.Attempted.{Outcome, IsJudged};
+impl<'a> Model for Attempted<'a> {
+    ghost use Rattle.can_bus.specs.Attempted.{Outcome, IsJudged, outcome_of};
 
     ghost Value = { Outcome };
 
-    ghost view = { λ a. record { tried = a.tried; verdict = a.verdict; ack = a.ack; nodes = a.nodes } };
+    ghost view = { λ a. outcome_of a.tried.now a.verdict a.ack a.nodes.now };
 
-    ghost invariant = { λ a. IsJudged (record { tried = a.tried; verdict = a.verdict; ack = a.ack; nodes = a.nodes }) a.judgement };
+    ghost invariant = { λ a. IsJudged (outcome_of a.tried.now a.verdict a.ack a.nodes.now) a.judgement.now };
 }
 
 /// Whether a frame that was tried, and waited with this loopback option, is put to the sockets of an interface.
 pub fn is_posted(tried: &Tried, iface: Iface, loopback: bool) -> bool
-    ensures { result ≡ (is_in iface tried.now.accepted || ((iface == tried.now.winner) && (is_done tried.now.class && loopback))) }
+    ensures { result ≡ goes_to iface tried.now (is_done tried.now.class && loopback) }
 {
     tried.accepted.contains(iface)
         || (iface == tried.winner && matches!(tried.class, Class::Done) && loopback)
 }
 
-impl Attempted {
-    ghost use Rattle.std.specs.Prelude.{◌||◌, ◌&&◌, ◌==◌};
-    ghost use Rattle.can_frame.specs.Sets.{is_in};
+impl<'a> Attempted<'a> {
     ghost use Rattle.can_attempt.specs.Attempts.{counts_after};
     ghost use Rattle.can_errframe.specs.ErrorMessages.{state_message};
-    ghost use Rattle.can_bus.specs.Attempted.{transmission_of};
-    ghost use Rattle.can_bus.specs.Posts.{is_looped_back, role_at, fault_message_for};
+    ghost use Rattle.can_bus.specs.Attempted.{outcome_of, transmission_of};
+    ghost use Rattle.can_bus.specs.Posts.{goes_to, is_looped_back, role_at, fault_message_for};
 
     /// An attempt under these faults, where the interfaces were so before it, at most 16, and what `judge`
     /// answers of it.
     pub fn new(
-        tried: Tried,
+        tried: &'a Tried,
         verdict: Verdict,
         ack: AckMode,
-        nodes: Nodes,
-        judgement: Judgement,
-    ) -> Attempted
-        requires { IsJudged (record { tried = tried; verdict = verdict; ack = ack; nodes = nodes }) judgement }
-        ensures { result ≡ record { tried = tried; verdict = verdict; ack = ack; nodes = nodes } }
+        nodes: &'a Nodes,
+        judgement: &'a Judgement,
+    ) -> Attempted<'a>
+        requires { IsJudged (outcome_of tried.now verdict ack nodes.now) judgement.now }
+        ensures { result ≡ outcome_of tried.now verdict ack nodes.now }
     {
         Attempted {
             tried,
@@ -70,8 +68,8 @@ impl Attempted {
     }
 
     /// The frame that was tried, and what became of it.
-    pub fn tried(&self) -> Tried
-        ensures { result ≡ self.now.tried }
+    pub fn tried(&self) -> &Tried
+        ensures { result.now ≡ self.now.tried }
     {
         self.tried
     }
@@ -79,13 +77,13 @@ impl Attempted {
     /// Whether the frame, which waited so, is put to the sockets of an interface: one that accepted it, and
     /// its own where it is looped back.
     pub fn is_posted(&self, iface: Iface, pending: Option<Pending>) -> bool
-        ensures { result ≡ (is_in iface self.now.tried.accepted || ((iface == self.now.tried.winner) && is_looped_back self.now.tried.class pending)) }
+        ensures { result ≡ goes_to iface self.now.tried (is_looped_back self.now.tried.class pending) }
     {
         let loopback = match pending {
             Some(pending) => pending.loopback,
             None => false,
         };
-        is_posted(&self.tried, iface, loopback)
+        is_posted(self.tried, iface, loopback)
     }
 
     /// The part that an interface has in the attempt: none where it is bus off, or not there.

@@ -1,21 +1,16 @@
-ghost use Rattle.std.specs.Prelude.{◌≡◌, ◌<◌, ◌+◌, ◌^◌, All, IsTrue, Some, map};
-ghost use Rattle.can_confine.specs.Confinement.{at_start};
-ghost use Rattle.can_fault.specs.declared.verdicts.Verdict.TheVariants.{Good};
-ghost use Rattle.can_attempt.specs.Attempts.{attempt_between};
-ghost use Rattle.can_attempt.specs.declared.classes.Class.TheVariants.{Done};
-ghost use Rattle.can_bus.specs.Attempted.{IsJudged};
-ghost use Rattle.can_bus.specs.News.{fault_posts, frame_posts};
-ghost use Rattle.can_bus.specs.Posts.{restart_posts, attempt_posts, auto_restart_posts, error_posts};
+ghost use Rattle.std.specs.Prelude.{◌≡◌, ◌<◌, ◌+◌, ◌^◌, All, IsTrue, map};
+ghost use Rattle.can_attempt.specs.Attempts.{IsCalm, class_of};
+ghost use Rattle.can_bus.specs.Attempted.{transmission_of};
+ghost use Rattle.can_bus.specs.News.{fault_posts, frame_posts, outcome_posts};
+ghost use Rattle.can_bus.specs.Posts.{restart_posts, auto_restart_posts, error_posts};
 ghost use Rattle.can_event.specs.Events.{tried_item};
 ghost use Rattle.can_bus.specs.Queues.{passing};
 ghost use Rattle.can_bus.specs.State.{filled, reached};
 
 use crate::outcomes::{Attempted, is_posted};
 use crate::socket::Socket;
-use can_attempt::{Class, Judgement, Nodes};
 use can_errframe::restart_frame;
-use can_event::{BusConfig, Pending, Received, Tried};
-use can_fault::Verdict;
+use can_event::{Pending, Received, Tried};
 use can_frame::{ErrorFrame, Iface, IfaceSet, Item, Moment};
 use can_queue::BoundedQueue;
 
@@ -89,6 +84,7 @@ fn tell_faults_to<R: BoundedQueue<Received>>(
 }
 
 /// Puts the error message frames of an attempt to every socket.
+#[inline(never)]
 fn tell_faults<R: BoundedQueue<Received>>(
     sockets: &mut [Socket<R>],
     attempted: &Attempted,
@@ -102,51 +98,23 @@ fn tell_faults<R: BoundedQueue<Received>>(
     }
 }
 
-/// Puts the error message frames of an attempt with this judgement to every socket.
-#[inline(never)]
-fn tell_judged<R: BoundedQueue<Received>>(
-    sockets: &mut [Socket<R>],
-    nodes: &Nodes,
-    config: BusConfig,
-    verdict: Verdict,
-    tried: &Tried,
-    judgement: &Judgement,
-)
-    requires judged { IsJudged (record { tried = tried.now; verdict = verdict; ack = config.ack; nodes = nodes.now }) judgement.now }
-    requires dropped { All (λ v. v.dropped + 2 < 2 ^ 64) sockets.old }
-    ensures { sockets.new ≡ map (reached (fault_posts config.reporting (record { tried = tried.now; verdict = verdict; ack = config.ack; nodes = nodes.now }))) sockets.old }
-{
-    let attempted = Attempted::new(*tried, verdict, config.ack, *nodes, *judgement);
-    tell_faults(sockets, &attempted, config.reporting);
-}
-
-/// Whether an attempt of this class was without a fault and found all counts 0, so that it leaves them 0.
-fn is_calm(nodes: &Nodes, verdict: Verdict, class: Class) -> bool
-    ensures class { IsTrue result → class ≡ Done }
-    ensures verdict { IsTrue result → verdict ≡ Good }
-    ensures counters { IsTrue result → All (λ c. c ≡ at_start) nodes.now.counters }
-{
-    matches!(class, Class::Done) && matches!(verdict, Verdict::Good) && nodes.are_at_start()
-}
-
-/// Puts all items of an attempt with this judgement to every socket; `nodes` are the interfaces before it.
+/// Puts all items of an attempt to every socket; `pending` is the frame as it waited. Where nothing could go wrong
+/// (`is_calm`), nobody looks for faults.
 pub fn tell_attempt<R: BoundedQueue<Received>>(
     sockets: &mut [Socket<R>],
-    nodes: &Nodes,
-    config: BusConfig,
-    verdict: Verdict,
-    tried: &Tried,
+    attempted: &Attempted,
     pending: &Pending,
-    judgement: &Judgement,
+    reporting: IfaceSet,
+    is_calm: bool,
 )
-    requires judged { IsJudged (record { tried = tried.now; verdict = verdict; ack = config.ack; nodes = nodes.now }) judgement.now }
-    requires class { tried.now.class ≡ judgement.now.class }
+    requires class { attempted.now.tried.class ≡ class_of (transmission_of attempted.now) }
+    requires calm { IsTrue is_calm → IsCalm attempted.now.nodes attempted.now.verdict attempted.now.ack }
     requires dropped { All (λ v. v.dropped + 3 < 2 ^ 64) sockets.old }
-    ensures { sockets.new ≡ map (reached (attempt_posts config.reporting (attempt_between nodes.now tried.now.winner verdict config.ack) tried.now (Some pending.now))) sockets.old }
+    ensures { sockets.new ≡ map (reached (outcome_posts reporting attempted.now pending.now)) sockets.old }
 {
-    tell_frame(sockets, tried, pending);
-    if !is_calm(nodes, verdict, tried.class) {
-        tell_judged(sockets, nodes, config, verdict, tried, judgement);
+    tell_frame(sockets, attempted.tried(), pending);
+    if !is_calm {
+        tell_faults(sockets, attempted, reporting);
     }
 }
 

@@ -2,12 +2,15 @@ ghost use Rattle.std.specs.Prelude.{◌≡◌, ◌<◌, ◌≤◌, ◌==◌, fal
 ghost use Rattle.std.specs.Option.{option_map};
 ghost use Rattle.can_event.specs.Events.{IsConfig};
 ghost use Rattle.can_event.specs.Spelled.{IsSpelled, IsRecord};
+ghost use Rattle.can_event.specs.Replies.{taken_reply, told};
+ghost use Rattle.can_event.specs.declared.events.Event.TheVariants as asked;
+ghost use Rattle.can_packed.specs.Kept.{receive_entry};
 ghost use Rattle.can_packed.specs.Stored.{entry_stored, IsStored};
 ghost use Rattle.can_packed.specs.Wide.{is_wide};
 
 use crate::entries::Entries;
 use crate::held::Held;
-use can_event::{BusConfig, Entry, Event, Reply, is_spelled};
+use can_event::{BusConfig, Entry, Event, Received, Refusal, Reply, SocketId, is_spelled};
 use can_packed::{Looked, Stored};
 use std::alloc::{AllocError, Global};
 use std::marker::Model;
@@ -153,6 +156,22 @@ impl Record {
         ensures { IsLonger self.old (record { event = event.now; reply = reply.now }) self.new }
     {
         self.held.push(event, reply);
+    }
+
+    /// Adds a receive that is not wide: it took an item into the room, or took none, or was refused. No memory is taken.
+    #[inline(always)]
+    pub(crate) fn push_receive(
+        &mut self,
+        id: SocketId,
+        outcome: Result<bool, Refusal>,
+        room: &Received,
+    )
+        requires room { length self.old.history < self.old.room }
+        requires spelled { IsSpelled self.old.config (receive_entry id room.now outcome) }
+        requires fits { is_wide (asked.Receive id) (told (taken_reply room.now) outcome) ≡ false }
+        ensures { IsLonger self.old (receive_entry id room.now outcome) self.new }
+    {
+        self.held.push_receive(id, outcome, room);
     }
 
     /// Adds an entry, which keeps its memory. No other is taken.

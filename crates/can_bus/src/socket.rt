@@ -1,8 +1,9 @@
-ghost use Rattle.std.specs.Prelude.{◌≡◌, ◌+◌, ◌<◌, ◌^◌, ◌≤◌, [], ◌∷◌, ◌++◌, length, slice_get, IfOk, Some, None, Err, ◌≢◌};
+ghost use Rattle.std.specs.Prelude.{◌≡◌, ◌+◌, ◌<◌, ◌^◌, ◌≤◌, [], ◌∷◌, ◌++◌, length, slice_get, IfOk, Some, None, Err, ◌≢◌, false};
 ghost use Rattle.can_bus.specs.Changes.{fresh, relieved};
 ghost use Rattle.can_bus.specs.Legal.{lacks_fd};
 ghost use Rattle.can_bus.specs.Queues.{passing};
 ghost use Rattle.can_event.specs.Events.{with_option};
+ghost use Rattle.can_event.specs.Replies.{taken_item};
 ghost use Rattle.can_bus.specs.State.{filled};
 ghost use Rattle.std.specs.Option.{option_map};
 ghost use Rattle.can_event.specs.declared.events.SocketId.{SocketId};
@@ -100,19 +101,20 @@ impl<R: BoundedQueue<Received>> Socket<R> {
         self.options = option.set_in(self.options);
     }
 
-    /// Gives the oldest item.
-    pub fn receive(&mut self) -> Option<Received>
+    /// Takes the oldest item into the room, if there is one. Returns whether there was.
+    pub fn receive_into(&mut self, room: &mut Received) -> bool
         requires { self.old.taken + 1 < 2 ^ 64 }
-        ensures taken { result ≡ slice_get self.old.waiting 0 }
-        ensures rest { self.new ≡ relieved result self.old }
+        ensures taken { taken_item room.new result ≡ slice_get self.old.waiting 0 }
+        ensures rest { self.new ≡ relieved (taken_item room.new result) self.old }
+        ensures stays { result ≡ false → room.new ≡ room.old }
     {
-        match self.queue.pop() {
-            Some(received) => {
-                self.taken += 1;
-                Some(received)
-            }
-            None => None,
-        }
+        let Some(item) = self.queue.front() else {
+            return false;
+        };
+        *room = *item;
+        let _ = self.queue.pop();
+        self.taken += 1;
+        true
     }
 
     pub fn counts(&self) -> Closed

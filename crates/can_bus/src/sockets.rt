@@ -1,5 +1,6 @@
-ghost use Rattle.std.specs.Prelude.{◌≡◌, ◌+◌, ◌<◌, ◌^◌, ◌==◌, All, IfSome, IfNone, IsSomeAnd, slice_get, length, false};
+ghost use Rattle.std.specs.Prelude.{◌≡◌, ◌+◌, ◌<◌, ◌^◌, ◌==◌, All, IfSome, IfNone, IsSomeAnd, slice_get, length, true, false, Ok, ◌≢◌};
 ghost use Rattle.std.specs.List.{list_any};
+ghost use Rattle.can_bus.specs.Answer.{received_into};
 ghost use Rattle.can_bus.specs.Changes.{Receives, Sets, Refilters, Closes, Opens};
 ghost use Rattle.can_event.specs.Events.{with_option};
 ghost use Rattle.can_bus.specs.Stats.{TellsSocket};
@@ -95,16 +96,27 @@ impl<T: BoundedQueue<Pending>, R: BoundedQueue<Received>, A: Arbiter> State<T, R
         Reply::Done
     }
 
-    /// Gives the oldest item of a socket.
-    pub fn receive(&mut self, id: SocketId) -> Result<Option<Received>, Refusal>
+    /// Takes the oldest item of a socket into the room, if there is one. Returns whether there was.
+    pub fn receive_into(&mut self, id: SocketId, room: &mut Received) -> Result<bool, Refusal>
         requires { All (λ v. v.taken + 1 < 2 ^ 64) self.old.sockets }
-        ensures { Receives self.old id.0 result self.new }
+        ensures receives { Receives self.old id.0 (received_into room.new result) self.new }
+        ensures stays { result ≢ Ok true → room.new ≡ room.old }
     {
         let Some(k) = find(&self.sockets, id) else {
             return Err(Refusal::NoSocket);
         };
         let socket = &mut self.sockets[k];
-        Ok(socket.receive())
+        Ok(socket.receive_into(room))
+    }
+
+    /// Gives the oldest item of a socket.
+    pub fn receive(&mut self, id: SocketId) -> Result<Option<Received>, Refusal>
+        requires { All (λ v. v.taken + 1 < 2 ^ 64) self.old.sockets }
+        ensures { Receives self.old id.0 result self.new }
+    {
+        let mut room = Received::nothing();
+        let taken = self.receive_into(id, &mut room)?;
+        Ok(taken.then_some(room))
     }
 
     /// The counts of an open socket.

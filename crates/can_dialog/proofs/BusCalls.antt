@@ -1,5 +1,5 @@
 -- A bus's reply to an event, as the step of a port.
-use Rattle.std.proofs.Common.{◌≡◌, Ok, Err, refl}
+use Rattle.std.proofs.Common.{◌≡◌, Bool, Result, Ok, Err, refl}
 use Rattle.can_event.specs.declared.events.Event.{Event}
 use Rattle.can_event.specs.declared.events.Event.TheVariants as event
 use Rattle.can_event.specs.declared.events.Reply.{Reply}
@@ -7,13 +7,17 @@ use Rattle.can_event.specs.declared.events.Reply.TheVariants as reply
 use Rattle.can_event.specs.declared.events.Refusal.{Refusal}
 use Rattle.can_event.specs.declared.events.Refusal.TheVariants as refusal
 use Rattle.can_bus.specs.Journal.{Journal}
-use Rattle.can_bus.specs.Answer.{Noted, Refuses, done_reply, told_attempt}
+use Rattle.can_event.specs.declared.events.Received.{Received}
+use Rattle.can_event.specs.declared.events.SocketId.{SocketId}
+use Rattle.can_event.specs.Replies.{taken_item, taken_reply}
+use Rattle.can_bus.specs.Answer.{Answers, Noted, Refuses, done_reply, received_into, told_attempt}
 use Rattle.can_bus.specs.Run.{IsAnswer, history_after}
 use Rattle.can_bus.proofs.Fitting.{legal_is_spelled}
 use Rattle.can_event.specs.declared.events.Attempt.TheVariants as attempt
 use Rattle.can_dialog.specs.declared.port.PortRefusal.TheVariants as port
-use Rattle.can_dialog.specs.BusSteps.{NamedBus, BusStep, IsEvent}
+use Rattle.can_dialog.specs.BusSteps.{NamedBus, BusStep, IsEvent, passed_on}
 use Rattle.can_dialog.specs.Calls.{Gives}
+use Rattle.can_dialog.specs.Calls.Call.{Receive}
 
 -- a refusal of the bus
 refuses : (old new : Journal) (e : Event) (why : Refusal) → IsAnswer old.config old.history e (reply.Refused why) → new ≡ record old { history = history_after e (reply.Refused why) old.history } → Refuses old e why new
@@ -47,3 +51,9 @@ module _ (old new : NamedBus) (names : new.names ≡ old.names) where
   gives (event.Attempt moment verdict) (reply.Refused why) a is = refused told_attempt why _ a is
   gives e (reply.Refused why) a is = refused done_reply why _ a is
   gives e r a is = absurd (legal_is_spelled old.journal.config old.journal.history e r a.1)
+
+-- a receive into a room is the event
+pub receives_into : (old new : NamedBus) (s : SocketId) (room : Received) (outcome : Result Bool Refusal) → Answers (taken_reply room) old.journal (event.Receive s) outcome new.journal → new.names ≡ old.names
+    → BusStep old (Receive s) (received_into room (passed_on outcome)) new
+receives_into old new s room (Ok taken) answers names = (Ok (taken_item room taken), refl, answers, names)
+receives_into old new s room (Err why) answers names = (Err why, refl, answers, names)

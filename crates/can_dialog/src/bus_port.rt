@@ -112,13 +112,17 @@ impl<T: BoundedQueue<Pending>, R: BoundedQueue<Received>, A: Arbiter> Port for B
         }
     }
 
-    // The two calls that a session makes most, without an event and a reply between.
+    // The calls that a session makes most, without an event and a reply between.
     fn send(&mut self, socket: SocketId, frame: Frame) -> Result<u64, PortRefusal> {
         pass_on(self.bus.send(socket, frame))
     }
 
     fn receive(&mut self, socket: SocketId) -> Result<Option<Received>, PortRefusal> {
         pass_on(self.bus.receive(socket))
+    }
+
+    fn receive_into(&mut self, socket: SocketId, room: &mut Received) -> Result<bool, PortRefusal> {
+        pass_on(self.bus.receive_into(socket, room))
     }
 
     fn socket_stats(&mut self, socket: SocketId) -> Option<SocketStats> {

@@ -41,6 +41,7 @@ impl PortRefusal {
 /// together; each call is one such step. A port may take memory. An implementation writes `call`, `attach`, the two
 /// counts and the status; the calls that are named for an event make it by `call`.
 pub trait Port {
+    ghost use Rattle.can_bus.specs.Answer.{received_into};
     ghost use Rattle.can_dialog.specs.Calls.{Call, Reply, Steps};
     ghost use Rattle.can_dialog.specs.Calls.Call.{Attach, Open, Close, SetFilters, SetOption, Send, Receive, Restart, CountsOfSocket, CountsOfIface, CountersOfIface};
 
@@ -119,6 +120,19 @@ pub trait Port {
             Reply::Received(item) => Ok(item),
             Reply::Refused(why) => Err(PortRefusal::Bus(why)),
             _ => unreachable!(),
+        }
+    }
+
+    /// Takes the oldest item of a socket into the room, and returns whether there was one.
+    fn receive_into(&mut self, socket: SocketId, room: &mut Received) -> Result<bool, PortRefusal>
+        ensures { step self.old (Receive socket) (received_into room.new result) self.new }
+    {
+        match self.receive(socket)? {
+            Some(item) => {
+                *room = item;
+                Ok(true)
+            }
+            None => Ok(false),
         }
     }
 

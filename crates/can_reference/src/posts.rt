@@ -161,7 +161,7 @@ fn tried_posts(
     };
     let sent = sent_by(alloc, past, tried.winner)?;
     let pending = frame_at(&sent, tried.number as usize);
-    let attempted = Attempted::new(*tried, verdict, config.ack, nodes, judgement);
+    let attempted = Attempted::new(tried, verdict, config.ack, &nodes, &judgement);
     let mut posts = attempt_posts(alloc, config.reporting, &attempted, pending, iface)?;
     put_restarted(&mut posts, tried.restarted, moment, iface)?;
     Ok(posts)

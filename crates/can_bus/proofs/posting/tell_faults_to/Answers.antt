@@ -13,7 +13,7 @@ pub post_error-requires-2 : goal.post_error-requires-2
 post_error-requires-2 g c =
     let v = c.args.socket.now in
     elim c.if-contains.branch [
-      | then-contains w ↦ omega (arith, c.requires, ap (λ (u : SocketState). u.dropped) w.socket-is, filled-dropped v w.post_error.new.socket (error_posts v.iface c.tried-moment.result.moment w.fault_at.result) w.post_error.ensures, error_posts-le v.iface c.tried-moment.result.moment w.fault_at.result)
+      | then-contains w ↦ omega (arith, c.requires, ap (λ (u : SocketState). u.dropped) w.socket-is, filled-dropped v w.post_error.new.socket (error_posts v.iface c.tried.result.now.moment w.fault_at.result) w.post_error.ensures, error_posts-le v.iface c.tried.result.now.moment w.fault_at.result)
       | else-contains w ↦ omega (arith, c.requires, ap (λ (u : SocketState). u.dropped) w.socket-is)
     ]
 
@@ -21,7 +21,7 @@ pub returns : goal.returns
 returns g c =
     let o = c.args.attempted.now in
     let v = c.args.socket.now in
-    let m : c.tried-moment.result.moment ≡ o.tried.moment = ap (λ (u : Tried). u.moment) c.tried-moment.ensures in
+    let m : c.tried.result.now.moment ≡ o.tried.moment = ap (λ (u : Tried). u.moment) c.tried.ensures in
     let last : c.post_error-2.new.socket ≡ filled c.if-contains.socket (wanted c.if-contains.socket (error_posts c.if-contains.socket.iface o.tried.moment c.state_change_at.result)) =
     c.post_error-2.ensures ∙ ap (λ (k : ℕ). filled c.if-contains.socket (wanted c.if-contains.socket (error_posts c.if-contains.socket.iface k c.state_change_at.result))) m in
     elim c.if-contains.branch [

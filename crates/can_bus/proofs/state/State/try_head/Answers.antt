@@ -1,8 +1,10 @@
 use Rattle.std.proofs.Common.{◌≡◌, ℕ, ◌<◌, ◌≤◌, ◌+◌, ◌^◌, Bool, length, map, take, drop, ◌++◌, slice_get, slice_set, Some, All, ◌∙◌, arith, sym, ap, refl, subst}
-use Rattle.can_attempt.specs.Attempts.{attempt_between, judged}
+use Rattle.can_attempt.specs.Attempts.{IsCalm, attempt_between, class_of, judged}
 use Rattle.can_attempt.specs.declared.judgements.Judgement.{Judgement}
 use Rattle.can_event.specs.declared.events.Tried.{Tried}
+use Rattle.can_bus.specs.Attempted.{Outcome, outcome_of, transmission_of}
 use Rattle.can_bus.specs.Changes.{Carries, settled, after_try, counting_down}
+use Rattle.can_bus.specs.News.{outcome_posts}
 use Rattle.can_bus.specs.Posts.{attempt_posts}
 use Rattle.can_bus.specs.State.{LineState, SocketState, Parts, key_in, reached}
 use Rattle.can_bus.proofs.Keeping.{parts-are}
@@ -17,11 +19,11 @@ returns-in_err-pending g c =
     let ready = winner-ready _ _ _ c.self.view_is c.requires.ready c.in_ok-winner.ensures.first in
     absurd (heads-there _ _ _ ready (line-at _ _ _ _ c.number.ensures.number ready c.index-line.ensures) c.in_err-pending.ensures)
 
-pub judge-judgement-requires-clause-there : goal.judge-judgement-requires-clause-there
-judge-judgement-requires-clause-there g c = (winner-ready _ _ _ c.self.view_is c.requires.ready c.in_ok-winner.ensures.first).counted
+pub judge_asked-judgement-requires-clause-there : goal.judge_asked-judgement-requires-clause-there
+judge_asked-judgement-requires-clause-there g c = (winner-ready _ _ _ c.self.view_is c.requires.ready c.in_ok-winner.ensures.first).counted
 
-pub judge-judgement-requires-clause-live : goal.judge-judgement-requires-clause-live
-judge-judgement-requires-clause-live g c = (winner-ready _ _ _ c.self.view_is c.requires.ready c.in_ok-winner.ensures.first).live
+pub judge_asked-judgement-requires-clause-live : goal.judge_asked-judgement-requires-clause-live
+judge_asked-judgement-requires-clause-live g c = (winner-ready _ _ _ c.self.view_is c.requires.ready c.in_ok-winner.ensures.first).live
 
 pub settle-requires-clause-within : goal.settle-requires-clause-within
 settle-requires-clause-within g c = (winner-ready _ _ _ c.self.view_is c.requires.ready c.in_ok-winner.ensures.first).there
@@ -32,14 +34,24 @@ settle-requires-clause-gone g c = subst (λ (p : Parts). All (λ (l : LineState)
 pub settle-requires-clause-done : goal.settle-requires-clause-done
 settle-requires-clause-done g c = subst (λ (p : Parts). All (λ (l : LineState). l.done + 1 < 2 ^ 64) p.lines) (sym c.self.view_is) c.requires.done
 
-pub tell_attempt-requires-clause-judged : goal.tell_attempt-requires-clause-judged
-tell_attempt-requires-clause-judged g c = record {
-  judged = c.judge-judgement.ensures ∙ ap (λ (u : Tried). judged (attempt_between c.self.inside.nodes u.winner c.args.verdict c.args.config.ack)) (sym c.tried_as-tried.ensures);
+pub new-attempted-requires : goal.new-attempted-requires
+new-attempted-requires g c = record {
+  judged = c.judge_asked-judgement.ensures ∙ ap (λ (u : Tried). judged (attempt_between c.self.inside.nodes u.winner c.args.verdict c.args.config.ack)) (sym c.tried_as-tried.ensures);
   few = subst (λ (p : Parts). p.nodes.count ≤ 16) (sym c.self.view_is) c.requires.few;
 }
 
 pub tell_attempt-requires-clause-class : goal.tell_attempt-requires-clause-class
-tell_attempt-requires-clause-class g c = ap (λ (u : Tried). u.class) c.tried_as-tried.ensures
+tell_attempt-requires-clause-class g c =
+    let t = c.tried_as-tried.result in
+    let o = outcome_of t c.args.verdict c.args.config.ack c.self.inside.nodes in
+    let class : t.class ≡ class_of (transmission_of o) =
+    ap (λ (u : Tried). u.class) c.tried_as-tried.ensures
+    ∙ ap (λ (j : Judgement). j.class) c.judge_asked-judgement.ensures
+    ∙ ap (λ (u : Tried). class_of (attempt_between c.self.inside.nodes u.winner c.args.verdict c.args.config.ack)) (sym c.tried_as-tried.ensures) in
+    subst (λ (x : Outcome). x.tried.class ≡ class_of (transmission_of x)) (sym c.new-attempted.ensures) class
+
+pub tell_attempt-requires-clause-calm : goal.tell_attempt-requires-clause-calm
+tell_attempt-requires-clause-calm g c calm = subst (λ (x : Outcome). IsCalm x.nodes x.verdict x.ack) (sym c.new-attempted.ensures) (c.is_calm-is_calm.ensures calm)
 
 pub tell_attempt-requires-clause-dropped : goal.tell_attempt-requires-clause-dropped
 tell_attempt-requires-clause-dropped g c =
@@ -50,7 +62,7 @@ pub returns : goal.returns
 returns g c =
     let p : Parts = record { lines = c.self.inside.lines.items; keys = g.A.Arbiter.keys_of c.self.inside.arbiter; nodes = c.self.inside.nodes; left = c.self.inside.countdown; sockets = c.self.inside.sockets.items; opened = c.self.inside.opened; tried = c.self.inside.tried } in
     let told = take c.self.inside.sockets.len (c.tell_attempt.new.sockets ++ drop (length c.tell_attempt.new.sockets) p.sockets) in
-    let new : Parts = record { lines = c.settle.new.lines.items; keys = g.A.Arbiter.keys_of c.settle.new.arbiter; nodes = record p.nodes { counters = c.judge-judgement.result.counters }; left = c.start.new.self; sockets = told; opened = p.opened; tried = p.tried + 1 } in
+    let new : Parts = record { lines = c.settle.new.lines.items; keys = g.A.Arbiter.keys_of c.settle.new.arbiter; nodes = record p.nodes { counters = c.judge_asked-judgement.result.counters }; left = c.start.new.self; sockets = told; opened = p.opened; tried = p.tried + 1 } in
     let w = c.in_ok-winner.winner in
     let line = c.index-line.result.now in
     let pending = c.in_ok-pending.pending in
@@ -68,14 +80,15 @@ returns g c =
       there = there;
       oldest = sym c.in_ok-pending.ensures;
       tried = c.tried_as-tried.ensures
-          ∙ ap (λ (n : ℕ). record { moment = c.args.moment; winner = w; number = n; frame = pending.frame; class = c.judge-judgement.result.class; accepted = c.judge-judgement.result.accepted; off = c.judge-judgement.result.off; restarted = c.args.restarted }) c.gone.ensures
-          ∙ ap (λ (j : Judgement). record { moment = c.args.moment; winner = w; number = line.gone; frame = pending.frame; class = j.class; accepted = j.accepted; off = j.off; restarted = c.args.restarted }) c.judge-judgement.ensures;
+          ∙ ap (λ (n : ℕ). record { moment = c.args.moment; winner = w; number = n; frame = pending.frame; class = c.judge_asked-judgement.result.class; accepted = c.judge_asked-judgement.result.accepted; off = c.judge_asked-judgement.result.off; restarted = c.args.restarted }) c.gone.ensures
+          ∙ ap (λ (j : Judgement). record { moment = c.args.moment; winner = w; number = line.gone; frame = pending.frame; class = j.class; accepted = j.accepted; off = j.off; restarted = c.args.restarted }) c.judge_asked-judgement.ensures;
       after = parts-are new (after_try p c.args.config tr line pending t)
           (c.settle.ensures.lines line there ∙ ap (λ (b : Bool). slice_set p.lines w (settled t.class b line)) c.contains-is_off.ensures)
           (c.settle.ensures.keys line there ∙ ap (λ (b : Bool). slice_set p.keys w (key_in (slice_get (settled t.class b line).waiting 0))) c.contains-is_off.ensures)
-          (ap (λ (j : Judgement). record p.nodes { counters = j.counters }) c.judge-judgement.ensures)
+          (ap (λ (j : Judgement). record p.nodes { counters = j.counters }) c.judge_asked-judgement.ensures)
           (c.start.ensures ∙ ap (λ (b : Bool). counting_down c.args.config.auto_restart w b p.left) c.contains-is_off.ensures)
           (written_back _ _ _ _ _ _ c.tell_attempt.ensures c.deref_mut.ensures.value c.deref_mut.ensures.len
+          ∙ ap (λ (o : Outcome). map (reached (outcome_posts c.args.config.reporting o pending)) p.sockets) c.new-attempted.ensures
           ∙ ap (λ (k : ℕ). map (reached (attempt_posts c.args.config.reporting (attempt_between p.nodes k c.args.verdict c.args.config.ack) t (Some pending))) p.sockets) who)
           refl refl;
     })

@@ -1,5 +1,0 @@
-use Rattle.can_bus.proofs.Reading.{stands-at, gave}
-use Rattle.can_bus.proofs.state.State.receive.Goals as goal
-
-pub returns : goal.returns
-returns g c = gave _ _ _ _ _ _ _ c.self.view_is (stands-at _ _ _ _ _ c.deref.ensures.value c.in-Some.ensures.within c.in-Some.ensures.found c.index_mut-socket.ensures.value) c.receive.ensures.taken c.receive.ensures.rest
