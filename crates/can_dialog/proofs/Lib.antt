@@ -2,7 +2,6 @@ pub mod Faulting
 pub mod Turning
 pub mod Room
 pub mod Counts
-pub mod Delivering
 pub mod Cuts
 pub mod Living
 pub mod Naming

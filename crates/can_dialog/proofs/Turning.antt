@@ -1,6 +1,6 @@
 -- The turns of one item more, and of two lists one after the other.
 use Rattle.std.proofs.Common.{◌≡◌, ℕ, Bool, List, [], ◌∷◌, ◌++◌, refl, sym, ap, subst, ◌∙◌, append_assoc, ◌+◌, ◌<◌, length, take, get_or, Option, Some, None, Result, Ok, Err, false}
-use Rattle.std.specs.Prelude.{OnErr, OnOk}
+use Rattle.std.specs.Prelude.{OnOk}
 use Rattle.std.specs.Result.{is_err}
 use Rattle.std.specs.Io.KnownBytes.{Appends}
 use Rattle.std.proofs.lemmas.List.{append-nil, take_more}
@@ -26,15 +26,6 @@ turns_more {P} step moment d (f ∷ fs) [] p q r text more mid after forgot item
 pub on_ok : {T E P : Type 0} (r : Result T E) → is_err r ≡ false → OnOk r P → P
 on_ok (Ok x) e h = h
 on_ok (Err x) e h = absurd cc
-
-pub any_err : {T E P : Type 0} (r : Result T E) → P → OnErr r P
-any_err (Ok x) p = tt
-any_err (Err x) p = p
-
--- nothing is written to a writer that stays
-pub appends_nothing : (known : Option (List ℕ)) → Appends known known []
-appends_nothing None = tt
-appends_nothing (Some bytes) = sym (append-nil bytes)
 
 pub taken_more : (items : List Incoming) (i : ℕ) (item : Incoming) → i < length items → item ≡ get_or items i item → take (i + 1) items ≡ take i items ++ item ∷ []
 taken_more items i item lt is = take_more items i item lt ∙ ap (λ (x : Incoming). take i items ++ x ∷ []) (sym is)

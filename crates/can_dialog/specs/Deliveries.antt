@@ -1,4 +1,5 @@
 use Rattle.std.specs.Prelude.{ℕ, Bool, true, false, List, []}
+use Rattle.can_event.specs.declared.events.Received.{Received}
 use Rattle.can_proto.specs.declared.answers.Answer.TheVariants as answer
 use Rattle.can_proto.specs.Spelling.{reply_text, item_text}
 use Rattle.can_dialog.specs.declared.deliveries.Delivery.{Delivery}
@@ -6,13 +7,13 @@ use Rattle.can_dialog.specs.declared.deliveries.Delivery.TheVariants.{Nothing, I
 
 -- What one receive gives a client (own choice).
 
--- its text
-abbrev pub delivery_text : Delivery → List ℕ
-delivery_text Nothing = []
-delivery_text (Item received errdata) = item_text errdata received.item received.moment
-delivery_text (Refused why) = reply_text (answer.Refused why)
+-- its text, where an item is in this room
+abbrev pub delivery_text : Delivery → Received → List ℕ
+delivery_text Nothing room = []
+delivery_text (Item errdata) room = item_text errdata room.item room.moment
+delivery_text (Refused why) room = reply_text (answer.Refused why)
 
 -- whether it is an item
 abbrev pub is_item : Delivery → Bool
-is_item (Item received errdata) = true
+is_item (Item errdata) = true
 is_item _ = false

@@ -57,10 +57,6 @@ pub record Delivers {P W : Type 0} (step : P → (call : Call) → Reply call �
   pub plays : Plays step (delivery stage) p q text more
   pub wrote : Wrote contents out text new
 
--- a text does not reach the client, and the session ends
-abbrev pub IsCutOff : {P : Type 0} → (P → (call : Call) → Reply call → P → Type 0) → Dialog → List ℕ → P → P → Dialog → Type 0
-IsCutOff step before text p q after = (text ≢ []) × Plays step (ending before.stage before) p q [] after
-
 -- one delivery over the port, whose text does not reach the client, and the session ends
 pub record DeliveryCut {P : Type 0} (step : P → (call : Call) → Reply call → P → Type 0) (before : Dialog) (p q : P) (after : Dialog) : Type 0 where
   pub text : List ℕ

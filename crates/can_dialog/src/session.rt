@@ -2,21 +2,18 @@ ghost use Rattle.std.specs.Prelude.{◌≡◌, ◌≢◌, ◌⊎◌, ◌+◌, �
 ghost use Rattle.can_proto.specs.Messages.{messages_of, kept_of};
 ghost use Rattle.can_dialog.specs.Plans.{Plays};
 ghost use Rattle.can_dialog.specs.Turns.{sending, ending, delivery, greeting};
-ghost use Rattle.can_proto.specs.Spelling.{reply_text};
-ghost use Rattle.can_proto.specs.declared.answers.Answer.TheVariants.{Refused};
-ghost use Rattle.can_dialog.specs.Calls.{cause_of_port};
-ghost use Rattle.can_dialog.specs.Sessions.{IsCutOff, IsNotRaw, Turns, Says, Cut, Wrote, Delivers, DeliveryCut};
+ghost use Rattle.can_dialog.specs.Sessions.{IsNotRaw, Turns, Says, Cut, Wrote, Delivers, DeliveryCut};
 ghost use Rattle.can_dialog.specs.Deliveries.{delivery_text, is_item};
 
 use crate::commands::send;
 use crate::deliveries::{Delivery, take_delivery};
 use crate::dialog::{finish, take_turn};
 use crate::output::{make_room, put, say};
-use crate::port::{Port, PortRefusal};
+use crate::port::Port;
 use crate::stages::{Dialog, RawSocket, Stage};
 use can_bus::Received;
 use can_frame::{Frame, Moment};
-use can_proto::{Answer, Incoming, ItemText, Reader, push_item, refusal_text, reply_text};
+use can_proto::{Answer, Incoming, Reader, reply_text};
 use std::alloc::{AllocError, Global};
 use std::io::Write;
 use std::marker::Model;
@@ -196,7 +193,11 @@ impl Session {
             return Ok(());
         };
         let text = reply_text(answer);
-        self.write_out(text.as_bytes(), port, out)
+        if !put(out, text.as_bytes()) {
+            finish(&mut self.dialog, port);
+            return Err(SessionFault::Write);
+        }
+        Ok(())
     }
 
     /// Takes one item from the socket and writes its text: whether there was one. Outside raw mode there is
@@ -215,82 +216,23 @@ impl Session {
         ensures memory { result ≢ Err SessionFault.NoMemory }
         ensures cut { result ≡ Err SessionFault.Write → DeliveryCut P.step self.old.dialog port.old port.new self.new.dialog × (self.new.kept ≡ self.old.kept) }
     {
-        match self.dialog.stage {
-            Stage::Raw(raw) => self.deliver_raw(raw, port, out),
-            Stage::Ended => Err(SessionFault::Ended),
-            Stage::NoBus | Stage::Opened(_) => Ok(false),
+        if let Stage::Ended = self.dialog.stage {
+            return Err(SessionFault::Ended);
         }
-    }
-
-    /// Takes one item from the socket and writes its text.
-    fn deliver_raw<P: Port, W: Write>(
-        &mut self,
-        raw: RawSocket,
-        port: &mut P,
-        out: &mut W,
-    ) -> Result<bool, SessionFault>
-        requires { self.old.dialog.stage ≡ Stage.Raw raw }
-        ensures said { IfOk result (λ more. Delivers P.step W.contents self.old.dialog.stage port.old port.new out.old out.new more × (self.new ≡ self.old)) }
-        ensures faults { OnErr result (result ≡ Err SessionFault.Write) }
-        ensures cut { OnErr result (DeliveryCut P.step self.old.dialog port.old port.new self.new.dialog × (self.new.kept ≡ self.old.kept)) }
-    {
-        match port.receive_into(raw.socket, &mut self.room) {
-            Ok(true) => {
-                let mut text = ItemText::new();
-                push_item(&mut text, &self.room.item, self.room.moment, raw.errdata);
-                self.write_out(text.as_bytes(), port, out)?;
-                Ok(true)
-            }
-            Ok(false) => Ok(false),
-            Err(refusal) => {
-                self.report(refusal, port, out)?;
-                Ok(false)
-            }
-        }
-    }
-
-    /// Writes the text of a refusal.
-    #[inline(never)]
-    fn report<P: Port, W: Write>(
-        &mut self,
-        refusal: PortRefusal,
-        port: &mut P,
-        out: &mut W,
-    ) -> Result<(), SessionFault>
-        ensures said { OnOk result (Wrote W.contents out.old (reply_text (Refused (cause_of_port refusal))) out.new) }
-        ensures same { OnOk result ((self.new ≡ self.old) × (port.new ≡ port.old)) }
-        ensures kept { self.new.kept ≡ self.old.kept }
-        ensures cut { OnErr result (IsCutOff P.step self.old.dialog (reply_text (Refused (cause_of_port refusal))) port.old port.new self.new.dialog × (result ≡ Err SessionFault.Write)) }
-    {
-        let text = refusal_text(refusal.cause());
-        self.write_out(text.as_bytes(), port, out)
-    }
-
-    /// Writes a text. Where the writer fails, the session ends.
-    fn write_out<P: Port, W: Write>(
-        &mut self,
-        text: &[u8],
-        port: &mut P,
-        out: &mut W,
-    ) -> Result<(), SessionFault>
-        ensures said { OnOk result (Wrote W.contents out.old text.now out.new) }
-        ensures same { OnOk result ((self.new ≡ self.old) × (port.new ≡ port.old)) }
-        ensures kept { self.new.kept ≡ self.old.kept }
-        ensures cut { OnErr result (IsCutOff P.step self.old.dialog text.now port.old port.new self.new.dialog × (result ≡ Err SessionFault.Write)) }
-    {
-        if !put(out, text) {
+        let delivery = take_delivery(self.dialog.stage, port, &mut self.room);
+        if !delivery.write(&self.room, out) {
             finish(&mut self.dialog, port);
             return Err(SessionFault::Write);
         }
-        Ok(())
+        Ok(delivery.is_item())
     }
 
-    /// Makes the receive of `deliver`, and writes nothing: what it gives the client, whose text is to be written before the
-    /// session does anything else. In no other stage than raw mode there is a call.
-    pub fn take<P: Port>(&self, port: &mut P) -> Delivery
-        ensures { Plays P.step (delivery self.now.dialog.stage) port.old port.new (delivery_text result) (is_item result) }
+    /// Makes the receive of `deliver` into the room, and writes nothing: what it gives the client, whose text is to be
+    /// written before the session does anything else. In no other stage than raw mode there is a call.
+    pub fn take<P: Port>(&self, port: &mut P, room: &mut Received) -> Delivery
+        ensures { Plays P.step (delivery self.now.dialog.stage) port.old port.new (delivery_text result room.new) (is_item result) }
     {
-        take_delivery(self.dialog.stage, port)
+        take_delivery(self.dialog.stage, port, room)
     }
 
     /// Ends the session: a raw socket is closed, and where the port refuses that, the session is over all

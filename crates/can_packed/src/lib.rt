@@ -20,7 +20,7 @@ mod wide;
 
 pub use frame_words::frame_in;
 pub use kept::Kept;
-pub use lists::PackedList;
+pub use lists::{PackedList, receive_reply};
 pub use looked::Looked;
 pub use records::PackedRecord;
 pub use stored::Stored;

@@ -1,10 +1,12 @@
 ghost use Rattle.std.specs.Prelude.{◌≡◌, ◌<◌, ◌≤◌, ◌+◌, ◌==◌, true, [], ◌∷◌, ◌++◌, length, slice_get, IsOk, OnOk};
+ghost use Rattle.can_event.specs.Replies.{taken_reply, told};
+ghost use Rattle.can_packed.specs.Kept.{receive_entry};
 ghost use Rattle.can_packed.specs.Wide.{is_wide};
 
 use crate::looked::Looked;
 use crate::records::PackedRecord;
-use crate::wide::is_wide;
-use can_event::{Entry, Event, Reply, SocketId};
+use crate::wide::{is_wide, is_wide_receive};
+use can_event::{Entry, Event, Received, Refusal, Reply, SocketId};
 use std::alloc::{AllocError, Global};
 use std::marker::Model;
 
@@ -81,12 +83,44 @@ impl PackedList {
         ensures { self.new.entries ≡ self.old.entries ++ record { event = event; reply = reply } ∷ [] }
     {
         if is_wide(&event, &reply) {
-            let mut entry = self.spare.take().unwrap();
-            *entry = Entry { event, reply };
-            self.entries.push_boxed(entry);
+            self.push_spare(event, reply);
         } else {
             self.entries.push(&event, &reply);
         }
+    }
+
+    /// Adds a receive: it took an item into the room, or took none, or was refused. No memory is taken.
+    pub fn push_receive(&mut self, id: SocketId, outcome: Result<bool, Refusal>, room: &Received)
+        requires room { length self.old.entries < self.old.room }
+        requires spare { self.old.spare ≡ true }
+        ensures { self.new.entries ≡ self.old.entries ++ receive_entry id room.now outcome ∷ [] }
+    {
+        if is_wide_receive(outcome, room) {
+            self.push_wide_receive(id, outcome, room);
+        } else {
+            self.entries.push_receive(id, outcome, room);
+        }
+    }
+
+    // Its event and its reply are made in the rare case alone.
+    #[inline(never)]
+    fn push_wide_receive(&mut self, id: SocketId, outcome: Result<bool, Refusal>, room: &Received)
+        requires room { length self.old.entries < self.old.room }
+        requires spare { self.old.spare ≡ true }
+        ensures { self.new.entries ≡ self.old.entries ++ receive_entry id room.now outcome ∷ [] }
+    {
+        self.push_spare(Event::Receive(id), receive_reply(outcome, room));
+    }
+
+    /// Adds an event with its reply in the spare box.
+    fn push_spare(&mut self, event: Event, reply: Reply)
+        requires room { length self.old.entries < self.old.room }
+        requires spare { self.old.spare ≡ true }
+        ensures { self.new.entries ≡ self.old.entries ++ record { event = event; reply = reply } ∷ [] }
+    {
+        let mut entry = self.spare.take().unwrap();
+        *entry = Entry { event, reply };
+        self.entries.push_boxed(entry);
     }
 
     /// The entry at a place, if there is one. No memory is taken.
@@ -94,6 +128,17 @@ impl PackedList {
         ensures { result ≡ slice_get self.now.entries place }
     {
         self.entries.look(place)
+    }
+}
+
+/// The reply to a receive, which took an item into the room, or took none, or was refused.
+pub fn receive_reply(outcome: Result<bool, Refusal>, room: &Received) -> Reply
+    ensures { result ≡ told (taken_reply room.now) outcome }
+{
+    match outcome {
+        Ok(true) => Reply::Received(Some(*room)),
+        Ok(false) => Reply::Received(None),
+        Err(why) => Reply::Refused(why),
     }
 }
 

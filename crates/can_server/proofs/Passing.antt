@@ -1,11 +1,15 @@
-use Rattle.std.proofs.Common.{◌≡◌, ℕ, true, List, [], Option, Some, Result, Ok, Err, refl, sym, subst, ap, ◌∙◌, inr}
+use Rattle.std.proofs.Common.{◌≡◌, ℕ, Bool, true, List, [], Option, Some, Result, Ok, Err, refl, sym, subst, ap, ◌∙◌, inr}
 use Rattle.can_confine.specs.Confinement.{ErrorCounts}
 use Rattle.can_meter.specs.Readings.{Readings}
 use Rattle.can_event.specs.declared.events.Event.{Event}
 use Rattle.can_event.specs.declared.events.Event.TheVariants as event
 use Rattle.can_event.specs.declared.events.Reply.{Reply}
 use Rattle.can_event.specs.declared.events.Attempt.TheVariants as attempt
-use Rattle.can_bus.specs.Answer.{done_reply, told_attempt}
+use Rattle.can_event.specs.declared.events.Received.{Received}
+use Rattle.can_event.specs.declared.events.SocketId.{SocketId}
+use Rattle.can_event.specs.Replies.{taken_item, taken_reply}
+use Rattle.can_dialog.specs.Calls.Call.{Receive}
+use Rattle.can_bus.specs.Answer.{done_reply, received_into, told_attempt}
 use Rattle.can_event.specs.declared.events.Reply.TheVariants as reply
 use Rattle.std.specs.Prelude.{slice_get, IfOk}
 use Rattle.can_dialog.specs.declared.port.PortRefusal.{PortRefusal}
@@ -47,6 +51,13 @@ module _ (buses : List BusSeen) (now : EnteredSeen) (pass : PassSeen) where
   gives e (reply.Refused why) called fits = on done_reply _ (Err (station.Bus why)) (inr called.0, called.1)
   gives e r called fits = absurd fits
 
+  -- a receive into a room
+  taken : (room : Received) (socket : SocketId) (outcome : Result Bool StationRefusal) → Called (taken_reply room) now.number now.pass (event.Receive socket) outcome pass
+      → PassStep (over buses now) (Receive socket) (received_into room (passed_on outcome)) (over buses (record now { pass = pass }))
+  taken room socket (Ok taken) called = on (λ x. reply.Received x) _ (Ok (taken_item room taken)) called
+  taken room socket (Err (station.Bus why)) called = on (λ x. reply.Received x) _ (Err (station.Bus why)) called
+  taken room socket (Err station.WrongStation) called = on (λ x. reply.Received x) _ (Err station.WrongStation) called
+
   -- a refusal is the same for every call
   refused : {A : Type 0} (told : A → Reply) (e : Event) (why : StationRefusal) → Called same now.number now.pass e (Err why) pass → OnPort told (over buses now) e (Err (refused_as why)) (over buses (record now { pass = pass }))
   refused told e (station.Bus why) called = on told e (Err (station.Bus why)) called
@@ -76,6 +87,16 @@ on_pass old buses inside now pass e room outcome answer seen is has told called 
     steps buses now pass e outcome (subst (λ (n : ℕ). Called same now.number now.pass (with_room e n) outcome pass) has called) (subst (λ (n : ℕ). IfOk outcome (λ r. Suits (with_room e n) r)) has fits) in
     subst (λ (o : PortSeen). Steps PassStep o e answer after) (ap (λ (i : Option EnteredSeen). record { buses = buses; entered = i }) (sym is) ∙ seen)
     (subst (λ (a : Result Reply PortRefusal). Steps PassStep (over buses now) e a after) (sym told) stepped)
+
+-- a receive of the station that was entered, into a room, is one of the port
+pub received : (old : PortSeen) (buses : List BusSeen) (inside : Option EnteredSeen) (now : EnteredSeen) (pass : PassSeen) (socket : SocketId) (room : Received) (outcome : Result Bool StationRefusal) (answer : Result Bool PortRefusal)
+    → ◌≡◌ {A = PortSeen} (record { buses = buses; entered = inside }) old → inside ≡ Some now → answer ≡ passed_on outcome
+    → Called (taken_reply room) now.number now.pass (event.Receive socket) outcome pass
+    → PassStep old (Receive socket) (received_into room answer) (over buses (record now { pass = pass }))
+received old buses inside now pass socket room outcome answer seen is told called =
+    let after : PortSeen = over buses (record now { pass = pass }) in
+    subst (λ (o : PortSeen). PassStep o (Receive socket) (received_into room answer) after) (ap (λ (i : Option EnteredSeen). record { buses = buses; entered = i }) (sym is) ∙ seen)
+    (subst (λ (a : Result Bool PortRefusal). PassStep (over buses now) (Receive socket) (received_into room a) after) (sym told) (taken buses now pass room socket outcome called))
 
 -- a socket's room has no part in a send or a receive
 pub shared : (e : Event) (room : ℕ) → true ≡ is_shared e → with_room e room ≡ e

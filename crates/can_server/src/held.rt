@@ -2,7 +2,7 @@ ghost use Rattle.std.specs.Prelude.{◌≡◌};
 ghost use Rattle.can_server.specs.PassSteps.{is_shared};
 
 use crate::ports::{PassPort, pass_on};
-use can_bus::{Event, IfaceStats, Refusal, Reply, SocketId, SocketStats};
+use can_bus::{Event, IfaceStats, Received, Refusal, Reply, SocketId, SocketStats};
 use can_confine::Counters;
 use can_dialog::{Port, PortRefusal};
 use can_fault::FaultSource;
@@ -95,6 +95,22 @@ impl<'p, 'a, N: RollName + MeterName, F: FaultSource + Drop, G: Gate + Drop, R: 
         };
         let mut hold = hold_of(port.rt, entered.station, self.hold.take());
         let outcome = hold.call(port.alloc, &mut entered.pass, event);
+        self.hold = Some(hold);
+        pass_on(outcome)
+    }
+
+    // The call that a session makes most, without an event and a reply between.
+    fn receive_into(
+        &mut self,
+        socket: SocketId,
+        room: &mut Received,
+    ) -> Result<bool, PortRefusal> {
+        let port = &mut *self.port;
+        let Some(entered) = &mut port.entered else {
+            return Err(PortRefusal::Bus(Refusal::NoSocket));
+        };
+        let mut hold = hold_of(port.rt, entered.station, self.hold.take());
+        let outcome = hold.receive_into(port.alloc, &mut entered.pass, socket, room);
         self.hold = Some(hold);
         pass_on(outcome)
     }

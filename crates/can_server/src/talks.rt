@@ -2,7 +2,7 @@ use crate::conns::{Conn, Out};
 use crate::held::HeldPort;
 use crate::hubs::Hub;
 use crate::ports::PassPort;
-use can_bus::{Entry, Event, Reply, SocketId};
+use can_bus::{Entry, Event, Received, Reply, SocketId};
 use can_dialog::{Delivery, Session, Stage};
 use can_fault::FaultSource;
 use can_frame::{Iface, Moment};
@@ -36,7 +36,9 @@ pub struct Talk<'a, N: RollName + MeterName, F: FaultSource + Drop, G: Gate + Dr
     batch: Vec<u8>,
     /// The most bytes of these texts, but that one item goes out whole.
     most_bytes: usize,
-    /// What was received in one hold, and is to be written.
+    /// Rooms for the items that are received in one hold.
+    rooms: Vec<Received>,
+    /// What was received in one hold, and is to be written: the first into the first room, and so on.
     deliveries: Vec<Delivery>,
     /// How many calls were looked at for a restart.
     looked: usize,
@@ -61,6 +63,7 @@ impl<'a, N: RollName + MeterName, F: FaultSource + Drop, G: Gate + Drop, R: Wait
             port: PassPort::new(rt, alloc, hub),
             batch: Vec::with_capacity(alloc, most_bytes)?,
             most_bytes,
+            rooms: Vec::from_elem(alloc, Received::nothing(), MOST_ITEMS)?,
             deliveries: Vec::with_capacity(alloc, MOST_ITEMS)?,
             looked: 0,
         })
@@ -102,10 +105,10 @@ impl<'a, N: RollName + MeterName, F: FaultSource + Drop, G: Gate + Drop, R: Wait
         self.deliveries.clear();
         let mut port = HeldPort::new(&mut self.port);
         let mut can_be_more = true;
-        for _ in 0..waiting.min(MOST_ITEMS as u64) {
-            let delivery = self.session.take(&mut port);
-            let is_item = delivery.is_item();
-            can_be_more = self.deliveries.push(delivery).is_ok() && is_item;
+        let most = waiting.min(MOST_ITEMS as u64) as usize;
+        for room in self.rooms.iter_mut().take(most) {
+            let delivery = self.session.take(&mut port, room);
+            can_be_more = self.deliveries.push(delivery).is_ok() && delivery.is_item();
             if !can_be_more {
                 break;
             }
@@ -115,7 +118,13 @@ impl<'a, N: RollName + MeterName, F: FaultSource + Drop, G: Gate + Drop, R: Wait
 
     /// Writes the texts of what was received: whether the client took them.
     fn write_items(&mut self, conn: &Conn) -> bool {
-        let are_taken = write_texts(&self.deliveries, &mut self.batch, self.most_bytes, conn);
+        let are_taken = write_texts(
+            &self.deliveries,
+            &self.rooms,
+            &mut self.batch,
+            self.most_bytes,
+            conn,
+        );
         self.goes_on(are_taken, conn)
     }
 
@@ -178,17 +187,18 @@ impl<'a, N: RollName + MeterName, F: FaultSource + Drop, G: Gate + Drop, R: Wait
 /// Writes the texts of what was received, in writes of at most this many bytes: whether the client took them.
 fn write_texts(
     deliveries: &[Delivery],
+    rooms: &[Received],
     batch: &mut Vec<u8>,
     most_bytes: usize,
     conn: &Conn,
 ) -> bool {
     let full = most_bytes.saturating_sub(LONGEST);
     batch.clear();
-    for delivery in deliveries {
+    for (delivery, room) in deliveries.iter().zip(rooms) {
         if batch.len() > full && !write_out(batch, conn) {
             return false;
         }
-        if !delivery.write(batch) {
+        if !delivery.write(room, batch) {
             return false;
         }
     }

@@ -3,3 +3,4 @@ pub mod Marking
 pub mod Stepping
 pub mod Answering
 pub mod PublishedFacts
+pub mod Receiving

@@ -1,18 +1,21 @@
-ghost use Rattle.std.specs.Prelude.{◌≡◌, reverse, IfOk};
+ghost use Rattle.std.specs.Prelude.{◌≡◌, ◌≢◌, Ok, true, reverse, IfOk};
 ghost use Rattle.can_bus.specs.Run.{history_after};
 ghost use Rattle.can_bus.specs.Answer.{told_attempt};
-ghost use Rattle.can_station.specs.Held.{held_after, slip_after};
+ghost use Rattle.can_event.specs.Replies.{taken_reply};
+ghost use Rattle.can_event.specs.declared.events.Event.TheVariants as event;
+ghost use Rattle.can_station.specs.Held.{held_after, receive_reply, slip_after};
 ghost use Rattle.can_station.specs.Passes.{IsAnsweredIn, IsReady, IsReadyFor, Suits, Called, Made, next_attempt, same};
 ghost use Rattle.can_station.specs.Waits.{has_work};
 
 use crate::attempts::attempt_in;
 use crate::gates::{Gate, Point};
 use crate::passes::{Pass, keep, make_ready, make_ready_for};
+use crate::receives::keep_receive;
 use crate::refusals::StationRefusal;
 use crate::state::StationState;
 use crate::stations::Station;
 use crate::waits::News;
-use can_bus::{Attempt, Event, Refusal, Reply};
+use can_bus::{Attempt, Event, Received, Refusal, Reply, SocketId};
 use can_fault::FaultSource;
 use can_frame::Moment;
 use can_meter::MeterName;
@@ -97,6 +100,55 @@ impl<'s, N: RollName + MeterName, F: FaultSource + Drop, G: Gate + Drop> Hold<'s
         self.news.add(&event, &reply);
         keep(calls, event, &reply);
         reply
+    }
+
+    /// Receives into the caller's room, as the station's `receive` does: whether there was an item. The room stays where
+    /// there was none.
+    pub fn receive_into(
+        &mut self,
+        alloc: Global,
+        pass: &mut Pass<N>,
+        socket: SocketId,
+        room: &mut Received,
+    ) -> Result<bool, StationRefusal>
+        ensures made { Made (taken_reply room.new) self.old pass.old (event.Receive socket) result self.new pass.new }
+        ensures called { Called (taken_reply room.new) self.old.number pass.old (event.Receive socket) result pass.new }
+        ensures stays { result ≢ Ok true → room.new ≡ room.old }
+    {
+        if make_ready(&mut pass.calls, alloc).is_err() {
+            return Err(StationRefusal::Bus(Refusal::NoMemory));
+        }
+        if pass.slip.number() != self.state.number() {
+            return Err(StationRefusal::WrongStation);
+        }
+        match self.carry_out_receive(&mut pass.slip, &mut pass.calls, socket, room) {
+            Ok(is_item) => Ok(is_item),
+            Err(why) => Err(StationRefusal::Bus(why)),
+        }
+    }
+
+    /// Carries out a receive into the room for the pass of this slip, and keeps it among its calls.
+    fn carry_out_receive(
+        &mut self,
+        slip: &mut Slip<N>,
+        calls: &mut PackedList,
+        socket: SocketId,
+        room: &mut Received,
+    ) -> Result<bool, Refusal>
+        requires own { slip.old.number ≡ self.old.number }
+        requires ready { IsReady calls.old }
+        ensures answer { IsAnsweredIn self.old (event.Receive socket) (receive_reply room.new result) }
+        ensures after { self.new ≡ held_after slip.old.pass (event.Receive socket) (receive_reply room.new result) self.old }
+        ensures slip { slip.new ≡ slip_after (event.Receive socket) (receive_reply room.new result) slip.old }
+        ensures calls { reverse calls.new.entries ≡ history_after (event.Receive socket) (receive_reply room.new result) (reverse calls.old.entries) }
+        ensures stays { result ≢ Ok true → room.new ≡ room.old }
+    {
+        let outcome = self.state.receive_into(slip, socket, room);
+        if let Err(why) = outcome {
+            self.news.add_refusal(why);
+        }
+        keep_receive(calls, socket, outcome, room);
+        outcome
     }
 
     /// Tries the frame that wins the bus, as the station's `step` does.

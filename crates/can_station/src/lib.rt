@@ -18,6 +18,7 @@ mod gauges;
 pub mod holds;
 pub mod passes;
 mod publishing;
+mod receives;
 pub mod refusals;
 mod rooms;
 pub mod state;

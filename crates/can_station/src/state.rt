@@ -1,4 +1,4 @@
-ghost use Rattle.std.specs.Prelude.{◌≡◌, ◌<◌, ◌≤◌, ◌⊎◌, ℕ, [], true, false, List, length, reverse, IfOk, OnErr, MatchResult, vec_len, vec_capacity};
+ghost use Rattle.std.specs.Prelude.{◌≡◌, ◌≢◌, ◌<◌, ◌≤◌, ◌⊎◌, ℕ, [], true, false, List, length, reverse, IfOk, OnErr, MatchResult, vec_len, vec_capacity};
 ghost use Rattle.can_fault.specs.Sources.{verdict_in};
 ghost use Rattle.can_event.specs.Events.{IsConfig};
 ghost use Rattle.can_event.specs.Replies.{enters};
@@ -8,9 +8,9 @@ ghost use Rattle.can_bus.specs.Transmit.{tape};
 ghost use Rattle.can_event.specs.declared.events.Event.TheVariants as event;
 ghost use Rattle.can_meter.specs.Readings.{readings};
 ghost use Rattle.can_roll.specs.Seen.{roll_seen, slip_seen};
-ghost use Rattle.can_station.specs.Held.{held_after, lists_after, marks_after, slip_after, with_pass};
+ghost use Rattle.can_station.specs.Held.{held_after, lists_after, marks_after, receive_reply, slip_after, with_pass};
 ghost use Rattle.can_station.specs.Marks.{IsMarked};
-ghost use Rattle.can_station.specs.Passes.{AllOf, SomeOther, Settles, Suits};
+ghost use Rattle.can_station.specs.Passes.{AllOf, IsAnsweredIn, SomeOther, Settles, Suits};
 ghost use Rattle.can_station.specs.Published.{AllTrue, GaugesOf, SomeOtherGauge, IsPublished};
 ghost use Rattle.can_station.specs.Waits.{AreCounts, frame_wake, has_work, work_wake, stopped_wake, waiting_at};
 
@@ -20,10 +20,13 @@ use crate::publishing::{counters_before, publish_changes};
 use crate::refusals::{TooManyPasses, WrongStation};
 use crate::rooms::{ROOMS, RoomSet, Sleeper, Sleepers};
 use crate::waits::Wake;
-use can_bus::{Event, IfaceStats, Record, Reply, RingBus, SocketId, SocketStats};
+use can_bus::{
+    Event, IfaceStats, Received, Record, Refusal, Reply, RingBus, SocketId, SocketStats,
+};
 use can_fault::{FaultSource, Verdict};
 use can_frame::{Iface, Moment};
 use can_meter::{Gauge, Keeper, MeterName};
+use can_packed::receive_reply;
 use can_roll::{Roll, RollBlank, RollName, Slip};
 use std::alloc::{AllocError, Global};
 use std::marker::Model;
@@ -154,6 +157,27 @@ impl<N: RollName + MeterName, F: FaultSource + Drop> StationState<N, F> {
         let at = self.bus.record().len() as u32;
         publish_changes(&mut self.keeper, &reply, at, &before, &after);
         reply
+    }
+
+    /// Carries out a receive into the caller's room for the pass of this slip, as `call` does: whether there was an item.
+    /// The room stays where there was none. No error counter changes.
+    pub fn receive_into(
+        &mut self,
+        slip: &mut Slip<N>,
+        socket: SocketId,
+        room: &mut Received,
+    ) -> Result<bool, Refusal>
+        requires { slip.old.number ≡ self.old.number }
+        ensures answer { IsAnsweredIn self.old (event.Receive socket) (receive_reply room.new result) }
+        ensures after { self.new ≡ held_after slip.old.pass (event.Receive socket) (receive_reply room.new result) self.old }
+        ensures slip { slip.new ≡ slip_after (event.Receive socket) (receive_reply room.new result) slip.old }
+        ensures stays { result ≢ Ok true → room.new ≡ room.old }
+    {
+        let outcome = self.bus.receive_into(socket, room);
+        let event = Event::Receive(socket);
+        let reply = receive_reply(outcome, room);
+        book(&mut self.roll, &mut self.marks, slip, &event, &reply);
+        outcome
     }
 
     /// Carries out an attempt at a moment, with the verdict that the source has for its number.
@@ -322,6 +346,7 @@ impl<N: RollName + MeterName, F: FaultSource + Drop> StationState<N, F> {
 }
 
 /// Notes a call of a slip's pass, and marks the entry with it, where it left one.
+#[inline(always)]
 fn book<N: RollName>(
     roll: &mut Roll<N>,
     marks: &mut Vec<u32>,

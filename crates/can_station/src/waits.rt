@@ -62,14 +62,20 @@ impl News {
     /// `send` has woken who waits for work.
     pub(crate) fn add(&mut self, event: &Event, reply: &Reply) {
         match (event, reply) {
-            (_, Reply::Refused(Refusal::RecordFull)) => self.is_full = true,
-            (_, Reply::Refused(_)) => {}
+            (_, Reply::Refused(why)) => self.add_refusal(*why),
             (_, Reply::Idle { restarted }) if restarted.is_empty() => {}
             (Event::Send(_, _), _) => self.has_work = true,
             (Event::Close(_) | Event::Attempt(_, _) | Event::Restart(_, _), _) => {
                 self.has_items = true;
             }
             _ => {}
+        }
+    }
+
+    /// Adds that a call was refused.
+    pub(crate) fn add_refusal(&mut self, why: Refusal) {
+        if why == Refusal::RecordFull {
+            self.is_full = true;
         }
     }
 }

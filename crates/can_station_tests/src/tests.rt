@@ -136,6 +136,14 @@ impl<N: RollName + MeterName, F: FaultSource + Drop, G: Gate + Drop, R: Wait + A
             .receive(self.rt, self.alloc, &mut self.pass, socket)
     }
 
+    /// Receives in a hold of the lock: what is in the room, if there was an item.
+    fn receive_held(&mut self, socket: SocketId) -> Result<Option<Received>, StationRefusal> {
+        let mut room = Received::nothing();
+        let mut hold = self.station.lock(self.rt);
+        let is_item = hold.receive_into(self.alloc, &mut self.pass, socket, &mut room)?;
+        Ok(if is_item { Some(room) } else { None })
+    }
+
     fn step(&mut self, micros: u64) -> Result<Attempt, StationRefusal> {
         let moment = moment(self.rt, micros);
         self.station

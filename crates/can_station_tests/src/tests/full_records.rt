@@ -84,6 +84,7 @@ fn finds_it_full<N: RollName + MeterName, R: Wait + Abort>(mut caller: Party<'_,
     assert!(rt; caller.attempt(2, Verdict::Good) == Err(FULL));
     assert!(rt; caller.send(socket, 0x123) == Err(FULL));
     assert!(rt; caller.receive(socket) == Err(FULL));
+    assert!(rt; caller.receive_held(socket) == Err(FULL));
     assert!(rt; caller.set_option(socket, Opt::Join(true)) == Err(FULL));
     assert!(rt; caller.restart(0, 3) == Err(FULL));
     assert!(rt; caller.close(socket) == Err(FULL));

@@ -161,6 +161,7 @@ fn strange_pass<N: RollName + MeterName, R: Wait + Abort>(
         pass,
     };
     assert!(rt; stranger.send(socket, 0x123) == Err(StationRefusal::WrongStation));
+    assert!(rt; stranger.receive_held(socket) == Err(StationRefusal::WrongStation));
     assert!(rt; stranger.step(1) == Err(StationRefusal::WrongStation));
     assert!(rt; stranger.calls() == 0);
     let sent = station

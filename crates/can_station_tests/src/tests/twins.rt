@@ -130,6 +130,9 @@ fn call<N: RollName + MeterName, R: Wait + Abort>(
         Event::SetOption(socket, option) => {
             let _ = caller.set_option(*socket, *option);
         }
+        Event::Receive(SocketId(0)) => {
+            let _ = caller.receive_held(SocketId(0));
+        }
         Event::Receive(socket) => {
             let _ = caller.receive(*socket);
         }

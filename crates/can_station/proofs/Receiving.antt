@@ -1,0 +1,24 @@
+use Rattle.std.proofs.Common.{◌≡◌, Bool, Result, Ok, Err, ap, sym, ◌∙◌}
+use Rattle.can_event.specs.Replies.{taken_reply}
+use Rattle.can_event.specs.declared.events.Event.TheVariants as event
+use Rattle.can_event.specs.declared.events.Received.{Received}
+use Rattle.can_event.specs.declared.events.Refusal.{Refusal}
+use Rattle.can_event.specs.declared.events.Refusal.TheVariants as refusal
+use Rattle.can_event.specs.declared.events.Reply.{Reply}
+use Rattle.can_event.specs.declared.events.SocketId.{SocketId}
+use Rattle.can_bus.specs.Answer.{Answers}
+use Rattle.can_bus.specs.Journal.{Journal}
+use Rattle.can_bus.specs.Run.{history_after}
+use Rattle.can_station.specs.Held.{receive_reply}
+
+-- What a receive into a room leaves of the bus.
+
+module _ (room : Received) (s : SocketId) (old new : Journal) where
+  leaves : (outcome : Result Bool Refusal) → Answers (taken_reply room) old (event.Receive s) outcome new → new ≡ record old { history = history_after (event.Receive s) (receive_reply room outcome) old.history }
+  leaves (Ok taken) noted = noted.new_is
+  leaves (Err refusal.RecordFull) full = full.1
+  leaves (Err refusal.NoMemory) refused = refused.2
+  leaves (Err why) noted = noted.new_is
+
+  pub bus_after : (outcome : Result Bool Refusal) (r : Reply) → Answers (taken_reply room) old (event.Receive s) outcome new → r ≡ receive_reply room outcome → new ≡ record old { history = history_after (event.Receive s) r old.history }
+  bus_after outcome r answers is = leaves outcome answers ∙ ap (λ (x : Reply). record old { history = history_after (event.Receive s) x old.history }) (sym is)

@@ -1,0 +1,35 @@
+ghost use Rattle.std.specs.Prelude.{◌≡◌, reverse};
+ghost use Rattle.can_bus.specs.Run.{history_after};
+ghost use Rattle.can_event.specs.Replies.{enters};
+ghost use Rattle.can_event.specs.declared.events.Event.TheVariants as event;
+ghost use Rattle.can_event.specs.declared.events.Received.{Received};
+ghost use Rattle.can_station.specs.Held.{receive_reply};
+ghost use Rattle.can_station.specs.Passes.{IsReady};
+
+use can_bus::{Received, Refusal, SocketId};
+use can_packed::PackedList;
+
+/// Whether a receive that came to this leaves an entry.
+fn leaves_entry(outcome: Result<bool, Refusal>) -> bool
+    ensures { (room : Received) → result ≡ enters (receive_reply room outcome) }
+{
+    match outcome {
+        Ok(_) => true,
+        Err(why) => why.leaves_entry(),
+    }
+}
+
+/// Keeps a receive that came to this with the room, if it is an entry. No memory is taken.
+pub(crate) fn keep_receive(
+    calls: &mut PackedList,
+    socket: SocketId,
+    outcome: Result<bool, Refusal>,
+    room: &Received,
+)
+    requires { IsReady calls.old }
+    ensures { reverse calls.new.entries ≡ history_after (event.Receive socket) (receive_reply room.now outcome) (reverse calls.old.entries) }
+{
+    if leaves_entry(outcome) {
+        calls.push_receive(socket, outcome, room);
+    }
+}
