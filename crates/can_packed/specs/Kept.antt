@@ -5,6 +5,7 @@ use Rattle.can_frame.specs.Sets.{no_ifaces}
 use Rattle.can_frame.specs.declared.ifaces.IfaceSet.{IfaceSet}
 use Rattle.can_frame.specs.declared.items.Item.{Item}
 use Rattle.can_frame.specs.declared.items.Item.TheVariants as item
+use Rattle.can_fault.specs.declared.verdicts.Verdict.{Verdict}
 use Rattle.can_event.specs.declared.events.Entry.{Entry}
 use Rattle.can_event.specs.declared.events.Event.{Event}
 use Rattle.can_event.specs.declared.events.Event.TheVariants.{Open, Close, SetOption, Send, Receive, Attempt, Restart}
@@ -128,3 +129,11 @@ receive_entry s room outcome = both (Receive s) (told (taken_reply room) outcome
 -- what it adds to that list
 abbrev pub receive_frames : SocketId → Received → Result Bool Refusal → List CanFrame
 receive_frames s room outcome = fd_frames (Receive s) (told (taken_reply room) outcome)
+
+-- the entry of a send that came to this
+abbrev pub send_entry : SocketId → CanFrame → Result ℕ Refusal → Entry
+send_entry s frame outcome = both (Send s frame) (told reply.Sent outcome)
+
+-- the entry of an attempt that tried this frame
+abbrev pub tried_entry : ℕ → Verdict → Tried → Entry
+tried_entry m v t = both (Attempt m v) (reply.Tried t)

@@ -3,7 +3,7 @@ ghost use Rattle.can_event.specs.declared.events.Event.TheVariants as asked;
 ghost use Rattle.can_event.specs.declared.events.Reply.TheVariants as answer;
 ghost use Rattle.can_event.specs.Replies.{taken_reply, told};
 ghost use Rattle.can_frame.specs.Frames.{CanFrame};
-ghost use Rattle.can_packed.specs.Kept.{entry_in, frames_needed, frame_kept, frames_needed_for, fd_frames, fd_frames_of, fd_frames_of_item, receive_entry, receive_frames, IsShort, stamp_moment, stamp_winner, stamp_len, stamp_off};
+ghost use Rattle.can_packed.specs.Kept.{entry_in, frames_needed, frame_kept, frames_needed_for, fd_frames, fd_frames_of, fd_frames_of_item, receive_entry, receive_frames, send_entry, IsShort, stamp_moment, stamp_winner, stamp_len, stamp_off};
 ghost use Rattle.can_packed.specs.Verdicts.{class_in, verdict_in, verdict_set};
 ghost use Rattle.can_packed.specs.Wide.{is_wide, is_large, is_off_alone};
 
@@ -121,37 +121,57 @@ fn sent(frames: &mut Vec<Frame>, id: SocketId, frame: &Frame, reply: &Reply) -> 
     ensures frames { frames.new.items ≡ frames.old.items ++ fd_frames (asked.Send id frame.now) reply.now }
     ensures memory { vec_capacity frames.old ≤ vec_capacity frames.new }
 {
-    let kept = kept_frame(frames, frame);
-    match (reply, kept) {
-        (Reply::Sent(number), KeptFrame::Words { word, len, bytes }) => {
+    match reply {
+        Reply::Sent(number) => packed_send(frames, id, frame, Ok(*number)),
+        Reply::Refused(why) => packed_send(frames, id, frame, Err(*why)),
+        _ => unreachable!(),
+    }
+}
+
+/// The entry of a send, which gave the frame this number, or was refused.
+#[inline(always)]
+pub fn packed_send(
+    frames: &mut Vec<Frame>,
+    id: SocketId,
+    frame: &Frame,
+    outcome: Result<u64, Refusal>,
+) -> Kept
+    requires fits { is_wide (asked.Send id frame.now) (told answer.Sent outcome) ≡ false }
+    requires room { length frames.old.items < vec_capacity frames.old }
+    ensures entry { entry_in frames.new.items result ≡ send_entry id frame.now outcome }
+    ensures within { frames_needed result ≤ length frames.new.items }
+    ensures frames { frames.new.items ≡ frames.old.items ++ fd_frames_of frame.now }
+    ensures memory { vec_capacity frames.old ≤ vec_capacity frames.new }
+{
+    match (outcome, kept_frame(frames, frame)) {
+        (Ok(number), KeptFrame::Words { word, len, bytes }) => {
             Kept::Sent {
                 len,
                 socket: id,
                 word,
-                number: *number as u32,
+                number: number as u32,
                 bytes,
             }
         }
-        (Reply::Sent(number), KeptFrame::Place(place)) => Kept::FdSent {
+        (Ok(number), KeptFrame::Place(place)) => Kept::FdSent {
             socket: id,
-            number: *number as u32,
+            number: number as u32,
             place,
         },
-        (Reply::Refused(why), KeptFrame::Words { word, len, bytes }) => {
+        (Err(why), KeptFrame::Words { word, len, bytes }) => {
             Kept::SendRefused {
-                why: *why,
+                why,
                 len,
                 socket: id,
                 word,
                 bytes,
             }
         }
-        (Reply::Refused(why), KeptFrame::Place(place)) => Kept::FdSendRefused {
-            why: *why,
+        (Err(why), KeptFrame::Place(place)) => Kept::FdSendRefused {
+            why,
             socket: id,
             place,
         },
-        _ => unreachable!(),
     }
 }
 
@@ -269,8 +289,9 @@ fn attempted(frames: &mut Vec<Frame>, moment: Moment, verdict: Verdict, reply: &
     }
 }
 
+/// The entry of an attempt that tried this frame.
 #[inline(always)]
-fn tried_at(frames: &mut Vec<Frame>, moment: Moment, verdict: Verdict, tried: &Tried) -> Kept
+pub fn tried_at(frames: &mut Vec<Frame>, moment: Moment, verdict: Verdict, tried: &Tried) -> Kept
     requires fits { is_wide (asked.Attempt moment verdict) (answer.Tried tried.now) ≡ false }
     requires room { length frames.old.items < vec_capacity frames.old }
     ensures entry { entry_in frames.new.items result ≡ record { event = asked.Attempt moment verdict; reply = answer.Tried tried.now } }

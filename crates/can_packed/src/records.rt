@@ -2,16 +2,18 @@ ghost use Rattle.std.specs.Prelude.{◌≡◌, ◌<◌, ◌≤◌, ◌+◌, fals
 ghost use Rattle.std.specs.Option.{option_map};
 ghost use Rattle.can_event.specs.Replies.{taken_reply, told};
 ghost use Rattle.can_event.specs.declared.events.Event.TheVariants as asked;
-ghost use Rattle.can_packed.specs.Kept.{entry_in, frames_needed, receive_entry};
+ghost use Rattle.can_event.specs.declared.events.Reply.TheVariants as answer;
+ghost use Rattle.can_packed.specs.Kept.{entry_in, frames_needed, receive_entry, send_entry, tried_entry};
 ghost use Rattle.can_packed.specs.Stored.{entry_stored, IsStored};
 ghost use Rattle.can_packed.specs.Wide.{is_wide};
 
 use crate::kept::Kept;
 use crate::looked::Looked;
-use crate::packing::{packed, packed_receive};
+use crate::packing::{packed, packed_receive, packed_send, tried_at};
 use crate::stored::Stored;
-use can_event::{Entry, Event, Received, Refusal, Reply, SocketId};
-use can_frame::Frame;
+use can_event::{Entry, Event, Received, Refusal, Reply, SocketId, Tried};
+use can_fault::Verdict;
+use can_frame::{Frame, Moment};
 use std::alloc::{AllocError, Global};
 use std::marker::Model;
 
@@ -96,6 +98,30 @@ impl PackedRecord {
         ensures room { self.old.room ≤ self.new.room }
     {
         let kept = packed_receive(&mut self.frames, id, outcome, room);
+        let _ = self.entries.push(kept);
+    }
+
+    /// Adds a send that is not wide: it gave the frame this number, or was refused. No memory is taken.
+    #[inline(always)]
+    pub fn push_send(&mut self, id: SocketId, frame: &Frame, outcome: Result<u64, Refusal>)
+        requires room { length self.old.entries < self.old.room }
+        requires fits { is_wide (asked.Send id frame.now) (told answer.Sent outcome) ≡ false }
+        ensures more { self.new.entries ≡ self.old.entries ++ send_entry id frame.now outcome ∷ [] }
+        ensures room { self.old.room ≤ self.new.room }
+    {
+        let kept = packed_send(&mut self.frames, id, frame, outcome);
+        let _ = self.entries.push(kept);
+    }
+
+    /// Adds an attempt that is not wide and tried this frame. No memory is taken.
+    #[inline(always)]
+    pub fn push_tried(&mut self, moment: Moment, verdict: Verdict, tried: &Tried)
+        requires room { length self.old.entries < self.old.room }
+        requires fits { is_wide (asked.Attempt moment verdict) (answer.Tried tried.now) ≡ false }
+        ensures more { self.new.entries ≡ self.old.entries ++ tried_entry moment verdict tried.now ∷ [] }
+        ensures room { self.old.room ≤ self.new.room }
+    {
+        let kept = tried_at(&mut self.frames, moment, verdict, tried);
         let _ = self.entries.push(kept);
     }
 
