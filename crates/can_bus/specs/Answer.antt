@@ -1,7 +1,10 @@
-use Rattle.std.specs.Prelude.{◌≡◌, ◌<◌, ◌≤◌, ◌∷◌, length, Bool, Option, Result, Ok, Err}
+use Rattle.std.specs.Prelude.{◌≡◌, ℕ, ◌<◌, ◌≤◌, ◌∷◌, length, Bool, Option, Result, Ok, Err}
+use Rattle.can_fault.specs.declared.verdicts.Verdict.{Verdict}
 use Rattle.can_event.specs.declared.events.Attempt.{Attempt}
 use Rattle.can_event.specs.declared.events.Attempt.TheVariants as attempt
+use Rattle.can_event.specs.declared.events.Entry.{Entry}
 use Rattle.can_event.specs.declared.events.Event.{Event}
+use Rattle.can_event.specs.declared.events.Event.TheVariants as event
 use Rattle.can_event.specs.declared.events.Event.TheVariants.{Open, SetFilters}
 use Rattle.can_event.specs.declared.events.Received.{Received}
 use Rattle.can_event.specs.declared.events.Reply.{Reply}
@@ -38,6 +41,10 @@ Answers told old event (Err why) new = Refuses old event why new
 abbrev pub told_attempt : Attempt → Reply
 told_attempt (attempt.Idle restarted) = reply.Idle restarted
 told_attempt (attempt.Tried t) = reply.Tried t
+
+-- the entry of an attempt that came to this
+abbrev pub attempt_entry : ℕ → Verdict → Attempt → Entry
+attempt_entry m v a = record { event = event.Attempt m v; reply = told_attempt a }
 
 abbrev pub done_reply : Unit {0} → Reply
 done_reply done = reply.Done

@@ -13,7 +13,6 @@ ghost use Rattle.can_event.specs.declared.events.Event.TheVariants as event;
 ghost use Rattle.can_event.specs.declared.events.Reply.TheVariants as reply;
 
 use crate::records::Record;
-use crate::replies::{attempt_reply, sent_reply};
 use crate::state::State;
 use can_arbiter::{Arbiter, IndexArbiter, ScanArbiter};
 use can_confine::Counters;
@@ -250,8 +249,7 @@ impl<T: BoundedQueue<Pending>, R: BoundedQueue<Received>, A: Arbiter> Bus<T, R, 
             return Err(Refusal::RecordFull);
         }
         let outcome = self.state.send(id, frame);
-        self.record
-            .push(&Event::Send(id, frame), &sent_reply(&outcome));
+        self.record.push_send(id, &frame, outcome);
         outcome
     }
 
@@ -295,8 +293,7 @@ impl<T: BoundedQueue<Pending>, R: BoundedQueue<Received>, A: Arbiter> Bus<T, R, 
         }
         let config = self.record.config();
         let attempt = self.state.attempt(config, moment, verdict);
-        self.record
-            .push(&Event::Attempt(moment, verdict), &attempt_reply(&attempt));
+        self.record.push_attempt(moment, verdict, &attempt);
         Ok(attempt)
     }
 

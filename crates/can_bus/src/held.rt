@@ -3,12 +3,16 @@ ghost use Rattle.std.specs.Option.{option_map};
 ghost use Rattle.can_bus.specs.Held.{entries_in, room_in};
 ghost use Rattle.can_event.specs.Replies.{taken_reply, told};
 ghost use Rattle.can_event.specs.declared.events.Event.TheVariants as asked;
-ghost use Rattle.can_packed.specs.Kept.{receive_entry};
+ghost use Rattle.can_event.specs.declared.events.Reply.TheVariants as answer;
+ghost use Rattle.can_event.specs.declared.events.Attempt.TheVariants.{Idle};
+ghost use Rattle.can_bus.specs.Answer.{attempt_entry, told_attempt};
+ghost use Rattle.can_packed.specs.Kept.{receive_entry, send_entry};
 ghost use Rattle.can_packed.specs.Stored.{entry_stored, IsStored};
 ghost use Rattle.can_packed.specs.Wide.{is_wide};
 
-use can_event::{Entry, Event, Received, Refusal, Reply, SocketId};
-use can_frame::Item;
+use can_event::{Attempt, Entry, Event, Received, Refusal, Reply, SocketId};
+use can_fault::Verdict;
+use can_frame::{Frame, IfaceSet, Item, Moment};
 use can_packed::{Looked, PackedRecord, Stored};
 use std::alloc::{AllocError, Global};
 
@@ -109,6 +113,41 @@ impl Held {
         }
     }
 
+    /// Adds a send that is not wide: it gave the frame this number, or was refused. No memory is taken.
+    #[inline(always)]
+    pub fn push_send(&mut self, id: SocketId, frame: &Frame, outcome: Result<u64, Refusal>)
+        requires room { length (entries_in self.old) < room_in self.old }
+        requires fits { is_wide (asked.Send id frame.now) (told answer.Sent outcome) ≡ false }
+        ensures more { entries_in self.new ≡ entries_in self.old ++ send_entry id frame.now outcome ∷ [] }
+        ensures room { room_in self.old ≤ room_in self.new }
+    {
+        match self {
+            Held::Packed(entries) => entries.push_send(id, frame, outcome),
+            // There is no room in a list that was handed in.
+            Held::Given(_) => unreachable!(),
+        }
+    }
+
+    /// Adds an attempt that is not wide. No memory is taken.
+    #[inline(always)]
+    pub fn push_attempt(&mut self, moment: Moment, verdict: Verdict, attempt: &Attempt)
+        requires room { length (entries_in self.old) < room_in self.old }
+        requires fits { is_wide (asked.Attempt moment verdict) (told_attempt attempt.now) ≡ false }
+        ensures more { entries_in self.new ≡ entries_in self.old ++ attempt_entry moment verdict attempt.now ∷ [] }
+        ensures room { room_in self.old ≤ room_in self.new }
+    {
+        match (self, attempt) {
+            (Held::Packed(entries), Attempt::Tried(tried)) => {
+                entries.push_tried(moment, verdict, tried)
+            }
+            (Held::Packed(entries), Attempt::Idle { restarted }) => {
+                push_idle(entries, moment, verdict, *restarted)
+            }
+            // There is no room in a list that was handed in.
+            (Held::Given(_), _) => unreachable!(),
+        }
+    }
+
     /// Adds an entry to those of a bus, which keeps its memory. No other is taken.
     pub fn push_boxed(&mut self, entry: Box<Entry>)
         requires room { length (entries_in self.old) < room_in self.old }
@@ -121,6 +160,16 @@ impl Held {
             Held::Given(_) => unreachable!(),
         }
     }
+}
+
+/// Adds an attempt that tried no frame, and restarted these interfaces.
+#[inline(never)]
+fn push_idle(entries: &mut PackedRecord, moment: Moment, verdict: Verdict, restarted: IfaceSet)
+    requires { length entries.old.entries < entries.old.room }
+    ensures more { entries.new.entries ≡ entries.old.entries ++ attempt_entry moment verdict (Idle restarted) ∷ [] }
+    ensures room { entries.old.room ≤ entries.new.room }
+{
+    entries.push(&Event::Attempt(moment, verdict), &Reply::Idle { restarted });
 }
 
 /// An entry that is equal.

@@ -4,13 +4,17 @@ ghost use Rattle.can_event.specs.Events.{IsConfig};
 ghost use Rattle.can_event.specs.Spelled.{IsSpelled, IsRecord};
 ghost use Rattle.can_event.specs.Replies.{taken_reply, told};
 ghost use Rattle.can_event.specs.declared.events.Event.TheVariants as asked;
-ghost use Rattle.can_packed.specs.Kept.{receive_entry};
+ghost use Rattle.can_event.specs.declared.events.Reply.TheVariants as answer;
+ghost use Rattle.can_bus.specs.Answer.{attempt_entry, told_attempt};
+ghost use Rattle.can_packed.specs.Kept.{receive_entry, send_entry};
 ghost use Rattle.can_packed.specs.Stored.{entry_stored, IsStored};
 ghost use Rattle.can_packed.specs.Wide.{is_wide};
 
 use crate::entries::Entries;
 use crate::held::Held;
-use can_event::{BusConfig, Entry, Event, Received, Refusal, Reply, SocketId, is_spelled};
+use can_event::{Attempt, BusConfig, Entry, Event, Received, Refusal, Reply, SocketId, is_spelled};
+use can_fault::Verdict;
+use can_frame::{Frame, Moment};
 use can_packed::{Looked, Stored};
 use std::alloc::{AllocError, Global};
 use std::marker::Model;
@@ -172,6 +176,28 @@ impl Record {
         ensures { IsLonger self.old (receive_entry id room.now outcome) self.new }
     {
         self.held.push_receive(id, outcome, room);
+    }
+
+    /// Adds a send that is not wide: it gave the frame this number, or was refused. No memory is taken.
+    #[inline(always)]
+    pub(crate) fn push_send(&mut self, id: SocketId, frame: &Frame, outcome: Result<u64, Refusal>)
+        requires room { length self.old.history < self.old.room }
+        requires spelled { IsSpelled self.old.config (send_entry id frame.now outcome) }
+        requires fits { is_wide (asked.Send id frame.now) (told answer.Sent outcome) ≡ false }
+        ensures { IsLonger self.old (send_entry id frame.now outcome) self.new }
+    {
+        self.held.push_send(id, frame, outcome);
+    }
+
+    /// Adds an attempt that is not wide. No memory is taken.
+    #[inline(always)]
+    pub(crate) fn push_attempt(&mut self, moment: Moment, verdict: Verdict, attempt: &Attempt)
+        requires room { length self.old.history < self.old.room }
+        requires spelled { IsSpelled self.old.config (attempt_entry moment verdict attempt.now) }
+        requires fits { is_wide (asked.Attempt moment verdict) (told_attempt attempt.now) ≡ false }
+        ensures { IsLonger self.old (attempt_entry moment verdict attempt.now) self.new }
+    {
+        self.held.push_attempt(moment, verdict, attempt);
     }
 
     /// Adds an entry, which keeps its memory. No other is taken.
