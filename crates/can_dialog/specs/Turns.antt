@@ -56,6 +56,10 @@ tells a d = Tell (reply_text a) d
 abbrev pub silent : Dialog → Plan Dialog
 silent d = Tell [] d
 
+-- the text of a refusal of the port
+abbrev pub refusal_said : PortRefusal → List ℕ
+refusal_said why = reply_text (answer.Refused (cause_of_port why))
+
 -- a refusal of the port: it is reported, and nothing changes
 abbrev pub refused : PortRefusal → Dialog → Plan Dialog
 refused why d = tells (answer.Refused (cause_of_port why)) d

@@ -1,10 +1,7 @@
 ghost use Rattle.std.specs.Prelude.{◌≡◌, ◌≢◌, ◌⊎◌, ◌+◌, ◌*◌, ◌≤◌, ◌++◌, ◌↔◌, [], ℕ, List, Bool, true, false, length, vec_capacity, IfOk, OnOk, OnErr};
 ghost use Rattle.can_proto.specs.Messages.{messages_of, kept_of};
 ghost use Rattle.can_dialog.specs.Plans.{Plays};
-ghost use Rattle.can_dialog.specs.Turns.{sending, ending, delivery, greeting};
-ghost use Rattle.can_proto.specs.Spelling.{reply_text};
-ghost use Rattle.can_proto.specs.declared.answers.Answer.TheVariants.{Refused};
-ghost use Rattle.can_dialog.specs.Calls.{cause_of_port};
+ghost use Rattle.can_dialog.specs.Turns.{sending, ending, delivery, greeting, refusal_said};
 ghost use Rattle.can_dialog.specs.Sessions.{IsCutOff, IsNotRaw, Turns, Says, Cut, Wrote, Delivers, DeliveryCut};
 ghost use Rattle.can_dialog.specs.Deliveries.{delivery_text, is_item};
 
@@ -230,9 +227,11 @@ impl Session {
         out: &mut W,
     ) -> Result<bool, SessionFault>
         requires { self.old.dialog.stage ≡ Stage.Raw raw }
-        ensures said { IfOk result (λ more. Delivers P.step W.contents self.old.dialog.stage port.old port.new out.old out.new more × (self.new ≡ self.old)) }
+        ensures said { IfOk result (Delivers P.step W.contents (Stage.Raw raw) port.old port.new out.old out.new) }
+        ensures same { OnOk result (self.new ≡ self.old) }
+        ensures kept { self.new.kept ≡ self.old.kept }
         ensures faults { OnErr result (result ≡ Err SessionFault.Write) }
-        ensures cut { OnErr result (DeliveryCut P.step self.old.dialog port.old port.new self.new.dialog × (self.new.kept ≡ self.old.kept)) }
+        ensures cut { OnErr result (DeliveryCut P.step self.old.dialog port.old port.new self.new.dialog) }
     {
         match port.receive_into(raw.socket, &mut self.room) {
             Ok(true) => {
@@ -257,10 +256,11 @@ impl Session {
         port: &mut P,
         out: &mut W,
     ) -> Result<(), SessionFault>
-        ensures said { OnOk result (Wrote W.contents out.old (reply_text (Refused (cause_of_port refusal))) out.new) }
+        ensures said { OnOk result (Wrote W.contents out.old (refusal_said refusal) out.new) }
         ensures same { OnOk result ((self.new ≡ self.old) × (port.new ≡ port.old)) }
         ensures kept { self.new.kept ≡ self.old.kept }
-        ensures cut { OnErr result (IsCutOff P.step self.old.dialog (reply_text (Refused (cause_of_port refusal))) port.old port.new self.new.dialog × (result ≡ Err SessionFault.Write)) }
+        ensures faults { OnErr result (result ≡ Err SessionFault.Write) }
+        ensures cut { OnErr result (IsCutOff P.step self.old.dialog (refusal_said refusal) port.old port.new self.new.dialog) }
     {
         let text = refusal_text(refusal.cause());
         self.write_out(text.as_bytes(), port, out)
@@ -276,7 +276,8 @@ impl Session {
         ensures said { OnOk result (Wrote W.contents out.old text.now out.new) }
         ensures same { OnOk result ((self.new ≡ self.old) × (port.new ≡ port.old)) }
         ensures kept { self.new.kept ≡ self.old.kept }
-        ensures cut { OnErr result (IsCutOff P.step self.old.dialog text.now port.old port.new self.new.dialog × (result ≡ Err SessionFault.Write)) }
+        ensures faults { OnErr result (result ≡ Err SessionFault.Write) }
+        ensures cut { OnErr result (IsCutOff P.step self.old.dialog text.now port.old port.new self.new.dialog) }
     {
         if !put(out, text) {
             finish(&mut self.dialog, port);
