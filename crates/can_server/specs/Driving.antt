@@ -9,8 +9,3 @@ use Rattle.can_event.specs.declared.events.Attempt.TheVariants as attempt
 abbrev pub off_in : Attempt → IfaceSet
 off_in (attempt.Idle restarted) = no_ifaces
 off_in (attempt.Tried tried) = tried.off
-
--- the interfaces that were restarted at its end
-abbrev pub restarted_in : Attempt → IfaceSet
-restarted_in (attempt.Idle restarted) = restarted
-restarted_in (attempt.Tried tried) = tried.restarted

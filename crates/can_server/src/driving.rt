@@ -1,5 +1,7 @@
 ghost use Rattle.std.specs.Prelude.{◌≡◌};
-ghost use Rattle.can_server.specs.Driving.{off_in, restarted_in};
+ghost use Rattle.can_event.specs.Events.{restarted_in};
+ghost use Rattle.can_bus.specs.Answer.{told_attempt};
+ghost use Rattle.can_server.specs.Driving.{off_in};
 
 use crate::notices::Notice;
 use crate::server::Server;
@@ -22,8 +24,8 @@ const MOST_STEPS: u32 = 64;
 /// What became of a driver's steps.
 #[derive(Drop)]
 enum Stepped {
-    /// It goes on.
-    On,
+    /// It goes on, after an attempt in which these interfaces changed.
+    On(Changes),
     /// It is over: all sessions are, and no attempt would change what they see.
     Out,
     /// A step was refused.
@@ -75,11 +77,11 @@ impl<
             let Some(hold) = station.hold_work(self.rt) else {
                 break;
             };
-            let mut changes = Changes::none();
-            let stepped = self.step_some(hold, most, pass, &mut changes);
-            self.tell_changes(bus, changes);
-            match stepped {
-                Stepped::On => station.rest(self.rt, pace),
+            match self.step_some(hold, most, pass) {
+                Stepped::On(changes) => {
+                    self.tell_changes(bus, changes);
+                    station.rest(self.rt, pace);
+                }
                 Stepped::Out => break,
                 Stepped::Refused => return true,
             }
@@ -89,13 +91,7 @@ impl<
 
     /// Steps a bus up to this many times in one hold of its lock, while an interface has a frame to send or counts towards
     /// its restart. The attempt in which an interface went bus off, or was restarted, is the last.
-    fn step_some(
-        &self,
-        mut hold: Hold<'_, N, F, G>,
-        most: u32,
-        pass: &mut Pass<N>,
-        changes: &mut Changes,
-    ) -> Stepped {
+    fn step_some(&self, mut hold: Hold<'_, N, F, G>, most: u32, pass: &mut Pass<N>) -> Stepped {
         for _ in 0..most {
             if !hold.has_work() {
                 break;
@@ -103,15 +99,15 @@ impl<
             let Ok(attempt) = hold.step(self.alloc, pass, self.host.now()) else {
                 return Stepped::Refused;
             };
-            *changes = Changes::of(&attempt);
+            let changes = Changes::of(&attempt);
             if changes.are_some() {
-                break;
+                return Stepped::On(changes);
             }
             if is_in_vain(&attempt) && self.is_ending.load(Ordering::SeqCst) {
                 return Stepped::Out;
             }
         }
-        Stepped::On
+        Stepped::On(Changes::none())
     }
 
     /// Reports to the host which interfaces went bus off in an attempt, and which were restarted.
@@ -155,7 +151,7 @@ impl Changes {
     /// Of this attempt.
     fn of(attempt: &Attempt) -> Changes
         ensures off { result.off ≡ off_in attempt.now }
-        ensures restarted { result.restarted ≡ restarted_in attempt.now }
+        ensures restarted { result.restarted ≡ restarted_in (told_attempt attempt.now) }
     {
         match attempt {
             Attempt::Idle { restarted } => Changes {
