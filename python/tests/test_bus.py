@@ -399,7 +399,10 @@ def test_no_server(tmp_path):
     with socket.create_server(("127.0.0.1", 0)) as closed:
         address = "127.0.0.1:%d" % closed.getsockname()[1]
     for nowhere in (address, str(tmp_path / "none")):
-        with pytest.raises(can.CanInitializationError, match="refused|No such file"):
+        with pytest.raises(
+            can.CanInitializationError,
+            match="(refused|No such file.*) .is `canbusd serve` running there",
+        ):
             CanbusdBus("can0", address=nowhere)
 
 

@@ -45,6 +45,8 @@ STATES = {
     "off": BusState.ERROR,
 }
 TRUTHS = {"1": True, "true": True, "yes": True, "on": True, "0": False, "false": False, "no": False, "off": False}
+# What an address is where nobody listens: of TCP, and a Unix path that is not there.
+NO_SERVER = (ConnectionRefusedError, FileNotFoundError)
 # Seconds between two looks at a full transmit queue: at first, and at most.
 LOOK, LONGEST_LOOK = 0.0002, 0.01
 
@@ -355,7 +357,8 @@ class CanbusdBus(BusABC):
             if connection is not None:
                 connection.close()
             reason = getattr(fault, "strerror", None) or fault
-            raise CanInitializationError(f"{self.channel_info}: {reason}") from None
+            hint = " (is `canbusd serve` running there?)" if isinstance(fault, NO_SERVER) else ""
+            raise CanInitializationError(f"{self.channel_info}: {reason}{hint}") from None
         return connection
 
     def _calls(self, commands: Sequence[str]) -> List[str]:
