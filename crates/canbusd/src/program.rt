@@ -72,7 +72,7 @@ fn carry_out<H: ServerRuntime, R: Read + Drop + Send + 'static, W: Write + Drop,
     };
     let status = finish(alloc, outcome, output, errors);
     if status == DONE {
-        tell_unheard(unheard, errors);
+        tell_unheard(&unheard, errors);
     }
     status
 }

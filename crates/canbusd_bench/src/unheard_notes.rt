@@ -3,7 +3,7 @@ use can_session::{SessionNumber, Unheard};
 use std::io::Write;
 
 /// Reports which sessions were fed a message that was not ended, or bytes outside messages.
-pub fn tell_unheard<E: Write>(unheard: Unheard, errors: &mut E) {
+pub fn tell_unheard<E: Write>(unheard: &Unheard, errors: &mut E) {
     for number in 1..65_u8 {
         if let Some(session) = SessionNumber::new(number) {
             tell_session(unheard, session, errors);
@@ -11,7 +11,7 @@ pub fn tell_unheard<E: Write>(unheard: Unheard, errors: &mut E) {
     }
 }
 
-fn tell_session<E: Write>(unheard: Unheard, session: SessionNumber, errors: &mut E) {
+fn tell_session<E: Write>(unheard: &Unheard, session: SessionNumber, errors: &mut E) {
     let number = session.number();
     if unheard.has_outside(session) {
         let _ = writeln!(
