@@ -54,7 +54,7 @@ module _ (buses : List BusSeen) (now : EnteredSeen) (pass : PassSeen) where
   -- a receive into a room
   taken : (room : Received) (socket : SocketId) (outcome : Result Bool StationRefusal) → Called (taken_reply room) now.number now.pass (event.Receive socket) outcome pass
       → PassStep (over buses now) (Receive socket) (received_into room (passed_on outcome)) (over buses (record now { pass = pass }))
-  taken room socket (Ok taken) called = on (λ x. reply.Received x) _ (Ok (taken_item room taken)) called
+  taken room socket (Ok is_item) called = on (λ x. reply.Received x) _ (Ok (taken_item room is_item)) called
   taken room socket (Err (station.Bus why)) called = on (λ x. reply.Received x) _ (Err (station.Bus why)) called
   taken room socket (Err station.WrongStation) called = on (λ x. reply.Received x) _ (Err station.WrongStation) called
 
