@@ -100,11 +100,7 @@ impl<'p, 'a, N: RollName + MeterName, F: FaultSource + Drop, G: Gate + Drop, R: 
     }
 
     // The call that a session makes most, without an event and a reply between.
-    fn receive_into(
-        &mut self,
-        socket: SocketId,
-        room: &mut Received,
-    ) -> Result<bool, PortRefusal> {
+    fn receive_into(&mut self, socket: SocketId, room: &mut Received) -> Result<bool, PortRefusal> {
         let port = &mut *self.port;
         let Some(entered) = &mut port.entered else {
             return Err(PortRefusal::Bus(Refusal::NoSocket));
