@@ -170,8 +170,8 @@ class Server(Run):
         """The first interface of the bus that has this one."""
         found = [first for first, names in self._by_bus.items() if name in names[:-1] or name is None]
         if len(found) != 1:
-            names = ", ".join(name for names in self._by_bus.values() for name in names[:-1])
-            raise ValueError(f"name is that of an interface of the server, one of {names}, not {name!r}")
+            known = ", ".join(one for names in self._by_bus.values() for one in names[:-1])
+            raise ValueError(f"name is that of an interface of the server, one of {known}, not {name!r}")
         return found[0]
 
     def _file(self, name: Optional[str], ending: str) -> Path:
