@@ -1,21 +1,31 @@
-use Rattle.std.specs.Prelude.{◌≡◌, ℕ, Bool, true, false, List, Option, Some, None}
+use Rattle.std.specs.Prelude.{◌≡◌, ◌≤◌, ℕ, Bool, true, false, List, length, Option, Some, None}
 use Rattle.std.specs.Global.{Box}
 use Rattle.can_filter.specs.Filters.{CanFilter, receives_all}
-use Rattle.can_filter.specs.Lookups.{is_found, is_matched}
+use Rattle.can_filter.specs.Lookups.{is_matched}
+use Rattle.can_filter.specs.Parts.{is_found_in}
 use Rattle.can_filter.specs.declared.compiled.Compiled.{Compiled}
+use Rattle.can_filter.specs.declared.filter_sets.FilterSet.TheInside.{Inside}
 
 -- Compiled filters, and the sets that have them. Nothing that a caller has to know.
 
--- the compiled filters find the word
+-- the compiled filters find the word (own choice)
 abbrev pub finds : Compiled → ℕ → Bool
-finds compiled word = is_found compiled.parts.standard compiled.parts.extended.items compiled.parts.masked.items compiled.parts.inverted.items word
+finds compiled word = is_found_in compiled.parts word
 
--- what a set may have beside its filters
+-- they find the words that some of these filters match, and no others (own choice)
+abbrev pub FindsMatchesOf : List CanFilter → Compiled → Type 0
+FindsMatchesOf filters compiled = (word : ℕ) → finds compiled word ≡ is_matched filters word
+
+-- what a set may have beside its filters (own choice)
 abbrev pub IsCompiledOf : Option (Box Compiled) → List CanFilter → Type 0
 IsCompiledOf None filters = Unit {0}
-IsCompiledOf (Some compiled) filters = (word : ℕ) → finds compiled.value word ≡ is_matched filters word
+IsCompiledOf (Some compiled) filters = FindsMatchesOf filters compiled.value
 
--- a set that is known to have the one filter that receives everything has it
+-- a set that is known to have the one filter that receives everything has it (own choice)
 abbrev pub IsOpenOf : Bool → List CanFilter → Type 0
 IsOpenOf true filters = filters ≡ receives_all
 IsOpenOf false filters = Unit {0}
+
+-- what holds of each set: it has at most 512 filters (CAN_RAW_FILTER_MAX of linux/can.h), and what is beside them fits them
+abbrev pub IsFilterSet : Inside → Type 0
+IsFilterSet s = (length s.filters.items ≤ 512) × IsCompiledOf s.compiled s.filters.items × IsOpenOf s.is_open s.filters.items

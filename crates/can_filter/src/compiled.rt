@@ -1,7 +1,8 @@
-ghost use Rattle.std.specs.Prelude.{◌≡◌, ℕ, IfOk};
+ghost use Rattle.std.specs.Prelude.{◌≡◌, IfOk};
 ghost use Rattle.std.specs.List.Sorted.{IsNonDecreasing};
 ghost use Rattle.can_filter.specs.Gates.{IsGate, IsGateTo};
-ghost use Rattle.can_filter.specs.Lookups.{is_found, is_listed, is_marked, is_matched};
+ghost use Rattle.can_filter.specs.Lookups.{is_listed, is_marked, is_matched};
+ghost use Rattle.can_filter.specs.Parts.{is_found_in};
 
 use crate::filters::Filter;
 use crate::gates::gate_of;
@@ -17,14 +18,16 @@ pub struct Compiled {
     gate: Filter,
     masked_gate: Filter,
     ghost in_order: { IsNonDecreasing parts.extended.items },
-    ghost gated: { IsGateTo gate (is_found parts.standard parts.extended.items parts.masked.items parts.inverted.items) },
+    ghost gated: { IsGateTo gate (is_found_in parts) },
     ghost masked_gated: { IsGate masked_gate parts.masked.items },
 }
 
 impl Compiled {
+    ghost use Rattle.can_filter.specs.Compiled.{FindsMatchesOf, finds};
+
     /// These filters, compiled. The time grows with their number `n` as `n log n`.
     pub fn of(alloc: Global, filters: &[Filter]) -> Result<Compiled, AllocError>
-        ensures { IfOk result (λ compiled. (word : ℕ) → is_found compiled.parts.standard compiled.parts.extended.items compiled.parts.masked.items compiled.parts.inverted.items word ≡ is_matched filters.now word) }
+        ensures { IfOk result (FindsMatchesOf filters.now) }
     {
         let mut parts = Parts::empty(alloc);
         for filter in filters {
@@ -45,13 +48,13 @@ impl Compiled {
     /// in a bit that all filters compare alike is known at once.
     #[inline]
     pub fn finds(&self, word: u32) -> bool
-        ensures { result ≡ is_found self.now.parts.standard self.now.parts.extended.items self.now.parts.masked.items self.now.parts.inverted.items word }
+        ensures { result ≡ finds self.now word }
     {
         self.gate.agrees(word) && self.is_somewhere(word)
     }
 
     fn is_somewhere(&self, word: u32) -> bool
-        ensures { result ≡ is_found self.now.parts.standard self.now.parts.extended.items self.now.parts.masked.items self.now.parts.inverted.items word }
+        ensures { result ≡ finds self.now word }
     {
         self.is_masked(word)
             || self.is_marked(word)

@@ -34,15 +34,15 @@ pub struct FilterSet {
 }
 
 impl Model for FilterSet {
-    ghost use Rattle.std.specs.Prelude.{◌≤◌, List, length};
+    ghost use Rattle.std.specs.Prelude.{List};
     ghost use Rattle.can_filter.specs.Filters.{CanFilter};
-    ghost use Rattle.can_filter.specs.Compiled.{IsCompiledOf, IsOpenOf};
+    ghost use Rattle.can_filter.specs.Compiled.{IsFilterSet};
 
     ghost Value = { List CanFilter };
 
     ghost view = { λ s. s.filters.items };
 
-    ghost invariant = { λ s. (length s.filters.items ≤ 512) × IsCompiledOf s.compiled s.filters.items × IsOpenOf s.is_open s.filters.items };
+    ghost invariant = { IsFilterSet };
 }
 
 impl fmt::Debug for FilterSet {

@@ -1,6 +1,6 @@
 ghost use Rattle.std.specs.Prelude.{◌≡◌, ◌<◌, ◌||◌, ℕ, OnOk, false, length, All, IsTrue};
 ghost use Rattle.can_filter.specs.Filters.{matches};
-ghost use Rattle.can_filter.specs.Lookups.{IsLookedUpAs, is_extended, is_found};
+ghost use Rattle.can_filter.specs.Lookups.{IsLookedUpAs, is_extended};
 
 use crate::filters::Filter;
 use std::alloc::{AllocError, Global};
@@ -58,8 +58,10 @@ pub struct Parts {
 }
 
 impl Parts {
+    ghost use Rattle.can_filter.specs.Parts.{is_found_in};
+
     pub fn empty(alloc: Global) -> Parts
-        ensures { (word : ℕ) → is_found result.standard result.extended.items result.masked.items result.inverted.items word ≡ false }
+        ensures { (word : ℕ) → is_found_in result word ≡ false }
     {
         Parts {
             standard: [false; 2048],
@@ -71,8 +73,8 @@ impl Parts {
 
     /// Takes one more filter.
     pub fn add(&mut self, filter: Filter) -> Result<(), AllocError>
-        ensures { OnOk result ((word : ℕ) → is_found self.new.standard self.new.extended.items self.new.masked.items self.new.inverted.items word
-            ≡ (is_found self.old.standard self.old.extended.items self.old.masked.items self.old.inverted.items word || matches filter word)) }
+        ensures { OnOk result ((word : ℕ) →
+            is_found_in self.new word ≡ (is_found_in self.old word || matches filter word)) }
     {
         match lookup_of(filter) {
             Lookup::Standard(id) => self.standard[id as usize] = true,
