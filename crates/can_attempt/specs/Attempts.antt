@@ -69,18 +69,26 @@ hit t = filter (is_named t.verdict) (receivers t)
 abbrev pub unhurt : Transmission → List ℕ
 unhurt t = filter (λ i. not (is_named t.verdict i)) (receivers t)
 
+-- a receiver that is hit is not error passive
+abbrev pub is_hit_active : Transmission → Bool
+is_hit_active t = list_any (λ i. not (is_passive (state_at t i))) (hit t)
+
 -- an active error flag is seen by all: of a fault for the whole bus, or of a receiver that is not error passive
 abbrev pub is_destroyed : Transmission → Bool
-is_destroyed t = is_global t.verdict || list_any (λ i. not (is_passive (state_at t i))) (hit t)
+is_destroyed t = is_global t.verdict || is_hit_active t
 
 -- frames are acknowledged whoever is there
 abbrev pub is_always : AckMode → Bool
 is_always Always = true
 is_always Peers = false
 
+-- some receiver got every bit right
+abbrev pub is_heard : Transmission → Bool
+is_heard t = not (length (unhurt t) == 0)
+
 -- the acknowledge slot is dominant: always, or where a receiver got every bit right
 abbrev pub is_acknowledged : Transmission → Bool
-is_acknowledged t = is_always t.ack || not (length (unhurt t) == 0)
+is_acknowledged t = is_always t.ack || is_heard t
 
 -- the first case that holds
 abbrev pub class_when : Bool → Bool → Bool → Class
@@ -167,12 +175,12 @@ attempt_between nodes w v a = record { count = nodes.count; counts = counts_at n
 abbrev pub judged : Transmission → Judgement
 judged t = record { class = class_of t; accepted = set_of (accepted_in (class_of t) t); hit = set_of (hit t); counters = map (counts_after t) (range_with_len 0 16); off = set_of (off_after t) }
 
--- nothing can go wrong between these nodes: no fault, somebody who acknowledges, and all counts 0
+-- nothing can go wrong between these nodes: no fault, somebody who acknowledges, and all counts 0 (own choice)
 pub record IsCalm (nodes : Nodes) (v : Verdict) (a : AckMode) : Type 0 where
   pub good : v ≡ verdict.Good
   pub acknowledged : IsTrue (is_always a || nat_lt 1 nodes.count)
   pub zeros : All (λ c. c ≡ at_start) nodes.counters
 
--- this follows from an attempt of w between these nodes, where nothing can go wrong
+-- this follows from an attempt of w between these nodes, where nothing can go wrong (own choice)
 abbrev pub IsCalmJudgement : Nodes → ℕ → Judgement → Type 0
 IsCalmJudgement nodes w j = (v : Verdict) (a : AckMode) → IsCalm nodes v a → j ≡ judged (attempt_between nodes w v a)

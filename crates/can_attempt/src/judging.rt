@@ -16,7 +16,8 @@ use can_frame::{Iface, IfaceSet};
 
 /// What becomes of the frame.
 fn class_of(verdict: Verdict, ack: AckMode, seen: &Survey) -> Class
-    ensures { result ≡ class_when (is_global verdict || seen.now.is_hit_active) (is_always ack || seen.now.is_heard) (is_last_bit verdict) }
+    ensures { result ≡ class_when (is_global verdict || seen.now.is_hit_active)
+        (is_always ack || seen.now.is_heard) (is_last_bit verdict) }
 {
     if matches!(verdict, Verdict::Global(_)) || seen.is_hit_active {
         Class::Destroyed
@@ -64,7 +65,8 @@ fn counters_after(
 ) -> Counters
     requires there { iface < nodes.now.count }
     requires live { (counts_at nodes.now winner).tec < 256 }
-    ensures { (a : AckMode) → result ≡ counts_in class (attempt_between nodes.now winner verdict a) iface }
+    ensures { (a : AckMode) →
+        result ≡ counts_in class (attempt_between nodes.now winner verdict a) iface }
 {
     let counters = nodes.counters_of(iface);
     if iface == winner {
@@ -86,7 +88,8 @@ fn all_counters_after(
     requires count { nodes.now.count ≤ 16 }
     requires winner { winner < nodes.now.count }
     requires live { (counts_at nodes.now winner).tec < 256 }
-    ensures { (a : AckMode) → result ≡ map (counts_in class (attempt_between nodes.now winner verdict a)) (range_with_len 0 16) }
+    ensures { (a : AckMode) →
+        result ≡ map (counts_in class (attempt_between nodes.now winner verdict a)) (range_with_len 0 16) }
 {
     let mut counters = nodes.counters;
     for place in 0..nodes.count {
@@ -98,7 +101,8 @@ fn all_counters_after(
 
 /// The receivers that accept the frame in an attempt of this class, of those that got every bit right.
 fn accepted_of(class: Class, unharmed: IfaceSet) -> IfaceSet
-    ensures { (t : Transmission) → unharmed ≡ set_of (unhurt t) → result ≡ set_of (accepted_in class t) }
+    ensures { (t : Transmission) → unharmed ≡ set_of (unhurt t) →
+        result ≡ set_of (accepted_in class t) }
 {
     match class {
         Class::Done | Class::LastBit => unharmed,

@@ -12,42 +12,52 @@ pub fn sets_hold_their_interfaces()
 
 /// A local fault that strikes error passive receivers alone destroys nothing: they miss the frame.
 pub fn passive_receivers_destroy_nothing()
-    ensures { (t : Transmission) → is_global t.verdict ≡ false → ((i : ℕ) → is_among i (hit t) ≡ true → is_passive (state_at t i) ≡ true) → class_of t ≢ Destroyed }
+    ensures { (t : Transmission) → is_global t.verdict ≡ false →
+        ((i : ℕ) → is_among i (hit t) ≡ true → is_passive (state_at t i) ≡ true) →
+        class_of t ≢ Destroyed }
 {}
 
 /// A local fault at one receiver that is not error passive destroys the frame for all.
 pub fn active_receiver_destroys()
-    ensures { (t : Transmission) (i : ℕ) → is_among i (hit t) ≡ true → is_passive (state_at t i) ≡ false → class_of t ≡ Destroyed }
+    ensures { (t : Transmission) (i : ℕ) →
+        is_among i (hit t) ≡ true → is_passive (state_at t i) ≡ false → class_of t ≡ Destroyed }
 {}
 
 /// An error passive transmitter that nobody acknowledges keeps its counts, so it never goes off alone.
 pub fn passive_transmitter_waits()
-    ensures { (t : Transmission) → class_of t ≡ NoAck → is_passive (state_at t t.winner) ≡ true → counts_after t t.winner ≡ t.counts t.winner }
+    ensures { (t : Transmission) →
+        class_of t ≡ NoAck → is_passive (state_at t t.winner) ≡ true →
+        counts_after t t.winner ≡ t.counts t.winner }
 {}
 
 /// Interfaces that are bus off have no say: their counts change nothing for the others.
 pub fn off_interfaces_have_no_say()
     ensures class { (t u : Transmission) → SameToTheLive t u → class_of t ≡ class_of u }
     ensures receivers { (t u : Transmission) → SameToTheLive t u → receivers t ≡ receivers u }
-    ensures counts { (t u : Transmission) → SameToTheLive t u → (i : ℕ) → i < t.count → is_off (state_at t i) ≡ false → counts_after t i ≡ counts_after u i }
+    ensures counts { (t u : Transmission) → SameToTheLive t u →
+        (i : ℕ) → i < t.count → is_off (state_at t i) ≡ false → counts_after t i ≡ counts_after u i }
 {}
 
 /// Who accepts the frame was not hit, and the winner is neither.
 pub fn accepted_and_hit_are_apart()
-    ensures apart { (t : Transmission) (i : ℕ) → is_among i (accepted_in (class_of t) t) ≡ true → is_among i (hit t) ≡ false }
+    ensures apart { (t : Transmission) (i : ℕ) →
+        is_among i (accepted_in (class_of t) t) ≡ true → is_among i (hit t) ≡ false }
     ensures accepted { (t : Transmission) → is_among t.winner (accepted_in (class_of t) t) ≡ false }
     ensures hit { (t : Transmission) → is_among t.winner (hit t) ≡ false }
 {}
 
 /// Where the receivers acknowledge, a frame that went over the bus was accepted by somebody.
 pub fn acknowledged_frames_are_accepted()
-    ensures done { (t : Transmission) → t.ack ≡ Peers → class_of t ≡ Done → 0 < length (accepted_in Done t) }
-    ensures last_bit { (t : Transmission) → t.ack ≡ Peers → class_of t ≡ LastBit → 0 < length (accepted_in LastBit t) }
+    ensures done { (t : Transmission) → t.ack ≡ Peers → class_of t ≡ Done →
+        0 < length (accepted_in Done t) }
+    ensures last_bit { (t : Transmission) → t.ack ≡ Peers → class_of t ≡ LastBit →
+        0 < length (accepted_in LastBit t) }
 {}
 
 /// No attempt takes anybody but its winner off the bus.
 pub fn winner_alone_goes_off()
-    ensures { (t : Transmission) (i : ℕ) → i ≢ t.winner → is_off (state_of (counts_after t i)) ≡ is_off (state_at t i) }
+    ensures { (t : Transmission) (i : ℕ) → i ≢ t.winner →
+        is_off (state_of (counts_after t i)) ≡ is_off (state_at t i) }
 {}
 
 /// What follows from an attempt hangs on the counts of sixteen places alone.

@@ -1,7 +1,6 @@
-ghost use Rattle.std.specs.Prelude.{◌≡◌, ◌≤◌, ◌==◌, length, not};
-ghost use Rattle.std.specs.List.{list_any};
-ghost use Rattle.can_confine.specs.Confinement.{is_passive};
-ghost use Rattle.can_attempt.specs.Attempts.{attempt_between, can_hear, hit, unhurt, is_named, set_of, state_at};
+ghost use Rattle.std.specs.Prelude.{◌≡◌, ◌≤◌};
+ghost use Rattle.can_attempt.specs.Attempts.{attempt_between, can_hear, is_named};
+ghost use Rattle.can_attempt.specs.Surveys.{IsSurveyOf};
 ghost use Rattle.can_attempt.specs.declared.acks.AckMode.{AckMode};
 
 use crate::nodes::Nodes;
@@ -23,7 +22,8 @@ pub(crate) struct Survey {
 
 /// Whether the interface is a receiver: not the winner, and not bus off.
 pub(crate) fn can_hear(nodes: &Nodes, winner: Iface, iface: Iface) -> bool
-    ensures { (v : _) → (a : AckMode) → result ≡ can_hear (attempt_between nodes.now winner v a) iface }
+    ensures { (v : _) → (a : AckMode) →
+        result ≡ can_hear (attempt_between nodes.now winner v a) iface }
 {
     iface != winner && !nodes.is_off(iface)
 }
@@ -41,10 +41,7 @@ pub(crate) fn is_named(verdict: Verdict, iface: Iface) -> bool
 /// Asks each interface below `count` what it sees.
 pub(crate) fn survey_of(nodes: &Nodes, winner: Iface, verdict: Verdict) -> Survey
     requires { nodes.now.count ≤ 16 }
-    ensures hit { (a : AckMode) → result.hit ≡ set_of (hit (attempt_between nodes.now winner verdict a)) }
-    ensures unhurt { (a : AckMode) → result.unhurt ≡ set_of (unhurt (attempt_between nodes.now winner verdict a)) }
-    ensures active { (a : AckMode) → result.is_hit_active ≡ list_any (λ i. not (is_passive (state_at (attempt_between nodes.now winner verdict a) i))) (hit (attempt_between nodes.now winner verdict a)) }
-    ensures heard { (a : AckMode) → result.is_heard ≡ not (length (unhurt (attempt_between nodes.now winner verdict a)) == 0) }
+    ensures { (a : AckMode) → IsSurveyOf (attempt_between nodes.now winner verdict a) result }
 {
     let mut hit = IfaceSet::empty();
     let mut unhurt = IfaceSet::empty();

@@ -1,10 +1,11 @@
-use Rattle.std.proofs.Common.{◌≡◌, ℕ, ◌^◌, bit_or, Bool, true, false, not, ◌&&◌, ◌||◌, arith, ap, sym, ◌∙◌, refl}
+use Rattle.std.proofs.Common.{◌≡◌, ◌==◌, ℕ, ◌^◌, bit_or, Bool, true, false, not, length, ◌&&◌, ◌||◌, arith, ap, sym, ◌∙◌, refl}
+use Rattle.std.specs.List.{list_any}
 use Rattle.can_frame.specs.declared.ifaces.IfaceSet.{IfaceSet}
 use Rattle.can_confine.specs.Confinement.{ErrorCounts, is_passive, state_of}
 use Rattle.can_frame.specs.Sets.{bits_where}
 use Rattle.can_attempt.specs.Attempts.{Transmission, attempt_between, can_hear, is_named, state_at}
 use Rattle.can_attempt.specs.declared.acks.AckMode.TheVariants.{Always}
-use Rattle.can_attempt.proofs.Seeing.{seen_more, set_of-heard}
+use Rattle.can_attempt.proofs.Seeing.{heard, seen_more, set_of-heard}
 use Rattle.can_attempt.proofs.surveys.survey_of.Goals as goal
 use Rattle.can_attempt.proofs.surveys.survey_of.Goals.{then-is_named+then-not-is_passive, then-is_named+else-not-is_passive, else-is_named}
 
@@ -52,14 +53,17 @@ loop-place-preserved c =
           (rw (hears, spared) (w.is_heard-is ∙ true_on_the_right _))
     ]
 
-pub returns-clause-hit : goal.returns-clause-hit
-returns-clause-hit c a =
-    let t : Transmission = attempt_between c.args.nodes.now c.args.winner c.args.verdict a in
-    let ended : c.loop-place.place ≡ c.args.nodes.now.count = omega (arith, c.loop-place-test.false, c.loop-place.auto.place-end) in
-    set_of-heard (can_hear t) (is_named c.args.verdict) c.args.nodes.now.count c.loop-place.hit c.requires (c.loop-place.invariant.hit_bits ∙ ap (λ (i : ℕ). bits_where (λ k. can_hear t k && is_named c.args.verdict k) i) ended)
-
-pub returns-clause-unhurt : goal.returns-clause-unhurt
-returns-clause-unhurt c a =
-    let t : Transmission = attempt_between c.args.nodes.now c.args.winner c.args.verdict a in
-    let ended : c.loop-place.place ≡ c.args.nodes.now.count = omega (arith, c.loop-place-test.false, c.loop-place.auto.place-end) in
-    set_of-heard (can_hear t) (λ k. not (is_named c.args.verdict k)) c.args.nodes.now.count c.loop-place.unhurt c.requires (c.loop-place.invariant.unhurt_bits ∙ ap (λ (i : ℕ). bits_where (λ k. can_hear t k && not (is_named c.args.verdict k)) i) ended)
+pub returns : goal.returns
+returns c a =
+    let v = c.args.verdict in
+    let t : Transmission = attempt_between c.args.nodes.now c.args.winner v a in
+    let ended : c.loop-place.place ≡ t.count = omega (arith, c.loop-place-test.false, c.loop-place.auto.place-end) in
+    record {
+      hit = set_of-heard (can_hear t) (is_named v) t.count c.loop-place.hit c.requires
+          (c.loop-place.invariant.hit_bits ∙ ap (bits_where (λ k. can_hear t k && is_named v k)) ended);
+      unhurt = set_of-heard (can_hear t) (λ k. not (is_named v k)) t.count c.loop-place.unhurt c.requires
+          (c.loop-place.invariant.unhurt_bits ∙ ap (bits_where (λ k. can_hear t k && not (is_named v k))) ended);
+      active = c.loop-place.invariant.active
+          ∙ ap (λ i. list_any (λ k. not (is_passive (state_at t k))) (heard (can_hear t) (is_named v) i)) ended;
+      heard = c.loop-place.invariant.some ∙ ap (λ i. not (length (heard (can_hear t) (λ k. not (is_named v k)) i) == 0)) ended;
+    }
