@@ -1,4 +1,5 @@
 use Rattle.std.specs.Prelude.{Bool, true, IsTrue, Option, Some, None, Result, Ok, Err, if◌then◌else◌}
+use Rattle.can_event.specs.declared.events.Entry.{Entry}
 use Rattle.can_event.specs.declared.events.Event.{Event}
 use Rattle.can_event.specs.declared.events.Received.{Received}
 use Rattle.can_event.specs.declared.events.Refusal.{Refusal}
@@ -21,6 +22,10 @@ enters _ = true
 abbrev pub Enters : Reply → Type 0
 Enters r = IsTrue (enters r)
 
+-- an event with its reply (own choice)
+abbrev pub entry_of : Event → Reply → Entry
+entry_of e r = record { event = e; reply = r }
+
 -- the reply to what a call came to, or its refusal (own choice)
 abbrev pub told : {A : Type 0} → (A → Reply) → Result A Refusal → Reply
 told f (Ok a) = f a
@@ -33,3 +38,7 @@ taken_item room taken = if taken then Some room else None
 -- the reply to a receive that took an item into this room, or none (own choice)
 abbrev pub taken_reply : Received → Bool → Reply
 taken_reply room taken = reply.Received (taken_item room taken)
+
+-- the reply to a receive that came to this with the room: an item or none, or a refusal (own choice)
+abbrev pub receive_reply : Received → Result Bool Refusal → Reply
+receive_reply room outcome = told (taken_reply room) outcome

@@ -15,7 +15,7 @@ use Rattle.can_event.specs.declared.events.Reply.{Reply}
 use Rattle.can_event.specs.declared.events.Reply.TheVariants as reply
 use Rattle.can_event.specs.declared.events.SocketId.{SocketId}
 use Rattle.can_event.specs.declared.events.Tried.{Tried}
-use Rattle.can_event.specs.Replies.{taken_reply, told}
+use Rattle.can_event.specs.Replies.{entry_of, receive_reply, told}
 use Rattle.can_packed.specs.declared.kept.Kept.{Kept}
 use Rattle.can_packed.specs.declared.kept.Kept.TheVariants as kept
 use Rattle.can_packed.specs.declared.kept.KeptFrame.{KeptFrame}
@@ -25,9 +25,6 @@ use Rattle.can_packed.specs.Moments.{moment_in}
 use Rattle.can_packed.specs.Verdicts.{class_in, verdict_in}
 
 -- The entry that is kept in 32 bytes, beside a list of FD frames.
-
-abbrev pub both : Event → Reply → Entry
-both e r = record { event = e; reply = r }
 
 -- the FD frame at a place of the list; no entry of a record has a place past its end
 abbrev pub fd_frame_at : List CanFrame → ℕ → CanFrame
@@ -52,27 +49,27 @@ tried_in end word number accepted restarted bytes stamp = record { moment = stam
 
 -- the entry
 abbrev pub entry_in : List CanFrame → Kept → Entry
-entry_in frames (kept.Opened i capacity s) = both (Open i capacity) (reply.Opened s)
-entry_in frames (kept.OpenRefused i capacity why) = both (Open i capacity) (reply.Refused why)
-entry_in frames (kept.Closed s counts) = both (Close s) (reply.Closed counts)
-entry_in frames (kept.CloseRefused s why) = both (Close s) (reply.Refused why)
-entry_in frames (kept.OptionSet s option) = both (SetOption s option) reply.Done
-entry_in frames (kept.OptionRefused s option why) = both (SetOption s option) (reply.Refused why)
-entry_in frames (kept.Sent len s word number bytes) = both (Send s (frame_in word len bytes)) (reply.Sent number)
-entry_in frames (kept.FdSent s number place) = both (Send s (fd_frame_at frames place)) (reply.Sent number)
-entry_in frames (kept.SendRefused why len s word bytes) = both (Send s (frame_in word len bytes)) (reply.Refused why)
-entry_in frames (kept.FdSendRefused why s place) = both (Send s (fd_frame_at frames place)) (reply.Refused why)
-entry_in frames (kept.NothingReceived s) = both (Receive s) (reply.Received None)
-entry_in frames (kept.FrameReceived from len s word number bytes m) = both (Receive s) (reply.Received (Some (record { item = item.Data (frame_in word len bytes); from = from; number = number; moment = m })))
-entry_in frames (kept.FdReceived from s number place m) = both (Receive s) (reply.Received (Some (record { item = item.Data (fd_frame_at frames place); from = from; number = number; moment = m })))
-entry_in frames (kept.ErrorReceived from s number error m) = both (Receive s) (reply.Received (Some (record { item = item.Error error; from = from; number = number; moment = m })))
-entry_in frames (kept.ReceiveRefused s why) = both (Receive s) (reply.Refused why)
-entry_in frames (kept.Idle restarted v m) = both (Attempt m v) (reply.Idle restarted)
-entry_in frames (kept.Tried end named word number accepted restarted bytes stamp) = both (Attempt (stamp_moment stamp) (verdict_in (end / 4) named)) (reply.Tried (tried_in end word number accepted restarted bytes stamp))
-entry_in frames (kept.FdTried end winner number named accepted off restarted place m) = both (Attempt m (verdict_in (end / 4) named)) (reply.Tried (record { moment = m; winner = winner; number = number; frame = fd_frame_at frames place; class = class_in (end % 4); accepted = accepted; off = off; restarted = restarted }))
-entry_in frames (kept.AttemptRefused v m why) = both (Attempt m v) (reply.Refused why)
-entry_in frames (kept.Restarted i m) = both (Restart i m) reply.Done
-entry_in frames (kept.RestartRefused i m why) = both (Restart i m) (reply.Refused why)
+entry_in frames (kept.Opened i capacity s) = entry_of (Open i capacity) (reply.Opened s)
+entry_in frames (kept.OpenRefused i capacity why) = entry_of (Open i capacity) (reply.Refused why)
+entry_in frames (kept.Closed s counts) = entry_of (Close s) (reply.Closed counts)
+entry_in frames (kept.CloseRefused s why) = entry_of (Close s) (reply.Refused why)
+entry_in frames (kept.OptionSet s option) = entry_of (SetOption s option) reply.Done
+entry_in frames (kept.OptionRefused s option why) = entry_of (SetOption s option) (reply.Refused why)
+entry_in frames (kept.Sent len s word number bytes) = entry_of (Send s (frame_in word len bytes)) (reply.Sent number)
+entry_in frames (kept.FdSent s number place) = entry_of (Send s (fd_frame_at frames place)) (reply.Sent number)
+entry_in frames (kept.SendRefused why len s word bytes) = entry_of (Send s (frame_in word len bytes)) (reply.Refused why)
+entry_in frames (kept.FdSendRefused why s place) = entry_of (Send s (fd_frame_at frames place)) (reply.Refused why)
+entry_in frames (kept.NothingReceived s) = entry_of (Receive s) (reply.Received None)
+entry_in frames (kept.FrameReceived from len s word number bytes m) = entry_of (Receive s) (reply.Received (Some (record { item = item.Data (frame_in word len bytes); from = from; number = number; moment = m })))
+entry_in frames (kept.FdReceived from s number place m) = entry_of (Receive s) (reply.Received (Some (record { item = item.Data (fd_frame_at frames place); from = from; number = number; moment = m })))
+entry_in frames (kept.ErrorReceived from s number error m) = entry_of (Receive s) (reply.Received (Some (record { item = item.Error error; from = from; number = number; moment = m })))
+entry_in frames (kept.ReceiveRefused s why) = entry_of (Receive s) (reply.Refused why)
+entry_in frames (kept.Idle restarted v m) = entry_of (Attempt m v) (reply.Idle restarted)
+entry_in frames (kept.Tried end named word number accepted restarted bytes stamp) = entry_of (Attempt (stamp_moment stamp) (verdict_in (end / 4) named)) (reply.Tried (tried_in end word number accepted restarted bytes stamp))
+entry_in frames (kept.FdTried end winner number named accepted off restarted place m) = entry_of (Attempt m (verdict_in (end / 4) named)) (reply.Tried (record { moment = m; winner = winner; number = number; frame = fd_frame_at frames place; class = class_in (end % 4); accepted = accepted; off = off; restarted = restarted }))
+entry_in frames (kept.AttemptRefused v m why) = entry_of (Attempt m v) (reply.Refused why)
+entry_in frames (kept.Restarted i m) = entry_of (Restart i m) reply.Done
+entry_in frames (kept.RestartRefused i m why) = entry_of (Restart i m) (reply.Refused why)
 entry_in frames (kept.Wide entry) = entry.value
 
 -- it has no memory of its own
@@ -115,25 +112,25 @@ abbrev pub fd_frames_of_item : Item → List CanFrame
 fd_frames_of_item (item.Data frame) = fd_frames_of frame
 fd_frames_of_item (item.Error error) = []
 
--- what an entry adds to that list
+-- what an entry adds to that list (own choice)
 abbrev pub fd_frames : Event → Reply → List CanFrame
 fd_frames (Send s frame) r = fd_frames_of frame
 fd_frames (Receive s) (reply.Received (Some r)) = fd_frames_of_item r.item
 fd_frames (Attempt m v) (reply.Tried t) = fd_frames_of t.frame
 fd_frames _ _ = []
 
--- the entry of a receive that came to this with the room
+-- the entry of a receive that came to this with the room (own choice)
 abbrev pub receive_entry : SocketId → Received → Result Bool Refusal → Entry
-receive_entry s room outcome = both (Receive s) (told (taken_reply room) outcome)
+receive_entry s room outcome = entry_of (Receive s) (receive_reply room outcome)
 
--- what it adds to that list
+-- what the entry of such a receive adds to the list of FD frames (own choice)
 abbrev pub receive_frames : SocketId → Received → Result Bool Refusal → List CanFrame
-receive_frames s room outcome = fd_frames (Receive s) (told (taken_reply room) outcome)
+receive_frames s room outcome = fd_frames (Receive s) (receive_reply room outcome)
 
--- the entry of a send that came to this
+-- the entry of a send that came to this (own choice)
 abbrev pub send_entry : SocketId → CanFrame → Result ℕ Refusal → Entry
-send_entry s frame outcome = both (Send s frame) (told reply.Sent outcome)
+send_entry s frame outcome = entry_of (Send s frame) (told reply.Sent outcome)
 
--- the entry of an attempt that tried this frame
+-- the entry of an attempt that tried this frame (own choice)
 abbrev pub tried_entry : ℕ → Verdict → Tried → Entry
-tried_entry m v t = both (Attempt m v) (reply.Tried t)
+tried_entry m v t = entry_of (Attempt m v) (reply.Tried t)

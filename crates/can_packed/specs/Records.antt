@@ -1,4 +1,4 @@
-use Rattle.std.specs.Prelude.{ℕ, Bool, List}
+use Rattle.std.specs.Prelude.{◌≡◌, ℕ, Bool, List, [], ◌∷◌, ◌++◌}
 use Rattle.can_event.specs.declared.events.Entry.{Entry}
 
 -- entries, the oldest first, and how many there is memory for
@@ -11,3 +11,7 @@ pub record ListedEntries : Type 0 where
   pub entries : List Entry
   pub room : ℕ
   pub spare : Bool
+
+-- the entries are the old ones with this one added, as the newest (own choice)
+abbrev pub Adds : List Entry → Entry → List Entry → Type 0
+Adds old e new = new ≡ old ++ e ∷ []

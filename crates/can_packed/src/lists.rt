@@ -1,6 +1,7 @@
-ghost use Rattle.std.specs.Prelude.{◌≡◌, ◌<◌, ◌≤◌, ◌+◌, ◌==◌, true, [], ◌∷◌, ◌++◌, length, slice_get, IsOk, OnOk};
-ghost use Rattle.can_event.specs.Replies.{taken_reply, told};
+ghost use Rattle.std.specs.Prelude.{◌≡◌, ◌<◌, ◌≤◌, ◌+◌, ◌==◌, true, [], length, slice_get, IsOk, OnOk};
+ghost use Rattle.can_event.specs.Replies.{entry_of, receive_reply};
 ghost use Rattle.can_packed.specs.Kept.{receive_entry};
+ghost use Rattle.can_packed.specs.Records.{Adds};
 ghost use Rattle.can_packed.specs.Wide.{is_wide};
 
 use crate::looked::Looked;
@@ -80,7 +81,7 @@ impl PackedList {
     pub fn push(&mut self, event: Event, reply: Reply)
         requires room { length self.old.entries < self.old.room }
         requires spare { is_wide event reply ≡ true → self.old.spare ≡ true }
-        ensures { self.new.entries ≡ self.old.entries ++ record { event = event; reply = reply } ∷ [] }
+        ensures { Adds self.old.entries (entry_of event reply) self.new.entries }
     {
         if is_wide(&event, &reply) {
             self.push_spare(event, reply);
@@ -93,7 +94,7 @@ impl PackedList {
     pub fn push_receive(&mut self, id: SocketId, outcome: Result<bool, Refusal>, room: &Received)
         requires room { length self.old.entries < self.old.room }
         requires spare { self.old.spare ≡ true }
-        ensures { self.new.entries ≡ self.old.entries ++ receive_entry id room.now outcome ∷ [] }
+        ensures { Adds self.old.entries (receive_entry id room.now outcome) self.new.entries }
     {
         if is_wide_receive(outcome, room) {
             self.push_wide_receive(id, outcome, room);
@@ -107,7 +108,7 @@ impl PackedList {
     fn push_wide_receive(&mut self, id: SocketId, outcome: Result<bool, Refusal>, room: &Received)
         requires room { length self.old.entries < self.old.room }
         requires spare { self.old.spare ≡ true }
-        ensures { self.new.entries ≡ self.old.entries ++ receive_entry id room.now outcome ∷ [] }
+        ensures { Adds self.old.entries (receive_entry id room.now outcome) self.new.entries }
     {
         self.push_spare(Event::Receive(id), receive_reply(outcome, room));
     }
@@ -116,7 +117,7 @@ impl PackedList {
     fn push_spare(&mut self, event: Event, reply: Reply)
         requires room { length self.old.entries < self.old.room }
         requires spare { self.old.spare ≡ true }
-        ensures { self.new.entries ≡ self.old.entries ++ record { event = event; reply = reply } ∷ [] }
+        ensures { Adds self.old.entries (entry_of event reply) self.new.entries }
     {
         let mut entry = self.spare.take().unwrap();
         *entry = Entry { event, reply };
@@ -133,7 +134,7 @@ impl PackedList {
 
 /// The reply to a receive, which took an item into the room, or took none, or was refused.
 pub fn receive_reply(outcome: Result<bool, Refusal>, room: &Received) -> Reply
-    ensures { result ≡ told (taken_reply room.now) outcome }
+    ensures { result ≡ receive_reply room.now outcome }
 {
     match outcome {
         Ok(true) => Reply::Received(Some(*room)),

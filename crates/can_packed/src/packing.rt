@@ -1,9 +1,9 @@
 ghost use Rattle.std.specs.Prelude.{◌≡◌, ◌<◌, ◌≤◌, ◌/◌, ◌%◌, ◌++◌, List, length, vec_capacity, false, IsTrue, Some};
 ghost use Rattle.can_event.specs.declared.events.Event.TheVariants as asked;
 ghost use Rattle.can_event.specs.declared.events.Reply.TheVariants as answer;
-ghost use Rattle.can_event.specs.Replies.{taken_reply, told};
+ghost use Rattle.can_event.specs.Replies.{entry_of, receive_reply, told};
 ghost use Rattle.can_frame.specs.Frames.{CanFrame};
-ghost use Rattle.can_packed.specs.Kept.{entry_in, frames_needed, frame_kept, frames_needed_for, fd_frames, fd_frames_of, fd_frames_of_item, receive_entry, receive_frames, send_entry, IsShort, stamp_moment, stamp_winner, stamp_len, stamp_off};
+ghost use Rattle.can_packed.specs.Kept.{entry_in, frames_needed, frame_kept, frames_needed_for, fd_frames, fd_frames_of, fd_frames_of_item, receive_entry, receive_frames, send_entry, tried_entry, IsShort, stamp_moment, stamp_winner, stamp_len, stamp_off};
 ghost use Rattle.can_packed.specs.Verdicts.{class_in, verdict_in, verdict_set};
 ghost use Rattle.can_packed.specs.Wide.{is_wide, is_large, is_off_alone};
 
@@ -20,7 +20,7 @@ use can_frame::{Frame, Iface, IfaceSet, Item, Moment};
 pub fn packed(frames: &mut Vec<Frame>, event: &Event, reply: &Reply) -> Kept
     requires fits { is_wide event.now reply.now ≡ false }
     requires room { length frames.old.items < vec_capacity frames.old }
-    ensures entry { entry_in frames.new.items result ≡ record { event = event.now; reply = reply.now } }
+    ensures entry { entry_in frames.new.items result ≡ entry_of event.now reply.now }
     ensures within { frames_needed result ≤ length frames.new.items }
     ensures frames { frames.new.items ≡ frames.old.items ++ fd_frames event.now reply.now }
     ensures memory { vec_capacity frames.old ≤ vec_capacity frames.new }
@@ -41,7 +41,8 @@ pub fn packed(frames: &mut Vec<Frame>, event: &Event, reply: &Reply) -> Kept
 #[inline(always)]
 fn opened(iface: Iface, capacity: u32, reply: &Reply) -> Kept
     requires fits { is_wide (asked.Open iface capacity) reply.now ≡ false }
-    ensures entry { (fs : List CanFrame) → entry_in fs result ≡ record { event = asked.Open iface capacity; reply = reply.now } }
+    ensures entry { (fs : List CanFrame) →
+        entry_in fs result ≡ entry_of (asked.Open iface capacity) reply.now }
     ensures within { frames_needed result ≡ 0 }
 {
     match reply {
@@ -62,7 +63,8 @@ fn opened(iface: Iface, capacity: u32, reply: &Reply) -> Kept
 #[inline(always)]
 fn closed(id: SocketId, reply: &Reply) -> Kept
     requires fits { is_wide (asked.Close id) reply.now ≡ false }
-    ensures entry { (fs : List CanFrame) → entry_in fs result ≡ record { event = asked.Close id; reply = reply.now } }
+    ensures entry { (fs : List CanFrame) →
+        entry_in fs result ≡ entry_of (asked.Close id) reply.now }
     ensures within { frames_needed result ≡ 0 }
 {
     match reply {
@@ -81,7 +83,8 @@ fn closed(id: SocketId, reply: &Reply) -> Kept
 #[inline(always)]
 fn option_set(id: SocketId, option: Opt, reply: &Reply) -> Kept
     requires fits { is_wide (asked.SetOption id option) reply.now ≡ false }
-    ensures entry { (fs : List CanFrame) → entry_in fs result ≡ record { event = asked.SetOption id option; reply = reply.now } }
+    ensures entry { (fs : List CanFrame) →
+        entry_in fs result ≡ entry_of (asked.SetOption id option) reply.now }
     ensures within { frames_needed result ≡ 0 }
 {
     match reply {
@@ -98,7 +101,8 @@ fn option_set(id: SocketId, option: Opt, reply: &Reply) -> Kept
 #[inline(always)]
 fn restarted(iface: Iface, moment: Moment, reply: &Reply) -> Kept
     requires fits { is_wide (asked.Restart iface moment) reply.now ≡ false }
-    ensures entry { (fs : List CanFrame) → entry_in fs result ≡ record { event = asked.Restart iface moment; reply = reply.now } }
+    ensures entry { (fs : List CanFrame) →
+        entry_in fs result ≡ entry_of (asked.Restart iface moment) reply.now }
     ensures within { frames_needed result ≡ 0 }
 {
     match reply {
@@ -116,9 +120,10 @@ fn restarted(iface: Iface, moment: Moment, reply: &Reply) -> Kept
 fn sent(frames: &mut Vec<Frame>, id: SocketId, frame: &Frame, reply: &Reply) -> Kept
     requires fits { is_wide (asked.Send id frame.now) reply.now ≡ false }
     requires room { length frames.old.items < vec_capacity frames.old }
-    ensures entry { entry_in frames.new.items result ≡ record { event = asked.Send id frame.now; reply = reply.now } }
+    ensures entry { entry_in frames.new.items result
+        ≡ entry_of (asked.Send id frame.now) reply.now }
     ensures within { frames_needed result ≤ length frames.new.items }
-    ensures frames { frames.new.items ≡ frames.old.items ++ fd_frames (asked.Send id frame.now) reply.now }
+    ensures frames { frames.new.items ≡ frames.old.items ++ fd_frames_of frame.now }
     ensures memory { vec_capacity frames.old ≤ vec_capacity frames.new }
 {
     match reply {
@@ -179,7 +184,7 @@ pub fn packed_send(
 fn received(frames: &mut Vec<Frame>, id: SocketId, reply: &Reply) -> Kept
     requires fits { is_wide (asked.Receive id) reply.now ≡ false }
     requires room { length frames.old.items < vec_capacity frames.old }
-    ensures entry { entry_in frames.new.items result ≡ record { event = asked.Receive id; reply = reply.now } }
+    ensures entry { entry_in frames.new.items result ≡ entry_of (asked.Receive id) reply.now }
     ensures within { frames_needed result ≤ length frames.new.items }
     ensures frames { frames.new.items ≡ frames.old.items ++ fd_frames (asked.Receive id) reply.now }
     ensures memory { vec_capacity frames.old ≤ vec_capacity frames.new }
@@ -203,7 +208,7 @@ pub fn packed_receive(
     outcome: Result<bool, Refusal>,
     room: &Received,
 ) -> Kept
-    requires fits { is_wide (asked.Receive id) (told (taken_reply room.now) outcome) ≡ false }
+    requires fits { is_wide (asked.Receive id) (receive_reply room.now outcome) ≡ false }
     requires room { length frames.old.items < vec_capacity frames.old }
     ensures entry { entry_in frames.new.items result ≡ receive_entry id room.now outcome }
     ensures within { frames_needed result ≤ length frames.new.items }
@@ -221,7 +226,8 @@ pub fn packed_receive(
 fn item_received(frames: &mut Vec<Frame>, id: SocketId, received: &Received) -> Kept
     requires fits { is_large received.now.number ≡ false }
     requires room { length frames.old.items < vec_capacity frames.old }
-    ensures entry { entry_in frames.new.items result ≡ record { event = asked.Receive id; reply = answer.Received (Some received.now) } }
+    ensures entry { entry_in frames.new.items result
+        ≡ entry_of (asked.Receive id) (answer.Received (Some received.now)) }
     ensures within { frames_needed result ≤ length frames.new.items }
     ensures frames { frames.new.items ≡ frames.old.items ++ fd_frames_of_item received.now.item }
     ensures memory { vec_capacity frames.old ≤ vec_capacity frames.new }
@@ -268,9 +274,11 @@ fn item_received(frames: &mut Vec<Frame>, id: SocketId, received: &Received) -> 
 fn attempted(frames: &mut Vec<Frame>, moment: Moment, verdict: Verdict, reply: &Reply) -> Kept
     requires fits { is_wide (asked.Attempt moment verdict) reply.now ≡ false }
     requires room { length frames.old.items < vec_capacity frames.old }
-    ensures entry { entry_in frames.new.items result ≡ record { event = asked.Attempt moment verdict; reply = reply.now } }
+    ensures entry { entry_in frames.new.items result
+        ≡ entry_of (asked.Attempt moment verdict) reply.now }
     ensures within { frames_needed result ≤ length frames.new.items }
-    ensures frames { frames.new.items ≡ frames.old.items ++ fd_frames (asked.Attempt moment verdict) reply.now }
+    ensures frames { frames.new.items
+        ≡ frames.old.items ++ fd_frames (asked.Attempt moment verdict) reply.now }
     ensures memory { vec_capacity frames.old ≤ vec_capacity frames.new }
 {
     match reply {
@@ -294,7 +302,7 @@ fn attempted(frames: &mut Vec<Frame>, moment: Moment, verdict: Verdict, reply: &
 pub fn tried_at(frames: &mut Vec<Frame>, moment: Moment, verdict: Verdict, tried: &Tried) -> Kept
     requires fits { is_wide (asked.Attempt moment verdict) (answer.Tried tried.now) ≡ false }
     requires room { length frames.old.items < vec_capacity frames.old }
-    ensures entry { entry_in frames.new.items result ≡ record { event = asked.Attempt moment verdict; reply = answer.Tried tried.now } }
+    ensures entry { entry_in frames.new.items result ≡ tried_entry moment verdict tried.now }
     ensures within { frames_needed result ≤ length frames.new.items }
     ensures frames { frames.new.items ≡ frames.old.items ++ fd_frames_of tried.now.frame }
     ensures memory { vec_capacity frames.old ≤ vec_capacity frames.new }

@@ -1,9 +1,10 @@
-ghost use Rattle.std.specs.Prelude.{◌≡◌, ◌<◌, ◌≤◌, ◌+◌, false, [], ◌∷◌, ◌++◌, length, slice_get, IfOk, IfSome, IsOk, OnOk};
+ghost use Rattle.std.specs.Prelude.{◌≡◌, ◌<◌, ◌≤◌, ◌+◌, false, [], length, slice_get, IfOk, IfSome, IsOk, OnOk};
 ghost use Rattle.std.specs.Option.{option_map};
-ghost use Rattle.can_event.specs.Replies.{taken_reply, told};
+ghost use Rattle.can_event.specs.Replies.{entry_of, receive_reply, told};
 ghost use Rattle.can_event.specs.declared.events.Event.TheVariants as asked;
 ghost use Rattle.can_event.specs.declared.events.Reply.TheVariants as answer;
 ghost use Rattle.can_packed.specs.Kept.{entry_in, frames_needed, receive_entry, send_entry, tried_entry};
+ghost use Rattle.can_packed.specs.Records.{Adds};
 ghost use Rattle.can_packed.specs.Stored.{entry_stored, IsStored};
 ghost use Rattle.can_packed.specs.Wide.{is_wide};
 
@@ -82,7 +83,7 @@ impl PackedRecord {
     pub fn push(&mut self, event: &Event, reply: &Reply)
         requires room { length self.old.entries < self.old.room }
         requires fits { is_wide event.now reply.now ≡ false }
-        ensures more { self.new.entries ≡ self.old.entries ++ record { event = event.now; reply = reply.now } ∷ [] }
+        ensures more { Adds self.old.entries (entry_of event.now reply.now) self.new.entries }
         ensures room { self.old.room ≤ self.new.room }
     {
         let kept = packed(&mut self.frames, event, reply);
@@ -93,8 +94,8 @@ impl PackedRecord {
     #[inline(always)]
     pub fn push_receive(&mut self, id: SocketId, outcome: Result<bool, Refusal>, room: &Received)
         requires room { length self.old.entries < self.old.room }
-        requires fits { is_wide (asked.Receive id) (told (taken_reply room.now) outcome) ≡ false }
-        ensures more { self.new.entries ≡ self.old.entries ++ receive_entry id room.now outcome ∷ [] }
+        requires fits { is_wide (asked.Receive id) (receive_reply room.now outcome) ≡ false }
+        ensures more { Adds self.old.entries (receive_entry id room.now outcome) self.new.entries }
         ensures room { self.old.room ≤ self.new.room }
     {
         let kept = packed_receive(&mut self.frames, id, outcome, room);
@@ -106,7 +107,7 @@ impl PackedRecord {
     pub fn push_send(&mut self, id: SocketId, frame: &Frame, outcome: Result<u64, Refusal>)
         requires room { length self.old.entries < self.old.room }
         requires fits { is_wide (asked.Send id frame.now) (told answer.Sent outcome) ≡ false }
-        ensures more { self.new.entries ≡ self.old.entries ++ send_entry id frame.now outcome ∷ [] }
+        ensures more { Adds self.old.entries (send_entry id frame.now outcome) self.new.entries }
         ensures room { self.old.room ≤ self.new.room }
     {
         let kept = packed_send(&mut self.frames, id, frame, outcome);
@@ -118,7 +119,7 @@ impl PackedRecord {
     pub fn push_tried(&mut self, moment: Moment, verdict: Verdict, tried: &Tried)
         requires room { length self.old.entries < self.old.room }
         requires fits { is_wide (asked.Attempt moment verdict) (answer.Tried tried.now) ≡ false }
-        ensures more { self.new.entries ≡ self.old.entries ++ tried_entry moment verdict tried.now ∷ [] }
+        ensures more { Adds self.old.entries (tried_entry moment verdict tried.now) self.new.entries }
         ensures room { self.old.room ≤ self.new.room }
     {
         let kept = tried_at(&mut self.frames, moment, verdict, tried);
@@ -128,7 +129,7 @@ impl PackedRecord {
     /// Adds an entry that has memory of its own, and stays in it. No other is taken.
     pub fn push_boxed(&mut self, entry: Box<Entry>)
         requires room { length self.old.entries < self.old.room }
-        ensures more { self.new.entries ≡ self.old.entries ++ entry.value ∷ [] }
+        ensures more { Adds self.old.entries entry.value self.new.entries }
         ensures room { self.old.room ≤ self.new.room }
     {
         let _ = self.entries.push(Kept::Wide(entry));

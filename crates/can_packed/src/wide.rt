@@ -1,5 +1,5 @@
 ghost use Rattle.std.specs.Prelude.{◌≡◌};
-ghost use Rattle.can_event.specs.Replies.{taken_reply, told};
+ghost use Rattle.can_event.specs.Replies.{receive_reply};
 ghost use Rattle.can_event.specs.declared.events.Event.TheVariants as asked;
 ghost use Rattle.can_event.specs.declared.events.SocketId.{SocketId};
 ghost use Rattle.can_packed.specs.Wide.{is_wide, is_large, is_off_alone};
@@ -32,7 +32,8 @@ pub fn is_wide(event: &Event, reply: &Reply) -> bool
 
 /// Whether the entry of a receive does not fit in 32 bytes: it took an item into the room, or took none, or was refused.
 pub fn is_wide_receive(outcome: Result<bool, Refusal>, room: &Received) -> bool
-    ensures { (id : SocketId) → result ≡ is_wide (asked.Receive id) (told (taken_reply room.now) outcome) }
+    ensures { (id : SocketId) →
+        result ≡ is_wide (asked.Receive id) (receive_reply room.now outcome) }
 {
     match outcome {
         Ok(true) => is_large(room.number),

@@ -1,6 +1,6 @@
 use Rattle.std.proofs.Common.{◌≡◌, ◌≤◌, ◌+◌, ◌∷◌, ◌++◌, [], length, length-append, ap, arith}
 use Rattle.std.proofs.lemmas.Grind.{common_steps}
-use Rattle.can_event.specs.Replies.{taken_reply, told}
+use Rattle.can_event.specs.Replies.{receive_reply}
 use Rattle.can_event.specs.declared.events.Event.TheVariants.{Receive}
 use Rattle.can_packed.specs.Kept.{entry_in, frames_needed, receive_entry, receive_frames}
 use Rattle.can_packed.specs.Records.{PackedEntries}
@@ -28,7 +28,7 @@ pub returns-clause-room : goal.returns-clause-room
 returns-clause-room c =
     let fs = c.self.inside.frames.items in
     let more = receive_frames c.args.id c.args.room.now c.args.outcome in
-    let few : length (fs ++ more) ≤ length fs + 1 = omega (arith, length-append fs more, few_frames (Receive c.args.id) (told (taken_reply c.args.room.now) c.args.outcome)) in
+    let few : length (fs ++ more) ≤ length fs + 1 = omega (arith, length-append fs more, few_frames (Receive c.args.id) (receive_reply c.args.room.now c.args.outcome)) in
     let frames : length c.packed_receive-kept.new.frames.items ≤ length fs + 1 = rw c.packed_receive-kept.ensures.frames few in
     let room = ap (λ (p : PackedEntries). p.room) c.self.view_is in
     grind (arith, common_steps, c.requires.room, room, frames)
