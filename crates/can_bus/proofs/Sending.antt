@@ -18,7 +18,7 @@ use Rattle.can_bus.specs.Legal.{lacks_fd, legal_reply, IsLegal}
 use Rattle.can_bus.specs.Sockets.{iface_of, is_open, options_of}
 use Rattle.can_bus.specs.Transmit.{sent_by, gone_count, head_of}
 use Rattle.can_bus.specs.State.{LineState, SocketState, Parts, key_in, kept_line, kept_lines, kept_keys, kept_nodes, kept_left, kept_socket, kept_sockets, kept_parts}
-use Rattle.can_bus.specs.Changes.{IsLineOf, Takes, FindsFull, IsFdOffFor, IsOffFor, Sends, with_line, is_off_at}
+use Rattle.can_bus.specs.Changes.{IsLineOf, Takes, FindsFull, IsFdOffFor, IsOffFor, Sends, pending_of, with_line, is_off_at}
 use Rattle.can_bus.proofs.Keeping.{Follows, IsQuiet, kept_sockets-quiet, refused-quiet, follows_refused, parts-are}
 use Rattle.can_bus.proofs.KeyFacts.{kept_keys-one}
 use Rattle.can_bus.proofs.Lawful.{gone-le-sent, open-iface}
@@ -26,9 +26,6 @@ use Rattle.can_bus.proofs.LineFacts.{IsLine-at, kept_lines-one}
 use Rattle.can_bus.proofs.Lists.{slice_get-drop}
 use Rattle.can_bus.proofs.NodeFacts.{is_off_at-kept}
 use Rattle.can_bus.proofs.Opened.{IsThere-stands, closed-nowhere}
-
-abbrev pub of_frame : CanFrame → SocketId → SocketState → Pending
-of_frame f s v = record { frame = f; socket = s; loopback = v.options.loopback }
 
 abbrev pub entry : SocketId → CanFrame → Result ℕ Refusal → Entry
 entry s f r = record { event = Send s f; reply = told reply.Sent r }
@@ -99,46 +96,46 @@ head-other : (past : List Entry) (s : SocketId) (f : CanFrame) (n o : ℕ) → o
 head-other past s f n o differ = ap (λ (ps : List Pending). slice_get ps (gone_count past o)) (sent_by-other past s f n o differ)
 
 -- the frames of the sender's interface
-sent_by-here : (c : BusConfig) (past : List Entry) (s : SocketId) (f : CanFrame) (n : ℕ) (v : SocketState) → v ≡ kept_socket c past s.0 → sent_by (entry s f (Ok n) ∷ past) (iface_of past s.0) ≡ sent_by past (iface_of past s.0) ++ of_frame f s v ∷ []
+sent_by-here : (c : BusConfig) (past : List Entry) (s : SocketId) (f : CanFrame) (n : ℕ) (v : SocketState) → v ≡ kept_socket c past s.0 → sent_by (entry s f (Ok n) ∷ past) (iface_of past s.0) ≡ sent_by past (iface_of past s.0) ++ pending_of f s v ∷ []
 sent_by-here c past s f n v is =
     cond-true (iface_of past s.0 == iface_of past s.0) _ _ (eq-eqb (iface_of past s.0) (iface_of past s.0) refl)
-    ∙ ap (λ (w : SocketState). sent_by past (iface_of past s.0) ++ of_frame f s w ∷ []) (sym is)
+    ∙ ap (λ (w : SocketState). sent_by past (iface_of past s.0) ++ pending_of f s w ∷ []) (sym is)
 
 waiting-here : (c : BusConfig) (past : List Entry) (s : SocketId) (f : CanFrame) (n : ℕ) (v : SocketState) → IsLegal c past
     → v ≡ kept_socket c past s.0
-    → drop (gone_count past (iface_of past s.0)) (sent_by (entry s f (Ok n) ∷ past) (iface_of past s.0)) ≡ drop (gone_count past (iface_of past s.0)) (sent_by past (iface_of past s.0)) ++ of_frame f s v ∷ []
+    → drop (gone_count past (iface_of past s.0)) (sent_by (entry s f (Ok n) ∷ past) (iface_of past s.0)) ≡ drop (gone_count past (iface_of past s.0)) (sent_by past (iface_of past s.0)) ++ pending_of f s v ∷ []
 waiting-here c past s f n v legal is =
     let i = iface_of past s.0 in
     ap (drop (gone_count past i)) (sent_by-here c past s f n v is) ∙ drop-append-le (gone_count past i) (sent_by past i) _ (gone-le-sent c past legal i)
 
-line-sent : (c : BusConfig) (past : List Entry) (s : SocketId) (f : CanFrame) (n : ℕ) (v : SocketState) (l : LineState) → IsLegal c past → IsSender c past s.0 v l → record l { waiting = l.waiting ++ of_frame f s v ∷ []; sent = l.sent + 1 } ≡ kept_line c (entry s f (Ok n) ∷ past) (iface_of past s.0)
+line-sent : (c : BusConfig) (past : List Entry) (s : SocketId) (f : CanFrame) (n : ℕ) (v : SocketState) (l : LineState) → IsLegal c past → IsSender c past s.0 v l → record l { waiting = l.waiting ++ pending_of f s v ∷ []; sent = l.sent + 1 } ≡ kept_line c (entry s f (Ok n) ∷ past) (iface_of past s.0)
 line-sent c past s f n v l legal is =
     let i = iface_of past s.0 in
-    let counts : length (sent_by (entry s f (Ok n) ∷ past) i) ≡ length (sent_by past i) + 1 = ap (λ (ps : List Pending). length ps) (sent_by-here c past s f n v is.socket) ∙ length_push (sent_by past i) (of_frame f s v) in
-    ap (λ (k : LineState). record k { waiting = k.waiting ++ of_frame f s v ∷ []; sent = k.sent + 1 }) is.line
-    ∙ ap (λ (m : ℕ). record (kept_line c past i) { waiting = drop (gone_count past i) (sent_by past i) ++ of_frame f s v ∷ []; sent = m }) (sym counts)
+    let counts : length (sent_by (entry s f (Ok n) ∷ past) i) ≡ length (sent_by past i) + 1 = ap (λ (ps : List Pending). length ps) (sent_by-here c past s f n v is.socket) ∙ length_push (sent_by past i) (pending_of f s v) in
+    ap (λ (k : LineState). record k { waiting = k.waiting ++ pending_of f s v ∷ []; sent = k.sent + 1 }) is.line
+    ∙ ap (λ (m : ℕ). record (kept_line c past i) { waiting = drop (gone_count past i) (sent_by past i) ++ pending_of f s v ∷ []; sent = m }) (sym counts)
     ∙ ap (λ (ps : List Pending). record (kept_line c past i) { waiting = ps; sent = length (sent_by (entry s f (Ok n) ∷ past) i) }) (sym (waiting-here c past s f n v legal is.socket))
 
-head-here : (c : BusConfig) (past : List Entry) (s : SocketId) (f : CanFrame) (n : ℕ) (v : SocketState) (l : LineState) → IsLegal c past → IsSender c past s.0 v l → slice_get (l.waiting ++ of_frame f s v ∷ []) 0 ≡ head_of (entry s f (Ok n) ∷ past) (iface_of past s.0)
+head-here : (c : BusConfig) (past : List Entry) (s : SocketId) (f : CanFrame) (n : ℕ) (v : SocketState) (l : LineState) → IsLegal c past → IsSender c past s.0 v l → slice_get (l.waiting ++ pending_of f s v ∷ []) 0 ≡ head_of (entry s f (Ok n) ∷ past) (iface_of past s.0)
 head-here c past s f n v l legal is =
     let i = iface_of past s.0 in
-    ap (λ (k : LineState). slice_get (k.waiting ++ of_frame f s v ∷ []) 0) is.line
+    ap (λ (k : LineState). slice_get (k.waiting ++ pending_of f s v ∷ []) 0) is.line
     ∙ ap (λ (ps : List Pending). slice_get ps 0) (sym (waiting-here c past s f n v legal is.socket))
     ∙ slice_get-drop (gone_count past i) (sent_by (entry s f (Ok n) ∷ past) i)
 
 lines-sent : (c : BusConfig) (past : List Entry) (s : SocketId) (f : CanFrame) (n : ℕ) (v : SocketState) (l : LineState) → IsLegal c past
     → IsSender c past s.0 v l
-    → slice_set (kept_lines c past) v.iface (record l { waiting = l.waiting ++ of_frame f s v ∷ []; sent = l.sent + 1 }) ≡ kept_lines c (entry s f (Ok n) ∷ past)
+    → slice_set (kept_lines c past) v.iface (record l { waiting = l.waiting ++ pending_of f s v ∷ []; sent = l.sent + 1 }) ≡ kept_lines c (entry s f (Ok n) ∷ past)
 lines-sent c past s f n v l legal is =
-    ap (λ (k : ℕ). slice_set (kept_lines c past) k (record l { waiting = l.waiting ++ of_frame f s v ∷ []; sent = l.sent + 1 })) is.iface
+    ap (λ (k : ℕ). slice_set (kept_lines c past) k (record l { waiting = l.waiting ++ pending_of f s v ∷ []; sent = l.sent + 1 })) is.iface
     ∙ ap (slice_set (kept_lines c past) (iface_of past s.0)) (line-sent c past s f n v l legal is)
     ∙ sym (kept_lines-one c past (entry s f (Ok n)) (iface_of past s.0) is.below (line-other c past s f n))
 
 keys-sent : (c : BusConfig) (past : List Entry) (s : SocketId) (f : CanFrame) (n : ℕ) (v : SocketState) (l : LineState) → IsLegal c past
     → iface_of past s.0 < 16 → IsSender c past s.0 v l
-    → slice_set (kept_keys past) v.iface (key_in (slice_get (l.waiting ++ of_frame f s v ∷ []) 0)) ≡ kept_keys (entry s f (Ok n) ∷ past)
+    → slice_set (kept_keys past) v.iface (key_in (slice_get (l.waiting ++ pending_of f s v ∷ []) 0)) ≡ kept_keys (entry s f (Ok n) ∷ past)
 keys-sent c past s f n v l legal few is =
-    ap (λ (k : ℕ). slice_set (kept_keys past) k (key_in (slice_get (l.waiting ++ of_frame f s v ∷ []) 0))) is.iface
+    ap (λ (k : ℕ). slice_set (kept_keys past) k (key_in (slice_get (l.waiting ++ pending_of f s v ∷ []) 0))) is.iface
     ∙ ap (λ (p : Option Pending). slice_set (kept_keys past) (iface_of past s.0) (key_in p)) (head-here c past s f n v l legal is)
     ∙ sym (kept_keys-one past (entry s f (Ok n)) (iface_of past s.0) few (head-other past s f n))
 
@@ -153,7 +150,7 @@ left-sent : (c : BusConfig) (past : List Entry) (s : SocketId) (f : CanFrame) (n
 unfolding kept_left
 left-sent c past s f n = refl
 
-taken_follows : (c : BusConfig) (past : List Entry) (s : SocketId) (f : CanFrame) (n : ℕ) (new : Parts) → IsConfig c → IsLegal c past → Takes (kept_parts c past) s.0 n (of_frame f s) new → Follows c past (entry s f (Ok n)) new
+taken_follows : (c : BusConfig) (past : List Entry) (s : SocketId) (f : CanFrame) (n : ℕ) (new : Parts) → IsConfig c → IsLegal c past → Takes (kept_parts c past) s.0 n (pending_of f s) new → Follows c past (entry s f (Ok n)) new
 taken_follows c past s f n new proper legal takes =
     let e = entry s f (Ok n) in
     let v = takes.socket in
@@ -163,7 +160,7 @@ taken_follows c past s f n new proper legal takes =
     let live : is_off (state_at c past (iface_of past s.0)) ≡ false = sym (off-is c past v.iface (iface_of past s.0) is.iface few) ∙ takes.live in
     record {
       lawful = ap (λ (m : ℕ). reply.Sent m) takes.number ∙ reply-sent c past s f v l is (may-send c past s.0 f v false is.socket takes.may) live takes.room;
-      after = takes.after ∙ parts-are (with_line (kept_parts c past) v.iface (record l { waiting = l.waiting ++ of_frame f s v ∷ []; sent = l.sent + 1 })) (kept_parts c (e ∷ past))
+      after = takes.after ∙ parts-are (with_line (kept_parts c past) v.iface (record l { waiting = l.waiting ++ pending_of f s v ∷ []; sent = l.sent + 1 })) (kept_parts c (e ∷ past))
           (lines-sent c past s f n v l legal is)
           (keys-sent c past s f n v l legal few is)
           (sym (nodes-sent c past s f n))
@@ -201,7 +198,7 @@ keys-full : (past : List Entry) (s : SocketId) (f : CanFrame) → kept_keys (ful
 unfolding kept_keys
 keys-full past s f = refl
 
-full_follows : (c : BusConfig) (past : List Entry) (s : SocketId) (f : CanFrame) (new : Parts) → IsConfig c → FindsFull (kept_parts c past) s.0 (of_frame f s) new → Follows c past (full_entry s f) new
+full_follows : (c : BusConfig) (past : List Entry) (s : SocketId) (f : CanFrame) (new : Parts) → IsConfig c → FindsFull (kept_parts c past) s.0 (pending_of f s) new → Follows c past (full_entry s f) new
 full_follows c past s f new proper full =
     let e = full_entry s f in
     let v = full.socket in
@@ -222,7 +219,7 @@ full_follows c past s f new proper full =
 
 -- ---- refusals that count nothing
 
-reply-off : (c : BusConfig) (past : List Entry) (s : SocketId) (f : CanFrame) → IsConfig c → IsLegal c past → IsOffFor (kept_parts c past) s.0 (of_frame f s) → reply.Refused refusal.BusOff ≡ legal_reply c past (Send s f)
+reply-off : (c : BusConfig) (past : List Entry) (s : SocketId) (f : CanFrame) → IsConfig c → IsLegal c past → IsOffFor (kept_parts c past) s.0 (pending_of f s) → reply.Refused refusal.BusOff ≡ legal_reply c past (Send s f)
 reply-off c past s f proper legal off =
     let at = IsThere-stands c past (kept_sockets c past) s.0 off.place off.socket refl off.stands in
     let below = open-iface c past legal off.place s.0 at.listed in
@@ -232,13 +229,13 @@ reply-off c past s f proper legal off =
     ∙ sym (cond-false (lacks_fd f (options_of past s.0)) _ _ (may-send c past s.0 f off.socket false at.left off.may))
     ∙ sym (cond-true (is_open past s.0) _ _ at.is_there)
 
-reply-fd-off : (c : BusConfig) (past : List Entry) (s : SocketId) (f : CanFrame) → IsFdOffFor (kept_parts c past) s.0 (of_frame f s) → reply.Refused refusal.FdOff ≡ legal_reply c past (Send s f)
+reply-fd-off : (c : BusConfig) (past : List Entry) (s : SocketId) (f : CanFrame) → IsFdOffFor (kept_parts c past) s.0 (pending_of f s) → reply.Refused refusal.FdOff ≡ legal_reply c past (Send s f)
 reply-fd-off c past s f off =
     let at = IsThere-stands c past (kept_sockets c past) s.0 off.place off.socket refl off.stands in
     sym (cond-true (lacks_fd f (options_of past s.0)) _ _ (may-send c past s.0 f off.socket true at.left off.lacks)) ∙ sym (cond-true (is_open past s.0) _ _ at.is_there)
 
 -- a frame that was sent, or a refusal, leaves what its entry leaves
-pub sent_follows : (c : BusConfig) (past : List Entry) (s : SocketId) (f : CanFrame) (r : Result ℕ Refusal) (new : Parts) → IsConfig c → IsLegal c past → Sends (kept_parts c past) s.0 (of_frame f s) r new → Follows c past (entry s f r) new
+pub sent_follows : (c : BusConfig) (past : List Entry) (s : SocketId) (f : CanFrame) (r : Result ℕ Refusal) (new : Parts) → IsConfig c → IsLegal c past → Sends (kept_parts c past) s.0 (pending_of f s) r new → Follows c past (entry s f r) new
 sent_follows c past s f (Ok n) new proper legal takes = taken_follows c past s f n new proper legal takes
 sent_follows c past s f (Err refusal.NoSocket) new proper legal refuses =
     let shut = closed-nowhere c past (kept_sockets c past) s.0 refl refuses.0 in

@@ -7,21 +7,18 @@ use Rattle.can_event.specs.declared.events.Entry.{Entry}
 use Rattle.can_event.specs.declared.events.BusConfig.{BusConfig}
 use Rattle.can_bus.specs.Journal.{Kept}
 use Rattle.can_event.specs.Events.{IsConfig}
-use Rattle.can_bus.specs.State.{LineState, SocketState, Parts, kept_line, kept_lines, kept_sockets, kept_keys, kept_nodes, kept_left, kept_parts, IsKept}
+use Rattle.can_bus.specs.State.{LineState, SocketState, Parts, fresh_line, kept_line, kept_lines, kept_sockets, kept_keys, kept_nodes, kept_left, kept_parts, IsKept}
 use Rattle.can_bus.proofs.Keeping.{parts-are}
 
-abbrev fresh : BusConfig → LineState
-fresh c = record { waiting = []; room = c.tx_capacity; sent = 0; gone = 0; done = 0; refused = 0 }
-
-all_fresh : (c : BusConfig) (a n : ℕ) → replicate n (fresh c) ≡ map (kept_line c []) (range_with_len a n)
+all_fresh : (c : BusConfig) (a n : ℕ) → replicate n (fresh_line c.tx_capacity) ≡ map (kept_line c []) (range_with_len a n)
 all_fresh c a zero = refl
-all_fresh c a (suc n) = ap (λ (ls : List LineState). fresh c ∷ ls) (all_fresh c (a + 1) n)
+all_fresh c a (suc n) = ap (λ (ls : List LineState). fresh_line c.tx_capacity ∷ ls) (all_fresh c (a + 1) n)
 
 none_open : (c : BusConfig) → ◌≡◌ {A = List SocketState} [] (kept_sockets c [])
 unfolding kept_sockets
 none_open c = refl
 
-first_lines : (c : BusConfig) → replicate c.ifaces (fresh c) ≡ kept_lines c []
+first_lines : (c : BusConfig) → replicate c.ifaces (fresh_line c.tx_capacity) ≡ kept_lines c []
 unfolding kept_lines
 first_lines c = all_fresh c 0 c.ifaces
 
@@ -42,7 +39,7 @@ first_left c = refl
 
 -- the state of a bus on which nothing was done
 pub started : (c : BusConfig) (lines : List LineState) (keys : List (Option ℕ)) (z : ErrorCounts) (left : List ℕ) (sockets : List SocketState)
-    → lines ≡ replicate c.ifaces (fresh c) → keys ≡ no_keys → z ≡ at_start → left ≡ replicate 16 0 → sockets ≡ []
+    → lines ≡ replicate c.ifaces (fresh_line c.tx_capacity) → keys ≡ no_keys → z ≡ at_start → left ≡ replicate 16 0 → sockets ≡ []
     → record { lines = lines; keys = keys; nodes = all_at c z; left = left; sockets = sockets; opened = 0; tried = 0 } ≡ kept_parts c []
 started c lines keys z left sockets lines_are keys_are zero_is left_is sockets_are =
     parts-are (record { lines = lines; keys = keys; nodes = all_at c z; left = left; sockets = sockets; opened = 0; tried = 0 }) (kept_parts c []) (lines_are ∙ first_lines c) (keys_are ∙ first_keys) (ap (all_at c) zero_is ∙ first_nodes c) (left_is ∙ first_left c) (sockets_are ∙ none_open c) refl refl

@@ -15,6 +15,7 @@ pub record Outcome : Type 0 where
   pub ack : AckMode
   pub nodes : Nodes
 
+-- an attempt that tried this frame, of these parts (own choice)
 abbrev pub outcome_of : Tried → Verdict → AckMode → Nodes → Outcome
 outcome_of t v a nodes = record { tried = t; verdict = v; ack = a; nodes = nodes }
 

@@ -2,6 +2,7 @@ use Rattle.std.specs.Prelude.{◌≡◌, ℕ, ◌+◌, ◌-◌, ◌==◌, ◌<�
 use Rattle.std.specs.List.{list_any, range_with_len}
 use Rattle.can_filter.specs.Filters.{CanFilter}
 use Rattle.can_filter.specs.Passing.{receives_all, default_options}
+use Rattle.can_frame.specs.Frames.{CanFrame}
 use Rattle.can_frame.specs.Sets.{is_in, set_where}
 use Rattle.can_frame.specs.declared.ifaces.IfaceSet.{IfaceSet}
 use Rattle.can_arbiter.specs.Keys.{IsWinner, IsIdle}
@@ -21,6 +22,7 @@ use Rattle.can_event.specs.declared.events.Reply.TheVariants as reply
 use Rattle.can_event.specs.declared.events.Tried.{Tried}
 use Rattle.can_event.specs.declared.events.Pending.{Pending}
 use Rattle.can_event.specs.declared.events.Refusal.{Refusal}
+use Rattle.can_event.specs.declared.events.SocketId.{SocketId}
 use Rattle.can_event.specs.declared.events.Refusal.TheVariants as refusal
 use Rattle.can_bus.specs.Transmit.{is_done}
 use Rattle.can_bus.specs.Posts.{attempt_posts, restart_posts, auto_restart_posts}
@@ -67,6 +69,7 @@ abbrev pub Refilters : Parts → ℕ → List CanFilter → Reply → Parts → 
 Refilters old s filters (reply.Refused refusal.NoMemory) new = new ≡ old
 Refilters old s filters r new = Sets old s (λ v. record v { filters = filters }) r new
 
+-- an open socket gives its oldest item, or nothing (own choice)
 pub record Gives (old : Parts) (s : ℕ) (item : Option Received) (new : Parts) : Type 0 where
   pub place : ℕ
   pub socket : SocketState
@@ -79,6 +82,7 @@ abbrev pub Receives : Parts → ℕ → Result (Option Received) Refusal → Par
 Receives old s (Ok item) new = Gives old s item new
 Receives old s (Err why) new = FindsNone old s why new
 
+-- an open socket is closed, with these counts (own choice)
 pub record Removes (old : Parts) (s : ℕ) (c : Closed) (new : Parts) : Type 0 where
   pub place : ℕ
   pub socket : SocketState
@@ -92,6 +96,7 @@ Closes old s (reply.Closed c) new = Removes old s c new
 Closes old s (reply.Refused why) new = FindsNone old s why new
 Closes old s _ new = ⊥
 
+-- as many items may wait on a socket (own choice)
 abbrev pub IsCapacity : ℕ → Type 0
 IsCapacity n = (1 ≤ n) × (n ≤ max_rx_capacity)
 
@@ -120,13 +125,27 @@ pub record IsLineOf (old : Parts) (s : ℕ) (v : SocketState) (l : LineState) : 
   pub stands : StandsAt old.sockets s place v
   pub line : slice_get old.lines v.iface ≡ Some l
 
+-- interface i is bus off (own choice)
 abbrev pub is_off_at : Nodes → ℕ → Bool
 is_off_at nodes i = is_off (state_of (counts_at nodes i))
+
+-- a frame as it waits that was sent on this socket (own choice)
+abbrev pub pending_of : CanFrame → SocketId → SocketState → Pending
+pending_of frame s v = record { frame = frame; socket = s; loopback = v.options.loopback }
+
+-- a line that took this frame (own choice)
+abbrev pub with_pending : Pending → LineState → LineState
+with_pending p l = record l { waiting = l.waiting ++ p ∷ []; sent = l.sent + 1 }
+
+-- a line that refused a frame, for want of room (own choice)
+abbrev pub with_refused : LineState → LineState
+with_refused l = record l { refused = l.refused + 1 }
 
 -- a line is put in place i, whose head competes from then on
 abbrev pub with_line : Parts → ℕ → LineState → Parts
 with_line old i l = record old { lines = slice_set old.lines i l; keys = slice_set old.keys i (key_in (slice_get l.waiting 0)) }
 
+-- a frame that is sent finds room, and is the n-th of its interface (own choice)
 pub record Takes (old : Parts) (s n : ℕ) (pending : SocketState → Pending) (new : Parts) : Type 0 where
   pub socket : SocketState
   pub line : LineState
@@ -135,7 +154,7 @@ pub record Takes (old : Parts) (s n : ℕ) (pending : SocketState → Pending) (
   pub live : is_off_at old.nodes socket.iface ≡ false
   pub room : length line.waiting < line.room
   pub number : n ≡ line.sent
-  pub after : new ≡ with_line old socket.iface (record line { waiting = line.waiting ++ pending socket ∷ []; sent = line.sent + 1 })
+  pub after : new ≡ with_line old socket.iface (with_pending (pending socket) line)
 
 -- the socket is open, and the frame is an FD frame that it did not ask for
 pub record IsFdOffFor (old : Parts) (s : ℕ) (pending : SocketState → Pending) : Type 0 where
@@ -144,6 +163,7 @@ pub record IsFdOffFor (old : Parts) (s : ℕ) (pending : SocketState → Pending
   pub stands : StandsAt old.sockets s place socket
   pub lacks : lacks_fd (pending socket).frame socket.options ≡ true
 
+-- the socket is open, and its interface is bus off (own choice)
 pub record IsOffFor (old : Parts) (s : ℕ) (pending : SocketState → Pending) : Type 0 where
   pub place : ℕ
   pub socket : SocketState
@@ -151,6 +171,7 @@ pub record IsOffFor (old : Parts) (s : ℕ) (pending : SocketState → Pending) 
   pub may : lacks_fd (pending socket).frame socket.options ≡ false
   pub off : is_off_at old.nodes socket.iface ≡ true
 
+-- a frame that is sent finds no room (own choice)
 pub record FindsFull (old : Parts) (s : ℕ) (pending : SocketState → Pending) (new : Parts) : Type 0 where
   pub socket : SocketState
   pub line : LineState
@@ -158,7 +179,7 @@ pub record FindsFull (old : Parts) (s : ℕ) (pending : SocketState → Pending)
   pub may : lacks_fd (pending socket).frame socket.options ≡ false
   pub live : is_off_at old.nodes socket.iface ≡ false
   pub full : length line.waiting ≡ line.room
-  pub after : new ≡ record old { lines = slice_set old.lines socket.iface (record line { refused = line.refused + 1 }) }
+  pub after : new ≡ record old { lines = slice_set old.lines socket.iface (with_refused line) }
 
 -- a frame is sent on a socket
 abbrev pub Sends : Parts → ℕ → (SocketState → Pending) → Result ℕ Refusal → Parts → Type 0
@@ -187,6 +208,7 @@ counting_down n w off left = if off then slice_set left w n else left
 abbrev pub after_try : Parts → BusConfig → Transmission → LineState → Pending → Tried → Parts
 after_try old c tr line pending t = record (with_line old tr.winner (settled t.class (is_in tr.winner t.off) line)) { nodes = record old.nodes { counters = (judged tr).counters }; left = counting_down c.auto_restart tr.winner (is_in tr.winner t.off) old.left; sockets = map (reached (attempt_posts c.reporting tr t (Some pending))) old.sockets; tried = old.tried + 1 }
 
+-- the head of the winner is tried, in an attempt that then restarts these interfaces (own choice)
 pub record Carries (old : Parts) (c : BusConfig) (m : ℕ) (v : Verdict) (restarted : IfaceSet) (t : Tried) (new : Parts) : Type 0 where
   pub place : ℕ
   pub line : LineState
@@ -238,6 +260,7 @@ pub record IsReady (parts : Parts) (w : ℕ) : Type 0 where
   pub live : is_off_at parts.nodes w ≡ false
   pub has_head : (l : LineState) → slice_get parts.lines w ≡ Some l → is_some (slice_get l.waiting 0) ≡ true
 
+-- so is each interface with a key (own choice)
 abbrev pub AreReady : Parts → Type 0
 AreReady parts = (w k : ℕ) → slice_get parts.keys w ≡ Some (Some k) → IsReady parts w
 

@@ -10,16 +10,16 @@ use Rattle.can_bus.specs.Posts.{Post, attempt_posts, data_posts, error_posts, fa
 
 -- What an attempt puts to the sockets of each interface, in two parts.
 
--- the frame that was tried, which waited so
+-- the frame that was tried, which waited so (own choice)
 abbrev pub frame_posts : Tried → Pending → ℕ → List Post
 frame_posts t p i = data_posts i t (Some p)
 
--- the fault where faults are reported, and a change of state
+-- the fault where faults are reported, and a change of state (own choice)
 abbrev pub fault_posts : IfaceSet → Outcome → ℕ → List Post
 fault_posts reporting o i =
     (if is_in i reporting then error_posts i o.tried.moment (fault_message_for o.tried.class o.verdict (role_at (transmission_of o) i)) else [])
     ++ error_posts i o.tried.moment (state_message ((transmission_of o).counts i) (counts_after (transmission_of o) i))
 
--- all of it
+-- all that an attempt puts to the sockets of interface i, where the frame waited so (own choice)
 abbrev pub outcome_posts : IfaceSet → Outcome → Pending → ℕ → List Post
 outcome_posts reporting o p = attempt_posts reporting (transmission_of o) o.tried (Some p)

@@ -35,11 +35,13 @@ abbrev pub is_looped_back : Class → Option Pending → Bool
 is_looped_back k None = false
 is_looped_back k (Some p) = is_done k && p.loopback
 
+-- the socket that sent a frame, which waited so (own choice)
 abbrev pub sender_in : Option Pending → Option ℕ
 sender_in None = None
 sender_in (Some p) = Some p.socket.0
 
 -- a frame that was tried goes to the interfaces that accepted it, and to the winner's where it is looped back
+-- (the kernel's networking/can document, local loopback of sent frames)
 abbrev pub goes_to : ℕ → Tried → Bool → Bool
 goes_to i t looped_back = is_in i t.accepted || ((i == t.winner) && looped_back)
 
@@ -56,6 +58,7 @@ error_posts i m (Some e) = record { received = record { item = item.Error e; fro
 abbrev pub role_at : Transmission → ℕ → Option Role
 role_at t i = if i == t.winner then Some role.Winner else if is_among i (hit t) then Some role.Named else if is_among i (receivers t) then Some role.Other else None
 
+-- the error message frame of a fault, as an interface with this part sees it (own choice)
 abbrev pub fault_message_for : Class → Verdict → Option Role → Option ErrorMessage
 fault_message_for k v None = None
 fault_message_for k v (Some r) = fault_message k v r

@@ -1,4 +1,4 @@
-use Rattle.std.specs.Prelude.{◌≡◌, ℕ, ◌+◌, ◌-◌, ◌≤◌, List, ◌∷◌, ◌++◌, length, map, take, drop, Option}
+use Rattle.std.specs.Prelude.{◌≡◌, ℕ, ◌+◌, ◌-◌, ◌≤◌, List, [], ◌∷◌, ◌++◌, length, map, take, drop, Option}
 use Rattle.std.specs.List.{range_with_len}
 use Rattle.std.specs.Option.{option_map}
 use Rattle.can_filter.specs.Filters.{CanFilter}
@@ -30,6 +30,10 @@ pub record LineState : Type 0 where
   pub done : ℕ
   pub refused : ℕ
 
+-- an interface's line as a bus begins (own choice)
+abbrev pub fresh_line : ℕ → LineState
+fresh_line capacity = record { waiting = []; room = capacity; sent = 0; gone = 0; done = 0; refused = 0 }
+
 -- what is kept of an open socket
 pub record SocketState : Type 0 where
   pub number : ℕ
@@ -45,9 +49,13 @@ pub record SocketState : Type 0 where
 abbrev pub filled : SocketState → List Received → SocketState
 filled v rs = record v { waiting = v.waiting ++ take (v.capacity - length v.waiting) rs; dropped = v.dropped + length (drop (v.capacity - length v.waiting) rs) }
 
+-- these posts come to a socket: those that pass its filters and options come in (own choice)
+abbrev pub offered : List Post → SocketState → SocketState
+offered posts v = filled v (passing v.filters v.options v.number posts)
+
 -- the posts at the socket's interface come to it
 abbrev pub reached : (ℕ → List Post) → SocketState → SocketState
-reached posts v = filled v (passing v.filters v.options v.number (posts v.iface))
+reached posts v = offered (posts v.iface) v
 
 -- the key by which a frame that waits competes
 abbrev pub key_in : Option Pending → Option ℕ

@@ -24,7 +24,16 @@ fn tried_as(
     judgement: &Judgement,
     restarted: IfaceSet,
 ) -> Tried
-    ensures { result ≡ record { moment = moment; winner = winner; number = number; frame = pending.now.frame; class = judgement.now.class; accepted = judgement.now.accepted; off = judgement.now.off; restarted = restarted } }
+    ensures { result ≡ record {
+      moment = moment;
+      winner = winner;
+      number = number;
+      frame = pending.now.frame;
+      class = judgement.now.class;
+      accepted = judgement.now.accepted;
+      off = judgement.now.off;
+      restarted = restarted;
+    } }
 {
     Tried {
         moment,

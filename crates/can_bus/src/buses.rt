@@ -4,7 +4,7 @@ ghost use Rattle.can_bus.specs.Attempts.{winner};
 ghost use Rattle.can_bus.specs.AutoRestart.{is_counting};
 ghost use Rattle.can_bus.specs.Headline.{Headline};
 ghost use Rattle.can_event.specs.Events.{IsConfig};
-ghost use Rattle.can_event.specs.Replies.{taken_reply};
+ghost use Rattle.can_event.specs.Replies.{entry_of, taken_reply};
 ghost use Rattle.can_bus.specs.Legal.{IsLegal};
 ghost use Rattle.can_bus.specs.Run.{IsAnswered};
 ghost use Rattle.can_bus.specs.Stats.{socket_stats_of, iface_stats_of, all_counts};
@@ -84,7 +84,7 @@ impl<T: BoundedQueue<Pending>, R: BoundedQueue<Received>, A: Arbiter> Model for 
 
 /// The entry of a socket's filters that are set to a copy of these, in memory of its own.
 fn filters_entry(alloc: Global, id: SocketId, filters: &FilterSet) -> Result<Box<Entry>, AllocError>
-    ensures { IfOk result (λ entry. entry.value ≡ record { event = event.SetFilters id filters.now; reply = reply.Done }) }
+    ensures { IfOk result (λ entry. entry.value ≡ entry_of (event.SetFilters id filters.now) reply.Done) }
 {
     let event = Event::SetFilters(id, filters.try_copy(alloc)?);
     let reply = Reply::Done;

@@ -1,12 +1,13 @@
-ghost use Rattle.std.specs.Prelude.{◌≡◌, ◌<◌, ◌≤◌, false, [], ◌∷◌, ◌++◌, length, slice_get, vec_capacity, IfOk, IfSome};
+ghost use Rattle.std.specs.Prelude.{◌≡◌, ◌<◌, ◌≤◌, false, [], length, slice_get, vec_capacity, IfOk, IfSome};
 ghost use Rattle.std.specs.Option.{option_map};
-ghost use Rattle.can_bus.specs.Held.{entries_in, room_in};
-ghost use Rattle.can_event.specs.Replies.{taken_reply, told};
+ghost use Rattle.can_bus.specs.Held.{HoldsMore, entries_in, room_in};
+ghost use Rattle.can_event.specs.Replies.{entry_of, receive_reply, told};
 ghost use Rattle.can_event.specs.declared.events.Event.TheVariants as asked;
 ghost use Rattle.can_event.specs.declared.events.Reply.TheVariants as answer;
 ghost use Rattle.can_event.specs.declared.events.Attempt.TheVariants.{Idle};
 ghost use Rattle.can_bus.specs.Answer.{attempt_entry, told_attempt};
 ghost use Rattle.can_packed.specs.Kept.{receive_entry, send_entry};
+ghost use Rattle.can_packed.specs.Records.{Adds};
 ghost use Rattle.can_packed.specs.Stored.{entry_stored, IsStored};
 ghost use Rattle.can_packed.specs.Wide.{is_wide};
 
@@ -88,8 +89,7 @@ impl Held {
     pub fn push(&mut self, event: &Event, reply: &Reply)
         requires room { length (entries_in self.old) < room_in self.old }
         requires fits { is_wide event.now reply.now ≡ false }
-        ensures more { entries_in self.new ≡ entries_in self.old ++ record { event = event.now; reply = reply.now } ∷ [] }
-        ensures room { room_in self.old ≤ room_in self.new }
+        ensures { HoldsMore self.old (entry_of event.now reply.now) self.new }
     {
         match self {
             Held::Packed(entries) => entries.push(event, reply),
@@ -102,9 +102,8 @@ impl Held {
     #[inline(always)]
     pub fn push_receive(&mut self, id: SocketId, outcome: Result<bool, Refusal>, room: &Received)
         requires room { length (entries_in self.old) < room_in self.old }
-        requires fits { is_wide (asked.Receive id) (told (taken_reply room.now) outcome) ≡ false }
-        ensures more { entries_in self.new ≡ entries_in self.old ++ receive_entry id room.now outcome ∷ [] }
-        ensures room { room_in self.old ≤ room_in self.new }
+        requires fits { is_wide (asked.Receive id) (receive_reply room.now outcome) ≡ false }
+        ensures { HoldsMore self.old (receive_entry id room.now outcome) self.new }
     {
         match self {
             Held::Packed(entries) => entries.push_receive(id, outcome, room),
@@ -118,8 +117,7 @@ impl Held {
     pub fn push_send(&mut self, id: SocketId, frame: &Frame, outcome: Result<u64, Refusal>)
         requires room { length (entries_in self.old) < room_in self.old }
         requires fits { is_wide (asked.Send id frame.now) (told answer.Sent outcome) ≡ false }
-        ensures more { entries_in self.new ≡ entries_in self.old ++ send_entry id frame.now outcome ∷ [] }
-        ensures room { room_in self.old ≤ room_in self.new }
+        ensures { HoldsMore self.old (send_entry id frame.now outcome) self.new }
     {
         match self {
             Held::Packed(entries) => entries.push_send(id, frame, outcome),
@@ -133,8 +131,7 @@ impl Held {
     pub fn push_attempt(&mut self, moment: Moment, verdict: Verdict, attempt: &Attempt)
         requires room { length (entries_in self.old) < room_in self.old }
         requires fits { is_wide (asked.Attempt moment verdict) (told_attempt attempt.now) ≡ false }
-        ensures more { entries_in self.new ≡ entries_in self.old ++ attempt_entry moment verdict attempt.now ∷ [] }
-        ensures room { room_in self.old ≤ room_in self.new }
+        ensures { HoldsMore self.old (attempt_entry moment verdict attempt.now) self.new }
     {
         match (self, attempt) {
             (Held::Packed(entries), Attempt::Tried(tried)) => {
@@ -151,8 +148,7 @@ impl Held {
     /// Adds an entry to those of a bus, which keeps its memory. No other is taken.
     pub fn push_boxed(&mut self, entry: Box<Entry>)
         requires room { length (entries_in self.old) < room_in self.old }
-        ensures more { entries_in self.new ≡ entries_in self.old ++ entry.value ∷ [] }
-        ensures room { room_in self.old ≤ room_in self.new }
+        ensures { HoldsMore self.old entry.value self.new }
     {
         match self {
             Held::Packed(entries) => entries.push_boxed(entry),
@@ -166,7 +162,7 @@ impl Held {
 #[inline(never)]
 fn push_idle(entries: &mut PackedRecord, moment: Moment, verdict: Verdict, restarted: IfaceSet)
     requires { length entries.old.entries < entries.old.room }
-    ensures more { entries.new.entries ≡ entries.old.entries ++ attempt_entry moment verdict (Idle restarted) ∷ [] }
+    ensures more { Adds entries.old.entries (attempt_entry moment verdict (Idle restarted)) entries.new.entries }
     ensures room { entries.old.room ≤ entries.new.room }
 {
     entries.push(&Event::Attempt(moment, verdict), &Reply::Idle { restarted });
@@ -186,7 +182,7 @@ fn copy_of(alloc: Global, entry: &Entry) -> Result<Entry, AllocError>
 /// Adds an entry where there is room for it.
 fn add(entries: &mut Vec<Entry>, entry: Entry)
     requires { length entries.old.items < vec_capacity entries.old }
-    ensures items { entries.new.items ≡ entries.old.items ++ entry ∷ [] }
+    ensures items { Adds entries.old.items entry entries.new.items }
     ensures room { vec_capacity entries.old ≤ vec_capacity entries.new }
 {
     // The checker has to meet the types inside a reply before a vector takes one.

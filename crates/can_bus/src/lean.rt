@@ -2,7 +2,7 @@ ghost use Rattle.std.specs.Prelude.{◌≡◌, [], Err, List, IfOk, OnOk, ◌↔
 ghost use Rattle.can_bus.specs.Lean.{Stands};
 ghost use Rattle.can_bus.specs.Run.{IsAnswer, history_after};
 ghost use Rattle.can_event.specs.Events.{IsConfig};
-ghost use Rattle.can_event.specs.Replies.{Enters};
+ghost use Rattle.can_event.specs.Replies.{Enters, entry_of};
 ghost use Rattle.can_event.specs.Spelled.{IsSpelled};
 ghost use Rattle.can_event.specs.declared.events.Entry.{Entry as AnEntry};
 
@@ -36,7 +36,8 @@ impl<T: BoundedQueue<Pending>, R: BoundedQueue<Received>, A: Arbiter> Model for 
 
     ghost view = { λ b. record { config = b.config; count = b.count; parts = b.state } };
 
-    ghost invariant = { λ b. IsStanding (record { config = b.config; count = b.count; parts = b.state }) };
+    ghost invariant = { λ b.
+        IsStanding (record { config = b.config; count = b.count; parts = b.state }) };
 }
 
 impl<T: BoundedQueue<Pending>, R: BoundedQueue<Received>, A: Arbiter> LeanBus<T, R, A> {
@@ -65,9 +66,11 @@ impl<T: BoundedQueue<Pending>, R: BoundedQueue<Received>, A: Arbiter> LeanBus<T,
     ///
     /// It costs what the call on a bus costs.
     pub fn answer(&mut self, alloc: Global, event: &Event) -> Reply
-        ensures answer { (past : List AnEntry) → Stands self.old past → IsAnswer self.old.config past event.now result }
-        ensures after { (past : List AnEntry) → Stands self.old past → Stands self.new (history_after event.now result past) }
-        ensures spelled { Enters result → IsSpelled self.old.config (record { event = event.now; reply = result }) }
+        ensures answer { (past : List AnEntry) → Stands self.old past →
+            IsAnswer self.old.config past event.now result }
+        ensures after { (past : List AnEntry) → Stands self.old past →
+            Stands self.new (history_after event.now result past) }
+        ensures spelled { Enters result → IsSpelled self.old.config (entry_of event.now result) }
         ensures config { self.new.config ≡ self.old.config }
     {
         if self.count >= self.config.limit {

@@ -29,7 +29,8 @@ impl<'a> Model for Attempted<'a> {
 
     ghost view = { λ a. outcome_of a.tried.now a.verdict a.ack a.nodes.now };
 
-    ghost invariant = { λ a. IsJudged (outcome_of a.tried.now a.verdict a.ack a.nodes.now) a.judgement.now };
+    ghost invariant = { λ a.
+        IsJudged (outcome_of a.tried.now a.verdict a.ack a.nodes.now) a.judgement.now };
 }
 
 /// Whether a frame that was tried, and waited with this loopback option, is put to the sockets of an interface.
@@ -77,7 +78,8 @@ impl<'a> Attempted<'a> {
     /// Whether the frame, which waited so, is put to the sockets of an interface: one that accepted it, and
     /// its own where it is looped back.
     pub fn is_posted(&self, iface: Iface, pending: Option<Pending>) -> bool
-        ensures { result ≡ goes_to iface self.now.tried (is_looped_back self.now.tried.class pending) }
+        ensures { result
+            ≡ goes_to iface self.now.tried (is_looped_back self.now.tried.class pending) }
     {
         let loopback = match pending {
             Some(pending) => pending.loopback,
@@ -108,7 +110,8 @@ impl<'a> Attempted<'a> {
 
     /// The error message frame of the attempt's fault, as an interface sees it, if it sees one.
     pub fn fault_at(&self, iface: Iface) -> Option<ErrorFrame>
-        ensures { result ≡ fault_message_for self.now.tried.class self.now.verdict (role_at (transmission_of self.now) iface) }
+        ensures { result ≡ fault_message_for self.now.tried.class self.now.verdict
+            (role_at (transmission_of self.now) iface) }
     {
         match self.role_of(iface) {
             Some(role) => fault_frame(self.tried.class, self.verdict, role),
@@ -118,7 +121,8 @@ impl<'a> Attempted<'a> {
 
     /// The error message frame of a change of an interface's state, if the attempt changed it.
     pub fn state_change_at(&self, iface: Iface) -> Option<ErrorFrame>
-        ensures { result ≡ state_message ((transmission_of self.now).counts iface) (counts_after (transmission_of self.now) iface) }
+        ensures { result ≡ state_message ((transmission_of self.now).counts iface)
+            (counts_after (transmission_of self.now) iface) }
     {
         let after = self.judgement.counters[iface.number() as usize];
         state_frame(self.nodes.counters_of(iface), after)

@@ -4,8 +4,7 @@ ghost use Rattle.can_bus.specs.Attempted.{transmission_of};
 ghost use Rattle.can_bus.specs.News.{fault_posts, frame_posts, outcome_posts};
 ghost use Rattle.can_bus.specs.Posts.{restart_posts, auto_restart_posts, error_posts};
 ghost use Rattle.can_event.specs.Events.{tried_item};
-ghost use Rattle.can_bus.specs.Queues.{passing};
-ghost use Rattle.can_bus.specs.State.{filled, reached};
+ghost use Rattle.can_bus.specs.State.{offered, reached};
 
 use crate::outcomes::{Attempted, is_posted};
 use crate::socket::Socket;
@@ -21,7 +20,7 @@ fn post_error<R: BoundedQueue<Received>>(
     error: Option<ErrorFrame>,
 )
     requires { socket.old.dropped + 1 < 2 ^ 64 }
-    ensures { socket.new ≡ filled socket.old (passing socket.old.filters socket.old.options socket.old.number (error_posts socket.old.iface moment error)) }
+    ensures { socket.new ≡ offered (error_posts socket.old.iface moment error) socket.old }
 {
     if let Some(error) = error {
         let received = Received {
@@ -108,9 +107,11 @@ pub fn tell_attempt<R: BoundedQueue<Received>>(
     is_calm: bool,
 )
     requires class { attempted.now.tried.class ≡ class_of (transmission_of attempted.now) }
-    requires calm { IsTrue is_calm → IsCalm attempted.now.nodes attempted.now.verdict attempted.now.ack }
+    requires calm { IsTrue is_calm →
+        IsCalm attempted.now.nodes attempted.now.verdict attempted.now.ack }
     requires dropped { All (λ v. v.dropped + 3 < 2 ^ 64) sockets.old }
-    ensures { sockets.new ≡ map (reached (outcome_posts reporting attempted.now pending.now)) sockets.old }
+    ensures { sockets.new
+        ≡ map (reached (outcome_posts reporting attempted.now pending.now)) sockets.old }
 {
     tell_frame(sockets, attempted.tried(), pending);
     if !is_calm {

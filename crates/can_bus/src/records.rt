@@ -2,7 +2,7 @@ ghost use Rattle.std.specs.Prelude.{◌≡◌, ◌<◌, ◌≤◌, ◌==◌, fal
 ghost use Rattle.std.specs.Option.{option_map};
 ghost use Rattle.can_event.specs.Events.{IsConfig};
 ghost use Rattle.can_event.specs.Spelled.{IsSpelled, IsRecord};
-ghost use Rattle.can_event.specs.Replies.{taken_reply, told};
+ghost use Rattle.can_event.specs.Replies.{entry_of, receive_reply, told};
 ghost use Rattle.can_event.specs.declared.events.Event.TheVariants as asked;
 ghost use Rattle.can_event.specs.declared.events.Reply.TheVariants as answer;
 ghost use Rattle.can_bus.specs.Answer.{attempt_entry, told_attempt};
@@ -155,9 +155,9 @@ impl Record {
     #[inline(always)]
     pub(crate) fn push(&mut self, event: &Event, reply: &Reply)
         requires room { length self.old.history < self.old.room }
-        requires spelled { IsSpelled self.old.config (record { event = event.now; reply = reply.now }) }
+        requires spelled { IsSpelled self.old.config (entry_of event.now reply.now) }
         requires fits { is_wide event.now reply.now ≡ false }
-        ensures { IsLonger self.old (record { event = event.now; reply = reply.now }) self.new }
+        ensures { IsLonger self.old (entry_of event.now reply.now) self.new }
     {
         self.held.push(event, reply);
     }
@@ -172,7 +172,7 @@ impl Record {
     )
         requires room { length self.old.history < self.old.room }
         requires spelled { IsSpelled self.old.config (receive_entry id room.now outcome) }
-        requires fits { is_wide (asked.Receive id) (told (taken_reply room.now) outcome) ≡ false }
+        requires fits { is_wide (asked.Receive id) (receive_reply room.now outcome) ≡ false }
         ensures { IsLonger self.old (receive_entry id room.now outcome) self.new }
     {
         self.held.push_receive(id, outcome, room);

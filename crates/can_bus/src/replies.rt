@@ -3,24 +3,15 @@ ghost use Rattle.can_bus.specs.Answer.{told_attempt};
 ghost use Rattle.can_event.specs.Replies.{told};
 ghost use Rattle.can_event.specs.declared.events.Reply.TheVariants as reply;
 
-use can_event::{Attempt, Received, Refusal, Reply};
+use can_event::{Attempt, Refusal, Reply};
 
-// The reply that the record keeps of what a send, a receive or an attempt came to.
+// The reply that the record keeps of what a send or an attempt came to.
 
 pub fn sent_reply(outcome: &Result<u64, Refusal>) -> Reply
     ensures { result ≡ told reply.Sent outcome.now }
 {
     match outcome {
         Ok(number) => Reply::Sent(*number),
-        Err(why) => Reply::Refused(*why),
-    }
-}
-
-pub fn received_reply(outcome: &Result<Option<Received>, Refusal>) -> Reply
-    ensures { result ≡ told reply.Received outcome.now }
-{
-    match outcome {
-        Ok(item) => Reply::Received(*item),
         Err(why) => Reply::Refused(*why),
     }
 }

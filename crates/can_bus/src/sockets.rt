@@ -16,7 +16,8 @@ use std::alloc::Global;
 
 /// The place of a socket: that of its number, as long as none before it was closed.
 pub fn find<R: BoundedQueue<Received>>(sockets: &[Socket<R>], id: SocketId) -> Option<usize>
-    ensures found { IfSome result (λ k. IsSomeAnd (slice_get sockets.now k) (λ v. v.number ≡ id.0)) }
+    ensures found { IfSome result (λ k.
+        IsSomeAnd (slice_get sockets.now k) (λ v. v.number ≡ id.0)) }
     ensures within { IfSome result (λ k. k < length sockets.now) }
     ensures absent { IfNone result (list_any (λ v. v.number == id.0) sockets.now ≡ false) }
 {
@@ -86,7 +87,8 @@ impl<T: BoundedQueue<Pending>, R: BoundedQueue<Received>, A: Arbiter> State<T, R
 
     /// Sets an option of a socket.
     pub fn set_option(&mut self, id: SocketId, option: Opt) -> Reply
-        ensures { Sets self.old id.0 (λ v. record v { options = with_option option v.options }) result self.new }
+        ensures { Sets self.old id.0 (λ v. record v { options = with_option option v.options })
+            result self.new }
     {
         let Some(k) = find(&self.sockets, id) else {
             return Reply::Refused(Refusal::NoSocket);
@@ -107,16 +109,6 @@ impl<T: BoundedQueue<Pending>, R: BoundedQueue<Received>, A: Arbiter> State<T, R
         };
         let socket = &mut self.sockets[k];
         Ok(socket.receive_into(room))
-    }
-
-    /// Gives the oldest item of a socket.
-    pub fn receive(&mut self, id: SocketId) -> Result<Option<Received>, Refusal>
-        requires { All (λ v. v.taken + 1 < 2 ^ 64) self.old.sockets }
-        ensures { Receives self.old id.0 result self.new }
-    {
-        let mut room = Received::nothing();
-        let taken = self.receive_into(id, &mut room)?;
-        Ok(taken.then_some(room))
     }
 
     /// The counts of an open socket.

@@ -8,13 +8,14 @@ ghost use Rattle.can_event.specs.declared.events.Entry.{Entry as AnEntry};
 use crate::countdowns::Countdown;
 use crate::line::Line;
 use crate::lines;
-use crate::replies::{attempt_reply, received_reply, sent_reply};
+use crate::replies::{attempt_reply, sent_reply};
 use crate::socket::Socket;
 use can_arbiter::Arbiter;
 use can_attempt::Nodes;
 use can_confine::Counters;
 use can_event::{BusConfig, Event, Pending, Received, Reply};
 use can_frame::Iface;
+use can_packed::receive_reply;
 use can_queue::{BoundedQueue, QueueError};
 use std::alloc::Global;
 use std::marker::Model;
@@ -77,7 +78,9 @@ impl<T: BoundedQueue<Pending>, R: BoundedQueue<Received>, A: Arbiter> State<T, R
     /// Only `Open` and `SetFilters` take memory. Where it was refused the reply is `NoMemory`, and nothing has changed.
     pub fn answer(&mut self, alloc: Global, config: BusConfig, event: &Event) -> Reply
         requires { IsReady config self.old }
-        ensures { (past : List AnEntry) → IsKept (record_of config past) self.old → length past < config.limit → Carries config past event.now result self.new }
+        ensures { (past : List AnEntry) →
+            IsKept (record_of config past) self.old → length past < config.limit →
+            Carries config past event.now result self.new }
     {
         match event {
             Event::Open(iface, capacity) => self.open(alloc, *iface, *capacity),
@@ -85,7 +88,11 @@ impl<T: BoundedQueue<Pending>, R: BoundedQueue<Received>, A: Arbiter> State<T, R
             Event::SetFilters(id, filters) => self.set_filters(alloc, *id, filters),
             Event::SetOption(id, option) => self.set_option(*id, *option),
             Event::Send(id, frame) => sent_reply(&self.send(*id, *frame)),
-            Event::Receive(id) => received_reply(&self.receive(*id)),
+            Event::Receive(id) => {
+                let mut room = Received::nothing();
+                let outcome = self.receive_into(*id, &mut room);
+                receive_reply(outcome, &room)
+            }
             Event::Attempt(moment, verdict) => {
                 attempt_reply(&self.attempt(config, *moment, *verdict))
             }

@@ -1,19 +1,19 @@
 use Rattle.std.proofs.Common.{◌≡◌, ◌+◌, ◌<◌, ◌^◌, [], ◌∷◌, ◌++◌, sym, ap, ◌∙◌, refl, arith}
 use Rattle.can_filter.specs.declared.socket_options.Options.{Options}
+use Rattle.can_bus.specs.Changes.{pending_of}
 use Rattle.can_bus.specs.State.{LineState}
 use Rattle.can_bus.proofs.Reading.{stands-at, fd-off-for, off-for, on-line, of-line, line-of, found_full, took}
-use Rattle.can_bus.proofs.Sending.{of_frame}
 use Rattle.can_bus.proofs.state.State.send.Goals as goal
 
 pub returns-then-lacks_fd : goal.returns-then-lacks_fd
 returns-then-lacks_fd g c =
     let stands = stands-at _ _ _ _ _ c.deref.ensures.value c.in-Some.ensures.within c.in-Some.ensures.found c.index-socket.ensures in
-    (fd-off-for _ _ _ _ (of_frame c.args.frame c.args.id) _ c.self.view_is stands (sym c.lacks_fd.ensures ∙ c.if-lacks_fd.true), refl)
+    (fd-off-for _ _ _ _ (pending_of c.args.frame c.args.id) _ c.self.view_is stands (sym c.lacks_fd.ensures ∙ c.if-lacks_fd.true), refl)
 
 pub returns-then-is_off : goal.returns-then-is_off
 returns-then-is_off g c =
     let stands = stands-at _ _ _ _ _ c.deref.ensures.value c.in-Some.ensures.within c.in-Some.ensures.found c.index-socket.ensures in
-    (off-for _ _ _ _ _ (of_frame c.args.frame c.args.id) _ c.self.view_is stands c.iface-iface.ensures (sym c.lacks_fd.ensures ∙ c.if-lacks_fd.false) (sym c.is_off.ensures ∙ c.if-is_off.true), refl)
+    (off-for _ _ _ _ _ (pending_of c.args.frame c.args.id) _ c.self.view_is stands c.iface-iface.ensures (sym c.lacks_fd.ensures ∙ c.if-lacks_fd.false) (sym c.is_off.ensures ∙ c.if-is_off.true), refl)
 
 pub index_mut-line-requires : goal.index_mut-line-requires
 index_mut-line-requires g c =
@@ -36,7 +36,7 @@ returns-in_default-send g c =
     let within = on-line _ _ _ _ _ _ _ c.self.view_is c.requires.known c.deref.ensures.value c.in-Some.ensures.within c.index-socket.ensures c.number.ensures.number c.iface-iface.ensures in
     let is_line = line-of _ _ _ _ _ _ _ stands c.number.ensures.number c.iface-iface.ensures within c.index_mut-line.ensures.value in
     let full = c.in_default-send.ensures.full in
-    found_full _ _ _ _ _ (of_frame c.args.frame c.args.id) _ _ _ c.self.view_is is_line c.number.ensures.number c.iface-iface.ensures (sym c.lacks_fd.ensures ∙ c.if-lacks_fd.false) (sym c.is_off.ensures ∙ c.if-is_off.false) full.0 full.1
+    found_full _ _ _ _ _ (pending_of c.args.frame c.args.id) _ _ _ c.self.view_is is_line c.number.ensures.number c.iface-iface.ensures (sym c.lacks_fd.ensures ∙ c.if-lacks_fd.false) (sym c.is_off.ensures ∙ c.if-is_off.false) full.0 full.1
 
 pub returns : goal.returns
 returns g c =
@@ -45,7 +45,7 @@ returns g c =
     let within = on-line _ _ _ _ _ _ _ c.self.view_is c.requires.known c.deref.ensures.value c.in-Some.ensures.within c.index-socket.ensures c.number.ensures.number c.iface-iface.ensures in
     let is_line = line-of _ _ _ _ _ _ _ stands c.number.ensures.number c.iface-iface.ensures within c.index_mut-line.ensures.value in
     let sent = c.in-Some-send.ensures.sent in
-    let taken : c.send.new.self ≡ record l { waiting = l.waiting ++ of_frame c.args.frame c.args.id c.index-socket.result.now ∷ []; sent = l.sent + 1 } =
+    let taken : c.send.new.self ≡ record l { waiting = l.waiting ++ pending_of c.args.frame c.args.id c.index-socket.result.now ∷ []; sent = l.sent + 1 } =
     sent.2 ∙ ap (λ (o : Options). record l { waiting = l.waiting ++ record { frame = c.args.frame; socket = c.args.id; loopback = o.loopback } ∷ []; sent = l.sent + 1 }) c.options.ensures in
-    took _ _ _ _ _ _ (of_frame c.args.frame c.args.id) _ _ _ _ _ c.self.view_is is_line c.number.ensures.number c.iface-iface.ensures
+    took _ _ _ _ _ _ (pending_of c.args.frame c.args.id) _ _ _ _ _ c.self.view_is is_line c.number.ensures.number c.iface-iface.ensures
     (sym c.lacks_fd.ensures ∙ c.if-lacks_fd.false) (sym c.is_off.ensures ∙ c.if-is_off.false) sent.1 sent.0 taken c.head_key-key.ensures c.compete.ensures
