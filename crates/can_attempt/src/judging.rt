@@ -89,7 +89,8 @@ fn all_counters_after(
     requires winner { winner < nodes.now.count }
     requires live { (counts_at nodes.now winner).tec < 256 }
     ensures { (a : AckMode) →
-        result ≡ map (counts_in class (attempt_between nodes.now winner verdict a)) (range_with_len 0 16) }
+        result ≡ map (counts_in class (attempt_between nodes.now winner verdict a))
+        (range_with_len 0 16) }
 {
     let mut counters = nodes.counters;
     for place in 0..nodes.count {

@@ -34,8 +34,8 @@ pub fn passive_transmitter_waits()
 pub fn off_interfaces_have_no_say()
     ensures class { (t u : Transmission) → SameToTheLive t u → class_of t ≡ class_of u }
     ensures receivers { (t u : Transmission) → SameToTheLive t u → receivers t ≡ receivers u }
-    ensures counts { (t u : Transmission) → SameToTheLive t u →
-        (i : ℕ) → i < t.count → is_off (state_at t i) ≡ false → counts_after t i ≡ counts_after u i }
+    ensures counts { (t u : Transmission) → SameToTheLive t u → (i : ℕ) →
+        i < t.count → is_off (state_at t i) ≡ false → counts_after t i ≡ counts_after u i }
 {}
 
 /// Who accepts the frame was not hit, and the winner is neither.

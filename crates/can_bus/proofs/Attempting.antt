@@ -10,7 +10,7 @@ use Rattle.can_frame.specs.Sets.{is_in}
 use Rattle.can_frame.specs.declared.ifaces.IfaceSet.{IfaceSet}
 use Rattle.can_confine.specs.Confinement.{ErrorCounts, Step, all_stepped, at_start, state_of, is_off}
 use Rattle.can_fault.specs.declared.verdicts.Verdict.{Verdict}
-use Rattle.can_attempt.specs.Attempts.{Transmission, attempt_between, counts_at, judged, set_of, is_among, off_after, counts_after, steps_at}
+use Rattle.can_attempt.specs.Attempts.{Transmission, attempt_between, counts_at, judged, set_of, is_among, off_after, counts_after, steps_at, is_done}
 use Rattle.can_attempt.proofs.Standing.{is_in-of}
 use Rattle.can_event.specs.declared.events.BusConfig.{BusConfig}
 use Rattle.can_event.specs.declared.events.Entry.{Entry}
@@ -25,7 +25,7 @@ use Rattle.can_bus.specs.Answer.{told_attempt}
 use Rattle.can_bus.specs.AutoRestart.{attempts_off, restarted_next}
 use Rattle.can_bus.specs.Journal.{Kept}
 use Rattle.can_bus.specs.Sockets.{places, open_sockets, is_open, iface_of, capacity_of, filters_of, options_of}
-use Rattle.can_bus.specs.Transmit.{sent_by, gone_count, done_count, head_of, tape, is_done}
+use Rattle.can_bus.specs.Transmit.{sent_by, gone_count, done_count, head_of, tape}
 use Rattle.can_bus.specs.Counters.{counts_of, steps_of, state_at, transmission}
 use Rattle.can_bus.specs.Attempts.{winner, tried_with, attempt_reply, tried_head}
 use Rattle.can_bus.specs.Posts.{Post, attempt_posts, auto_restart_posts, posts_of}

@@ -9,7 +9,7 @@ use Rattle.can_confine.specs.declared.states.State.{State}
 use Rattle.can_fault.specs.declared.verdicts.Verdict.{Verdict}
 use Rattle.can_attempt.specs.declared.classes.Class.{Class}
 use Rattle.can_attempt.specs.declared.classes.Class.TheVariants as class
-use Rattle.can_attempt.specs.Attempts.{Transmission, is_among, is_named, receivers, class_of, steps_at, counts_after, winner_step, receiver_step}
+use Rattle.can_attempt.specs.Attempts.{Transmission, is_among, is_named, receivers, class_of, steps_at, counts_after, winner_step, receiver_step, is_done}
 use Rattle.can_attempt.specs.Attempts as attempts
 use Rattle.can_event.specs.declared.events.Entry.{Entry}
 use Rattle.can_event.specs.declared.events.Event.{Event}
@@ -20,7 +20,7 @@ use Rattle.can_event.specs.declared.events.Refusal.TheVariants as refusal
 use Rattle.can_event.specs.declared.events.BusConfig.{BusConfig}
 use Rattle.can_event.specs.declared.events.Tried.{Tried}
 use Rattle.can_bus.specs.Sockets.{iface_of}
-use Rattle.can_bus.specs.Transmit.{sent_by, sent_after, gone_count, gone_after, is_done}
+use Rattle.can_bus.specs.Transmit.{sent_by, sent_after, gone_count, gone_after}
 use Rattle.can_bus.specs.Counters.{counts_of, steps_of, steps_after, state_at, transmission}
 use Rattle.can_bus.specs.Copies.{copying, copying_after, is_copied, went_over}
 use Rattle.can_bus.specs.Repeats.{AtMost32Copies, transmit_count, RisesAtTheHead, LastBitAdds8}

@@ -10,7 +10,7 @@ use Rattle.can_filter.specs.declared.socket_options.Options.{Options}
 use Rattle.can_filter.specs.Passing.{wants}
 use Rattle.can_confine.specs.Confinement.{is_off}
 use Rattle.can_fault.specs.declared.verdicts.Verdict.{Verdict}
-use Rattle.can_attempt.specs.Attempts.{Transmission, counts_after}
+use Rattle.can_attempt.specs.Attempts.{Transmission, counts_after, is_done}
 use Rattle.can_errframe.specs.ErrorMessages.{state_message, restart_message}
 use Rattle.can_event.specs.declared.events.Entry.{Entry}
 use Rattle.can_event.specs.declared.events.Event.{Event}
@@ -23,7 +23,7 @@ use Rattle.can_event.specs.declared.events.Received.{Received}
 use Rattle.can_event.specs.declared.events.Tried.{Tried}
 use Rattle.can_event.specs.declared.events.Pending.{Pending}
 use Rattle.can_bus.specs.Sockets.{Place, places, places_after, open_sockets, is_open, iface_of, iface_in, filters_of, options_of}
-use Rattle.can_bus.specs.Transmit.{sent_by, sent_after, gone_count, gone_after, done_count, done_after, refused_count, refused_after, head_of, is_done}
+use Rattle.can_bus.specs.Transmit.{sent_by, sent_after, gone_count, gone_after, done_count, done_after, refused_count, refused_after, head_of}
 use Rattle.can_bus.specs.Counters.{state_at, transmission}
 use Rattle.can_bus.specs.Attempts.{winner, attempt_reply, tried_head, tried_with}
 use Rattle.can_bus.specs.Posts.{Post, is_looped_back, is_own, posts_of, data_posts, error_posts, attempt_posts, restart_posts, auto_restart_posts, fault_message_for, role_at}

@@ -5,7 +5,7 @@ use Rattle.std.proofs.lemmas.Option.{slice_get_past}
 use Rattle.can_frame.specs.Sets.{is_in}
 use Rattle.can_confine.specs.Confinement.{ErrorCounts, Step, all_stepped, stepped, at_start, state_of, is_off}
 use Rattle.can_fault.specs.declared.verdicts.Verdict.{Verdict}
-use Rattle.can_attempt.specs.Attempts.{Transmission, is_among, set_of, receivers, can_hear, steps_at, counts_after, off_after}
+use Rattle.can_attempt.specs.Attempts.{Transmission, is_among, set_of, receivers, can_hear, steps_at, counts_after, off_after, is_done}
 use Rattle.can_attempt.proofs.Places.{is_among-filter, is_among-range, is_among-receivers}
 use Rattle.can_event.specs.declared.events.Entry.{Entry}
 use Rattle.can_event.specs.declared.events.Event.{Event}
@@ -17,7 +17,7 @@ use Rattle.can_event.specs.declared.events.BusConfig.{BusConfig}
 use Rattle.can_event.specs.declared.events.Tried.{Tried}
 use Rattle.can_event.specs.declared.events.Pending.{Pending}
 use Rattle.can_bus.specs.Sockets.{open_sockets, is_open, iface_of, options_of}
-use Rattle.can_bus.specs.Transmit.{sent_by, sent_after, gone_count, gone_after, head_of, is_done}
+use Rattle.can_bus.specs.Transmit.{sent_by, sent_after, gone_count, gone_after, head_of}
 use Rattle.can_bus.specs.Counters.{counts_of, steps_of, steps_after, state_at, transmission}
 use Rattle.can_bus.specs.Attempts.{winner, contenders, beats}
 use Rattle.can_bus.specs.Legal.{lacks_fd, legal_reply, IsLegal}

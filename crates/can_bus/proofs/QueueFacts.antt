@@ -13,7 +13,8 @@ use Rattle.can_event.specs.declared.events.BusConfig.{BusConfig}
 use Rattle.can_event.specs.declared.events.Pending.{Pending}
 use Rattle.can_event.specs.declared.events.Received.{Received}
 use Rattle.can_bus.specs.Sockets.{places, is_open, iface_of, capacity_in, capacity_of, options_of}
-use Rattle.can_bus.specs.Transmit.{sent_by, sent_after, gone_count, gone_after, is_done}
+use Rattle.can_attempt.specs.Attempts.{is_done}
+use Rattle.can_bus.specs.Transmit.{sent_by, sent_after, gone_count, gone_after}
 use Rattle.can_bus.specs.Counters.{state_at}
 use Rattle.can_bus.specs.Queues.{queued_to, taken_from, taken_after, candidates_of}
 use Rattle.can_bus.specs.Legal.{lacks_fd, legal_reply, IsLegal}

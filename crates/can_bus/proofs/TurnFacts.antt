@@ -11,7 +11,7 @@ use Rattle.can_filter.specs.Passing.{wants}
 use Rattle.can_fault.specs.declared.verdicts.Verdict.{Verdict}
 use Rattle.can_attempt.specs.declared.classes.Class.{Class}
 use Rattle.can_attempt.specs.declared.classes.Class.TheVariants as class
-use Rattle.can_attempt.specs.Attempts.{Transmission, set_of, accepted_in, class_of}
+use Rattle.can_attempt.specs.Attempts.{Transmission, set_of, accepted_in, class_of, is_done}
 use Rattle.can_event.specs.declared.events.Entry.{Entry}
 use Rattle.can_event.specs.declared.events.Event.{Event}
 use Rattle.can_event.specs.declared.events.Reply.{Reply}
@@ -21,7 +21,7 @@ use Rattle.can_event.specs.declared.events.Received.{Received}
 use Rattle.can_event.specs.declared.events.Tried.{Tried}
 use Rattle.can_event.specs.declared.events.Pending.{Pending}
 use Rattle.can_bus.specs.Sockets.{is_open, iface_of, filters_of, options_of}
-use Rattle.can_bus.specs.Transmit.{sent_by, gone_count, gone_after, is_done}
+use Rattle.can_bus.specs.Transmit.{sent_by, gone_count, gone_after}
 use Rattle.can_bus.specs.Counters.{transmission}
 use Rattle.can_bus.specs.Posts.{is_looped_back, is_own, sender_in}
 use Rattle.can_bus.specs.Queues.{queued_to}

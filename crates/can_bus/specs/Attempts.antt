@@ -41,6 +41,7 @@ tried_with c past m v w frame =
     let t = transmission c past w v in
     record { moment = m; winner = w; number = gone_count past w; frame = frame; class = class_of t; accepted = set_of (accepted_in (class_of t) t); off = set_of (off_after t); restarted = restarted_next c past }
 
+-- the reply to an attempt that interface w wins, whose oldest frame is this (own choice)
 abbrev pub tried_head : BusConfig → List Entry → ℕ → Verdict → ℕ → Option Pending → Reply
 tried_head c past m v w None = reply.Idle (restarted_next c past)
 tried_head c past m v w (Some p) = reply.Tried (tried_with c past m v w p.frame)

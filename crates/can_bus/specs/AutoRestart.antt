@@ -14,6 +14,7 @@ use Rattle.can_event.specs.declared.events.Reply.TheVariants as reply
 -- Automatic restart: an interface that went bus off comes back by itself in the n-th attempt after that, where
 -- the bus is made with the number n (own choice; 0 for never).
 
+-- attempts_off after one more entry (own choice)
 abbrev pub attempts_off_after : Event → Reply → ℕ → Option ℕ → Option ℕ
 attempts_off_after e (reply.Idle restarted) i before = if is_in i restarted then None else option_map suc before
 attempts_off_after e (reply.Tried t) i before = if is_in i t.restarted then None else if is_in i t.off then Some 0 else option_map suc before
@@ -39,6 +40,7 @@ is_due c past i = is_nth_after c.auto_restart (attempts_off past i)
 abbrev pub restarted_next : BusConfig → List Entry → IfaceSet
 restarted_next c past = set_of (filter (is_due c past) (range_with_len 0 c.ifaces))
 
+-- how many of n attempts are left after these (own choice)
 abbrev pub left_after : ℕ → Option ℕ → ℕ
 left_after n None = 0
 left_after n (Some k) = n - k

@@ -10,7 +10,7 @@ use Rattle.can_confine.specs.Confinement.{at_start, state_of, is_off}
 use Rattle.can_fault.specs.declared.verdicts.Verdict.{Verdict}
 use Rattle.can_attempt.specs.declared.classes.Class.{Class}
 use Rattle.can_attempt.specs.declared.nodes.Nodes.{Nodes}
-use Rattle.can_attempt.specs.Attempts.{Transmission, attempt_between, counts_at, judged}
+use Rattle.can_attempt.specs.Attempts.{Transmission, attempt_between, counts_at, judged, is_done}
 use Rattle.can_event.specs.declared.events.Attempt.{Attempt}
 use Rattle.can_event.specs.declared.events.Attempt.TheVariants as attempt
 use Rattle.can_event.specs.Events.{max_rx_capacity}
@@ -24,7 +24,6 @@ use Rattle.can_event.specs.declared.events.Pending.{Pending}
 use Rattle.can_event.specs.declared.events.Refusal.{Refusal}
 use Rattle.can_event.specs.declared.events.SocketId.{SocketId}
 use Rattle.can_event.specs.declared.events.Refusal.TheVariants as refusal
-use Rattle.can_bus.specs.Transmit.{is_done}
 use Rattle.can_bus.specs.Posts.{attempt_posts, restart_posts, auto_restart_posts}
 use Rattle.can_bus.specs.State.{LineState, SocketState, Parts, reached, key_in}
 use Rattle.can_bus.specs.Legal.{lacks_fd}

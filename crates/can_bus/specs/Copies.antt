@@ -20,6 +20,7 @@ use Rattle.can_bus.specs.Queues.{queued_to, taken_from}
 
 -- The copies of frames that reach a socket, and the attempts that made them.
 
+-- a data frame, as against an error message frame (own choice)
 abbrev pub is_data : Item → Bool
 is_data (item.Data f) = true
 is_data (item.Error e) = false
@@ -57,6 +58,7 @@ has_room c past s = nat_lt (length (queued_to c past s)) (capacity_of past s + l
 abbrev pub is_copied : BusConfig → List Entry → ℕ → Tried → Option Pending → Bool
 is_copied c past s t p = is_open past s && (comes_to (iface_of past s) t p && (wants (filters_of past s) (options_of past s) (item.Data t.frame) (is_own (sender_in p) s) && has_room c past s))
 
+-- copying after one more entry (own choice)
 abbrev pub copying_after : BusConfig → List Entry → ℕ → ℕ → Reply → List Tried → List Tried
 copying_after c past i s (reply.Tried t) before = if is_copied c past s t (slice_get (sent_by past t.winner) t.number) && (t.winner == i) then before ++ t ∷ [] else before
 copying_after c past i s _ before = before

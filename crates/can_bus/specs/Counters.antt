@@ -17,6 +17,7 @@ use Rattle.can_event.specs.declared.events.Reply.TheVariants as reply
 abbrev pub sending : BusConfig → (ℕ → ErrorCounts) → ℕ → Verdict → Transmission
 sending c counts w v = record { count = c.ifaces; counts = counts; winner = w; verdict = v; ack = c.ack }
 
+-- steps_of after one more entry (own choice)
 abbrev pub steps_after : BusConfig → Event → Reply → (ℕ → ErrorCounts) → ℕ → List Step → List Step
 steps_after c (Attempt m v) (reply.Tried t) counts i before = if is_in i t.restarted then [] else before ++ steps_at i (sending c counts t.winner v)
 steps_after c (Attempt m v) (reply.Idle restarted) counts i before = if is_in i restarted then [] else before

@@ -9,7 +9,8 @@ use Rattle.can_event.specs.declared.events.Reply.TheVariants as reply
 use Rattle.can_event.specs.declared.events.Closed.{Closed}
 use Rattle.can_event.specs.declared.events.SocketId.{SocketId}
 use Rattle.can_event.specs.declared.events.Tried.{Tried}
-use Rattle.can_bus.specs.Transmit.{sent_by, gone_count, tape, is_done}
+use Rattle.can_attempt.specs.Attempts.{is_done}
+use Rattle.can_bus.specs.Transmit.{sent_by, gone_count, tape}
 
 -- What becomes of frames and sockets, in the words of the laws.
 
@@ -19,6 +20,7 @@ pub data Fate : Type 0 where
   Done : Fate
   Lost : Fate
 
+-- the two fates are the same (own choice)
 abbrev pub is_fate : Fate → Fate → Bool
 is_fate Waiting Waiting = true
 is_fate Done Done = true
@@ -42,6 +44,7 @@ abbrev pub goes_off : ℕ → Reply → Bool
 goes_off i (reply.Tried t) = is_in i t.off
 goes_off i _ = false
 
+-- numbers_given after one more entry (own choice)
 abbrev pub given_after : Event → Reply → List ℕ → List ℕ
 given_after (Open i capacity) (reply.Opened s) before = before ++ s.0 ∷ []
 given_after _ _ before = before

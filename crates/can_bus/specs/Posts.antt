@@ -1,11 +1,12 @@
 use Rattle.std.specs.Prelude.{ℕ, ◌==◌, Bool, false, ◌&&◌, ◌||◌, List, [], ◌∷◌, ◌++◌, slice_get, Option, Some, None, if◌then◌else◌}
+use Rattle.std.specs.Option.{option_map}
 use Rattle.can_frame.specs.Frames.{ErrorMessage}
 use Rattle.can_frame.specs.Sets.{is_in}
 use Rattle.can_frame.specs.declared.ifaces.IfaceSet.{IfaceSet}
 use Rattle.can_frame.specs.declared.items.Item.TheVariants as item
 use Rattle.can_fault.specs.declared.verdicts.Verdict.{Verdict}
 use Rattle.can_attempt.specs.declared.classes.Class.{Class}
-use Rattle.can_attempt.specs.Attempts.{Transmission, is_among, receivers, hit, counts_after}
+use Rattle.can_attempt.specs.Attempts.{Transmission, is_among, receivers, hit, counts_after, is_done}
 use Rattle.can_errframe.specs.ErrorMessages.{fault_message, state_message, restart_message}
 use Rattle.can_errframe.specs.declared.roles.Role.{Role}
 use Rattle.can_errframe.specs.declared.roles.Role.TheVariants as role
@@ -17,8 +18,9 @@ use Rattle.can_event.specs.declared.events.Pending.{Pending}
 use Rattle.can_event.specs.declared.events.Received.{Received}
 use Rattle.can_event.specs.declared.events.Reply.{Reply}
 use Rattle.can_event.specs.declared.events.Reply.TheVariants as reply
+use Rattle.can_event.specs.declared.events.SocketId.{SocketId}
 use Rattle.can_event.specs.declared.events.Tried.{Tried}
-use Rattle.can_bus.specs.Transmit.{sent_by, is_done}
+use Rattle.can_bus.specs.Transmit.{sent_by}
 use Rattle.can_bus.specs.Counters.{transmission}
 use Rattle.can_event.specs.Events.{tried_item}
 
@@ -28,6 +30,10 @@ use Rattle.can_event.specs.Events.{tried_item}
 pub record Post : Type 0 where
   pub received : Received
   pub sender : Option ℕ
+
+-- an item for sockets, which this socket sent, or none (own choice)
+abbrev pub post_of : Received → Option SocketId → Post
+post_of r s = record { received = r; sender = option_map (λ (k : SocketId). k.0) s }
 
 -- a frame comes back to its own interface once it is done, where loopback was on at the send
 -- (the kernel's networking/can document, local loopback of sent frames)

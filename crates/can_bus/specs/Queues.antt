@@ -29,6 +29,7 @@ abbrev pub candidates_for : BusConfig → List Entry → ℕ → List Received
 candidates_for c [] s = []
 candidates_for c (e ∷ past) s = candidates_for c past s ++ candidates_of c past s e.event e.reply
 
+-- taken_from after one more entry (own choice)
 abbrev pub taken_after : Event → Reply → ℕ → List Received → List Received
 taken_after (Receive s) (reply.Received (Some r)) k before = if k == s.0 then before ++ r ∷ [] else before
 taken_after _ _ k before = before

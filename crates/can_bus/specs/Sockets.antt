@@ -18,6 +18,7 @@ pub record Place : Type 0 where
   pub iface : ℕ
   pub capacity : ℕ
 
+-- places after one more entry (own choice)
 abbrev pub places_after : Event → Reply → List Place → List Place
 places_after (Open i capacity) (reply.Opened s) before = before ++ record { iface = i; capacity = capacity } ∷ []
 places_after _ _ before = before
@@ -27,6 +28,7 @@ abbrev pub places : List Entry → List Place
 places [] = []
 places (e ∷ past) = places_after e.event e.reply (places past)
 
+-- open_sockets after one more entry, where n sockets were opened before (own choice)
 abbrev pub open_after : ℕ → Event → Reply → List ℕ → List ℕ
 open_after n (Open i capacity) (reply.Opened s) before = before ++ n ∷ []
 open_after n (Close s) (reply.Closed c) before = filter (λ k. not (k == s.0)) before
@@ -41,10 +43,12 @@ open_sockets (e ∷ past) = open_after (length (places past)) e.event e.reply (o
 abbrev pub is_open : List Entry → ℕ → Bool
 is_open past s = list_any (λ k. k == s) (open_sockets past)
 
+-- the interface of a socket, 0 where there was none (own choice)
 abbrev pub iface_in : Option Place → ℕ
 iface_in None = 0
 iface_in (Some p) = p.iface
 
+-- the capacity of a socket, 0 where there was none (own choice)
 abbrev pub capacity_in : Option Place → ℕ
 capacity_in None = 0
 capacity_in (Some p) = p.capacity
@@ -57,6 +61,7 @@ iface_of past s = iface_in (slice_get (places past) s)
 abbrev pub capacity_of : List Entry → ℕ → ℕ
 capacity_of past s = capacity_in (slice_get (places past) s)
 
+-- options_of after one more entry (own choice)
 abbrev pub options_after : Event → Reply → ℕ → Options → Options
 options_after (SetOption s option) reply.Done k before = if k == s.0 then with_option option before else before
 options_after _ _ k before = before
@@ -66,6 +71,7 @@ abbrev pub options_of : List Entry → ℕ → Options
 options_of [] s = default_options
 options_of (e ∷ past) s = options_after e.event e.reply s (options_of past s)
 
+-- filters_of after one more entry (own choice)
 abbrev pub filters_after : Event → Reply → ℕ → List CanFilter → List CanFilter
 filters_after (SetFilters s filters) reply.Done k before = if k == s.0 then filters else before
 filters_after _ _ k before = before

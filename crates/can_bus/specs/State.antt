@@ -69,9 +69,11 @@ kept_line c past i = record { waiting = drop (gone_count past i) (sent_by past i
 abbrev pub kept_socket : BusConfig → List Entry → ℕ → SocketState
 kept_socket c past s = record { number = s; iface = iface_of past s; capacity = capacity_of past s; filters = filters_of past s; options = options_of past s; waiting = drop (length (taken_from past s)) (queued_to c past s); taken = length (taken_from past s); dropped = length (dropped_at c past s) }
 
+-- what a history leaves of the interfaces, by number (own choice)
 unfoldable pub kept_lines : BusConfig → List Entry → List LineState
 kept_lines c past = map (kept_line c past) (range_with_len 0 c.ifaces)
 
+-- what a history leaves of the open sockets, by rising number (own choice)
 unfoldable pub kept_sockets : BusConfig → List Entry → List SocketState
 kept_sockets c past = map (kept_socket c past) (open_sockets past)
 

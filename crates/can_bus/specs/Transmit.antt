@@ -1,4 +1,4 @@
-use Rattle.std.specs.Prelude.{ℕ, ◌+◌, ◌==◌, Bool, true, false, ◌&&◌, List, [], ◌∷◌, ◌++◌, length, slice_get, Option, ◌-◌, if◌then◌else◌}
+use Rattle.std.specs.Prelude.{ℕ, ◌+◌, ◌==◌, ◌&&◌, List, [], ◌∷◌, ◌++◌, length, slice_get, Option, ◌-◌, if◌then◌else◌}
 use Rattle.can_frame.specs.Sets.{is_in}
 use Rattle.can_event.specs.declared.events.Event.{Event}
 use Rattle.can_event.specs.declared.events.Event.TheVariants.{Send}
@@ -8,12 +8,12 @@ use Rattle.can_event.specs.declared.events.Refusal.TheVariants as refusal
 use Rattle.can_event.specs.declared.events.Entry.{Entry}
 use Rattle.can_event.specs.declared.events.Tried.{Tried}
 use Rattle.can_event.specs.declared.events.Pending.{Pending}
-use Rattle.can_attempt.specs.declared.classes.Class.{Class}
-use Rattle.can_attempt.specs.declared.classes.Class.TheVariants as class
+use Rattle.can_attempt.specs.Attempts.{is_done}
 use Rattle.can_bus.specs.Sockets.{iface_of, options_of}
 
 -- The transmit queues of a bus's interfaces, by its history.
 
+-- sent_by after one more entry (own choice)
 abbrev pub sent_after : List Entry → ℕ → Event → Reply → List Pending → List Pending
 sent_after past i (Send s frame) (reply.Sent n) before = if iface_of past s.0 == i then before ++ record { frame = frame; socket = s; loopback = (options_of past s.0).loopback } ∷ [] else before
 sent_after past i _ _ before = before
@@ -24,6 +24,7 @@ abbrev pub sent_by : List Entry → ℕ → List Pending
 sent_by [] i = []
 sent_by (e ∷ past) i = sent_after past i e.event e.reply (sent_by past i)
 
+-- tape after one more entry (own choice)
 abbrev pub tape_after : Reply → List Tried → List Tried
 tape_after (reply.Tried t) before = before ++ t ∷ []
 tape_after _ before = before
@@ -33,10 +34,7 @@ abbrev pub tape : List Entry → List Tried
 tape [] = []
 tape (e ∷ past) = tape_after e.reply (tape past)
 
-abbrev pub is_done : Class → Bool
-is_done class.Done = true
-is_done _ = false
-
+-- gone_count after one more entry, where so many frames were sent (own choice)
 abbrev pub gone_after : Reply → ℕ → ℕ → ℕ → ℕ
 gone_after (reply.Tried t) i sent before = if is_in i t.off then sent else if (t.winner == i) && is_done t.class then before + 1 else before
 gone_after _ i sent before = before
@@ -51,6 +49,7 @@ gone_count (e ∷ past) i = gone_after e.reply i (length (sent_by past i)) (gone
 abbrev pub head_of : List Entry → ℕ → Option Pending
 head_of past i = slice_get (sent_by past i) (gone_count past i)
 
+-- done_count after one more entry (own choice)
 abbrev pub done_after : Reply → ℕ → ℕ → ℕ
 done_after (reply.Tried t) i before = if (t.winner == i) && is_done t.class then before + 1 else before
 done_after _ i before = before
@@ -64,6 +63,7 @@ done_count (e ∷ past) i = done_after e.reply i (done_count past i)
 abbrev pub lost_count : List Entry → ℕ → ℕ
 lost_count past i = gone_count past i - done_count past i
 
+-- refused_count after one more entry (own choice)
 abbrev pub refused_after : List Entry → ℕ → Event → Reply → ℕ → ℕ
 refused_after past i (Send s frame) (reply.Refused refusal.NoBuffers) before = if iface_of past s.0 == i then before + 1 else before
 refused_after past i _ _ before = before

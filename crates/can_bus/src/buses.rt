@@ -84,7 +84,8 @@ impl<T: BoundedQueue<Pending>, R: BoundedQueue<Received>, A: Arbiter> Model for 
 
 /// The entry of a socket's filters that are set to a copy of these, in memory of its own.
 fn filters_entry(alloc: Global, id: SocketId, filters: &FilterSet) -> Result<Box<Entry>, AllocError>
-    ensures { IfOk result (λ entry. entry.value ≡ entry_of (event.SetFilters id filters.now) reply.Done) }
+    ensures { IfOk result (λ entry.
+        entry.value ≡ entry_of (event.SetFilters id filters.now) reply.Done) }
 {
     let event = Event::SetFilters(id, filters.try_copy(alloc)?);
     let reply = Reply::Done;
@@ -269,7 +270,8 @@ impl<T: BoundedQueue<Pending>, R: BoundedQueue<Received>, A: Arbiter> Bus<T, R, 
     ///
     /// Refusals: `RecordFull`, `NoSocket`. The room stays then, too.
     pub fn receive_into(&mut self, id: SocketId, room: &mut Received) -> Result<bool, Refusal>
-        ensures answer { Answers (taken_reply room.new) self.old (event.Receive id) result self.new }
+        ensures answer { Answers (taken_reply room.new) self.old (event.Receive id)
+            result self.new }
         ensures stays { result ≢ Ok true → room.new ≡ room.old }
     {
         if self.record.is_full() {

@@ -162,7 +162,8 @@ impl Held {
 #[inline(never)]
 fn push_idle(entries: &mut PackedRecord, moment: Moment, verdict: Verdict, restarted: IfaceSet)
     requires { length entries.old.entries < entries.old.room }
-    ensures more { Adds entries.old.entries (attempt_entry moment verdict (Idle restarted)) entries.new.entries }
+    ensures more { Adds entries.old.entries (attempt_entry moment verdict (Idle restarted))
+        entries.new.entries }
     ensures room { entries.old.room ≤ entries.new.room }
 {
     entries.push(&Event::Attempt(moment, verdict), &Reply::Idle { restarted });

@@ -44,26 +44,26 @@ pub fn every_accepted_frame_exactly(config: BusConfig)
 /// interface whose frame came to the socket's interface while the socket was open, passed its filters and
 /// options, and found room.
 pub fn each_copy_comes_of_one_attempt(config: BusConfig)
-    ensures { (past : List Entry) → IsLegal config past →
-        (i s : ℕ) → received_from config past i s ≡ map copy_of (copying config past i s) }
+    ensures { (past : List Entry) → IsLegal config past → (i s : ℕ) →
+        received_from config past i s ≡ map copy_of (copying config past i s) }
 {}
 
 /// The frame of each copy is the one that the sending interface accepted under the copy's number.
 pub fn copies_are_of_frames_sent(config: BusConfig)
-    ensures { (past : List Entry) → IsLegal config past →
-        (i s : ℕ) → All (IsOfSent past i) (copying config past i s) }
+    ensures { (past : List Entry) → IsLegal config past → (i s : ℕ) →
+        All (IsOfSent past i) (copying config past i s) }
 {}
 
 /// The numbers of one interface's frames never fall on a socket. Each copy comes of an attempt that was done
 /// or failed at the last bit alone; of the attempts that copied one number at most one is done, and it is
 /// the last.
 pub fn copies_come_in_turn(config: BusConfig)
-    ensures numbers { (past : List Entry) → IsLegal config past →
-        (i s : ℕ) → NeverFall 0 (numbers_from i (queued_to config past s)) }
-    ensures classes { (past : List Entry) → IsLegal config past →
-        (i s : ℕ) → All (λ t. went_over t.class ≡ true) (copying config past i s) }
-    ensures turns { (past : List Entry) → IsLegal config past →
-        (i s : ℕ) → AllPairs InTurn (copying config past i s) }
+    ensures numbers { (past : List Entry) → IsLegal config past → (i s : ℕ) →
+        NeverFall 0 (numbers_from i (queued_to config past s)) }
+    ensures classes { (past : List Entry) → IsLegal config past → (i s : ℕ) →
+        All (λ t. went_over t.class ≡ true) (copying config past i s) }
+    ensures turns { (past : List Entry) → IsLegal config past → (i s : ℕ) →
+        AllPairs InTurn (copying config past i s) }
 {}
 
 /// An attempt failed at the last bit of end of frame alone only where that was its fault, and the only one.
@@ -73,18 +73,18 @@ pub fn last_bit_attempts_had_that_fault_alone(config: BusConfig)
 
 /// A number stands on a socket as often as there are attempts that copied the frame of that number.
 pub fn each_number_stands_once_for_each_attempt(config: BusConfig)
-    ensures { (past : List Entry) → IsLegal config past →
-        (i s n : ℕ) → count_by (λ m. m == n) (numbers_from i (queued_to config past s))
+    ensures { (past : List Entry) → IsLegal config past → (i s n : ℕ) →
+        count_by (λ m. m == n) (numbers_from i (queued_to config past s))
         ≡ count_by (λ (t : Tried). t.number == n) (copying config past i s) }
 {}
 
 /// A socket of the sending interface itself gets a frame by loopback alone, once it is done: a number
 /// stands there at most once.
 pub fn own_copies_are_single(config: BusConfig)
-    ensures done { (past : List Entry) → IsLegal config past →
-        (s : ℕ) → All (λ t. t.class ≡ class.Done) (copying config past (iface_of past s) s) }
-    ensures single { (past : List Entry) → IsLegal config past →
-        (s : ℕ) → AllPairs (λ (x y : Tried). x.number < y.number)
+    ensures done { (past : List Entry) → IsLegal config past → (s : ℕ) →
+        All (λ t. t.class ≡ class.Done) (copying config past (iface_of past s) s) }
+    ensures single { (past : List Entry) → IsLegal config past → (s : ℕ) →
+        AllPairs (λ (x y : Tried). x.number < y.number)
         (copying config past (iface_of past s) s) }
 {}
 
@@ -96,8 +96,7 @@ pub fn at_most_32_copies(config: BusConfig)
     ensures copies { IsConfig config → (past : List Entry) → IsLegal config past →
         AtMost32Copies config past }
     ensures rising { IsConfig config → (past : List Entry) → (e : Entry) →
-        IsLegal config (e ∷ past) →
-        RisesAtTheHead config e past }
+        IsLegal config (e ∷ past) → RisesAtTheHead config e past }
     ensures last_bit { (past : List Entry) → (e : Entry) → IsLegal config (e ∷ past) →
         LastBitAdds8 config e past }
 {}
@@ -106,29 +105,30 @@ pub fn at_most_32_copies(config: BusConfig)
 
 /// Each frame that was accepted for sending is done, waits, or was lost as its interface went bus off.
 pub fn no_frame_is_forgotten(config: BusConfig)
-    ensures { (past : List Entry) → IsLegal config past →
-        (i : ℕ) → length (sent_by past i)
+    ensures { (past : List Entry) → IsLegal config past → (i : ℕ) →
+        length (sent_by past i)
         ≡ done_count past i + (length (sent_by past i) - gone_count past i) + lost_count past i }
 {}
 
 /// Each frame that was accepted for sending has one fate, and the counts that an interface tells are how
 /// many frames have each.
 pub fn counts_tell_the_fates(config: BusConfig)
-    ensures waiting { (past : List Entry) → IsLegal config past →
-        (i : ℕ) → frames_with Waiting past i ≡ length (sent_by past i) - gone_count past i }
-    ensures done { (past : List Entry) → IsLegal config past →
-        (i : ℕ) → frames_with Done past i ≡ done_count past i }
-    ensures lost { (past : List Entry) → IsLegal config past →
-        (i : ℕ) → frames_with Lost past i ≡ lost_count past i }
+    ensures waiting { (past : List Entry) → IsLegal config past → (i : ℕ) →
+        frames_with Waiting past i ≡ length (sent_by past i) - gone_count past i }
+    ensures done { (past : List Entry) → IsLegal config past → (i : ℕ) →
+        frames_with Done past i ≡ done_count past i }
+    ensures lost { (past : List Entry) → IsLegal config past → (i : ℕ) →
+        frames_with Lost past i ≡ lost_count past i }
 {}
 
 /// Frames are lost where their interface goes bus off, all that wait there, and nowhere else.
 pub fn frames_are_lost_at_bus_off_alone(config: BusConfig)
     ensures kept { (past : List Entry) → (e : Entry) → (i : ℕ) →
         goes_off i e.reply ≡ false → lost_count (e ∷ past) i ≡ lost_count past i }
-    ensures lost { (past : List Entry) → (e : Entry) → IsLegal config (e ∷ past) →
-        (i : ℕ) → goes_off i e.reply ≡ true →
-        lost_count (e ∷ past) i ≡ lost_count past i + (length (sent_by past i) - gone_count past i) }
+    ensures lost { (past : List Entry) → (e : Entry) → IsLegal config (e ∷ past) → (i : ℕ) →
+        goes_off i e.reply ≡ true →
+        lost_count (e ∷ past) i
+        ≡ lost_count past i + (length (sent_by past i) - gone_count past i) }
 {}
 
 // ---- items
@@ -154,23 +154,22 @@ pub fn each_item_is_counted(config: BusConfig)
         IsLegal config (closing s k ∷ past) →
         length (queued_to config past s.0) ≡ length (taken_from past s.0) + k.unread }
     ensures dropped { (past : List Entry) → (s : SocketId) → (k : Closed) →
-        IsLegal config (closing s k ∷ past) →
-        k.dropped ≡ length (dropped_at config past s.0) }
+        IsLegal config (closing s k ∷ past) → k.dropped ≡ length (dropped_at config past s.0) }
 {}
 
 /// The items that receive gave are the first that were queued, in order.
 pub fn items_are_taken_in_order(config: BusConfig)
-    ensures { (past : List Entry) → IsLegal config past →
-        (s : ℕ) → taken_from past s ≡ take (length (taken_from past s)) (queued_to config past s) }
+    ensures { (past : List Entry) → IsLegal config past → (s : ℕ) →
+        taken_from past s ≡ take (length (taken_from past s)) (queued_to config past s) }
 {}
 
 /// No queue ever holds more than it may: neither a socket's nor an interface's.
 pub fn queues_stay_within_their_capacity(config: BusConfig)
-    ensures receive { (past : List Entry) → IsLegal config past →
-        (s : ℕ) → length (queued_to config past s) - length (taken_from past s)
+    ensures receive { (past : List Entry) → IsLegal config past → (s : ℕ) →
+        length (queued_to config past s) - length (taken_from past s)
         ≤ capacity_of past s }
-    ensures transmit { (past : List Entry) → IsLegal config past →
-        (i : ℕ) → length (sent_by past i) - gone_count past i ≤ config.tx_capacity }
+    ensures transmit { (past : List Entry) → IsLegal config past → (i : ℕ) →
+        length (sent_by past i) - gone_count past i ≤ config.tx_capacity }
 {}
 
 // ---- sockets
@@ -178,8 +177,7 @@ pub fn queues_stay_within_their_capacity(config: BusConfig)
 /// Nothing is queued to a socket before its open, nor after its close, whatever comes later.
 pub fn only_open_sockets_receive(config: BusConfig)
     ensures before { (past : List Entry) → (i capacity : ℕ) → (s : SocketId) →
-        IsLegal config (opening i capacity s ∷ past) →
-        queued_to config past s.0 ≡ [] }
+        IsLegal config (opening i capacity s ∷ past) → queued_to config past s.0 ≡ [] }
     ensures after { (later past : List Entry) → (s : SocketId) → (k : Closed) →
         IsLegal config (later ++ closing s k ∷ past) →
         queued_to config (later ++ closing s k ∷ past) s.0 ≡ queued_to config past s.0 }
@@ -200,38 +198,41 @@ pub fn socket_numbers_are_never_used_again(config: BusConfig)
 
 /// An interface that is bus off has no frame waiting: all that was accepted there is gone.
 pub fn off_interfaces_have_nothing_to_send(config: BusConfig)
-    ensures gone { IsConfig config → (past : List Entry) → IsLegal config past →
-        (i : ℕ) → is_off (state_at config past i) ≡ true →
+    ensures gone { IsConfig config → (past : List Entry) → IsLegal config past → (i : ℕ) →
+        is_off (state_at config past i) ≡ true →
         gone_count past i ≡ length (sent_by past i) }
-    ensures idle { IsConfig config → (past : List Entry) → IsLegal config past →
-        (i : ℕ) → is_off (state_at config past i) ≡ true → head_of past i ≡ None }
+    ensures idle { IsConfig config → (past : List Entry) → IsLegal config past → (i : ℕ) →
+        is_off (state_at config past i) ≡ true → head_of past i ≡ None }
 {}
 
 /// An interface that is bus off takes part in no attempt, and a frame sent on one of its sockets is
 /// refused: an FD frame that the socket did not ask for as on any interface, the others for it. Its
 /// error counts stay until it is restarted.
 pub fn off_interfaces_take_no_part(config: BusConfig)
-    ensures wins { (past : List Entry) → (m : ℕ) → (v : Verdict) → (t : Tried) → reply.Tried t ≡ legal_reply config past (event.Attempt m v) →
-        (i : ℕ) → is_off (state_at config past i) ≡ true → t.winner ≢ i }
-    ensures accepts { (past : List Entry) → (m : ℕ) → (v : Verdict) → (t : Tried) → reply.Tried t ≡ legal_reply config past (event.Attempt m v) →
-        (i : ℕ) → is_off (state_at config past i) ≡ true → is_in i t.accepted ≡ false }
+    ensures wins { (past : List Entry) → (m : ℕ) → (v : Verdict) → (t : Tried) →
+        reply.Tried t ≡ legal_reply config past (event.Attempt m v) → (i : ℕ) →
+        is_off (state_at config past i) ≡ true → t.winner ≢ i }
+    ensures accepts { (past : List Entry) → (m : ℕ) → (v : Verdict) → (t : Tried) →
+        reply.Tried t ≡ legal_reply config past (event.Attempt m v) → (i : ℕ) →
+        is_off (state_at config past i) ≡ true → is_in i t.accepted ≡ false }
     ensures sends { (past : List Entry) → (s : SocketId) → (f : CanFrame) →
-        is_open past s.0 ≡ true → lacks_fd f (options_of past s.0) ≡ false → is_off (state_at config past (iface_of past s.0)) ≡ true →
+        is_open past s.0 ≡ true → lacks_fd f (options_of past s.0) ≡ false →
+        is_off (state_at config past (iface_of past s.0)) ≡ true →
         legal_reply config past (event.Send s f) ≡ reply.Refused refusal.BusOff }
     ensures fd { (past : List Entry) → (s : SocketId) → (f : CanFrame) →
         is_open past s.0 ≡ true → lacks_fd f (options_of past s.0) ≡ true →
         legal_reply config past (event.Send s f) ≡ reply.Refused refusal.FdOff }
-    ensures counts { (past : List Entry) → (e : Entry) → IsLegal config (e ∷ past) →
-        (i : ℕ) → is_off (state_at config past i) ≡ true → is_restart_of i e.event e.reply ≡ false →
+    ensures counts { (past : List Entry) → (e : Entry) → IsLegal config (e ∷ past) → (i : ℕ) →
+        is_off (state_at config past i) ≡ true → is_restart_of i e.event e.reply ≡ false →
         counts_of config (e ∷ past) i ≡ counts_of config past i }
 {}
 
 /// Nothing is sent on an interface that is not there, and its error counts stay 0/0.
 pub fn no_interface_beyond_the_last(config: BusConfig)
-    ensures sent { (past : List Entry) → IsLegal config past →
-        (i : ℕ) → config.ifaces ≤ i → sent_by past i ≡ [] }
-    ensures counts { (past : List Entry) → IsLegal config past →
-        (i : ℕ) → config.ifaces ≤ i → counts_of config past i ≡ at_start }
+    ensures sent { (past : List Entry) → IsLegal config past → (i : ℕ) →
+        config.ifaces ≤ i → sent_by past i ≡ [] }
+    ensures counts { (past : List Entry) → IsLegal config past → (i : ℕ) →
+        config.ifaces ≤ i → counts_of config past i ≡ at_start }
 {}
 
 // ---- records

@@ -1,5 +1,5 @@
 ghost use Rattle.std.specs.Prelude.{◌≡◌, ◌&&◌};
-ghost use Rattle.can_bus.specs.Transmit.{is_done};
+ghost use Rattle.can_attempt.specs.Attempts.{is_done};
 ghost use Rattle.can_bus.specs.Attempted.{IsJudged};
 ghost use Rattle.can_bus.specs.Posts.{goes_to};
 

@@ -115,7 +115,8 @@ impl Record {
 
     /// The entry at a place as it is stored, if there is one, for those who read many. No memory is taken.
     pub fn stored(&self, place: usize) -> Option<Stored<'_>>
-        ensures entry { option_map entry_stored result ≡ slice_get (reverse self.now.history) place }
+        ensures entry { option_map entry_stored result
+            ≡ slice_get (reverse self.now.history) place }
         ensures stored { IfSome result IsStored }
         ensures spelled { IfSome result (λ s. IsSpelled self.now.config (entry_stored s)) }
     {

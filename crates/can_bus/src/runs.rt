@@ -51,8 +51,9 @@ pub fn run<T: BoundedQueue<Pending>, R: BoundedQueue<Received>, A: Arbiter>(
     ensures answers { IfOk result (λ replies.
         AreAnswers bus.old.config bus.old.history events.now replies.items) }
     ensures after { IfOk result (λ replies.
-        bus.new ≡ record bus.old
-        { history = history_after_all events.now replies.items bus.old.history }) }
+        bus.new ≡ record bus.old {
+          history = history_after_all events.now replies.items bus.old.history;
+        }) }
     ensures was_legal { IsLegal bus.old.config bus.old.history }
     ensures legal { IsLegal bus.new.config bus.new.history }
     ensures headline { Headline bus.new.config bus.new.history }

@@ -3,9 +3,8 @@ ghost use Rattle.can_bus.specs.Changes.{fresh, relieved};
 ghost use Rattle.can_bus.specs.Legal.{lacks_fd};
 ghost use Rattle.can_event.specs.Events.{with_option};
 ghost use Rattle.can_event.specs.Replies.{taken_item};
+ghost use Rattle.can_bus.specs.Posts.{post_of};
 ghost use Rattle.can_bus.specs.State.{offered};
-ghost use Rattle.std.specs.Option.{option_map};
-ghost use Rattle.can_event.specs.declared.events.SocketId.{SocketId};
 
 use can_event::{Closed, Opt, Received, SocketId};
 use can_filter::{FilterSet, Options, wants};
@@ -128,9 +127,7 @@ impl<R: BoundedQueue<Received>> Socket<R> {
     /// Takes an item that it wants, or counts it as dropped where there is no room.
     pub fn post(&mut self, received: &Received, sender: Option<SocketId>)
         requires { self.old.dropped + 1 < 2 ^ 64 }
-        ensures { self.new ≡ offered
-            (record { received = received.now; sender = option_map (λ (s : SocketId). s.0) sender } ∷ [])
-            self.old }
+        ensures { self.new ≡ offered (post_of received.now sender ∷ []) self.old }
     {
         let is_own = match sender {
             Some(id) => id.0 == self.number,

@@ -19,6 +19,7 @@ abbrev pub enters : Reply → Bool
 enters (reply.Refused why) = leaves_entry why
 enters _ = true
 
+-- the same, as a statement (own choice)
 abbrev pub Enters : Reply → Type 0
 Enters r = IsTrue (enters r)
 

@@ -22,6 +22,7 @@ leaves_entry refusal.RecordFull = false
 leaves_entry refusal.NoMemory = false
 leaves_entry _ = true
 
+-- the same, as a statement (own choice)
 abbrev pub LeavesEntry : Refusal → Type 0
 LeavesEntry why = IsTrue (leaves_entry why)
 

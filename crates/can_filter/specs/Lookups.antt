@@ -7,10 +7,11 @@ use Rattle.can_filter.specs.declared.lookups.Lookup.TheVariants.{Standard, Exten
 -- Filters parted by how a word is looked up among them. Nothing that a caller has to know: the sets of filters say
 -- what passes in terms of Filters alone.
 
--- the mask of a filter that singles out one 11-bit data identifier, and of one that singles out a 29-bit one
+-- the mask of a filter that singles out one 11-bit data identifier (own choice)
 abbrev pub standard_mask : ℕ
 standard_mask = 3221227519
 
+-- the mask of a filter that singles out one 29-bit data identifier (own choice)
 abbrev pub extended_mask : ℕ
 extended_mask = 3758096383
 

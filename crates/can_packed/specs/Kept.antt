@@ -34,12 +34,15 @@ fd_frame_at frames place = get_or frames place no_frame
 abbrev pub stamp_moment : ℕ → ℕ
 stamp_moment stamp = moment_in (stamp / 512)
 
+-- the winner (own choice)
 abbrev pub stamp_winner : ℕ → ℕ
 stamp_winner stamp = stamp / 32 % 16
 
+-- the length of the frame (own choice)
 abbrev pub stamp_len : ℕ → ℕ
 stamp_len stamp = stamp / 2 % 16
 
+-- the interfaces that went bus off: the winner, or none (own choice)
 abbrev pub stamp_off : ℕ → IfaceSet
 stamp_off stamp = if stamp % 2 == 0 then no_ifaces else record { 0 = 2 ^ stamp_winner stamp }
 
@@ -108,6 +111,7 @@ IsShort (place.Place at) = Unit {0}
 abbrev pub fd_frames_of : CanFrame → List CanFrame
 fd_frames_of frame = if is_fd frame.payload then frame ∷ [] else []
 
+-- what an item adds to the list of FD frames (own choice)
 abbrev pub fd_frames_of_item : Item → List CanFrame
 fd_frames_of_item (item.Data frame) = fd_frames_of frame
 fd_frames_of_item (item.Error error) = []

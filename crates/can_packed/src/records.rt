@@ -119,7 +119,8 @@ impl PackedRecord {
     pub fn push_tried(&mut self, moment: Moment, verdict: Verdict, tried: &Tried)
         requires room { length self.old.entries < self.old.room }
         requires fits { is_wide (asked.Attempt moment verdict) (answer.Tried tried.now) ≡ false }
-        ensures more { Adds self.old.entries (tried_entry moment verdict tried.now) self.new.entries }
+        ensures more { Adds self.old.entries (tried_entry moment verdict tried.now)
+            self.new.entries }
         ensures room { self.old.room ≤ self.new.room }
     {
         let kept = tried_at(&mut self.frames, moment, verdict, tried);

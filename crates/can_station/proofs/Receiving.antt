@@ -1,5 +1,5 @@
 use Rattle.std.proofs.Common.{◌≡◌, Bool, Result, Ok, Err, ap, sym, ◌∙◌}
-use Rattle.can_event.specs.Replies.{taken_reply}
+use Rattle.can_event.specs.Replies.{receive_reply, taken_reply}
 use Rattle.can_event.specs.declared.events.Event.TheVariants as event
 use Rattle.can_event.specs.declared.events.Received.{Received}
 use Rattle.can_event.specs.declared.events.Refusal.{Refusal}
@@ -9,7 +9,6 @@ use Rattle.can_event.specs.declared.events.SocketId.{SocketId}
 use Rattle.can_bus.specs.Answer.{Answers}
 use Rattle.can_bus.specs.Journal.{Journal}
 use Rattle.can_bus.specs.Run.{history_after}
-use Rattle.can_station.specs.Held.{receive_reply}
 
 -- What a receive into a room leaves of the bus.
 

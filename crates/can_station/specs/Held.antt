@@ -1,10 +1,8 @@
-use Rattle.std.specs.Prelude.{ℕ, Bool, List, [], ◌∷◌, ◌++◌, Result, if◌then◌else◌}
+use Rattle.std.specs.Prelude.{ℕ, Bool, List, [], ◌∷◌, ◌++◌, if◌then◌else◌}
 use Rattle.can_event.specs.declared.events.Entry.{Entry}
 use Rattle.can_event.specs.declared.events.Event.{Event}
-use Rattle.can_event.specs.declared.events.Received.{Received}
-use Rattle.can_event.specs.declared.events.Refusal.{Refusal}
 use Rattle.can_event.specs.declared.events.Reply.{Reply}
-use Rattle.can_event.specs.Replies.{enters, taken_reply, told}
+use Rattle.can_event.specs.Replies.{enters}
 use Rattle.can_bus.specs.Journal.{Journal}
 use Rattle.can_bus.specs.Run.{history_after}
 use Rattle.can_roll.specs.Lists.{added, entry}
@@ -41,10 +39,6 @@ held_after p e r h = record {
 -- a pass's part of the roll after a call of its own
 abbrev pub slip_after : Event → Reply → SlipSeen → SlipSeen
 slip_after e r s = record { number = s.number; pass = s.pass; calls = history_after e r s.calls }
-
--- the reply to a receive that came to this with the room
-abbrev pub receive_reply : Received → Result Bool Refusal → Reply
-receive_reply room outcome = told (taken_reply room) outcome
 
 -- with one pass more, which has made no call
 abbrev pub with_pass : {F : Type 0} → Held F → Held F

@@ -1,9 +1,9 @@
 ghost use Rattle.std.specs.Prelude.{◌≡◌, ◌≢◌, Ok, true, reverse, IfOk};
 ghost use Rattle.can_bus.specs.Run.{history_after};
 ghost use Rattle.can_bus.specs.Answer.{told_attempt};
-ghost use Rattle.can_event.specs.Replies.{taken_reply};
+ghost use Rattle.can_event.specs.Replies.{receive_reply, taken_reply};
 ghost use Rattle.can_event.specs.declared.events.Event.TheVariants as event;
-ghost use Rattle.can_station.specs.Held.{held_after, receive_reply, slip_after};
+ghost use Rattle.can_station.specs.Held.{held_after, slip_after};
 ghost use Rattle.can_station.specs.Passes.{IsAnsweredIn, IsReady, IsReadyFor, Suits, Called, Made, next_attempt, same};
 ghost use Rattle.can_station.specs.Waits.{has_work};
 

@@ -1,9 +1,8 @@
 ghost use Rattle.std.specs.Prelude.{◌≡◌, reverse};
 ghost use Rattle.can_bus.specs.Run.{history_after};
-ghost use Rattle.can_event.specs.Replies.{enters};
+ghost use Rattle.can_event.specs.Replies.{enters, receive_reply};
 ghost use Rattle.can_event.specs.declared.events.Event.TheVariants as event;
 ghost use Rattle.can_event.specs.declared.events.Received.{Received};
-ghost use Rattle.can_station.specs.Held.{receive_reply};
 ghost use Rattle.can_station.specs.Passes.{IsReady};
 
 use can_bus::{Received, Refusal, SocketId};

@@ -1,14 +1,14 @@
 ghost use Rattle.std.specs.Prelude.{◌≡◌, ◌≢◌, ◌<◌, ◌≤◌, ◌⊎◌, ℕ, [], true, false, List, length, reverse, IfOk, OnErr, MatchResult, vec_len, vec_capacity};
 ghost use Rattle.can_fault.specs.Sources.{verdict_in};
 ghost use Rattle.can_event.specs.Events.{IsConfig};
-ghost use Rattle.can_event.specs.Replies.{enters};
+ghost use Rattle.can_event.specs.Replies.{enters, receive_reply};
 ghost use Rattle.can_bus.specs.Legal.{IsLegal};
 ghost use Rattle.can_bus.specs.Run.{IsAnswer};
 ghost use Rattle.can_bus.specs.Transmit.{tape};
 ghost use Rattle.can_event.specs.declared.events.Event.TheVariants as event;
 ghost use Rattle.can_meter.specs.Readings.{readings};
 ghost use Rattle.can_roll.specs.Seen.{roll_seen, slip_seen};
-ghost use Rattle.can_station.specs.Held.{held_after, lists_after, marks_after, receive_reply, slip_after, with_pass};
+ghost use Rattle.can_station.specs.Held.{held_after, lists_after, marks_after, slip_after, with_pass};
 ghost use Rattle.can_station.specs.Marks.{IsMarked};
 ghost use Rattle.can_station.specs.Passes.{AllOf, IsAnsweredIn, SomeOther, Settles, Suits};
 ghost use Rattle.can_station.specs.Published.{AllTrue, GaugesOf, SomeOtherGauge, IsPublished};
