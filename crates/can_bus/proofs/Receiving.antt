@@ -7,9 +7,9 @@ use Rattle.can_event.specs.declared.events.Received.{Received}
 use Rattle.can_event.specs.declared.events.Refusal.{Refusal}
 use Rattle.can_event.specs.declared.events.SocketId.{SocketId}
 use Rattle.can_event.specs.declared.events.Event.TheVariants.{Receive}
+use Rattle.can_event.specs.declared.events.Reply.{Reply}
 use Rattle.can_event.specs.declared.events.Reply.TheVariants as reply
-use Rattle.can_event.specs.Replies.{taken_item, taken_reply, told}
-use Rattle.can_packed.specs.Kept.{receive_entry}
+use Rattle.can_event.specs.Replies.{entry_of, taken_reply}
 use Rattle.can_bus.specs.Answer.{Answers, received_into}
 use Rattle.can_bus.specs.Journal.{Journal}
 use Rattle.can_bus.specs.Sockets.{is_open}
@@ -23,11 +23,8 @@ use Rattle.can_bus.proofs.Opened.{IsThere-stands}
 use Rattle.can_bus.proofs.Quiet.{queued_to-quiet, dropped_at-quiet}
 use Rattle.can_bus.proofs.SocketFacts.{kept_sockets-one, follows_at_sockets, none_follows}
 
-abbrev pub entry : SocketId → Result (Option Received) Refusal → Entry
-entry s r = record { event = Receive s; reply = told reply.Received r }
-
 abbrev given : SocketId → Option Received → Entry
-given s item = record { event = Receive s; reply = reply.Received item }
+given s item = entry_of (Receive s) (reply.Received item)
 
 taken_from-other : (past : List Entry) (s : SocketId) (item : Option Received) (o : ℕ) → o ≢ s.0 → taken_from (given s item ∷ past) o ≡ taken_from past o
 taken_from-other past s None o differ = refl
@@ -65,17 +62,13 @@ reply-given c past s item new gives =
     ap (λ (i : Option Received). reply.Received i) oldest ∙ sym (cond-true (is_open past s.0) _ _ at.is_there)
 
 -- an item that was given, or a refusal, leaves what its entry leaves
-pub received_follows : (c : BusConfig) (past : List Entry) (s : SocketId) (r : Result (Option Received) Refusal) (new : Parts) → Receives (kept_parts c past) s.0 r new → Follows c past (entry s r) new
-received_follows c past s (Ok item) new gives =
+pub received_follows : (c : BusConfig) (past : List Entry) (s : SocketId) (r : Reply) (new : Parts) → Receives (kept_parts c past) s.0 r new → Follows c past (entry_of (Receive s) r) new
+received_follows c past s (reply.Received item) new gives =
     follows_at_sockets c past (given s item) new _ _ (reply-given c past s item new gives) (still c past s item) refl refl
     (kept_sockets-one c past (given s item) (kept_sockets c past) _ s.0 gives.place gives.socket (relieved item) refl refl gives.stands (other c past s item) (same c past s item) refl)
     gives.after
-received_follows c past s (Err why) new none = none_follows c past (Receive s) s.0 _ why new refl tt none
-
--- the same of a receive into a room
-pub into_follows : (c : BusConfig) (past : List Entry) (s : SocketId) (room : Received) (outcome : Result Bool Refusal) (new : Parts) → Receives (kept_parts c past) s.0 (received_into room outcome) new → Follows c past (receive_entry s room outcome) new
-into_follows c past s room (Ok taken) new gives = received_follows c past s (Ok (taken_item room taken)) new gives
-into_follows c past s room (Err why) new none = received_follows c past s (Err why) new none
+received_follows c past s (reply.Refused why) new none = none_follows c past (Receive s) s.0 _ why new refl tt none
+received_follows c past s _ new never = absurd never
 
 -- what a receive into a room answers, as one that gives the item
 pub answers_item : (old new : Journal) (s : SocketId) (room : Received) (outcome : Result Bool Refusal) → Answers (taken_reply room) old (Receive s) outcome new → Answers reply.Received old (Receive s) (received_into room outcome) new

@@ -77,9 +77,10 @@ pub record Gives (old : Parts) (s : ℕ) (item : Option Received) (new : Parts) 
   pub after : new ≡ record old { sockets = slice_set old.sockets place (relieved item socket) }
 
 -- the oldest item of a socket is given
-abbrev pub Receives : Parts → ℕ → Result (Option Received) Refusal → Parts → Type 0
-Receives old s (Ok item) new = Gives old s item new
-Receives old s (Err why) new = FindsNone old s why new
+abbrev pub Receives : Parts → ℕ → Reply → Parts → Type 0
+Receives old s (reply.Received item) new = Gives old s item new
+Receives old s (reply.Refused why) new = FindsNone old s why new
+Receives old s _ new = ⊥
 
 -- an open socket is closed, with these counts (own choice)
 pub record Removes (old : Parts) (s : ℕ) (c : Closed) (new : Parts) : Type 0 where

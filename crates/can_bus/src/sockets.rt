@@ -1,8 +1,8 @@
 ghost use Rattle.std.specs.Prelude.{◌≡◌, ◌+◌, ◌<◌, ◌^◌, ◌==◌, All, IfSome, IfNone, IsSomeAnd, slice_get, length, true, false, Ok, ◌≢◌};
 ghost use Rattle.std.specs.List.{list_any};
-ghost use Rattle.can_bus.specs.Answer.{received_into};
 ghost use Rattle.can_bus.specs.Changes.{Receives, Sets, Refilters, Closes, Opens};
 ghost use Rattle.can_event.specs.Events.{with_option};
+ghost use Rattle.can_event.specs.Replies.{receive_reply};
 ghost use Rattle.can_bus.specs.Stats.{TellsSocket};
 
 use crate::socket::Socket;
@@ -11,6 +11,7 @@ use can_arbiter::Arbiter;
 use can_event::{MAX_RX_CAPACITY, Opt, Pending, Received, Refusal, Reply, SocketId, SocketStats};
 use can_filter::FilterSet;
 use can_frame::Iface;
+use can_packed::receive_reply;
 use can_queue::BoundedQueue;
 use std::alloc::Global;
 
@@ -101,7 +102,7 @@ impl<T: BoundedQueue<Pending>, R: BoundedQueue<Received>, A: Arbiter> State<T, R
     /// Takes the oldest item of a socket into the room, if there is one. Returns whether there was.
     pub fn receive_into(&mut self, id: SocketId, room: &mut Received) -> Result<bool, Refusal>
         requires { All (λ v. v.taken + 1 < 2 ^ 64) self.old.sockets }
-        ensures receives { Receives self.old id.0 (received_into room.new result) self.new }
+        ensures receives { Receives self.old id.0 (receive_reply room.new result) self.new }
         ensures stays { result ≢ Ok true → room.new ≡ room.old }
     {
         let Some(k) = find(&self.sockets, id) else {
@@ -109,6 +110,16 @@ impl<T: BoundedQueue<Pending>, R: BoundedQueue<Received>, A: Arbiter> State<T, R
         };
         let socket = &mut self.sockets[k];
         Ok(socket.receive_into(room))
+    }
+
+    /// Takes the oldest item of a socket, if there is one.
+    pub fn receive(&mut self, id: SocketId) -> Reply
+        requires { All (λ v. v.taken + 1 < 2 ^ 64) self.old.sockets }
+        ensures { Receives self.old id.0 result self.new }
+    {
+        let mut room = Received::nothing();
+        let outcome = self.receive_into(id, &mut room);
+        receive_reply(outcome, &room)
     }
 
     /// The counts of an open socket.

@@ -15,7 +15,6 @@ use can_attempt::Nodes;
 use can_confine::Counters;
 use can_event::{BusConfig, Event, Pending, Received, Reply};
 use can_frame::Iface;
-use can_packed::receive_reply;
 use can_queue::{BoundedQueue, QueueError};
 use std::alloc::Global;
 use std::marker::Model;
@@ -88,11 +87,7 @@ impl<T: BoundedQueue<Pending>, R: BoundedQueue<Received>, A: Arbiter> State<T, R
             Event::SetFilters(id, filters) => self.set_filters(alloc, *id, filters),
             Event::SetOption(id, option) => self.set_option(*id, *option),
             Event::Send(id, frame) => sent_reply(&self.send(*id, *frame)),
-            Event::Receive(id) => {
-                let mut room = Received::nothing();
-                let outcome = self.receive_into(*id, &mut room);
-                receive_reply(outcome, &room)
-            }
+            Event::Receive(id) => self.receive(*id),
             Event::Attempt(moment, verdict) => {
                 attempt_reply(&self.attempt(config, *moment, *verdict))
             }

@@ -2,7 +2,6 @@ use Rattle.std.proofs.Common.{refl, sym, subst}
 use Rattle.can_event.specs.Events.{with_option}
 use Rattle.can_event.specs.declared.events.Event.{Event}
 use Rattle.can_event.specs.declared.events.Event.TheVariants as event
-use Rattle.can_bus.specs.Answer.{received_into}
 use Rattle.can_bus.specs.Changes.{Attempts, Closes, Receives, Restarts, Sends, Sets, pending_of}
 use Rattle.can_bus.specs.Lean.{Carries}
 use Rattle.can_bus.specs.State.{Parts}
@@ -10,7 +9,7 @@ use Rattle.can_bus.proofs.Attempting.{attempt_follows, never_left, sixteen_nodes
 use Rattle.can_bus.proofs.Bounds.{small_opened, small_sent, small_refused, known_ifaces, small_taken, small_gone, small_done, small_dropped, small_dropped_one, small_tried}
 use Rattle.can_bus.proofs.Carrying.{carried, carried-open, carried-filters}
 use Rattle.can_bus.proofs.Closing.{closed_follows}
-use Rattle.can_bus.proofs.Receiving.{into_follows}
+use Rattle.can_bus.proofs.Receiving.{received_follows}
 use Rattle.can_bus.proofs.Restarting.{restarted_follows}
 use Rattle.can_bus.proofs.Sending.{sent_follows}
 use Rattle.can_bus.proofs.Setting.{option_follows}
@@ -28,8 +27,8 @@ send-requires-clause-refused g c = small_refused _ _ c.requires.kept
 pub send-requires-clause-known : goal.send-requires-clause-known
 send-requires-clause-known g c = known_ifaces _ _ c.requires.kept
 
-pub receive_into-outcome-requires : goal.receive_into-outcome-requires
-receive_into-outcome-requires g c = small_taken _ _ c.requires.kept
+pub receive-requires : goal.receive-requires
+receive-requires g c = small_taken _ _ c.requires.kept
 
 pub attempt-requires : goal.attempt-requires
 attempt-requires g c = record {
@@ -74,9 +73,8 @@ returns-in-Send g c = λ past kept room.
 
 pub returns-in-Receive : goal.returns-in-Receive
 returns-in-Receive g c = λ past kept room.
-    carried c.args.config past (event.Receive c.in-Receive.id) _
-    (λ (p : Parts). Receives p c.in-Receive.id.0 (received_into c.receive_into-outcome.new.room c.receive_into-outcome.result) c.receive_into-outcome.new.self)
-    c.in-Receive.is kept room c.receive_into-outcome.ensures.receives c.receive_reply.ensures (into_follows _ _ c.in-Receive.id _ _ _)
+    carried c.args.config past (event.Receive c.in-Receive.id) _ (λ (p : Parts). Receives p c.in-Receive.id.0 c.receive.result c.receive.new.self)
+    c.in-Receive.is kept room c.receive.ensures refl (received_follows _ _ c.in-Receive.id _ _)
 
 pub returns-in-Attempt : goal.returns-in-Attempt
 returns-in-Attempt g c = λ past kept room.
