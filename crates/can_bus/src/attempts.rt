@@ -104,7 +104,7 @@ impl<T: BoundedQueue<Pending>, R: BoundedQueue<Received>, A: Arbiter> State<T, R
         );
         self.countdown.start(winner, config.auto_restart, is_off);
         let attempted = Attempted::new(&tried, verdict, config.ack, &self.nodes, &judgement);
-        posting::tell_attempt(
+        posting::post_attempt(
             &mut self.sockets,
             &attempted,
             &pending,
@@ -126,7 +126,7 @@ impl<T: BoundedQueue<Pending>, R: BoundedQueue<Received>, A: Arbiter> State<T, R
             return;
         }
         self.nodes.counters = begun_anew(&self.nodes, restarted);
-        posting::tell_restarts(&mut self.sockets, restarted, moment);
+        posting::post_restarts(&mut self.sockets, restarted, moment);
     }
 
     /// Tries the frame that wins the bus, restarts the interfaces that have been off for long enough, and
@@ -165,7 +165,7 @@ impl<T: BoundedQueue<Pending>, R: BoundedQueue<Received>, A: Arbiter> State<T, R
         }
         self.nodes.counters[place as usize] = Counters::zero();
         self.countdown.stop(iface);
-        posting::tell_restart(&mut self.sockets, iface, moment);
+        posting::post_restart(&mut self.sockets, iface, moment);
         Reply::Done
     }
 }

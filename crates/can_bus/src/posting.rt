@@ -13,7 +13,7 @@ use can_event::{Pending, Received, Tried};
 use can_frame::{ErrorFrame, Iface, IfaceSet, Item, Moment};
 use can_queue::BoundedQueue;
 
-/// Puts an error message frame of its interface to a socket, if there is one.
+/// Posts an error message frame to a socket of its interface, if there is one.
 fn post_error<R: BoundedQueue<Received>>(
     socket: &mut Socket<R>,
     moment: Moment,
@@ -33,8 +33,8 @@ fn post_error<R: BoundedQueue<Received>>(
     }
 }
 
-/// Puts the frame that was tried to a socket; `pending` is the frame as it waited.
-fn post_frame<R: BoundedQueue<Received>>(
+/// Posts the frame that was tried to a socket, if it is to have it; `pending` is the frame as it waited.
+fn post_frame_to<R: BoundedQueue<Received>>(
     socket: &mut Socket<R>,
     tried: &Tried,
     pending: &Pending,
@@ -49,8 +49,8 @@ fn post_frame<R: BoundedQueue<Received>>(
     }
 }
 
-/// Puts the frame that was tried to every socket that is to have it; `pending` is the frame as it waited.
-fn tell_frame<R: BoundedQueue<Received>>(
+/// Posts the frame that was tried to every socket that is to have it; `pending` is the frame as it waited.
+fn post_frame<R: BoundedQueue<Received>>(
     sockets: &mut [Socket<R>],
     tried: &Tried,
     pending: &Pending,
@@ -60,13 +60,13 @@ fn tell_frame<R: BoundedQueue<Received>>(
 {
     let frame = tried.received();
     for socket in sockets.iter_mut() {
-        post_frame(socket, tried, pending, &frame);
+        post_frame_to(socket, tried, pending, &frame);
     }
 }
 
-/// Puts to a socket the error message frames of an attempt: of its fault, where the socket's interface is reporting,
+/// Posts to a socket the error message frames of an attempt: of its fault, where the socket's interface is reporting,
 /// and of a change of state.
-fn tell_faults_to<R: BoundedQueue<Received>>(
+fn post_faults_to<R: BoundedQueue<Received>>(
     socket: &mut Socket<R>,
     attempted: &Attempted,
     reporting: IfaceSet,
@@ -82,9 +82,9 @@ fn tell_faults_to<R: BoundedQueue<Received>>(
     post_error(socket, moment, attempted.state_change_at(iface));
 }
 
-/// Puts the error message frames of an attempt to every socket.
+/// Posts the error message frames of an attempt to every socket.
 #[inline(never)]
-fn tell_faults<R: BoundedQueue<Received>>(
+fn post_faults<R: BoundedQueue<Received>>(
     sockets: &mut [Socket<R>],
     attempted: &Attempted,
     reporting: IfaceSet,
@@ -93,13 +93,13 @@ fn tell_faults<R: BoundedQueue<Received>>(
     ensures { sockets.new ≡ map (reached (fault_posts reporting attempted.now)) sockets.old }
 {
     for socket in sockets.iter_mut() {
-        tell_faults_to(socket, attempted, reporting);
+        post_faults_to(socket, attempted, reporting);
     }
 }
 
-/// Puts all items of an attempt to every socket; `pending` is the frame as it waited. Where nothing could go wrong
+/// Posts all items of an attempt to every socket; `pending` is the frame as it waited. Where nothing could go wrong
 /// (`is_calm`), nobody looks for faults.
-pub fn tell_attempt<R: BoundedQueue<Received>>(
+pub fn post_attempt<R: BoundedQueue<Received>>(
     sockets: &mut [Socket<R>],
     attempted: &Attempted,
     pending: &Pending,
@@ -113,14 +113,14 @@ pub fn tell_attempt<R: BoundedQueue<Received>>(
     ensures { sockets.new
         ≡ map (reached (outcome_posts reporting attempted.now pending.now)) sockets.old }
 {
-    tell_frame(sockets, attempted.tried(), pending);
+    post_frame(sockets, attempted.tried(), pending);
     if !is_calm {
-        tell_faults(sockets, attempted, reporting);
+        post_faults(sockets, attempted, reporting);
     }
 }
 
-/// Tells every socket that an interface was restarted.
-pub fn tell_restart<R: BoundedQueue<Received>>(
+/// Posts the restart of an interface to every socket of it.
+pub fn post_restart<R: BoundedQueue<Received>>(
     sockets: &mut [Socket<R>],
     iface: Iface,
     moment: Moment,
@@ -128,11 +128,11 @@ pub fn tell_restart<R: BoundedQueue<Received>>(
     requires { All (λ v. v.dropped + 1 < 2 ^ 64) sockets.old }
     ensures { sockets.new ≡ map (reached (restart_posts iface moment)) sockets.old }
 {
-    tell_restarts(sockets, IfaceSet::empty().with(iface), moment)
+    post_restarts(sockets, IfaceSet::empty().with(iface), moment)
 }
 
-/// Tells a socket that its interface was restarted, if it is among these.
-fn tell_restarts_to<R: BoundedQueue<Received>>(
+/// Posts its restart to a socket, if its interface is among these.
+fn post_restarts_to<R: BoundedQueue<Received>>(
     socket: &mut Socket<R>,
     restarted: IfaceSet,
     moment: Moment,
@@ -145,8 +145,8 @@ fn tell_restarts_to<R: BoundedQueue<Received>>(
     }
 }
 
-/// Tells every socket that an attempt restarted these interfaces.
-pub fn tell_restarts<R: BoundedQueue<Received>>(
+/// Posts the restarts of these interfaces by an attempt to every socket of them.
+pub fn post_restarts<R: BoundedQueue<Received>>(
     sockets: &mut [Socket<R>],
     restarted: IfaceSet,
     moment: Moment,
@@ -155,6 +155,6 @@ pub fn tell_restarts<R: BoundedQueue<Received>>(
     ensures { sockets.new ≡ map (reached (auto_restart_posts restarted moment)) sockets.old }
 {
     for socket in sockets.iter_mut() {
-        tell_restarts_to(socket, restarted, moment);
+        post_restarts_to(socket, restarted, moment);
     }
 }

@@ -40,8 +40,8 @@ new-attempted-requires g c = record {
   few = subst (λ (p : Parts). p.nodes.count ≤ 16) (sym c.self.view_is) c.requires.few;
 }
 
-pub tell_attempt-requires-clause-class : goal.tell_attempt-requires-clause-class
-tell_attempt-requires-clause-class g c =
+pub post_attempt-requires-clause-class : goal.post_attempt-requires-clause-class
+post_attempt-requires-clause-class g c =
     let t = c.tried_as-tried.result in
     let o = outcome_of t c.args.verdict c.args.config.ack c.self.inside.nodes in
     let class : t.class ≡ class_of (transmission_of o) =
@@ -50,18 +50,18 @@ tell_attempt-requires-clause-class g c =
     ∙ ap (λ (u : Tried). class_of (attempt_between c.self.inside.nodes u.winner c.args.verdict c.args.config.ack)) (sym c.tried_as-tried.ensures) in
     subst (λ (x : Outcome). x.tried.class ≡ class_of (transmission_of x)) (sym c.new-attempted.ensures) class
 
-pub tell_attempt-requires-clause-calm : goal.tell_attempt-requires-clause-calm
-tell_attempt-requires-clause-calm g c calm = subst (λ (x : Outcome). IsCalm x.nodes x.verdict x.ack) (sym c.new-attempted.ensures) (c.is_calm-is_calm.ensures calm)
+pub post_attempt-requires-clause-calm : goal.post_attempt-requires-clause-calm
+post_attempt-requires-clause-calm g c calm = subst (λ (x : Outcome). IsCalm x.nodes x.verdict x.ack) (sym c.new-attempted.ensures) (c.is_calm-is_calm.ensures calm)
 
-pub tell_attempt-requires-clause-dropped : goal.tell_attempt-requires-clause-dropped
-tell_attempt-requires-clause-dropped g c =
+pub post_attempt-requires-clause-dropped : goal.post_attempt-requires-clause-dropped
+post_attempt-requires-clause-dropped g c =
     let dropped = subst (λ (p : Parts). All (λ (v : SocketState). v.dropped + 3 < 2 ^ 64) p.sockets) (sym c.self.view_is) c.requires.dropped in
     subst (All (λ (v : SocketState). v.dropped + 3 < 2 ^ 64)) (sym c.deref_mut.ensures.value) dropped
 
 pub returns : goal.returns
 returns g c =
     let p : Parts = record { lines = c.self.inside.lines.items; keys = g.A.Arbiter.keys_of c.self.inside.arbiter; nodes = c.self.inside.nodes; left = c.self.inside.countdown; sockets = c.self.inside.sockets.items; opened = c.self.inside.opened; tried = c.self.inside.tried } in
-    let told = take c.self.inside.sockets.len (c.tell_attempt.new.sockets ++ drop (length c.tell_attempt.new.sockets) p.sockets) in
+    let told = take c.self.inside.sockets.len (c.post_attempt.new.sockets ++ drop (length c.post_attempt.new.sockets) p.sockets) in
     let new : Parts = record { lines = c.settle.new.lines.items; keys = g.A.Arbiter.keys_of c.settle.new.arbiter; nodes = record p.nodes { counters = c.judge_asked-judgement.result.counters }; left = c.start.new.self; sockets = told; opened = p.opened; tried = p.tried + 1 } in
     let w = c.in_ok-winner.winner in
     let line = c.index-line.result.now in
@@ -87,7 +87,7 @@ returns g c =
           (c.settle.ensures.keys line there ∙ ap (λ (b : Bool). slice_set p.keys w (key_in (slice_get (settled t.class b line).waiting 0))) c.contains-is_off.ensures)
           (ap (λ (j : Judgement). record p.nodes { counters = j.counters }) c.judge_asked-judgement.ensures)
           (c.start.ensures ∙ ap (λ (b : Bool). counting_down c.args.config.auto_restart w b p.left) c.contains-is_off.ensures)
-          (written_back _ _ _ _ _ _ c.tell_attempt.ensures c.deref_mut.ensures.value c.deref_mut.ensures.len
+          (written_back _ _ _ _ _ _ c.post_attempt.ensures c.deref_mut.ensures.value c.deref_mut.ensures.len
           ∙ ap (λ (o : Outcome). map (reached (outcome_posts c.args.config.reporting o pending)) p.sockets) c.new-attempted.ensures
           ∙ ap (λ (k : ℕ). map (reached (attempt_posts c.args.config.reporting (attempt_between p.nodes k c.args.verdict c.args.config.ack) t (Some pending))) p.sockets) who)
           refl refl;

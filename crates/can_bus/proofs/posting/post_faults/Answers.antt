@@ -2,9 +2,9 @@ use Rattle.std.proofs.Common.{slice_set, ap, sym, ◌∙◌, arith}
 use Rattle.std.proofs.lemmas.List.Edits.{map_over_more}
 use Rattle.can_bus.specs.News.{fault_posts}
 use Rattle.can_bus.specs.State.{reached}
-use Rattle.can_bus.proofs.posting.tell_faults.Goals as goal
+use Rattle.can_bus.proofs.posting.post_faults.Goals as goal
 
 pub loop-socket-preserved : goal.loop-socket-preserved
 loop-socket-preserved g c =
-    ap (slice_set c.loop-socket.sockets c.loop-socket.socket-index) (c.tell_faults_to.ensures ∙ ap (reached (fault_posts c.args.reporting c.args.attempted.now)) (sym c.socket-item.is))
+    ap (slice_set c.loop-socket.sockets c.loop-socket.socket-index) (c.post_faults_to.ensures ∙ ap (reached (fault_posts c.args.reporting c.args.attempted.now)) (sym c.socket-item.is))
     ∙ map_over_more (reached (fault_posts c.args.reporting c.args.attempted.now)) c.args.sockets.now c.loop-socket.sockets c.loop-socket.socket-index c.socket-item.result (omega arith) c.loop-socket.invariant c.socket-item.is

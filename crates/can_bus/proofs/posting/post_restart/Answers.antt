@@ -8,7 +8,7 @@ use Rattle.can_errframe.specs.ErrorMessages.{restart_message}
 use Rattle.can_bus.specs.Posts.{Post, restart_posts, auto_restart_posts, error_posts}
 use Rattle.can_bus.specs.State.{SocketState, filled, reached}
 use Rattle.can_bus.proofs.Filling.{wanted}
-use Rattle.can_bus.proofs.posting.tell_restart.Goals as goal
+use Rattle.can_bus.proofs.posting.post_restart.Goals as goal
 
 in-one : (set : IfaceSet) (k i : ℕ) → set.0 ≡ bit_or 0 (2 ^ k) → is_in i set ≡ (i == k)
 in-one set k i one =
@@ -32,4 +32,4 @@ told-one set k m one (v ∷ vs) =
 pub returns : goal.returns
 returns g c =
     let one = c.with.ensures ∙ ap (λ (s : IfaceSet). bit_or s.0 (2 ^ c.args.iface)) c.empty.ensures in
-    c.tell_restarts.ensures ∙ told-one c.with.result c.args.iface c.args.moment one c.args.sockets.now
+    c.post_restarts.ensures ∙ told-one c.with.result c.args.iface c.args.moment one c.args.sockets.now

@@ -6,8 +6,8 @@ use Rattle.can_bus.specs.Posts.{error_posts, fault_message_for, role_at}
 use Rattle.can_bus.specs.State.{SocketState, filled}
 use Rattle.can_bus.proofs.Filling.{wanted, filled-nil, filled-dropped, faults_told}
 use Rattle.can_bus.proofs.Lawful.{error_posts-le}
-use Rattle.can_bus.proofs.posting.tell_faults_to.Goals as goal
-use Rattle.can_bus.proofs.posting.tell_faults_to.Goals.{then-contains, else-contains}
+use Rattle.can_bus.proofs.posting.post_faults_to.Goals as goal
+use Rattle.can_bus.proofs.posting.post_faults_to.Goals.{then-contains, else-contains}
 
 pub post_error-requires-2 : goal.post_error-requires-2
 post_error-requires-2 g c =

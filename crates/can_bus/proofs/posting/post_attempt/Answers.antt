@@ -8,20 +8,20 @@ use Rattle.can_bus.specs.Attempted.{transmission_of}
 use Rattle.can_bus.specs.News.{frame_posts, fault_posts, outcome_posts}
 use Rattle.can_bus.specs.State.{SocketState, reached}
 use Rattle.can_bus.proofs.Filling.{calm_posts, frame-dropped, in_two_parts, map-reached_both, map-reached_same}
-use Rattle.can_bus.proofs.posting.tell_attempt.Goals as goal
+use Rattle.can_bus.proofs.posting.post_attempt.Goals as goal
 
-pub tell_frame-requires : goal.tell_frame-requires
-tell_frame-requires g c = λ k d h. omega (arith, c.requires.dropped k d h)
+pub post_frame-requires : goal.post_frame-requires
+post_frame-requires g c = λ k d h. omega (arith, c.requires.dropped k d h)
 
-pub tell_faults-requires : goal.tell_faults-requires
-tell_faults-requires g c = subst (All (λ (v : SocketState). v.dropped + 2 < 2 ^ 64)) (sym c.tell_frame.ensures) (frame-dropped c.tried.result.now c.args.pending.now c.args.sockets.now c.requires.dropped)
+pub post_faults-requires : goal.post_faults-requires
+post_faults-requires g c = subst (All (λ (v : SocketState). v.dropped + 2 < 2 ^ 64)) (sym c.post_frame.ensures) (frame-dropped c.tried.result.now c.args.pending.now c.args.sockets.now c.requires.dropped)
 
 pub returns-then-not-is_calm : goal.returns-then-not-is_calm
 returns-then-not-is_calm g c =
     let o = c.args.attempted.now in
     let p = c.args.pending.now in
-    let frame = c.tell_frame.ensures ∙ ap (λ (t : Tried). map (reached (frame_posts t p)) c.args.sockets.now) c.tried.ensures in
-    c.tell_faults.ensures ∙ ap (map (reached (fault_posts c.args.reporting o))) frame
+    let frame = c.post_frame.ensures ∙ ap (λ (t : Tried). map (reached (frame_posts t p)) c.args.sockets.now) c.tried.ensures in
+    c.post_faults.ensures ∙ ap (map (reached (fault_posts c.args.reporting o))) frame
     ∙ map-reached_both (frame_posts o.tried p) (fault_posts c.args.reporting o) (outcome_posts c.args.reporting o p) (in_two_parts c.args.reporting o p) c.args.sockets.now
 
 pub returns-else-not-is_calm : goal.returns-else-not-is_calm
@@ -31,7 +31,7 @@ returns-else-not-is_calm g c =
     let calm = c.requires.calm c.if-not-is_calm.false in
     let whole : class_of (transmission_of o) ≡ class.Done =
     ap (λ (v : Verdict). class_of (attempt_between o.nodes o.tried.winner v o.ack)) calm.good ∙ calm_class o.nodes o.tried.winner calm.zeros o.ack calm.acknowledged in
-    let frame = c.tell_frame.ensures ∙ ap (λ (t : Tried). map (reached (frame_posts t p)) c.args.sockets.now) c.tried.ensures in
+    let frame = c.post_frame.ensures ∙ ap (λ (t : Tried). map (reached (frame_posts t p)) c.args.sockets.now) c.tried.ensures in
     frame
     ∙ map-reached_same (frame_posts o.tried p) (outcome_posts c.args.reporting o p)
     (λ i. sym (calm_posts c.args.reporting o.nodes o.tried.winner o.verdict o.ack o.tried (Some p) calm.good (c.requires.class ∙ whole) whole calm.zeros i)) c.args.sockets.now
