@@ -8,7 +8,7 @@ ghost use Rattle.can_proto.specs.Commands.{Gives, id_of, length_of, fd_length_of
 
 use crate::commands::Command;
 use crate::faults::ProtoFault;
-use crate::pairs::{paired_bytes, short_id};
+use crate::pairs::{byte_of, paired_bytes, short_id};
 use crate::words::{has_words, next_word};
 use can_frame::{CanId, Frame, is_fd_length, read_decimal, read_hexadecimal};
 
@@ -17,27 +17,32 @@ use can_frame::{CanId, Frame, is_fd_length, read_decimal, read_hexadecimal};
 fn read_id(word: &[u8]) -> Result<CanId, ProtoFault>
     ensures { Gives result (id_of word.now) }
 {
-    if word.len() == 8 {
-        let Some(number) = read_hexadecimal(word, 8) else {
-            return Err(ProtoFault::BadId);
-        };
-        let number = if number < 0x8000_0000 {
-            number
-        } else {
-            number - 0x8000_0000
-        };
-        match CanId::extended(number) {
-            Ok(id) => Ok(id),
-            Err(_) => Err(ProtoFault::BadId),
-        }
+    match word {
+        [low] => short_id(b'0', b'0', *low),
+        [middle, low] => short_id(b'0', *middle, *low),
+        [high, middle, low] => short_id(*high, *middle, *low),
+        _ if word.len() == 8 => long_id(word),
+        _ => Err(ProtoFault::BadId),
+    }
+}
+
+/// An identifier of 8 digits.
+#[tactic(auto, unfolding(crate::specs::Commands::id_of))]
+fn long_id(word: &[u8]) -> Result<CanId, ProtoFault>
+    requires { length word.now ≡ 8 }
+    ensures { Gives result (id_of word.now) }
+{
+    let Some(number) = read_hexadecimal(word, 8) else {
+        return Err(ProtoFault::BadId);
+    };
+    let number = if number < 0x8000_0000 {
+        number
     } else {
-        let Some(number) = read_hexadecimal(word, 3) else {
-            return Err(ProtoFault::BadId);
-        };
-        match CanId::standard(number as u16) {
-            Ok(id) => Ok(id),
-            Err(_) => Err(ProtoFault::BadId),
-        }
+        number - 0x8000_0000
+    };
+    match CanId::extended(number) {
+        Ok(id) => Ok(id),
+        Err(_) => Err(ProtoFault::BadId),
     }
 }
 
@@ -76,8 +81,11 @@ fn read_fd_length(word: &[u8]) -> Result<usize, ProtoFault>
 fn read_byte(word: &[u8]) -> Option<u8>
     ensures { result ≡ number_in 16 2 word.now }
 {
-    let number = read_hexadecimal(word, 2)?;
-    Some(number as u8)
+    match word {
+        [low] => byte_of(b'0', *low),
+        [high, low] => byte_of(*high, *low),
+        _ => None,
+    }
 }
 
 /// The bytes that this many words spell, in the first places of `N`. A wrong count comes before a
@@ -195,7 +203,7 @@ fn usual_id(text: &[u8]) -> Option<(CanId, &[u8])>
     ensures { IfSome result (λ found. IsFirstId found.0 (words_of text.now) (words_of found.1.now)) }
 {
     match text {
-        [high, middle, low, b' ', rest @ ..] => Some((short_id(*high, *middle, *low)?, rest)),
+        [high, middle, low, b' ', rest @ ..] => Some((short_id(*high, *middle, *low).ok()?, rest)),
         _ => usual_long_id(text),
     }
 }
@@ -207,7 +215,7 @@ fn usual_long_id(text: &[u8]) -> Option<(CanId, &[u8])>
     if text.len() < 9 || text[8] != b' ' {
         return None;
     }
-    match read_id(&text[..8]) {
+    match long_id(&text[..8]) {
         Ok(id) => Some((id, &text[9..])),
         Err(_) => None,
     }
