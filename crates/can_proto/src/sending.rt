@@ -1,8 +1,8 @@
-ghost use Rattle.std.specs.Prelude.{IsTrue, ◌≡◌, ◌==◌, ◌≤◌, ◌+◌, true, if◌then◌else◌, Ok, Err, length, take, IfOk, IfErr, IfSome};
+ghost use Rattle.std.specs.Prelude.{IsTrue, ◌≡◌, ◌==◌, ◌≤◌, ◌+◌, true, Ok, Err, length, take, IfOk, IfErr, IfSome};
 ghost use Rattle.can_frame.specs.Frames.{is_fd_length};
 ghost use Rattle.can_frame.specs.Numbers.{number_in};
 ghost use Rattle.can_proto.specs.Words.{words_of};
-ghost use Rattle.can_proto.specs.Pairs.{IsFirstByte, IsFirstId, AsksFor};
+ghost use Rattle.can_proto.specs.Pairs.{IsFirstByte, IsFirstId, AsksFor, fault_of_byte};
 ghost use Rattle.can_proto.specs.declared.commands.Command.TheVariants.{Send};
 ghost use Rattle.can_proto.specs.Commands.{Gives, id_of, length_of, fd_length_of, bytes_of, IsDataFault, asked, send_of, send_fd_of, remote_of};
 
@@ -128,7 +128,7 @@ fn spelled_bytes<const N: usize>(rest: &[u8], len: usize) -> Result<[u8; N], Pro
 
 /// The byte that the first word spells, and what follows it, where this many words should follow.
 fn spelled_byte(text: &[u8], left: usize) -> Result<(u8, &[u8]), ProtoFault>
-    ensures value { IfOk result (λ found. IsFirstByte found.0 (words_of text.now) (words_of found.1.now)) }
+    ensures value { IfOk result (λ found. IsFirstByte found.0 found.1.now text.now) }
     ensures fault { IfErr result (IsDataFault (left + 1) (words_of text.now)) }
 {
     let Some((word, after)) = next_word(text) else {
@@ -142,7 +142,7 @@ fn spelled_byte(text: &[u8], left: usize) -> Result<(u8, &[u8]), ProtoFault>
 
 /// The fault where a word spells no byte and this many words should follow it.
 fn bad_byte(after: &[u8], left: usize) -> ProtoFault
-    ensures { result ≡ if length (words_of after.now) == left then ProtoFault.BadByte else ProtoFault.BadCount }
+    ensures { result ≡ fault_of_byte left (words_of after.now) }
 {
     if has_words(after, left) {
         ProtoFault::BadByte
@@ -200,7 +200,7 @@ fn usual_payload(id: CanId, text: &[u8]) -> Option<Frame>
 /// The identifier of three or eight digits that the first word spells, and what follows one space after it.
 #[inline(always)]
 fn usual_id(text: &[u8]) -> Option<(CanId, &[u8])>
-    ensures { IfSome result (λ found. IsFirstId found.0 (words_of text.now) (words_of found.1.now)) }
+    ensures { IfSome result (λ found. IsFirstId found.0 found.1.now text.now) }
 {
     match text {
         [high, middle, low, b' ', rest @ ..] => Some((short_id(*high, *middle, *low).ok()?, rest)),
@@ -210,7 +210,7 @@ fn usual_id(text: &[u8]) -> Option<(CanId, &[u8])>
 
 /// The same of eight digits.
 fn usual_long_id(text: &[u8]) -> Option<(CanId, &[u8])>
-    ensures { IfSome result (λ found. IsFirstId found.0 (words_of text.now) (words_of found.1.now)) }
+    ensures { IfSome result (λ found. IsFirstId found.0 found.1.now text.now) }
 {
     if text.len() < 9 || text[8] != b' ' {
         return None;
