@@ -1,7 +1,7 @@
 ghost use Rattle.std.specs.Prelude.{◌≡◌, ◌≤◌, ◌<◌, ◌+◌, ◌⊎◌, [], ◌∷◌, ◌++◌, true, false, length, take, drop, position, Some, None, IfOk, IfErr, IfSome, OnOk, OnErr, MatchBool};
 ghost use Rattle.std.specs.List.{list_any};
 ghost use Rattle.std.specs.Io.KnownBytes.{IsAtEnd};
-ghost use Rattle.can_session.specs.Lines.{is_lf, unread, ComesNext, Fails, Fills, FindsEnd, Halts, IsOver, IsWithin, Repeats, Stops, TakesLine};
+ghost use Rattle.can_session.specs.Lines.{is_lf, unread, ComesNext, Fails, Fills, Halts, IsOver, IsWithin, Repeats, Stops, TakesLine};
 ghost use Rattle.can_session.specs.inner.Looks.{Shows};
 
 use crate::byte_search::place_of;

@@ -1,4 +1,4 @@
-use Rattle.std.specs.Prelude.{◌≡◌, ℕ, ◌+◌, false, List, [], ◌++◌, drop, length, reverse, Option, Result, Ok, Err}
+use Rattle.std.specs.Prelude.{◌≡◌, ℕ, ◌+◌, false, List, [], ◌++◌, reverse, Option, Result, Ok, Err}
 use Rattle.can_event.specs.declared.events.Reply.{Reply}
 use Rattle.can_record.specs.declared.faults.Unread.{Unread}
 use Rattle.can_record.specs.declared.faults.Unread.TheVariants as unread

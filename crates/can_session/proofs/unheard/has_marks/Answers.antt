@@ -1,4 +1,4 @@
-use Rattle.std.proofs.Common.{◌≡◌, ◌||◌, ℕ, Bool, take, get_or, sym, ap, ◌∙◌, arith}
+use Rattle.std.proofs.Common.{◌||◌, Bool, take, get_or, sym, ap, ◌∙◌, arith}
 use Rattle.std.proofs.lemmas.List.{take_more}
 use Rattle.can_proto.specs.Messages.{has_mark, is_mark}
 use Rattle.can_proto.proofs.Pieces.{mark_more}
