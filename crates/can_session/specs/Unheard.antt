@@ -16,7 +16,7 @@ has_outside begun [] = false
 has_outside false (b ∷ bs) = if b == 60 then has_outside true bs else if is_blank b then has_outside false bs else true
 has_outside true (b ∷ bs) = if b == 60 then true else has_outside (if b == 62 then false else true) bs
 
--- what a stream may have that is in order: a blank between messages, or a message, of which this is inside
+-- a part of a stream in order: a blank between messages, or a message with this inside
 pub data Part : Type 0 where
   Gap : ℕ → Part
   Whole : List ℕ → Part
@@ -26,12 +26,12 @@ abbrev pub part_text : Part → List ℕ
 part_text (Gap b) = b ∷ []
 part_text (Whole inside) = 60 ∷ inside ++ 62 ∷ []
 
--- it is a blank, or no mark is inside the message
+-- the byte is a blank, or no mark is inside the message
 abbrev pub IsPart : Part → Type 0
 IsPart (Gap b) = is_blank b ≡ true
 IsPart (Whole inside) = has_mark inside ≡ false
 
--- nothing, or a message that is begun
+-- what comes after the parts: nothing, or a message that is begun
 abbrev pub IsTail : Bool → List ℕ → Type 0
 IsTail false tail = tail ≡ []
 IsTail true tail = (inside : List ℕ) × (tail ≡ 60 ∷ inside) × (has_mark inside ≡ false)

@@ -16,8 +16,8 @@ pub fn lines_given_are_those_of_the_text()
     ensures apart { (text : List ℕ) (lines others : List (List ℕ)) (now : Input) → StopsBehind Read text lines now → ¬ StopsBehind TooLong text others now }
 {}
 
-/// Bytes have nothing outside messages exactly where they are messages with nothing but blanks between them, of which the
-/// last may have no end. Of two pieces it is the same whether they are looked at one after the other or as one.
+/// Nothing of a stream is outside messages exactly where it is messages with only blanks between them, of which the last
+/// may have no end. Two pieces of a stream give the same one after the other as joined.
 pub fn nothing_is_outside_messages_and_blanks()
     ensures order { (bytes : List ℕ) →
         (has_outside false bytes ≡ false) ↔ AreInOrder bytes (begun_after false bytes) }
