@@ -4,6 +4,10 @@ use Rattle.can_proto.specs.declared.answers.Answer.TheVariants as answer
 use Rattle.can_proto.specs.Spelling.{reply_text, item_text}
 use Rattle.can_dialog.specs.declared.deliveries.Delivery.{Delivery}
 use Rattle.can_dialog.specs.declared.deliveries.Delivery.TheVariants.{Nothing, Item, Refused}
+use Rattle.can_dialog.specs.declared.stages.Stage.{Stage}
+use Rattle.can_dialog.specs.Calls.{Call, Reply}
+use Rattle.can_dialog.specs.Plans.{Plays}
+use Rattle.can_dialog.specs.Turns.{delivery}
 
 -- What one receive gives a client (own choice).
 
@@ -17,3 +21,7 @@ delivery_text (Refused why) room = reply_text (answer.Refused why)
 abbrev pub is_item : Delivery → Bool
 is_item (Item errdata) = true
 is_item _ = false
+
+-- the port goes through a delivery, which gives this, where an item is in this room
+abbrev pub Receives : {P : Type 0} → (P → (call : Call) → Reply call → P → Type 0) → Stage → P → P → Delivery → Received → Type 0
+Receives {P} step stage p q given room = Plays step (delivery stage) p q (delivery_text given room) (is_item given)

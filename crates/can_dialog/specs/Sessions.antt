@@ -3,11 +3,13 @@ use Rattle.std.specs.Io.KnownBytes.{Appends}
 use Rattle.can_proto.specs.declared.messages.Incoming.{Incoming}
 use Rattle.can_proto.specs.Messages.{is_open_mark, messages_of, kept_of}
 use Rattle.can_dialog.specs.declared.stages.Stage.{Stage}
-use Rattle.can_dialog.specs.declared.stages.Stage.TheVariants.{Raw}
+use Rattle.can_dialog.specs.declared.stages.Stage.TheVariants.{Raw, Ended}
+use Rattle.can_dialog.specs.declared.stages.RawSocket.{RawSocket}
+use Rattle.can_frame.specs.Frames.{CanFrame}
 use Rattle.can_dialog.specs.declared.stages.Dialog.{Dialog}
 use Rattle.can_dialog.specs.Calls.{Call, Reply}
 use Rattle.can_dialog.specs.Plans.{Plays}
-use Rattle.can_dialog.specs.Turns.{turn, ending, delivery}
+use Rattle.can_dialog.specs.Turns.{turn, at_stage, sending, ending, delivery}
 
 -- What a session says, over any port.
 
@@ -15,6 +17,14 @@ use Rattle.can_dialog.specs.Turns.{turn, ending, delivery}
 pub record SessionState : Type 0 where
   pub kept : List ℕ
   pub dialog : Dialog
+
+-- the session is over
+abbrev pub IsSessionOver : SessionState → Type 0
+IsSessionOver s = s.dialog.stage ≡ Ended
+
+-- the same session, ended
+abbrev pub ended_session : SessionState → SessionState
+ended_session s = record s { dialog = at_stage Ended s.dialog }
 
 -- the session is not in raw mode
 abbrev pub IsNotRaw : Stage → Type 0
@@ -50,6 +60,16 @@ pub record Cut {P : Type 0} (step : P → (call : Call) → Reply call → P →
   pub some : text ≢ []
   pub turns : Turns step moment before forgotten items p port text mid
   pub ends : Plays step (ending mid.stage mid) port q [] after
+
+-- a frame is sent over the port, and the writer takes what is said
+abbrev pub Sends : {P W : Type 0} → (P → (call : Call) → Reply call → P → Type 0) → (W → Option (List ℕ)) → Dialog → RawSocket → CanFrame → P → P → W → W → Dialog → Type 0
+Sends {P} {W} step contents before raw frame p q out new after = (text : List ℕ) × Plays step (sending before raw frame) p q text after × Wrote contents out text new
+
+-- a frame is sent over the port, what is said does not reach the client, and the session ends
+abbrev pub SendCut : {P : Type 0} → (P → (call : Call) → Reply call → P → Type 0) → Dialog → RawSocket → CanFrame → P → P → Dialog → Type 0
+SendCut {P} step before raw frame p q after =
+    (text : List ℕ) × (mid : Dialog) × (port : P) × (text ≢ [])
+    × Plays step (sending before raw frame) p port text mid × Plays step (ending mid.stage mid) port q [] after
 
 -- one delivery over the port, and the writer takes its text; `more`: it was an item
 pub record Delivers {P W : Type 0} (step : P → (call : Call) → Reply call → P → Type 0) (contents : W → Option (List ℕ)) (stage : Stage) (p q : P) (out new : W) (more : Bool) : Type 0 where

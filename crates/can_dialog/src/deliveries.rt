@@ -1,10 +1,8 @@
 ghost use Rattle.std.specs.Prelude.{◌≡◌, ◌≢◌, [], IsTrue, false};
 ghost use Rattle.can_proto.specs.Spelling.{reply_text};
 ghost use Rattle.can_proto.specs.declared.answers.Answer.TheVariants.{Refused};
-ghost use Rattle.can_dialog.specs.Plans.{Plays};
 ghost use Rattle.can_dialog.specs.Sessions.{Wrote};
-ghost use Rattle.can_dialog.specs.Turns.{delivery};
-ghost use Rattle.can_dialog.specs.Deliveries.{delivery_text, is_item};
+ghost use Rattle.can_dialog.specs.Deliveries.{Receives, delivery_text, is_item};
 
 use crate::output::put;
 use crate::port::Port;
@@ -61,7 +59,7 @@ fn write_refusal<W: Write>(cause: Cause, out: &mut W) -> bool
 
 /// One receive into the room in raw mode, no call elsewhere: what it gives the client.
 pub fn take_delivery<P: Port>(stage: Stage, port: &mut P, room: &mut Received) -> Delivery
-    ensures { Plays P.step (delivery stage) port.old port.new (delivery_text result room.new) (is_item result) }
+    ensures { Receives P.step stage port.old port.new result room.new }
 {
     let Stage::Raw(raw) = stage else {
         return Delivery::Nothing;

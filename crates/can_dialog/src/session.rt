@@ -1,9 +1,9 @@
-ghost use Rattle.std.specs.Prelude.{◌≡◌, ◌≢◌, ◌⊎◌, ◌+◌, ◌*◌, ◌≤◌, ◌++◌, ◌↔◌, [], ℕ, List, Bool, true, false, length, vec_capacity, IfOk, OnOk, OnErr};
+ghost use Rattle.std.specs.Prelude.{◌≡◌, ◌≢◌, ◌⊎◌, ◌+◌, ◌*◌, ◌≤◌, ◌++◌, ◌↔◌, [], List, Bool, true, false, length, vec_capacity, IfOk, OnOk, OnErr};
 ghost use Rattle.can_proto.specs.Messages.{messages_of, kept_of};
 ghost use Rattle.can_dialog.specs.Plans.{Plays};
-ghost use Rattle.can_dialog.specs.Turns.{sending, ending, delivery, greeting};
-ghost use Rattle.can_dialog.specs.Sessions.{IsNotRaw, Turns, Says, Cut, Wrote, Delivers, DeliveryCut};
-ghost use Rattle.can_dialog.specs.Deliveries.{delivery_text, is_item};
+ghost use Rattle.can_dialog.specs.Turns.{ending, greeting};
+ghost use Rattle.can_dialog.specs.Sessions.{IsSessionOver, ended_session, IsNotRaw, Turns, Says, Cut, Wrote, Sends, SendCut, Delivers, DeliveryCut};
+ghost use Rattle.can_dialog.specs.Deliveries.{Receives};
 
 use crate::commands::send;
 use crate::deliveries::{Delivery, take_delivery};
@@ -107,10 +107,10 @@ impl Session {
     pub fn greet<W: Write>(&mut self, out: &mut W) -> Result<(), SessionFault>
         requires { IsNotRaw self.old.dialog.stage }
         ensures said { OnOk result (Wrote W.contents out.old greeting out.new × (self.new ≡ self.old)) }
-        ensures ended { (result ≡ Err SessionFault.Ended) ↔ (self.old.dialog.stage ≡ Stage.Ended) }
+        ensures ended { (result ≡ Err SessionFault.Ended) ↔ IsSessionOver self.old }
         ensures nothing { result ≡ Err SessionFault.Ended → (self.new ≡ self.old) × (out.new ≡ out.old) }
         ensures memory { result ≢ Err SessionFault.NoMemory }
-        ensures cut { result ≡ Err SessionFault.Write → self.new ≡ record self.old { dialog = record self.old.dialog { stage = Stage.Ended } } }
+        ensures cut { result ≡ Err SessionFault.Write → self.new ≡ ended_session self.old }
     {
         if let Stage::Ended = self.dialog.stage {
             return Err(SessionFault::Ended);
@@ -143,7 +143,7 @@ impl Session {
     ) -> Result<(), SessionFault>
         ensures said { OnOk result (Says P.step W.contents moment self.old.dialog (messages_of (self.old.kept ++ piece.now)) port.old port.new out.old out.new self.new.dialog) }
         ensures keeps { OnOk result (self.new.kept ≡ kept_of (self.old.kept ++ piece.now)) }
-        ensures ended { (result ≡ Err SessionFault.Ended) ↔ (self.old.dialog.stage ≡ Stage.Ended) }
+        ensures ended { (result ≡ Err SessionFault.Ended) ↔ IsSessionOver self.old }
         ensures nothing { (result ≡ Err SessionFault.Ended) ⊎ (result ≡ Err SessionFault.NoMemory) → (self.new ≡ self.old) × (port.new ≡ port.old) × (out.new ≡ out.old) }
         ensures cut { result ≡ Err SessionFault.Write → Cut P.step moment self.old.dialog (messages_of (self.old.kept ++ piece.now)) port.old port.new self.new.dialog }
     {
@@ -184,10 +184,10 @@ impl Session {
         port: &mut P,
         out: &mut W,
     ) -> Result<(), SessionFault>
-        ensures said { OnOk result ((text : List ℕ) × Plays P.step (sending self.old.dialog raw frame) port.old port.new text self.new.dialog × Wrote W.contents out.old text out.new) }
+        ensures said { OnOk result (Sends P.step W.contents self.old.dialog raw frame port.old port.new out.old out.new self.new.dialog) }
         ensures keeps { OnOk result (self.new.kept ≡ self.old.kept) }
         ensures faults { OnErr result (result ≡ Err SessionFault.Write) }
-        ensures cut { result ≡ Err SessionFault.Write → (text : List ℕ) × (mid : Dialog) × (middle : P) × (text ≢ []) × Plays P.step (sending self.old.dialog raw frame) port.old middle text mid × Plays P.step (ending mid.stage mid) middle port.new [] self.new.dialog }
+        ensures cut { result ≡ Err SessionFault.Write → SendCut P.step self.old.dialog raw frame port.old port.new self.new.dialog }
     {
         let Some(answer) = send(self.dialog, raw, frame, port) else {
             return Ok(());
@@ -211,7 +211,7 @@ impl Session {
         out: &mut W,
     ) -> Result<bool, SessionFault>
         ensures said { IfOk result (λ more. Delivers P.step W.contents self.old.dialog.stage port.old port.new out.old out.new more × (self.new ≡ self.old)) }
-        ensures ended { (result ≡ Err SessionFault.Ended) ↔ (self.old.dialog.stage ≡ Stage.Ended) }
+        ensures ended { (result ≡ Err SessionFault.Ended) ↔ IsSessionOver self.old }
         ensures nothing { result ≡ Err SessionFault.Ended → (self.new ≡ self.old) × (port.new ≡ port.old) × (out.new ≡ out.old) }
         ensures memory { result ≢ Err SessionFault.NoMemory }
         ensures cut { result ≡ Err SessionFault.Write → DeliveryCut P.step self.old.dialog port.old port.new self.new.dialog × (self.new.kept ≡ self.old.kept) }
@@ -230,7 +230,7 @@ impl Session {
     /// Makes the receive of `deliver` into the room, and writes nothing: what it gives the client, whose text is to be
     /// written before the session does anything else. In no other stage than raw mode there is a call.
     pub fn take<P: Port>(&self, port: &mut P, room: &mut Received) -> Delivery
-        ensures { Plays P.step (delivery self.now.dialog.stage) port.old port.new (delivery_text result room.new) (is_item result) }
+        ensures { Receives P.step self.now.dialog.stage port.old port.new result room.new }
     {
         take_delivery(self.dialog.stage, port, room)
     }
@@ -239,7 +239,7 @@ impl Session {
     /// the same. Refusal: `Ended`.
     pub fn end<P: Port>(&mut self, port: &mut P) -> Result<(), SessionFault>
         ensures done { OnOk result (Plays P.step (ending self.old.dialog.stage self.old.dialog) port.old port.new [] self.new.dialog × (self.new.kept ≡ self.old.kept)) }
-        ensures ended { (result ≡ Err SessionFault.Ended) ↔ (self.old.dialog.stage ≡ Stage.Ended) }
+        ensures ended { (result ≡ Err SessionFault.Ended) ↔ IsSessionOver self.old }
         ensures nothing { result ≡ Err SessionFault.Ended → (self.new ≡ self.old) × (port.new ≡ port.old) }
         ensures faults { OnErr result (result ≡ Err SessionFault.Ended) }
     {

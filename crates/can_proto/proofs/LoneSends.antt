@@ -9,7 +9,7 @@ use Rattle.can_proto.specs.declared.faults.ProtoFault.TheVariants.{BadByte, BadC
 use Rattle.can_proto.specs.declared.commands.Command.{Command}
 use Rattle.can_proto.specs.declared.commands.Command.TheVariants.{Send}
 use Rattle.can_proto.specs.declared.commands.Mode.TheVariants.{Raw}
-use Rattle.can_proto.specs.Messages.{messages_of, kept_of, has_mark, is_open_mark, is_close_mark}
+use Rattle.can_proto.specs.Messages.{messages_of, kept_of, has_mark, is_mark}
 use Rattle.can_proto.specs.Words.{is_blank, front, words_after, words_of}
 use Rattle.can_proto.specs.Commands.{◌>>=◌, or_fault, id_of, length_of, bytes_of, send_of, arguments_of, reading, IsLoneSend}
 use Rattle.can_proto.proofs.Pieces.{closes}
@@ -21,8 +21,6 @@ AreClear [] = Unit {0}
 AreClear (word ∷ words) = (has_mark word ≡ false) × AreClear words
 
 -- no mark, then none in the rest
-abbrev is_mark : ℕ → Bool
-is_mark b = is_open_mark b || is_close_mark b
 
 blank-clear : (b : ℕ) → is_blank b ≡ true → is_mark b ≡ false
 blank-clear b h = grind arith

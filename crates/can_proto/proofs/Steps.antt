@@ -5,8 +5,8 @@ use Rattle.can_proto.specs.declared.messages.Incoming.{Incoming}
 use Rattle.can_proto.specs.declared.messages.Incoming.TheVariants.{Message, TooLong}
 use Rattle.can_proto.specs.declared.scanning.Place.{Place}
 use Rattle.can_proto.specs.declared.scanning.Place.TheVariants.{Outside, Carried, At}
-use Rattle.can_proto.specs.Messages.{messages_of, kept_of, has_mark, is_open_mark, is_close_mark, limit, IsKept}
-use Rattle.can_proto.specs.Scanning.{text_at}
+use Rattle.can_proto.specs.Messages.{messages_of, kept_of, has_mark, is_mark, limit, IsKept}
+use Rattle.can_proto.specs.Scanning.{text_at, IsWithin, ReadsUpTo}
 use Rattle.can_proto.proofs.Pieces.{opens, closes, goes_on, too_long, passes_by, no_mark, no_marks, mark_more, kept-is, kept-kept, messages-append, kept-append}
 
 pub nothing_new : (items more : List Incoming) → more ≡ [] → items ≡ items ++ more
@@ -41,13 +41,27 @@ clear_start piece from = ap has_mark (drop_all from (take from piece) (omega (ar
 one_more : (piece : List ℕ) (from i : ℕ) → from ≤ i → i < length piece → drop from (take (i + 1) piece) ≡ drop from (take i piece) ++ get_or piece i 0 ∷ []
 one_more piece from i le lt = rw (take_more piece i 0 lt) (drop-append-le from (take i piece) (get_or piece i 0 ∷ []) (omega (arith, length-take i piece)))
 
+-- one byte of a piece is what is read of it
+one : (piece : List ℕ) (i : ℕ) → i < length piece → get_or piece i 0 ∷ [] ≡ drop i (take (i + 1) piece)
+one piece i lt =
+    let none : drop i (take i piece) ≡ [] = drop_all i (take i piece) (omega (arith, length-take i piece)) in
+    ap (λ (t : List ℕ). t ++ get_or piece i 0 ∷ []) (sym none) ∙ sym (one_more piece i i (omega arith) lt)
+
+pub reads-mark : (held piece : List ℕ) (i : ℕ) (place next : Place) (before after : List Incoming) → i < length piece
+    → after ≡ before ++ messages_of (text_at held piece i place ++ get_or piece i 0 ∷ []) → text_at held piece (i + 1) next ≡ kept_of (text_at held piece i place ++ get_or piece i 0 ∷ []) → IsWithin next (i + 1)
+    → ReadsUpTo held piece i place (i + 1) before after next
+reads-mark held piece i place next before after lt given keeps within =
+    let text = text_at held piece i place in
+    let byte = one piece i lt in
+    (given ∙ ap (λ (t : List ℕ). before ++ messages_of (text ++ t)) byte, keeps ∙ ap (λ (t : List ℕ). kept_of (text ++ t)) byte, within)
+
 pub clear_more : (piece : List ℕ) (from i : ℕ) → from ≤ i → i < length piece → has_mark (drop from (take i piece)) ≡ false → (get_or piece i 0 ≡ 60 → ⊥) → (get_or piece i 0 ≡ 62 → ⊥) → has_mark (drop from (take (i + 1) piece)) ≡ false
 clear_more piece from i le lt h n60 n62 = rw (one_more piece from i le lt) (no_mark (drop from (take i piece)) (get_or piece i 0) h n60 n62)
 
 pub clear_block : (piece : List ℕ) (from i end : ℕ) → from ≤ i → i ≤ end → end ≤ length piece → has_mark (drop from (take i piece)) ≡ false → has_mark (drop i (take end piece)) ≡ false → has_mark (drop from (take end piece)) ≡ false
 clear_block piece from i end s le lt h k = ap has_mark (started_more piece from i end s le lt) ∙ no_marks (drop from (take i piece)) (drop i (take end piece)) h k
 
-pub block_more : (piece : List ℕ) (from i : ℕ) → from ≤ i → i < length piece → has_mark (drop from (take (i + 1) piece)) ≡ (has_mark (drop from (take i piece)) || (is_open_mark (get_or piece i 0) || is_close_mark (get_or piece i 0)))
+pub block_more : (piece : List ℕ) (from i : ℕ) → from ≤ i → i < length piece → has_mark (drop from (take (i + 1) piece)) ≡ (has_mark (drop from (take i piece)) || is_mark (get_or piece i 0))
 block_more piece from i le lt =
     let more : drop from (take (i + 1) piece) ≡ drop from (take i piece) ++ get_or piece i 0 ∷ [] = one_more piece from i le lt in
     ap has_mark more ∙ mark_more (drop from (take i piece)) (get_or piece i 0)

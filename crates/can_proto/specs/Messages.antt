@@ -13,10 +13,14 @@ is_open_mark b = b == 60
 abbrev pub is_close_mark : ℕ → Bool
 is_close_mark b = b == 62
 
+-- a mark of either kind
+abbrev pub is_mark : ℕ → Bool
+is_mark b = is_open_mark b || is_close_mark b
+
 -- the bytes up to the next `<` or `>` or the end
 abbrev pub run_of : List ℕ → List ℕ
 run_of [] = []
-run_of (b ∷ bs) = if is_open_mark b || is_close_mark b then [] else b ∷ run_of bs
+run_of (b ∷ bs) = if is_mark b then [] else b ∷ run_of bs
 
 -- `>` ends that run
 abbrev pub is_closed : List ℕ → Bool
@@ -44,7 +48,7 @@ has_open_mark (b ∷ bs) = is_open_mark b || has_open_mark bs
 -- it has a mark
 abbrev pub has_mark : List ℕ → Bool
 has_mark [] = false
-has_mark (b ∷ bs) = (is_open_mark b || is_close_mark b) || has_mark bs
+has_mark (b ∷ bs) = is_mark b || has_mark bs
 
 -- what may still become a message, of a `<` and the bytes that follow it
 abbrev pub left_by : List ℕ → List ℕ

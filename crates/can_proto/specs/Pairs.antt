@@ -1,18 +1,25 @@
-use Rattle.std.specs.Prelude.{◌≡◌, ℕ, List, ◌∷◌, Some, Ok}
+use Rattle.std.specs.Prelude.{◌≡◌, ℕ, ◌==◌, if◌then◌else◌, List, ◌∷◌, length, Some, Ok}
 use Rattle.can_frame.specs.Frames.{Identifier, CanFrame}
 use Rattle.can_frame.specs.Numbers.{number_in}
 use Rattle.can_proto.specs.declared.commands.Command.TheVariants.{Send}
+use Rattle.can_proto.specs.declared.faults.ProtoFault.{ProtoFault}
+use Rattle.can_proto.specs.declared.faults.ProtoFault.TheVariants.{BadByte, BadCount}
+use Rattle.can_proto.specs.Words.{BeginsWith}
 use Rattle.can_proto.specs.Commands.{id_of, send_of}
 
--- Words of hexadecimal digits.
+-- Words of hexadecimal digits, as the code takes them one by one.
 
--- the first of the words spells this byte, and others follow it (own choice)
-abbrev pub IsFirstByte : ℕ → List (List ℕ) → List (List ℕ) → Type 0
-IsFirstByte byte words others = (word : List ℕ) × (words ≡ word ∷ others) × (number_in 16 2 word ≡ Some byte)
+-- the first word of a text spells this byte, and what follows it (own choice)
+abbrev pub IsFirstByte : ℕ → List ℕ → List ℕ → Type 0
+IsFirstByte byte rest text = (word : List ℕ) × BeginsWith word rest text × (number_in 16 2 word ≡ Some byte)
 
--- the first of the words spells this identifier, and others follow it (own choice)
-abbrev pub IsFirstId : Identifier → List (List ℕ) → List (List ℕ) → Type 0
-IsFirstId id words others = (word : List ℕ) × (words ≡ word ∷ others) × (id_of word ≡ Ok id)
+-- the first word of a text spells this identifier, and what follows it (own choice)
+abbrev pub IsFirstId : Identifier → List ℕ → List ℕ → Type 0
+IsFirstId id rest text = (word : List ℕ) × BeginsWith word rest text × (id_of word ≡ Ok id)
+
+-- the fault of a word that spells no byte, where this many words should follow it and these do: a wrong count comes first
+abbrev pub fault_of_byte : ℕ → List (List ℕ) → ProtoFault
+fault_of_byte left words = if length words == left then BadByte else BadCount
 
 -- after a word that spells this identifier, the words ask for the frame to be sent (own choice)
 abbrev pub AsksFor : CanFrame → Identifier → List (List ℕ) → Type 0

@@ -1,6 +1,8 @@
-use Rattle.std.specs.Prelude.{ℕ, Bool, if◌then◌else◌, List, [], ◌∷◌, ◌++◌, ◌≤◌, take, drop}
+use Rattle.std.specs.Prelude.{ℕ, Bool, if◌then◌else◌, List, [], ◌∷◌, ◌++◌, ◌≡◌, ◌≤◌, take, drop}
+use Rattle.can_proto.specs.declared.messages.Incoming.{Incoming}
 use Rattle.can_proto.specs.declared.scanning.Place.{Place}
 use Rattle.can_proto.specs.declared.scanning.Place.TheVariants.{Outside, Carried, At}
+use Rattle.can_proto.specs.Messages.{messages_of, kept_of}
 
 -- What the parts of a reader mean.
 
@@ -18,3 +20,10 @@ text_at held piece i (At start) = 60 ∷ drop start (take i piece)
 abbrev pub IsWithin : Place → ℕ → Type 0
 IsWithin (At start) i = start ≤ i
 IsWithin _ i = Unit {0}
+
+-- reading a piece from byte i up to another adds the messages that end there, and finds where the run then began
+abbrev pub ReadsUpTo : List ℕ → List ℕ → ℕ → Place → ℕ → List Incoming → List Incoming → Place → Type 0
+ReadsUpTo held piece i place end before after next =
+    (after ≡ before ++ messages_of (text_at held piece i place ++ drop i (take end piece)))
+    × (text_at held piece end next ≡ kept_of (text_at held piece i place ++ drop i (take end piece)))
+    × IsWithin next end

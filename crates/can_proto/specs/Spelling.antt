@@ -30,13 +30,17 @@ class_width class =
 abbrev pub class_text : ℕ → List ℕ
 class_text class = digits 16 (class_width class) class
 
+-- the identifier of a frame, its moment and its data
+abbrev pub body_text : CanFrame → ℕ → List ℕ
+body_text frame micros = id_text frame.id ++ codes " " ++ moment_text micros ++ codes " " ++ pairs (payload_bytes frame.payload)
+
 -- a data frame with its moment; without data there are two spaces
 abbrev pub data_text : CanFrame → ℕ → List ℕ
-data_text frame micros = codes "< frame " ++ id_text frame.id ++ codes " " ++ moment_text micros ++ codes " " ++ pairs (payload_bytes frame.payload) ++ codes " >"
+data_text frame micros = codes "< frame " ++ body_text frame micros ++ codes " >"
 
 -- an FD frame, in the same way
 abbrev pub fd_text : CanFrame → ℕ → List ℕ
-fd_text frame micros = codes "< fdframe " ++ id_text frame.id ++ codes " " ++ moment_text micros ++ codes " " ++ pairs (payload_bytes frame.payload) ++ codes " >"
+fd_text frame micros = codes "< fdframe " ++ body_text frame micros ++ codes " >"
 
 -- a remote frame with its moment
 abbrev pub remote_text : CanFrame → ℕ → List ℕ

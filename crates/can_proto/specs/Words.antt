@@ -23,3 +23,7 @@ words_after was_blank (b ∷ bs) = if is_blank b then words_after true bs else i
 -- the words of a text, in order
 abbrev pub words_of : List ℕ → List (List ℕ)
 words_of text = words_after true text
+
+-- the first word of a text, and what has the words after it
+abbrev pub BeginsWith : List ℕ → List ℕ → List ℕ → Type 0
+BeginsWith word rest text = words_of text ≡ word ∷ words_of rest

@@ -1,4 +1,5 @@
-ghost use Rattle.std.specs.Prelude.{◌≡◌, ◌≤◌, ◌*◌, Ok, Err, length, take, IfErr, MatchResult};
+ghost use Rattle.std.specs.Prelude.{◌≡◌, ◌≤◌, ◌*◌, Ok, Err, length, take, IfErr};
+ghost use Rattle.std.specs.Result.{result_map_both};
 ghost use Rattle.can_proto.specs.Words.{words_of};
 ghost use Rattle.can_proto.specs.Commands.{Gives, GivesBut, takes_memory, filter_of, filters_of, set_of, IsFilterFault};
 
@@ -32,7 +33,7 @@ fn read_filter(id_word: &[u8], mask_word: &[u8]) -> Result<Filter, ProtoFault>
 fn read_filters(rest: &[u8], count: usize) -> Result<[Filter; 512], ProtoFault>
     requires few { count ≤ 512 }
     requires words { length (words_of rest.now) ≡ count * 2 }
-    ensures value { MatchResult result (λ filters. filters_of (words_of rest.now) ≡ Ok (take count filters)) (λ e. filters_of (words_of rest.now) ≡ Err e) }
+    ensures value { filters_of (words_of rest.now) ≡ result_map_both (take count) (λ e. e) result }
     ensures fault { IfErr result IsFilterFault }
 {
     let Ok(open_filter) = Filter::new(0, 0) else {

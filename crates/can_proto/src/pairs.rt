@@ -1,9 +1,10 @@
 //! Data and identifiers in their usual form: words of as many digits as they can have, with one space after each.
-ghost use Rattle.std.specs.Prelude.{◌≡◌, ◌≤◌, ◌<◌, ◌∷◌, [], Ok, take, length, MatchOption, IfSome};
+ghost use Rattle.std.specs.Prelude.{◌≡◌, ◌≤◌, ◌<◌, ◌∷◌, [], Ok, take, length, MatchOption, IfOk, IfSome};
 ghost use Rattle.can_proto.specs.Words.{IsSolid, words_of};
 ghost use Rattle.can_frame.specs.Numbers.{hex_digit, number_in};
-ghost use Rattle.can_proto.specs.Commands.{bytes_of, id_of};
+ghost use Rattle.can_proto.specs.Commands.{Gives, bytes_of, id_of};
 
+use crate::faults::ProtoFault;
 use can_frame::CanId;
 
 /// The entry of the table for a byte that is no digit.
@@ -42,7 +43,7 @@ fn digit_or_64(byte: u8) -> u8
 
 /// The byte of two hexadecimal digits.
 #[inline(always)]
-fn byte_of(high: u8, low: u8) -> Option<u8>
+pub fn byte_of(high: u8, low: u8) -> Option<u8>
     ensures value { result ≡ number_in 16 2 (high ∷ low ∷ []) }
     ensures solid { IfSome result (λ _. IsSolid high × IsSolid low) }
 {
@@ -57,17 +58,20 @@ fn byte_of(high: u8, low: u8) -> Option<u8>
 /// The identifier of three hexadecimal digits.
 #[inline(always)]
 #[tactic(auto, unfolding(crate::specs::Commands::id_of))]
-pub fn short_id(high: u8, middle: u8, low: u8) -> Option<CanId>
-    ensures value { IfSome result (λ id. id_of (high ∷ middle ∷ low ∷ []) ≡ Ok id) }
-    ensures solid { IfSome result (λ _. IsSolid high × IsSolid middle × IsSolid low) }
+pub fn short_id(high: u8, middle: u8, low: u8) -> Result<CanId, ProtoFault>
+    ensures value { Gives result (id_of (high ∷ middle ∷ low ∷ [])) }
+    ensures solid { IfOk result (λ _. IsSolid high × IsSolid middle × IsSolid low) }
 {
     let high = digit_or_64(high);
     let middle = digit_or_64(middle);
     let low = digit_or_64(low);
     if high + middle + low >= NO_DIGIT {
-        return None;
+        return Err(ProtoFault::BadId);
     }
-    CanId::standard(u16::from(high) * 256 + u16::from(middle * 16 + low)).ok()
+    match CanId::standard(u16::from(high) * 256 + u16::from(middle * 16 + low)) {
+        Ok(id) => Ok(id),
+        Err(_) => Err(ProtoFault::BadId),
+    }
 }
 
 /// The bytes that this many words spell, in the first places of `N`, where each word has two digits and one space

@@ -1,7 +1,7 @@
-ghost use Rattle.std.specs.Prelude.{◌≡◌, ◌≤◌, ◌<◌, ◌+◌, ◌++◌, ◌∷◌, ◌||◌, [], true, false, length, take, drop, IfOk, slice_index};
-ghost use Rattle.can_proto.specs.Messages.{is_open_mark, is_close_mark, has_mark, messages_of, kept_of, IsKept};
+ghost use Rattle.std.specs.Prelude.{◌≡◌, ◌≤◌, ◌<◌, ◌+◌, ◌++◌, ◌∷◌, [], true, false, length, take, drop, IfOk, slice_index};
+ghost use Rattle.can_proto.specs.Messages.{is_mark, has_mark, messages_of, kept_of, IsKept};
 ghost use Rattle.can_proto.specs.declared.messages.Incoming.TheVariants.{Message as Given};
-ghost use Rattle.can_proto.specs.Scanning.{text_at, text_of, IsWithin};
+ghost use Rattle.can_proto.specs.Scanning.{text_at, text_of, IsWithin, ReadsUpTo};
 
 use crate::messages::{Incoming, Message};
 use std::alloc::{AllocError, Global};
@@ -59,7 +59,7 @@ fn next_mark(piece: &[u8], from: usize) -> usize
     ensures after { from ≤ result }
     ensures within { result ≤ length piece.now }
     ensures clear { has_mark (drop from (take result piece.now)) ≡ false }
-    ensures mark { result < length piece.now → (is_open_mark (slice_index piece.now result) || is_close_mark (slice_index piece.now result)) ≡ true }
+    ensures mark { result < length piece.now → is_mark (slice_index piece.now result) ≡ true }
 {
     for i in clear_blocks(piece, from)..piece.len() {
         let byte = piece[i];
@@ -84,9 +84,7 @@ fn pass(
     requires clear { has_mark (drop i (take end piece.now)) ≡ false }
     requires within { IsWithin place i }
     requires was { IsKept (text_at held.now piece.now i place) }
-    ensures given { IfOk result (λ next. out.new.items ≡ out.old.items ++ messages_of (text_at held.now piece.now i place ++ drop i (take end piece.now))) }
-    ensures keeps { IfOk result (λ next. text_at held.now piece.now end next ≡ kept_of (text_at held.now piece.now i place ++ drop i (take end piece.now))) }
-    ensures within { IfOk result (λ next. IsWithin next end) }
+    ensures { IfOk result (ReadsUpTo held.now piece.now i place end out.old.items out.new.items) }
 {
     match place {
         Place::Outside => Ok(Place::Outside),
@@ -119,12 +117,10 @@ fn at_mark(
     place: Place,
 ) -> Result<Place, AllocError>
     requires there { i < length piece.now }
-    requires mark { (is_open_mark (slice_index piece.now i) || is_close_mark (slice_index piece.now i)) ≡ true }
+    requires mark { is_mark (slice_index piece.now i) ≡ true }
     requires within { IsWithin place i }
     requires was { IsKept (text_at held.now piece.now i place) }
-    ensures given { IfOk result (λ next. out.new.items ≡ out.old.items ++ messages_of (text_at held.now piece.now i place ++ slice_index piece.now i ∷ [])) }
-    ensures keeps { IfOk result (λ next. text_at held.now piece.now (i + 1) next ≡ kept_of (text_at held.now piece.now i place ++ slice_index piece.now i ∷ [])) }
-    ensures within { IfOk result (λ next. IsWithin next (i + 1)) }
+    ensures { IfOk result (ReadsUpTo held.now piece.now i place (i + 1) out.old.items out.new.items) }
 {
     if piece[i] == b'<' {
         return Ok(Place::At(i + 1));

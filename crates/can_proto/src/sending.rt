@@ -1,14 +1,14 @@
-ghost use Rattle.std.specs.Prelude.{IsTrue, ◌≡◌, ◌==◌, ◌≤◌, ◌+◌, true, if◌then◌else◌, Ok, Err, length, take, IfOk, IfErr, IfSome};
+ghost use Rattle.std.specs.Prelude.{IsTrue, ◌≡◌, ◌==◌, ◌≤◌, ◌+◌, true, Ok, Err, length, take, IfOk, IfErr, IfSome};
 ghost use Rattle.can_frame.specs.Frames.{is_fd_length};
 ghost use Rattle.can_frame.specs.Numbers.{number_in};
 ghost use Rattle.can_proto.specs.Words.{words_of};
-ghost use Rattle.can_proto.specs.Pairs.{IsFirstByte, IsFirstId, AsksFor};
+ghost use Rattle.can_proto.specs.Pairs.{IsFirstByte, IsFirstId, AsksFor, fault_of_byte};
 ghost use Rattle.can_proto.specs.declared.commands.Command.TheVariants.{Send};
 ghost use Rattle.can_proto.specs.Commands.{Gives, id_of, length_of, fd_length_of, bytes_of, IsDataFault, asked, send_of, send_fd_of, remote_of};
 
 use crate::commands::Command;
 use crate::faults::ProtoFault;
-use crate::pairs::{paired_bytes, short_id};
+use crate::pairs::{byte_of, paired_bytes, short_id};
 use crate::words::{has_words, next_word};
 use can_frame::{CanId, Frame, is_fd_length, read_decimal, read_hexadecimal};
 
@@ -17,27 +17,32 @@ use can_frame::{CanId, Frame, is_fd_length, read_decimal, read_hexadecimal};
 fn read_id(word: &[u8]) -> Result<CanId, ProtoFault>
     ensures { Gives result (id_of word.now) }
 {
-    if word.len() == 8 {
-        let Some(number) = read_hexadecimal(word, 8) else {
-            return Err(ProtoFault::BadId);
-        };
-        let number = if number < 0x8000_0000 {
-            number
-        } else {
-            number - 0x8000_0000
-        };
-        match CanId::extended(number) {
-            Ok(id) => Ok(id),
-            Err(_) => Err(ProtoFault::BadId),
-        }
+    match word {
+        [low] => short_id(b'0', b'0', *low),
+        [middle, low] => short_id(b'0', *middle, *low),
+        [high, middle, low] => short_id(*high, *middle, *low),
+        _ if word.len() == 8 => long_id(word),
+        _ => Err(ProtoFault::BadId),
+    }
+}
+
+/// An identifier of 8 digits.
+#[tactic(auto, unfolding(crate::specs::Commands::id_of))]
+fn long_id(word: &[u8]) -> Result<CanId, ProtoFault>
+    requires { length word.now ≡ 8 }
+    ensures { Gives result (id_of word.now) }
+{
+    let Some(number) = read_hexadecimal(word, 8) else {
+        return Err(ProtoFault::BadId);
+    };
+    let number = if number < 0x8000_0000 {
+        number
     } else {
-        let Some(number) = read_hexadecimal(word, 3) else {
-            return Err(ProtoFault::BadId);
-        };
-        match CanId::standard(number as u16) {
-            Ok(id) => Ok(id),
-            Err(_) => Err(ProtoFault::BadId),
-        }
+        number - 0x8000_0000
+    };
+    match CanId::extended(number) {
+        Ok(id) => Ok(id),
+        Err(_) => Err(ProtoFault::BadId),
     }
 }
 
@@ -76,8 +81,11 @@ fn read_fd_length(word: &[u8]) -> Result<usize, ProtoFault>
 fn read_byte(word: &[u8]) -> Option<u8>
     ensures { result ≡ number_in 16 2 word.now }
 {
-    let number = read_hexadecimal(word, 2)?;
-    Some(number as u8)
+    match word {
+        [low] => byte_of(b'0', *low),
+        [high, low] => byte_of(*high, *low),
+        _ => None,
+    }
 }
 
 /// The bytes that this many words spell, in the first places of `N`. A wrong count comes before a
@@ -120,7 +128,7 @@ fn spelled_bytes<const N: usize>(rest: &[u8], len: usize) -> Result<[u8; N], Pro
 
 /// The byte that the first word spells, and what follows it, where this many words should follow.
 fn spelled_byte(text: &[u8], left: usize) -> Result<(u8, &[u8]), ProtoFault>
-    ensures value { IfOk result (λ found. IsFirstByte found.0 (words_of text.now) (words_of found.1.now)) }
+    ensures value { IfOk result (λ found. IsFirstByte found.0 found.1.now text.now) }
     ensures fault { IfErr result (IsDataFault (left + 1) (words_of text.now)) }
 {
     let Some((word, after)) = next_word(text) else {
@@ -134,7 +142,7 @@ fn spelled_byte(text: &[u8], left: usize) -> Result<(u8, &[u8]), ProtoFault>
 
 /// The fault where a word spells no byte and this many words should follow it.
 fn bad_byte(after: &[u8], left: usize) -> ProtoFault
-    ensures { result ≡ if length (words_of after.now) == left then ProtoFault.BadByte else ProtoFault.BadCount }
+    ensures { result ≡ fault_of_byte left (words_of after.now) }
 {
     if has_words(after, left) {
         ProtoFault::BadByte
@@ -192,22 +200,22 @@ fn usual_payload(id: CanId, text: &[u8]) -> Option<Frame>
 /// The identifier of three or eight digits that the first word spells, and what follows one space after it.
 #[inline(always)]
 fn usual_id(text: &[u8]) -> Option<(CanId, &[u8])>
-    ensures { IfSome result (λ found. IsFirstId found.0 (words_of text.now) (words_of found.1.now)) }
+    ensures { IfSome result (λ found. IsFirstId found.0 found.1.now text.now) }
 {
     match text {
-        [high, middle, low, b' ', rest @ ..] => Some((short_id(*high, *middle, *low)?, rest)),
+        [high, middle, low, b' ', rest @ ..] => Some((short_id(*high, *middle, *low).ok()?, rest)),
         _ => usual_long_id(text),
     }
 }
 
 /// The same of eight digits.
 fn usual_long_id(text: &[u8]) -> Option<(CanId, &[u8])>
-    ensures { IfSome result (λ found. IsFirstId found.0 (words_of text.now) (words_of found.1.now)) }
+    ensures { IfSome result (λ found. IsFirstId found.0 found.1.now text.now) }
 {
     if text.len() < 9 || text[8] != b' ' {
         return None;
     }
-    match read_id(&text[..8]) {
+    match long_id(&text[..8]) {
         Ok(id) => Some((id, &text[9..])),
         Err(_) => None,
     }

@@ -1,9 +1,7 @@
-ghost use Rattle.std.specs.Prelude.{◌≡◌, ◌≤◌, ◌<◌, ◌+◌, ◌^◌, ◌++◌, [], length, true, codes};
+ghost use Rattle.std.specs.Prelude.{◌≡◌, ◌≤◌, ◌<◌, ◌+◌, ◌^◌, ◌++◌, [], length, true};
 ghost use Rattle.std.specs.Fmt.{decimal};
-ghost use Rattle.can_frame.specs.Frames.{is_remote, payload_bytes};
-ghost use Rattle.can_frame.specs.FrameText.{id_text, pairs};
-ghost use Rattle.can_frame.specs.Moments.{moment_text};
-ghost use Rattle.can_proto.specs.Spelling.{class_width, class_text, data_text, fd_text, remote_text, error_text, item_text, stats_text, state_word, status_text, reply_text};
+ghost use Rattle.can_frame.specs.Frames.{is_remote};
+ghost use Rattle.can_proto.specs.Spelling.{class_width, class_text, body_text, data_text, fd_text, remote_text, error_text, item_text, stats_text, state_word, status_text, reply_text};
 ghost use Rattle.can_proto.specs.declared.answers.Answer.TheVariants.{Refused};
 
 use crate::answers::{Answer, Cause};
@@ -139,7 +137,7 @@ fn push_fd(text: &mut ItemText, frame: &Frame, moment: Moment)
 /// Adds the identifier, the moment and the data of a frame.
 fn push_data(text: &mut ItemText, frame: &Frame, moment: Moment)
     requires { length text.old + 155 ≤ 192 }
-    ensures text { text.new ≡ text.old ++ id_text frame.now.id ++ codes " " ++ moment_text moment ++ codes " " ++ pairs (payload_bytes frame.now.payload) }
+    ensures text { text.new ≡ text.old ++ body_text frame.now moment }
     ensures len { length text.new ≤ length text.old + 155 }
 {
     prove!(frame.len() <= 64);

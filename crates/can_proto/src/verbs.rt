@@ -1,5 +1,5 @@
-ghost use Rattle.std.specs.Prelude.{◌≡◌, ◌∷◌, codes, IfSome};
-ghost use Rattle.can_proto.specs.Words.{words_of};
+ghost use Rattle.std.specs.Prelude.{◌≡◌, codes, IfSome};
+ghost use Rattle.can_proto.specs.Words.{BeginsWith};
 ghost use Rattle.can_proto.specs.Verbs.{is_word, is_other_mode, named, stands_in};
 
 use crate::commands::Mode;
@@ -83,7 +83,7 @@ pub fn verb_of(word: &[u8]) -> Option<Verb>
 /// What follows `send` and a space, where these and a space before them begin the text, as they begin
 /// most messages.
 pub fn after_send(text: &[u8]) -> Option<&[u8]>
-    ensures { IfSome result (λ rest. words_of text.now ≡ codes "send" ∷ words_of rest.now) }
+    ensures { IfSome result (λ rest. BeginsWith (codes "send") rest.now text.now) }
 {
     match text {
         [b' ', b's', b'e', b'n', b'd', b' ', rest @ ..] => Some(rest),

@@ -1,5 +1,5 @@
-ghost use Rattle.std.specs.Prelude.{◌≡◌, ◌==◌, ◌≤◌, ◌<◌, ◌∷◌, [], List, ℕ, false, length, take, drop, slice_index, MatchOption};
-ghost use Rattle.can_proto.specs.Words.{is_blank, front, words_after, words_of};
+ghost use Rattle.std.specs.Prelude.{◌≡◌, ◌==◌, ◌≤◌, ◌<◌, [], List, ℕ, false, length, take, drop, slice_index, MatchOption};
+ghost use Rattle.can_proto.specs.Words.{BeginsWith, is_blank, front, words_after, words_of};
 
 fn is_space(byte: u8) -> bool
     ensures { result ≡ is_blank byte }
@@ -37,7 +37,7 @@ fn letters(text: &[u8]) -> usize
 
 /// The first word, and what follows it.
 pub fn next_word(text: &[u8]) -> Option<(&[u8], &[u8])>
-    ensures { MatchOption result (words_of text.now ≡ []) (λ found. words_of text.now ≡ found.0.now ∷ words_of found.1.now) }
+    ensures { MatchOption result (words_of text.now ≡ []) (λ found. BeginsWith found.0.now found.1.now text.now) }
 {
     let start = blanks(text);
     if start == text.len() {

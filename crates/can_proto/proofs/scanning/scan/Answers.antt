@@ -1,5 +1,5 @@
-use Rattle.std.proofs.Common.{◌≡◌, ◌++◌, List, ℕ, take, length, sym, ap, ◌∙◌, arith}
-use Rattle.std.proofs.lemmas.List.{take_all, take_more}
+use Rattle.std.proofs.Common.{◌≡◌, ◌+◌, ◌++◌, List, ℕ, take, length, sym, ap, ◌∙◌, arith}
+use Rattle.std.proofs.lemmas.List.{take_all}
 use Rattle.can_proto.specs.Messages.{messages_of, kept_of}
 use Rattle.can_proto.specs.Scanning.{text_at, text_of}
 use Rattle.can_proto.proofs.Steps.{starts-carried, starts-outside, nothing-yet, parts, past-given, past-keeps, kept_by}
@@ -31,14 +31,14 @@ pub at_mark-requires-clause-was : goal.at_mark-requires-clause-was
 at_mark-requires-clause-was c =
     let text = text_of c.args.is_open c.args.held.now in
     let t = text_at c.args.held.now c.args.piece.now c.loop-i.i c.loop-i.place in
-    let keeps = past-keeps text (take c.loop-i.i c.args.piece.now) _ _ t _ (parts c.args.piece.now c.loop-i.i c.next_mark-end.result c.next_mark-end.ensures.after) c.loop-i.invariant.keeps c.in_ok-place.ensures.keeps in
+    let keeps = past-keeps text (take c.loop-i.i c.args.piece.now) _ _ t _ (parts c.args.piece.now c.loop-i.i c.next_mark-end.result c.next_mark-end.ensures.after) c.loop-i.invariant.keeps c.in_ok-place.ensures.1 in
     kept_by _ (text ++ take c.next_mark-end.result c.args.piece.now) keeps
 
 pub returns-then-end-piece-clause-given : goal.returns-then-end-piece-clause-given
 returns-then-end-piece-clause-given c =
     let text = text_of c.args.is_open c.args.held.now in
     let t = text_at c.args.held.now c.args.piece.now c.loop-i.i c.loop-i.place in
-    past-given text (take c.loop-i.i c.args.piece.now) _ _ t _ _ (parts c.args.piece.now c.loop-i.i c.next_mark-end.result c.next_mark-end.ensures.after) c.loop-i.invariant.given c.loop-i.invariant.keeps c.in_ok-place.ensures.given
+    past-given text (take c.loop-i.i c.args.piece.now) _ _ t _ _ (parts c.args.piece.now c.loop-i.i c.next_mark-end.result c.next_mark-end.ensures.after) c.loop-i.invariant.given c.loop-i.invariant.keeps c.in_ok-place.ensures.0
     ∙ ap (λ (x : List ℕ). messages_of (text ++ x)) (take_all c.next_mark-end.result c.args.piece.now (omega arith))
 
 pub returns-then-end-piece-clause-keeps : goal.returns-then-end-piece-clause-keeps
@@ -47,7 +47,7 @@ returns-then-end-piece-clause-keeps c =
     let t = text_at c.args.held.now c.args.piece.now c.loop-i.i c.loop-i.place in
     let here : length c.args.piece.now ≡ c.next_mark-end.result = omega arith in
     ap (λ (n : ℕ). text_at c.args.held.now c.args.piece.now n c.in_ok-place.place) here
-    ∙ past-keeps text (take c.loop-i.i c.args.piece.now) _ _ t _ (parts c.args.piece.now c.loop-i.i c.next_mark-end.result c.next_mark-end.ensures.after) c.loop-i.invariant.keeps c.in_ok-place.ensures.keeps
+    ∙ past-keeps text (take c.loop-i.i c.args.piece.now) _ _ t _ (parts c.args.piece.now c.loop-i.i c.next_mark-end.result c.next_mark-end.ensures.after) c.loop-i.invariant.keeps c.in_ok-place.ensures.1
     ∙ ap (λ (x : List ℕ). kept_of (text ++ x)) (take_all c.next_mark-end.result c.args.piece.now (omega arith))
 
 pub loop-i-preserved : goal.loop-i-preserved
@@ -56,12 +56,12 @@ loop-i-preserved c =
     let end = c.next_mark-end.result in
     let t = text_at c.args.held.now c.args.piece.now c.loop-i.i c.loop-i.place in
     let whole = parts c.args.piece.now c.loop-i.i end c.next_mark-end.ensures.after in
-    let given = past-given text (take c.loop-i.i c.args.piece.now) _ _ t _ _ whole c.loop-i.invariant.given c.loop-i.invariant.keeps c.in_ok-place.ensures.given in
-    let keeps = past-keeps text (take c.loop-i.i c.args.piece.now) _ _ t _ whole c.loop-i.invariant.keeps c.in_ok-place.ensures.keeps in
-    let more = take_more c.args.piece.now end 0 (omega arith) in
+    let given = past-given text (take c.loop-i.i c.args.piece.now) _ _ t _ _ whole c.loop-i.invariant.given c.loop-i.invariant.keeps c.in_ok-place.ensures.0 in
+    let keeps = past-keeps text (take c.loop-i.i c.args.piece.now) _ _ t _ whole c.loop-i.invariant.keeps c.in_ok-place.ensures.1 in
+    let more = parts c.args.piece.now end (end + 1) (omega arith) in
     record {
-      given = past-given text (take end c.args.piece.now) _ _ _ _ _ more given keeps c.in_ok-place-2.ensures.given;
-      keeps = past-keeps text (take end c.args.piece.now) _ _ _ _ more keeps c.in_ok-place-2.ensures.keeps;
-      within = c.in_ok-place-2.ensures.within;
+      given = past-given text (take end c.args.piece.now) _ _ _ _ _ more given keeps c.in_ok-place-2.ensures.0;
+      keeps = past-keeps text (take end c.args.piece.now) _ _ _ _ more keeps c.in_ok-place-2.ensures.1;
+      within = c.in_ok-place-2.ensures.2;
       order = omega arith;
     }
