@@ -1,8 +1,8 @@
 use Rattle.std.proofs.Common.{◌≡◌, ◌≢◌, ℕ, ◌-◌, ◌+◌, ◌≤◌, ◌==◌, ◌||◌, suc, Bool, true, false, if◌then◌else◌, List, [], ◌∷◌, ◌++◌, length, take, drop, get_or, refl, sym, ap, ◌∙◌, arith}
-use Rattle.std.specs.List.{list_any}
 use Rattle.std.proofs.lemmas.Grind.{common_steps}
 use Rattle.std.proofs.lemmas.List.{take_more, take_all}
-use Rattle.can_session.specs.Unheard.{begun_after, has_outside, is_mark}
+use Rattle.can_session.specs.Unheard.{begun_after, has_outside}
+use Rattle.can_proto.specs.Messages.{has_mark}
 
 -- one byte more at the end: a mark decides, another byte leaves what is
 begun_at_last : (begun : Bool) (bytes : List ℕ) (b : ℕ) → begun_after begun (bytes ++ b ∷ []) ≡ (if b == 60 then true else if b == 62 then false else begun_after begun bytes)
@@ -35,16 +35,16 @@ none_of : (a b c : Bool) → ((a || b) || c) ≡ false → (a ≡ false) × ((b 
 none_of a b c h = grind (arith, common_steps, h)
 
 -- after a `<` a text without marks and a `>` is in a message
-ended : (inside : List ℕ) → list_any is_mark inside ≡ false → has_outside true (inside ++ 62 ∷ []) ≡ false
-ended [] none = refl
-ended (x ∷ inside) none =
-    let h = none_of (x == 60) (x == 62) (list_any is_mark inside) none in
-    ap (λ (m : Bool). if m then true else has_outside (if x == 62 then false else true) (inside ++ 62 ∷ [])) h.0
-    ∙ ap (λ (m : Bool). has_outside (if m then false else true) (inside ++ 62 ∷ [])) h.1.0 ∙ ended inside h.1.1
+pub closed : (inside rest : List ℕ) → has_mark inside ≡ false → has_outside true (inside ++ 62 ∷ rest) ≡ has_outside false rest
+closed [] rest none = refl
+closed (x ∷ inside) rest none =
+    let h = none_of (x == 60) (x == 62) (has_mark inside) none in
+    ap (λ (m : Bool). if m then true else has_outside (if x == 62 then false else true) (inside ++ 62 ∷ rest)) h.0
+    ∙ ap (λ (m : Bool). has_outside (if m then false else true) (inside ++ 62 ∷ rest)) h.1.0 ∙ closed inside rest h.1.1
 
 -- one message and no more has nothing outside
 pub whole : (bytes : List ℕ) → 2 ≤ length bytes → get_or bytes 0 0 ≡ 60 → get_or bytes (length bytes - 1) 0 ≡ 62
-    → list_any is_mark (take (length bytes - 1 - 1) (drop 1 bytes)) ≡ false → has_outside false bytes ≡ false
+    → has_mark (take (length bytes - 1 - 1) (drop 1 bytes)) ≡ false → has_outside false bytes ≡ false
 whole [] some first last none = absurd (omega (arith, some))
 whole (b ∷ rest) some first last none =
     let place : length (b ∷ rest) - 1 ≡ suc (length rest - 1) = omega (arith, some) in
@@ -52,4 +52,4 @@ whole (b ∷ rest) some first last none =
     let end : get_or rest (length rest - 1) 0 ≡ 62 = sym (ap (λ (n : ℕ). get_or (b ∷ rest) n 0) place) ∙ last in
     ap (λ (x : ℕ). has_outside false (x ∷ rest)) first
     ∙ ap (has_outside true) (parted rest (omega (arith, some)) ∙ ap (λ (x : ℕ). take (length rest - 1) rest ++ x ∷ []) end)
-    ∙ ended (take (length rest - 1) rest) (ap (λ (n : ℕ). list_any is_mark (take n rest)) (sym len) ∙ none)
+    ∙ closed (take (length rest - 1) rest) [] (ap (λ (n : ℕ). has_mark (take n rest)) (sym len) ∙ none)

@@ -8,3 +8,4 @@ pub mod Speaking
 pub mod Running
 pub mod FirstPlaces
 pub mod Heard
+pub mod Ordered

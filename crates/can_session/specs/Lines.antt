@@ -1,4 +1,4 @@
-use Rattle.std.specs.Prelude.{◌≡◌, ℕ, ◌+◌, ◌<◌, ◌≤◌, Bool, true, false, ◌==◌, ◌⊎◌, if◌then◌else◌, List, [], ◌∷◌, ◌++◌, length, take, count_by, Option, Some, None}
+use Rattle.std.specs.Prelude.{◌≡◌, ℕ, ◌+◌, ◌<◌, ◌≤◌, Bool, true, false, MatchBool, ◌==◌, ◌⊎◌, if◌then◌else◌, List, [], ◌∷◌, ◌++◌, length, take, count_by, Option, Some, None}
 use Rattle.std.specs.List.{list_any, flat_map, AllByRecursion}
 use Rattle.std.specs.Io.KnownBytes.{Consumes, Keeps, IsAtEnd, prepend_known}
 use Rattle.can_session.specs.declared.lines.LineFault.{LineFault}
@@ -89,6 +89,10 @@ TakesLine old new = (old.ended ≡ false) × IsLine new.line × (Gives old new (
 -- there was no line left
 abbrev pub FindsEnd : Input → Input → Type 0
 FindsEnd old new = Gives old new [] × IsOver new
+
+-- whether there was a next line
+abbrev pub ComesNext : Bool → Input → Input → Type 0
+ComesNext found old new = MatchBool found (TakesLine old new) (FindsEnd old new)
 
 -- no byte was given: what was left is left
 pub record Waits (old new : Input) : Type 0 where

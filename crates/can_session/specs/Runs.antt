@@ -1,6 +1,6 @@
-use Rattle.std.specs.Prelude.{◌≡◌, ◌⊎◌, ℕ, ◌+◌, ◌<◌, ◌≤◌, List, [], ◌∷◌, ◌++◌, length, replicate, Option, Some, None, Result, Ok, Err}
+use Rattle.std.specs.Prelude.{◌≡◌, ◌⊎◌, ℕ, ◌+◌, ◌<◌, ◌≤◌, Bool, MatchBool, List, [], ◌∷◌, ◌++◌, length, replicate, Option, Some, None, Result, Ok, Err}
 use Rattle.std.specs.List.{All}
-use Rattle.std.specs.Io.KnownBytes.{Appends}
+use Rattle.std.specs.Io.KnownBytes.{Appends, Keeps}
 use Rattle.can_fault.specs.Sources.{VerdictMap}
 use Rattle.can_event.specs.declared.events.BusConfig.{BusConfig}
 use Rattle.can_bus.specs.Journal.{Kept}
@@ -9,9 +9,9 @@ use Rattle.can_session.specs.declared.lines.LineFault.{LineFault}
 use Rattle.can_session.specs.declared.lines.LineFault.TheVariants as line
 use Rattle.can_session.specs.declared.bench_run.BenchFault.{BenchFault}
 use Rattle.can_session.specs.declared.bench_run.BenchFault.TheVariants.{BadConfig, BadLine, TooLong, Read, Write, NoMemory}
-use Rattle.can_session.specs.Lines.{Input, IsLine, IsOver, TakesLine, Stops, StopsBehind, lines_of, spelled}
+use Rattle.can_session.specs.Lines.{Input, IsLine, IsOver, FindsEnd, TakesLine, Stops, StopsBehind, lines_of, spelled}
 use Rattle.can_session.specs.Orders.{order_of}
-use Rattle.can_session.specs.Benches.{BenchState, AreCarriedOut, IsRefused}
+use Rattle.can_session.specs.Benches.{BenchState, AreCarriedOut, IsCarriedOut, IsRefused}
 
 -- A run of the bench over an input (own choice).
 
@@ -86,6 +86,17 @@ Ends {A} {W} leaves contents verdicts input b out (Err BadConfig) now new = ⊥
 pub record IsRecordOf (r : Kept) (b : BenchState) : Type 0 where
   pub config : r.config ≡ b.bus.journal.config
   pub history : r.history ≡ b.bus.journal.history
+
+-- why a bench is not made
+abbrev pub IsStartFault : BenchFault → Type 0
+IsStartFault fault = (fault ≡ BadConfig) ⊎ (fault ≡ NoMemory)
+
+-- the next line is carried out, and the writer takes what it puts out; or there is no line left, and nothing is done
+abbrev pub StepsOn : {W : Type 0} → (W → Option (List ℕ)) → VerdictMap → Bool → Input → Input → BenchState → BenchState → W → W → Type 0
+StepsOn {W} contents verdicts more old new b after out wrote =
+    MatchBool more
+    (TakesLine old new × (text : List ℕ) × IsCarriedOut verdicts new.line b text after × Appends (contents out) (contents wrote) text)
+    (FindsEnd old new × (after ≡ b) × Keeps (contents out) (contents wrote))
 
 -- how a fault at the next line, which has this number, is reported
 abbrev pub fault_of : ℕ → LineFault → BenchFault

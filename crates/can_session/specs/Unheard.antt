@@ -1,4 +1,7 @@
-use Rattle.std.specs.Prelude.{ℕ, ◌-◌, ◌==◌, Bool, true, false, ◌||◌, if◌then◌else◌, List, [], ◌∷◌, get_or, slice_set}
+use Rattle.std.specs.Prelude.{◌≡◌, ℕ, ◌-◌, ◌==◌, Bool, true, false, ◌||◌, if◌then◌else◌, List, [], ◌∷◌, ◌++◌, get_or, slice_set}
+use Rattle.std.specs.List.{flat_map, AllByRecursion}
+use Rattle.can_proto.specs.Messages.{has_mark}
+use Rattle.can_proto.specs.Words.{is_blank}
 
 -- What sessions are fed that is in no message (own choice).
 
@@ -7,19 +10,39 @@ abbrev pub begun_after : Bool → List ℕ → Bool
 begun_after begun [] = begun
 begun_after begun (b ∷ bs) = begun_after (if b == 60 then true else if b == 62 then false else begun) bs
 
--- space, tab, CR and LF
-abbrev pub is_blank : ℕ → Bool
-is_blank b = ((b == 32) || (b == 9)) || ((b == 13) || (b == 10))
-
 -- whether some of these bytes are outside messages and not blank, or in a message that a `<` begins anew
 abbrev pub has_outside : Bool → List ℕ → Bool
 has_outside begun [] = false
 has_outside false (b ∷ bs) = if b == 60 then has_outside true bs else if is_blank b then has_outside false bs else true
 has_outside true (b ∷ bs) = if b == 60 then true else has_outside (if b == 62 then false else true) bs
 
--- `<` and `>`
-abbrev pub is_mark : ℕ → Bool
-is_mark b = (b == 60) || (b == 62)
+-- a part of a stream in order: a blank between messages, or a message with this inside
+pub data Part : Type 0 where
+  Gap : ℕ → Part
+  Whole : List ℕ → Part
+
+-- its bytes
+abbrev pub part_text : Part → List ℕ
+part_text (Gap b) = b ∷ []
+part_text (Whole inside) = 60 ∷ inside ++ 62 ∷ []
+
+-- the byte is a blank, or no mark is inside the message
+abbrev pub IsPart : Part → Type 0
+IsPart (Gap b) = is_blank b ≡ true
+IsPart (Whole inside) = has_mark inside ≡ false
+
+-- what comes after the parts: nothing, or a message that is begun
+abbrev pub IsTail : Bool → List ℕ → Type 0
+IsTail false tail = tail ≡ []
+IsTail true tail = (inside : List ℕ) × (tail ≡ 60 ∷ inside) × (has_mark inside ≡ false)
+
+-- bytes that are messages with nothing but blanks between them, and at the end nothing, or a message that is begun
+pub record AreInOrder (bytes : List ℕ) (begun : Bool) : Type 0 where
+  pub parts : List Part
+  pub tail : List ℕ
+  pub good : AllByRecursion IsPart parts
+  pub last : IsTail begun tail
+  pub whole : bytes ≡ flat_map part_text parts ++ tail
 
 -- the flag of session s
 abbrev pub flag : List Bool → ℕ → Bool

@@ -1,10 +1,10 @@
-ghost use Rattle.std.specs.Prelude.{◌≡◌, ◌≢◌, ◌+◌, ◌<◌, ◌≤◌, ◌↔◌, ◌⊎◌, List, ℕ, Err, None, length, IfOk, IfErr, OnOk, OnErr, MatchBool};
+ghost use Rattle.std.specs.Prelude.{◌≡◌, ◌≢◌, ◌+◌, ◌<◌, ◌≤◌, ◌↔◌, ◌⊎◌, Err, None, length, IfOk, IfErr, OnOk, OnErr};
 ghost use Rattle.std.specs.Io.KnownBytes.{Appends, Keeps};
 ghost use Rattle.can_bus.specs.Headline.{Headline};
 ghost use Rattle.can_bus.specs.Legal.{IsLegal};
-ghost use Rattle.can_session.specs.Lines.{Input, FindsEnd, TakesLine, IsWithin, unread};
-ghost use Rattle.can_session.specs.Benches.{BenchState, IsCarriedOut};
-ghost use Rattle.can_session.specs.Runs.{IsBench, IsRecordOf, at_start, Ends, EndsAt, fault_of};
+ghost use Rattle.can_session.specs.Lines.{Input, ComesNext, IsWithin, unread};
+ghost use Rattle.can_session.specs.Benches.{BenchState};
+ghost use Rattle.can_session.specs.Runs.{IsBench, IsRecordOf, at_start, Ends, EndsAt, StepsOn, fault_of};
 
 use crate::bench_state::Bench;
 use crate::lines::{LineFault, Lines};
@@ -152,7 +152,7 @@ fn go_on<F: FaultSource, R: Read + Drop, W: Write>(
     out: &mut W,
 ) -> Result<bool, BenchFault>
     requires { lines.old.fault ≡ None }
-    ensures on { IfOk result (λ more. MatchBool more (TakesLine lines.old lines.new × (text : List ℕ) × IsCarriedOut (F.verdicts script.old) lines.new.line state.old text state.new × Appends (W.contents out.old) (W.contents out.new) text) (FindsEnd lines.old lines.new × (state.new ≡ state.old) × Keeps (W.contents out.old) (W.contents out.new))) }
+    ensures on { IfOk result (λ more. StepsOn W.contents (F.verdicts script.old) more lines.old lines.new state.old state.new out.old out.new) }
     ensures stops { IfErr result (λ fault. EndsAt number fault lines.old lines.new state.old × ((fault ≡ BenchFault.Write) ⊎ Keeps (W.contents out.old) (W.contents out.new))) }
     ensures keeps { F.verdicts script.new ≡ F.verdicts script.old }
     ensures within { IsWithin lines.new }
@@ -177,7 +177,7 @@ fn next_line<R: Read + Drop, W: Write>(
     out: &mut W,
 ) -> Result<bool, BenchFault>
     requires { lines.old.fault ≡ None }
-    ensures on { IfOk result (λ more. MatchBool more (TakesLine lines.old lines.new) (FindsEnd lines.old lines.new)) }
+    ensures on { IfOk result (λ more. ComesNext more lines.old lines.new) }
     ensures stops { IfErr result (λ fault. (b : BenchState) → EndsAt number fault lines.old lines.new b) }
     ensures keeps { result ≢ Err BenchFault.Write → Keeps (W.contents out.old) (W.contents out.new) }
     ensures within { IsWithin lines.new }

@@ -1,7 +1,7 @@
-ghost use Rattle.std.specs.Prelude.{◌≡◌, ◌≢◌, ◌-◌, ◌<◌, [], ◌⊎◌, ◌↔◌, Some, None, Err, true, OnOk, IfOk, IfErr, MatchBool};
+ghost use Rattle.std.specs.Prelude.{◌≡◌, ◌≢◌, ◌-◌, ◌<◌, [], ◌↔◌, Some, None, Err, true, OnOk, IfOk, IfErr, MatchBool};
 ghost use Rattle.can_bus.specs.Headline.{Headline};
 ghost use Rattle.can_bus.specs.Legal.{IsLegal};
-ghost use Rattle.can_session.specs.Runs.{IsBench, IsRecordOf, at_start};
+ghost use Rattle.can_session.specs.Runs.{IsBench, IsRecordOf, IsStartFault, at_start};
 ghost use Rattle.can_fault.specs.Sources.{no_verdicts};
 ghost use Rattle.can_session.specs.Orders.{Effect, order_of};
 ghost use Rattle.can_session.specs.Benches.{session_at, Speaks, IsTried, Does, IsCarriedOut, IsRefused};
@@ -55,7 +55,7 @@ impl Bench {
         ensures made { IfOk result (λ s. s ≡ at_start names config capacity) }
         ensures good { OnOk result (IsBench names config capacity) }
         ensures bad { (result ≡ Err BenchFault.BadConfig) ↔ (¬ IsBench names config capacity) }
-        ensures faults { IfErr result (λ e. (e ≡ BenchFault.BadConfig) ⊎ (e ≡ BenchFault.NoMemory)) }
+        ensures faults { IfErr result IsStartFault }
     {
         if config.ifaces != names.count() || capacity < 1 || capacity > MAX_RX_CAPACITY {
             return Err(BenchFault::BadConfig);

@@ -9,7 +9,7 @@ mod attempt_lines;
 pub mod bench_run;
 mod bench_state;
 mod byte_search;
-pub mod line_law;
+pub mod laws;
 mod line_prefix;
 pub mod lines;
 mod numbers;

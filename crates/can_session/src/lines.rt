@@ -1,7 +1,7 @@
 ghost use Rattle.std.specs.Prelude.{◌≡◌, ◌≤◌, ◌<◌, ◌+◌, ◌⊎◌, [], ◌∷◌, ◌++◌, true, false, length, take, drop, position, Some, None, IfOk, IfErr, IfSome, OnOk, OnErr, MatchBool};
 ghost use Rattle.std.specs.List.{list_any};
 ghost use Rattle.std.specs.Io.KnownBytes.{IsAtEnd};
-ghost use Rattle.can_session.specs.Lines.{is_lf, unread, Fails, Fills, FindsEnd, Halts, IsOver, IsWithin, Repeats, Stops, TakesLine};
+ghost use Rattle.can_session.specs.Lines.{is_lf, unread, ComesNext, Fails, Fills, Halts, IsOver, IsWithin, Repeats, Stops, TakesLine};
 ghost use Rattle.can_session.specs.inner.Looks.{Shows};
 
 use crate::byte_search::place_of;
@@ -103,7 +103,7 @@ impl<R: Read + Drop> Lines<R> {
     /// of a line, `TooLong` at the byte or the read past the limit, `Read` where the reader failed. After a
     /// fault nothing more is read, and each call returns that fault.
     pub fn next_line(&mut self) -> Result<bool, LineFault>
-        ensures ok { IfOk result (λ found. MatchBool found (TakesLine self.old self.new) (FindsEnd self.old self.new)) }
+        ensures ok { IfOk result (λ found. ComesNext found self.old self.new) }
         ensures fine { OnOk result (self.old.fault ≡ None) }
         ensures err { IfErr result (λ fault. Stops fault self.old self.new ⊎ Repeats fault self.old self.new) }
         ensures within { IsWithin self.new }
@@ -125,7 +125,7 @@ impl<R: Read + Drop> Lines<R> {
     fn read_line(&mut self) -> Result<bool, LineFault>
         requires going { self.old.ended ≡ false }
         requires within { IsWithin self.old }
-        ensures ok { IfOk result (λ found. MatchBool found (TakesLine self.old self.new) (FindsEnd self.old self.new)) }
+        ensures ok { IfOk result (λ found. ComesNext found self.old self.new) }
         ensures err { IfErr result (λ fault. Halts fault self.old self.new) }
         ensures within { IsWithin self.new }
     {

@@ -1,6 +1,7 @@
 //! What a bench begins with.
-ghost use Rattle.std.specs.Prelude.{◌≡◌, [], ◌⊎◌, ◌↔◌, None, Err, replicate, OnOk, IfOk, IfErr};
+ghost use Rattle.std.specs.Prelude.{◌≡◌, [], ◌↔◌, None, Err, replicate, OnOk, IfOk, IfErr};
 ghost use Rattle.can_event.specs.Events.{IsConfig};
+ghost use Rattle.can_session.specs.Runs.{IsStartFault};
 
 use crate::bench_run::BenchFault;
 use can_bus::{BusConfig, BusFault, RingBus};
@@ -13,7 +14,7 @@ pub fn make_bus(alloc: Global, config: BusConfig) -> Result<RingBus, BenchFault>
     ensures made { IfOk result (λ b. b ≡ record { config = config; history = [] }) }
     ensures proper { OnOk result (IsConfig config) }
     ensures bad { (result ≡ Err BenchFault.BadConfig) ↔ (¬ IsConfig config) }
-    ensures faults { IfErr result (λ e. (e ≡ BenchFault.BadConfig) ⊎ (e ≡ BenchFault.NoMemory)) }
+    ensures faults { IfErr result IsStartFault }
 {
     match RingBus::new(alloc, config) {
         Ok(bus) => Ok(bus),

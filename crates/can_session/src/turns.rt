@@ -1,7 +1,7 @@
-ghost use Rattle.std.specs.Prelude.{◌≡◌, ◌++◌, [], ℕ, List, OnOk, IfOk};
+ghost use Rattle.std.specs.Prelude.{◌≡◌, ◌++◌, [], OnOk, IfOk};
 ghost use Rattle.can_dialog.specs.Turns.{greeting};
 ghost use Rattle.can_session.specs.Benches.{beginning, spoken, IsFed, IsDrained, IsEnded};
-ghost use Rattle.can_session.specs.inner.Acts.{done_by};
+ghost use Rattle.can_session.specs.inner.Acts.{Adds, done_by};
 
 use crate::line_prefix::{begin_spoken, end_spoken};
 use crate::orders::SessionNumber;
@@ -73,7 +73,7 @@ pub fn carry_out(
     port: &mut BenchPort,
     said: &mut Vec<u8>,
 ) -> Result<(), NoMemory>
-    ensures { OnOk result ((text : List ℕ) × done_by act.entry moment session.old port.old text session.new port.new × (said.new.items ≡ said.old.items ++ text)) }
+    ensures { OnOk result (Adds (done_by act.entry moment) session.old port.old said.old.items session.new port.new said.new.items) }
 {
     match act {
         Act::Feed(bytes) => feed(session, alloc, bytes, moment, port, said),
@@ -94,7 +94,7 @@ fn feed(
     port: &mut BenchPort,
     said: &mut Vec<u8>,
 ) -> Result<(), NoMemory>
-    ensures { OnOk result ((text : List ℕ) × IsFed session.old.dialog.stage moment bytes.now session.old port.old text session.new port.new × (said.new.items ≡ said.old.items ++ text)) }
+    ensures { OnOk result (Adds (IsFed session.old.dialog.stage moment bytes.now) session.old port.old said.old.items session.new port.new said.new.items) }
 {
     match session.feed(alloc, bytes, moment, port, said) {
         Ok(()) => Ok(()),
@@ -105,7 +105,7 @@ fn feed(
 
 /// Gives a session its items until there is none, and adds what it says.
 fn drain(session: &mut Session, port: &mut BenchPort, said: &mut Vec<u8>) -> Result<(), NoMemory>
-    ensures { OnOk result ((text : List ℕ) × IsDrained session.old port.old text session.new port.new × (said.new.items ≡ said.old.items ++ text)) }
+    ensures { OnOk result (Adds IsDrained session.old port.old said.old.items session.new port.new said.new.items) }
 {
     loop {
         match session.deliver(port, said) {

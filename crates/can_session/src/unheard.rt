@@ -1,7 +1,7 @@
 //! What sessions are fed that is in no message, so that a run can report it.
 ghost use Rattle.std.specs.Prelude.{◌≡◌, true, false, replicate};
-ghost use Rattle.std.specs.List.{list_any};
-ghost use Rattle.can_session.specs.Unheard.{begun_after, begun_then, flag, has_outside, is_mark, outside_then};
+ghost use Rattle.can_proto.specs.Messages.{has_mark};
+ghost use Rattle.can_session.specs.Unheard.{begun_after, begun_then, flag, has_outside, outside_then};
 
 use crate::orders::SessionNumber;
 
@@ -102,11 +102,11 @@ fn is_message(bytes: &[u8]) -> bool
 
 // Whether a message begins or ends among the bytes. No byte decides early, so that the compiler can compare many at once.
 fn has_marks(bytes: &[u8]) -> bool
-    ensures { result ≡ list_any is_mark bytes.now }
+    ensures { result ≡ has_mark bytes.now }
 {
-    let mut has_mark = false;
+    let mut found = false;
     for byte in bytes {
-        has_mark = has_mark | (*byte == b'<') | (*byte == b'>');
+        found = found | ((*byte == b'<') | (*byte == b'>'));
     }
-    has_mark
+    found
 }

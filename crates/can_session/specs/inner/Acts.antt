@@ -1,4 +1,4 @@
-use Rattle.std.specs.Prelude.{ℕ, List}
+use Rattle.std.specs.Prelude.{◌≡◌, ℕ, List, ◌++◌}
 use Rattle.can_dialog.specs.Sessions.{SessionState}
 use Rattle.can_dialog.specs.BusSteps.{NamedBus}
 use Rattle.can_session.specs.declared.turns.Act.{Act}
@@ -12,3 +12,7 @@ abbrev pub done_by : Act → ℕ → SessionState → NamedBus → List ℕ → 
 done_by (Feed bytes) moment = λ old. IsFed old.dialog.stage moment bytes.now old
 done_by Drain moment = IsDrained
 done_by End moment = IsEnded
+
+-- a session does this, and what it says comes after what was said
+abbrev pub Adds : (SessionState → NamedBus → List ℕ → SessionState → NamedBus → Type 0) → SessionState → NamedBus → List ℕ → SessionState → NamedBus → List ℕ → Type 0
+Adds does old p said new q after = (text : List ℕ) × does old p text new q × (after ≡ said ++ text)

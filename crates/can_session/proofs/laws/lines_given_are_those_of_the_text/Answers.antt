@@ -1,5 +1,5 @@
 use Rattle.can_session.proofs.LineLaws.{next, forward, end, stop, apart}
-use Rattle.can_session.proofs.line_law.lines_given_are_those_of_the_text.Goals as goal
+use Rattle.can_session.proofs.laws.lines_given_are_those_of_the_text.Goals as goal
 
 pub returns-clause-next : goal.returns-clause-next
 returns-clause-next c = next
