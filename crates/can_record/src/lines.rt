@@ -5,6 +5,7 @@ ghost use Rattle.can_event.specs.declared.events.BusConfig.{BusConfig as AConfig
 ghost use Rattle.can_event.specs.Spelled.{FitsReply};
 ghost use Rattle.can_record.specs.declared.faults.Unread.TheVariants as unread;
 ghost use Rattle.can_record.specs.Spelling.{spell, ack_word, answered_line, bus_words, end_words, entry_line, first_line};
+ghost use Rattle.can_record.specs.Texts.{StartsWith, StartsWithLine};
 ghost use Rattle.can_record.specs.Values.{HasLine, HasBusLine};
 ghost use Rattle.can_record.specs.RecordFaults.{LacksFirst};
 ghost use Rattle.can_record.specs.inner.Reading.{Gives, ack_at, auto_restart_at, config_at, entry_at, moment_of};
@@ -65,7 +66,7 @@ pub fn is_line_of(
     text: &[u8],
 ) -> Result<bool, AllocError>
     requires { FitsReply event.now reply.now }
-    ensures yes { IfOk result (λ same. IsTrue same → text.now ≡ answered_line event.now reply.now (drop (length (answered_line event.now reply.now [])) text.now)) }
+    ensures yes { IfOk result (λ same. IsTrue same → StartsWithLine event.now reply.now text.now) }
     ensures no { (rest : List ℕ) → text.now ≡ answered_line event.now reply.now rest → IfOk result IsTrue }
 {
     let mut line = Text::new();
@@ -84,7 +85,7 @@ fn has_words_of(
     text: &[u8],
 ) -> Result<bool, AllocError>
     requires { FitsReply event.now reply.now }
-    ensures yes { IfOk result (λ same. IsTrue same → text.now ≡ answered_line event.now reply.now (drop (length (answered_line event.now reply.now [])) text.now)) }
+    ensures yes { IfOk result (λ same. IsTrue same → StartsWithLine event.now reply.now text.now) }
     ensures no { (rest : List ℕ) → text.now ≡ answered_line event.now reply.now rest → IfOk result IsTrue }
 {
     buffer.clear();
@@ -136,7 +137,7 @@ pub fn put_end(out: &mut Vec<u8>, count: u64) -> Result<(), AllocError>
 
 /// Whether a text begins with another.
 pub fn begins(text: &[u8], front: &[u8]) -> bool
-    ensures yes { IsTrue result → text.now ≡ front.now ++ drop (length front.now) text.now }
+    ensures yes { IsTrue result → StartsWith front.now text.now }
     ensures no { (rest : List ℕ) → text.now ≡ front.now ++ rest → IsTrue result }
 {
     text.starts_with(front)
@@ -163,7 +164,7 @@ fn has_line(version: Version, config: BusConfig, entry: &Entry) -> bool
 
 /// The version whose first line the text begins with.
 pub fn read_version(text: &[u8]) -> Option<Version>
-    ensures found { IfSome result (λ v. text.now ≡ first_line v ++ drop (length (first_line v)) text.now) }
+    ensures found { IfSome result (λ v. StartsWith (first_line v) text.now) }
     ensures only { IsNone result → LacksFirst text.now }
 {
     if begins(text, Version::One.first_line()) {
@@ -186,7 +187,7 @@ pub fn read_line(
     config: BusConfig,
     text: &[u8],
 ) -> Result<Entry, Unread>
-    ensures found { IfOk result (λ e. HasLine version config e × (buffer.new.items ≡ entry_line e []) × (text.now ≡ entry_line e [] ++ drop (length (entry_line e [])) text.now)) }
+    ensures found { IfOk result (λ e. HasLine version config e × (buffer.new.items ≡ entry_line e []) × StartsWith (entry_line e []) text.now) }
     ensures only { (e : AnEntry) (rest : List ℕ) → HasLine version config e → text.now ≡ entry_line e rest → IfErr result (λ u. u ≡ unread.NoMemory) }
 {
     let read = match guess_entry(alloc, text) {
@@ -235,7 +236,7 @@ fn moment_of(event: &Event) -> Option<Moment>
 
 /// The configuration whose line in this version the text begins with. The line is left in the buffer.
 pub fn read_bus(buffer: &mut Vec<u8>, version: Version, text: &[u8]) -> Result<BusConfig, Unread>
-    ensures found { IfOk result (λ c. HasBusLine version c × (buffer.new.items ≡ spell (bus_words version c) []) × (text.now ≡ spell (bus_words version c) [] ++ drop (length (spell (bus_words version c) [])) text.now)) }
+    ensures found { IfOk result (λ c. HasBusLine version c × (buffer.new.items ≡ spell (bus_words version c) []) × StartsWith (spell (bus_words version c) []) text.now) }
     ensures only { (c : AConfig) (rest : List ℕ) → HasBusLine version c → text.now ≡ spell (bus_words version c) rest → IfErr result (λ u. u ≡ unread.NoMemory) }
 {
     let Some(config) = guess_config(version, text) else {

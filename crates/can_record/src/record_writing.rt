@@ -3,7 +3,8 @@ ghost use Rattle.std.specs.Io.KnownBytes.{Appends};
 ghost use Rattle.can_event.specs.Spelled.{FitsReply};
 ghost use Rattle.can_packed.specs.Kept.{entry_in, frames_needed, IsSmall};
 ghost use Rattle.can_packed.specs.Stored.{entry_stored, IsStored};
-ghost use Rattle.can_record.specs.Spelling.{answered_line, entry_line, entry_lines, front_lines, record_spelling};
+ghost use Rattle.can_record.specs.Spelling.{answered_line, entry_line, entry_lines, front_lines};
+ghost use Rattle.can_record.specs.Texts.{text_of};
 
 use crate::kept_lines::push_kept;
 use crate::lines::{put_answered, put_bus, put_end, put_line};
@@ -24,7 +25,7 @@ use std::io::Write;
 /// One record has one text, and one text has one record. The text takes some 40 bytes an entry; it grows in
 /// place, and the time is linear in it.
 pub fn record_text(alloc: Global, record: &Record) -> Result<Vec<u8>, AllocError>
-    ensures { IfOk result (λ text. text.items ≡ record_spelling «record».now.config (reverse «record».now.history)) }
+    ensures { IfOk result (λ text. text.items ≡ text_of «record».now) }
 {
     let mut text = Vec::new(alloc);
     match write_record(alloc, record, &mut text) {
@@ -48,7 +49,7 @@ pub fn line_text(alloc: Global, event: &Event, reply: &Reply) -> Result<Vec<u8>,
 /// No more than a line is held. Where the writer fails, or memory is refused, some front of the text may
 /// have gone out.
 pub fn write_record<W: Write>(alloc: Global, record: &Record, writer: &mut W) -> io::Result<()>
-    ensures { OnOk result (Appends (W.contents writer.old) (W.contents writer.new) (record_spelling «record».now.config (reverse «record».now.history))) }
+    ensures { OnOk result (Appends (W.contents writer.old) (W.contents writer.new) (text_of «record».now)) }
 {
     let mut line = Vec::new(alloc);
     let config = record.config();
