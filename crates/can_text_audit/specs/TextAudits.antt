@@ -47,6 +47,18 @@ pub record IsLine (line : List ℕ) : Type 0 where
 abbrev pub MayFollow : List ℕ → List ℕ → Type 0
 MayFollow line after = take_through 10 (line ++ after) ≡ line
 
+-- a line was taken, as the next one of a text that was taken so far
+abbrev pub TakesOn : {A : Type 0} → (List ℕ → A → Type 0) → A → A → List ℕ → Type 0
+TakesOn {A} are old new line = (text : List ℕ) → are text old → IsLine line → are (text ++ line) new
+
+-- a line is at fault, as the next one of a text that was taken so far, whatever follows it
+abbrev pub FailsNext : {A : Type 0} → (List ℕ → A → Type 0) → A → List ℕ → ReadFault → Type 0
+FailsNext {A} are old line why = (text after : List ℕ) → are text old → IsLine line → MayFollow line after → Reads (text ++ (line ++ after)) (Err why)
+
+-- a line is at fault that comes after these bytes of a text, whatever follows it
+abbrev pub FailsAfter : List ℕ → List ℕ → ReadFault → Type 0
+FailsAfter front line why = (after : List ℕ) → MayFollow line after → Reads (front ++ (line ++ after)) (Err why)
+
 -- the lines that were taken make this text
 abbrev pub HasCome : List ℕ → Course → Type 0
 HasCome text course.Start = text ≡ []

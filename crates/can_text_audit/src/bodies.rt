@@ -1,8 +1,7 @@
 ghost use Rattle.std.specs.Prelude.{◌≡◌, ◌≢◌, ◌↔◌, ◌+◌, ◌-◌, ◌^◌, ◌<◌, ◌||◌, ◌++◌, Err, IfErr, IfOk, IsSome, IsTrue, List, None, OnOk, Some, false, true, ℕ};
-ghost use Rattle.can_record.specs.RecordFaults.{Reads};
 ghost use Rattle.can_record.specs.Spelling.{first_line};
 ghost use Rattle.can_record.specs.inner.Reading.{SeemsToBe};
-ghost use Rattle.can_text_audit.specs.TextAudits.{IsLine, MayFollow, Tells};
+ghost use Rattle.can_text_audit.specs.TextAudits.{FailsAfter, FailsNext, IsLine, TakesOn, Tells};
 ghost use Rattle.can_text_audit.specs.inner.Bodies.{IsGoing};
 ghost use Rattle.can_text_audit.specs.inner.Steps.{Blames, IsUnended, StandsEnd, Takes};
 
@@ -39,7 +38,7 @@ impl Body {
         line: &[u8],
     ) -> Result<Body, ReadFault>
         ensures taken { IfOk result (λ body. IsLine line.now → IsGoing (first_line version ++ line.now) body) }
-        ensures fault { IfErr result (λ why. (after : List ℕ) → MayFollow line.now after → Reads (first_line version ++ (line.now ++ after)) (Err why)) }
+        ensures fault { IfErr result (FailsAfter (first_line version) line.now) }
     {
         let config = match read_bus(buffer, version, line) {
             Ok(config) => config,
@@ -67,8 +66,8 @@ impl Body {
         buffer: &mut Vec<u8>,
         line: &[u8],
     ) -> Result<(), ReadFault>
-        ensures taken { OnOk result ((text : List ℕ) → IsGoing text self.old → IsLine line.now → IsGoing (text ++ line.now) self.new) }
-        ensures fault { IfErr result (λ why. (text after : List ℕ) → IsGoing text self.old → IsLine line.now → MayFollow line.now after → Reads (text ++ (line.now ++ after)) (Err why)) }
+        ensures taken { OnOk result (TakesOn IsGoing self.old self.new line.now) }
+        ensures fault { IfErr result (FailsNext IsGoing self.old line.now) }
     {
         if self.is_ended {
             return Err(ReadFault::BadLine(u64::from(self.count) + 4));

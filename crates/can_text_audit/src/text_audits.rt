@@ -1,8 +1,9 @@
-ghost use Rattle.std.specs.Prelude.{◌≡◌, ◌++◌, [], Err, IfErr, IfOk, List, OnOk, drop, length, ℕ};
+ghost use Rattle.std.specs.Prelude.{◌≡◌, ◌++◌, [], Err, IfErr, IfOk, List, OnOk, ℕ};
 ghost use Rattle.can_record.specs.declared.faults.ReadFault.{ReadFault as AFault};
-ghost use Rattle.can_record.specs.RecordFaults.{LacksFirst, Reads};
+ghost use Rattle.can_record.specs.RecordFaults.{LacksFirst};
 ghost use Rattle.can_record.specs.Spelling.{first_line};
-ghost use Rattle.can_text_audit.specs.TextAudits.{AreTaken, HasFailed, IsLine, MayFollow, Tells};
+ghost use Rattle.can_record.specs.Texts.{StartsWith};
+ghost use Rattle.can_text_audit.specs.TextAudits.{AreTaken, FailsAfter, FailsNext, HasFailed, IsLine, TakesOn, Tells};
 
 use crate::bodies::Body;
 use crate::faults::TextFault;
@@ -50,8 +51,8 @@ impl TextAudit {
     ///
     /// `NoMemory` comes where memory was refused, and past 4,294,967,295 entries; nothing is known of the text then.
     pub fn carry(&mut self, alloc: Global, line: &[u8]) -> Result<(), ReadFault>
-        ensures taken { OnOk result ((text : List ℕ) → AreTaken text self.old → IsLine line.now → AreTaken (text ++ line.now) self.new) }
-        ensures fault { IfErr result (λ why. (text after : List ℕ) → AreTaken text self.old → IsLine line.now → MayFollow line.now after → Reads (text ++ (line.now ++ after)) (Err why)) }
+        ensures taken { OnOk result (TakesOn AreTaken self.old self.new line.now) }
+        ensures fault { IfErr result (FailsNext AreTaken self.old line.now) }
         ensures failed { IfErr result (λ why. HasFailed why self.new) }
         ensures again { (why : AFault) → HasFailed why self.old → result ≡ Err why }
     {
@@ -73,8 +74,8 @@ impl TextAudit {
 
     // Takes a line where none was at fault.
     fn take(&mut self, alloc: Global, line: &[u8]) -> Result<(), ReadFault>
-        ensures taken { OnOk result ((text : List ℕ) → AreTaken text self.old → IsLine line.now → AreTaken (text ++ line.now) self.new) }
-        ensures fault { IfErr result (λ why. (text after : List ℕ) → AreTaken text self.old → IsLine line.now → MayFollow line.now after → Reads (text ++ (line.now ++ after)) (Err why)) }
+        ensures taken { OnOk result (TakesOn AreTaken self.old self.new line.now) }
+        ensures fault { IfErr result (FailsNext AreTaken self.old line.now) }
         ensures again { (why : AFault) → HasFailed why self.old → result ≡ Err why }
     {
         match &mut self.course {
@@ -92,7 +93,7 @@ impl TextAudit {
     #[inline(never)]
     fn take_first(&mut self, line: &[u8]) -> Result<(), ReadFault>
         ensures taken { OnOk result (IsLine line.now → AreTaken line.now self.new) }
-        ensures fault { IfErr result (λ why. (after : List ℕ) → MayFollow line.now after → Reads (line.now ++ after) (Err why)) }
+        ensures fault { IfErr result (FailsAfter [] line.now) }
     {
         self.course = Course::Front(first_version(line)?);
         Ok(())
@@ -102,7 +103,7 @@ impl TextAudit {
     #[inline(never)]
     fn take_second(&mut self, alloc: Global, version: Version, line: &[u8]) -> Result<(), ReadFault>
         ensures taken { OnOk result (IsLine line.now → AreTaken (first_line version ++ line.now) self.new) }
-        ensures fault { IfErr result (λ why. (after : List ℕ) → MayFollow line.now after → Reads (first_line version ++ (line.now ++ after)) (Err why)) }
+        ensures fault { IfErr result (FailsAfter (first_line version) line.now) }
     {
         self.course = Course::Body(Body::read(alloc, &mut self.buffer, version, line)?);
         Ok(())
@@ -125,7 +126,7 @@ impl TextAudit {
 
 // The version that the first line names.
 fn first_version(line: &[u8]) -> Result<Version, ReadFault>
-    ensures found { IfOk result (λ v. line.now ≡ first_line v ++ drop (length (first_line v)) line.now) }
+    ensures found { IfOk result (λ v. StartsWith (first_line v) line.now) }
     ensures only { IfErr result (λ why. (why ≡ ReadFault.BadVersion) × LacksFirst line.now) }
 {
     read_version(line).ok_or(ReadFault::BadVersion)

@@ -1,4 +1,4 @@
-use Rattle.std.specs.Prelude.{◌≡◌, ℕ, ◌+◌, false, List, [], ◌++◌, drop, length, reverse, Option, Result, Ok, Err}
+use Rattle.std.specs.Prelude.{◌≡◌, ℕ, ◌+◌, false, List, [], ◌++◌, reverse, Option, Result, Ok, Err}
 use Rattle.can_event.specs.declared.events.Reply.{Reply}
 use Rattle.can_record.specs.declared.faults.Unread.{Unread}
 use Rattle.can_record.specs.declared.faults.Unread.TheVariants as unread
@@ -6,6 +6,7 @@ use Rattle.can_record.specs.RecordFaults.{LacksEnd, LacksEntry}
 use Rattle.can_record.specs.declared.faults.ReadFault.{ReadFault}
 use Rattle.can_record.specs.declared.faults.ReadFault.TheVariants as fault
 use Rattle.can_record.specs.Spelling.{end_words, spell}
+use Rattle.can_record.specs.Texts.{StartsWith}
 use Rattle.can_text_audit.specs.declared.bodies.Body.{Body}
 use Rattle.can_text_audit.specs.inner.Bodies.{IsGoing, IsRead}
 use Rattle.can_text_audit.specs.inner.Carried.{IsOther}
@@ -27,7 +28,7 @@ Blames old new line legal (Err unread.NoMemory) = Unit {0}
 
 -- the line of the end after so many entries stands here
 abbrev pub StandsEnd : ℕ → List ℕ → Type 0
-StandsEnd count line = line ≡ spell (end_words count) [] ++ drop (length (spell (end_words count) [])) line
+StandsEnd count line = StartsWith (spell (end_words count) []) line
 
 -- it does not, unless memory was refused
 abbrev pub IsUnended : ℕ → List ℕ → ReadFault → Type 0
