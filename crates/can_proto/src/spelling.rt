@@ -1,8 +1,6 @@
-ghost use Rattle.std.specs.Prelude.{◌≡◌, ◌≤◌, ◌<◌, ◌+◌, ◌^◌, ◌++◌, [], length, true, codes};
+ghost use Rattle.std.specs.Prelude.{◌≡◌, ◌≤◌, ◌<◌, ◌+◌, ◌^◌, ◌++◌, [], length, true};
 ghost use Rattle.std.specs.Fmt.{decimal};
-ghost use Rattle.can_frame.specs.Frames.{is_remote, payload_bytes};
-ghost use Rattle.can_frame.specs.FrameText.{id_text, pairs};
-ghost use Rattle.can_frame.specs.Moments.{moment_text};
+ghost use Rattle.can_frame.specs.Frames.{is_remote};
 ghost use Rattle.can_proto.specs.Spelling.{class_width, class_text, body_text, data_text, fd_text, remote_text, error_text, item_text, stats_text, state_word, status_text, reply_text};
 ghost use Rattle.can_proto.specs.declared.answers.Answer.TheVariants.{Refused};
 

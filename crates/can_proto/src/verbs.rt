@@ -1,4 +1,4 @@
-ghost use Rattle.std.specs.Prelude.{◌≡◌, ◌∷◌, codes, IfSome};
+ghost use Rattle.std.specs.Prelude.{◌≡◌, codes, IfSome};
 ghost use Rattle.can_proto.specs.Words.{BeginsWith};
 ghost use Rattle.can_proto.specs.Verbs.{is_word, is_other_mode, named, stands_in};
 
