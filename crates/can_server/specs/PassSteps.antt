@@ -1,4 +1,4 @@
-use Rattle.std.specs.Prelude.{◌≡◌, ◌<◌, ◌≤◌, ◌⊎◌, ℕ, Bool, true, false, List, [], Option, Some, None, Result, Ok, Err, slice_get}
+use Rattle.std.specs.Prelude.{◌≡◌, ◌<◌, ◌≤◌, ◌⊎◌, ℕ, Bool, true, false, List, Option, Some, None, Result, Ok, Err, slice_get}
 use mathlib.Core.List.{IsSuffix}
 use Rattle.can_confine.specs.Confinement.{ErrorCounts, at_start}
 use Rattle.can_meter.specs.Publications.{newest, published}
@@ -11,14 +11,13 @@ use Rattle.can_event.specs.declared.events.Refusal.TheVariants as refusal
 use Rattle.can_event.specs.declared.stats.SocketStats.{SocketStats}
 use Rattle.can_event.specs.declared.stats.IfaceStats.{IfaceStats}
 use Rattle.can_bus.specs.Answer.{done_reply, told_attempt}
-use Rattle.can_bus.specs.Journal.{Journal}
 use Rattle.can_bus.specs.Stats.{socket_stats_of, iface_stats_of}
 use Rattle.can_dialog.specs.declared.port.PortRefusal.{PortRefusal}
 use Rattle.can_dialog.specs.declared.port.PortRefusal.TheVariants as port
 use Rattle.can_dialog.specs.Calls.{Call}
 use Rattle.can_dialog.specs.Calls.{Reply as CallReply}
 use Rattle.can_dialog.specs.Calls.Call.{Attach, Open, Close, SetFilters, SetOption, Send, Receive, Restart, Attempt, CountsOfSocket, CountsOfIface, CountersOfIface}
-use Rattle.can_station.specs.Passes.{PassSeen, Called}
+use Rattle.can_station.specs.Passes.{PassSeen, Called, HadNoPassLeft, InSome, IsNewPass}
 use Rattle.can_station.specs.declared.refusals.StationRefusal.{StationRefusal}
 use Rattle.can_station.specs.declared.refusals.StationRefusal.TheVariants as station
 use Rattle.can_server.specs.Buses.{BusSeen, IsFirstNamed, items_on}
@@ -36,9 +35,9 @@ pub record PortSeen : Type 0 where
   pub buses : List BusSeen
   pub entered : Option EnteredSeen
 
--- a station that was entered with this gauge and a pass that has made no call
-abbrev pub newly_entered : ℕ → Readings → ℕ → EnteredSeen
-newly_entered bus gauge pass = record { number = bus; gauge = gauge; pass = record { number = bus; pass = pass; calls = [] } }
+-- a station that was entered with this gauge and this pass
+abbrev pub entered_with : ℕ → Readings → PassSeen → EnteredSeen
+entered_with bus gauge pass = record { number = bus; gauge = gauge; pass = pass }
 
 -- how many items a socket holds on the bus that was entered
 abbrev pub room_in : List BusSeen → Option EnteredSeen → ℕ
@@ -81,16 +80,20 @@ OnPort told old e answer new = OnPass told old.entered e answer new.entered × (
 abbrev pub SomeNamed : List BusSeen → List ℕ → Type 0
 SomeNamed buses name = (bus : ℕ) × (iface : ℕ) × IsFirstNamed buses name (Some (bus, iface))
 
--- the station of the bus that has the name is entered, with a gauge of its meter; else nothing changes: no bus has the
--- name, or it has one and memory was refused to the gauge or no pass is left
-abbrev pub Attaches : PortSeen → List ℕ → Result ℕ PortRefusal → PortSeen → Type 0
-Attaches old name (Ok iface) new =
-    (bus : ℕ) × (gauge : Readings) × (pass : ℕ) × IsFirstNamed old.buses name (Some (bus, iface)) × (gauge.number ≡ bus)
-    × (new ≡ record { buses = old.buses; entered = Some (newly_entered bus gauge pass) })
-Attaches old name (Err (port.Bus refusal.NoInterface)) new = IsFirstNamed old.buses name None × (new ≡ old)
-Attaches old name (Err (port.Bus refusal.NoMemory)) new = SomeNamed old.buses name × (new ≡ old)
-Attaches old name (Err port.TooManyPasses) new = SomeNamed old.buses name × (new ≡ old)
-Attaches old name (Err _) new = ⊥
+-- some bus that has an interface of this name had no pass left
+abbrev pub SomeNamedFull : Type 0 → List BusSeen → List ℕ → Type 0
+SomeNamedFull F buses name = (bus : ℕ) × (iface : ℕ) × IsFirstNamed buses name (Some (bus, iface)) × HadNoPassLeft F bus
+
+-- the station of the bus that has the name is entered, with a gauge of its meter and its next pass; else nothing changes:
+-- no bus has the name, or it has one and memory was refused to the gauge or no pass was left
+abbrev pub Attaches : Type 0 → PortSeen → List ℕ → Result ℕ PortRefusal → PortSeen → Type 0
+Attaches F old name (Ok iface) new =
+    (bus : ℕ) × (gauge : Readings) × (pass : PassSeen) × IsFirstNamed old.buses name (Some (bus, iface)) × (gauge.number ≡ bus)
+    × IsNewPass F bus pass × (new ≡ record { buses = old.buses; entered = Some (entered_with bus gauge pass) })
+Attaches F old name (Err (port.Bus refusal.NoInterface)) new = IsFirstNamed old.buses name None × (new ≡ old)
+Attaches F old name (Err (port.Bus refusal.NoMemory)) new = SomeNamed old.buses name × (new ≡ old)
+Attaches F old name (Err port.TooManyPasses) new = SomeNamedFull F old.buses name × (new ≡ old)
+Attaches F old name (Err _) new = ⊥
 
 -- a gauge returns the error counters that it now knows as the last published of an interface, and knows no less than
 -- before; of an interface that its meter has not it returns 0/0
@@ -106,29 +109,29 @@ abbrev pub TellsCounters : Option EnteredSeen → ℕ → ErrorCounts → Option
 TellsCounters None iface answer new = (answer ≡ at_start) × (new ≡ None)
 TellsCounters (Some old) iface answer new = (gauge : Readings) × GaugeTells old.gauge iface answer gauge × (new ≡ Some (record old { gauge = gauge }))
 
--- counts that a socket with this number has in some history of a bus (which history is not said); where no bus was
--- entered, it is not open
-abbrev pub CountsSocket : Option EnteredSeen → ℕ → Option SocketStats → Type 0
-CountsSocket None socket answer = answer ≡ None
-CountsSocket (Some e) socket answer = (bus : Journal) × (answer ≡ socket_stats_of bus.config bus.history socket)
+-- counts that a socket with this number has in some state of the station that was entered (which is not said); where
+-- none was, it is not open
+abbrev pub CountsSocket : Type 0 → Option EnteredSeen → ℕ → Option SocketStats → Type 0
+CountsSocket F None socket answer = answer ≡ None
+CountsSocket F (Some e) socket answer = InSome F e.number (λ held. answer ≡ socket_stats_of held.journal.config held.journal.history socket)
 
--- counts that this interface has in some history of a bus (which is not said); where no bus was entered, there is no
--- such interface
-abbrev pub CountsIface : Option EnteredSeen → ℕ → Option IfaceStats → Type 0
-CountsIface None iface answer = answer ≡ None
-CountsIface (Some e) iface answer = (bus : Journal) × (answer ≡ iface_stats_of bus.config bus.history iface)
+-- counts that this interface has in some state of the station that was entered (which is not said); where none was,
+-- there is no such interface
+abbrev pub CountsIface : Type 0 → Option EnteredSeen → ℕ → Option IfaceStats → Type 0
+CountsIface F None iface answer = answer ≡ None
+CountsIface F (Some e) iface answer = InSome F e.number (λ held. answer ≡ iface_stats_of held.journal.config held.journal.history iface)
 
--- a call on a port over a pass
-abbrev pub PassStep : PortSeen → (call : Call) → CallReply call → PortSeen → Type 0
-PassStep old (Attach name) answer new = Attaches old name answer new
-PassStep old (Open iface asked) answer new = OnPort reply.Opened old (event.Open iface (room_in old.buses old.entered)) answer new
-PassStep old (Close socket) answer new = OnPort reply.Closed old (event.Close socket) answer new
-PassStep old (SetFilters socket filters) answer new = OnPort done_reply old (event.SetFilters socket filters) answer new
-PassStep old (SetOption socket option) answer new = OnPort done_reply old (event.SetOption socket option) answer new
-PassStep old (Send socket frame) answer new = OnPort reply.Sent old (event.Send socket frame) answer new
-PassStep old (Receive socket) answer new = OnPort reply.Received old (event.Receive socket) answer new
-PassStep old (Restart iface moment) answer new = OnPort done_reply old (event.Restart iface moment) answer new
-PassStep old (Attempt moment verdict) answer new = OnPort told_attempt old (event.Attempt moment verdict) answer new
-PassStep old (CountsOfSocket socket) answer new = CountsSocket old.entered socket.0 answer × (new ≡ old)
-PassStep old (CountsOfIface iface) answer new = CountsIface old.entered iface answer × (new ≡ old)
-PassStep old (CountersOfIface iface) answer new = TellsCounters old.entered iface answer new.entered × (new.buses ≡ old.buses)
+-- a call on a port over a pass of a station whose verdicts come from an F
+abbrev pub PassStep : Type 0 → PortSeen → (call : Call) → CallReply call → PortSeen → Type 0
+PassStep F old (Attach name) answer new = Attaches F old name answer new
+PassStep F old (Open iface asked) answer new = OnPort reply.Opened old (event.Open iface (room_in old.buses old.entered)) answer new
+PassStep F old (Close socket) answer new = OnPort reply.Closed old (event.Close socket) answer new
+PassStep F old (SetFilters socket filters) answer new = OnPort done_reply old (event.SetFilters socket filters) answer new
+PassStep F old (SetOption socket option) answer new = OnPort done_reply old (event.SetOption socket option) answer new
+PassStep F old (Send socket frame) answer new = OnPort reply.Sent old (event.Send socket frame) answer new
+PassStep F old (Receive socket) answer new = OnPort reply.Received old (event.Receive socket) answer new
+PassStep F old (Restart iface moment) answer new = OnPort done_reply old (event.Restart iface moment) answer new
+PassStep F old (Attempt moment verdict) answer new = OnPort told_attempt old (event.Attempt moment verdict) answer new
+PassStep F old (CountsOfSocket socket) answer new = CountsSocket F old.entered socket.0 answer × (new ≡ old)
+PassStep F old (CountsOfIface iface) answer new = CountsIface F old.entered iface answer × (new ≡ old)
+PassStep F old (CountersOfIface iface) answer new = TellsCounters old.entered iface answer new.entered × (new.buses ≡ old.buses)

@@ -1,6 +1,6 @@
 //! The guests of a server: the connections of the sessions at work.
-ghost use Rattle.std.specs.Prelude.{◌≡◌, ℕ, IfOk, IsTrue, ◌↔◌, Any, map, option_map, MatchOption, None, false, true, not, replicate, set};
-ghost use Rattle.can_server.specs.Guests.{Admits, IsFree, IsShutOut, asked_for_room, is_idle, raw, raw_at};
+ghost use Rattle.std.specs.Prelude.{◌≡◌, IfOk, IsTrue, ◌↔◌, Any, option_map, MatchOption, None, true, not, set};
+ghost use Rattle.can_server.specs.Guests.{Admits, IsFree, IsShutOut, NoneFree, all_asked, asked_for_room, is_idle, no_guests, raw_at};
 
 use crate::conns::Conn;
 use can_frame::Moment;
@@ -75,7 +75,7 @@ impl Model for Guests {
 impl Guests {
     /// Nobody is there. It takes the room for all.
     pub fn new(alloc: Global) -> Result<Guests, AllocError>
-        ensures { IfOk result (λ g. g ≡ record { places = replicate 64 None; is_closed = false }) }
+        ensures { IfOk result (λ guests. guests ≡ no_guests) }
     {
         let mut places = Vec::with_capacity(alloc, MOST_AT_ONCE)?;
         for _ in 0..MOST_AT_ONCE {
@@ -116,7 +116,7 @@ impl Guests {
 
     // A place that is free.
     fn free_place(&self) -> Option<usize>
-        ensures { MatchOption result ((place : ℕ) → ¬ IsFree self.now.places place) (λ place. IsFree self.now.places place) }
+        ensures { MatchOption result (NoneFree self.now.places) (λ place. IsFree self.now.places place) }
     {
         for place in 0..self.places.len() {
             if self.places[place].is_none() {
@@ -128,7 +128,7 @@ impl Guests {
 
     /// The session of the guest at this place is raw: it keeps the place for as long as it likes.
     pub fn keep(&mut self, place: usize)
-        ensures { self.new ≡ record { places = raw_at self.old.places place; is_closed = self.old.is_closed } }
+        ensures { self.new ≡ record self.old { places = raw_at self.old.places place } }
     {
         if place < self.places.len() {
             if let Some(guest) = &mut self.places[place] {
@@ -141,7 +141,7 @@ impl Guests {
     /// or earlier and whose sessions have not been raw. Whether a place is about to get free, that of a guest that is
     /// shut out.
     pub fn make_room(&mut self, now: Moment) -> bool
-        ensures guests { self.new ≡ record { places = map (option_map (asked_for_room now)) self.old.places; is_closed = self.old.is_closed } }
+        ensures guests { self.new ≡ record self.old { places = all_asked now self.old.places } }
         ensures soon { IsTrue result ↔ Any IsShutOut self.new.places }
     {
         for place in 0..self.places.len() {
@@ -152,7 +152,7 @@ impl Guests {
 
     /// Frees a place.
     pub fn leave(&mut self, place: usize)
-        ensures { self.new ≡ record { places = set self.old.places place None; is_closed = self.old.is_closed } }
+        ensures { self.new ≡ record self.old { places = set self.old.places place None } }
     {
         if place < self.places.len() {
             self.places[place] = None;
@@ -169,7 +169,7 @@ impl Guests {
     /// Lets nobody in from now on, and shuts all connections down: whether it was open before.
     pub fn close(&mut self) -> bool
         ensures was_open { result ≡ not self.old.is_closed }
-        ensures closed { self.new ≡ record { places = self.old.places; is_closed = true } }
+        ensures closed { self.new ≡ record self.old { is_closed = true } }
     {
         let was_open = !self.is_closed;
         self.is_closed = true;

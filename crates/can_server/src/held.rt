@@ -53,22 +53,23 @@ impl<'p, 'a, N: RollName + MeterName, F: FaultSource + Drop, G: Gate + Drop, R: 
     }
 }
 
-/// The hold that was taken of this station; where there is none, it takes the lock.
-fn hold_of<'a, N: RollName + MeterName, F: FaultSource + Drop, G: Gate + Drop, R: Wait>(
+/// The hold of this station. Where there is none it takes the lock, after a hold of another station is dropped.
+fn hold_of<'h, 'a, N: RollName + MeterName, F: FaultSource + Drop, G: Gate + Drop, R: Wait>(
     rt: &R,
     station: &'a Station<N, F, G>,
-    taken: Option<Hold<'a, N, F, G>>,
-) -> Hold<'a, N, F, G>
-    ensures { result.number ≡ station.now }
+    taken: &'h mut Option<Hold<'a, N, F, G>>,
+) -> &'h mut Hold<'a, N, F, G>
+    ensures { result.now.number ≡ station.now }
 {
-    let Some(hold) = taken else {
-        return station.lock(rt);
+    let is_own = match taken {
+        Some(hold) => hold.number() == station.number(),
+        None => false,
     };
-    if hold.number() == station.number() {
-        return hold;
+    if !is_own {
+        *taken = None;
+        *taken = Some(station.lock(rt));
     }
-    drop(hold);
-    station.lock(rt)
+    taken.as_mut().unwrap()
 }
 
 /// Whether an event may be made in one hold with others: it is a send or a receive.
@@ -82,7 +83,7 @@ impl<'p, 'a, N: RollName + MeterName, F: FaultSource + Drop, G: Gate + Drop, R: 
     for HeldPort<'p, 'a, N, F, G, R> {
     ghost use Rattle.can_server.specs.PassSteps.{PassStep};
 
-    ghost step = { PassStep };
+    ghost step = { PassStep F };
 
     fn call(&mut self, event: Event) -> Result<Reply, PortRefusal> {
         if !is_shared(&event) {
@@ -93,10 +94,8 @@ impl<'p, 'a, N: RollName + MeterName, F: FaultSource + Drop, G: Gate + Drop, R: 
         let Some(entered) = &mut port.entered else {
             return Err(PortRefusal::Bus(Refusal::NoSocket));
         };
-        let mut hold = hold_of(port.rt, entered.station, self.hold.take());
-        let outcome = hold.call(port.alloc, &mut entered.pass, event);
-        self.hold = Some(hold);
-        pass_on(outcome)
+        let hold = hold_of(port.rt, entered.station, &mut self.hold);
+        pass_on(hold.call(port.alloc, &mut entered.pass, event))
     }
 
     // The call that a session makes most, without an event and a reply between.
@@ -105,10 +104,8 @@ impl<'p, 'a, N: RollName + MeterName, F: FaultSource + Drop, G: Gate + Drop, R: 
         let Some(entered) = &mut port.entered else {
             return Err(PortRefusal::Bus(Refusal::NoSocket));
         };
-        let mut hold = hold_of(port.rt, entered.station, self.hold.take());
-        let outcome = hold.receive_into(port.alloc, &mut entered.pass, socket, room);
-        self.hold = Some(hold);
-        pass_on(outcome)
+        let hold = hold_of(port.rt, entered.station, &mut self.hold);
+        pass_on(hold.receive_into(port.alloc, &mut entered.pass, socket, room))
     }
 
     fn attach(&mut self, name: &[u8]) -> Result<Iface, PortRefusal> {

@@ -154,7 +154,7 @@ impl<'a, N: RollName + MeterName, F: FaultSource + Drop, G: Gate + Drop, R: Wait
     for PassPort<'a, N, F, G, R> {
     ghost use Rattle.can_server.specs.PassSteps.{PassStep};
 
-    ghost step = { PassStep };
+    ghost step = { PassStep F };
 
     fn call(&mut self, event: Event) -> Result<Reply, PortRefusal> {
         let Some(entered) = &mut self.entered else {

@@ -1,4 +1,4 @@
-use Rattle.std.specs.Prelude.{ℕ, Bool, List, [], ◌∷◌, ◌++◌, if◌then◌else◌}
+use Rattle.std.specs.Prelude.{◌≡◌, ◌<◌, ◌≤◌, ℕ, Bool, List, [], ◌∷◌, ◌++◌, length, if◌then◌else◌}
 use Rattle.can_event.specs.declared.events.Entry.{Entry}
 use Rattle.can_event.specs.declared.events.Event.{Event}
 use Rattle.can_event.specs.declared.events.Reply.{Reply}
@@ -6,7 +6,7 @@ use Rattle.can_event.specs.Replies.{enters}
 use Rattle.can_bus.specs.Journal.{Journal}
 use Rattle.can_bus.specs.Run.{history_after}
 use Rattle.can_roll.specs.Lists.{added, entry}
-use Rattle.can_roll.specs.Seen.{SlipSeen}
+use Rattle.can_roll.specs.Seen.{SlipSeen, slip_seen}
 
 -- What a station keeps under its lock (own).
 
@@ -43,3 +43,13 @@ slip_after e r s = record { number = s.number; pass = s.pass; calls = history_af
 -- with one pass more, which has made no call
 abbrev pub with_pass : {F : Type 0} → Held F → Held F
 with_pass h = record h { lists = h.lists ++ [] ∷ [] }
+
+-- no pass is left: 4,096 have entered
+abbrev pub NoPassLeft : {F : Type 0} → Held F → Type 0
+NoPassLeft h = 4096 ≤ length h.lists
+
+-- the next pass enters, numbered from 0, with this slip
+pub record HasEntered {F : Type 0} (old : Held F) (slip : SlipSeen) (new : Held F) : Type 0 where
+  pub left : length old.lists < 4096
+  pub next : slip ≡ slip_seen old.number (length old.lists) []
+  pub after : new ≡ with_pass old

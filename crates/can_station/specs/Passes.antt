@@ -1,4 +1,4 @@
-use Rattle.std.specs.Prelude.{◌≡◌, ℕ, ◌+◌, ◌<◌, ◌⊎◌, true, List, length, map, All, Result, Ok, Err}
+use Rattle.std.specs.Prelude.{◌≡◌, ℕ, ◌+◌, ◌<◌, ◌⊎◌, true, List, [], length, map, All, Result, Ok, Err}
 use Rattle.can_event.specs.declared.events.Entry.{Entry}
 use Rattle.can_event.specs.declared.events.Event.{Event}
 use Rattle.can_event.specs.declared.events.Event.TheVariants as event
@@ -16,7 +16,7 @@ use Rattle.can_fault.specs.Sources.{VerdictMap, verdict_in}
 use Rattle.can_packed.specs.Records.{ListedEntries}
 pub use Rattle.can_event.specs.Replies.{Suits}
 use Rattle.can_roll.specs.Lists.{row, Distinct, AllBelow}
-use Rattle.can_station.specs.Held.{Held, held_after}
+use Rattle.can_station.specs.Held.{Held, NoPassLeft, held_after}
 use Rattle.can_station.specs.Marks.{marked}
 use Rattle.can_station.specs.declared.refusals.StationRefusal.{StationRefusal}
 use Rattle.can_station.specs.declared.refusals.StationRefusal.TheVariants as station
@@ -28,6 +28,10 @@ pub record PassSeen : Type 0 where
   pub number : ℕ
   pub pass : ℕ
   pub calls : List Entry
+
+-- a pass with which no call was made
+abbrev pub new_pass : ℕ → ℕ → PassSeen
+new_pass number pass = record { number = number; pass = pass; calls = [] }
 
 -- after a call: it is noted with its reply, unless the record was full or memory was refused
 abbrev pub pass_after : Event → Reply → PassSeen → PassSeen
@@ -92,6 +96,14 @@ next_attempt verdicts held moment = event.Attempt moment (verdict_in (verdicts h
 -- some state of the station with this number
 abbrev pub InSome : (F : Type 0) → ℕ → (Held F → Type 0) → Type 0
 InSome F number P = (held : Held F) × (held.number ≡ number) × P held
+
+-- the pass that enters next in some state of the station
+abbrev pub IsNewPass : (F : Type 0) → ℕ → PassSeen → Type 0
+IsNewPass F number p = InSome F number (λ held. (length held.lists < 4096) × (p ≡ new_pass number (length held.lists)))
+
+-- in some state of the station no pass is left
+abbrev pub HadNoPassLeft : (F : Type 0) → ℕ → Type 0
+HadNoPassLeft F number = InSome F number (λ held. NoPassLeft held)
 
 -- what a call returns is the result in some state of the station, unless memory is refused or the pass is another's
 abbrev pub Answered : (F : Type 0) {A : Type 0} → (A → Reply) → ℕ → Event → Result A StationRefusal → Type 0

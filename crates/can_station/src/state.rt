@@ -7,8 +7,8 @@ ghost use Rattle.can_bus.specs.Run.{IsAnswer};
 ghost use Rattle.can_bus.specs.Transmit.{tape};
 ghost use Rattle.can_event.specs.declared.events.Event.TheVariants as event;
 ghost use Rattle.can_meter.specs.Readings.{readings};
-ghost use Rattle.can_roll.specs.Seen.{roll_seen, slip_seen};
-ghost use Rattle.can_station.specs.Held.{held_after, lists_after, marks_after, slip_after, with_pass};
+ghost use Rattle.can_roll.specs.Seen.{roll_seen};
+ghost use Rattle.can_station.specs.Held.{HasEntered, NoPassLeft, held_after, lists_after, marks_after, slip_after};
 ghost use Rattle.can_station.specs.Marks.{IsMarked};
 ghost use Rattle.can_station.specs.Passes.{AllOf, IsAnsweredIn, SomeOther, Settles, Suits};
 ghost use Rattle.can_station.specs.Published.{AllTrue, GaugesOf, SomeOtherGauge, IsPublished};
@@ -121,8 +121,8 @@ impl<N: RollName + MeterName, F: FaultSource + Drop> StationState<N, F> {
 
     /// The next pass, numbered from 0, which has made no call. `TooManyPasses` exactly where there are 4,096.
     pub fn enter(&mut self) -> Result<Slip<N>, TooManyPasses>
-        ensures ok { IfOk result (λ s. (s ≡ slip_seen self.old.number (length self.old.lists) []) × (self.new ≡ with_pass self.old) × (length self.old.lists < 4096)) }
-        ensures err { OnErr result ((self.new ≡ self.old) × (4096 ≤ length self.old.lists)) }
+        ensures ok { IfOk result (λ slip. HasEntered self.old slip self.new) }
+        ensures err { OnErr result (NoPassLeft self.old × (self.new ≡ self.old)) }
     {
         if self.roll.passes() >= MAX_PASSES {
             return Err(TooManyPasses);

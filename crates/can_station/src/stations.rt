@@ -1,7 +1,7 @@
-ghost use Rattle.std.specs.Prelude.{◌≡◌, ◌<◌, ◌≤◌, ◌⊎◌, [], IfOk, MatchResult, ◌↔◌};
+ghost use Rattle.std.specs.Prelude.{◌≡◌, ◌<◌, ◌≤◌, ◌⊎◌, IfOk, OnErr, MatchResult, ◌↔◌};
 ghost use Rattle.std.specs.Sync.Mutex.{mutex_guard_value};
 ghost use Rattle.can_event.specs.Events.{IsConfig};
-ghost use Rattle.can_station.specs.Passes.{AllOf, SomeOther, Settles, Suits, Answered, Called, Stepped, same};
+ghost use Rattle.can_station.specs.Passes.{AllOf, HadNoPassLeft, IsNewPass, SomeOther, Settles, Suits, Answered, Called, Stepped, same};
 ghost use Rattle.can_station.specs.Published.{AllTrue, GaugesOf, SomeOtherGauge};
 
 use crate::attempts::attempt_in;
@@ -152,9 +152,11 @@ impl<N: RollName + MeterName, F: FaultSource + Drop, G: Gate + Drop> Station<N, 
         }
     }
 
-    /// The next pass, with which no call was made. Passes are numbered from 0; `TooManyPasses` from the 4,097th on.
+    /// The next pass, with which no call was made. Passes are numbered from 0; `TooManyPasses` exactly from the 4,097th
+    /// on.
     pub fn enter<R: Wait>(&self, rt: &R, alloc: Global) -> Result<Pass<N>, TooManyPasses>
-        ensures { IfOk result (λ p. p ≡ record { number = self.now; pass = p.pass; calls = [] }) }
+        ensures ok { IfOk result (λ pass. IsNewPass F self.now pass) }
+        ensures err { OnErr result (HadNoPassLeft F self.now) }
     {
         let slip = self.hold(rt).enter()?;
         Ok(Pass {
