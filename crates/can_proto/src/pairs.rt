@@ -1,8 +1,8 @@
 //! Data and identifiers in their usual form: words of as many digits as they can have, with one space after each.
-ghost use Rattle.std.specs.Prelude.{◌≡◌, ◌≤◌, ◌<◌, ◌∷◌, [], Ok, take, length, MatchOption, IfOk, IfSome};
+ghost use Rattle.std.specs.Prelude.{◌≡◌, ◌≤◌, ◌<◌, ◌∷◌, [], Ok, take, length, ok_or, MatchOption, IfSome};
 ghost use Rattle.can_proto.specs.Words.{IsSolid, words_of};
 ghost use Rattle.can_frame.specs.Numbers.{hex_digit, number_in};
-ghost use Rattle.can_proto.specs.Commands.{Gives, bytes_of, id_of};
+ghost use Rattle.can_proto.specs.Commands.{bytes_of, id_of};
 
 use crate::faults::ProtoFault;
 use can_frame::CanId;
@@ -58,19 +58,19 @@ pub fn byte_of(high: u8, low: u8) -> Option<u8>
 /// The identifier of three hexadecimal digits.
 #[inline(always)]
 #[tactic(auto, unfolding(crate::specs::Commands::id_of))]
-pub fn short_id(high: u8, middle: u8, low: u8) -> Result<CanId, ProtoFault>
-    ensures value { Gives result (id_of (high ∷ middle ∷ low ∷ [])) }
-    ensures solid { IfOk result (λ _. IsSolid high × IsSolid middle × IsSolid low) }
+pub fn short_id(high: u8, middle: u8, low: u8) -> Option<CanId>
+    ensures value { id_of (high ∷ middle ∷ low ∷ []) ≡ ok_or result ProtoFault.BadId }
+    ensures solid { IfSome result (λ _. IsSolid high × IsSolid middle × IsSolid low) }
 {
     let high = digit_or_64(high);
     let middle = digit_or_64(middle);
     let low = digit_or_64(low);
     if high + middle + low >= NO_DIGIT {
-        return Err(ProtoFault::BadId);
+        return None;
     }
     match CanId::standard(u16::from(high) * 256 + u16::from(middle * 16 + low)) {
-        Ok(id) => Ok(id),
-        Err(_) => Err(ProtoFault::BadId),
+        Ok(id) => Some(id),
+        Err(_) => None,
     }
 }
 

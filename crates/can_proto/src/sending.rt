@@ -1,4 +1,4 @@
-ghost use Rattle.std.specs.Prelude.{IsTrue, ◌≡◌, ◌==◌, ◌≤◌, ◌+◌, true, Ok, Err, length, take, IfOk, IfErr, IfSome};
+ghost use Rattle.std.specs.Prelude.{IsTrue, ◌≡◌, ◌==◌, ◌≤◌, ◌+◌, true, Ok, Err, length, take, ok_or, IfOk, IfErr, IfSome};
 ghost use Rattle.can_frame.specs.Frames.{is_fd_length};
 ghost use Rattle.can_frame.specs.Numbers.{number_in};
 ghost use Rattle.can_proto.specs.Words.{words_of};
@@ -13,37 +13,39 @@ use crate::words::{has_words, next_word};
 use can_frame::{CanId, Frame, is_fd_length, read_decimal, read_hexadecimal};
 
 /// An identifier of 8 digits (29 bits) or of 1 to 3 (11 bits).
-#[tactic(auto, unfolding(crate::specs::Commands::id_of))]
 fn read_id(word: &[u8]) -> Result<CanId, ProtoFault>
     ensures { Gives result (id_of word.now) }
+{
+    id_in(word).ok_or(ProtoFault::BadId)
+}
+
+/// The same, or nothing.
+#[tactic(auto, unfolding(crate::specs::Commands::id_of))]
+fn id_in(word: &[u8]) -> Option<CanId>
+    ensures { id_of word.now ≡ ok_or result ProtoFault.BadId }
 {
     match word {
         [low] => short_id(b'0', b'0', *low),
         [middle, low] => short_id(b'0', *middle, *low),
         [high, middle, low] => short_id(*high, *middle, *low),
         _ if word.len() == 8 => long_id(word),
-        _ => Err(ProtoFault::BadId),
+        _ => None,
     }
 }
 
-/// An identifier of 8 digits.
+/// The same of 8 digits.
 #[tactic(auto, unfolding(crate::specs::Commands::id_of))]
-fn long_id(word: &[u8]) -> Result<CanId, ProtoFault>
+fn long_id(word: &[u8]) -> Option<CanId>
     requires { length word.now ≡ 8 }
-    ensures { Gives result (id_of word.now) }
+    ensures { id_of word.now ≡ ok_or result ProtoFault.BadId }
 {
-    let Some(number) = read_hexadecimal(word, 8) else {
-        return Err(ProtoFault::BadId);
-    };
+    let number = read_hexadecimal(word, 8)?;
     let number = if number < 0x8000_0000 {
         number
     } else {
         number - 0x8000_0000
     };
-    match CanId::extended(number) {
-        Ok(id) => Ok(id),
-        Err(_) => Err(ProtoFault::BadId),
-    }
+    CanId::extended(number).ok()
 }
 
 /// A length of one digit, 0 to 8.
@@ -203,7 +205,7 @@ fn usual_id(text: &[u8]) -> Option<(CanId, &[u8])>
     ensures { IfSome result (λ found. IsFirstId found.0 found.1.now text.now) }
 {
     match text {
-        [high, middle, low, b' ', rest @ ..] => Some((short_id(*high, *middle, *low).ok()?, rest)),
+        [high, middle, low, b' ', rest @ ..] => Some((short_id(*high, *middle, *low)?, rest)),
         _ => usual_long_id(text),
     }
 }
@@ -215,7 +217,7 @@ fn usual_long_id(text: &[u8]) -> Option<(CanId, &[u8])>
     if text.len() < 9 || text[8] != b' ' {
         return None;
     }
-    match long_id(&text[..8]) {
+    match read_id(&text[..8]) {
         Ok(id) => Some((id, &text[9..])),
         Err(_) => None,
     }
