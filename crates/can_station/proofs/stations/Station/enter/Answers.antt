@@ -1,4 +1,4 @@
-use Rattle.std.proofs.Common.{◌≡◌, ◌≤◌, Result, Ok, Err, OnErr, length, ap, sym, ◌∙◌, subst}
+use Rattle.std.proofs.Common.{◌≡◌, Result, Ok, Err, OnErr, length, ap, ◌∙◌}
 use Rattle.can_station.specs.Held.{Held}
 use Rattle.can_station.specs.Passes.{PassSeen, new_pass}
 use Rattle.can_roll.specs.Seen.{SlipSeen}
