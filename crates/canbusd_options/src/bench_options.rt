@@ -1,5 +1,5 @@
 //! The words of bench.
-ghost use Rattle.std.specs.Prelude.{◌≡◌, ◌≢◌, codes, false, IfErr, IfOk, IfSome};
+ghost use Rattle.std.specs.Prelude.{◌≡◌, ◌≢◌, codes, false, IfErr, IfOk, IfSome, IsSome, IsTrue};
 ghost use Rattle.clap.specs.Words.{app_of, rule_of};
 ghost use Rattle.canbusd_options.specs.Help.{RefusesValue};
 ghost use Rattle.canbusd_options.specs.Options.{AreBenchOptions, rows_in};
@@ -56,7 +56,8 @@ pub fn bench_options<'a>(alloc: Global, bench: &ArgMatches<'a>) -> Result<BenchO
 
 // Whether both are given, and are spellings of one path. Links are not followed.
 fn are_one_file(kept: Option<&str>, log: Option<&str>) -> bool
-    ensures { result ≡ false → IfSome kept.entry (λ k. IfSome log.entry (λ l. k.now ≢ l.now)) }
+    ensures apart { result ≡ false → IfSome kept.entry (λ k. IfSome log.entry (λ l. k.now ≢ l.now)) }
+    ensures given { IsTrue result → IsSome kept.entry × IsSome log.entry }
 {
     match (kept, log) {
         (Some(kept), Some(log)) => kept == log || is_spelling_of(kept, log),
