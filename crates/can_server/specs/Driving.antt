@@ -1,5 +1,7 @@
+use Rattle.std.specs.Prelude.{◌≡◌}
 use Rattle.can_frame.specs.Sets.{no_ifaces}
 use Rattle.can_frame.specs.declared.ifaces.IfaceSet.{IfaceSet}
+use Rattle.can_attempt.specs.declared.classes.Class.TheVariants.{NoAck}
 use Rattle.can_event.specs.declared.events.Attempt.{Attempt}
 use Rattle.can_event.specs.declared.events.Attempt.TheVariants as attempt
 
@@ -9,3 +11,8 @@ use Rattle.can_event.specs.declared.events.Attempt.TheVariants as attempt
 abbrev pub off_in : Attempt → IfaceSet
 off_in (attempt.Idle restarted) = no_ifaces
 off_in (attempt.Tried tried) = tried.off
+
+-- it sent no frame and restarted no interface
+abbrev pub IsInVain : Attempt → Type 0
+IsInVain (attempt.Idle restarted) = restarted ≡ no_ifaces
+IsInVain (attempt.Tried tried) = (tried.class ≡ NoAck) × (tried.restarted ≡ no_ifaces)

@@ -4,3 +4,4 @@ pub mod Settling
 pub mod PassSteps
 pub mod Guests
 pub mod Driving
+pub mod Calling

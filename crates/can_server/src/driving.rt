@@ -1,7 +1,8 @@
-ghost use Rattle.std.specs.Prelude.{◌≡◌};
+ghost use Rattle.std.specs.Prelude.{◌≡◌, ◌↔◌, IsTrue, false};
 ghost use Rattle.can_event.specs.Events.{restarted_in};
+ghost use Rattle.can_frame.specs.Sets.{no_ifaces};
 ghost use Rattle.can_bus.specs.Answer.{told_attempt};
-ghost use Rattle.can_server.specs.Driving.{off_in};
+ghost use Rattle.can_server.specs.Driving.{IsInVain, off_in};
 
 use crate::notices::Notice;
 use crate::server::Server;
@@ -144,7 +145,10 @@ impl Changes {
         }
     }
 
-    fn are_some(&self) -> bool {
+    /// Whether an interface changed.
+    fn are_some(&self) -> bool
+        ensures { result ≡ false ↔ (self.now.off ≡ no_ifaces) × (self.now.restarted ≡ no_ifaces) }
+    {
         !self.off.is_empty() || !self.restarted.is_empty()
     }
 
@@ -168,7 +172,9 @@ impl Changes {
 
 /// Whether an attempt neither sent a frame nor restarted an interface. Once all sessions are over, more of these only fill
 /// the record.
-fn is_in_vain(attempt: &Attempt) -> bool {
+fn is_in_vain(attempt: &Attempt) -> bool
+    ensures { IsTrue result ↔ IsInVain attempt.now }
+{
     match attempt {
         Attempt::Idle { restarted } => restarted.is_empty(),
         Attempt::Tried(tried) => tried.class == Class::NoAck && tried.restarted.is_empty(),

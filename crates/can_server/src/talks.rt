@@ -1,3 +1,6 @@
+ghost use Rattle.std.specs.Prelude.{◌≡◌};
+ghost use Rattle.can_server.specs.Calling.{restarted_by};
+
 use crate::conns::{Conn, Out};
 use crate::held::HeldPort;
 use crate::hubs::Hub;
@@ -213,9 +216,11 @@ fn write_out(batch: &mut Vec<u8>, conn: &Conn) -> bool {
 }
 
 /// The interface that a call restarted, if it did.
-fn restart_in(call: &Entry) -> Option<Iface> {
-    match &call.event {
-        Event::Restart(iface, _) if call.reply == Reply::Done => Some(*iface),
+fn restart_in(call: &Entry) -> Option<Iface>
+    ensures { result ≡ restarted_by call.now.event call.now.reply }
+{
+    match (&call.event, &call.reply) {
+        (Event::Restart(iface, _), Reply::Done) => Some(*iface),
         _ => None,
     }
 }
