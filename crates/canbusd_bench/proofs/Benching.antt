@@ -1,4 +1,4 @@
-use Rattle.std.proofs.Common.{◌≡◌, ◌≢◌, ◌↔◌, inl, inr, ℕ, true, List, length, Option, Some, None, Result, Ok, Err, IfNone, IfOk, rules, refl, sym, subst}
+use Rattle.std.proofs.Common.{◌≡◌, ◌≢◌, ◌↔◌, inl, inr, ℕ, true, List, length, Option, Some, None, Result, Ok, Err, IfErr, IfNone, IfOk, rules, refl, sym, subst}
 use Rattle.std.specs.Io.KnownBytes.{Appends, Keeps}
 use Rattle.std.proofs.KnownBytes.{Keeps-refl}
 use Rattle.can_frame.specs.Names.{AreNames, names_in}
@@ -104,3 +104,7 @@ benched outer contents o input v w old behind flushed new r named seen run =
 pub if_none : {A : Type 0} (r : Option A) (P Q : Type 0) → IfNone r P → (P → Q) → IfNone r Q
 if_none None P Q p f = f p
 if_none (Some a) P Q p f = tt
+
+pub if_err : {A E : Type 0} (r : Result A E) (P Q : E → Type 0) → IfErr r P → ((e : E) → P e → Q e) → IfErr r Q
+if_err (Ok a) P Q p f = tt
+if_err (Err e) P Q p f = f e p

@@ -1,4 +1,4 @@
-use Rattle.std.specs.Prelude.{◌≡◌, ℕ, true, List, length, Option, Result, Ok, Err}
+use Rattle.std.specs.Prelude.{◌≡◌, ◌⊎◌, ℕ, true, List, length, Option, option_map, Result, Ok, Err}
 use Rattle.std.specs.Io.KnownBytes.{Keeps}
 use Rattle.can_frame.specs.Names.{AreNames, names_in}
 use Rattle.can_fault.specs.Sources.{VerdictMap}
@@ -11,6 +11,7 @@ use Rattle.can_session.specs.Benches.{BenchState}
 use Rattle.can_session.specs.Runs.{IsBench, IsRecordOf, Ends, at_start}
 use Rattle.canbusd_options.specs.declared.bench_options.BenchOptions.{BenchOptions}
 use Rattle.canbusd_files.specs.Buses.{AreVerdicts, config_of}
+use Rattle.canbusd_files.specs.Files.{IsOfSource}
 use Rattle.canbusd_bench.specs.Refusals.{GrowsQuietly}
 use Rattle.canbusd_faults.specs.declared.faults.Fault.{Fault}
 use Rattle.canbusd_faults.specs.declared.faults.Fault.TheVariants as fault
@@ -30,6 +31,12 @@ abbrev pub StopsBy : {W : Type 0} → (W → Option (List ℕ)) → BenchOptions
 StopsBy contents o names verdicts input out (fault.Bench BadConfig) new = (IsBench names (config_of o.settings (length names)) o.settings.rx_capacity → ⊥) × (new ≡ out)
 StopsBy contents o names verdicts input out (fault.Bench why) new = EndsOver contents verdicts input (begun o names) out (Err why) new
 StopsBy contents o names verdicts input out _ new = ⊥
+
+-- how a run that options describe ends in a fault of its script, before anything was written, or over the verdicts of one
+abbrev pub FailsBy : {W : Type 0} → (W → Option (List ℕ)) → BenchOptions → List (List ℕ) → Option (List ℕ) → W → Fault → W → Type 0
+FailsBy contents o names input out why new =
+    (IsOfSource (option_map (λ path. path.now) o.bus.script) names why × (new ≡ out))
+    ⊎ ((verdicts : VerdictMap) × AreVerdicts o.bus.script names verdicts × StopsBy contents o names verdicts input out why new)
 
 -- a run that options describe came to its end, with these names and this record
 pub record IsRun {W : Type 0} (contents : W → Option (List ℕ)) (o : BenchOptions) (names : List (List ℕ)) (input : Option (List ℕ)) (old : W) (r : Kept) (new : W) : Type 0 where

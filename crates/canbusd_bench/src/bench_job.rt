@@ -1,7 +1,7 @@
 ghost use Rattle.std.specs.Prelude.{◌≡◌, IfErr, IfNone, IfOk, IfSome, Ok, OnOk};
 ghost use Rattle.can_bus.specs.Legal.{IsLegal};
 ghost use Rattle.canbusd_faults.specs.declared.faults.Fault.TheVariants as fault;
-ghost use Rattle.canbusd_bench.specs.Benched.{EndsOver, IsBenched, IsRun, StopsBy, begun};
+ghost use Rattle.canbusd_bench.specs.Benched.{EndsOver, FailsBy, IsBenched, IsRun, StopsBy, begun};
 
 use crate::input_notes::input_note;
 use crate::recent::Recent;
@@ -129,7 +129,8 @@ fn run_scripted<'a, H: Files, R: Read + Drop, W: Write>(
     output: &mut W,
     unheard: &mut Unheard,
 ) -> Result<Record, Failure<'a>>
-    ensures { IfOk result (λ r. IsRun W.contents options.entry names (R.remaining input) output.old r output.new) }
+    ensures run { IfOk result (λ r. IsRun W.contents options.entry names (R.remaining input) output.old r output.new) }
+    ensures fault { IfErr result (λ failure. FailsBy W.contents options.entry names (R.remaining input) output.old failure.fault output.new) }
 {
     let source = read_source(rt, alloc, options.bus, &names)?;
     run_on(alloc, options, names, source, input, output, unheard)

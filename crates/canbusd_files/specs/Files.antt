@@ -1,10 +1,44 @@
+use Rattle.std.specs.Prelude.{◌≡◌, ◌⊎◌, ℕ, List, Option, Some, None, Err}
+use Rattle.can_fault.specs.declared.scripts.ScriptError.{ScriptError}
+use Rattle.can_fault.specs.declared.scripts.ScriptError.TheVariants as script
+use Rattle.can_fault.specs.Scripts.{Reads as Spells}
+use Rattle.can_frame.specs.Names.{AreNames, names_in}
 use Rattle.canbusd_faults.specs.declared.faults.Fault.{Fault}
 use Rattle.canbusd_faults.specs.declared.faults.Fault.TheVariants as fault
 
--- What is reported of a file that cannot be read (own choice).
+-- What is reported of names, files and scripts that cannot be read (own choice).
 
 -- a fault of reading or of memory
 abbrev pub IsOfReading : Fault → Type 0
 IsOfReading fault.Read = Unit {0}
 IsOfReading fault.NoMemory = Unit {0}
 IsOfReading why = ⊥
+
+-- a fault of the file with this path: it cannot be opened or read, or memory was refused
+abbrev pub IsOfFile : List ℕ → Fault → Type 0
+IsOfFile path (fault.CannotOpen named) = named.now ≡ path
+IsOfFile path why = IsOfReading why
+
+-- a fault of names: they are none that a bus may have, or they are, and memory was refused
+abbrev pub IsOfNames : List ℕ → Fault → Type 0
+IsOfNames text fault.BadNames = AreNames (names_in text) → ⊥
+IsOfNames text fault.NoMemory = AreNames (names_in text)
+IsOfNames text why = ⊥
+
+-- how a fault of a script is reported
+abbrev pub fault_of : ScriptError → Fault
+fault_of script.NoMemory = fault.NoMemory
+fault_of why = fault.Script why
+
+-- the fault of a text that is no script for a bus with these names
+abbrev pub IsOfScript : List (List ℕ) → List ℕ → Fault → Type 0
+IsOfScript names text why = (error : ScriptError) × (why ≡ fault_of error) × Spells names text (Err error)
+
+-- a fault of a script: of the file with this path, or of a text that it may hold
+abbrev pub IsOfScriptFile : List ℕ → List (List ℕ) → Fault → Type 0
+IsOfScriptFile path names why = IsOfFile path why ⊎ ((text : List ℕ) × IsOfScript names text why)
+
+-- a fault of the script of a bus: there is none where no script is named
+abbrev pub IsOfSource : Option (List ℕ) → List (List ℕ) → Fault → Type 0
+IsOfSource None names why = ⊥
+IsOfSource (Some path) names why = IsOfScriptFile path names why

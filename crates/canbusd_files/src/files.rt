@@ -1,7 +1,7 @@
 //! The files that the program reads, whose bytes no contract knows.
-ghost use Rattle.std.specs.Prelude.{◌≡◌};
+ghost use Rattle.std.specs.Prelude.{◌≡◌, IfErr};
 ghost use Rattle.canbusd_faults.specs.declared.faults.Fault.TheVariants as fault;
-ghost use Rattle.canbusd_files.specs.Files.{IsOfReading};
+ghost use Rattle.canbusd_files.specs.Files.{IsOfFile, IsOfReading};
 
 use crate::few_reads::{FewReads, MOST_READS};
 use can_session::count_of;
@@ -22,7 +22,9 @@ pub fn open_file<'a, H: Files>(
     rt: &H,
     alloc: Global,
     path: &'a str,
-) -> Result<FewReads<H::File>, Failure<'a>> {
+) -> Result<FewReads<H::File>, Failure<'a>>
+    ensures { IfErr result (λ failure. failure.fault ≡ fault.CannotOpen path.entry) }
+{
     match fs::open(rt, path) {
         Ok(file) => Ok(FewReads::new(alloc, file, MOST_READS)),
         Err(error) => Err(open_failure(alloc, path, &error)),
@@ -30,11 +32,9 @@ pub fn open_file<'a, H: Files>(
 }
 
 /// The text of the file with this path.
-pub fn read_file<'a, H: Files>(
-    rt: &H,
-    alloc: Global,
-    path: &'a str,
-) -> Result<String, Failure<'a>> {
+pub fn read_file<'a, H: Files>(rt: &H, alloc: Global, path: &'a str) -> Result<String, Failure<'a>>
+    ensures { IfErr result (λ failure. IsOfFile path.now failure.fault) }
+{
     let mut file = open_file(rt, alloc, path)?;
     read_text(alloc, path, &mut file)
 }
@@ -44,7 +44,9 @@ pub fn read_text<'a, R: Read>(
     alloc: Global,
     path: &'a str,
     file: &mut R,
-) -> Result<String, Failure<'a>> {
+) -> Result<String, Failure<'a>>
+    ensures { IfErr result (λ failure. IsOfReading failure.fault) }
+{
     let mut bytes = Vec::new(alloc);
     match file.read_to_end(&mut bytes) {
         Ok(_) => text_of(alloc, path, bytes),
@@ -52,7 +54,9 @@ pub fn read_text<'a, R: Read>(
     }
 }
 
-fn text_of<'a>(alloc: Global, path: &str, bytes: Vec<u8>) -> Result<String, Failure<'a>> {
+fn text_of<'a>(alloc: Global, path: &str, bytes: Vec<u8>) -> Result<String, Failure<'a>>
+    ensures { IfErr result (λ failure. failure.fault ≡ fault.Read) }
+{
     String::from_utf8(bytes).map_err(|error| {
         let valid = error.utf8_error().valid_up_to();
         let ends = count_of(
@@ -78,7 +82,9 @@ pub fn utf8_note(
 }
 
 /// How a file or a stream that was not opened is reported.
-pub(crate) fn open_failure<'a>(alloc: Global, path: &'a str, error: &Error) -> Failure<'a> {
+pub(crate) fn open_failure<'a>(alloc: Global, path: &'a str, error: &Error) -> Failure<'a>
+    ensures { result.fault ≡ fault.CannotOpen path.entry }
+{
     Failure::with(
         alloc,
         Fault::CannotOpen(path),

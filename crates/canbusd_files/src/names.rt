@@ -1,7 +1,7 @@
 //! The names of a bus's interfaces, joined by commas as they are given.
 ghost use Rattle.std.specs.Prelude.{◌≡◌, IfErr, IfOk, OnOk};
 ghost use Rattle.can_frame.specs.Names.{AreNames, names_in};
-ghost use Rattle.canbusd_faults.specs.declared.faults.Fault.TheVariants as fault;
+ghost use Rattle.canbusd_files.specs.Files.{IsOfNames};
 
 use can_frame::{Names, NamesError, is_name};
 use canbusd_faults::{Failure, Fault, Shown, fixed_note};
@@ -11,7 +11,7 @@ use std::alloc::{AllocError, Global};
 pub fn read_names<'a>(alloc: Global, names: &str) -> Result<Names, Failure<'a>>
     ensures names { IfOk result (λ n. n ≡ names_in names.now) }
     ensures good { OnOk result (AreNames (names_in names.now)) }
-    ensures bad { IfErr result (λ failure. failure.fault ≡ fault.BadNames → AreNames (names_in names.now) → ⊥) }
+    ensures fault { IfErr result (λ failure. IsOfNames names.now failure.fault) }
 {
     Names::read(alloc, names).map_err(|error| match error {
         NamesError::BadNames => Failure::with(alloc, Fault::BadNames, names_note(alloc, names)),

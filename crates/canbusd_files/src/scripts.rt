@@ -1,6 +1,7 @@
 //! Scripts of faults: a file, and what is reported of a wrong line of it.
-ghost use Rattle.std.specs.Prelude.{List, ℕ, IfOk, Ok};
+ghost use Rattle.std.specs.Prelude.{List, ℕ, IfErr, IfOk, Ok};
 ghost use Rattle.can_fault.specs.Scripts.{Reads as Spells};
+ghost use Rattle.canbusd_files.specs.Files.{IsOfScript, IsOfScriptFile};
 
 use crate::files::read_file;
 use crate::names::has_name;
@@ -18,7 +19,8 @@ pub fn read_script<'a, H: Files>(
     bus: &str,
     names: &Names,
 ) -> Result<Script, Failure<'a>>
-    ensures { IfOk result (λ script. (text : List ℕ) × Spells names.now text (Ok script)) }
+    ensures script { IfOk result (λ script. (text : List ℕ) × Spells names.now text (Ok script)) }
+    ensures fault { IfErr result (λ failure. IsOfScriptFile path.now names.now failure.fault) }
 {
     let text = read_file(rt, alloc, path).map_err(|failure| failure.and(path_note(path)))?;
     script_in(alloc, path, &text, bus, names)
@@ -43,7 +45,8 @@ fn script_in<'a>(
     bus: &str,
     names: &Names,
 ) -> Result<Script, Failure<'a>>
-    ensures { IfOk result (λ script. Spells names.now text.now (Ok script)) }
+    ensures script { IfOk result (λ script. Spells names.now text.now (Ok script)) }
+    ensures fault { IfErr result (λ failure. IsOfScript names.now text.now failure.fault) }
 {
     match Script::read(alloc, text, names) {
         Ok(script) => Ok(script),

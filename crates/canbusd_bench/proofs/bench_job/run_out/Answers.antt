@@ -17,7 +17,7 @@ returns-clause-ran g c =
     let back = c.finish-output.ensures.writer in
     let names = ap (λ r. r.ghost_name) made.writer in
     let same = ap (λ r. r.ghost_name) back in
-    let run = subst (λ n. IsRun outer c.args.options n (g.R.Read.remaining c.args.input) before c.in_ok-record.record after) c.in_ok-names.ensures.names c.in_ok-record.ensures in
+    let run = subst (λ n. IsRun outer c.args.options n (g.R.Read.remaining c.args.input) before c.in_ok-record.record after) c.in_ok-names.ensures.names c.in_ok-record.ensures.run in
     if_none c.finish-output.result.1 _ _ c.finish-output.ensures.none (λ none. benched outer contents c.args.options (g.R.Read.remaining c.args.input) before after c.args.output.now after.writer.now c.flush.new.self _ c.in_ok-record.record c.in_ok-names.ensures.good (record {
       name = before.writer.ghost_name;
       is = after.writer.ghost_name;
