@@ -1,4 +1,4 @@
-use Rattle.std.specs.Prelude.{◌≡◌, ◌<◌, ◌≤◌, ℕ, Bool, List, [], ◌∷◌, ◌++◌, length, Result, if◌then◌else◌}
+use Rattle.std.specs.Prelude.{◌≡◌, ◌<◌, ◌≤◌, ℕ, Bool, false, List, [], ◌∷◌, ◌++◌, length, Result, if◌then◌else◌}
 use Rattle.can_event.specs.declared.events.Entry.{Entry}
 use Rattle.can_event.specs.declared.events.Event.{Event}
 use Rattle.can_event.specs.declared.events.Received.{Received}
@@ -8,7 +8,7 @@ use Rattle.can_event.specs.Replies.{enters, taken_reply, told}
 use Rattle.can_bus.specs.Journal.{Journal}
 use Rattle.can_bus.specs.Run.{history_after}
 use Rattle.can_roll.specs.Lists.{added, entry}
-use Rattle.can_roll.specs.Seen.{SlipSeen, slip_seen}
+use Rattle.can_roll.specs.Seen.{RollSeen, SlipSeen, roll_seen, slip_seen}
 
 -- What a station keeps under its lock (own).
 
@@ -20,9 +20,21 @@ pub record Held (F : Type 0) : Type 0 where
   pub source : F
   pub stopped : Bool
 
+-- a station that nobody has entered
+abbrev pub not_entered : {F : Type 0} → ℕ → Journal → F → Held F
+not_entered number journal source = record { number = number; journal = journal; lists = []; source = source; stopped = false }
+
+-- the same with another source of verdicts
+abbrev pub with_source : {F : Type 0} → F → Held F → Held F
+with_source source h = record h { source = source }
+
 -- the calls of each pass, after a call of pass p
 abbrev pub lists_after : ℕ → Event → Reply → List (List Entry) → List (List Entry)
 lists_after p e r lists = if enters r then added lists p (entry e r) else lists
+
+-- a roll after a call of pass p
+abbrev pub roll_after : ℕ → Event → Reply → RollSeen → RollSeen
+roll_after p e r roll = roll_seen roll.number (lists_after p e r roll.lists) roll.called
 
 -- the marks of the record's entries, the newest first, after a call of pass p
 abbrev pub marks_after : ℕ → Reply → List ℕ → List ℕ

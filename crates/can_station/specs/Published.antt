@@ -1,4 +1,4 @@
-use Rattle.std.specs.Prelude.{◌≡◌, ℕ, suc, ◌==◌, ◌&&◌, ◌<◌, List, [], ◌∷◌, length, All, slice_index_or, Option, Some, None, if◌then◌else◌}
+use Rattle.std.specs.Prelude.{◌≡◌, ℕ, suc, ◌==◌, ◌&&◌, ◌<◌, ◌⊎◌, Bool, List, [], ◌∷◌, length, All, slice_index_or, Option, Some, None, Result, Ok, Err, if◌then◌else◌}
 use mathlib.Core.List.{IsSuffix}
 use Rattle.can_confine.specs.Confinement.{ErrorCounts, at_start}
 use Rattle.can_event.specs.declared.events.BusConfig.{BusConfig}
@@ -9,8 +9,9 @@ use Rattle.can_bus.specs.Counters.{counts_of}
 use Rattle.can_bus.specs.Journal.{Journal}
 use Rattle.can_bus.specs.Stats.{all_counts}
 use Rattle.can_meter.specs.declared.status.Status.{Status}
-use Rattle.can_meter.specs.Publications.{published, Ends}
+use Rattle.can_meter.specs.Publications.{newest, published, Ends}
 use Rattle.can_meter.specs.Readings.{Readings}
+use Rattle.can_station.specs.Passes.{PassSeen, AllOf, SomeOther}
 
 -- What is published of a history: the error counters of each interface, each time that they change (own).
 
@@ -40,6 +41,15 @@ pub record IsPublished (keeper : Readings) (number : ℕ) (j : Journal) : Type 0
   pub ifaces_are : keeper.ifaces ≡ j.config.ifaces
   pub each : (i : ℕ) → i < j.config.ifaces → published keeper.lists i ≡ publications_of j.config j.history i
 
+-- all that a keeper has published is of a record shorter than this
+abbrev pub AllEarlier : Readings → ℕ → Type 0
+AllEarlier keeper at = (i : ℕ) → i < keeper.ifaces → (newest (published keeper.lists i)).at < at
+
+-- a keeper publishes each interface's counters that changed, where an entry was left; else nothing
+abbrev pub Publishes : Bool → Readings → List ErrorCounts → List ErrorCounts → ℕ → Readings → Type 0
+Publishes entered old before after at new =
+    (i : ℕ) → i < old.ifaces → published new.lists i ≡ (if entered then published_after (counts_in before i) (counts_in after i) at (published old.lists i) else published old.lists i)
+
 -- all gauges are of the station with this number
 abbrev pub GaugesOf : ℕ → List Readings → Type 0
 GaugesOf number gauges = All (λ g. g.number ≡ number) gauges
@@ -47,6 +57,11 @@ GaugesOf number gauges = All (λ g. g.number ≡ number) gauges
 -- some gauge is of another station
 abbrev pub SomeOtherGauge : ℕ → List Readings → Type 0
 SomeOtherGauge number gauges = ¬ GaugesOf number gauges
+
+-- passes and gauges are taken back exactly where all are of the station with this number
+abbrev pub TakesBack : {A E : Type 0} → ℕ → List PassSeen → List Readings → Result A E → Type 0
+TakesBack number passes gauges (Ok s) = AllOf number passes × GaugesOf number gauges
+TakesBack number passes gauges (Err e) = SomeOther number passes ⊎ SomeOtherGauge number gauges
 
 -- what each gauge has seen was published by this keeper
 abbrev pub AllSeen : List Readings → Readings → Type 0

@@ -41,6 +41,10 @@ left_of (Some counts) = counts.queued - counts.taken
 abbrev pub waiting_at : Journal → ℕ → ℕ
 waiting_at j s = left_of (socket_stats_of j.config j.history s)
 
+-- a wait for an item of socket s ends with this and with this many items that wait there
+abbrev pub EndsItemWait : {F : Type 0} → Held F → ℕ → Wake × ℕ → Type 0
+EndsItemWait h s woken = (frame_wake h s ≡ Some woken.0) × (woken.1 ≡ waiting_at h.journal s)
+
 -- the counts of socket s and of interface i
 abbrev pub AreCounts : Journal → ℕ → ℕ → Option SocketStats × Option IfaceStats → Type 0
 AreCounts j s i counts = (counts.0 ≡ socket_stats_of j.config j.history s) × (counts.1 ≡ iface_stats_of j.config j.history i)

@@ -1,6 +1,6 @@
 ghost use Rattle.std.specs.Prelude.{◌≡◌, true, false, Some, IfSome, IfNone, is_none};
 ghost use Rattle.can_station.specs.Passes.{InSome};
-ghost use Rattle.can_station.specs.Waits.{AreCounts, frame_wake, has_work, waiting_at, work_wake};
+ghost use Rattle.can_station.specs.Waits.{AreCounts, EndsItemWait, frame_wake, has_work, work_wake};
 
 use crate::gates::{Gate, Point};
 use crate::holds::Hold;
@@ -122,7 +122,7 @@ impl<N: RollName + MeterName, F: FaultSource + Drop, G: Gate + Drop> Station<N, 
     /// Waits as `wait_frame` does, and counts the items that are queued to the socket when it wakes, both of one
     /// moment: at least one where it is `Ready`, none where it is `Closed` or `Stopped`.
     pub fn wait_items<R: Wait>(&self, rt: &R, socket: SocketId) -> (Wake, u64)
-        ensures { InSome F self.now (λ held. (frame_wake held socket.0 ≡ Some result.0) × (result.1 ≡ waiting_at held.journal socket.0)) }
+        ensures { InSome F self.now (λ held. EndsItemWait held socket.0 result) }
     {
         let state = self.items.room(socket).wait_while(
             rt,

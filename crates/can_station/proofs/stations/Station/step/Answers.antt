@@ -16,5 +16,5 @@ pub returns : goal.returns
 returns g c =
     stepped g.F.FaultSource.verdicts c.lock-hold.result _ _ c.args.moment _ c.lock-hold.ensures
     (sym (ap (λ (p : PassSeen). p.number) c.pass.view_is) ∙ cc (c.number.ensures, c.if-self-number.false, c.self.view_is))
-    c.attempt_in.result c.carry_out_step-reply.result c.attempt_in.ensures c.carry_out_step-reply.ensures.answer
-    (ap seen c.carry_out_step-reply.ensures.slip ∙ ap (pass_after (next_attempt g.F.FaultSource.verdicts c.lock-hold.result c.args.moment) c.carry_out_step-reply.result) c.pass.view_is)
+    c.attempt_in.result c.carry_out_step-reply.result c.attempt_in.ensures c.carry_out_step-reply.ensures.stepped.carried.answer
+    (ap seen c.carry_out_step-reply.ensures.stepped.carried.noted ∙ ap (pass_after (next_attempt g.F.FaultSource.verdicts c.lock-hold.result c.args.moment) c.carry_out_step-reply.result) c.pass.view_is)
