@@ -1,6 +1,7 @@
 ghost use Rattle.std.specs.Prelude.{◌≡◌};
 
 mod attempts;
+mod dialogues;
 mod fd_frames;
 mod full_records;
 mod gates;
@@ -13,8 +14,9 @@ mod twins;
 mod waits;
 
 use can_attempt::AckMode;
-use can_bus::{Attempt, BusConfig, Closed, Opt, Received, SocketId};
+use can_bus::{Attempt, BusConfig, Closed, Event, Opt, Received, Reply, SocketId};
 use can_fault::{FaultSource, Script, Verdict};
+use can_filter::FilterSet;
 use can_frame::{CanId, Frame, Iface, IfaceSet, Moment, Names};
 use can_meter::{Gauge, MeterName, Status};
 use can_roll::RollName;
@@ -95,6 +97,13 @@ fn entered<'s, N: RollName + MeterName, F: FaultSource + Drop, G: Gate + Drop, R
     }
 }
 
+fn attempted(attempt: Attempt) -> Reply {
+    match attempt {
+        Attempt::Tried(tried) => Reply::Tried(tried),
+        Attempt::Idle { restarted } => Reply::Idle { restarted },
+    }
+}
+
 /// A caller of a station, with its pass.
 #[derive(Drop)]
 struct Caller<'s, N: RollName + MeterName, F: FaultSource + Drop, G: Gate + Drop, R: Wait + Abort> {
@@ -112,14 +121,15 @@ impl<N: RollName + MeterName, F: FaultSource + Drop, G: Gate + Drop, R: Wait + A
     R,
 > {
     fn open(&mut self, number: u8, capacity: u32) -> SocketId {
-        let iface = iface(self.rt, number);
-        let opened = self
-            .station
-            .open(self.rt, self.alloc, &mut self.pass, iface, capacity);
-        let Ok(socket) = opened else {
+        let Ok(socket) = self.open_on(iface(self.rt, number), capacity) else {
             panic!(self.rt; "no socket");
         };
         socket
+    }
+
+    fn open_on(&mut self, iface: Iface, capacity: u32) -> Result<SocketId, StationRefusal> {
+        self.station
+            .open(self.rt, self.alloc, &mut self.pass, iface, capacity)
     }
 
     fn send(&mut self, socket: SocketId, id: u16) -> Result<u64, StationRefusal> {
@@ -145,15 +155,22 @@ impl<N: RollName + MeterName, F: FaultSource + Drop, G: Gate + Drop, R: Wait + A
     }
 
     fn step(&mut self, micros: u64) -> Result<Attempt, StationRefusal> {
-        let moment = moment(self.rt, micros);
+        self.step_at(moment(self.rt, micros))
+    }
+
+    fn step_at(&mut self, moment: Moment) -> Result<Attempt, StationRefusal> {
         self.station
             .step(self.rt, self.alloc, &mut self.pass, moment)
     }
 
-    fn attempt(&mut self, micros: u64, verdict: Verdict) -> Result<Attempt, StationRefusal> {
-        let moment = moment(self.rt, micros);
+    fn attempt(&mut self, moment: Moment, verdict: Verdict) -> Result<Attempt, StationRefusal> {
         self.station
             .attempt(self.rt, self.alloc, &mut self.pass, moment, verdict)
+    }
+
+    fn set_filters(&mut self, socket: SocketId, filters: &FilterSet) -> Result<(), StationRefusal> {
+        self.station
+            .set_filters(self.rt, self.alloc, &mut self.pass, socket, filters)
     }
 
     fn close(&mut self, socket: SocketId) -> Result<Closed, StationRefusal> {
@@ -166,10 +183,40 @@ impl<N: RollName + MeterName, F: FaultSource + Drop, G: Gate + Drop, R: Wait + A
             .set_option(self.rt, self.alloc, &mut self.pass, socket, option)
     }
 
-    fn restart(&mut self, number: u8, micros: u64) -> Result<(), StationRefusal> {
-        let (iface, moment) = (iface(self.rt, number), moment(self.rt, micros));
+    fn restart(&mut self, iface: Iface, moment: Moment) -> Result<(), StationRefusal> {
         self.station
             .restart(self.rt, self.alloc, &mut self.pass, iface, moment)
+    }
+
+    /// The reply of the call that is named for an event.
+    fn call(&mut self, event: &Event) -> Result<Reply, StationRefusal> {
+        Ok(match event {
+            Event::Open(iface, capacity) => Reply::Opened(self.open_on(*iface, *capacity)?),
+            Event::Close(socket) => Reply::Closed(self.close(*socket)?),
+            Event::SetFilters(socket, filters) => {
+                self.set_filters(*socket, filters)?;
+                Reply::Done
+            }
+            Event::SetOption(socket, option) => {
+                self.set_option(*socket, *option)?;
+                Reply::Done
+            }
+            Event::Send(socket, frame) => Reply::Sent(self.send_frame(*socket, *frame)?),
+            Event::Receive(socket) => Reply::Received(self.receive(*socket)?),
+            Event::Attempt(moment, verdict) => attempted(self.attempt(*moment, *verdict)?),
+            Event::Restart(iface, moment) => {
+                self.restart(*iface, *moment)?;
+                Reply::Done
+            }
+        })
+    }
+
+    /// The same, but for an attempt, which is a step.
+    fn step_of(&mut self, event: &Event) -> Result<Reply, StationRefusal> {
+        match event {
+            Event::Attempt(moment, _) => Ok(attempted(self.step_at(*moment)?)),
+            _ => self.call(event),
+        }
     }
 
     /// How many calls its pass keeps.

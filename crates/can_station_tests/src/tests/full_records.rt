@@ -5,7 +5,6 @@ ghost use Rattle.std.specs.Prelude.{◌≡◌, ◌≤◌};
 use super::*;
 use can_bus::{IfaceStats, Refusal, SocketStats};
 use can_fault::Perfect;
-use can_filter::FilterSet;
 use can_station::Open;
 use std::marker::Brand;
 use std::test::Fail;
@@ -78,20 +77,17 @@ fn count_if_refused<N: RollName + MeterName, R: Wait + Abort>(
 
 /// A step and each of the eight calls find the record full.
 fn finds_it_full<N: RollName + MeterName, R: Wait + Abort>(mut caller: Party<'_, N, R>) {
-    let (rt, alloc, station) = (caller.rt, caller.alloc, caller.station);
-    let socket = SocketId(0);
+    let (rt, socket) = (caller.rt, SocketId(0));
     assert!(rt; caller.step(1) == Err(FULL));
-    assert!(rt; caller.attempt(2, Verdict::Good) == Err(FULL));
+    assert!(rt; caller.attempt(moment(rt, 2), Verdict::Good) == Err(FULL));
     assert!(rt; caller.send(socket, 0x123) == Err(FULL));
     assert!(rt; caller.receive(socket) == Err(FULL));
     assert!(rt; caller.receive_held(socket) == Err(FULL));
     assert!(rt; caller.set_option(socket, Opt::Join(true)) == Err(FULL));
-    assert!(rt; caller.restart(0, 3) == Err(FULL));
+    assert!(rt; caller.restart(iface(rt, 0), moment(rt, 3)) == Err(FULL));
     assert!(rt; caller.close(socket) == Err(FULL));
-    let pass = &mut caller.pass;
-    let none = FilterSet::none(alloc);
-    assert!(rt; station.set_filters(rt, alloc, pass, socket, &none) == Err(FULL));
-    assert!(rt; station.open(rt, alloc, pass, iface(rt, 0), 4) == Err(FULL));
+    assert!(rt; caller.set_filters(socket, &FilterSet::none(caller.alloc)) == Err(FULL));
+    assert!(rt; caller.open_on(iface(rt, 0), 4) == Err(FULL));
     assert!(rt; caller.calls() == 0);
 }
 

@@ -2,6 +2,7 @@
 
 ghost use Rattle.std.specs.Prelude.{◌≡◌};
 
+use super::dialogues::{Dialogue, plays};
 use super::*;
 use can_fault::Perfect;
 use can_station::{Open, WrongStation};
@@ -10,26 +11,18 @@ use std::test::Fail;
 use std::thread::{Threads, join};
 
 /// A fault in the last bit, and the good attempt after it.
-fn last_bit<N: RollName + MeterName, R: Wait + Abort>(rt: &R, alloc: Global, blanks: Blanks)
-    requires { (blanks.roll ≡ N.roll 0) × (blanks.meter ≡ N.meter 0) }
-{
-    let faults = script(rt, alloc, "0 lastbit");
-    let station = made::<N, _, _, _>(rt, alloc, blanks, 0, config(2), faults, Open);
-    let mut gauge = gauge(rt, &station);
-    let mut caller = entered(rt, alloc, &station);
-    assert!(rt; reading(rt, &mut gauge, 0) == (0, 0, 0));
-    let socket = caller.open(0, 4);
-    assert!(rt; caller.send(socket, 0x123) == Ok(0));
-    assert!(rt; reading(rt, &mut gauge, 0) == (0, 0, 0));
-    assert!(rt; matches!(caller.step(1), Ok(Attempt::Tried(_))));
-    assert!(rt; reading(rt, &mut gauge, 0) == (3, 8, 0));
-    assert!(rt; matches!(caller.step(2), Ok(Attempt::Tried(_))));
-    assert!(rt; reading(rt, &mut gauge, 0) == (4, 7, 0));
-    assert!(rt; reading(rt, &mut gauge, 1) == (0, 0, 0));
-    let passes = one(rt, alloc, caller.leave());
-    let settled = settled(rt, station, passes, one(rt, alloc, gauge));
-    assert!(rt; settled.history.len() == 4);
-}
+const LAST_BIT: &str = "canbus record 1
+bus 2 always 0000 10 1000
+? gauge 0 = 0 0 0
+open 0 4 = socket 0
+send 0 123# = number 0
+? gauge 0 = 0 0 0
+step attempt 0.000001 lastbit = tried 0 0 123# lastbit 0002 0000
+? gauge 0 = 3 8 0
+step attempt 0.000002 good = tried 0 0 123# done 0002 0000
+? gauge 0 = 4 7 0
+? gauge 1 = 0 0 0
+end 4";
 
 /// A bus of can0 alone, where nobody acknowledges.
 fn alone() -> BusConfig {
@@ -125,8 +118,8 @@ fn a_gauge_is_had_of_each_of_16_stations(rt: HostRuntime) -> Result<(), Fail> {
 #[test]
 fn a_gauge_reads_the_counters(rt: HostRuntime) -> Result<(), Fail> {
     let blanks = Blanks::new(rt.alloc(), 2)?;
-    last_bit::<Brand, _>(&rt, rt.alloc(), blanks);
-    Ok(())
+    let dialogue = Dialogue::new(rt.alloc(), "0 lastbit", LAST_BIT)?;
+    plays::<Brand, _>(&rt, rt.alloc(), blanks, dialogue)
 }
 
 #[test]

@@ -1,93 +1,38 @@
 // An interface that went bus off comes back by itself in the second attempt after that.
 
-ghost use Rattle.std.specs.Prelude.{◌≡◌};
-
-use super::waits::{Act, Awaited, Party, woken};
+use super::dialogues::{Dialogue, plays};
+use super::waits::going_off;
 use super::*;
-use can_frame::Item;
-use can_station::{Open, Wake};
 use can_test_support::DESTROYED;
 use std::marker::Brand;
 use std::test::Fail;
-use std::thread::Threads;
 
-const NOBODY: Attempt = Attempt::Idle {
-    restarted: IfaceSet(0),
-};
-
-fn restarting() -> BusConfig {
-    BusConfig {
-        auto_restart: 2,
-        ..config(2)
-    }
-}
-
-/// Opens a socket on can0 that is told of restarts alone, and sends a frame, which takes can0 off: 35 calls.
-fn goes_off<N: RollName + MeterName, R: Wait + Abort>(caller: &mut Party<'_, N, R>) -> SocketId {
-    let rt = caller.rt;
-    let sender = caller.open(0, 4);
-    assert!(rt; caller.set_option(sender, Opt::ErrMask(0x100)).is_ok());
-    assert!(rt; caller.send(sender, 0x123) == Ok(0));
-    for micros in 1..=32 {
-        assert!(rt; matches!(caller.step(micros), Ok(Attempt::Tried(_))));
-    }
-    sender
-}
-
-/// There is work while can0 counts towards its restart, and none after it. The restart wakes who waits for an item, and
-/// a gauge reads it.
-fn comes_back<N: RollName + MeterName + Send + Sync, R: Threads + Wait + Abort + Clock + Sync>(
-    rt: &R,
-    alloc: Global,
-    blanks: Blanks,
-)
-    requires { (blanks.roll ≡ N.roll 0) × (blanks.meter ≡ N.meter 0) }
-{
-    let faults = script(rt, alloc, DESTROYED);
-    let station = made::<N, _, _, _>(rt, alloc, blanks, 0, restarting(), faults, Open);
-    let mut gauge = gauge(rt, &station);
-    let mut caller = entered(rt, alloc, &station);
-    let sender = goes_off(&mut caller);
-    assert!(rt; reading(rt, &mut gauge, 0) == (35, 256, 0));
-    assert!(rt; station.wait_work(rt) == Wake::Ready);
-    assert!(rt; caller.step(33) == Ok(NOBODY));
-    assert!(rt; reading(rt, &mut gauge, 0) == (35, 256, 0));
-    assert!(rt; station.wait_work(rt) == Wake::Ready);
-    assert!(rt; woken(rt, &mut caller, Awaited::Frame(sender), Act::Step) == Wake::Ready);
-    assert!(rt; reading(rt, &mut gauge, 0) == (37, 0, 0));
-    is_told(&mut caller, sender);
-    assert!(rt; woken(rt, &mut caller, Awaited::Work, Act::Send(sender)) == Wake::Ready);
-    assert!(rt; matches!(caller.step(34), Ok(Attempt::Tried(_))));
-    assert!(rt; woken(rt, &mut caller, Awaited::Work, Act::Stop) == Wake::Stopped);
-    let passes = one(rt, alloc, caller.leave());
-    let settled = settled(rt, station, passes, one(rt, alloc, gauge));
-    assert!(rt; settled.history.len() == 41);
-}
-
-/// The class of an error message frame; 0 of any other frame.
-fn class_of(item: &Item) -> u32 {
-    match item {
-        Item::Error(message) => message.class(),
-        Item::Data(_) => 0,
-    }
-}
-
-/// The socket is told of a restart, once.
-fn is_told<N: RollName + MeterName, R: Wait + Abort>(
-    caller: &mut Party<'_, N, R>,
-    sender: SocketId,
-) {
-    let rt = caller.rt;
-    let Ok(Some(received)) = caller.receive(sender) else {
-        panic!(rt; "no item");
-    };
-    assert!(rt; class_of(&received.item) == 0x100);
-    assert!(rt; caller.receive(sender) == Ok(None));
-}
+/// There is work while can0 counts towards its restart, and none after it. The restart wakes who waits for an item, and a
+/// gauge reads it. The socket is told of restarts alone: of this one, once.
+const COMES_BACK: &str = "canbus record 2
+bus 2 always 0000 10 1000 2
+open 0 4 = socket 0
+option 0 errmask 00000100 = ok
+send 0 123# = number 0
+GOES OFF
+? gauge 0 = 35 256 0
+? work = ready
+step attempt 0.000033 good = idle
+? gauge 0 = 35 256 0
+? work = ready
+wakes frame 0 ready: step attempt 0.000001 good = idle restarted 0001
+? gauge 0 = 37 0 0
+receive 0 = error 0 20000100#0000000000000000 0.000001
+receive 0 = none
+wakes work ready: send 0 123# = number 1
+step attempt 0.000034 good = tried 0 1 123# done 0002 0000
+wakes work stopped: stop
+end 41";
 
 #[test]
 fn an_interface_comes_back_by_itself(rt: HostRuntime) -> Result<(), Fail> {
     let blanks = Blanks::new(rt.alloc(), 2)?;
-    comes_back::<Brand, _>(&rt, rt.alloc(), blanks);
-    Ok(())
+    let text = going_off(rt.alloc(), COMES_BACK, "0")?;
+    let dialogue = Dialogue::new(rt.alloc(), DESTROYED, &text)?;
+    plays::<Brand, _>(&rt, rt.alloc(), blanks, dialogue)
 }

@@ -2,9 +2,10 @@
 
 ghost use Rattle.std.specs.Prelude.{◌≡◌};
 
+use super::dialogues::{Dialogue, plays};
 use super::*;
 use can_fault::Perfect;
-use can_station::{Open, Wake};
+use can_station::Open;
 use std::marker::Brand;
 use std::test::Fail;
 use std::thread::{Threads, join};
@@ -59,25 +60,27 @@ fn rest_often<N: RollName + MeterName + Send + Sync, R: Threads + Wait + Abort +
 }
 
 /// Items are counted until they are taken, and a socket that is not open has none.
-fn count_items<N: RollName + MeterName, R: Wait + Abort>(rt: &R, alloc: Global, blanks: Blanks)
-    requires { (blanks.roll ≡ N.roll 0) × (blanks.meter ≡ N.meter 0) }
-{
-    let station = made::<N, _, _, _>(rt, alloc, blanks, 0, config(2), Perfect, Open);
-    let mut caller = entered(rt, alloc, &station);
-    let (sender, receiver) = (caller.open(0, 4), caller.open(1, 4));
-    for micros in 1..=3 {
-        assert!(rt; caller.send(sender, 0x123).is_ok());
-        assert!(rt; matches!(caller.step(micros), Ok(Attempt::Tried(_))));
-        assert!(rt; station.wait_items(rt, receiver) == (Wake::Ready, micros));
-    }
-    assert!(rt; matches!(caller.receive(receiver), Ok(Some(_))));
-    assert!(rt; station.wait_items(rt, receiver) == (Wake::Ready, 2));
-    station.stop(rt);
-    assert!(rt; station.wait_items(rt, receiver) == (Wake::Ready, 2));
-    assert!(rt; station.wait_items(rt, sender) == (Wake::Stopped, 0));
-    assert!(rt; caller.close(receiver).is_ok());
-    assert!(rt; station.wait_items(rt, receiver) == (Wake::Closed, 0));
-}
+const ITEMS: &str = "canbus record 1
+bus 2 always 0000 10 1000
+open 0 4 = socket 0
+open 1 4 = socket 1
+send 0 123# = number 0
+step attempt 0.000001 good = tried 0 0 123# done 0002 0000
+? items 1 = ready 1
+send 0 123# = number 1
+step attempt 0.000002 good = tried 0 1 123# done 0002 0000
+? items 1 = ready 2
+send 0 123# = number 2
+step attempt 0.000003 good = tried 0 2 123# done 0002 0000
+? items 1 = ready 3
+receive 1 = data 0 0 123# 0.000001
+? items 1 = ready 2
+stop
+? items 1 = ready 2
+? items 0 = stopped 0
+close 1 = closed 2 0
+? items 1 = closed 0
+end 10";
 
 #[test]
 fn a_rest_ends_by_time_or_by_a_stop(rt: HostRuntime) -> Result<(), Fail> {
@@ -89,6 +92,6 @@ fn a_rest_ends_by_time_or_by_a_stop(rt: HostRuntime) -> Result<(), Fail> {
 #[test]
 fn items_are_counted_until_they_are_taken(rt: HostRuntime) -> Result<(), Fail> {
     let blanks = Blanks::new(rt.alloc(), 2)?;
-    count_items::<Brand, _>(&rt, rt.alloc(), blanks);
-    Ok(())
+    let dialogue = Dialogue::new(rt.alloc(), "", ITEMS)?;
+    plays::<Brand, _>(&rt, rt.alloc(), blanks, dialogue)
 }

@@ -3,7 +3,7 @@
 ghost use Rattle.std.specs.Prelude.{◌≡◌};
 
 use super::*;
-use can_bus::{Entry, Event, Reply};
+use can_bus::Entry;
 use can_fault::Perfect;
 use can_station::{Open, Wake, WrongStation};
 use std::marker::Brand;

@@ -2,11 +2,11 @@
 
 ghost use Rattle.std.specs.Prelude.{◌≡◌};
 
+use super::dialogues::{entries_of, read};
 use super::*;
-use can_bus::{Event, Record, Reply, RingBus};
-use can_filter::{Filter, FilterSet};
+use can_bus::{Entry, Record, RingBus};
 use can_station::{Open, Wake};
-use can_test_support::{DESTROYED, joined};
+use can_test_support::{DESTROYED, joined, times};
 use std::marker::Brand;
 use std::test::Fail;
 
@@ -54,98 +54,115 @@ fn busy(run: Run) -> BusConfig {
     }
 }
 
-/// The call of this turn, of 200. The verdict of an attempt is the script's, and not this one.
-fn event_at<R: Abort>(rt: &R, alloc: Global, turn: u64, run: Run) -> Event {
-    match turn {
-        0 | 2 => Event::Open(iface(rt, 0), 2),
-        1 => Event::Open(iface(rt, 1), 2),
-        3 => Event::SetOption(SocketId(0), Opt::ErrMask(0x140)),
-        4 => Event::SetFilters(SocketId(2), filters(rt, alloc)),
-        5..=7 | 40 => Event::Send(SocketId(0), frame(rt, 0x123)),
-        8..=39 | 41 => attempt(rt, turn),
-        42 | 43 if run.by_call => Event::Restart(iface(rt, 0), moment(rt, turn)),
-        150 | 151 => Event::Close(SocketId(1)),
-        152 => Event::Open(iface(rt, 1), 70_000),
-        153 => Event::Open(iface(rt, 5), 2),
-        154 => Event::Open(iface(rt, 1), 0),
-        _ => usual_event(rt, turn),
-    }
+/// The calls are the events of a record, whose replies nobody looks at: first of three sockets, of which the third gets
+/// frames with identifier 124.
+const OPENED: &str = "canbus record 1
+bus 3 always 0000 4 1000
+open 0 2 = socket 0
+open 1 2 = socket 1
+open 0 2 = socket 2
+option 0 errmask 00000140 = ok
+filters 2 1 00000124 000007FF = ok
+send 0 123# = number 0
+send 0 123# = number 1
+send 0 123# = number 2
+";
+
+const SEND: &str = "send 0 123# = bus-off\n";
+
+const ATTEMPT: &str = "attempt 0.000042 good = idle\n";
+
+/// The second restart is refused.
+const RESTARTS: &str = "restart 0 0.000042 = ok\nrestart 0 0.000043 = not-bus-off\n";
+
+const SENDS_AND_RECEIVES: &str = "send 0 123# = number 0
+send 1 124# = number 0
+send 2 125# = number 0
+receive 0 = none
+receive 1 = none
+receive 2 = none
+";
+
+/// A socket is closed twice, and three opens are refused.
+const CLOSED: &str = "close 1 = closed 0 0
+close 1 = no-socket
+open 1 70000 = bad-capacity
+open 5 2 = no-interface
+open 1 0 = bad-capacity
+send 2 125# = number 0
+receive 0 = none
+receive 1 = none
+receive 2 = none
+receive 0 = none
+";
+
+const END: &str = "send 0 123# = number 0
+send 1 124# = number 0
+end 200
+";
+
+/// The 200 calls: 32 attempts take can0 off, and it is restarted. Then come rounds of three sends with three attempts each,
+/// and later with two.
+fn calls(alloc: Global, by_call: bool) -> Result<Vec<Entry>, Fail> {
+    let off = times(alloc, ATTEMPT, 32)?;
+    let attempts = times(alloc, ATTEMPT, 2)?;
+    let restarted = if by_call { RESTARTS } else { attempts.as_str() };
+    let early = joined(alloc, &[SENDS_AND_RECEIVES, ATTEMPT, &attempts])?;
+    let late = joined(
+        alloc,
+        &[SENDS_AND_RECEIVES, "receive 0 = none\n", &attempts],
+    )?;
+    let before = joined(alloc, &[OPENED, &off, SEND, ATTEMPT, restarted, ATTEMPT])?;
+    let rounds = [
+        times(alloc, &early, 6)?,
+        times(alloc, &late, 5)?,
+        times(alloc, &late, 4)?,
+    ];
+    let [early, late, last] = &rounds;
+    let parts = [
+        &before,
+        early,
+        late,
+        SENDS_AND_RECEIVES,
+        CLOSED,
+        &attempts,
+        last,
+        END,
+    ];
+    let text = joined(alloc, &parts)?;
+    entries_of(alloc, &read(alloc, &text)?)
 }
 
-/// Three sends in a round of nine calls; until the 100th call three attempts to it, then two.
-fn usual_event<R: Abort>(rt: &R, turn: u64) -> Event {
-    match turn % 9 {
-        0 => Event::Send(SocketId(0), frame(rt, 0x123)),
-        1 => Event::Send(SocketId(1), frame(rt, 0x124)),
-        2 => Event::Send(SocketId(2), frame(rt, 0x125)),
-        3 => Event::Receive(SocketId(0)),
-        4 => Event::Receive(SocketId(1)),
-        5 => Event::Receive(SocketId(2)),
-        6 if turn >= 100 => Event::Receive(SocketId(0)),
-        _ => attempt(rt, turn),
-    }
-}
-
-fn attempt<R: Abort>(rt: &R, turn: u64) -> Event {
-    Event::Attempt(moment(rt, turn), Verdict::Good)
-}
-
-/// The filter for identifier 124.
-fn filters<R: Abort>(rt: &R, alloc: Global) -> FilterSet {
-    let Ok(filter) = Filter::new(0x124, 0x7FF) else {
-        panic!(rt; "no filter");
-    };
-    let Ok(filters) = FilterSet::from_slice(alloc, &[filter]) else {
-        panic!(rt; "no filters");
-    };
-    filters
-}
-
-/// Makes the call on the station.
+/// Makes the call on the station: an attempt as a step, and a receive of socket 0 in a hold of the lock.
 fn call<N: RollName + MeterName, R: Wait + Abort>(
     caller: &mut Caller<'_, N, Script, Open, R>,
     event: &Event,
 ) {
-    let (rt, alloc, station) = (caller.rt, caller.alloc, caller.station);
-    let pass = &mut caller.pass;
     match event {
-        Event::Open(iface, capacity) => {
-            let _ = station.open(rt, alloc, pass, *iface, *capacity);
-        }
-        Event::SetFilters(socket, filters) => {
-            let _ = station.set_filters(rt, alloc, pass, *socket, filters);
-        }
-        Event::Send(socket, frame) => {
-            let _ = station.send(rt, alloc, pass, *socket, *frame);
-        }
-        Event::Attempt(moment, _) => {
-            let _ = station.step(rt, alloc, pass, *moment);
-        }
-        Event::Restart(iface, moment) => {
-            let _ = station.restart(rt, alloc, pass, *iface, *moment);
-        }
-        Event::Close(socket) => {
-            let _ = caller.close(*socket);
-        }
-        Event::SetOption(socket, option) => {
-            let _ = caller.set_option(*socket, *option);
-        }
         Event::Receive(SocketId(0)) => {
             let _ = caller.receive_held(SocketId(0));
         }
-        Event::Receive(socket) => {
-            let _ = caller.receive(*socket);
+        _ => {
+            let _ = caller.step_of(event);
         }
     }
 }
 
+fn bus(alloc: Global, config: BusConfig) -> Result<RingBus, Fail> {
+    Ok(RingBus::new(alloc, config)?)
+}
+
 /// Makes the call on the bus; an attempt with the script's verdict.
-fn call_bus(bus: &mut RingBus, source: &mut Script, alloc: Global, event: Event) {
-    let event = match event {
-        Event::Attempt(moment, _) => Event::Attempt(moment, source.verdict(bus.next_attempt())),
-        other => other,
-    };
-    let _ = bus.answer(alloc, &event);
+fn call_bus(bus: &mut RingBus, source: &mut Script, alloc: Global, event: &Event) {
+    match event {
+        Event::Attempt(moment, _) => {
+            let verdict = source.verdict(bus.next_attempt());
+            let _ = bus.attempt(*moment, verdict);
+        }
+        _ => {
+            let _ = bus.answer(alloc, event);
+        }
+    }
 }
 
 /// How a wait for this socket has to end, by the bus's counts: `None` where it may not.
@@ -212,27 +229,25 @@ fn run_both<N: RollName + MeterName, R: Wait + Abort>(
     alloc: Global,
     blanks: Blanks,
     run: Run,
-)
+) -> Result<(), Fail>
     requires { (blanks.roll ≡ N.roll 0) × (blanks.meter ≡ N.meter 0) }
 {
     let followed = faults(rt, alloc);
     let station = made::<N, _, _, _>(rt, alloc, blanks, 0, busy(run), followed, Open);
-    let Ok(mut bus) = RingBus::new(alloc, busy(run)) else {
-        panic!(rt; "no bus");
-    };
+    let mut bus = bus(alloc, busy(run))?;
     let mut source = faults(rt, alloc);
     if run.is_stopped {
         station.stop(rt);
     }
     let mut caller = entered(rt, alloc, &station);
-    for turn in 0..200 {
-        let event = event_at(rt, alloc, turn, run);
-        call(&mut caller, &event);
-        call_bus(&mut bus, &mut source, alloc, event);
+    for entry in &calls(alloc, run.by_call)? {
+        call(&mut caller, &entry.event);
+        call_bus(&mut bus, &mut source, alloc, &entry.event);
         agree(rt, &station, &bus, run);
     }
     assert!(rt; bus.record().len() == 200 && caller.calls() == 200);
     are_answered_alike(&caller, &bus, run);
+    Ok(())
 }
 
 /// Each call had the same answer on both. Call 39 takes can0 off. Where no call restarts it, calls 41 to 43 are idle
@@ -271,8 +286,7 @@ fn is_idle<N: RollName>(pass: &Pass<N>, place: usize, restarted: IfaceSet) -> bo
 #[test]
 fn a_station_tells_what_its_bus_tells(rt: HostRuntime) -> Result<(), Fail> {
     let blanks = Blanks::new(rt.alloc(), 3)?;
-    run_both::<Brand, _>(&rt, rt.alloc(), blanks, PLAIN);
-    Ok(())
+    run_both::<Brand, _>(&rt, rt.alloc(), blanks, PLAIN)
 }
 
 #[test]
@@ -282,15 +296,13 @@ fn a_stopped_station_tells_what_its_bus_tells(rt: HostRuntime) -> Result<(), Fai
         is_stopped: true,
         ..PLAIN
     };
-    run_both::<Brand, _>(&rt, rt.alloc(), blanks, run);
-    Ok(())
+    run_both::<Brand, _>(&rt, rt.alloc(), blanks, run)
 }
 
 #[test]
 fn a_station_restarts_as_its_bus_does(rt: HostRuntime) -> Result<(), Fail> {
     let blanks = Blanks::new(rt.alloc(), 3)?;
-    run_both::<Brand, _>(&rt, rt.alloc(), blanks, RESTARTING);
-    Ok(())
+    run_both::<Brand, _>(&rt, rt.alloc(), blanks, RESTARTING)
 }
 
 #[test]
@@ -300,8 +312,7 @@ fn a_stopped_station_restarts_as_its_bus_does(rt: HostRuntime) -> Result<(), Fai
         is_stopped: true,
         ..RESTARTING
     };
-    run_both::<Brand, _>(&rt, rt.alloc(), blanks, run);
-    Ok(())
+    run_both::<Brand, _>(&rt, rt.alloc(), blanks, run)
 }
 
 #[test]
@@ -311,6 +322,5 @@ fn a_call_restarts_before_the_attempt_that_would(rt: HostRuntime) -> Result<(), 
         by_call: true,
         ..RESTARTING
     };
-    run_both::<Brand, _>(&rt, rt.alloc(), blanks, run);
-    Ok(())
+    run_both::<Brand, _>(&rt, rt.alloc(), blanks, run)
 }

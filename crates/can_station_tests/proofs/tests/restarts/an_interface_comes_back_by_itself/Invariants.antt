@@ -1,7 +1,7 @@
 use Rattle.can_station_tests.proofs.tests.restarts.an_interface_comes_back_by_itself.Given as goal
 
-abbrev pub ghosts-comes_back-N-RollName : goal.ghosts-comes_back-N-RollName
-ghosts-comes_back-N-RollName g a = record { roll = λ _. a.blanks.roll }
+abbrev pub ghosts-plays-N-RollName : goal.ghosts-plays-N-RollName
+ghosts-plays-N-RollName g a = record { roll = λ _. a.blanks.roll }
 
-abbrev pub ghosts-comes_back-N-MeterName : goal.ghosts-comes_back-N-MeterName
-ghosts-comes_back-N-MeterName g a = record { meter = λ _. a.blanks.meter }
+abbrev pub ghosts-plays-N-MeterName : goal.ghosts-plays-N-MeterName
+ghosts-plays-N-MeterName g a = record { meter = λ _. a.blanks.meter }
