@@ -5,6 +5,7 @@ CANBUSD names the program; as it is, the one that fits the sources. Where there 
 
 import os
 import random
+import signal
 import sys
 
 import pytest
@@ -16,6 +17,8 @@ sys.dont_write_bytecode = True
 # The package from here, also in what the tests start.
 os.environ["PYTHONPATH"] = os.path.join(serving.ROOT, "python", "src")
 os.environ["PYTHONDONTWRITEBYTECODE"] = "1"
+# A shell's job in the background ignores Ctrl-C, and so would what the tests start; what is handled here is not ignored there.
+signal.signal(signal.SIGINT, signal.default_int_handler)
 
 
 def pytest_addoption(parser):
