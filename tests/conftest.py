@@ -17,8 +17,11 @@ sys.dont_write_bytecode = True
 # The package from here, also in what the tests start.
 os.environ["PYTHONPATH"] = os.path.join(serving.ROOT, "python", "src")
 os.environ["PYTHONDONTWRITEBYTECODE"] = "1"
-# A shell's job in the background ignores Ctrl-C, and so would what the tests start; what is handled here is not ignored there.
-signal.signal(signal.SIGINT, signal.default_int_handler)
+# A job in the background, or under nohup, ignores these, and so would what the tests start: what is handled here is not
+# ignored there.
+for ignored in (signal.SIGINT, signal.SIGQUIT, signal.SIGHUP):
+    if signal.getsignal(ignored) == signal.SIG_IGN:
+        signal.signal(ignored, lambda *_: None)
 
 
 def pytest_addoption(parser):
