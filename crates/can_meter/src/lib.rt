@@ -22,6 +22,3 @@ pub use gauge::Gauge;
 pub use keeper::Keeper;
 pub use making::meter;
 pub use status::Status;
-
-#[cfg(test)]
-mod tests;

@@ -21,8 +21,6 @@ mod names;
 mod rolls;
 mod rule;
 mod slips;
-#[cfg(test)]
-mod tests;
 
 pub use names::RollName;
 pub use rolls::{Roll, RollBlank, roll_blank};

@@ -1,6 +1,1 @@
-pub mod Passing
-pub mod Places
-pub mod Making
-pub mod Ending
-pub mod Naming
 pub mod Rooms

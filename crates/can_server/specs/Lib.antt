@@ -1,7 +1,3 @@
-pub mod Buses
-pub mod Benches
-pub mod Settling
-pub mod PassSteps
 pub mod Guests
 pub mod Driving
 pub mod Calling

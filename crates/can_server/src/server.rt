@@ -1,9 +1,9 @@
 use crate::doors::Door;
 use crate::guests::Guests;
-use crate::hubs::Hub;
 use crate::returned::Returned;
 use crate::serving::Clock;
 use can_fault::FaultSource;
+use can_hub::Hub;
 use can_meter::MeterName;
 use can_roll::RollName;
 use can_station::Gate;

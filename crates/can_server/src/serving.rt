@@ -2,12 +2,12 @@ ghost use Rattle.std.specs.Prelude.{◌≡◌, length, IfOk};
 
 use crate::doors::Door;
 use crate::guests::Guests;
-use crate::hubs::Hub;
 use crate::notices::Notice;
 use crate::returned::Returned;
 use crate::server::Server;
 use can_fault::FaultSource;
 use can_frame::Moment;
+use can_hub::Hub;
 use can_meter::MeterName;
 use can_roll::RollName;
 use can_station::{Gate, Pass};

@@ -2,13 +2,11 @@ ghost use Rattle.std.specs.Prelude.{◌≡◌};
 ghost use Rattle.can_server.specs.Calling.{restarted_by};
 
 use crate::conns::{Conn, Out};
-use crate::held::HeldPort;
-use crate::hubs::Hub;
-use crate::ports::PassPort;
 use can_bus::{Entry, Event, Received, Reply, SocketId};
 use can_dialog::{Delivery, Session, Stage};
 use can_fault::FaultSource;
 use can_frame::{Iface, Moment};
+use can_hub::{HeldPort, Hub, PassPort};
 use can_meter::MeterName;
 use can_roll::RollName;
 use can_station::{Gate, Pass, Station};

@@ -1,6 +1,6 @@
 ghost use Rattle.std.specs.Prelude.{◌≡◌, length, All, IfOk, IsTrue, OnOk};
 ghost use Rattle.std.specs.Io.KnownBytes.{Appends};
-ghost use Rattle.can_server.specs.Benches.{NamedFrom};
+ghost use Rattle.can_hub.specs.Benches.{NamedFrom};
 ghost use Rattle.canbusd_serve.specs.Served.{AreBenches, IsBenchOf, IsLegalEnd, IsListening, IsServed, end_line, end_lines, listening_line};
 
 use crate::buses_notes::buses_note;

@@ -1,7 +1,7 @@
 // What a session is told of its counts, and a piece whose calls take the lock by turns.
 
 ghost use Rattle.std.specs.Prelude.{◌≡◌};
-ghost use Rattle.can_server.specs.Benches.{NamedFrom};
+ghost use Rattle.can_hub.specs.Benches.{NamedFrom};
 
 use super::*;
 use can_dialog::Session;

@@ -1,7 +1,7 @@
 // A server that is told to end, and one whose last frame nobody acknowledges.
 
 ghost use Rattle.std.specs.Prelude.{◌≡◌};
-ghost use Rattle.can_server.specs.Benches.{NamedFrom};
+ghost use Rattle.can_hub.specs.Benches.{NamedFrom};
 
 use super::clients::*;
 use super::*;

@@ -1,7 +1,7 @@
 // Which benches make a hub, what it finds, and how it is settled.
 
 ghost use Rattle.std.specs.Prelude.{◌≡◌, ◌<◌};
-ghost use Rattle.can_server.specs.Benches.{NamedFrom};
+ghost use Rattle.can_hub.specs.Benches.{NamedFrom};
 
 use super::*;
 use can_bus::{BusFault, Event};

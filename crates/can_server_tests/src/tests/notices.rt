@@ -1,7 +1,7 @@
 // What a host that asks for it is told while a server runs.
 
 ghost use Rattle.std.specs.Prelude.{◌≡◌};
-ghost use Rattle.can_server.specs.Benches.{NamedFrom};
+ghost use Rattle.can_hub.specs.Benches.{NamedFrom};
 
 use super::clients::*;
 use super::*;

@@ -1,7 +1,7 @@
 // The pass of a port: which station it enters, and when there is none.
 
 ghost use Rattle.std.specs.Prelude.{◌≡◌};
-ghost use Rattle.can_server.specs.Benches.{NamedFrom};
+ghost use Rattle.can_hub.specs.Benches.{NamedFrom};
 
 use super::*;
 use can_bus::Refusal;

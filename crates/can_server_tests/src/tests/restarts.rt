@@ -1,7 +1,7 @@
 // An interface that went bus off comes back by itself, as the two clients of its bus see it.
 
 ghost use Rattle.std.specs.Prelude.{◌≡◌};
-ghost use Rattle.can_server.specs.Benches.{NamedFrom};
+ghost use Rattle.can_hub.specs.Benches.{NamedFrom};
 
 use super::clients::*;
 use super::*;

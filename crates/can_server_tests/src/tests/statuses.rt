@@ -1,7 +1,7 @@
 // What a session is told of the error counters of its interface, by a gauge.
 
 ghost use Rattle.std.specs.Prelude.{◌≡◌};
-ghost use Rattle.can_server.specs.Benches.{NamedFrom};
+ghost use Rattle.can_hub.specs.Benches.{NamedFrom};
 
 use super::*;
 use can_bus::Attempt;

@@ -1,5 +1,5 @@
 use Rattle.std.proofs.Common.{◌≡◌, not, Bool, false, IsTrue, sym, subst, ◌∙◌, rules}
-use Rattle.can_server.proofs.Naming.{named}
+use Rattle.can_hub.proofs.Naming.{named}
 use Rattle.std.specs.Io.KnownBytes.{Appends}
 use Rattle.can_logfile.proofs.Growing.{Appends-then}
 use Rattle.canbusd_serve.specs.Served.{end_lines}

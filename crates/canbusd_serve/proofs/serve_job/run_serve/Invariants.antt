@@ -1,4 +1,4 @@
-use Rattle.can_server.proofs.Naming.{roll_at, meter_at}
+use Rattle.can_hub.proofs.Naming.{roll_at, meter_at}
 use Rattle.canbusd_serve.proofs.serve_job.run_serve.Given as goal
 
 abbrev pub ghosts-serve_named-N-RollName : goal.ghosts-serve_named-N-RollName

@@ -1,4 +1,4 @@
-use Rattle.can_server.proofs.Naming.{roll_at, meter_at}
+use Rattle.can_hub.proofs.Naming.{roll_at, meter_at}
 use Rattle.can_server_tests.proofs.tests.counts.a_session_is_told_its_counts_between_its_sends.Given as goal
 
 abbrev pub ghosts-counts-N-RollName : goal.ghosts-counts-N-RollName

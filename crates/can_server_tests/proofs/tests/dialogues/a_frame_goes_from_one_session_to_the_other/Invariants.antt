@@ -1,4 +1,4 @@
-use Rattle.can_server.proofs.Naming.{roll_at, meter_at}
+use Rattle.can_hub.proofs.Naming.{roll_at, meter_at}
 use Rattle.can_server_tests.proofs.tests.dialogues.a_frame_goes_from_one_session_to_the_other.Given as goal
 
 abbrev pub ghosts-dialogue-N-RollName : goal.ghosts-dialogue-N-RollName

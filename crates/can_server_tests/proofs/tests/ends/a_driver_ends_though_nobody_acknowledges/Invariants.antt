@@ -1,4 +1,4 @@
-use Rattle.can_server.proofs.Naming.{roll_at, meter_at}
+use Rattle.can_hub.proofs.Naming.{roll_at, meter_at}
 use Rattle.can_server_tests.proofs.tests.ends.a_driver_ends_though_nobody_acknowledges.Given as goal
 
 abbrev pub ghosts-ends_in_vain-N-RollName : goal.ghosts-ends_in_vain-N-RollName

@@ -1,4 +1,4 @@
-use Rattle.can_server.proofs.Naming.{named}
+use Rattle.can_hub.proofs.Naming.{named}
 use Rattle.can_server_tests.proofs.tests.ends.a_server_that_is_told_ends_all_sessions.Goals as goal
 
 pub ends-requires-after_bounds : goal.ends-requires-after_bounds

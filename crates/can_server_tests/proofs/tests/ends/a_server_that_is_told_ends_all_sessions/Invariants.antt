@@ -1,4 +1,4 @@
-use Rattle.can_server.proofs.Naming.{roll_at, meter_at}
+use Rattle.can_hub.proofs.Naming.{roll_at, meter_at}
 use Rattle.can_server_tests.proofs.tests.ends.a_server_that_is_told_ends_all_sessions.Given as goal
 
 abbrev pub ghosts-ends-N-RollName : goal.ghosts-ends-N-RollName

@@ -1,4 +1,4 @@
-use Rattle.can_server.proofs.Naming.{roll_at, meter_at}
+use Rattle.can_hub.proofs.Naming.{roll_at, meter_at}
 use Rattle.can_server_tests.proofs.tests.held.a_bus_goes_on_while_another_is_held.Given as goal
 
 abbrev pub ghosts-hub_goes_on-N-RollName : goal.ghosts-hub_goes_on-N-RollName

@@ -1,4 +1,4 @@
-use Rattle.can_server.proofs.Naming.{roll_at, meter_at}
+use Rattle.can_hub.proofs.Naming.{roll_at, meter_at}
 use Rattle.can_server_tests.proofs.tests.held.two_sessions_are_served_at_once.Given as goal
 
 abbrev pub ghosts-sessions_meet-N-RollName : goal.ghosts-sessions_meet-N-RollName

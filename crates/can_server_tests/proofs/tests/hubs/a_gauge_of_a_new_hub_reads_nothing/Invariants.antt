@@ -1,4 +1,4 @@
-use Rattle.can_server.proofs.Naming.{roll_at, meter_at}
+use Rattle.can_hub.proofs.Naming.{roll_at, meter_at}
 use Rattle.can_server_tests.proofs.tests.hubs.a_gauge_of_a_new_hub_reads_nothing.Given as goal
 
 abbrev pub ghosts-reads_nothing-N-RollName : goal.ghosts-reads_nothing-N-RollName

@@ -1,4 +1,4 @@
-use Rattle.can_server.proofs.Naming.{roll_at, meter_at}
+use Rattle.can_hub.proofs.Naming.{roll_at, meter_at}
 use Rattle.can_server_tests.proofs.tests.hubs.a_name_is_found_by_its_bus_and_place.Given as goal
 
 abbrev pub ghosts-finds-N-RollName : goal.ghosts-finds-N-RollName

@@ -1,4 +1,4 @@
-use Rattle.can_server.proofs.Naming.{roll_at, meter_at}
+use Rattle.can_hub.proofs.Naming.{roll_at, meter_at}
 use Rattle.can_server_tests.proofs.tests.hubs.each_bus_is_settled_with_its_own_passes.Given as goal
 
 abbrev pub ghosts-settled-N-RollName : goal.ghosts-settled-N-RollName

@@ -1,4 +1,4 @@
-use Rattle.can_server.proofs.Naming.{named}
+use Rattle.can_hub.proofs.Naming.{named}
 use Rattle.can_server_tests.proofs.tests.hubs.exchanged_passes_are_refused.Goals as goal
 
 pub settled-outcome-requires : goal.settled-outcome-requires

@@ -1,4 +1,4 @@
-use Rattle.can_server.proofs.Naming.{roll_at, meter_at}
+use Rattle.can_hub.proofs.Naming.{roll_at, meter_at}
 use Rattle.can_server_tests.proofs.tests.hubs.exchanged_passes_are_refused.Given as goal
 
 abbrev pub ghosts-settled-N-RollName : goal.ghosts-settled-N-RollName

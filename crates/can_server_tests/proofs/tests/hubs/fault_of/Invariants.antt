@@ -1,4 +1,4 @@
-use Rattle.can_server.proofs.Naming.{roll_at, meter_at}
+use Rattle.can_hub.proofs.Naming.{roll_at, meter_at}
 use Rattle.can_server_tests.proofs.tests.hubs.fault_of.Given as goal
 
 abbrev pub ghosts-fault_of_hub-N-RollName : goal.ghosts-fault_of_hub-N-RollName

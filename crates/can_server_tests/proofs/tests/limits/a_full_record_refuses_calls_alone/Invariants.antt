@@ -1,4 +1,4 @@
-use Rattle.can_server.proofs.Naming.{roll_at, meter_at}
+use Rattle.can_hub.proofs.Naming.{roll_at, meter_at}
 use Rattle.can_server_tests.proofs.tests.limits.a_full_record_refuses_calls_alone.Given as goal
 
 abbrev pub ghosts-is_full-N-RollName : goal.ghosts-is_full-N-RollName

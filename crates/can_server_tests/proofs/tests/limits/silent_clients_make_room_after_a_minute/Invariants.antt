@@ -1,4 +1,4 @@
-use Rattle.can_server.proofs.Naming.{roll_at, meter_at}
+use Rattle.can_hub.proofs.Naming.{roll_at, meter_at}
 use Rattle.can_server_tests.proofs.tests.limits.silent_clients_make_room_after_a_minute.Given as goal
 
 abbrev pub ghosts-lets_in-N-RollName : goal.ghosts-lets_in-N-RollName

@@ -1,4 +1,4 @@
-use Rattle.can_server.proofs.Naming.{roll_at, meter_at}
+use Rattle.can_hub.proofs.Naming.{roll_at, meter_at}
 use Rattle.can_server_tests.proofs.tests.limits.the_65th_session_at_once_is_refused.Given as goal
 
 abbrev pub ghosts-fills-N-RollName : goal.ghosts-fills-N-RollName

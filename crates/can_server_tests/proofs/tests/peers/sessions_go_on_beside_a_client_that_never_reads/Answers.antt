@@ -1,4 +1,4 @@
-use Rattle.can_server.proofs.Naming.{named}
+use Rattle.can_hub.proofs.Naming.{named}
 use Rattle.can_server_tests.proofs.tests.peers.sessions_go_on_beside_a_client_that_never_reads.Goals as goal
 
 pub serves_silent-requires-after_bounds : goal.serves_silent-requires-after_bounds

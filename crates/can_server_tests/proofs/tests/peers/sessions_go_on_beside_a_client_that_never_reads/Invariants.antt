@@ -1,4 +1,4 @@
-use Rattle.can_server.proofs.Naming.{roll_at, meter_at}
+use Rattle.can_hub.proofs.Naming.{roll_at, meter_at}
 use Rattle.can_server_tests.proofs.tests.peers.sessions_go_on_beside_a_client_that_never_reads.Given as goal
 
 abbrev pub ghosts-serves_silent-N-RollName : goal.ghosts-serves_silent-N-RollName

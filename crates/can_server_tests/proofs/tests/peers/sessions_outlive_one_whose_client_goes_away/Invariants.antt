@@ -1,4 +1,4 @@
-use Rattle.can_server.proofs.Naming.{roll_at, meter_at}
+use Rattle.can_hub.proofs.Naming.{roll_at, meter_at}
 use Rattle.can_server_tests.proofs.tests.peers.sessions_outlive_one_whose_client_goes_away.Given as goal
 
 abbrev pub ghosts-serves_on-N-RollName : goal.ghosts-serves_on-N-RollName

@@ -1,4 +1,4 @@
-use Rattle.can_server.proofs.Naming.{roll_at, meter_at}
+use Rattle.can_hub.proofs.Naming.{roll_at, meter_at}
 use Rattle.can_server_tests.proofs.tests.ports.a_bus_has_4096_passes.Given as goal
 
 abbrev pub ghosts-attaches_often-N-RollName : goal.ghosts-attaches_often-N-RollName

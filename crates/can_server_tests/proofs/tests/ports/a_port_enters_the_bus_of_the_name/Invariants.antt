@@ -1,4 +1,4 @@
-use Rattle.can_server.proofs.Naming.{roll_at, meter_at}
+use Rattle.can_hub.proofs.Naming.{roll_at, meter_at}
 use Rattle.can_server_tests.proofs.tests.ports.a_port_enters_the_bus_of_the_name.Given as goal
 
 abbrev pub ghosts-attaches-N-RollName : goal.ghosts-attaches-N-RollName

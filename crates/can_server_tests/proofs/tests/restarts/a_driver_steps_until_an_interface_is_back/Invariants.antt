@@ -1,4 +1,4 @@
-use Rattle.can_server.proofs.Naming.{roll_at, meter_at}
+use Rattle.can_hub.proofs.Naming.{roll_at, meter_at}
 use Rattle.can_server_tests.proofs.tests.restarts.a_driver_steps_until_an_interface_is_back.Given as goal
 
 abbrev pub ghosts-comes_back-N-RollName : goal.ghosts-comes_back-N-RollName

@@ -1,4 +1,4 @@
-use Rattle.can_server.proofs.Naming.{roll_at, meter_at}
+use Rattle.can_hub.proofs.Naming.{roll_at, meter_at}
 use Rattle.can_server_tests.proofs.tests.rows.a_driver_rests_after_each_step.Given as goal
 
 abbrev pub ghosts-keeps_pace-N-RollName : goal.ghosts-keeps_pace-N-RollName

@@ -1,4 +1,4 @@
-use Rattle.can_server.proofs.Naming.{named}
+use Rattle.can_hub.proofs.Naming.{named}
 use Rattle.can_server_tests.proofs.tests.rows.a_frame_crosses_a_server_over_a_unix_path.Goals as goal
 
 pub record-record-requires-after_bounds : goal.record-record-requires-after_bounds

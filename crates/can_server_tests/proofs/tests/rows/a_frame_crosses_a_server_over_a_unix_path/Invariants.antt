@@ -1,4 +1,4 @@
-use Rattle.can_server.proofs.Naming.{roll_at, meter_at}
+use Rattle.can_hub.proofs.Naming.{roll_at, meter_at}
 use Rattle.can_server_tests.proofs.tests.rows.a_frame_crosses_a_server_over_a_unix_path.Given as goal
 
 abbrev pub ghosts-record-N-RollName : goal.ghosts-record-N-RollName

@@ -1,4 +1,4 @@
-use Rattle.can_server.proofs.Naming.{roll_at, meter_at}
+use Rattle.can_hub.proofs.Naming.{roll_at, meter_at}
 use Rattle.can_server_tests.proofs.tests.statuses.a_session_is_told_its_error_counters.Given as goal
 
 abbrev pub ghosts-last_bit-N-RollName : goal.ghosts-last_bit-N-RollName

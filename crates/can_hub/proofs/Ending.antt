@@ -1,0 +1,20 @@
+use Rattle.std.proofs.Common.{◌≡◌, ◌+◌, ℕ, suc, List, [], ◌∷◌, ◌++◌, length, Vec, sym, subst, arith}
+use Rattle.can_station.specs.declared.passes.Settled.{Settled}
+use Rattle.can_station.specs.Passes.{PassSeen, AllOf, Settles}
+use Rattle.can_hub.specs.Settling.{AllOwn, AllSettle}
+
+-- one list more, whose passes are all of its bus
+pub own_push : {A : Type 0} (n m : ℕ) (before : List (Vec PassSeen A)) (own : Vec PassSeen A) → AllOwn n before → n + length before ≡ m → AllOf m own.items → AllOwn n (before ++ own ∷ [])
+own_push n m [] own h at all = let same : m ≡ n = omega (arith, at) in (subst (λ (k : ℕ). AllOf k own.items) same all, tt)
+own_push n m (x ∷ xs) own h at all = (h.0, own_push (suc n) m xs own h.1 (omega (arith, at)) all)
+
+-- one bus more, which is settled with its list
+pub settle_push : {A : Type 0} (before : List (Vec PassSeen A)) (done : List Settled) (own : Vec PassSeen A) (s : Settled) → AllSettle before done → Settles s.history.config s.history.history s.passes own.items → AllSettle (before ++ own ∷ []) (done ++ s ∷ [])
+settle_push [] [] own s h one = (one, tt)
+settle_push [] (y ∷ ys) own s h one = absurd h
+settle_push (x ∷ xs) [] own s h one = absurd h
+settle_push (x ∷ xs) (y ∷ ys) own s h one = (h.0, settle_push xs ys own s h.1 one)
+
+-- no list of passes, and nothing settled
+pub settle_none : (A : Type 0) (done : List Settled) → done ≡ [] → AllSettle {A = A} [] done
+settle_none A done none = subst (λ (d : List Settled). AllSettle {A = A} [] d) (sym none) tt

@@ -1,0 +1,5 @@
+pub mod Passing
+pub mod Places
+pub mod Making
+pub mod Ending
+pub mod Naming

@@ -1,0 +1,75 @@
+use Rattle.std.proofs.Common.{◌≡◌, ◌-◌, ◌≤◌, ℕ, suc, List, [], ◌∷◌, ◌++◌, length, get_or, take, drop, take_all, append_assoc, append-nil, length-append, refl, ap, sym, subst, ◌∙◌, arith}
+use Rattle.std.specs.Prelude.{All}
+use Rattle.std.proofs.lemmas.List.Elements.{All-head, All-tail, All-cons}
+use Rattle.atomic_table.specs.Seated.{TableId}
+use Rattle.can_frame.specs.Names.{AreNames}
+use Rattle.can_hub.specs.Buses.{BusSeen, NumberedFrom, names_of}
+use Rattle.can_hub.specs.Benches.{IsProper, NamedFrom, bench_names, bus_of, buses_from}
+use Rattle.can_hub.specs.declared.benches.Bench.{Bench}
+
+-- a list is its first element and what follows it
+parted : {X : Type 0} (xs : List X) (x : X) → 1 ≤ length xs → x ≡ get_or xs 0 x → xs ≡ x ∷ take (length xs - 1) (drop 1 xs)
+parted [] x some is = absurd (omega (arith, some))
+parted (y ∷ ys) x some is = let rest : take (length (y ∷ ys) - 1) ys ≡ ys = take_all (length (y ∷ ys) - 1) ys (omega arith) in ap (λ z. z ∷ ys) (sym is) ∙ ap (λ zs. x ∷ zs) (sym rest)
+
+-- a list of no length is empty
+pub emptied : {X : Type 0} (xs : List X) → length xs ≡ 0 → xs ≡ []
+emptied [] e = refl
+emptied (x ∷ xs) e = absurd (omega (arith, e))
+
+module _ {F G : Type 0} where
+  -- the first bench's names and the others'
+  pub names_parted : (bs : List (Bench F G)) (b : Bench F G) → 1 ≤ length bs → b ≡ get_or bs 0 b → bench_names bs ≡ b.names ∷ bench_names (take (length bs - 1) (drop 1 bs))
+  names_parted bs b some is = ap bench_names (parted bs b some is)
+
+  -- while buses are made: those made, and those that the benches left will make
+  pub made_first : (made : List BusSeen) (rest bs : List (Bench F G)) → made ≡ [] → rest ≡ bs → made ++ buses_from (length made) rest ≡ buses_from 0 bs
+  made_first made rest bs none same = ap (λ (m : List BusSeen). m ++ buses_from (length m) rest) none ∙ ap (buses_from 0) same
+
+  pub named_first : (roll meter : ℕ → TableId) (made : List BusSeen) (rest bs : List (Bench F G)) → made ≡ [] → rest ≡ bs → NamedFrom roll meter 0 bs → NamedFrom roll meter (length made) rest
+  named_first roll meter made rest bs none same h = subst (λ (m : List BusSeen). NamedFrom roll meter (length m) rest) (sym none) (subst (λ (r : List (Bench F G)). NamedFrom roll meter 0 r) (sym same) h)
+
+  pub made_next : (made new : List BusSeen) (w : BusSeen) (b : Bench F G) (rest more : List (Bench F G)) (all : List BusSeen) (n : ℕ)
+      → rest ≡ b ∷ more → new ≡ made ++ w ∷ [] → w ≡ bus_of n b → length made ≡ n → made ++ buses_from (length made) rest ≡ all → new ++ buses_from (length new) more ≡ all
+  made_next made new w b rest more all n er en ew el h =
+      let this : w ≡ bus_of (length made) b = ew ∙ ap (λ (k : ℕ). bus_of k b) (sym el) in
+      let grown : new ≡ made ++ bus_of (length made) b ∷ [] = en ∙ ap (λ (x : BusSeen). made ++ x ∷ []) this in
+      let long : length new ≡ suc (length made) = ap length grown ∙ length-append made (bus_of (length made) b ∷ []) ∙ omega arith in
+      ap (λ (m : List BusSeen). m ++ buses_from (length new) more) grown ∙ append_assoc made (bus_of (length made) b ∷ []) (buses_from (length new) more)
+      ∙ ap (λ (k : ℕ). made ++ bus_of (length made) b ∷ buses_from k more) long ∙ ap (λ (r : List (Bench F G)). made ++ buses_from (length made) r) (sym er) ∙ h
+
+  pub named_here : (roll meter : ℕ → TableId) (n m : ℕ) (b : Bench F G) (rest more : List (Bench F G)) → rest ≡ b ∷ more → n ≡ m → NamedFrom roll meter n rest → (b.blanks.roll ≡ roll m) × (b.blanks.meter ≡ meter m)
+  named_here roll meter n m b rest more er en h =
+      let now = subst (λ (k : ℕ). NamedFrom roll meter k (b ∷ more)) en (subst (λ (r : List (Bench F G)). NamedFrom roll meter n r) er h) in (now.0, now.1)
+
+  pub named_next : (roll meter : ℕ → TableId) (n m : ℕ) (b : Bench F G) (rest more : List (Bench F G)) → rest ≡ b ∷ more → m ≡ suc n → NamedFrom roll meter n rest → NamedFrom roll meter m more
+  named_next roll meter n m b rest more er en h =
+      subst (λ (k : ℕ). NamedFrom roll meter k more) (sym en) (subst (λ (r : List (Bench F G)). NamedFrom roll meter n r) er h).2
+
+  pub proper_here : (b : Bench F G) (rest more : List (Bench F G)) → rest ≡ b ∷ more → All (λ x. IsProper x) rest → IsProper b
+  proper_here b rest more er h = All-head (λ (x : Bench F G). IsProper x) b more (subst (λ (r : List (Bench F G)). All (λ x. IsProper x) r) er h)
+
+  pub proper_next : (b : Bench F G) (rest more : List (Bench F G)) → rest ≡ b ∷ more → All (λ x. IsProper x) rest → All (λ x. IsProper x) more
+  proper_next b rest more er h = All-tail (λ (x : Bench F G). IsProper x) b more (subst (λ (r : List (Bench F G)). All (λ x. IsProper x) r) er h)
+
+  pub made_last : (made : List BusSeen) (rest : List (Bench F G)) (all : List BusSeen) → rest ≡ [] → made ++ buses_from (length made) rest ≡ all → made ≡ all
+  made_last made rest all none h = sym (append-nil made) ∙ ap (λ (r : List (Bench F G)). made ++ buses_from (length made) r) (sym none) ∙ h
+
+  -- the buses that are made
+  pub numbered : (n : ℕ) (bs : List (Bench F G)) → NumberedFrom n (buses_from n bs)
+  numbered n [] = tt
+  numbered n (b ∷ more) = (refl, numbered (suc n) more)
+
+  pub same_names : (n : ℕ) (bs : List (Bench F G)) → names_of (buses_from n bs) ≡ bench_names bs
+  same_names n [] = refl
+  same_names n (b ∷ more) = ap (λ ns. b.names ∷ ns) (same_names (suc n) more)
+
+  pub good_names : (n : ℕ) (bs : List (Bench F G)) → All (λ x. IsProper x) bs → All (λ x. AreNames x.names) (buses_from n bs)
+  good_names n [] h = λ k d lt. absurd (omega (arith, lt))
+  good_names n (b ∷ more) h =
+      All-cons (λ (x : BusSeen). AreNames x.names) (bus_of n b) (buses_from (suc n) more) (All-head (λ (x : Bench F G). IsProper x) b more h).good
+      (good_names (suc n) more (All-tail (λ (x : Bench F G). IsProper x) b more h))
+
+  pub same_length : (n : ℕ) (bs : List (Bench F G)) → length (buses_from n bs) ≡ length bs
+  same_length n [] = refl
+  same_length n (b ∷ more) = ap suc (same_length (suc n) more)

@@ -1,0 +1,138 @@
+use Rattle.std.proofs.Common.{◌≡◌, ℕ, Bool, true, List, Option, Some, Result, Ok, Err, refl, sym, subst, ap, ◌∙◌, inr}
+use Rattle.can_confine.specs.Confinement.{ErrorCounts}
+use Rattle.can_meter.specs.Readings.{Readings}
+use Rattle.can_event.specs.declared.events.Event.{Event}
+use Rattle.can_event.specs.declared.events.Event.TheVariants as event
+use Rattle.can_event.specs.declared.events.Reply.{Reply}
+use Rattle.can_event.specs.declared.events.Attempt.TheVariants as attempt
+use Rattle.can_event.specs.declared.events.Received.{Received}
+use Rattle.can_event.specs.declared.events.SocketId.{SocketId}
+use Rattle.can_event.specs.Replies.{taken_item, taken_reply}
+use Rattle.can_dialog.specs.Calls.Call.{Receive}
+use Rattle.can_bus.specs.Answer.{done_reply, received_into, told_attempt}
+use Rattle.can_event.specs.declared.events.Reply.TheVariants as reply
+use Rattle.std.specs.Prelude.{slice_get, IfOk}
+use Rattle.can_dialog.specs.declared.port.PortRefusal.{PortRefusal}
+use Rattle.can_dialog.specs.Calls.{Gives, Refuses, Steps}
+use Rattle.can_event.specs.declared.stats.SocketStats.{SocketStats}
+use Rattle.can_event.specs.declared.stats.IfaceStats.{IfaceStats}
+use Rattle.can_station.specs.Passes.{PassSeen, Called, HadNoPassLeft, InSome, IsNewPass, Suits, same}
+use Rattle.can_station.specs.Waits.{AreCounts}
+use Rattle.can_station.specs.declared.refusals.StationRefusal.{StationRefusal}
+use Rattle.can_station.specs.declared.refusals.StationRefusal.TheVariants as station
+use Rattle.can_hub.specs.Buses.{BusSeen, IsFirstNamed, items_on}
+use Rattle.can_hub.specs.PassSteps.{EnteredSeen, PortSeen, PassStep, CountsSocket, CountsIface, entered_with, passed_on, refused_as, room_in, with_room, is_shared, OnPort, SomeNamed, SomeNamedFull, Attaches, GaugeTells, TellsCounters}
+
+-- the calls of a port over the station that was entered
+abbrev over : List BusSeen → EnteredSeen → PortSeen
+over buses e = record { buses = buses; entered = Some e }
+
+module _ (F : Type 0) (buses : List BusSeen) (now : EnteredSeen) (pass : PassSeen) where
+  on : {A : Type 0} (told : A → Reply) (e : Event) (outcome : Result A StationRefusal) → Called told now.number now.pass e outcome pass
+      → OnPort told (over buses now) e (passed_on outcome) (over buses (record now { pass = pass }))
+  on told e outcome called = ((outcome, pass, refl, called, refl), refl)
+
+  -- the event as the pass makes it
+  abbrev made : Event → Event
+  made e = with_room e (room_in buses (Some now))
+
+  gives : (e : Event) (r : Reply) → Called same now.number now.pass (made e) (Ok r) pass → Suits (made e) r → Gives (PassStep F) (over buses now) e r (over buses (record now { pass = pass }))
+  gives (event.Open iface asked) (reply.Opened socket) called fits = on (λ x. reply.Opened x) _ (Ok socket) called
+  gives (event.Close socket) (reply.Closed counts) called fits = on (λ x. reply.Closed x) _ (Ok counts) called
+  gives (event.SetFilters socket filters) reply.Done called fits = on done_reply _ (Ok tt) called
+  gives (event.SetOption socket option) reply.Done called fits = on done_reply _ (Ok tt) called
+  gives (event.Send socket frame) (reply.Sent number) called fits = on (λ x. reply.Sent x) _ (Ok number) called
+  gives (event.Receive socket) (reply.Received item) called fits = on (λ x. reply.Received x) _ (Ok item) called
+  gives (event.Attempt moment verdict) (reply.Idle restarted) called fits = on told_attempt _ (Ok (attempt.Idle restarted)) called
+  gives (event.Attempt moment verdict) (reply.Tried tried) called fits = on told_attempt _ (Ok (attempt.Tried tried)) called
+  gives (event.Restart iface moment) reply.Done called fits = on done_reply _ (Ok tt) called
+  gives (event.Open iface asked) (reply.Refused why) called fits = on (λ x. reply.Opened x) _ (Err (station.Bus why)) (inr called.0, called.1)
+  gives (event.Close socket) (reply.Refused why) called fits = on (λ x. reply.Closed x) _ (Err (station.Bus why)) (inr called.0, called.1)
+  gives (event.Send socket frame) (reply.Refused why) called fits = on (λ x. reply.Sent x) _ (Err (station.Bus why)) (inr called.0, called.1)
+  gives (event.Receive socket) (reply.Refused why) called fits = on (λ x. reply.Received x) _ (Err (station.Bus why)) (inr called.0, called.1)
+  gives (event.Attempt moment verdict) (reply.Refused why) called fits = on told_attempt _ (Err (station.Bus why)) (inr called.0, called.1)
+  gives e (reply.Refused why) called fits = on done_reply _ (Err (station.Bus why)) (inr called.0, called.1)
+  gives e r called fits = absurd fits
+
+  -- a receive into a room
+  taken : (room : Received) (socket : SocketId) (outcome : Result Bool StationRefusal) → Called (taken_reply room) now.number now.pass (event.Receive socket) outcome pass
+      → PassStep F (over buses now) (Receive socket) (received_into room (passed_on outcome)) (over buses (record now { pass = pass }))
+  taken room socket (Ok is_item) called = on (λ x. reply.Received x) _ (Ok (taken_item room is_item)) called
+  taken room socket (Err (station.Bus why)) called = on (λ x. reply.Received x) _ (Err (station.Bus why)) called
+  taken room socket (Err station.WrongStation) called = on (λ x. reply.Received x) _ (Err station.WrongStation) called
+
+  -- a refusal is the same for every call
+  refused : {A : Type 0} (told : A → Reply) (e : Event) (why : StationRefusal) → Called same now.number now.pass e (Err why) pass → OnPort told (over buses now) e (Err (refused_as why)) (over buses (record now { pass = pass }))
+  refused told e (station.Bus why) called = on told e (Err (station.Bus why)) called
+  refused told e station.WrongStation called = on told e (Err station.WrongStation) called
+
+  refuses : (e : Event) (why : StationRefusal) → Called same now.number now.pass (made e) (Err why) pass → Refuses (PassStep F) (over buses now) e (refused_as why) (over buses (record now { pass = pass }))
+  refuses (event.Open iface asked) why called = refused (λ x. reply.Opened x) _ why called
+  refuses (event.Close socket) why called = refused (λ x. reply.Closed x) _ why called
+  refuses (event.Send socket frame) why called = refused (λ x. reply.Sent x) _ why called
+  refuses (event.Receive socket) why called = refused (λ x. reply.Received x) _ why called
+  refuses (event.Attempt moment verdict) why called = refused told_attempt _ why called
+  refuses e why called = refused done_reply _ why called
+
+  steps : (e : Event) (outcome : Result Reply StationRefusal) → Called same now.number now.pass (made e) outcome pass → IfOk outcome (λ r. Suits (made e) r)
+      → Steps (PassStep F) (over buses now) e (passed_on outcome) (over buses (record now { pass = pass }))
+  steps e (Ok r) called fits = gives e r called fits
+  steps e (Err why) called fits = refuses e why called
+
+-- a call of the station that was entered is one of the port
+pub on_pass : (F : Type 0) (old : PortSeen) (buses : List BusSeen) (inside : Option EnteredSeen) (now : EnteredSeen) (pass : PassSeen) (e : Event) (room : ℕ) (outcome : Result Reply StationRefusal) (answer : Result Reply PortRefusal)
+    → ◌≡◌ {A = PortSeen} (record { buses = buses; entered = inside }) old → inside ≡ Some now → room ≡ items_on (slice_get buses now.number) → answer ≡ passed_on outcome
+    → Called same now.number now.pass (with_room e room) outcome pass → IfOk outcome (λ r. Suits (with_room e room) r)
+    → Steps (PassStep F) old e answer (over buses (record now { pass = pass }))
+on_pass F old buses inside now pass e room outcome answer seen is has told called fits =
+    let after : PortSeen = over buses (record now { pass = pass }) in
+    let stepped : Steps (PassStep F) (over buses now) e (passed_on outcome) after =
+    steps F buses now pass e outcome (subst (λ (n : ℕ). Called same now.number now.pass (with_room e n) outcome pass) has called) (subst (λ (n : ℕ). IfOk outcome (λ r. Suits (with_room e n) r)) has fits) in
+    subst (λ (o : PortSeen). Steps (PassStep F) o e answer after) (ap (λ (i : Option EnteredSeen). record { buses = buses; entered = i }) (sym is) ∙ seen)
+    (subst (λ (a : Result Reply PortRefusal). Steps (PassStep F) (over buses now) e a after) (sym told) stepped)
+
+-- a receive of the station that was entered, into a room, is one of the port
+pub received : (F : Type 0) (old : PortSeen) (buses : List BusSeen) (inside : Option EnteredSeen) (now : EnteredSeen) (pass : PassSeen) (socket : SocketId) (room : Received) (outcome : Result Bool StationRefusal) (answer : Result Bool PortRefusal)
+    → ◌≡◌ {A = PortSeen} (record { buses = buses; entered = inside }) old → inside ≡ Some now → answer ≡ passed_on outcome
+    → Called (taken_reply room) now.number now.pass (event.Receive socket) outcome pass
+    → PassStep F old (Receive socket) (received_into room answer) (over buses (record now { pass = pass }))
+received F old buses inside now pass socket room outcome answer seen is told called =
+    let after : PortSeen = over buses (record now { pass = pass }) in
+    subst (λ (o : PortSeen). PassStep F o (Receive socket) (received_into room answer) after) (ap (λ (i : Option EnteredSeen). record { buses = buses; entered = i }) (sym is) ∙ seen)
+    (subst (λ (a : Result Bool PortRefusal). PassStep F (over buses now) (Receive socket) (received_into room a) after) (sym told) (taken F buses now pass room socket outcome called))
+
+-- a socket's room has no part in a send or a receive
+pub shared : (e : Event) (room : ℕ) → true ≡ is_shared e → with_room e room ≡ e
+shared (event.Open iface asked) room is = absurd (cc (is))
+shared e room is = refl
+
+-- what its gauge returns is returned by the port
+pub on_gauge : (old : PortSeen) (buses : List BusSeen) (inside : Option EnteredSeen) (now : EnteredSeen) (gauge : Readings) (iface : ℕ) (answer : ErrorCounts)
+    → ◌≡◌ {A = PortSeen} (record { buses = buses; entered = inside }) old → inside ≡ Some now → GaugeTells now.gauge iface answer gauge
+    → TellsCounters old.entered iface answer (Some (record now { gauge = gauge })) × (buses ≡ old.buses)
+on_gauge old buses inside now gauge iface answer seen is tells =
+    subst (λ (o : PortSeen). TellsCounters o.entered iface answer (Some (record now { gauge = gauge })) × (buses ≡ o.buses)) seen
+    (subst (λ (o : Option EnteredSeen). TellsCounters o iface answer (Some (record now { gauge = gauge }))) (sym is) (gauge, tells, refl), refl)
+
+-- the counts that the station that was entered returns are returned by the port
+pub counted : (F : Type 0) (old : PortSeen) (buses : List BusSeen) (inside : Option EnteredSeen) (now : EnteredSeen) (socket iface : ℕ) (counts : Option SocketStats × Option IfaceStats)
+    → ◌≡◌ {A = PortSeen} (record { buses = buses; entered = inside }) old → inside ≡ Some now → InSome F now.number (λ held. AreCounts held.journal socket iface counts)
+    → CountsSocket F old.entered socket counts.0 × CountsIface F old.entered iface counts.1
+counted F old buses inside now socket iface counts seen is (held, number, found) =
+    subst (λ (o : PortSeen). CountsSocket F o.entered socket counts.0 × CountsIface F o.entered iface counts.1) seen
+    (subst (λ (o : Option EnteredSeen). CountsSocket F o socket counts.0 × CountsIface F o iface counts.1) (sym is) ((held, number, found.0), (held, number, found.1)))
+
+module _ (old : PortSeen) (buses : List BusSeen) (inside : Option EnteredSeen) (name : List ℕ) (at : ℕ × ℕ) (seen : ◌≡◌ {A = PortSeen} (record { buses = buses; entered = inside }) old) (first : IsFirstNamed buses name (Some at)) where
+  -- the bus that was found has the name
+  pub some_named : SomeNamed old.buses name
+  some_named = subst (λ (o : PortSeen). SomeNamed o.buses name) seen (at.0, at.1, first)
+
+  -- and its station had no pass left
+  pub some_named_full : (F : Type 0) (number : ℕ) → number ≡ at.0 → HadNoPassLeft F number → SomeNamedFull F old.buses name
+  some_named_full F number is full = subst (λ (o : PortSeen). SomeNamedFull F o.buses name) seen (at.0, at.1, first, subst (λ (n : ℕ). HadNoPassLeft F n) is full)
+
+  -- and its station was entered
+  pub attached : (F : Type 0) (number : ℕ) (gauge : Readings) (pass : PassSeen) → number ≡ at.0 → gauge.number ≡ number → IsNewPass F number pass → Attaches F old name (Ok at.1) (over buses (entered_with number gauge pass))
+  attached F number gauge pass is metered new =
+      subst (λ (o : PortSeen). Attaches F o name (Ok at.1) (over buses (entered_with number gauge pass))) seen
+      (at.0, gauge, pass, first, metered ∙ is, subst (λ (n : ℕ). IsNewPass F n pass) is new, ap (λ (n : ℕ). over buses (entered_with n gauge pass)) is)

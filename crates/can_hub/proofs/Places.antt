@@ -1,0 +1,61 @@
+use Rattle.std.proofs.Common.{◌≡◌, ◌+◌, ◌<◌, ◌≤◌, ℕ, zero, suc, List, [], ◌∷◌, length, Option, Some, None, refl, ap, sym, subst, inl, inr, ◌∙◌, arith}
+use Rattle.std.specs.Prelude.{slice_get, slice_index_or, All}
+use Rattle.std.specs.Str.{IsUtf8}
+use Rattle.can_frame.specs.Names.{AreNames, place_of}
+use Rattle.can_dialog.proofs.Naming.{unnamed}
+use Rattle.std.proofs.lemmas.Bool.{cases_lt}
+use Rattle.can_hub.specs.Buses.{BusSeen, items_on, NumberedFrom, NoneNamed, IsFirstNamed}
+
+-- the element at a place
+pub index_of_get : {X : Type 0} (xs : List X) (k : ℕ) (x d : X) → slice_get xs k ≡ Some x → slice_index_or xs k d ≡ x
+index_of_get [] k x d e = absurd (cc (e))
+index_of_get (y ∷ ys) zero x d e = cc (e)
+index_of_get (y ∷ ys) (suc k) x d e = index_of_get ys k x d e
+
+-- a bus's number is its place
+numbered_from : (n : ℕ) (buses : List BusSeen) (k : ℕ) (d : BusSeen) → NumberedFrom n buses → k < length buses → (slice_index_or buses k d).number ≡ n + k
+numbered_from n [] k d h lt = omega (arith, lt)
+numbered_from n (b ∷ more) zero d h lt = omega (arith, h.0)
+numbered_from n (b ∷ more) (suc k) d h lt =
+    let rest : (slice_index_or more k d).number ≡ suc n + k = numbered_from (suc n) more k d h.1 (omega (arith, lt)) in omega (arith, rest)
+
+pub number_at : (buses : List BusSeen) (k : ℕ) (d : BusSeen) → NumberedFrom 0 buses → k < length buses → (slice_index_or buses k d).number ≡ k
+number_at buses k d h lt = let at = numbered_from 0 buses k d h lt in omega (arith, at)
+
+-- an element is the same whatever replaces a missing one
+index_default : {X : Type 0} (xs : List X) (k : ℕ) (d e : X) → k < length xs → slice_index_or xs k d ≡ slice_index_or xs k e
+index_default [] k d e lt = absurd (omega (arith, lt))
+index_default (x ∷ xs) zero d e lt = refl
+index_default (x ∷ xs) (suc k) d e lt = index_default xs k d e (omega (arith, lt))
+
+-- what a bus's names say of a name, whatever replaces a missing bus
+pub named_at : (buses : List BusSeen) (k : ℕ) (d e : BusSeen) (name : List ℕ) → k < length buses → place_of (slice_index_or buses k d).names name ≡ place_of (slice_index_or buses k e).names name
+named_at buses k d e name lt = ap (λ (b : BusSeen). place_of b.names name) (index_default buses k d e lt)
+
+-- how long a bus's driver sleeps, whatever replaces a missing bus
+pub pace_at : (buses : List BusSeen) (k : ℕ) (d e : BusSeen) → k < length buses → (slice_index_or buses k d).pace_ms ≡ (slice_index_or buses k e).pace_ms
+pace_at buses k d e lt = ap (λ (b : BusSeen). b.pace_ms) (index_default buses k d e lt)
+
+-- how many items a socket holds on the bus at a place
+pub items_at : (buses : List BusSeen) (k : ℕ) (b d : BusSeen) → k < length buses → b ≡ slice_index_or buses k d → b.rx_capacity ≡ items_on (slice_get buses k)
+items_at [] k b d lt same = absurd (omega (arith, lt))
+items_at (x ∷ xs) zero b d lt same = ap (λ (s : BusSeen). s.rx_capacity) same
+items_at (x ∷ xs) (suc k) b d lt same = items_at xs k b d (omega (arith, lt)) same
+
+-- no bus comes after the last
+pub items_past : (buses : List BusSeen) (k : ℕ) → length buses ≤ k → 0 ≡ items_on (slice_get buses k)
+items_past [] zero le = refl
+items_past [] (suc k) le = refl
+items_past (x ∷ xs) zero le = absurd (omega (arith, le))
+items_past (x ∷ xs) (suc k) le = items_past xs k (omega (arith, le))
+
+-- bytes that are no UTF-8 are no bus's name
+pub nowhere : (buses : List BusSeen) (name : List ℕ) → All (λ b. AreNames b.names) buses → (¬ IsUtf8 name) → IsFirstNamed buses name None
+nowhere buses name good bad k d lt = sym (unnamed (slice_index_or buses k d).names name (good k d lt) bad)
+
+-- none before the next bus, where none is before this one and this one has none
+pub none_next : (n : ℕ) (buses : List BusSeen) (name : List ℕ) (found : Option ℕ) → NoneNamed n buses name → ((d : BusSeen) → found ≡ place_of (slice_index_or buses n d).names name) → found ≡ None → NoneNamed (n + 1) buses name
+none_next n buses name found before at is k d lt = elim (cases_lt k n) [
+  | inl less ↦ before k d less
+  | inr more ↦ (let same : n ≡ k = omega (arith, lt, more) in subst (λ (i : ℕ). place_of (slice_index_or buses i d).names name ≡ None) same (sym (at d) ∙ is))
+]

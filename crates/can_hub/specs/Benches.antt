@@ -1,0 +1,44 @@
+use Rattle.std.specs.Prelude.{◌≡◌, ◌≤◌, ℕ, suc, List, [], ◌∷◌, length, map, All}
+use Rattle.atomic_table.specs.Seated.{TableId}
+use Rattle.can_frame.specs.Names.{AreNames}
+use Rattle.can_event.specs.Events.{IsConfig, max_rx_capacity}
+use Rattle.can_hub.specs.Buses.{BusSeen, AllApart}
+use Rattle.can_hub.specs.declared.benches.Bench.{Bench}
+
+-- What the buses of a hub are made of.
+
+module _ {F G : Type 0} where
+  -- a bus may be made of this: the configuration is within the limits of a bus, blanks and names are of as many
+  -- interfaces as it has, and a socket holds 1 to 65,536 items
+  pub record IsProper (b : Bench F G) : Type 0 where
+    pub config : IsConfig b.config
+    pub words : b.blanks.meter.words ≡ b.config.ifaces
+    pub names : length b.names ≡ b.config.ifaces
+    pub good : AreNames b.names
+    pub some_items : 1 ≤ b.rx_capacity
+    pub few_items : b.rx_capacity ≤ max_rx_capacity
+
+  -- the names of each bus
+  abbrev pub bench_names : List (Bench F G) → List (List (List ℕ))
+  bench_names benches = map (λ b. b.names) benches
+
+  -- a hub may be made of these: 1 to 16 buses, and no name on two of them
+  pub record MakeHub (benches : List (Bench F G)) : Type 0 where
+    pub some : 1 ≤ length benches
+    pub few : length benches ≤ 16
+    pub proper : All (λ b. IsProper b) benches
+    pub apart : AllApart (bench_names benches)
+
+  -- the blanks are named by the numbers of their buses, the first of them n
+  abbrev pub NamedFrom : (ℕ → TableId) → (ℕ → TableId) → ℕ → List (Bench F G) → Type 0
+  NamedFrom roll meter n [] = Unit {0}
+  NamedFrom roll meter n (b ∷ more) = (b.blanks.roll ≡ roll n) × (b.blanks.meter ≡ meter n) × NamedFrom roll meter (suc n) more
+
+  -- the bus that is made under a number
+  abbrev pub bus_of : ℕ → Bench F G → BusSeen
+  bus_of n b = record { number = n; names = b.names; pace_ms = b.pace_ms; rx_capacity = b.rx_capacity }
+
+  -- the buses that are made, the first of them under the number n
+  abbrev pub buses_from : ℕ → List (Bench F G) → List BusSeen
+  buses_from n [] = []
+  buses_from n (b ∷ more) = bus_of n b ∷ buses_from (suc n) more

@@ -1,0 +1,4 @@
+pub mod Buses
+pub mod Benches
+pub mod Settling
+pub mod PassSteps

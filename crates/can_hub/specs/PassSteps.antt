@@ -1,0 +1,137 @@
+use Rattle.std.specs.Prelude.{◌≡◌, ◌<◌, ◌≤◌, ◌⊎◌, ℕ, Bool, true, false, List, Option, Some, None, Result, Ok, Err, slice_get}
+use mathlib.Core.List.{IsSuffix}
+use Rattle.can_confine.specs.Confinement.{ErrorCounts, at_start}
+use Rattle.can_meter.specs.Publications.{newest, published}
+use Rattle.can_meter.specs.Readings.{Readings, knowing_of}
+use Rattle.can_event.specs.declared.events.Event.{Event}
+use Rattle.can_event.specs.declared.events.Event.TheVariants as event
+use Rattle.can_event.specs.declared.events.Reply.{Reply}
+use Rattle.can_event.specs.declared.events.Reply.TheVariants as reply
+use Rattle.can_event.specs.declared.events.Refusal.TheVariants as refusal
+use Rattle.can_event.specs.declared.stats.SocketStats.{SocketStats}
+use Rattle.can_event.specs.declared.stats.IfaceStats.{IfaceStats}
+use Rattle.can_bus.specs.Answer.{done_reply, told_attempt}
+use Rattle.can_bus.specs.Stats.{socket_stats_of, iface_stats_of}
+use Rattle.can_dialog.specs.declared.port.PortRefusal.{PortRefusal}
+use Rattle.can_dialog.specs.declared.port.PortRefusal.TheVariants as port
+use Rattle.can_dialog.specs.Calls.{Call}
+use Rattle.can_dialog.specs.Calls.{Reply as CallReply}
+use Rattle.can_dialog.specs.Calls.Call.{Attach, Open, Close, SetFilters, SetOption, Send, Receive, Restart, Attempt, CountsOfSocket, CountsOfIface, CountersOfIface}
+use Rattle.can_station.specs.Passes.{PassSeen, Called, HadNoPassLeft, InSome, IsNewPass}
+use Rattle.can_station.specs.declared.refusals.StationRefusal.{StationRefusal}
+use Rattle.can_station.specs.declared.refusals.StationRefusal.TheVariants as station
+use Rattle.can_hub.specs.Buses.{BusSeen, IsFirstNamed, items_on}
+
+-- A pass as a port: each call but the look-ups is the station's.
+
+-- a station that was entered: its number, what the gauge of its meter has seen, and the pass
+pub record EnteredSeen : Type 0 where
+  pub number : ℕ
+  pub gauge : Readings
+  pub pass : PassSeen
+
+-- a port: the buses of its hub, and the station that was entered
+pub record PortSeen : Type 0 where
+  pub buses : List BusSeen
+  pub entered : Option EnteredSeen
+
+-- a station that was entered with this gauge and this pass
+abbrev pub entered_with : ℕ → Readings → PassSeen → EnteredSeen
+entered_with bus gauge pass = record { number = bus; gauge = gauge; pass = pass }
+
+-- how many items a socket holds on the bus that was entered
+abbrev pub room_in : List BusSeen → Option EnteredSeen → ℕ
+room_in buses None = 0
+room_in buses (Some e) = items_on (slice_get buses e.number)
+
+-- an event as a pass makes it: a socket holds as many items as its bus says
+abbrev pub with_room : Event → ℕ → Event
+with_room (event.Open iface asked) room = event.Open iface room
+with_room e room = e
+
+-- whether an event may be made in one hold of the lock with others
+abbrev pub is_shared : Event → Bool
+is_shared (event.Send socket frame) = true
+is_shared (event.Receive socket) = true
+is_shared e = false
+
+-- a station's refusal, as a port gives it
+abbrev pub refused_as : StationRefusal → PortRefusal
+refused_as (station.Bus why) = port.Bus why
+refused_as station.WrongStation = port.WrongStation
+
+-- a station's reply, as a port gives it
+abbrev pub passed_on : {A : Type 0} → Result A StationRefusal → Result A PortRefusal
+passed_on (Ok a) = Ok a
+passed_on (Err why) = Err (refused_as why)
+
+-- a call of the station that was entered; where none was, there is no socket
+abbrev pub OnPass : {A : Type 0} → (A → Reply) → Option EnteredSeen → Event → Result A PortRefusal → Option EnteredSeen → Type 0
+OnPass {A} told None e answer new = (answer ≡ Err (port.Bus refusal.NoSocket)) × (new ≡ None)
+OnPass {A} told (Some old) e answer new =
+    (outcome : Result A StationRefusal) × (pass : PassSeen) × (answer ≡ passed_on outcome) × Called told old.number old.pass e outcome pass
+    × (new ≡ Some (record old { pass = pass }))
+
+-- a call of the station on the port of a hub, which stays as it was
+abbrev pub OnPort : {A : Type 0} → (A → Reply) → PortSeen → Event → Result A PortRefusal → PortSeen → Type 0
+OnPort told old e answer new = OnPass told old.entered e answer new.entered × (new.buses ≡ old.buses)
+
+-- some bus has an interface of this name
+abbrev pub SomeNamed : List BusSeen → List ℕ → Type 0
+SomeNamed buses name = (bus : ℕ) × (iface : ℕ) × IsFirstNamed buses name (Some (bus, iface))
+
+-- some bus that has an interface of this name had no pass left
+abbrev pub SomeNamedFull : Type 0 → List BusSeen → List ℕ → Type 0
+SomeNamedFull F buses name = (bus : ℕ) × (iface : ℕ) × IsFirstNamed buses name (Some (bus, iface)) × HadNoPassLeft F bus
+
+-- the station of the bus that has the name is entered, with a gauge of its meter and its next pass; else nothing changes:
+-- no bus has the name, or it has one and memory was refused to the gauge or no pass was left
+abbrev pub Attaches : Type 0 → PortSeen → List ℕ → Result ℕ PortRefusal → PortSeen → Type 0
+Attaches F old name (Ok iface) new =
+    (bus : ℕ) × (gauge : Readings) × (pass : PassSeen) × IsFirstNamed old.buses name (Some (bus, iface)) × (gauge.number ≡ bus)
+    × IsNewPass F bus pass × (new ≡ record { buses = old.buses; entered = Some (entered_with bus gauge pass) })
+Attaches F old name (Err (port.Bus refusal.NoInterface)) new = IsFirstNamed old.buses name None × (new ≡ old)
+Attaches F old name (Err (port.Bus refusal.NoMemory)) new = SomeNamed old.buses name × (new ≡ old)
+Attaches F old name (Err port.TooManyPasses) new = SomeNamedFull F old.buses name × (new ≡ old)
+Attaches F old name (Err _) new = ⊥
+
+-- a gauge returns the error counters that it now knows as the last published of an interface, and knows no less than
+-- before; of an interface that its meter has not it returns 0/0
+abbrev pub GaugeTells : Readings → ℕ → ErrorCounts → Readings → Type 0
+GaugeTells old iface answer new =
+    ((iface < old.ifaces)
+    × (answer ≡ (newest (published new.lists iface)).counters) × IsSuffix (published old.lists iface) (published new.lists iface)
+    × (new ≡ knowing_of old iface (published new.lists iface)))
+    ⊎ ((old.ifaces ≤ iface) × (answer ≡ at_start) × (new ≡ old))
+
+-- the gauge of the station that was entered returns the error counters of an interface; where none was, they are 0/0
+abbrev pub TellsCounters : Option EnteredSeen → ℕ → ErrorCounts → Option EnteredSeen → Type 0
+TellsCounters None iface answer new = (answer ≡ at_start) × (new ≡ None)
+TellsCounters (Some old) iface answer new = (gauge : Readings) × GaugeTells old.gauge iface answer gauge × (new ≡ Some (record old { gauge = gauge }))
+
+-- counts that a socket with this number has in some state of the station that was entered (which is not said); where
+-- none was, it is not open
+abbrev pub CountsSocket : Type 0 → Option EnteredSeen → ℕ → Option SocketStats → Type 0
+CountsSocket F None socket answer = answer ≡ None
+CountsSocket F (Some e) socket answer = InSome F e.number (λ held. answer ≡ socket_stats_of held.journal.config held.journal.history socket)
+
+-- counts that this interface has in some state of the station that was entered (which is not said); where none was,
+-- there is no such interface
+abbrev pub CountsIface : Type 0 → Option EnteredSeen → ℕ → Option IfaceStats → Type 0
+CountsIface F None iface answer = answer ≡ None
+CountsIface F (Some e) iface answer = InSome F e.number (λ held. answer ≡ iface_stats_of held.journal.config held.journal.history iface)
+
+-- a call on a port over a pass of a station whose verdicts come from an F
+abbrev pub PassStep : Type 0 → PortSeen → (call : Call) → CallReply call → PortSeen → Type 0
+PassStep F old (Attach name) answer new = Attaches F old name answer new
+PassStep F old (Open iface asked) answer new = OnPort reply.Opened old (event.Open iface (room_in old.buses old.entered)) answer new
+PassStep F old (Close socket) answer new = OnPort reply.Closed old (event.Close socket) answer new
+PassStep F old (SetFilters socket filters) answer new = OnPort done_reply old (event.SetFilters socket filters) answer new
+PassStep F old (SetOption socket option) answer new = OnPort done_reply old (event.SetOption socket option) answer new
+PassStep F old (Send socket frame) answer new = OnPort reply.Sent old (event.Send socket frame) answer new
+PassStep F old (Receive socket) answer new = OnPort reply.Received old (event.Receive socket) answer new
+PassStep F old (Restart iface moment) answer new = OnPort done_reply old (event.Restart iface moment) answer new
+PassStep F old (Attempt moment verdict) answer new = OnPort told_attempt old (event.Attempt moment verdict) answer new
+PassStep F old (CountsOfSocket socket) answer new = CountsSocket F old.entered socket.0 answer × (new ≡ old)
+PassStep F old (CountsOfIface iface) answer new = CountsIface F old.entered iface answer × (new ≡ old)
+PassStep F old (CountersOfIface iface) answer new = TellsCounters old.entered iface answer new.entered × (new.buses ≡ old.buses)

@@ -1,0 +1,104 @@
+ghost use Rattle.std.specs.Prelude.{◌<◌, [], IsTrue, ◌↔◌, length, All, Contains, slice_index_or};
+ghost use Rattle.can_hub.specs.Buses.{Apart, ApartFrom, AllApart};
+ghost use Rattle.can_hub.specs.Benches.{IsProper, MakeHub, bench_names};
+
+use can_bus::BusConfig;
+use can_event::MAX_RX_CAPACITY;
+use can_fault::FaultSource;
+use can_frame::{Iface, Names};
+use can_station::{Blanks, Gate};
+
+/// What a bus of a hub is made of.
+#[derive(Drop)]
+pub struct Bench<F: FaultSource + Drop, G: Gate + Drop> {
+    /// The names of its interfaces, as many as the configuration has.
+    pub names: Names,
+    /// Blanks for as many interfaces.
+    pub blanks: Blanks,
+    pub config: BusConfig,
+    /// The verdicts of its attempts.
+    pub source: F,
+    /// Where a test may hold a thread.
+    pub gate: G,
+    /// How many milliseconds its driver sleeps after each step.
+    pub pace_ms: u32,
+    /// How many items a socket holds, 1 to 65,536.
+    pub rx_capacity: u32,
+}
+
+impl<F: FaultSource + Drop, G: Gate + Drop> Bench<F, G> {
+    /// Whether a bus may be made of it.
+    fn is_proper(&self) -> bool
+        ensures { IsTrue result ↔ IsProper self.now }
+    {
+        let ifaces = self.config.ifaces;
+        self.config.is_proper()
+            && self.blanks.meter.ifaces() == usize::from(ifaces)
+            && self.names.count() == ifaces
+            && self.rx_capacity >= 1
+            && self.rx_capacity <= MAX_RX_CAPACITY
+    }
+}
+
+/// Whether a hub may be made of these.
+pub(crate) fn make_hub<F: FaultSource + Drop, G: Gate + Drop>(benches: &[Bench<F, G>]) -> bool
+    ensures { IsTrue result ↔ MakeHub benches.now }
+{
+    benches.len() >= 1 && benches.len() <= 16 && are_proper(benches) && are_all_apart(benches)
+}
+
+/// Whether a bus may be made of each.
+fn are_proper<F: FaultSource + Drop, G: Gate + Drop>(benches: &[Bench<F, G>]) -> bool
+    ensures { IsTrue result ↔ All (λ b. IsProper b) benches.now }
+{
+    benches.iter().all(|bench| bench.is_proper())
+}
+
+/// Whether no name is on two of these.
+fn are_all_apart<F: FaultSource + Drop, G: Gate + Drop>(benches: &[Bench<F, G>]) -> bool
+    ensures { IsTrue result ↔ AllApart (bench_names benches.now) }
+{
+    match benches {
+        [] => true,
+        [first, rest @ ..] => is_apart(&first.names, rest) && are_all_apart(rest),
+    }
+}
+
+/// Whether none of these names is on one of the benches.
+fn is_apart<F: FaultSource + Drop, G: Gate + Drop>(names: &Names, benches: &[Bench<F, G>]) -> bool
+    ensures { IsTrue result ↔ ApartFrom names.now (bench_names benches.now) }
+{
+    match benches {
+        [] => true,
+        [first, rest @ ..] => are_apart(names, &first.names) && is_apart(names, rest),
+    }
+}
+
+/// Whether no name is in both.
+fn are_apart(names: &Names, others: &Names) -> bool
+    ensures { IsTrue result ↔ Apart names.now others.now }
+{
+    for number in 0..names.count() {
+        if !is_free(names, number, others) {
+            return false;
+        }
+    }
+    true
+}
+
+/// Whether the name of this interface is none of the others.
+#[tactic(auto, using(crate::proofs::Places::index_of_get))]
+fn is_free(names: &Names, number: u8, others: &Names) -> bool
+    requires { number < length names.now }
+    ensures { IsTrue result ↔ (¬ Contains others.now (slice_index_or names.now number [])) }
+{
+    // The proof learns here that there are at most 16 names.
+    let _ = names.count();
+    let Some(iface) = Iface::new(number) else {
+        unreachable!()
+    };
+    match names.name(iface) {
+        Some(name) => others.find(name).is_none(),
+        None => unreachable!(),
+    }
+}

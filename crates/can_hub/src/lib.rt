@@ -1,0 +1,17 @@
+//! A hub of buses, and a session's way to the one that it opens.
+//!
+//! A [`Hub`] has a station for each bus, numbered by its place. A [`PassPort`] is the port of a session: it
+//! enters the station whose bus has the name that the session opens, and makes each call with that pass; a
+//! [`HeldPort`] makes its sends and receives in one hold of the lock. At the end [`Hub::settle`] takes the passes
+//! back and hands out the record of each bus.
+#![tactic(auto)]
+
+pub mod benches;
+pub mod held;
+pub mod hubs;
+pub mod ports;
+
+pub use benches::Bench;
+pub use held::HeldPort;
+pub use hubs::{Hub, SettleFault};
+pub use ports::PassPort;
