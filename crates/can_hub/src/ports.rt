@@ -91,6 +91,16 @@ impl<'a, N: RollName + MeterName, F: FaultSource + Drop, G: Gate + Drop, R: Wait
     }
 
     /// The pass, where a station was entered.
+    pub fn pass(&self) -> Option<&Pass<N>>
+        ensures { option_map (λ p. p.now) result ≡ option_map (λ e. e.pass) self.now.entered }
+    {
+        match &self.entered {
+            Some(entered) => Some(&entered.pass),
+            None => None,
+        }
+    }
+
+    /// Gives the pass away, where a station was entered.
     pub fn into_pass(self) -> Option<Pass<N>>
         ensures { result ≡ option_map (λ e. e.pass) self.entry.entered }
     {

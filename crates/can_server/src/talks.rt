@@ -167,14 +167,14 @@ impl<'a, N: RollName + MeterName, F: FaultSource + Drop, G: Gate + Drop, R: Wait
 
     /// The interface that the session has restarted since the last look, if it has.
     pub fn look_for_restart(&mut self) -> Option<Iface> {
-        let entered = self.port.entered.as_ref()?;
+        let pass = self.port.pass()?;
         let mut restarted = None;
-        for place in self.looked..entered.pass.len() {
-            if let Some(call) = entered.pass.call(place) {
+        for place in self.looked..pass.len() {
+            if let Some(call) = pass.call(place) {
                 restarted = restart_in(call.entry()).or(restarted);
             }
         }
-        self.looked = entered.pass.len();
+        self.looked = pass.len();
         restarted
     }
 

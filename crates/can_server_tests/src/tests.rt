@@ -9,6 +9,7 @@ mod guests;
 mod held;
 mod hubs;
 mod limits;
+mod local_clients;
 mod notices;
 mod peers;
 mod ports;

@@ -1,10 +1,9 @@
 // Who has a place among the guests of a server, without any thread.
 
-ghost use Rattle.std.specs.Prelude.{◌≡◌};
+ghost use Rattle.std.specs.Prelude.{◌≡◌, ◌<◌};
 
 use super::*;
 use can_server::{Conn, Guests, NotAdmitted};
-use std::io;
 use std::io::{Read, Write};
 use std::net::Net;
 use std::os::unix::net::UnixStream;
@@ -12,51 +11,79 @@ use std::sync::Arc;
 
 /// The places of a server, and one connection for whoever comes, at this moment.
 #[derive(Drop)]
-struct House {
+struct House<'r, R: Abort> {
+    rt: &'r R,
     guests: Guests,
     conn: Arc<Conn, Global>,
     now: Moment,
 }
 
-impl House {
-    fn comes<R: Abort>(&mut self, rt: &R) -> Result<usize, NotAdmitted> {
-        self.guests.admit(shared(rt, &self.conn), self.now)
+impl<R: Abort> House<'_, R> {
+    fn comes(&mut self) -> Result<usize, NotAdmitted> {
+        let conn = shared(self.rt, &self.conn);
+        self.guests.admit(conn, self.now)
+    }
+
+    /// Whoever comes has this place.
+    fn gives(&mut self, place: usize) {
+        assert!(self.rt; self.comes() == Ok(place));
+    }
+
+    /// Whoever comes is not admitted.
+    fn refuses(&mut self, why: NotAdmitted) {
+        assert!(self.rt; self.comes() == Err(why));
+    }
+
+    /// 64 come, and each has a place of its own.
+    fn fills(&mut self) {
+        let mut taken = [false; 64];
+        for _ in 0..64 {
+            let Ok(place) = self.comes() else {
+                panic!(self.rt; "no place");
+            };
+            assert!(self.rt; place < 64 && !taken[place]);
+            taken[place] = true;
+        }
+    }
+
+    /// It was open, and now is closed.
+    fn closes(&mut self) {
+        assert!(self.rt; !self.guests.is_closed());
+        assert!(self.rt; self.guests.close());
+        assert!(self.rt; self.guests.is_closed());
     }
 }
 
 #[test]
-fn a_closed_server_lets_nobody_in(rt: HostRuntime) -> io::Result<()> {
-    let alloc = rt.alloc();
-    let (ours, theirs) = UnixStream::pair(&rt)?;
-    let (Ok(guests), Ok(conn)) = (Guests::new(alloc), Arc::new(alloc, Conn::Unix(ours))) else {
-        panic!(&rt; "no memory");
+fn a_closed_server_lets_nobody_in(rt: HostRuntime) {
+    let (conn, client) = pair(&rt);
+    let mut house = House {
+        rt: &rt,
+        guests: no_guests(&rt, rt.alloc()),
+        conn,
+        now: moment(&rt, 23_424_242),
     };
-    let now = moment(&rt, 23_424_242);
-    let mut house = House { guests, conn, now };
-    let mut taken = [false; 64];
-    for _ in 0..64 {
-        let Ok(place) = house.comes(&rt) else {
-            panic!(&rt; "no place");
-        };
-        assert!(&rt; place < 64 && !taken[place]);
-        taken[place] = true;
-    }
+    house.fills();
     // All places are taken; then one is free, and then the server is closed.
-    assert!(&rt; house.comes(&rt) == Err(NotAdmitted::Full));
-    assert!(&rt; !house.guests.make_room(now));
+    house.refuses(NotAdmitted::Full);
+    assert!(&rt; !house.guests.make_room(house.now));
     house.guests.leave(23);
-    assert!(&rt; house.comes(&rt) == Ok(23));
+    house.gives(23);
     house.guests.leave(42);
-    assert!(&rt; !house.guests.is_closed());
-    assert!(&rt; house.guests.close());
-    assert!(&rt; house.comes(&rt) == Err(NotAdmitted::Closed));
+    house.closes();
+    house.refuses(NotAdmitted::Closed);
     house.guests.leave(7);
-    assert!(&rt; house.comes(&rt) == Err(NotAdmitted::Closed));
-    assert!(&rt; house.guests.is_closed() && !house.guests.close());
+    house.refuses(NotAdmitted::Closed);
+    assert!(&rt; !house.guests.close());
     // The connections of all guests were shut down.
-    let mut client = &theirs;
-    assert!(&rt; client.read(&mut [0; 1])? == 0);
-    Ok(())
+    assert!(&rt; is_shut(&client));
+}
+
+fn no_guests<R: Abort>(rt: &R, alloc: Global) -> Guests {
+    let Ok(guests) = Guests::new(alloc) else {
+        panic!(rt; "no memory");
+    };
+    guests
 }
 
 /// The same connection.
@@ -84,29 +111,47 @@ fn is_open(conn: &Conn, client: &UnixStream) -> bool {
     client.write_all(b"x").is_ok() && conn.read(&mut [0; 1]).is_ok_and(|count| count == 1)
 }
 
+/// Whether a client reads the end of its connection.
+fn is_shut(client: &UnixStream) -> bool {
+    let mut client = client;
+    client.read(&mut [0; 1]).is_ok_and(|count| count == 0)
+}
+
+/// Whether a guest makes room at this moment.
+fn makes_room<R: Abort>(rt: &R, guests: &mut Guests, micros: u64) -> bool {
+    guests.make_room(moment(rt, micros))
+}
+
+/// A guest comes at this moment, and has this place.
+fn takes<R: Abort>(
+    rt: &R,
+    guests: &mut Guests,
+    conn: &Arc<Conn, Global>,
+    micros: u64,
+    place: usize,
+) {
+    let admitted = guests.admit(shared(rt, conn), moment(rt, micros));
+    assert!(rt; admitted == Ok(place));
+}
+
 #[test]
 fn a_guest_who_is_idle_for_a_minute_makes_room(rt: HostRuntime) {
-    let Ok(mut guests) = Guests::new(rt.alloc()) else {
-        panic!(&rt; "no memory");
-    };
+    let mut guests = no_guests(&rt, rt.alloc());
     let (idle, idle_end) = pair(&rt);
     let (raw, raw_end) = pair(&rt);
     let (late, late_end) = pair(&rt);
-    let came = moment(&rt, 23_424_242);
-    assert!(&rt; guests.admit(idle, came) == Ok(0));
-    assert!(&rt; guests.admit(shared(&rt, &raw), came) == Ok(1));
-    assert!(&rt; guests.admit(shared(&rt, &late), moment(&rt, 23_424_243)) == Ok(2));
+    takes(&rt, &mut guests, &idle, 23_424_242, 0);
+    takes(&rt, &mut guests, &raw, 23_424_242, 1);
+    takes(&rt, &mut guests, &late, 23_424_243, 2);
     guests.keep(1);
     // Nobody is idle a microsecond before the minute is over, nor where the clock was set back.
-    assert!(&rt; !guests.make_room(moment(&rt, 83_424_241)));
-    assert!(&rt; !guests.make_room(moment(&rt, 0)));
-    assert!(&rt; guests.make_room(moment(&rt, 83_424_242)));
-    let mut client = &idle_end;
-    assert!(&rt; client.read(&mut [0; 1]).is_ok_and(|count| count == 0));
-    assert!(&rt; is_open(&raw, &raw_end) && is_open(&late, &late_end));
+    assert!(&rt; !makes_room(&rt, &mut guests, 83_424_241));
+    assert!(&rt; !makes_room(&rt, &mut guests, 0));
+    assert!(&rt; makes_room(&rt, &mut guests, 83_424_242));
+    assert!(&rt; is_shut(&idle_end) && is_open(&raw, &raw_end) && is_open(&late, &late_end));
     // Its place is about to get free, and then it is.
-    assert!(&rt; guests.make_room(moment(&rt, 0)));
+    assert!(&rt; makes_room(&rt, &mut guests, 0));
     guests.leave(0);
-    assert!(&rt; !guests.make_room(moment(&rt, 83_424_242)));
-    assert!(&rt; guests.admit(late, came) == Ok(0));
+    assert!(&rt; !makes_room(&rt, &mut guests, 83_424_242));
+    takes(&rt, &mut guests, &late, 23_424_242, 0);
 }

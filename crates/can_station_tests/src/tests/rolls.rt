@@ -14,24 +14,20 @@ fn numbers_its_passes<N: RollName>(rt: &impl Abort, blank: RollBlank)
     requires { blank ≡ N.roll 3 }
 {
     let mut roll = Roll::<N>::new(blank, 3);
-    assert_eq!(rt; roll.number(), 3);
-    assert_eq!(rt; roll.passes(), 0);
+    assert!(rt; roll.number() == 3 && roll.passes() == 0);
     let mut first = roll.enter();
     let second = roll.enter();
-    assert_eq!(rt; first.number(), 3);
-    assert_eq!(rt; first.pass(), 0);
-    assert_eq!(rt; second.number(), 3);
-    assert_eq!(rt; second.pass(), 1);
-    let socket = SocketId(5);
-    roll.note(&mut first, &Event::Receive(socket), &Reply::Received(None));
+    assert!(rt; first.number() == 3 && first.pass() == 0);
+    assert!(rt; second.number() == 3 && second.pass() == 1);
+    let event = Event::Receive(SocketId(5));
+    let reply = Reply::Received(None);
+    roll.note(&mut first, &event, &reply);
     roll.recall(second);
-    roll.note(&mut first, &Event::Receive(socket), &Reply::Received(None));
-    assert_eq!(rt; first.number(), 3);
-    assert_eq!(rt; first.pass(), 0);
+    roll.note(&mut first, &event, &reply);
+    assert!(rt; first.number() == 3 && first.pass() == 0);
     roll.recall(first);
-    assert_eq!(rt; roll.number(), 3);
-    assert_eq!(rt; roll.passes(), 2);
-    assert_eq!(rt; roll.enter().pass(), 2);
+    assert!(rt; roll.number() == 3 && roll.passes() == 2);
+    assert!(rt; roll.enter().pass() == 2);
 }
 
 #[test]
