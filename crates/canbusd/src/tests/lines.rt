@@ -1,11 +1,10 @@
 //! Lines that are carried out, and the limits of lines and of the input.
 use super::support::{
-    Owned, Sockets, TWO_SESSIONS, TWO_STARTED, carries_out, runs, runs_however_cut,
+    Owned, Sockets, TWO_SESSIONS, TWO_STARTED, carries_out, leaves_record, runs, runs_however_cut,
 };
 use can_test_support::{joined, times};
 use canbusd_serve::ServerRuntime;
 use std::alloc::Global;
-use std::fs;
 use std::process::Abort;
 use std::test::Fail;
 
@@ -154,21 +153,27 @@ fn a_strict_bench_wants_no_refusal(rt: HostRuntime) -> Result<(), Fail> {
         let line = "canbusd bench can0,can1";
         runs_however_cut(&rt, alloc, line, &input, (&output, "", 0))?;
     }
-    // The record is written all the same.
+    Ok(())
+}
+
+#[test]
+fn a_strict_bench_writes_its_record_all_the_same(rt: HostRuntime) -> Result<(), Fail> {
+    let _sockets: Sockets = None;
+    let alloc = rt.alloc();
     let line = "canbusd bench --strict --record strict.rec can0";
     let input = b"session 1\nfeed 1 < open can1 >\n".as_slice();
+    let output = "1 < hi >\n1 < error no such interface >\n";
     let told =
         "canbusd: message refused\n  standard output, byte 9: 1 < error no such interface >\n";
-    runs(
-        &rt,
-        alloc,
-        line,
-        input,
-        ("1 < hi >\n1 < error no such interface >\n", told, 1),
-    )?;
-    assert!(rt; fs::exists(&rt, "strict.rec")?);
-    fs::remove_file(&rt, "strict.rec")?;
-    // Error message frames are no refusals, nor are notes.
+    runs(&rt, alloc, line, input, (output, told, 1))?;
+    leaves_record(&rt, alloc, "strict.rec", 0)
+}
+
+/// Nor are notes.
+#[test]
+fn error_message_frames_are_no_refusals(rt: HostRuntime) -> Result<(), Fail> {
+    let _sockets: Sockets = None;
+    let alloc = rt.alloc();
     let line = "canbusd bench --strict --ack peers --report can0";
     let input =
         b"session 1\nfeed 1 < open can0 >< rawmode >< errmask 1FFFFFFF >< errdata 1 >< send 123 0 >\nattempt\ndrain 1\nfeed 1 x\n".as_slice();

@@ -1,9 +1,10 @@
 //! Records that are written and audited.
-use super::support::{Sockets, carries_out, runs, same};
+use super::support::{NOTHING, Sockets, carries_out, leaves, leaves_record, runs, same};
+use canbusd_serve::ServerRuntime;
+use std::alloc::Global;
 use std::fs;
+use std::process::Abort;
 use std::test::Fail;
-
-const RECORD: &str = "written.rec";
 
 /// The record of two sockets with room for an item, a frame between them, and the close of the second socket.
 const RECORDED: &str = "canbus record 1
@@ -26,22 +27,13 @@ fn writes_and_audits_records(rt: HostRuntime) -> Result<(), Fail> {
     let wanted = "tried can0 0 done can1 -\n2 < frame 123 0.000001 01FF >\n2 < closed 0 0 >\n";
     let line = "canbusd bench --record written.rec --rxqueue 1 --limit 100 can0,can1";
     carries_out(&rt, alloc, line, rest, wanted)?;
-    let record = fs::read_to_string(&rt, RECORD)?;
-    same(&rt, record.as_bytes(), RECORDED.as_bytes());
-    let audited = ("ok 7 entries\n", "", 0);
-    runs(
-        &rt,
-        alloc,
-        "canbusd audit written.rec",
-        b"".as_slice(),
-        audited,
-    )?;
-    fs::remove_file(&rt, RECORD)?;
+    let record = fs::read_to_string(&rt, "written.rec")?;
+    same(&rt, record.as_str(), RECORDED);
+    leaves_record(&rt, alloc, "written.rec", 7)?;
     let told =
         "canbusd: cannot open none/written.rec\n  none/written.rec: No such file or directory (os error 2)\n";
-    let told = ("", told, 1);
     let line = "canbusd bench --record none/written.rec can0";
-    runs(&rt, alloc, line, b"".as_slice(), told)
+    runs(&rt, alloc, line, NOTHING, ("", told, 1))
 }
 
 #[test]
@@ -65,10 +57,7 @@ fn makes_no_files_where_a_run_ends_in_a_fault(rt: HostRuntime) -> Result<(), Fai
 ";
     let line = "canbusd bench --record fault.rec can0@none";
     runs(&rt, alloc, line, lines, ("", told, 1))?;
-    let old = fs::read_to_string(&rt, "fault.rec")?;
-    same(&rt, old.as_str(), "old");
-    fs::remove_file(&rt, "fault.rec")?;
-    Ok(())
+    leaves(&rt, "fault.rec", "old")
 }
 
 #[test]
@@ -79,44 +68,53 @@ fn writes_logs(rt: HostRuntime) -> Result<(), Fail> {
         "feed 2 < send 12345678 0 >\nat 1436509052.249713\nattempt\nfeed 1 < send 123 2 1 ff >\nattempt\nattempt\n";
     let wanted = "tried can1 0 done can0 -\ntried can0 0 done can1 -\nidle\n";
     let logged = "(1436509052.249713) can1 12345678#\n(1436509052.249713) can0 123#01FF\n";
-    carries_out(
-        &rt,
-        alloc,
-        "canbusd bench --log run.log can0,can1",
-        rest,
-        wanted,
-    )?;
-    let log = fs::read_to_string(&rt, "run.log")?;
-    same(&rt, log.as_str(), logged);
-    // The log is written also where the record cannot be, whose fault is reported.
-    fs::remove_file(&rt, "run.log")?;
-    let line = "canbusd bench --record none/run.rec --log run.log can0";
+    let line = "canbusd bench --log run.log can0,can1";
+    carries_out(&rt, alloc, line, rest, wanted)?;
+    leaves(&rt, "run.log", logged)
+}
+
+#[test]
+fn writes_a_log_also_where_the_record_cannot_be(rt: HostRuntime) -> Result<(), Fail> {
+    let _sockets: Sockets = None;
+    let alloc = rt.alloc();
+    let line = "canbusd bench --record none/run.rec --log lone.log can0";
     let told =
         "canbusd: cannot open none/run.rec\n  none/run.rec: No such file or directory (os error 2)\n";
-    runs(&rt, alloc, line, b"".as_slice(), ("", told, 1))?;
-    let log = fs::read_to_string(&rt, "run.log")?;
-    assert!(rt; log.is_empty());
-    fs::remove_file(&rt, "run.log")?;
+    runs(&rt, alloc, line, NOTHING, ("", told, 1))?;
+    leaves(&rt, "lone.log", "")?;
     let line = "canbusd bench --log none/run.log can0";
     let told =
         "canbusd: cannot open none/run.log\n  none/run.log: No such file or directory (os error 2)\n";
-    runs(&rt, alloc, line, b"".as_slice(), ("", told, 1))?;
-    // A log never goes where the record is, which stays whole.
-    fs::write(&rt, "run.rec", b"old")?;
-    fs::hard_link(&rt, "run.rec", "run.log")?;
-    let line = "canbusd bench --record run.rec --log run.log can0";
-    let told = "canbusd: cannot open run.log\n  --record names this file too\n";
-    runs(
-        &rt,
-        alloc,
-        line,
-        b"attempt\n".as_slice(),
-        ("idle\n", told, 1),
-    )?;
-    let line = "canbusd audit run.log";
-    runs(&rt, alloc, line, b"".as_slice(), ("ok 1 entries\n", "", 0))?;
-    fs::remove_file(&rt, "run.log")?;
-    fs::remove_file(&rt, "run.rec")?;
+    runs(&rt, alloc, line, NOTHING, ("", told, 1))
+}
+
+/// The record stays whole.
+#[test]
+fn never_writes_a_log_where_the_record_is(rt: HostRuntime) -> Result<(), Fail> {
+    let _sockets: Sockets = None;
+    let alloc = rt.alloc();
+    fs::write(&rt, "one.rec", b"old")?;
+    fs::hard_link(&rt, "one.rec", "one.log")?;
+    let line = "canbusd bench --record one.rec --log one.log can0";
+    let told = "canbusd: cannot open one.log\n  --record names this file too\n";
+    let input = b"attempt\n".as_slice();
+    runs(&rt, alloc, line, input, ("idle\n", told, 1))?;
+    leaves_record(&rt, alloc, "one.log", 1)?;
+    fs::remove_file(&rt, "one.rec")?;
+    Ok(())
+}
+
+/// Reports this of a record that is damaged so.
+fn reports(
+    rt: &(impl Abort + ServerRuntime),
+    alloc: Global,
+    damaged: &[u8],
+    told: &str,
+) -> Result<(), Fail> {
+    fs::write(rt, "damaged.rec", damaged)?;
+    let line = "canbusd audit damaged.rec";
+    runs(rt, alloc, line, NOTHING, ("", told, 1))?;
+    fs::remove_file(rt, "damaged.rec")?;
     Ok(())
 }
 
@@ -190,36 +188,18 @@ fn tells_what_is_wrong_with_records(rt: HostRuntime) -> Result<(), Fail> {
     ];
     for (old, new, told) in table {
         let text = RECORDED.replace(alloc, old, new)?;
-        fs::write(&rt, "damaged.rec", text.as_bytes())?;
-        runs(
-            &rt,
-            alloc,
-            "canbusd audit damaged.rec",
-            b"".as_slice(),
-            ("", told, 1),
-        )?;
+        reports(&rt, alloc, text.as_bytes(), told)?;
     }
-    // Bytes that are no text go before a line that cannot be read, wherever they are.
-    fs::write(&rt, "damaged.rec", b"canbus record 9\n\xFF\n")?;
-    let told = "canbusd: read fault\n  damaged.rec:2: ?\n  this line is no UTF-8 text\n";
-    let told = ("", told, 1);
-    runs(
-        &rt,
-        alloc,
-        "canbusd audit damaged.rec",
-        b"".as_slice(),
-        told,
-    )?;
-    fs::write(&rt, "damaged.rec", b"\xFF")?;
-    let told = "canbusd: read fault\n  damaged.rec:1: ?\n  this line is no UTF-8 text\n";
-    let told = ("", told, 1);
-    runs(
-        &rt,
-        alloc,
-        "canbusd audit damaged.rec",
-        b"".as_slice(),
-        told,
-    )?;
-    fs::remove_file(&rt, "damaged.rec")?;
     Ok(())
+}
+
+/// They go before a line that cannot be read, wherever they are.
+#[test]
+fn reports_bytes_that_are_no_text(rt: HostRuntime) -> Result<(), Fail> {
+    let _sockets: Sockets = None;
+    let alloc = rt.alloc();
+    let told = "canbusd: read fault\n  damaged.rec:2: ?\n  this line is no UTF-8 text\n";
+    reports(&rt, alloc, b"canbus record 9\n\xFF\n", told)?;
+    let told = "canbusd: read fault\n  damaged.rec:1: ?\n  this line is no UTF-8 text\n";
+    reports(&rt, alloc, b"\xFF", told)
 }

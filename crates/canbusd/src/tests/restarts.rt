@@ -1,6 +1,6 @@
 //! Interfaces that come back by themselves, and the records of such runs.
 use super::serving::{connect, has_shape, hears, say};
-use super::support::{Sockets, carries_out, run, runs, same};
+use super::support::{NOTHING, Sockets, carries_out, run, runs, same};
 use can_test_support::{attempts, ever, joined, times};
 use canbusd_serve::ServerRuntime;
 use std::alloc::Global;
@@ -8,8 +8,6 @@ use std::io::Read;
 use std::process::Abort;
 use std::test::Fail;
 use std::{fs, thread};
-
-const NOTHING: &[u8] = b"";
 
 /// Session 1 asks for the frames of bus off and of restarts, and sends a frame.
 const ONE_SENT: &str = "feed 1 < errmask 140 >< send 123 0 >\n";
@@ -29,19 +27,26 @@ const LEFT_OUT: &str = "canbusd: entry 37: wrong
   legal is: attempt 0.000034 good = idle restarted 0001
 ";
 
-#[test]
-fn the_record_of_a_restart_is_audited(rt: HostRuntime) -> Result<(), Fail> {
-    let _sockets: Sockets = None;
-    let alloc = rt.alloc();
+/// Writes the record of a run in which can0 goes bus off and comes back by itself.
+fn writes_a_restart(rt: &(impl Abort + ServerRuntime), alloc: Global) -> Result<(), Fail> {
     let script = ever(alloc, "global bit", 32)?;
-    fs::write(&rt, "restarted.script", script.as_bytes())?;
+    fs::write(rt, "restarted.script", script.as_bytes())?;
     let tried = attempts(alloc, 34)?;
     let then = "drain 1\nfeed 1 < send 123 0 >\nattempt\n";
     let rest = joined(alloc, &[ONE_SENT, &tried, then])?;
     let told = times(alloc, "tried can0 0 destroyed - -\n", 31)?;
     let wanted = joined(alloc, &["1 < ok >\n", &told, BACK_AGAIN])?;
     let line = "canbusd bench --auto-restart 2 --record restarted.rec can0,can1@restarted.script";
-    carries_out(&rt, alloc, line, &rest, &wanted)?;
+    carries_out(rt, alloc, line, &rest, &wanted)?;
+    fs::remove_file(rt, "restarted.script")?;
+    Ok(())
+}
+
+#[test]
+fn the_record_of_a_restart_is_audited(rt: HostRuntime) -> Result<(), Fail> {
+    let _sockets: Sockets = None;
+    let alloc = rt.alloc();
+    writes_a_restart(&rt, alloc)?;
     let record = fs::read_to_string(&rt, "restarted.rec")?;
     let start = b"canbus record 2\nbus 2 always 0000 10 1000000 2\nopen 0 256 = socket 0\n";
     assert!(rt; record.as_bytes().starts_with(start));
@@ -51,7 +56,6 @@ fn the_record_of_a_restart_is_audited(rt: HostRuntime) -> Result<(), Fail> {
     fs::write(&rt, "restarted.rec", damaged.as_bytes())?;
     runs(&rt, alloc, AUDITED, NOTHING, ("", LEFT_OUT, 1))?;
     fs::remove_file(&rt, "restarted.rec")?;
-    fs::remove_file(&rt, "restarted.script")?;
     Ok(())
 }
 

@@ -1,6 +1,7 @@
 //! Servers: what they are refused, how they end, and what a run leaves.
-use super::support::{Sockets, run, runs, same};
+use super::support::{NOTHING, Sockets, leaves, leaves_record, run, runs, same};
 use canbusd_serve::ServerRuntime;
+use std::alloc::Global;
 use std::io::{Read, Write};
 use std::net::{Shutdown, TcpListener};
 use std::os::unix::net::{UnixListener, UnixStream};
@@ -8,8 +9,6 @@ use std::process::Abort;
 use std::test::Fail;
 use std::time::Duration;
 use std::{fs, thread};
-
-const NOTHING: &[u8] = b"";
 
 #[test]
 fn refuses_buses_and_addresses(rt: HostRuntime) -> Result<(), Fail> {
@@ -56,28 +55,28 @@ fn refuses_buses_and_addresses(rt: HostRuntime) -> Result<(), Fail> {
     Ok(())
 }
 
+/// A server does not listen where something is already.
+fn is_taken(rt: &(impl Abort + ServerRuntime), alloc: Global, address: &str) -> Result<(), Fail> {
+    let line = format!(in alloc; "canbusd serve --listen {address} can0")?;
+    let told = format!(in alloc;
+        "canbusd: cannot listen\n  {address}: Address already in use (os error 98)\n"
+    )?;
+    runs(rt, alloc, &line, NOTHING, ("", &told, 1))
+}
+
 #[test]
 fn leaves_what_stands_at_an_address(rt: HostRuntime) -> Result<(), Fail> {
     let _sockets: Sockets = None;
     let alloc = rt.alloc();
     let taken = TcpListener::bind(&rt, "127.0.0.1:0")?;
-    let address = taken.local_addr()?;
-    let line = format!(in alloc; "canbusd serve --listen {address} can0")?;
-    let told = format!(in alloc;
-        "canbusd: cannot listen\n  {address}: Address already in use (os error 98)\n"
-    )?;
-    runs(&rt, alloc, &line, NOTHING, ("", &told, 1))?;
+    let address = format!(in alloc; "{}", taken.local_addr()?)?;
+    is_taken(&rt, alloc, &address)?;
     // A file that is no socket, and a socket at which somebody listens.
     fs::write(&rt, "./plain", b"mine")?;
-    let told = "canbusd: cannot listen\n  ./plain: Address already in use (os error 98)\n";
-    let line = "canbusd serve --listen ./plain can0";
-    runs(&rt, alloc, line, NOTHING, ("", told, 1))?;
-    assert!(&rt; fs::read_to_string(&rt, "./plain")?.as_str() == "mine");
-    fs::remove_file(&rt, "./plain")?;
+    is_taken(&rt, alloc, "./plain")?;
+    leaves(&rt, "./plain", "mine")?;
     let alive = UnixListener::bind(&rt, "./alive")?;
-    let told = "canbusd: cannot listen\n  ./alive: Address already in use (os error 98)\n";
-    let line = "canbusd serve --listen ./alive can0";
-    runs(&rt, alloc, line, NOTHING, ("", told, 1))?;
+    is_taken(&rt, alloc, "./alive")?;
     drop(alive);
     // Now nobody does.
     let line = "canbusd serve --until-eof --listen ./alive can0";
@@ -103,12 +102,14 @@ fn ends_with_its_input(rt: HostRuntime) -> Result<(), Fail> {
     );
     runs(&rt, alloc, line, NOTHING, wanted)?;
     assert!(&rt; !fs::exists(&rt, "./short")?);
-    let ended = run(
-        &rt,
-        alloc,
-        "canbusd serve --until-eof --listen 127.0.0.1:0 can0",
-        NOTHING,
-    )?;
+    Ok(())
+}
+
+#[test]
+fn says_on_which_port_it_listens(rt: HostRuntime) -> Result<(), Fail> {
+    let _sockets: Sockets = None;
+    let line = "canbusd serve --until-eof --listen 127.0.0.1:0 can0";
+    let ended = run(&rt, rt.alloc(), line, NOTHING)?;
     assert!(&rt; ended.begins("listening 127.0.0.1:", ""));
     assert!(&rt; !ended.output.starts_with(b"listening 127.0.0.1:0\n"));
     assert!(&rt; ended.output.ends_with(b"\nbus can0 entries 0\n"));
@@ -141,8 +142,7 @@ canbusd: cannot open none/can1.log
         "canbusd: cannot open logs/can0.log\n  logs/can0.log: Is a directory (os error 21)\n";
     let output = "listening ./lost\nbus can0 entries 0\n";
     runs(&rt, alloc, line, NOTHING, (output, told, 1))?;
-    let legal = ("ok 0 entries\n", "", 0);
-    runs(&rt, alloc, "canbusd audit logs/can0.rec", NOTHING, legal)?;
+    leaves_record(&rt, alloc, "logs/can0.rec", 0)?;
     fs::remove_dir_all(&rt, "logs")?;
     Ok(())
 }
@@ -220,25 +220,17 @@ fn serves_two_clients(rt: HostRuntime) -> Result<(), Fail> {
             talk(&rt)
         },
     );
-    let ended = ended?;
-    // Two sockets, a frame, its attempt and what the second socket receives of it, and both are closed.
+    // Two sockets, a frame, its attempt and what the second socket receives of it, and both are closed. The other bus has
+    // no traffic.
     let told = "listening ./talk\nbus far0 entries 0\nbus can0 entries 7\n";
-    same(&rt, ended.output.as_slice(), told.as_bytes());
-    assert!(&rt; ended.errors.is_empty());
-    same(&rt, ended.status, 0);
+    ended?.compare(&rt, (told, "", 0));
     assert!(&rt; !fs::exists(&rt, "./talk")?);
     let log = fs::read_to_string(&rt, "./can0.log")?;
     assert!(&rt; has_shape(log.as_bytes(), "(0000000000.000000) can0 123#11223344\n"));
-    let legal = ("ok 7 entries\n", "", 0);
-    runs(&rt, alloc, "canbusd audit ./can0.rec", NOTHING, legal)?;
-    // The other bus has no traffic.
-    assert!(&rt; fs::read_to_string(&rt, "./far0.log")?.is_empty());
-    let legal = ("ok 0 entries\n", "", 0);
-    runs(&rt, alloc, "canbusd audit ./far0.rec", NOTHING, legal)?;
-    for path in ["./can0.log", "./can0.rec", "./far0.log", "./far0.rec"] {
-        fs::remove_file(&rt, path)?;
-    }
-    Ok(())
+    fs::remove_file(&rt, "./can0.log")?;
+    leaves_record(&rt, alloc, "./can0.rec", 7)?;
+    leaves(&rt, "./far0.log", "")?;
+    leaves_record(&rt, alloc, "./far0.rec", 0)
 }
 
 /// Sends more than the record of the bus holds.
@@ -268,12 +260,8 @@ fn tells_once_that_a_record_is_full(rt: HostRuntime) -> Result<(), Fail> {
             fill(&rt)
         },
     );
-    let ended = ended?;
     let told = "listening ./full\nbus can0 entries 2\n";
-    same(&rt, ended.output.as_slice(), told.as_bytes());
-    let told = b"note: bus can0: record full\n";
-    same(&rt, ended.errors.as_slice(), told.as_slice());
-    same(&rt, ended.status, 0);
+    ended?.compare(&rt, (told, "note: bus can0: record full\n", 0));
     Ok(())
 }
 
@@ -304,11 +292,8 @@ fn the_end_of_the_input_ends_sessions(rt: HostRuntime) -> Result<(), Fail> {
             sees_the_end(&rt, &ours)
         },
     );
-    let ended = ended?;
     // A socket was opened and closed.
     let told = "listening ./ended\nbus can0 entries 2\n";
-    same(&rt, ended.output.as_slice(), told.as_bytes());
-    assert!(&rt; ended.errors.is_empty());
-    same(&rt, ended.status, 0);
+    ended?.compare(&rt, (told, "", 0));
     Ok(())
 }

@@ -2,13 +2,16 @@
 use crate::program::run_words;
 use can_test_support::joined;
 use canbusd_serve::ServerRuntime;
-use std::alloc::Global;
+use std::alloc::{AllocGlobal, Global};
 use std::fmt::Debug;
-use std::io;
 use std::io::{BufWriter, Read, Write};
 use std::net::{TcpListener, TcpStream};
 use std::process::Abort;
 use std::test::Fail;
+use std::{fs, io};
+
+/// An input with no bytes.
+pub const NOTHING: &[u8] = b"";
 
 /// The sockets of the system. The checker has to meet their types in each test that runs a command line.
 pub type Sockets = Option<(TcpListener, TcpStream)>;
@@ -62,6 +65,14 @@ impl Ended {
             && self.output.is_empty() == output.is_empty()
             && self.errors.is_empty() == errors.is_empty()
     }
+
+    /// Compares it with what is wanted: the output, the errors and the status.
+    pub fn compare(&self, rt: &impl Abort, wanted: (&str, &str, u8)) {
+        let (output, errors, status) = wanted;
+        same(rt, self.output.as_slice(), output.as_bytes());
+        same(rt, self.errors.as_slice(), errors.as_bytes());
+        same(rt, self.status, status);
+    }
 }
 
 /// Runs the words of a line, parted by spaces.
@@ -111,11 +122,33 @@ pub fn runs<R: Read + Drop + Send + 'static>(
     input: R,
     wanted: (&str, &str, u8),
 ) -> Result<(), Fail> {
-    let (output, errors, status) = wanted;
-    let ended = run(rt, alloc, line, input)?;
-    same(rt, ended.output.as_slice(), output.as_bytes());
-    same(rt, ended.errors.as_slice(), errors.as_bytes());
-    same(rt, ended.status, status);
+    run(rt, alloc, line, input)?.compare(rt, wanted);
+    Ok(())
+}
+
+/// A file was left that has this text. It is removed.
+pub fn leaves(
+    rt: &(impl Abort + AllocGlobal + ServerRuntime),
+    path: &str,
+    wanted: &str,
+) -> Result<(), Fail> {
+    let text = fs::read_to_string(rt, path)?;
+    same(rt, text.as_str(), wanted);
+    fs::remove_file(rt, path)?;
+    Ok(())
+}
+
+/// A record was left that has this many entries. It is removed.
+pub fn leaves_record(
+    rt: &(impl Abort + ServerRuntime),
+    alloc: Global,
+    path: &str,
+    entries: u32,
+) -> Result<(), Fail> {
+    let line = format!(in alloc; "canbusd audit {path}")?;
+    let told = format!(in alloc; "ok {entries} entries\n")?;
+    runs(rt, alloc, &line, NOTHING, (&told, "", 0))?;
+    fs::remove_file(rt, path)?;
     Ok(())
 }
 
