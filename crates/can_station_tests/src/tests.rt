@@ -128,6 +128,11 @@ impl<N: RollName + MeterName, F: FaultSource + Drop, G: Gate + Drop, R: Wait + A
         self.send_frame(socket, frame(self.rt, id))
     }
 
+    /// Sends a frame with this identifier, which gets this number.
+    fn sends(&mut self, socket: SocketId, id: u16, number: u64) {
+        assert!(self.rt; self.send(socket, id) == Ok(number));
+    }
+
     fn send_frame(&mut self, socket: SocketId, frame: Frame) -> Result<u64, StationRefusal> {
         self.station
             .send(self.rt, self.alloc, &mut self.pass, socket, frame)
@@ -150,6 +155,11 @@ impl<N: RollName + MeterName, F: FaultSource + Drop, G: Gate + Drop, R: Wait + A
         let moment = moment(self.rt, micros);
         self.station
             .step(self.rt, self.alloc, &mut self.pass, moment)
+    }
+
+    /// Makes an attempt with the source's verdict, in which a frame is tried.
+    fn tries(&mut self, micros: u64) {
+        assert!(self.rt; matches!(self.step(micros), Ok(Attempt::Tried(_))));
     }
 
     fn attempt(&mut self, micros: u64, verdict: Verdict) -> Result<Attempt, StationRefusal> {
@@ -214,6 +224,16 @@ fn reading<N: MeterName, R: Abort>(rt: &R, gauge: &mut Gauge<N>, place: usize) -
     assert!(rt; place < gauge.ifaces());
     let Status { at, counters } = gauge.status(place);
     (at, counters.tec(), counters.rec())
+}
+
+/// A gauge reads these of an interface: the record's length, the transmit and the receive count.
+fn reads<N: MeterName, R: Abort>(
+    rt: &R,
+    gauge: &mut Gauge<N>,
+    place: usize,
+    wanted: (u32, u16, u16),
+) {
+    assert!(rt; reading(rt, gauge, place) == wanted);
 }
 
 /// A list of one.

@@ -83,18 +83,17 @@ fn gives_verdicts<N: RollName + MeterName, R: Wait + Abort>(rt: &R, alloc: Globa
     assert!(rt; both.attempt(1, FORM) == Some(Attempt::Idle { restarted: none }));
     assert!(rt; both.send() == 0);
     assert!(rt; both.tries(2, Verdict::Good) == (Class::Done, can1));
-    assert!(rt; reading(rt, &mut gauge, 0) == (0, 0, 0));
+    reads(rt, &mut gauge, 0, (0, 0, 0));
     assert!(rt; both.send() == 1);
     assert!(rt; both.tries(3, CRC) == (Class::Destroyed, none));
-    assert!(rt; reading(rt, &mut gauge, 0) == (7, 8, 0) && reading(rt, &mut gauge, 1) == (7, 0, 1));
+    reads(rt, &mut gauge, 0, (7, 8, 0));
+    reads(rt, &mut gauge, 1, (7, 0, 1));
     assert!(rt; both.tries(4, FORM) == (Class::Destroyed, none));
-    assert!(rt;
-        reading(rt, &mut gauge, 0) == (8, 16, 0) && reading(rt, &mut gauge, 1) == (8, 0, 2)
-    );
+    reads(rt, &mut gauge, 0, (8, 16, 0));
+    reads(rt, &mut gauge, 1, (8, 0, 2));
     assert!(rt; both.tries(5, Verdict::Good) == (Class::Done, can1));
-    assert!(rt;
-        reading(rt, &mut gauge, 0) == (9, 15, 0) && reading(rt, &mut gauge, 1) == (9, 0, 1)
-    );
+    reads(rt, &mut gauge, 0, (9, 15, 0));
+    reads(rt, &mut gauge, 1, (9, 0, 1));
     assert!(rt; both.send() == 2);
     let Both { mut caller, bus: _ } = both;
     steps_with_the_source(&mut caller);
@@ -165,7 +164,7 @@ fn attempt_wakes<N: RollName + MeterName + Send + Sync, R: Threads + Wait + Abor
     let station = made::<N, _, _, _>(rt, alloc, blanks, 0, config(2), source, Open);
     let mut caller = entered(rt, alloc, &station);
     let (sender, receiver) = (caller.open(0, 4), caller.open(1, 4));
-    assert!(rt; caller.send(sender, 0x123) == Ok(0));
+    caller.sends(sender, 0x123, 0);
     assert!(rt; woken(rt, &mut caller, Awaited::Frame(receiver), Act::Attempt) == Wake::Ready);
     assert!(rt; matches!(caller.receive(receiver), Ok(Some(_))));
 }

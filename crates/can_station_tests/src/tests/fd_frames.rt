@@ -39,7 +39,7 @@ fn receives<N: RollName + MeterName, R: Wait + Abort>(mut caller: Party<'_, N, R
     let rt = caller.rt;
     assert!(rt; caller.set_option(RECEIVER, Opt::FdFrames(true)).is_ok());
     assert!(rt; caller.station.wait_work(rt) == Wake::Ready);
-    assert!(rt; matches!(caller.step(1), Ok(Attempt::Tried(_))));
+    caller.tries(1);
     let Ok(Some(received)) = caller.receive(RECEIVER) else {
         panic!(rt; "no item");
     };

@@ -30,6 +30,11 @@ fn counts<N: RollName + MeterName, R: Wait + Abort>(
     caller.station.stats(caller.rt, SocketId(0), can0)
 }
 
+/// A call is refused, since the record is full.
+fn is_refused<T: Drop, R: Abort>(rt: &R, outcome: Result<T, StationRefusal>) {
+    assert!(rt; matches!(outcome, Err(why) if why == FULL));
+}
+
 /// Open, send, attempt; the fourth call finds the record full, and changes nothing. Who asks first learns of it, and
 /// nobody after it.
 fn one_caller<N: RollName + MeterName, R: Wait + Abort>(rt: &R, alloc: Global, blanks: Blanks)
@@ -38,13 +43,13 @@ fn one_caller<N: RollName + MeterName, R: Wait + Abort>(rt: &R, alloc: Global, b
     let station = made::<N, _, _, _>(rt, alloc, blanks, 0, small(), Perfect, Open);
     let mut caller = entered(rt, alloc, &station);
     let socket = caller.open(0, 65_536);
-    assert!(rt; caller.send(socket, 0x123) == Ok(0));
-    assert!(rt; matches!(caller.step(1), Ok(Attempt::Tried(_))));
+    caller.sends(socket, 0x123, 0);
+    caller.tries(1);
     let before = counts(&caller);
     assert!(rt; !station.became_full() && !station.is_full());
-    assert!(rt; caller.receive(socket) == Err(FULL));
+    is_refused(rt, caller.receive(socket));
     assert!(rt; station.became_full() && !station.became_full());
-    assert!(rt; caller.receive(socket) == Err(FULL));
+    is_refused(rt, caller.receive(socket));
     assert!(rt; !station.became_full() && station.is_full());
     assert!(rt; counts(&caller) == before);
     assert!(rt; caller.calls() == 3);
@@ -80,18 +85,18 @@ fn count_if_refused<N: RollName + MeterName, R: Wait + Abort>(
 fn finds_it_full<N: RollName + MeterName, R: Wait + Abort>(mut caller: Party<'_, N, R>) {
     let (rt, alloc, station) = (caller.rt, caller.alloc, caller.station);
     let socket = SocketId(0);
-    assert!(rt; caller.step(1) == Err(FULL));
-    assert!(rt; caller.attempt(2, Verdict::Good) == Err(FULL));
-    assert!(rt; caller.send(socket, 0x123) == Err(FULL));
-    assert!(rt; caller.receive(socket) == Err(FULL));
-    assert!(rt; caller.receive_held(socket) == Err(FULL));
-    assert!(rt; caller.set_option(socket, Opt::Join(true)) == Err(FULL));
-    assert!(rt; caller.restart(0, 3) == Err(FULL));
-    assert!(rt; caller.close(socket) == Err(FULL));
+    is_refused(rt, caller.step(1));
+    is_refused(rt, caller.attempt(2, Verdict::Good));
+    is_refused(rt, caller.send(socket, 0x123));
+    is_refused(rt, caller.receive(socket));
+    is_refused(rt, caller.receive_held(socket));
+    is_refused(rt, caller.set_option(socket, Opt::Join(true)));
+    is_refused(rt, caller.restart(0, 3));
+    is_refused(rt, caller.close(socket));
     let pass = &mut caller.pass;
     let none = FilterSet::none(alloc);
-    assert!(rt; station.set_filters(rt, alloc, pass, socket, &none) == Err(FULL));
-    assert!(rt; station.open(rt, alloc, pass, iface(rt, 0), 4) == Err(FULL));
+    is_refused(rt, station.set_filters(rt, alloc, pass, socket, &none));
+    is_refused(rt, station.open(rt, alloc, pass, iface(rt, 0), 4));
     assert!(rt; caller.calls() == 0);
 }
 

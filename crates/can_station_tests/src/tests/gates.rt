@@ -45,7 +45,7 @@ where
     R: Wait + Abort,
 {
     for micros in 1..=2 {
-        assert!(caller.rt; matches!(caller.step(micros), Ok(Attempt::Tried(_))));
+        caller.tries(micros);
     }
     caller.leave()
 }
@@ -106,7 +106,7 @@ fn two_stations<N: RollName + MeterName + Send + Sync, R: Threads + Wait + Abort
         || goes_on(&signals, sending, rt, &mut gauge),
     );
     assert!(rt; !signals.late.load(Ordering::SeqCst));
-    assert!(rt; reading(rt, &mut gauge, 0) == (4, 7, 0));
+    reads(rt, &mut gauge, 0, (4, 7, 0));
     let settled = settled(rt, station, one(rt, alloc, pass), one(rt, alloc, gauge));
     assert!(rt; settled.history.len() == 4);
 }

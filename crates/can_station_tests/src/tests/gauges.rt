@@ -17,15 +17,15 @@ fn last_bit<N: RollName + MeterName, R: Wait + Abort>(rt: &R, alloc: Global, bla
     let station = made::<N, _, _, _>(rt, alloc, blanks, 0, config(2), faults, Open);
     let mut gauge = gauge(rt, &station);
     let mut caller = entered(rt, alloc, &station);
-    assert!(rt; reading(rt, &mut gauge, 0) == (0, 0, 0));
+    reads(rt, &mut gauge, 0, (0, 0, 0));
     let socket = caller.open(0, 4);
-    assert!(rt; caller.send(socket, 0x123) == Ok(0));
-    assert!(rt; reading(rt, &mut gauge, 0) == (0, 0, 0));
-    assert!(rt; matches!(caller.step(1), Ok(Attempt::Tried(_))));
-    assert!(rt; reading(rt, &mut gauge, 0) == (3, 8, 0));
-    assert!(rt; matches!(caller.step(2), Ok(Attempt::Tried(_))));
-    assert!(rt; reading(rt, &mut gauge, 0) == (4, 7, 0));
-    assert!(rt; reading(rt, &mut gauge, 1) == (0, 0, 0));
+    caller.sends(socket, 0x123, 0);
+    reads(rt, &mut gauge, 0, (0, 0, 0));
+    caller.tries(1);
+    reads(rt, &mut gauge, 0, (3, 8, 0));
+    caller.tries(2);
+    reads(rt, &mut gauge, 0, (4, 7, 0));
+    reads(rt, &mut gauge, 1, (0, 0, 0));
     let passes = one(rt, alloc, caller.leave());
     let settled = settled(rt, station, passes, one(rt, alloc, gauge));
     assert!(rt; settled.history.len() == 4);
@@ -45,9 +45,9 @@ fn fails_17_times<N: RollName + MeterName, R: Wait + Abort>(
     mut caller: Caller<'_, N, Perfect, Open, R>,
 ) -> Pass<N> {
     let socket = caller.open(0, 4);
-    assert!(caller.rt; caller.send(socket, 0x123) == Ok(0));
+    caller.sends(socket, 0x123, 0);
     for micros in 1..=17 {
-        assert!(caller.rt; matches!(caller.step(micros), Ok(Attempt::Tried(_))));
+        caller.tries(micros);
     }
     caller.leave()
 }
@@ -76,7 +76,7 @@ fn two_sides<N: RollName + MeterName + Send + Sync, R: Threads + Wait + Abort + 
     let gauge = gauge(rt, &station);
     let caller = entered(rt, alloc, &station);
     let (pass, mut gauge) = join(rt, || fails_17_times(caller), || reads_often(rt, gauge));
-    assert!(rt; reading(rt, &mut gauge, 0) == (18, 128, 0));
+    reads(rt, &mut gauge, 0, (18, 128, 0));
     let settled = settled(rt, station, one(rt, alloc, pass), one(rt, alloc, gauge));
     assert!(rt; settled.history.len() == 19);
 }

@@ -27,9 +27,9 @@ fn goes_off<N: RollName + MeterName, R: Wait + Abort>(caller: &mut Party<'_, N, 
     let rt = caller.rt;
     let sender = caller.open(0, 4);
     assert!(rt; caller.set_option(sender, Opt::ErrMask(0x100)).is_ok());
-    assert!(rt; caller.send(sender, 0x123) == Ok(0));
+    caller.sends(sender, 0x123, 0);
     for micros in 1..=32 {
-        assert!(rt; matches!(caller.step(micros), Ok(Attempt::Tried(_))));
+        caller.tries(micros);
     }
     sender
 }
@@ -48,16 +48,16 @@ fn comes_back<N: RollName + MeterName + Send + Sync, R: Threads + Wait + Abort +
     let mut gauge = gauge(rt, &station);
     let mut caller = entered(rt, alloc, &station);
     let sender = goes_off(&mut caller);
-    assert!(rt; reading(rt, &mut gauge, 0) == (35, 256, 0));
+    reads(rt, &mut gauge, 0, (35, 256, 0));
     assert!(rt; station.wait_work(rt) == Wake::Ready);
     assert!(rt; caller.step(33) == Ok(NOBODY));
-    assert!(rt; reading(rt, &mut gauge, 0) == (35, 256, 0));
+    reads(rt, &mut gauge, 0, (35, 256, 0));
     assert!(rt; station.wait_work(rt) == Wake::Ready);
     assert!(rt; woken(rt, &mut caller, Awaited::Frame(sender), Act::Step) == Wake::Ready);
-    assert!(rt; reading(rt, &mut gauge, 0) == (37, 0, 0));
+    reads(rt, &mut gauge, 0, (37, 0, 0));
     is_told(&mut caller, sender);
     assert!(rt; woken(rt, &mut caller, Awaited::Work, Act::Send(sender)) == Wake::Ready);
-    assert!(rt; matches!(caller.step(34), Ok(Attempt::Tried(_))));
+    caller.tries(34);
     assert!(rt; woken(rt, &mut caller, Awaited::Work, Act::Stop) == Wake::Stopped);
     let passes = one(rt, alloc, caller.leave());
     let settled = settled(rt, station, passes, one(rt, alloc, gauge));

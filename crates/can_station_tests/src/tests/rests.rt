@@ -67,7 +67,7 @@ fn count_items<N: RollName + MeterName, R: Wait + Abort>(rt: &R, alloc: Global, 
     let (sender, receiver) = (caller.open(0, 4), caller.open(1, 4));
     for micros in 1..=3 {
         assert!(rt; caller.send(sender, 0x123).is_ok());
-        assert!(rt; matches!(caller.step(micros), Ok(Attempt::Tried(_))));
+        caller.tries(micros);
         assert!(rt; station.wait_items(rt, receiver) == (Wake::Ready, micros));
     }
     assert!(rt; matches!(caller.receive(receiver), Ok(Some(_))));

@@ -39,7 +39,7 @@ fn sends<N: RollName + MeterName, R: Wait + Abort>(
 fn drives<N: RollName + MeterName, R: Wait + Abort>(mut caller: Party<'_, N, R>) -> Pass<N> {
     for micros in 0..200 {
         assert!(caller.rt; caller.station.wait_work(caller.rt) == Wake::Ready);
-        assert!(caller.rt; matches!(caller.step(micros), Ok(Attempt::Tried(_))));
+        caller.tries(micros);
     }
     caller.leave()
 }

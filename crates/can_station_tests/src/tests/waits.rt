@@ -195,7 +195,7 @@ fn goes_off<N: RollName + MeterName, R: Wait + Abort>(
     assert!(caller.rt; caller.set_option(sender, Opt::ErrMask(0x100)).is_ok());
     assert!(caller.rt; caller.send(sender, 0x123).is_ok());
     for micros in 1..=32 {
-        assert!(caller.rt; matches!(caller.step(micros), Ok(Attempt::Tried(_))));
+        caller.tries(micros);
     }
 }
 
@@ -203,13 +203,13 @@ fn goes_off<N: RollName + MeterName, R: Wait + Abort>(
 fn drives_to_the_end<N: RollName + MeterName, R: Wait + Abort>(mut caller: Party<'_, N, R>) {
     let (rt, station) = (caller.rt, caller.station);
     let socket = caller.open(0, 4);
-    assert!(rt; caller.send(socket, 0x123) == Ok(0));
+    caller.sends(socket, 0x123, 0);
     let Some(hold) = station.hold_work(rt) else {
         panic!(rt; "no work");
     };
     assert!(rt; hold.has_work());
     drop(hold);
-    assert!(rt; matches!(caller.step(1), Ok(Attempt::Tried(_))));
+    caller.tries(1);
     assert!(rt; station.hold_work(rt).is_none());
 }
 
