@@ -9,7 +9,7 @@ own_push n m [] own h at all = let same : m ≡ n = omega (arith, at) in (subst 
 own_push n m (x ∷ xs) own h at all = (h.0, own_push (suc n) m xs own h.1 (omega (arith, at)) all)
 
 -- one bus more, which is settled with its list
-pub settle_push : {A : Type 0} (before : List (Vec PassSeen A)) (done : List Settled) (own : Vec PassSeen A) (s : Settled) → AllSettle before done → Settles s.history.config s.history.history s.passes own.items → AllSettle (before ++ own ∷ []) (done ++ s ∷ [])
+pub settle_push : {A : Type 0} (before : List (Vec PassSeen A)) (done : List Settled) (own : Vec PassSeen A) (s : Settled) → AllSettle before done → Settles s.history s.passes own.items → AllSettle (before ++ own ∷ []) (done ++ s ∷ [])
 settle_push [] [] own s h one = (one, tt)
 settle_push [] (y ∷ ys) own s h one = absurd h
 settle_push (x ∷ xs) [] own s h one = absurd h

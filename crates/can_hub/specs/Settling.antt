@@ -12,7 +12,7 @@ AllOwn n (own ∷ more) = AllOf n own.items × AllOwn (suc n) more
 -- each bus leaves a record that settles its list of passes
 abbrev pub AllSettle : {A : Type 0} → List (Vec PassSeen A) → List Settled → Type 0
 AllSettle [] [] = Unit {0}
-AllSettle (own ∷ more) (s ∷ rest) = Settles s.history.config s.history.history s.passes own.items × AllSettle more rest
+AllSettle (own ∷ more) (s ∷ rest) = Settles s.history s.passes own.items × AllSettle more rest
 AllSettle [] (s ∷ rest) = ⊥
 AllSettle (own ∷ more) [] = ⊥
 

@@ -9,7 +9,7 @@ use Rattle.can_event.specs.declared.events.Entry.{Entry}
 use Rattle.can_roll.specs.declared.rule.View.{View}
 use Rattle.can_roll.specs.declared.rule.View.TheVariants.{OfRoll, OfSlip, Spent}
 use Rattle.can_roll.specs.Lists.{row, added, last_of, without_last, NotIn, Distinct, AllBelow}
-use Rattle.can_roll.specs.Rule.{IsBrought, Knows, Apart, IsRolled, entered, newcomer, called_in, sent_out, sent, told, Shows, Tells, noted, Notes, IsAtTable}
+use Rattle.can_roll.specs.Rule.{IsBrought, Knows, Apart, IsRolled, entered, newcomer, called_in, sent_out, sent, returned, Shows, Returns, noted, Notes, IsAtTable}
 use Rattle.can_roll.proofs.Rows.{row_front, row_past, row_added_else, length-added, at_end}
 use Rattle.can_roll.proofs.Passes.{not_in_below, below_more, last_at_end, without_at_end, not_in_end, distinct_end, below_end, not_the_last, not_in_rest, distinct_rest, last_not_in_rest, below_rest, last_below}
 
@@ -178,7 +178,7 @@ module _ {S : Type 0} where
   words_stay s e = ap (λ ws. set ws 0 (slice_index ws 0)) e
 
   pub tells : (slots id : ℕ) (lists : List (List Entry)) (called : List ℕ) (calls : List Entry) → 0 < length called
-      → Allows Holds slots id (OfRoll lists called (calls ∷ []), []) 0 (λ n. n) (Tells (step slots 0 0 0 none) (OfRoll lists called (calls ∷ []), []))
+      → Allows Holds slots id (OfRoll lists called (calls ∷ []), []) 0 (λ n. n) (Returns (step slots 0 0 0 none) (OfRoll lists called (calls ∷ []), []))
   tells slots id lists called calls some_in s h homes at fits =
       let t = standing s.words s.views id lists called (calls ∷ []) h at in
       let w = OfRoll lists called [] in (
@@ -293,12 +293,12 @@ calls_in_as {S} id other me you lists called p calls is that =
     (λ k. (sym is k, sym that k))
     (calls_in id lists called other p calls)
 
-pub tells_as : {S : Type 0} (slots id : ℕ) (me : Me S View) (lists : List (List Entry)) (called : List ℕ) (calls : List Entry) → 0 < length called
+pub returns_as : {S : Type 0} (slots id : ℕ) (me : Me S View) (lists : List (List Entry)) (called : List ℕ) (calls : List Entry) → 0 < length called
     → me ≡ (OfRoll lists called (calls ∷ []), [])
-    → Allows (λ (s : State S View). IsRolled s.words s.views) slots id me 0 (λ n. n) (Tells (step slots 0 0 0 none) me)
-tells_as {S} slots id me lists called calls some_in is =
+    → Allows (λ (s : State S View). IsRolled s.words s.views) slots id me 0 (λ n. n) (Returns (step slots 0 0 0 none) me)
+returns_as {S} slots id me lists called calls some_in is =
     subst
-    (λ (m : Me S View). Allows (λ (s : State S View). IsRolled s.words s.views) slots id m 0 (λ n. n) (Tells (step slots 0 0 0 none) m))
+    (λ (m : Me S View). Allows (λ (s : State S View). IsRolled s.words s.views) slots id m 0 (λ n. n) (Returns (step slots 0 0 0 none) m))
     (sym is)
     (tells slots id lists called calls some_in)
 
@@ -334,13 +334,13 @@ pub joined : {S : Type 0} (new me you : Me S View) (lists : List (List Entry)) (
 joined new me you lists called p calls e is that = e ∙ (λ k. (called_in (is k).0 (that k).0, (is k).1))
 
 -- and once its calls are returned, with what that shows
-pub then_told : {S : Type 0} (new me : Me S View) (lists : List (List Entry)) (called : List ℕ) (p : ℕ) (calls : List Entry)
-    → me ≡ (OfRoll lists (called ++ p ∷ []) (calls ∷ []), []) → (new.0 ≡ told me.0) × (new.1 ≡ me.1) × Shows me.0
+pub then_returned : {S : Type 0} (new me : Me S View) (lists : List (List Entry)) (called : List ℕ) (p : ℕ) (calls : List Entry)
+    → me ≡ (OfRoll lists (called ++ p ∷ []) (calls ∷ []), []) → (new.0 ≡ returned me.0) × (new.1 ≡ me.1) × Shows me.0
     → (new ≡ (OfRoll lists (called ++ p ∷ []) [], [])) × (row lists p ≡ calls) × (p < length lists) × NotIn p called
-then_told {S} new me lists called p calls is t =
+then_returned {S} new me lists called p calls is t =
     let shown = subst (λ (m : Me S View). Shows m.0) is t.2 in
     let last = last_at_end called p in (
-      (λ k. (t.0 k, t.1 k)) ∙ (λ k. (told (is k).0, (is k).1)),
+      (λ k. (t.0 k, t.1 k)) ∙ (λ k. (returned (is k).0, (is k).1)),
       ap (row lists) (sym last) ∙ shown.0,
       subst (λ q. q < length lists) last shown.1,
       subst (λ (x : ℕ × List ℕ). NotIn x.0 x.1) (λ k. (last k, without_at_end called p k)) shown.2,

@@ -1,12 +1,6 @@
 -- Lists of calls, one for each pass, each with the newest call in front; and lists of passes.
 use Rattle.std.specs.Prelude.{◌≢◌, ℕ, zero, suc, ◌<◌, List, [], ◌∷◌}
 use Rattle.can_event.specs.declared.events.Entry.{Entry}
-use Rattle.can_event.specs.declared.events.Event.{Event}
-use Rattle.can_event.specs.declared.events.Reply.{Reply}
-
--- a call with its reply
-abbrev pub entry : Event → Reply → Entry
-entry event reply = record { event = event; reply = reply }
 
 -- the calls of pass p, none where there is no such pass
 abbrev pub row : List (List Entry) → ℕ → List Entry

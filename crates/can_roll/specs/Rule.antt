@@ -59,10 +59,10 @@ called_in (OfSlip p calls) other = OfSlip p calls
 called_in Spent other = Spent
 
 -- the roll once the calls brought are returned: it keeps them no longer
-abbrev pub told : View → View
-told (OfRoll lists called brought) = OfRoll lists called []
-told (OfSlip p calls) = OfSlip p calls
-told Spent = Spent
+abbrev pub returned : View → View
+returned (OfRoll lists called brought) = OfRoll lists called []
+returned (OfSlip p calls) = OfSlip p calls
+returned Spent = Spent
 
 -- what is returned: the calls brought are the roll's list of the pass, which has entered and was not called in before
 abbrev pub Shows : View → Type 0
@@ -72,8 +72,8 @@ Shows (OfSlip p calls) = Unit {0}
 Shows Spent = Unit {0}
 
 -- the load that returns them
-abbrev pub Tells : {S : Type 0} → Step S → Me S View → ℕ → Me S View → Type 0
-Tells step old found new = (new.0 ≡ told old.0) × (new.1 ≡ old.1) × Shows old.0
+abbrev pub Returns : {S : Type 0} → Step S → Me S View → ℕ → Me S View → Type 0
+Returns step old found new = (new.0 ≡ returned old.0) × (new.1 ≡ old.1) × Shows old.0
 
 -- the roll with one more call of the pass called in last
 abbrev pub noted : Entry → View → View
@@ -91,9 +91,13 @@ sent_out (OfRoll lists called brought) = OfRoll lists (without_last called) brou
 sent_out (OfSlip p calls) = OfSlip p calls
 sent_out Spent = Spent
 
--- and gives that pass a slip, with the roll's list of it
+-- what the slip of pass p knows: the roll's list of that pass
+abbrev pub slip_view : List (List Entry) → ℕ → View
+slip_view lists p = OfSlip p (row lists p)
+
+-- and gives that pass a slip again
 abbrev pub sent : View → View
-sent (OfRoll lists called brought) = OfSlip (last_of called) (row lists (last_of called))
+sent (OfRoll lists called brought) = slip_view lists (last_of called)
 sent (OfSlip p calls) = Spent
 sent Spent = Spent
 

@@ -1,6 +1,7 @@
 -- What contracts see of a roll and of a slip.
-use Rattle.std.specs.Prelude.{ℕ, List}
+use Rattle.std.specs.Prelude.{ℕ, List, [], ◌∷◌, ◌++◌}
 use Rattle.can_event.specs.declared.events.Entry.{Entry}
+use Rattle.can_roll.specs.Lists.{added}
 
 -- a roll: its number, the calls of each pass, and the passes called in, the last one at the end
 pub record RollSeen : Type 0 where
@@ -12,6 +13,18 @@ pub record RollSeen : Type 0 where
 abbrev pub roll_seen : ℕ → List (List Entry) → List ℕ → RollSeen
 roll_seen number lists called = record { number = number; lists = lists; called = called }
 
+-- the roll with one more pass, which has made no call
+abbrev pub with_pass : RollSeen → RollSeen
+with_pass roll = roll_seen roll.number (roll.lists ++ [] ∷ []) roll.called
+
+-- the roll with one more call in front of those of pass p
+abbrev pub with_call : ℕ → Entry → RollSeen → RollSeen
+with_call p call roll = roll_seen roll.number (added roll.lists p call) roll.called
+
+-- the roll with pass p called in
+abbrev pub with_called_in : ℕ → RollSeen → RollSeen
+with_called_in p roll = roll_seen roll.number roll.lists (roll.called ++ p ∷ [])
+
 -- a slip: the number of its roll, its pass, and its calls
 pub record SlipSeen : Type 0 where
   pub number : ℕ
@@ -21,3 +34,7 @@ pub record SlipSeen : Type 0 where
 -- the slip of this roll's number and this pass, with these calls
 abbrev pub slip_seen : ℕ → ℕ → List Entry → SlipSeen
 slip_seen number pass calls = record { number = number; pass = pass; calls = calls }
+
+-- the slip with one more call in front
+abbrev pub slip_with_call : Entry → SlipSeen → SlipSeen
+slip_with_call call slip = slip_seen slip.number slip.pass (call ∷ slip.calls)

@@ -1,10 +1,11 @@
-ghost use Rattle.std.specs.Prelude.{◌≡◌, ◌<◌, [], ◌∷◌, ◌++◌, length};
-ghost use Rattle.can_roll.specs.declared.rule.View.TheVariants.{OfSlip};
-ghost use Rattle.can_roll.specs.Lists.{entry, row, added, last_of, without_last, NotIn};
-ghost use Rattle.can_roll.specs.Seen.{roll_seen, slip_seen};
+ghost use Rattle.std.specs.Prelude.{◌≡◌, ◌<◌, [], ◌∷◌, length};
+ghost use Rattle.can_event.specs.Replies.{entry_of};
+ghost use Rattle.can_roll.specs.Lists.{row, last_of, without_last, NotIn};
+ghost use Rattle.can_roll.specs.Rule.{slip_view};
+ghost use Rattle.can_roll.specs.Seen.{roll_seen, slip_seen, slip_with_call, with_call, with_called_in, with_pass};
 
 use crate::names::RollName;
-use crate::rule::{CallsIn, Enters, Law, Note, Says, Sends, Tell, View};
+use crate::rule::{CallsIn, Enters, Law, Note, Return, Says, Sends, View};
 use crate::slips::Slip;
 use atomic_table::{Badge, Seat, Table};
 use can_event::{Event, Reply};
@@ -99,7 +100,7 @@ impl<N: RollName> Roll<N> {
     /// have entered.
     pub fn enter(&mut self) -> Slip<N>
         requires { length self.old.lists < 4096 }
-        ensures roll { self.new ≡ roll_seen self.old.number (self.old.lists ++ [] ∷ []) self.old.called }
+        ensures roll { self.new ≡ with_pass self.old }
         ensures slip { result ≡ slip_seen self.old.number (length self.old.lists) [] }
     {
         let table = &self.table;
@@ -118,8 +119,8 @@ impl<N: RollName> Roll<N> {
     /// pass, which are the same before and after. The caller shows that the slip is of this roll's number.
     pub fn note(&mut self, slip: &mut Slip<N>, event: &Event, reply: &Reply)
         requires { slip.old.number ≡ self.old.number }
-        ensures roll { self.new ≡ roll_seen self.old.number (added self.old.lists slip.old.pass (entry event.now reply.now)) self.old.called }
-        ensures slip { slip.new ≡ slip_seen slip.old.number slip.old.pass (entry event.now reply.now ∷ slip.old.calls) }
+        ensures roll { self.new ≡ with_call slip.old.pass (entry_of event.now reply.now) self.old }
+        ensures slip { slip.new ≡ slip_with_call (entry_of event.now reply.now) slip.old }
         ensures below { slip.old.pass < length self.old.lists }
         ensures before { row self.old.lists slip.old.pass ≡ slip.old.calls }
         ensures after { row self.new.lists slip.old.pass ≡ slip.new.calls }
@@ -139,7 +140,7 @@ impl<N: RollName> Roll<N> {
     /// before. The caller shows that the slip is of this roll's number.
     pub fn recall(&mut self, slip: Slip<N>)
         requires { slip.number ≡ self.old.number }
-        ensures roll { self.new ≡ roll_seen self.old.number self.old.lists (self.old.called ++ slip.pass ∷ []) }
+        ensures roll { self.new ≡ with_called_in slip.pass self.old }
         ensures calls { row self.old.lists slip.pass ≡ slip.calls }
         ensures once { NotIn slip.pass self.old.called }
         ensures below { slip.pass < length self.old.lists }
@@ -154,14 +155,14 @@ impl<N: RollName> Roll<N> {
         table
             .shared
             .join_seat::<CallsIn>(&mut self.seat, badge.into_seat());
-        table.shared.load::<Tell>(&mut self.seat, 0);
+        table.shared.load::<Return>(&mut self.seat, 0);
     }
 
     // Notes a call of the pass that was called in last.
     fn note_last<C: Says>(&mut self, event: &Event, reply: &Reply)
-        requires said { C.said ≡ entry event.now reply.now }
+        requires said { C.said ≡ entry_of event.now reply.now }
         requires some_in { 0 < length self.old.called }
-        ensures { self.new ≡ roll_seen self.old.number (added self.old.lists (last_of self.old.called) (entry event.now reply.now)) self.old.called }
+        ensures { self.new ≡ with_call (last_of self.old.called) (entry_of event.now reply.now) self.old }
     {
         let table = &self.table;
         table.shared.load::<Note<C>>(&mut self.seat, 0);
@@ -172,7 +173,7 @@ impl<N: RollName> Roll<N> {
         requires { 0 < length self.old.called }
         ensures roll { self.new ≡ roll_seen self.old.number self.old.lists (without_last self.old.called) }
         ensures table { result.table_id ≡ N.roll self.old.number }
-        ensures views { result.views ≡ OfSlip (last_of self.old.called) (row self.old.lists (last_of self.old.called)) ∷ [] }
+        ensures views { result.views ≡ slip_view self.old.lists (last_of self.old.called) ∷ [] }
     {
         let table = &self.table;
         table

@@ -51,12 +51,12 @@ impl Join<View> for CallsIn {
 }
 
 /// A load that returns what the pass called in last has brought.
-pub struct Tell;
+pub struct Return;
 
-impl<S> Play<S, View> for Tell {
-    ghost use Rattle.can_roll.specs.Rule.{Tells};
+impl<S> Play<S, View> for Return {
+    ghost use Rattle.can_roll.specs.Rule.{Returns};
 
-    ghost then = { Tells };
+    ghost then = { Returns };
 }
 
 /// A load that notes a call of the pass called in last.

@@ -8,12 +8,12 @@ use Rattle.can_event.specs.declared.events.Event.{Event}
 use Rattle.can_event.specs.declared.events.Reply.{Reply}
 use Rattle.can_bus.specs.Journal.{Journal}
 use Rattle.can_bus.specs.Run.{history_after}
-use Rattle.can_roll.specs.Lists.{row, added, entry, AllBelow}
-use Rattle.can_roll.specs.Seen.{RollSeen, roll_seen}
+use Rattle.can_roll.specs.Lists.{row, added, AllBelow}
+use Rattle.can_roll.specs.Seen.{RollSeen, roll_seen, with_pass}
 use Rattle.can_roll.proofs.Rows.{row_added, row_added_else, length-added, row_front}
 use Rattle.can_roll.proofs.Passes.{below_more}
-use Rattle.can_event.specs.Replies.{enters}
-use Rattle.can_station.specs.Held.{lists_after, marks_after}
+use Rattle.can_event.specs.Replies.{enters, entry_of}
+use Rattle.can_station.specs.Held.{roll_after, marks_after}
 use Rattle.can_station.specs.Marks.{marked, IsMarked, IsBooked}
 use Rattle.can_station.specs.Passes.{PassSeen, AllMatch, AllMarked}
 use Rattle.std.proofs.lemmas.List.Elements.{All-weaker}
@@ -56,15 +56,15 @@ booked_more roll ms places j p e h below = record {
 }
 
 booked_as : (b : Bool) (roll : RollSeen) (ms : List ℕ) (places : ℕ) (j : Journal) (p : ℕ) (e : Event) (r : Reply) → enters r ≡ b → IsBooked roll ms places j → (enters r ≡ true → p < length roll.lists)
-    → IsBooked (roll_seen roll.number (if b then added roll.lists p (entry e r) else roll.lists) roll.called) (if b then p ∷ ms else ms) places (record { config = j.config; history = history_after e r j.history })
+    → IsBooked (roll_seen roll.number (if b then added roll.lists p (entry_of e r) else roll.lists) roll.called) (if b then p ∷ ms else ms) places (record { config = j.config; history = history_after e r j.history })
 booked_as true roll ms places j p e r is h below =
-    subst (λ (past : List Entry). IsBooked (roll_seen roll.number (added roll.lists p (entry e r)) roll.called) (p ∷ ms) places (record { config = j.config; history = past }))
-    (sym (after-entered e r j.history is)) (booked_more roll ms places j p (entry e r) h (below is))
+    subst (λ (past : List Entry). IsBooked (roll_seen roll.number (added roll.lists p (entry_of e r)) roll.called) (p ∷ ms) places (record { config = j.config; history = past }))
+    (sym (after-entered e r j.history is)) (booked_more roll ms places j p (entry_of e r) h (below is))
 booked_as false roll ms places j p e r is h below = subst (λ (past : List Entry). IsBooked (roll_seen roll.number roll.lists roll.called) ms places (record { config = j.config; history = past })) (sym (after-kept e r j.history is)) h
 
 -- what lies under the lock, one call later
 pub booked_after : (roll roll' : RollSeen) (ms ms' : List ℕ) (places places' : ℕ) (j j' : Journal) (p : ℕ) (e : Event) (r : Reply) → IsBooked roll ms places j → (enters r ≡ true → p < length roll.lists)
-    → roll' ≡ roll_seen roll.number (lists_after p e r roll.lists) roll.called → ms' ≡ marks_after p r ms → places' ≡ places → j' ≡ record j { history = history_after e r j.history } → IsBooked roll' ms' places' j'
+    → roll' ≡ roll_after p e r roll → ms' ≡ marks_after p r ms → places' ≡ places → j' ≡ record j { history = history_after e r j.history } → IsBooked roll' ms' places' j'
 booked_after roll roll' ms ms' places places' j j' p e r h below er em ep ej =
     subst (λ (x : RollSeen × List ℕ × ℕ × Journal). IsBooked x.0 x.1 x.2 x.3) (λ k. (sym er k, sym em k, sym ep k, sym ej k)) (booked_as (enters r) roll ms places j p e r refl h below)
 
@@ -76,7 +76,7 @@ marked-enter lists ms past h = record {
   each = λ p. row_front lists p ∙ h.each p;
 }
 
-pub booked_enter : (roll roll' : RollSeen) (ms : List ℕ) (places : ℕ) (j : Journal) → IsBooked roll ms places j → length roll.lists < 4096 → roll' ≡ roll_seen roll.number (roll.lists ++ [] ∷ []) roll.called → IsBooked roll' ms places j
+pub booked_enter : (roll roll' : RollSeen) (ms : List ℕ) (places : ℕ) (j : Journal) → IsBooked roll ms places j → length roll.lists < 4096 → roll' ≡ with_pass roll → IsBooked roll' ms places j
 booked_enter roll roll' ms places j h few er = subst (λ (x : RollSeen). IsBooked x ms places j) (sym er) (record {
   proper = h.proper;
   room = h.room;

@@ -10,7 +10,7 @@ use Rattle.can_event.specs.declared.events.Event.{Event}
 use Rattle.can_event.specs.declared.events.Event.TheVariants as event
 use Rattle.can_event.specs.declared.events.Reply.{Reply}
 use Rattle.can_bus.specs.Counters.{counts_of}
-use Rattle.can_bus.specs.Journal.{Journal}
+use Rattle.can_bus.specs.Journal.{Journal, Kept}
 use Rattle.can_event.specs.Events.{IsConfig}
 use Rattle.can_bus.specs.Legal.{IsLegal}
 use Rattle.can_bus.specs.Run.{history_after}
@@ -20,9 +20,8 @@ use Rattle.can_bus.proofs.NodeFacts.{all_counts-at}
 use Rattle.can_meter.specs.declared.status.Status.{Status}
 use Rattle.can_meter.specs.Publications.{published, newest, Ends}
 use Rattle.can_meter.specs.Readings.{Readings, readings}
-use Rattle.can_roll.specs.Lists.{entry}
-use Rattle.can_event.specs.Replies.{enters}
-use Rattle.can_station.specs.Published.{published_after, publications_of, counts_before, counts_in, IsPublished, AllSeen, AllTrue}
+use Rattle.can_event.specs.Replies.{enters, entry_of}
+use Rattle.can_station.specs.Published.{published_after, publications_of, counts_before, counts_in, IsPublished, AllEarlier, Publishes, AllSeen, AllTrue}
 use Rattle.can_station.proofs.Replies.{after-entered, after-kept}
 
 -- Publications of a history that is one entry longer.
@@ -41,7 +40,7 @@ newest-within c (e ∷ past) i =
     newest_after (old.tec == new.tec && old.rec == new.rec) (suc (length past)) (suc (length past)) new (publications_of c past i) (omega arith) (omega (arith, newest-within c past i))
 
 -- so a later one may come with the next entry
-pub later : (keeper : Readings) (number : ℕ) (j : Journal) (e : Event) (r : Reply) (at : ℕ) → IsPublished keeper number j → at ≡ length (history_after e r j.history) → enters r ≡ true → (i : ℕ) → i < keeper.ifaces → (newest (published keeper.lists i)).at < at
+pub later : (keeper : Readings) (number : ℕ) (j : Journal) (e : Event) (r : Reply) (at : ℕ) → IsPublished keeper number j → at ≡ length (history_after e r j.history) → enters r ≡ true → AllEarlier keeper at
 later keeper number j e r at is at_is enters_is i below =
     let there : i < j.config.ifaces = omega (arith, is.ifaces_are) in
     subst (λ (ps : List Status). (newest ps).at < at) (sym (is.each i there)) (omega (arith, newest-within j.config j.history i, at_is ∙ ap length (after-entered e r j.history enters_is)))
@@ -50,7 +49,7 @@ later keeper number j e r at is at_is enters_is i below =
 entered : (keeper keeper' : Readings) (number : ℕ) (j : Journal) (e : Entry) (before after : List ErrorCounts) (at : ℕ) → IsConfig j.config → IsPublished keeper number j
     → keeper'.number ≡ keeper.number → keeper'.ifaces ≡ keeper.ifaces → at ≡ suc (length j.history)
     → before ≡ all_counts j.config j.history → after ≡ all_counts j.config (e ∷ j.history)
-    → ((i : ℕ) → i < keeper.ifaces → published keeper'.lists i ≡ published_after (counts_in before i) (counts_in after i) at (published keeper.lists i))
+    → Publishes keeper before after at keeper'
     → IsPublished keeper' number (record { config = j.config; history = e ∷ j.history })
 entered keeper keeper' number j e before after at proper is number_same ifaces_same at_is before_is after_is lists = record {
   number_is = number_same ∙ is.number_is;
@@ -67,25 +66,25 @@ entered keeper keeper' number j e before after at proper is number_same ifaces_s
 published_as : (b : Bool) (keeper keeper' : Readings) (number : ℕ) (j : Journal) (e : Event) (r : Reply) (before after : List ErrorCounts) (at : ℕ) → enters r ≡ b → IsConfig j.config → IsPublished keeper number j
     → keeper'.number ≡ keeper.number → keeper'.ifaces ≡ keeper.ifaces → at ≡ length (history_after e r j.history)
     → before ≡ all_counts j.config j.history → after ≡ all_counts j.config (history_after e r j.history)
-    → ((i : ℕ) → i < keeper.ifaces → published keeper'.lists i ≡ (if b then published_after (counts_in before i) (counts_in after i) at (published keeper.lists i) else published keeper.lists i))
+    → (b ≡ true → Publishes keeper before after at keeper') → (b ≡ false → keeper' ≡ keeper)
     → IsPublished keeper' number (record { config = j.config; history = history_after e r j.history })
-published_as true keeper keeper' number j e r before after at enters_is proper is number_same ifaces_same at_is before_is after_is lists =
-    let longer : history_after e r j.history ≡ entry e r ∷ j.history = after-entered e r j.history enters_is in
+published_as true keeper keeper' number j e r before after at enters_is proper is number_same ifaces_same at_is before_is after_is lists still =
+    let longer : history_after e r j.history ≡ entry_of e r ∷ j.history = after-entered e r j.history enters_is in
     subst (λ (past : List Entry). IsPublished keeper' number (record { config = j.config; history = past })) (sym longer)
-    (entered keeper keeper' number j (entry e r) before after at proper is number_same ifaces_same (at_is ∙ ap length longer) before_is (after_is ∙ ap (all_counts j.config) longer) lists)
-published_as false keeper keeper' number j e r before after at enters_is proper is number_same ifaces_same at_is before_is after_is lists =
+    (entered keeper keeper' number j (entry_of e r) before after at proper is number_same ifaces_same (at_is ∙ ap length longer) before_is (after_is ∙ ap (all_counts j.config) longer) (lists refl))
+published_as false keeper keeper' number j e r before after at enters_is proper is number_same ifaces_same at_is before_is after_is lists still =
     subst (λ (past : List Entry). IsPublished keeper' number (record { config = j.config; history = past })) (sym (after-kept e r j.history enters_is))
-    (record { number_is = number_same ∙ is.number_is; ifaces_are = ifaces_same ∙ is.ifaces_are; each = λ i below. lists i (omega (arith, is.ifaces_are)) ∙ is.each i below })
+    (subst (λ (k : Readings). IsPublished k number j) (sym (still refl)) is)
 
 pub published_after_call : (keeper keeper' : Readings) (number number' : ℕ) (j j' : Journal) (e : Event) (r : Reply) (before after : List ErrorCounts) (at : ℕ) → IsConfig j.config → IsPublished keeper number j
     → number' ≡ number → j' ≡ record j { history = history_after e r j.history }
     → keeper'.number ≡ keeper.number → keeper'.ifaces ≡ keeper.ifaces → at ≡ length j'.history
     → before ≡ all_counts j.config j.history → after ≡ all_counts j'.config j'.history
-    → ((i : ℕ) → i < keeper.ifaces → published keeper'.lists i ≡ (if enters r then published_after (counts_in before i) (counts_in after i) at (published keeper.lists i) else published keeper.lists i))
+    → (enters r ≡ true → Publishes keeper before after at keeper') → (enters r ≡ false → keeper' ≡ keeper)
     → IsPublished keeper' number' j'
-published_after_call keeper keeper' number number' j j' e r before after at proper is number_is journal_is number_same ifaces_same at_is before_is after_is lists =
+published_after_call keeper keeper' number number' j j' e r before after at proper is number_is journal_is number_same ifaces_same at_is before_is after_is lists still =
     subst (λ (x : ℕ × Journal). IsPublished keeper' x.0 x.1) (λ k. (sym number_is k, sym journal_is k))
-    (published_as (enters r) keeper keeper' number j e r before after at refl proper is number_same ifaces_same (at_is ∙ ap (λ (x : Journal). length x.history) journal_is) before_is (after_is ∙ ap (λ (x : Journal). all_counts x.config x.history) journal_is) lists)
+    (published_as (enters r) keeper keeper' number j e r before after at refl proper is number_same ifaces_same (at_is ∙ ap (λ (x : Journal). length x.history) journal_is) before_is (after_is ∙ ap (λ (x : Journal). all_counts x.config x.history) journal_is) lists still)
 
 -- the counters kept before an event are those of the history
 pub kept_before : (j : Journal) (e : Event) (told : Option (List ErrorCounts)) (before : List ErrorCounts) → told ≡ counts_before j e → told ≡ Some before → before ≡ all_counts j.config j.history
@@ -99,7 +98,7 @@ kept_before j (event.Attempt m v) told before is kept = cc (is, kept)
 kept_before j (event.Restart i m) told before is kept = cc (is, kept)
 
 -- an event before which none were kept changes none
-unchanged : (j : Journal) (e : Event) (r : Reply) (i : ℕ) → counts_before j e ≡ None → counts_of j.config (entry e r ∷ j.history) i ≡ counts_of j.config j.history i
+unchanged : (j : Journal) (e : Event) (r : Reply) (i : ℕ) → counts_before j e ≡ None → counts_of j.config (entry_of e r ∷ j.history) i ≡ counts_of j.config j.history i
 unchanged j (event.Open k n) r i none = refl
 unchanged j (event.Close s) r i none = refl
 unchanged j (event.SetFilters s f) r i none = refl
@@ -136,9 +135,9 @@ pub nothing_published : (number : ℕ) (c : BusConfig) → IsPublished (readings
 nothing_published number c = record { number_is = refl; ifaces_are = refl; each = λ i below. refl }
 
 -- what gauges saw of a keeper are publications of the history
-pub all_true : (keeper : Readings) (number : ℕ) (j : Journal) (c : BusConfig) (past : List Entry) (gauges : List Readings) → IsPublished keeper number j → c ≡ j.config → past ≡ j.history → AllSeen gauges keeper → AllTrue c past gauges
-all_true keeper number j c past gauges is config_is past_is seen =
-    subst (λ (x : BusConfig × List Entry). AllTrue x.0 x.1 gauges) (λ k. (sym config_is k, sym past_is k))
+pub all_true : (keeper : Readings) (number : ℕ) (j : Journal) (left : Kept) (gauges : List Readings) → IsPublished keeper number j → left.config ≡ j.config → left.history ≡ j.history → AllSeen gauges keeper → AllTrue left gauges
+all_true keeper number j left gauges is config_is past_is seen =
+    subst (λ (x : BusConfig × List Entry). AllTrue (record left { config = x.0; history = x.1 }) gauges) (λ k. (sym config_is k, sym past_is k))
     (All-weaker (λ (g : Readings). Ends g.lists keeper.lists) (λ (g : Readings). (i : ℕ) → i < j.config.ifaces → IsSuffix (published g.lists i) (publications_of j.config j.history i))
     (λ g ends i below. subst (IsSuffix (published g.lists i)) (is.each i below) (ends i)) gauges seen)
 

@@ -1,12 +1,12 @@
-use Rattle.std.specs.Prelude.{◌≡◌, ◌<◌, ◌≤◌, ℕ, Bool, List, [], ◌∷◌, ◌++◌, length, if◌then◌else◌}
+use Rattle.std.specs.Prelude.{◌≡◌, ◌<◌, ◌≤◌, ℕ, Bool, false, List, [], ◌∷◌, ◌++◌, length, if◌then◌else◌}
 use Rattle.can_event.specs.declared.events.Entry.{Entry}
 use Rattle.can_event.specs.declared.events.Event.{Event}
 use Rattle.can_event.specs.declared.events.Reply.{Reply}
-use Rattle.can_event.specs.Replies.{enters}
+use Rattle.can_event.specs.Replies.{enters, entry_of}
 use Rattle.can_bus.specs.Journal.{Journal}
 use Rattle.can_bus.specs.Run.{history_after}
-use Rattle.can_roll.specs.Lists.{added, entry}
-use Rattle.can_roll.specs.Seen.{SlipSeen, slip_seen}
+use Rattle.can_roll.specs.Lists.{added}
+use Rattle.can_roll.specs.Seen.{RollSeen, SlipSeen, roll_seen, slip_seen}
 
 -- What a station keeps under its lock (own).
 
@@ -18,9 +18,21 @@ pub record Held (F : Type 0) : Type 0 where
   pub source : F
   pub stopped : Bool
 
+-- a station that nobody has entered, and whose waits do not end
+abbrev pub new_held : {F : Type 0} → ℕ → Journal → F → Held F
+new_held number journal source = record { number = number; journal = journal; lists = []; source = source; stopped = false }
+
+-- the same with this source of verdicts
+abbrev pub with_source : {F : Type 0} → F → Held F → Held F
+with_source source h = record h { source = source }
+
 -- the calls of each pass, after a call of pass p
 abbrev pub lists_after : ℕ → Event → Reply → List (List Entry) → List (List Entry)
-lists_after p e r lists = if enters r then added lists p (entry e r) else lists
+lists_after p e r lists = if enters r then added lists p (entry_of e r) else lists
+
+-- the roll after a call of pass p
+abbrev pub roll_after : ℕ → Event → Reply → RollSeen → RollSeen
+roll_after p e r roll = roll_seen roll.number (lists_after p e r roll.lists) roll.called
 
 -- the marks of the record's entries, the newest first, after a call of pass p
 abbrev pub marks_after : ℕ → Reply → List ℕ → List ℕ

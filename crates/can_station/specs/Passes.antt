@@ -1,22 +1,27 @@
-use Rattle.std.specs.Prelude.{◌≡◌, ℕ, ◌+◌, ◌<◌, ◌⊎◌, true, List, [], length, map, All, Result, Ok, Err}
+use Rattle.std.specs.Prelude.{◌≡◌, ℕ, ◌+◌, ◌<◌, ◌⊎◌, Bool, true, List, [], length, reverse, map, All, Result, Ok, Err}
 use Rattle.can_event.specs.declared.events.Entry.{Entry}
 use Rattle.can_event.specs.declared.events.Event.{Event}
 use Rattle.can_event.specs.declared.events.Event.TheVariants as event
 use Rattle.can_event.specs.declared.events.Reply.{Reply}
 use Rattle.can_event.specs.declared.events.Reply.TheVariants as reply
+use Rattle.can_event.specs.declared.events.Received.{Received}
+use Rattle.can_event.specs.declared.events.Refusal.{Refusal}
 use Rattle.can_event.specs.declared.events.Refusal.TheVariants as refusal
+use Rattle.can_event.specs.declared.events.SocketId.{SocketId}
 use Rattle.can_event.specs.declared.events.Attempt.{Attempt}
-use Rattle.can_event.specs.declared.events.BusConfig.{BusConfig}
 use Rattle.can_fault.specs.declared.verdicts.Verdict.{Verdict}
 use Rattle.can_bus.specs.Answer.{told_attempt}
+use Rattle.can_bus.specs.Journal.{Kept}
 use Rattle.can_bus.specs.Legal.{IsLegal}
 use Rattle.can_bus.specs.Run.{IsAnswer, history_after}
 use Rattle.can_bus.specs.Transmit.{tape}
 use Rattle.can_fault.specs.Sources.{VerdictMap, verdict_in}
 use Rattle.can_packed.specs.Records.{ListedEntries}
+use Rattle.can_event.specs.Replies.{receive_reply}
 pub use Rattle.can_event.specs.Replies.{Suits}
 use Rattle.can_roll.specs.Lists.{row, Distinct, AllBelow}
-use Rattle.can_station.specs.Held.{Held, NoPassLeft, held_after}
+use Rattle.can_roll.specs.Seen.{SlipSeen}
+use Rattle.can_station.specs.Held.{Held, NoPassLeft, held_after, slip_after, with_source}
 use Rattle.can_station.specs.Marks.{marked}
 use Rattle.can_station.specs.declared.refusals.StationRefusal.{StationRefusal}
 use Rattle.can_station.specs.declared.refusals.StationRefusal.TheVariants as station
@@ -71,6 +76,20 @@ Called told number old e (Err station.WrongStation) new = ¬ (old.number ≡ num
 abbrev pub IsAnsweredIn : {F : Type 0} → Held F → Event → Reply → Type 0
 IsAnsweredIn held e r = IsAnswer held.journal.config held.journal.history e r
 
+-- an event is carried out for the pass of a slip: its reply comes from the record, and it is noted there and in the slip
+pub record IsCarriedOut {F : Type 0} (old : Held F) (slip : SlipSeen) (e : Event) (r : Reply) (new : Held F) (slip' : SlipSeen) : Type 0 where
+  pub answer : IsAnsweredIn old e r
+  pub after : new ≡ held_after slip.pass e r old
+  pub noted : slip' ≡ slip_after e r slip
+
+-- a receive is carried out so: this is what it came to, and an item is in the room
+abbrev pub IsReceived : {F : Type 0} → Held F → SlipSeen → SocketId → Received → Result Bool Refusal → Held F → SlipSeen → Type 0
+IsReceived old slip socket room outcome new slip' = IsCarriedOut old slip (event.Receive socket) (receive_reply room outcome) new slip'
+
+-- the calls of a pass, after this one: it is kept with its reply, unless the record was full or memory was refused
+abbrev pub Keeps : ListedEntries → Event → Reply → ListedEntries → Type 0
+Keeps old e r new = reverse new.entries ≡ history_after e r (reverse old.entries)
+
 -- a call that is carried out: its reply comes from the record, it is noted there, and in the caller's pass
 pub record IsMade {F : Type 0} (old : Held F) (pass : PassSeen) (e : Event) (r : Reply) (new : Held F) (pass' : PassSeen) : Type 0 where
   pub own : pass.number ≡ old.number
@@ -89,9 +108,21 @@ Made told old pass e (Ok a) new pass' = IsMade old pass e (told a) new pass'
 Made told old pass e (Err (station.Bus why)) new pass' = IsMade old pass e (reply.Refused why) new pass' ⊎ ((why ≡ refusal.NoMemory) × IsUnchanged old pass new pass')
 Made told old pass e (Err station.WrongStation) new pass' = ¬ (pass.number ≡ old.number) × IsUnchanged old pass new pass'
 
--- an attempt at the moment, with the verdict that the source has for its number
+-- the verdict that the source has for the number of the next attempt
+abbrev pub next_verdict : {F : Type 0} → (F → VerdictMap) → Held F → Verdict
+next_verdict verdicts held = verdict_in (verdicts held.source) (length (tape held.journal.history))
+
+-- an attempt at the moment, with that verdict
 abbrev pub next_attempt : {F : Type 0} → (F → VerdictMap) → Held F → ℕ → Event
-next_attempt verdicts held moment = event.Attempt moment (verdict_in (verdicts held.source) (length (tape held.journal.history)))
+next_attempt verdicts held moment = event.Attempt moment (next_verdict verdicts held)
+
+-- such an attempt is carried out for the pass of a slip, once the source was asked
+abbrev pub IsStepped : {F : Type 0} → (F → VerdictMap) → Held F → SlipSeen → ℕ → Reply → Held F → SlipSeen → Type 0
+IsStepped verdicts old slip moment r new slip' = IsCarriedOut (with_source new.source old) slip (next_attempt verdicts old moment) r new slip'
+
+-- a step in one hold of the lock: such an attempt is made as a call is
+abbrev pub MadeStep : {F : Type 0} → (F → VerdictMap) → Held F → PassSeen → ℕ → Result Attempt StationRefusal → Held F → PassSeen → Type 0
+MadeStep verdicts old pass moment outcome new pass' = Made told_attempt (with_source new.source old) pass (next_attempt verdicts old moment) outcome new pass'
 
 -- some state of the station with this number
 abbrev pub InSome : (F : Type 0) → ℕ → (Held F → Type 0) → Type 0
@@ -149,13 +180,13 @@ AllMarked marks past own = All (λ v. marked v.pass marks past ≡ v.calls) own
 abbrev pub AllMatch : List (List Entry) → List PassSeen → Type 0
 AllMatch lists own = All (λ v. row lists v.pass ≡ v.calls) own
 
--- the history is legal, and its entries can be marked with passes so that, for each of these passes, its calls are the
+-- the record is legal, and its entries can be marked with passes so that, for each of these passes, its calls are the
 -- entries marked with it; there were this many passes, and these are different ones
-pub record Settles (config : BusConfig) (past : List Entry) (passes : ℕ) (own : List PassSeen) : Type 0 where
-  pub legal : IsLegal config past
+pub record Settles (left : Kept) (passes : ℕ) (own : List PassSeen) : Type 0 where
+  pub legal : IsLegal left.config left.history
   pub marks : List ℕ
-  pub long : length marks ≡ length past
+  pub long : length marks ≡ length left.history
   pub below : AllBelow passes marks
-  pub each : AllMarked marks past own
+  pub each : AllMarked marks left.history own
   pub different : Distinct (numbers_of own)
   pub entered : AllBelow passes (numbers_of own)

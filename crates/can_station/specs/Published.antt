@@ -1,4 +1,4 @@
-use Rattle.std.specs.Prelude.{◌≡◌, ℕ, suc, ◌==◌, ◌&&◌, ◌<◌, List, [], ◌∷◌, length, All, slice_index_or, Option, Some, None, if◌then◌else◌}
+use Rattle.std.specs.Prelude.{◌≡◌, ℕ, suc, ◌==◌, ◌&&◌, ◌<◌, ◌⊎◌, List, [], ◌∷◌, length, All, slice_index_or, Option, Some, None, Result, Ok, Err, if◌then◌else◌}
 use mathlib.Core.List.{IsSuffix}
 use Rattle.can_confine.specs.Confinement.{ErrorCounts, at_start}
 use Rattle.can_event.specs.declared.events.BusConfig.{BusConfig}
@@ -6,11 +6,12 @@ use Rattle.can_event.specs.declared.events.Entry.{Entry}
 use Rattle.can_event.specs.declared.events.Event.{Event}
 use Rattle.can_event.specs.declared.events.Event.TheVariants as event
 use Rattle.can_bus.specs.Counters.{counts_of}
-use Rattle.can_bus.specs.Journal.{Journal}
+use Rattle.can_bus.specs.Journal.{Journal, Kept}
 use Rattle.can_bus.specs.Stats.{all_counts}
 use Rattle.can_meter.specs.declared.status.Status.{Status}
-use Rattle.can_meter.specs.Publications.{published, Ends}
+use Rattle.can_meter.specs.Publications.{published, newest, Ends}
 use Rattle.can_meter.specs.Readings.{Readings}
+use Rattle.can_station.specs.Passes.{PassSeen, AllOf, SomeOther}
 
 -- What is published of a history: the error counters of each interface, each time that they change (own).
 
@@ -40,6 +41,18 @@ pub record IsPublished (keeper : Readings) (number : ℕ) (j : Journal) : Type 0
   pub ifaces_are : keeper.ifaces ≡ j.config.ifaces
   pub each : (i : ℕ) → i < j.config.ifaces → published keeper.lists i ≡ publications_of j.config j.history i
 
+-- all that a keeper has published is of records shorter than this
+abbrev pub AllEarlier : Readings → ℕ → Type 0
+AllEarlier keeper at = (i : ℕ) → i < keeper.ifaces → (newest (published keeper.lists i)).at < at
+
+-- a keeper publishes interface i's counters with the record's length, if they changed
+abbrev pub PublishesOf : Readings → ℕ → ErrorCounts → ErrorCounts → ℕ → Readings → Type 0
+PublishesOf old i before after at new = published new.lists i ≡ published_after before after at (published old.lists i)
+
+-- a keeper publishes each interface's counters so
+abbrev pub Publishes : Readings → List ErrorCounts → List ErrorCounts → ℕ → Readings → Type 0
+Publishes old before after at new = (i : ℕ) → i < old.ifaces → PublishesOf old i (counts_in before i) (counts_in after i) at new
+
 -- all gauges are of the station with this number
 abbrev pub GaugesOf : ℕ → List Readings → Type 0
 GaugesOf number gauges = All (λ g. g.number ≡ number) gauges
@@ -48,10 +61,15 @@ GaugesOf number gauges = All (λ g. g.number ≡ number) gauges
 abbrev pub SomeOtherGauge : ℕ → List Readings → Type 0
 SomeOtherGauge number gauges = ¬ GaugesOf number gauges
 
+-- passes and gauges are taken back exactly where all are of the station with this number
+abbrev pub TakesBack : {A E : Type 0} → ℕ → List PassSeen → List Readings → Result A E → Type 0
+TakesBack number passes gauges (Ok left) = AllOf number passes × GaugesOf number gauges
+TakesBack number passes gauges (Err refused) = SomeOther number passes ⊎ SomeOtherGauge number gauges
+
 -- what each gauge has seen was published by this keeper
 abbrev pub AllSeen : List Readings → Readings → Type 0
 AllSeen gauges keeper = All (λ g. Ends g.lists keeper.lists) gauges
 
--- what each gauge has seen of an interface are publications of the history, all but the newest if it missed some
-abbrev pub AllTrue : BusConfig → List Entry → List Readings → Type 0
-AllTrue c past gauges = All (λ g. (i : ℕ) → i < c.ifaces → IsSuffix (published g.lists i) (publications_of c past i)) gauges
+-- what each gauge has seen of an interface are publications of the record, all but the newest if it missed some
+abbrev pub AllTrue : Kept → List Readings → Type 0
+AllTrue left gauges = All (λ g. (i : ℕ) → i < left.config.ifaces → IsSuffix (published g.lists i) (publications_of left.config left.history i)) gauges

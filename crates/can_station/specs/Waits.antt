@@ -1,4 +1,4 @@
-use Rattle.std.specs.Prelude.{◌≡◌, ℕ, ◌-◌, ◌||◌, nat_lt, Bool, Option, Some, None, is_some, if◌then◌else◌}
+use Rattle.std.specs.Prelude.{◌≡◌, ℕ, ◌-◌, ◌||◌, nat_lt, Bool, true, false, Option, Some, None, is_some, if◌then◌else◌}
 use Rattle.can_event.specs.declared.stats.SocketStats.{SocketStats}
 use Rattle.can_bus.specs.Journal.{Journal}
 use Rattle.can_event.specs.declared.stats.IfaceStats.{IfaceStats}
@@ -32,6 +32,10 @@ has_work j = is_some (winner j.config j.history) || is_counting j.config j.histo
 abbrev pub work_wake : {F : Type 0} → Held F → Option Wake
 work_wake h = if has_work h.journal then Some wake.Ready else stopped_wake h.stopped
 
+-- there is no work, and the station was stopped: a driver ends
+abbrev pub IsIdleAndStopped : {F : Type 0} → Held F → Type 0
+IsIdleAndStopped h = (has_work h.journal ≡ false) × (h.stopped ≡ true)
+
 -- the items that were queued and not taken
 abbrev pub left_of : Option SocketStats → ℕ
 left_of None = 0
@@ -40,6 +44,10 @@ left_of (Some counts) = counts.queued - counts.taken
 -- how many items wait at socket s
 abbrev pub waiting_at : Journal → ℕ → ℕ
 waiting_at j s = left_of (socket_stats_of j.config j.history s)
+
+-- a wait for an item of socket s ends so, with this many items that wait there
+abbrev pub EndsItemWait : {F : Type 0} → Held F → ℕ → Wake × ℕ → Type 0
+EndsItemWait h s end = (frame_wake h s ≡ Some end.0) × (end.1 ≡ waiting_at h.journal s)
 
 -- the counts of socket s and of interface i
 abbrev pub AreCounts : Journal → ℕ → ℕ → Option SocketStats × Option IfaceStats → Type 0

@@ -1,10 +1,7 @@
-ghost use Rattle.std.specs.Prelude.{◌≡◌, ◌≢◌, Ok, true, reverse, IfOk};
-ghost use Rattle.can_bus.specs.Run.{history_after};
-ghost use Rattle.can_bus.specs.Answer.{told_attempt};
+ghost use Rattle.std.specs.Prelude.{◌≡◌, ◌≢◌, Ok, true, IfOk};
 ghost use Rattle.can_event.specs.Replies.{receive_reply, taken_reply};
 ghost use Rattle.can_event.specs.declared.events.Event.TheVariants as event;
-ghost use Rattle.can_station.specs.Held.{held_after, slip_after};
-ghost use Rattle.can_station.specs.Passes.{IsAnsweredIn, IsReady, IsReadyFor, Suits, Called, Made, next_attempt, same};
+ghost use Rattle.can_station.specs.Passes.{IsCarriedOut, IsReady, IsReadyFor, IsReceived, IsStepped, Keeps, Suits, Called, Made, MadeStep, next_attempt, same};
 ghost use Rattle.can_station.specs.Waits.{has_work};
 
 use crate::attempts::attempt_in;
@@ -90,10 +87,8 @@ impl<'s, N: RollName + MeterName, F: FaultSource + Drop, G: Gate + Drop> Hold<'s
     ) -> Reply
         requires own { slip.old.number ≡ self.old.number }
         requires ready { IsReadyFor event calls.old }
-        ensures answer { IsAnsweredIn self.old event result }
-        ensures after { self.new ≡ held_after slip.old.pass event result self.old }
-        ensures slip { slip.new ≡ slip_after event result slip.old }
-        ensures calls { reverse calls.new.entries ≡ history_after event result (reverse calls.old.entries) }
+        ensures carried { IsCarriedOut self.old slip.old event result self.new slip.new }
+        ensures calls { Keeps calls.old event result calls.new }
         ensures suits { Suits event result }
     {
         let reply = self.state.call(alloc, slip, &event);
@@ -137,10 +132,8 @@ impl<'s, N: RollName + MeterName, F: FaultSource + Drop, G: Gate + Drop> Hold<'s
     ) -> Result<bool, Refusal>
         requires own { slip.old.number ≡ self.old.number }
         requires ready { IsReady calls.old }
-        ensures answer { IsAnsweredIn self.old (event.Receive socket) (receive_reply room.new result) }
-        ensures after { self.new ≡ held_after slip.old.pass (event.Receive socket) (receive_reply room.new result) self.old }
-        ensures slip { slip.new ≡ slip_after (event.Receive socket) (receive_reply room.new result) slip.old }
-        ensures calls { reverse calls.new.entries ≡ history_after (event.Receive socket) (receive_reply room.new result) (reverse calls.old.entries) }
+        ensures carried { IsReceived self.old slip.old socket room.new result self.new slip.new }
+        ensures calls { Keeps calls.old (event.Receive socket) (receive_reply room.new result) calls.new }
         ensures stays { result ≢ Ok true → room.new ≡ room.old }
     {
         let outcome = self.state.receive_into(slip, socket, room);
@@ -158,7 +151,7 @@ impl<'s, N: RollName + MeterName, F: FaultSource + Drop, G: Gate + Drop> Hold<'s
         pass: &mut Pass<N>,
         moment: Moment,
     ) -> Result<Attempt, StationRefusal>
-        ensures made { Made told_attempt (record self.old { source = self.new.source }) pass.old (next_attempt F.verdicts self.old moment) result self.new pass.new }
+        ensures made { MadeStep F.verdicts self.old pass.old moment result self.new pass.new }
         ensures source { F.verdicts self.new.source ≡ F.verdicts self.old.source }
     {
         if make_ready(&mut pass.calls, alloc).is_err() {
@@ -181,11 +174,9 @@ impl<'s, N: RollName + MeterName, F: FaultSource + Drop, G: Gate + Drop> Hold<'s
     ) -> Reply
         requires own { slip.old.number ≡ self.old.number }
         requires ready { IsReady calls.old }
-        ensures answer { IsAnsweredIn self.old (next_attempt F.verdicts self.old moment) result }
-        ensures after { self.new ≡ held_after slip.old.pass (next_attempt F.verdicts self.old moment) result (record self.old { source = self.new.source }) }
+        ensures carried { IsStepped F.verdicts self.old slip.old moment result self.new slip.new }
         ensures source { F.verdicts self.new.source ≡ F.verdicts self.old.source }
-        ensures slip { slip.new ≡ slip_after (next_attempt F.verdicts self.old moment) result slip.old }
-        ensures calls { reverse calls.new.entries ≡ history_after (next_attempt F.verdicts self.old moment) result (reverse calls.old.entries) }
+        ensures calls { Keeps calls.old (next_attempt F.verdicts self.old moment) result calls.new }
         ensures suits { Suits (next_attempt F.verdicts self.old moment) result }
     {
         let station = self.station;
@@ -207,6 +198,6 @@ impl<N: RollName + MeterName, F: FaultSource + Drop, G: Gate + Drop> Drop for Ho
         } = self;
         let woken = news.woken(&mut state);
         drop(state);
-        station.tell(news, woken);
+        station.wake(news, woken);
     }
 }

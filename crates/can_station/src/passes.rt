@@ -1,8 +1,7 @@
 ghost use Rattle.std.specs.Prelude.{◌≡◌, ◌<◌, ◌≤◌, [], length, reverse, ◌==◌, slice_get, IsTrue, IsOk, OnOk, ◌↔◌};
-ghost use Rattle.can_bus.specs.Run.{history_after};
 ghost use Rattle.can_roll.specs.Seen.{roll_seen};
 ghost use Rattle.can_roll.specs.Lists.{Distinct, AllBelow};
-ghost use Rattle.can_station.specs.Passes.{AllOf, AllMatch, CanClose, IsReady, IsReadyFor, Suits, numbers_of};
+ghost use Rattle.can_station.specs.Passes.{AllOf, AllMatch, CanClose, IsReady, IsReadyFor, Keeps, Suits, numbers_of};
 
 use can_bus::{Event, Looked, Record, Reply};
 use can_packed::PackedList;
@@ -103,7 +102,7 @@ pub(crate) fn make_ready_for(
 pub(crate) fn keep(calls: &mut PackedList, event: Event, reply: &Reply)
     requires ready { IsReadyFor event calls.old }
     requires suits { Suits event reply.now }
-    ensures { reverse calls.new.entries ≡ history_after event reply.now (reverse calls.old.entries) }
+    ensures { Keeps calls.old event reply.now calls.new }
 {
     if reply.enters() {
         calls.push(event, *reply);

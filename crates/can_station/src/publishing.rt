@@ -1,7 +1,7 @@
-ghost use Rattle.std.specs.Prelude.{◌≡◌, ◌≢◌, ◌<◌, ◌≤◌, ℕ, true, if◌then◌else◌};
+ghost use Rattle.std.specs.Prelude.{◌≡◌, ◌≢◌, ◌<◌, ◌≤◌, ℕ, true, false};
 ghost use Rattle.can_meter.specs.Publications.{published, newest};
 ghost use Rattle.can_event.specs.Replies.{enters};
-ghost use Rattle.can_station.specs.Published.{published_after, counts_in, counts_before};
+ghost use Rattle.can_station.specs.Published.{AllEarlier, Publishes, PublishesOf, counts_before};
 
 use can_bus::{Event, Reply, RingBus};
 use can_confine::Counters;
@@ -27,10 +27,11 @@ pub(crate) fn publish_changes<N: MeterName>(
     after: &[Counters; 16],
 )
     requires few { keeper.old.ifaces ≤ 16 }
-    requires later { enters reply.now ≡ true → (i : ℕ) → i < keeper.old.ifaces → (newest (published keeper.old.lists i)).at < at }
+    requires later { enters reply.now ≡ true → AllEarlier keeper.old at }
     ensures number { keeper.new.number ≡ keeper.old.number }
     ensures ifaces { keeper.new.ifaces ≡ keeper.old.ifaces }
-    ensures lists { (i : ℕ) → i < keeper.old.ifaces → published keeper.new.lists i ≡ (if enters reply.now then published_after (counts_in before.now i) (counts_in after.now i) at (published keeper.old.lists i) else published keeper.old.lists i) }
+    ensures entered { enters reply.now ≡ true → Publishes keeper.old before.now after.now at keeper.new }
+    ensures still { enters reply.now ≡ false → keeper.new ≡ keeper.old }
 {
     if reply.enters() {
         publish_all(keeper, at, before, after);
@@ -45,10 +46,10 @@ fn publish_all<N: MeterName>(
     after: &[Counters; 16],
 )
     requires few { keeper.old.ifaces ≤ 16 }
-    requires later { (i : ℕ) → i < keeper.old.ifaces → (newest (published keeper.old.lists i)).at < at }
+    requires later { AllEarlier keeper.old at }
     ensures number { keeper.new.number ≡ keeper.old.number }
     ensures ifaces { keeper.new.ifaces ≡ keeper.old.ifaces }
-    ensures lists { (i : ℕ) → i < keeper.old.ifaces → published keeper.new.lists i ≡ published_after (counts_in before.now i) (counts_in after.now i) at (published keeper.old.lists i) }
+    ensures lists { Publishes keeper.old before.now after.now at keeper.new }
 {
     for place in 0..keeper.ifaces() {
         publish_change(keeper, place, at, before[place], after[place]);
@@ -67,7 +68,7 @@ fn publish_change<N: MeterName>(
     requires later { (newest (published keeper.old.lists place)).at < at }
     ensures number { keeper.new.number ≡ keeper.old.number }
     ensures ifaces { keeper.new.ifaces ≡ keeper.old.ifaces }
-    ensures list { published keeper.new.lists place ≡ published_after before after at (published keeper.old.lists place) }
+    ensures list { PublishesOf keeper.old place before after at keeper.new }
     ensures others { (i : ℕ) → i ≢ place → published keeper.new.lists i ≡ published keeper.old.lists i }
 {
     if before != after {

@@ -1,9 +1,8 @@
-ghost use Rattle.std.specs.Prelude.{◌≡◌, reverse};
-ghost use Rattle.can_bus.specs.Run.{history_after};
+ghost use Rattle.std.specs.Prelude.{◌≡◌};
 ghost use Rattle.can_event.specs.Replies.{enters, receive_reply};
 ghost use Rattle.can_event.specs.declared.events.Event.TheVariants as event;
 ghost use Rattle.can_event.specs.declared.events.Received.{Received};
-ghost use Rattle.can_station.specs.Passes.{IsReady};
+ghost use Rattle.can_station.specs.Passes.{IsReady, Keeps};
 
 use can_bus::{Received, Refusal, SocketId};
 use can_packed::PackedList;
@@ -26,7 +25,7 @@ pub(crate) fn keep_receive(
     room: &Received,
 )
     requires { IsReady calls.old }
-    ensures { reverse calls.new.entries ≡ history_after (event.Receive socket) (receive_reply room.now outcome) (reverse calls.old.entries) }
+    ensures { Keeps calls.old (event.Receive socket) (receive_reply room.now outcome) calls.new }
 {
     if leaves_entry(outcome) {
         calls.push_receive(socket, outcome, room);

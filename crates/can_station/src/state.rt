@@ -1,17 +1,13 @@
-ghost use Rattle.std.specs.Prelude.{◌≡◌, ◌≢◌, ◌<◌, ◌≤◌, ◌⊎◌, ℕ, [], true, false, List, length, reverse, IfOk, OnErr, MatchResult, vec_len, vec_capacity};
-ghost use Rattle.can_fault.specs.Sources.{verdict_in};
+ghost use Rattle.std.specs.Prelude.{◌≡◌, ◌≢◌, ◌<◌, ◌≤◌, ℕ, [], true, List, length, reverse, IfOk, OnErr, vec_len, vec_capacity};
 ghost use Rattle.can_event.specs.Events.{IsConfig};
-ghost use Rattle.can_event.specs.Replies.{enters, receive_reply};
+ghost use Rattle.can_event.specs.Replies.{enters};
 ghost use Rattle.can_bus.specs.Legal.{IsLegal};
-ghost use Rattle.can_bus.specs.Run.{IsAnswer};
-ghost use Rattle.can_bus.specs.Transmit.{tape};
 ghost use Rattle.can_event.specs.declared.events.Event.TheVariants as event;
 ghost use Rattle.can_meter.specs.Readings.{readings};
-ghost use Rattle.can_roll.specs.Seen.{roll_seen};
-ghost use Rattle.can_station.specs.Held.{HasEntered, NoPassLeft, held_after, lists_after, marks_after, slip_after};
+ghost use Rattle.can_station.specs.Held.{HasEntered, NoPassLeft, marks_after, new_held, roll_after, slip_after};
 ghost use Rattle.can_station.specs.Marks.{IsMarked};
-ghost use Rattle.can_station.specs.Passes.{AllOf, IsAnsweredIn, SomeOther, Settles, Suits};
-ghost use Rattle.can_station.specs.Published.{AllTrue, GaugesOf, SomeOtherGauge, IsPublished};
+ghost use Rattle.can_station.specs.Passes.{IsCarriedOut, IsReceived, IsStepped, Settles, Suits, next_verdict};
+ghost use Rattle.can_station.specs.Published.{AllTrue, IsPublished, TakesBack};
 ghost use Rattle.can_station.specs.Waits.{AreCounts, frame_wake, has_work, work_wake, stopped_wake, waiting_at};
 
 use crate::gauges::{absorb_all, are_gauges_of};
@@ -81,7 +77,7 @@ impl<N: RollName + MeterName, F: FaultSource + Drop> StationState<N, F> {
         requires room { bus.config.limit ≤ vec_capacity marks }
         requires keeper { keeper ≡ readings number bus.config.ifaces [] }
         requires spare { spare.number ≡ number }
-        ensures { result ≡ record { number = number; journal = bus; lists = []; source = source; stopped = false } }
+        ensures { result ≡ new_held number bus source }
     {
         StationState {
             bus,
@@ -142,10 +138,8 @@ impl<N: RollName + MeterName, F: FaultSource + Drop> StationState<N, F> {
     /// the pass's list, and what it changed of the error counters is published.
     pub fn call(&mut self, alloc: Global, slip: &mut Slip<N>, event: &Event) -> Reply
         requires { slip.old.number ≡ self.old.number }
-        ensures answer { IsAnswer self.old.journal.config self.old.journal.history event.now result }
+        ensures carried { IsCarriedOut self.old slip.old event.now result self.new slip.new }
         ensures suits { Suits event.now result }
-        ensures after { self.new ≡ held_after slip.old.pass event.now result self.old }
-        ensures slip { slip.new ≡ slip_after event.now result slip.old }
     {
         let before = counters_before(&self.bus, event);
         let reply = self.bus.answer(alloc, event);
@@ -168,9 +162,7 @@ impl<N: RollName + MeterName, F: FaultSource + Drop> StationState<N, F> {
         room: &mut Received,
     ) -> Result<bool, Refusal>
         requires { slip.old.number ≡ self.old.number }
-        ensures answer { IsAnsweredIn self.old (event.Receive socket) (receive_reply room.new result) }
-        ensures after { self.new ≡ held_after slip.old.pass (event.Receive socket) (receive_reply room.new result) self.old }
-        ensures slip { slip.new ≡ slip_after (event.Receive socket) (receive_reply room.new result) slip.old }
+        ensures carried { IsReceived self.old slip.old socket room.new result self.new slip.new }
         ensures stays { result ≢ Ok true → room.new ≡ room.old }
     {
         let outcome = self.bus.receive_into(socket, room);
@@ -183,12 +175,10 @@ impl<N: RollName + MeterName, F: FaultSource + Drop> StationState<N, F> {
     /// Carries out an attempt at a moment, with the verdict that the source has for its number.
     pub fn step(&mut self, alloc: Global, slip: &mut Slip<N>, moment: Moment) -> (Verdict, Reply)
         requires { slip.old.number ≡ self.old.number }
-        ensures verdict { result.0 ≡ verdict_in (F.verdicts self.old.source) (length (tape self.old.journal.history)) }
-        ensures answer { IsAnswer self.old.journal.config self.old.journal.history (event.Attempt moment result.0) result.1 }
-        ensures suits { Suits (event.Attempt moment result.0) result.1 }
-        ensures after { self.new ≡ held_after slip.old.pass (event.Attempt moment result.0) result.1 (record self.old { source = self.new.source }) }
+        ensures verdict { result.0 ≡ next_verdict F.verdicts self.old }
+        ensures carried { IsStepped F.verdicts self.old slip.old moment result.1 self.new slip.new }
         ensures source { F.verdicts self.new.source ≡ F.verdicts self.old.source }
-        ensures slip { slip.new ≡ slip_after (event.Attempt moment result.0) result.1 slip.old }
+        ensures suits { Suits (event.Attempt moment result.0) result.1 }
     {
         let verdict = self.source.verdict(self.bus.next_attempt());
         let reply = self.call(alloc, slip, &Event::Attempt(moment, verdict));
@@ -316,9 +306,9 @@ impl<N: RollName + MeterName, F: FaultSource + Drop> StationState<N, F> {
         ensures config { IfOk result (λ s. s.history.config ≡ self.journal.config) }
         ensures history { IfOk result (λ s. s.history.history ≡ self.journal.history) }
         ensures passes { IfOk result (λ s. s.passes ≡ length self.lists) }
-        ensures settled { IfOk result (λ s. Settles s.history.config s.history.history s.passes passes.items) }
-        ensures gauges { IfOk result (λ s. AllTrue s.history.config s.history.history gauges.items) }
-        ensures refused { MatchResult result (λ _. AllOf self.number passes.items × GaugesOf self.number gauges.items) (λ _. SomeOther self.number passes.items ⊎ SomeOtherGauge self.number gauges.items) }
+        ensures settled { IfOk result (λ s. Settles s.history s.passes passes.items) }
+        ensures gauges { IfOk result (λ s. AllTrue s.history gauges.items) }
+        ensures refused { TakesBack self.number passes.items gauges.items result }
     {
         let StationState {
             bus,
@@ -356,7 +346,7 @@ fn book<N: RollName>(
 )
     requires slip { slip.old.number ≡ roll.old.number }
     requires room { enters reply.now ≡ true → vec_len marks.old < vec_capacity marks.old }
-    ensures roll { roll.new ≡ roll_seen roll.old.number (lists_after slip.old.pass event.now reply.now roll.old.lists) roll.old.called }
+    ensures roll { roll.new ≡ roll_after slip.old.pass event.now reply.now roll.old }
     ensures marks { reverse marks.new.items ≡ marks_after slip.old.pass reply.now (reverse marks.old.items) }
     ensures places { vec_capacity marks.new ≡ vec_capacity marks.old }
     ensures slip { slip.new ≡ slip_after event.now reply.now slip.old }

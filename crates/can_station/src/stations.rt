@@ -1,8 +1,8 @@
-ghost use Rattle.std.specs.Prelude.{◌≡◌, ◌<◌, ◌≤◌, ◌⊎◌, IfOk, OnErr, MatchResult, ◌↔◌};
+ghost use Rattle.std.specs.Prelude.{◌≡◌, ◌<◌, ◌≤◌, IfOk, OnErr, ◌↔◌};
 ghost use Rattle.std.specs.Sync.Mutex.{mutex_guard_value};
 ghost use Rattle.can_event.specs.Events.{IsConfig};
-ghost use Rattle.can_station.specs.Passes.{AllOf, HadNoPassLeft, IsNewPass, SomeOther, Settles, Suits, Answered, Called, Stepped, same};
-ghost use Rattle.can_station.specs.Published.{AllTrue, GaugesOf, SomeOtherGauge};
+ghost use Rattle.can_station.specs.Passes.{HadNoPassLeft, IsNewPass, Settles, Suits, Answered, Called, Stepped, same};
+ghost use Rattle.can_station.specs.Published.{AllTrue, TakesBack};
 
 use crate::attempts::attempt_in;
 use crate::gates::{Gate, Point};
@@ -236,9 +236,9 @@ impl<N: RollName + MeterName, F: FaultSource + Drop, G: Gate + Drop> Station<N, 
         passes: Vec<Pass<N>>,
         gauges: Vec<Gauge<N>>,
     ) -> Result<Settled, WrongStation>
-        ensures settled { IfOk result (λ s. Settles s.history.config s.history.history s.passes passes.items) }
-        ensures gauges { IfOk result (λ s. AllTrue s.history.config s.history.history gauges.items) }
-        ensures refused { MatchResult result (λ _. AllOf self passes.items × GaugesOf self gauges.items) (λ _. SomeOther self passes.items ⊎ SomeOtherGauge self gauges.items) }
+        ensures settled { IfOk result (λ s. Settles s.history s.passes passes.items) }
+        ensures gauges { IfOk result (λ s. AllTrue s.history gauges.items) }
+        ensures refused { TakesBack self passes.items gauges.items result }
     {
         let Station {
             state,

@@ -1,6 +1,6 @@
-ghost use Rattle.std.specs.Prelude.{◌≡◌, true, false, Some, IfSome, IfNone, is_none};
+ghost use Rattle.std.specs.Prelude.{◌≡◌, true, Some, IfSome, IfNone, is_none};
 ghost use Rattle.can_station.specs.Passes.{InSome};
-ghost use Rattle.can_station.specs.Waits.{AreCounts, frame_wake, has_work, waiting_at, work_wake};
+ghost use Rattle.can_station.specs.Waits.{AreCounts, EndsItemWait, IsIdleAndStopped, frame_wake, has_work, work_wake};
 
 use crate::gates::{Gate, Point};
 use crate::holds::Hold;
@@ -22,8 +22,8 @@ pub(crate) const ROOM: u8 = 0;
 /// A call met a full record.
 const FULL: u8 = 1;
 
-/// A call met a full record, and somebody asked for it.
-const TOLD: u8 = 2;
+/// A call met a full record, and that was reported.
+const REPORTED: u8 = 2;
 
 /// Why a wait ended.
 #[derive(Debug, Clone, Copy, PartialEq, Eq)]
@@ -122,7 +122,7 @@ impl<N: RollName + MeterName, F: FaultSource + Drop, G: Gate + Drop> Station<N, 
     /// Waits as `wait_frame` does, and counts the items that are queued to the socket when it wakes, both of one
     /// moment: at least one where it is `Ready`, none where it is `Closed` or `Stopped`.
     pub fn wait_items<R: Wait>(&self, rt: &R, socket: SocketId) -> (Wake, u64)
-        ensures { InSome F self.now (λ held. (frame_wake held socket.0 ≡ Some result.0) × (result.1 ≡ waiting_at held.journal socket.0)) }
+        ensures { InSome F self.now (λ held. EndsItemWait held socket.0 result) }
     {
         let state = self.items.room(socket).wait_while(
             rt,
@@ -161,7 +161,7 @@ impl<N: RollName + MeterName, F: FaultSource + Drop, G: Gate + Drop> Station<N, 
     pub fn hold_work<R: Wait>(&self, rt: &R) -> Option<Hold<'_, N, F, G>>
         ensures number { IfSome result (λ h. h.number ≡ self.now) }
         ensures work { IfSome result (λ h. has_work h.journal ≡ true) }
-        ensures none { IfNone result (InSome F self.now (λ held. (has_work held.journal ≡ false) × (held.stopped ≡ true))) }
+        ensures none { IfNone result (InSome F self.now (λ held. IsIdleAndStopped held)) }
     {
         self.gate.at(Point::BeforeStep);
         let state = self.work.wait_while(
@@ -197,7 +197,7 @@ impl<N: RollName + MeterName, F: FaultSource + Drop, G: Gate + Drop> Station<N, 
     /// nobody.
     pub fn became_full(&self) -> bool {
         self.fullness
-            .compare_exchange(FULL, TOLD, SeqCst, SeqCst)
+            .compare_exchange(FULL, REPORTED, SeqCst, SeqCst)
             .is_ok()
     }
 
@@ -216,7 +216,7 @@ impl<N: RollName + MeterName, F: FaultSource + Drop, G: Gate + Drop> Station<N, 
 
     /// Wakes those to whom calls gave something to do: who waits for work, and who waits for items in these rooms. The
     /// lock has to be free.
-    pub(crate) fn tell(&self, news: News, woken: RoomSet) {
+    pub(crate) fn wake(&self, news: News, woken: RoomSet) {
         if news.is_full {
             let _ = self.fullness.compare_exchange(ROOM, FULL, SeqCst, SeqCst);
         }

@@ -1,6 +1,7 @@
 use Rattle.std.proofs.Common.{◌≡◌, ◌<◌, [], ◌∷◌, length, sym, ap, ◌∙◌, subst}
 use Rattle.can_roll.specs.declared.rule.View.TheVariants.{OfSlip}
-use Rattle.can_roll.specs.Lists.{entry, row, added}
+use Rattle.can_event.specs.Replies.{entry_of}
+use Rattle.can_roll.specs.Lists.{row, added}
 use Rattle.can_roll.specs.Rule.{calls_of, view_in}
 use Rattle.can_roll.specs.Seen.{RollSeen, SlipSeen, roll_seen, slip_seen}
 use Rattle.can_roll.proofs.Rows.{row_added}
@@ -11,7 +12,7 @@ pub invariant_of-slip : goal.invariant_of-slip
 invariant_of-slip g c =
     let old = c.args.self.now in
     let p = c.slip.inside.pass in
-    let call = entry c.args.event.now c.args.reply.now in
+    let call = entry_of c.args.event.now c.args.reply.now in
     let noted = once_noted old c.recall.new.self c.note_last.new.self p call c.recall.ensures.roll c.note_last.ensures in
     let views = slip_again old c.note_last.new.self p call c.send_last.result.views noted c.recall.ensures.below c.send_last.ensures.views in
     let same : old.number ≡ c.slip.inside.number = sym (ap (λ (v : SlipSeen). v.number) c.slip.view_is ∙ c.requires) in (
@@ -23,7 +24,7 @@ pub returns : goal.returns
 returns g c =
     let old = c.args.self.now in
     let p = c.slip.inside.pass in
-    let call = entry c.args.event.now c.args.reply.now in
+    let call = entry_of c.args.event.now c.args.reply.now in
     let slip : slip_seen c.slip.inside.number p (calls_of (view_in c.slip.inside.badge.views)) ≡ c.args.slip.now = c.slip.view_is in
     let before : row old.lists p ≡ calls_of (view_in c.slip.inside.badge.views) =
     c.recall.ensures.calls ∙ ap (λ b. calls_of (view_in b.views)) c.replace.ensures.value in

@@ -35,6 +35,6 @@ invariant_of-self-2 g c =
           c.self.inside.bus c.answer-reply.new.self c.args.slip.now.pass c.args.event.now c.answer-reply.result c.self.invariant.0 c.book.ensures.below c.book.ensures.roll c.book.ensures.marks c.book.ensures.places c.answer-reply.ensures.after,
       published_after_call c.self.inside.keeper c.publish_changes.new.keeper c.self.inside.roll.number c.book.new.roll.number c.self.inside.bus c.answer-reply.new.self c.args.event.now c.answer-reply.result c.in-Some.before c.counters-after.result c.len-at.result
           c.self.invariant.0.proper c.self.invariant.1 number c.answer-reply.ensures.after c.publish_changes.ensures.number c.publish_changes.ensures.ifaces (c.len-at.ensures ∙ ap length c.record.ensures.history)
-          (kept_before c.self.inside.bus c.args.event.now c.counters_before-before.result c.in-Some.before c.counters_before-before.ensures c.in-Some.is) c.counters-after.ensures c.publish_changes.ensures.lists,
+          (kept_before c.self.inside.bus c.args.event.now c.counters_before-before.result c.in-Some.before c.counters_before-before.ensures c.in-Some.is) c.counters-after.ensures c.publish_changes.ensures.entered c.publish_changes.ensures.still,
       c.self.invariant.2 ∙ sym number,
     )

@@ -29,4 +29,4 @@ returns-clause-settled g c =
 
 pub returns-clause-gauges : goal.returns-clause-gauges
 returns-clause-gauges g c =
-    all_true c.self.inside.keeper c.self.inside.roll.number c.self.inside.bus c.into_record.result.config c.into_record.result.history c.args.gauges.items c.self.invariant.1 c.into_record.ensures.config c.into_record.ensures.history c.absorb_all.ensures.seen
+    all_true c.self.inside.keeper c.self.inside.roll.number c.self.inside.bus c.into_record.result c.args.gauges.items c.self.invariant.1 c.into_record.ensures.config c.into_record.ensures.history c.absorb_all.ensures.seen

@@ -1,13 +1,11 @@
-use Rattle.std.proofs.Common.{length, ap, sym, ◌∙◌}
-use Rattle.can_bus.specs.Transmit.{tape}
-use Rattle.can_fault.specs.Sources.{verdict_in}
+use Rattle.std.proofs.Common.{ap, sym, ◌∙◌}
 use Rattle.can_roll.specs.Seen.{SlipSeen}
-use Rattle.can_station.specs.Passes.{PassSeen, next_attempt, pass_after}
+use Rattle.can_station.specs.Passes.{PassSeen, next_attempt, next_verdict, pass_after}
 use Rattle.can_station.proofs.Stepping.{stepped}
 use Rattle.can_station.proofs.stations.Station.step.Goals as goal
 
 pub attempt_in-requires : goal.attempt_in-requires
-attempt_in-requires g c = (c.args.moment, verdict_in (g.F.FaultSource.verdicts c.lock-hold.result.source) (length (tape c.lock-hold.result.journal.history)), c.carry_out_step-reply.ensures.suits)
+attempt_in-requires g c = (c.args.moment, next_verdict g.F.FaultSource.verdicts c.lock-hold.result, c.carry_out_step-reply.ensures.suits)
 
 abbrev seen : SlipSeen → PassSeen
 seen s = record { number = s.number; pass = s.pass; calls = s.calls }
@@ -16,5 +14,5 @@ pub returns : goal.returns
 returns g c =
     stepped g.F.FaultSource.verdicts c.lock-hold.result _ _ c.args.moment _ c.lock-hold.ensures
     (sym (ap (λ (p : PassSeen). p.number) c.pass.view_is) ∙ cc (c.number.ensures, c.if-self-number.false, c.self.view_is))
-    c.attempt_in.result c.carry_out_step-reply.result c.attempt_in.ensures c.carry_out_step-reply.ensures.answer
-    (ap seen c.carry_out_step-reply.ensures.slip ∙ ap (pass_after (next_attempt g.F.FaultSource.verdicts c.lock-hold.result c.args.moment) c.carry_out_step-reply.result) c.pass.view_is)
+    c.attempt_in.result c.carry_out_step-reply.result c.attempt_in.ensures c.carry_out_step-reply.ensures.carried.answer
+    (ap seen c.carry_out_step-reply.ensures.carried.noted ∙ ap (pass_after (next_attempt g.F.FaultSource.verdicts c.lock-hold.result c.args.moment) c.carry_out_step-reply.result) c.pass.view_is)
