@@ -13,7 +13,7 @@ use Rattle.can_record.specs.declared.faults.ReadFault.TheVariants as fault
 use Rattle.can_record.specs.declared.versions.Version.{Version}
 use Rattle.can_record.specs.declared.versions.Version.TheVariants as version
 use Rattle.can_record.specs.Spelling.{gap_before, spell, has_fd, version_of, first_line, bus_words, front_lines, end_words, entry_words, entry_line, entry_lines, text_in, record_spelling}
-use Rattle.can_record.specs.Values.{HasLine, HasBusLine, HasLines, HasText}
+use Rattle.can_record.specs.Values.{HasLine, HasBusLine, HasLines}
 use Rattle.can_record.specs.inner.Reading.{entry_at, config_at}
 use Rattle.can_record.specs.RecordFaults.{NeedsNoThree, IsOfNoVersion, IsTextOf, LacksBus, LacksEntry, BusIsWrong, LineIsWrong, GoesOn, IsFirstWrong, Ends, Reads, ReadsBack}
 use Rattle.can_record.proofs.Again.{spell-rest, entry_again, config_again, end_is_none}
