@@ -1,5 +1,5 @@
 -- A line that was written is read again.
-use Rattle.std.proofs.Common.{◌≡◌, ℕ, ◌^◌, ◌<◌, ◌≤◌, ◌==◌, Bool, true, false, List, [], ◌∷◌, ◌++◌, length, Option, Some, None, Err, append_assoc, refl, sym, ap, ◌∙◌, arith}
+use Rattle.std.proofs.Common.{◌≡◌, ◌↔◌, ℕ, ◌^◌, ◌<◌, ◌≤◌, ◌==◌, Bool, true, false, IsTrue, List, [], ◌∷◌, ◌++◌, length, drop, Option, Some, None, Err, append_assoc, refl, sym, ap, subst, ◌∙◌, arith}
 use Rattle.std.specs.Prelude.{All, codes, decimal}
 use Rattle.std.proofs.lemmas.Bool.{lt-ltb, eqb-true, cond-true, cond-false}
 use Rattle.std.proofs.lemmas.List.{append-nil}
@@ -34,6 +34,7 @@ use Rattle.can_event.specs.declared.events.Tried.{Tried}
 use Rattle.can_event.specs.declared.events.Reply.{Reply}
 use Rattle.can_event.specs.declared.events.Reply.TheVariants as reply
 use Rattle.can_event.specs.declared.events.Entry.{Entry}
+use Rattle.can_event.specs.Replies.{entry_of}
 use Rattle.can_event.specs.Spelled.{LeavesEntry, MayRefuse, IsNumberOf, FitsReply}
 use Rattle.std.proofs.lemmas.Option.{none-some, same_Some}
 use Rattle.can_record.specs.declared.faults.Unread.{Unread}
@@ -41,7 +42,8 @@ use Rattle.can_record.specs.declared.faults.Unread.TheVariants as unread
 use Rattle.can_record.specs.declared.versions.Version.{Version}
 use Rattle.can_record.specs.declared.versions.Version.TheVariants as version
 use Rattle.can_record.specs.inner.Words.{is_gap, is_word, word, after}
-use Rattle.can_record.specs.Spelling.{gap_before, spell, set_word, mask_word, moment_word, flag_word, verdict_word, option_words, filter_words, refusal_words, received_words, event_words, restarted_words, reply_words, entry_line, ack_word, auto_restart_words, bus_words, end_words}
+use Rattle.can_record.specs.Spelling.{gap_before, spell, set_word, mask_word, moment_word, flag_word, verdict_word, option_words, filter_words, refusal_words, received_words, event_words, restarted_words, reply_words, entry_words, entry_line, answered_line, ack_word, auto_restart_words, bus_words, end_words}
+use Rattle.can_record.specs.Texts.{StartsWith, StartsWithLine}
 use Rattle.can_frame.specs.Numbers.{number_in}
 use Rattle.can_record.specs.Values.{HoldsFilter, HoldsOption, HoldsVerdict, HoldsEvent, HoldsTried, HoldsReply, HasLine, HasBusLine}
 use Rattle.can_record.specs.inner.Reading.{Gives, number_at, long_at, mask_at, moment_at, socket_at, set_at, flag_at, item_at, frame_at, option_at, set_behind, verdict_at, class_at, refusal_in, closed_at, data_at, error_at, tried_at, fixed_in, reply_at, moment_of}
@@ -394,6 +396,23 @@ same_entry read text h v c e rest spelled is = same_Some e read (sym (ap entry_a
 pub spell-rest : (ws : List (List ℕ)) (rest : List ℕ) → spell ws [] ++ rest ≡ spell ws rest
 spell-rest [] rest = refl
 spell-rest (w ∷ ws) rest = append_assoc w (gap_before ws ∷ spell ws []) rest ∙ ap (λ (x : List ℕ). w ++ gap_before ws ∷ x) (spell-rest ws rest)
+
+-- a text that begins with a line goes on after it
+pub starts-with-line : (event : Event) (r : Reply) (text rest : List ℕ) → text ≡ answered_line event r rest → StartsWithLine event r text
+starts-with-line event r text rest is =
+    let ws = entry_words (entry_of event r) in
+    let behind : drop (length (spell ws [])) text ≡ rest = ap (drop (length (spell ws []))) (is ∙ sym (spell-rest ws rest)) ∙ drop-append_seam (spell ws []) rest in
+    is ∙ ap (spell ws) (sym behind)
+
+-- to begin with the bytes of a line is to begin with the line
+pub starts-with-bytes : (event : Event) (r : Reply) (text line : List ℕ) (same : Bool) → line ≡ answered_line event r [] → (IsTrue same → StartsWith line text) → ((rest : List ℕ) → text ≡ line ++ rest → IsTrue same)
+    → IsTrue same ↔ StartsWithLine event r text
+starts-with-bytes event r text line same is begins always =
+    let ws = entry_words (entry_of event r) in
+    let rest = drop (length (spell ws [])) text in (
+      λ h. subst (λ (front : List ℕ). text ≡ front ++ drop (length front) text) is (begins h) ∙ spell-rest ws rest,
+      λ starts. always rest (starts ∙ sym (spell-rest ws rest) ∙ ap (λ (front : List ℕ). front ++ rest) (sym is)),
+    )
 
 -- what was cleared holds what was put
 pub kept : (old new l : List ℕ) → old ≡ [] → new ≡ old ++ l → new ≡ l

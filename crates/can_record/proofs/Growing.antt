@@ -1,26 +1,17 @@
 -- What a writer holds, line after line.
-use Rattle.std.proofs.Common.{◌≡◌, ℕ, ◌+◌, ◌<◌, List, [], ◌∷◌, ◌++◌, length, take, get_or, Option, Some, None, append_assoc, sym, ap, subst, ◌∙◌}
+use Rattle.std.proofs.Common.{◌≡◌, ℕ, ◌+◌, ◌<◌, List, [], ◌∷◌, ◌++◌, length, take, get_or, Option, sym, ap, subst, ◌∙◌}
 use Rattle.std.specs.Io.KnownBytes.{Appends}
-use Rattle.std.proofs.lemmas.List.{append-nil, take_more}
+use Rattle.std.proofs.KnownBytes.{Appends-nil, Appends-trans}
+use Rattle.std.proofs.lemmas.List.{take_more}
 use Rattle.can_event.specs.declared.events.Entry.{Entry}
 use Rattle.can_record.specs.Spelling.{entry_line, entry_lines}
 use Rattle.can_record.proofs.LineLists.{lines-more}
 
-Appends-nothing : (a : Option (List ℕ)) → Appends a a []
-Appends-nothing None = tt
-Appends-nothing (Some xs) = sym (append-nil xs)
-
-pub Appends-then : (a b c : Option (List ℕ)) (x y : List ℕ) → Appends a b x → Appends b c y → Appends a c (x ++ y)
-Appends-then None b c x y h k = tt
-Appends-then (Some a) None c x y h k = absurd h
-Appends-then (Some a) (Some b) None x y h k = absurd k
-Appends-then (Some a) (Some b) (Some c) x y h k = k ∙ ap (λ (z : List ℕ). z ++ y) h ∙ append_assoc a x y
-
 pub no_lines_yet : (a : Option (List ℕ)) → Appends a a (entry_lines [] [])
 unfolding entry_lines
-no_lines_yet a = Appends-nothing a
+no_lines_yet a = Appends-nil a
 
 pub line_more : (a b c : Option (List ℕ)) (es : List Entry) (i : ℕ) (e : Entry) → Appends a b (entry_lines (take i es) []) → Appends b c (entry_line e []) → i < length es → e ≡ get_or es i e → Appends a c (entry_lines (take (i + 1) es) [])
 line_more a b c es i e so_far next lt at =
     let more : take i es ++ e ∷ [] ≡ take (i + 1) es = ap (λ (x : Entry). take i es ++ x ∷ []) at ∙ sym (take_more es i e lt) in
-    subst (Appends a c) (lines-more (take i es) e ∙ ap (λ (xs : List Entry). entry_lines xs []) more) (Appends-then a b c (entry_lines (take i es) []) (entry_line e []) so_far next)
+    subst (Appends a c) (lines-more (take i es) e ∙ ap (λ (xs : List Entry). entry_lines xs []) more) (Appends-trans a b c (entry_lines (take i es) []) (entry_line e []) so_far next)

@@ -13,7 +13,7 @@ use Rattle.can_record.specs.declared.faults.ReadFault.TheVariants as fault
 use Rattle.can_record.specs.declared.versions.Version.{Version}
 use Rattle.can_record.specs.declared.versions.Version.TheVariants as version
 use Rattle.can_record.specs.Spelling.{gap_before, spell, has_fd, version_of, first_line, bus_words, front_lines, end_words, entry_words, entry_line, entry_lines, text_in, record_spelling}
-use Rattle.can_record.specs.Values.{HasLine, HasBusLine, HasLines, HasText}
+use Rattle.can_record.specs.Values.{HasLine, HasBusLine, HasLines}
 use Rattle.can_record.specs.inner.Reading.{entry_at, config_at}
 use Rattle.can_record.specs.RecordFaults.{NeedsNoThree, IsOfNoVersion, IsTextOf, LacksBus, LacksEntry, BusIsWrong, LineIsWrong, GoesOn, IsFirstWrong, Ends, Reads, ReadsBack}
 use Rattle.can_record.proofs.Again.{spell-rest, entry_again, config_again, end_is_none}
@@ -163,10 +163,10 @@ whole_texts_meet v w c d es ds hc hd e =
     let met = texts_meet v w c d es ds (spell (end_words (length es)) []) (spell (end_words (length ds)) []) hc hd (end_lacks v c (length es) []) (end_lacks w d (length ds) []) e in
     (met.0, met.1, met.2)
 
--- no text spells two records
-pub one_record : (c d : BusConfig) (es ds : List Entry) → HasText c es → HasText d ds → record_spelling c es ≡ record_spelling d ds → (c ≡ d) × (es ≡ ds)
-one_record c d es ds hc hd e =
-    let met = whole_texts_meet (version_of c es) (version_of d ds) c d es ds hc hd e in
+-- no text is that of two records
+pub one_record : (text : List ℕ) (c d : BusConfig) (es ds : List Entry) → IsTextOf text c es → IsTextOf text d ds → (c ≡ d) × (es ≡ ds)
+one_record text c d es ds one other =
+    let met = whole_texts_meet (version_of c es) (version_of d ds) c d es ds one.0 other.0 (sym one.1 ∙ other.1) in
     (met.1, met.2)
 
 -- where the first two lines stand, the bus's line is right
@@ -198,8 +198,8 @@ right_text text n v c es whole is (inr (inl h)) = line_is_right text n v c es wh
 right_text text n v c es whole is (inr (inr h)) = goes_not_on text n v c es whole is h
 
 -- nothing is wrong with the text of a record
-pub nothing_wrong : (text : List ℕ) (n : ℕ) (c : BusConfig) (es : List Entry) → HasText c es → text ≡ record_spelling c es → IsFirstWrong text n → ⊥
-nothing_wrong text n c es whole is h = right_text text n (version_of c es) c es whole is h
+pub nothing_wrong : (text : List ℕ) (n : ℕ) (c : BusConfig) (es : List Entry) → IsTextOf text c es → IsFirstWrong text n → ⊥
+nothing_wrong text n c es is h = right_text text n (version_of c es) c es is.0 is.1 h
 
 -- the text of a record is of a version
 pub has_version : (text : List ℕ) (c : BusConfig) (es : List Entry) → IsTextOf text c es → IsOfNoVersion text → ⊥
@@ -209,11 +209,11 @@ has_version text c es is (inr h) =
     not_three c (list_any has_fd es) (ap (list_any has_fd) (sym met.2) ∙ h.none) (sym met.0)
 
 -- what was written is read
-pub reads_back : (text : List ℕ) (result : Result Kept ReadFault) → Reads text result → (c : BusConfig) (es : List Entry) → HasText c es → text ≡ record_spelling c es → ReadsBack c es result
-reads_back text (Ok r) reads c es whole is = let one = one_record r.config c (reverse r.history) es reads.0 whole (sym reads.1 ∙ is) in (one.0, one.1)
-reads_back text (Err fault.BadVersion) reads c es whole is = absurd (has_version text c es (whole, is) reads)
-reads_back text (Err (fault.BadLine n)) reads c es whole is = absurd (nothing_wrong text n c es whole is reads)
-reads_back text (Err fault.NoMemory) reads c es whole is = refl
+pub reads_back : (text : List ℕ) (result : Result Kept ReadFault) → Reads text result → ReadsBack text result
+reads_back text (Ok r) reads c es is = one_record text r.config c (reverse r.history) es reads is
+reads_back text (Err fault.BadVersion) reads c es is = absurd (has_version text c es is reads)
+reads_back text (Err (fault.BadLine n)) reads c es is = absurd (nothing_wrong text n c es is reads)
+reads_back text (Err fault.NoMemory) reads c es is = refl
 
 -- ---- what is written
 

@@ -16,6 +16,10 @@ use Rattle.can_record.specs.Values.{HasLine, HasBusLine, HasLines, HasText}
 abbrev pub IsTextOf : List ℕ → BusConfig → List Entry → Type 0
 IsTextOf text c entries = HasText c entries × (text ≡ record_spelling c entries)
 
+-- the text is that of some record
+abbrev pub IsRecordText : List ℕ → Type 0
+IsRecordText text = (c : BusConfig) × (entries : List Entry) × IsTextOf text c entries
+
 -- the text begins with the first line of no version
 abbrev pub LacksFirst : List ℕ → Type 0
 LacksFirst text = (v : Version) (rest : List ℕ) → text ≢ first_line v ++ rest
@@ -93,7 +97,11 @@ Reads text (Err fault.BadVersion) = IsOfNoVersion text
 Reads text (Err (fault.BadLine n)) = IsFirstWrong text n
 Reads text (Err fault.NoMemory) = Unit {0}
 
--- of the text of this record: reading gives the record, unless memory is refused
-abbrev pub ReadsBack : BusConfig → List Entry → Result Kept ReadFault → Type 0
-ReadsBack c entries (Ok r) = (r.config ≡ c) × (reverse r.history ≡ entries)
-ReadsBack c entries (Err why) = why ≡ fault.NoMemory
+-- the record of this configuration and these entries, unless memory was refused
+abbrev pub IsRecordOf : BusConfig → List Entry → Result Kept ReadFault → Type 0
+IsRecordOf c entries (Ok r) = (r.config ≡ c) × (reverse r.history ≡ entries)
+IsRecordOf c entries (Err why) = why ≡ fault.NoMemory
+
+-- of the text of a record: reading gives that record, unless memory is refused
+abbrev pub ReadsBack : List ℕ → Result Kept ReadFault → Type 0
+ReadsBack text result = (c : BusConfig) (entries : List Entry) → IsTextOf text c entries → IsRecordOf c entries result

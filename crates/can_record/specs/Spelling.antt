@@ -26,6 +26,8 @@ use Rattle.can_event.specs.declared.events.Received.{Received}
 use Rattle.can_event.specs.declared.events.Reply.{Reply}
 use Rattle.can_event.specs.declared.events.Reply.TheVariants as reply
 use Rattle.can_event.specs.declared.events.Entry.{Entry}
+use Rattle.can_event.specs.declared.events.SocketId.{SocketId}
+use Rattle.can_event.specs.Replies.{entry_of}
 use Rattle.can_record.specs.declared.versions.Version.{Version}
 use Rattle.can_record.specs.declared.versions.Version.TheVariants as version
 
@@ -62,6 +64,10 @@ flag_word true = codes "1"
 abbrev pub filter_words : List CanFilter → List (List ℕ)
 filter_words [] = []
 filter_words (f ∷ fs) = mask_word f.id ∷ mask_word f.mask ∷ filter_words fs
+
+-- how many filters there are, and the words of each
+abbrev pub counted_filters : List CanFilter → List (List ℕ)
+counted_filters filters = decimal (length filters) ∷ filter_words filters
 
 -- an option of a socket and its value; an error mask has 8 hexadecimal digits
 abbrev pub option_words : Opt → List (List ℕ)
@@ -107,7 +113,7 @@ refusal_words refusal.NoMemory = []
 abbrev pub event_words : Event → List (List ℕ)
 event_words (Open i capacity) = codes "open" ∷ decimal i ∷ decimal capacity ∷ []
 event_words (Close s) = codes "close" ∷ decimal s.0 ∷ []
-event_words (SetFilters s filters) = codes "filters" ∷ decimal s.0 ∷ decimal (length filters) ∷ filter_words filters
+event_words (SetFilters s filters) = codes "filters" ∷ decimal s.0 ∷ counted_filters filters
 event_words (SetOption s option) = codes "option" ∷ decimal s.0 ∷ option_words option
 event_words (Send s frame) = codes "send" ∷ decimal s.0 ∷ frame_spelling (item.Data frame) ∷ []
 event_words (Receive s) = codes "receive" ∷ decimal s.0 ∷ []
@@ -135,6 +141,10 @@ reply_words (reply.Idle restarted) = codes "idle" ∷ restarted_words restarted
 reply_words (reply.Tried t) = codes "tried" ∷ decimal t.winner ∷ decimal t.number ∷ frame_spelling (item.Data t.frame) ∷ class_word t.class ∷ set_word t.accepted ∷ set_word t.off ∷ restarted_words t.restarted
 reply_words (reply.Refused why) = refusal_words why
 
+-- a reply, up to the end of its line
+abbrev pub reply_text : Reply → List ℕ
+reply_text r = spell (reply_words r) []
+
 -- an entry: its event, `=`, and its reply
 abbrev pub entry_words : Entry → List (List ℕ)
 entry_words e = event_words e.event ++ codes "=" ∷ reply_words e.reply
@@ -145,7 +155,15 @@ entry_line e rest = spell (entry_words e) rest
 
 -- the line of an event with this reply, and what follows it
 abbrev pub answered_line : Event → Reply → List ℕ → List ℕ
-answered_line e r rest = entry_line (record { event = e; reply = r }) rest
+answered_line e r rest = entry_line (entry_of e r) rest
+
+-- the line of a receive with this reply
+abbrev pub receive_line : SocketId → Reply → List ℕ
+receive_line id r = answered_line (Receive id) r []
+
+-- the line of an attempt with this reply
+abbrev pub attempt_line : ℕ → Verdict → Reply → List ℕ
+attempt_line moment verdict r = answered_line (Attempt moment verdict) r []
 
 -- an FD frame that was received
 abbrev pub is_fd_item : Item → Bool

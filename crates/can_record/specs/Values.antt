@@ -8,6 +8,7 @@ use Rattle.can_event.specs.declared.events.Opt.{Opt}
 use Rattle.can_event.specs.declared.events.Opt.TheVariants as opt
 use Rattle.can_event.specs.declared.events.Event.{Event}
 use Rattle.can_event.specs.declared.events.Event.TheVariants.{Open, Close, SetFilters, SetOption, Send, Receive, Attempt, Restart}
+use Rattle.can_event.specs.declared.events.Received.{Received}
 use Rattle.can_event.specs.declared.events.Tried.{Tried}
 use Rattle.can_event.specs.declared.events.Reply.{Reply}
 use Rattle.can_event.specs.declared.events.Reply.TheVariants as reply
@@ -63,6 +64,10 @@ pub record HoldsTried (t : Tried) : Type 0 where
   pub off : t.off.0 < 2 ^ 16
   pub restarted : t.restarted.0 < 2 ^ 16
 
+-- the parts of an item that was received
+abbrev pub HoldsReceived : Received → Type 0
+HoldsReceived r = IsItem r.item × (r.from < 16) × (r.number < 2 ^ 64) × (r.moment < 10 ^ 16)
+
 -- the parts of a reply
 abbrev pub HoldsReply : Reply → Type 0
 HoldsReply (reply.Opened s) = s.0 < 2 ^ 32
@@ -70,7 +75,7 @@ HoldsReply (reply.Closed c) = (c.unread < 2 ^ 64) × (c.dropped < 2 ^ 64)
 HoldsReply reply.Done = Unit {0}
 HoldsReply (reply.Sent n) = n < 2 ^ 64
 HoldsReply (reply.Received None) = Unit {0}
-HoldsReply (reply.Received (Some r)) = IsItem r.item × (r.from < 16) × (r.number < 2 ^ 64) × (r.moment < 10 ^ 16)
+HoldsReply (reply.Received (Some r)) = HoldsReceived r
 HoldsReply (reply.Idle restarted) = restarted.0 < 2 ^ 16
 HoldsReply (reply.Tried t) = HoldsTried t
 HoldsReply (reply.Refused why) = Unit {0}

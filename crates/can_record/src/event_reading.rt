@@ -1,7 +1,5 @@
-ghost use Rattle.std.specs.Prelude.{IsTrue, IfOk, IfSome, OnOk, ◌++◌, ◌∷◌, [], ◌+◌, ◌≡◌, ◌≤◌, ◌<◌, length};
-ghost use Rattle.std.specs.Option.{option_map};
-ghost use Rattle.std.specs.Result.{result_map_both};
-ghost use Rattle.can_record.specs.inner.Reading.{Gives, GivesFilters, option_at, verdict_at, filter_at, filters_at, set_filters_at, setting_at, plain_at, event_at, attempted_in, sent_in, SeemsToBe};
+ghost use Rattle.std.specs.Prelude.{IfSome, OnOk, ◌++◌, ◌∷◌, [], ◌+◌, ◌≡◌, length};
+ghost use Rattle.can_record.specs.inner.Reading.{Finds, GivesFilters, with_rest, option_at, verdict_at, filter_at, filters_at, set_filters_at, setting_at, plain_at, event_at, attempted_in, sent_in, SeemsToBe};
 ghost use Rattle.can_event.specs.declared.events.Event.TheVariants as event;
 
 use crate::faults::Unread;
@@ -19,7 +17,7 @@ use std::alloc::{AllocError, Global};
 /// The event of a line as it seems to be spelled, and what follows it: the line has to be written again and compared.
 #[tactic(auto, unfolding(crate::specs::inner::Reading::event_at))]
 pub fn guess_event(alloc: Global, text: &[u8]) -> Result<(Event, &[u8]), Unread>
-    ensures { Gives (result_map_both (λ x. (x.0, x.1.now)) (λ why. why) result) (event_at text.now) }
+    ensures { Finds result (event_at text.now) }
 {
     let (word, rest) = next_word(text);
     if same_word(word, b"filters") {
@@ -79,7 +77,7 @@ fn send_fields(text: &[u8]) -> Option<(SocketId, Frame)>
 /// An event whose line begins with this word and goes on with this text; of all but those that set filters.
 #[tactic(auto, unfolding(crate::specs::inner::Reading::plain_at))]
 fn guess_plain<'a>(word: &[u8], text: &'a [u8]) -> Option<(Event, &'a [u8])>
-    ensures { option_map (λ x. (x.0, x.1.now)) result ≡ plain_at word.now text.now }
+    ensures { with_rest result ≡ plain_at word.now text.now }
 {
     if same_word(word, b"attempt") {
         let Some((moment, rest)) = moment_field(text) else {
@@ -105,7 +103,7 @@ fn guess_plain<'a>(word: &[u8], text: &'a [u8]) -> Option<(Event, &'a [u8])>
 /// The same of the events that set a bus up.
 #[tactic(auto, unfolding(crate::specs::inner::Reading::setting_at))]
 fn guess_setting<'a>(word: &[u8], text: &'a [u8]) -> Option<(Event, &'a [u8])>
-    ensures { option_map (λ x. (x.0, x.1.now)) result ≡ setting_at word.now text.now }
+    ensures { with_rest result ≡ setting_at word.now text.now }
 {
     if same_word(word, b"open") {
         let Some((iface, rest)) = iface_field(text) else {
@@ -138,7 +136,7 @@ fn guess_setting<'a>(word: &[u8], text: &'a [u8]) -> Option<(Event, &'a [u8])>
 /// The filters of a socket.
 #[tactic(auto, unfolding(crate::specs::inner::Reading::set_filters_at))]
 fn guess_filters(alloc: Global, text: &[u8]) -> Result<(Event, &[u8]), Unread>
-    ensures { Gives (result_map_both (λ x. (x.0, x.1.now)) (λ why. why) result) (set_filters_at text.now) }
+    ensures { Finds result (set_filters_at text.now) }
 {
     let Some((id, rest)) = socket_field(text) else {
         return Err(Unread::Bad);
@@ -164,8 +162,9 @@ fn filter_fields<'a>(
     count: usize,
     text: &'a [u8],
 ) -> Result<&'a [u8], Unread>
-    ensures read { GivesFilters (result_map_both (λ rest. rest.now) (λ why. why) result) filters.new.items (filters_at filters.old.items count text.now) }
-    ensures count { IfOk result (λ rest. length filters.new.items ≡ length filters.old.items + count) }
+    ensures read { GivesFilters result filters.new.items
+        (filters_at filters.old.items count text.now) }
+    ensures count { OnOk result (length filters.new.items ≡ length filters.old.items + count) }
 {
     let mut rest = text;
     let mut left = count;
@@ -182,8 +181,8 @@ fn filter_fields<'a>(
 /// One filter more, and what follows it.
 #[tactic(auto, unfolding(crate::specs::inner::Reading::filter_at))]
 fn filter_field<'a>(filters: &mut Vec<Filter>, text: &'a [u8]) -> Result<&'a [u8], Unread>
-    ensures read { GivesFilters (result_map_both (λ rest. rest.now) (λ why. why) result) filters.new.items (filter_at filters.old.items text.now) }
-    ensures count { IfOk result (λ rest. length filters.new.items ≡ length filters.old.items + 1) }
+    ensures read { GivesFilters result filters.new.items (filter_at filters.old.items text.now) }
+    ensures count { OnOk result (length filters.new.items ≡ length filters.old.items + 1) }
 {
     let Some((id, rest)) = mask_field(text) else {
         return Err(Unread::Bad);
@@ -211,7 +210,7 @@ fn keep(filters: &mut Vec<Filter>, filter: Filter) -> Result<(), AllocError>
 /// An option, by its name, and its value.
 #[tactic(auto, unfolding(crate::specs::inner::Reading::option_at))]
 fn option_field(text: &[u8]) -> Option<(Opt, &[u8])>
-    ensures { option_map (λ x. (x.0, x.1.now)) result ≡ option_at text.now }
+    ensures { with_rest result ≡ option_at text.now }
 {
     let (word, rest) = next_word(text);
     if same_word(word, b"loopback") {
@@ -240,7 +239,7 @@ fn option_field(text: &[u8]) -> Option<(Opt, &[u8])>
 /// A verdict.
 #[tactic(auto, unfolding(crate::specs::inner::Reading::verdict_at))]
 fn verdict_field(text: &[u8]) -> Option<(Verdict, &[u8])>
-    ensures { option_map (λ x. (x.0, x.1.now)) result ≡ verdict_at text.now }
+    ensures { with_rest result ≡ verdict_at text.now }
 {
     let (word, rest) = next_word(text);
     if same_word(word, b"good") {

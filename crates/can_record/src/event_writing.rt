@@ -1,6 +1,6 @@
-ghost use Rattle.std.specs.Prelude.{◌≡◌, ◌++◌, ◌∷◌, [], ◌<◌, ◌^◌, decimal, OnOk, length};
+ghost use Rattle.std.specs.Prelude.{◌≡◌, ◌++◌, ◌∷◌, [], decimal, OnOk};
 ghost use Rattle.can_record.specs.inner.Words.{spaced};
-ghost use Rattle.can_record.specs.Spelling.{event_words, flag_word, filter_words, option_words, verdict_word, local_front};
+ghost use Rattle.can_record.specs.Spelling.{counted_filters, event_words, flag_word, filter_words, option_words, verdict_word, local_front};
 
 use crate::writing::{put_count, put_item, put_mask, put_moment, put_set, put_word};
 use can_bus::{Event, Opt};
@@ -47,7 +47,8 @@ pub fn put_event(out: &mut Vec<u8>, event: &Event) -> Result<(), AllocError>
 
 /// The name of an event, and its socket or interface.
 fn put_call(out: &mut Vec<u8>, word: &[u8], number: u32) -> Result<(), AllocError>
-    ensures { OnOk result (out.new.items ≡ out.old.items ++ (word.now ++ 32 ∷ [] ++ (decimal number ++ 32 ∷ []))) }
+    ensures { OnOk result (out.new.items ≡ out.old.items ++
+        spaced (word.now ∷ decimal number ∷ [])) }
 {
     put_word(out, word, b' ')?;
     put_count(out, u64::from(number), b' ')?;
@@ -56,7 +57,7 @@ fn put_call(out: &mut Vec<u8>, word: &[u8], number: u32) -> Result<(), AllocErro
 
 /// How many filters there are, and the words of each.
 fn put_filters(out: &mut Vec<u8>, filters: &[Filter]) -> Result<(), AllocError>
-    ensures { OnOk result (out.new.items ≡ out.old.items ++ spaced (decimal (length filters.now) ∷ filter_words filters.now)) }
+    ensures { OnOk result (out.new.items ≡ out.old.items ++ spaced (counted_filters filters.now)) }
 {
     put_count(out, filters.len() as u64, b' ')?;
     for filter in filters {

@@ -1,7 +1,6 @@
-ghost use Rattle.std.specs.Prelude.{◌≡◌, ◌%◌, ◌^◌, [], List, IsTrue, nat_le};
-ghost use Rattle.can_frame.specs.Frames.{CanFrame};
-ghost use Rattle.can_packed.specs.Kept.{entry_in, stamp_off};
-ghost use Rattle.can_record.specs.Spelling.{entry_line};
+ghost use Rattle.std.specs.Prelude.{◌≡◌, ◌%◌, ◌^◌, [], IsTrue, nat_le};
+ghost use Rattle.can_packed.specs.Kept.{stamp_off};
+ghost use Rattle.can_record.specs.inner.Stored.{IsPackedLine};
 
 use crate::short_lines::{
     push_attempt, push_data, push_error_from, push_idle, push_nothing, push_outcome, push_receive,
@@ -16,7 +15,7 @@ use can_packed::{Kept, stamp_moment, verdict_in};
 /// the packed fields: no frame, event or reply is made, which would take longer than the line.
 pub(crate) fn push_kept(line: &mut ShortLine, kept: &Kept) -> bool
     requires { line.old ≡ [] }
-    ensures { (frames : List CanFrame) → IsTrue result → line.new ≡ entry_line (entry_in frames kept.now) [] }
+    ensures { IsTrue result → IsPackedLine line.new kept.now }
 {
     match kept {
         Kept::NothingReceived { socket } => {
@@ -76,7 +75,7 @@ pub(crate) fn push_kept(line: &mut ShortLine, kept: &Kept) -> bool
 /// The same of an attempt.
 fn push_kept_attempt(line: &mut ShortLine, kept: &Kept) -> bool
     requires { line.old ≡ [] }
-    ensures { (frames : List CanFrame) → IsTrue result → line.new ≡ entry_line (entry_in frames kept.now) [] }
+    ensures { IsTrue result → IsPackedLine line.new kept.now }
 {
     match kept {
         Kept::Idle {

@@ -1,14 +1,12 @@
-ghost use Rattle.std.specs.Prelude.{◌≡◌, ◌≤◌, ◌++◌, ◌∷◌, [], IfOk, IfErr, IfSome, IsNone, IsTrue, OnOk, decimal, drop, length, List, ℕ};
-ghost use Rattle.std.specs.Option.{option_map};
-ghost use Rattle.can_event.specs.declared.events.Entry.{Entry as AnEntry};
-ghost use Rattle.can_event.specs.declared.events.BusConfig.{BusConfig as AConfig};
+ghost use Rattle.std.specs.Prelude.{◌≡◌, ◌≤◌, ◌++◌, ◌∷◌, [], IfOk, IfErr, IfSome, IsNone, IsTrue, OnOk, drop, length, List, ℕ};
 ghost use Rattle.can_event.specs.Spelled.{FitsReply};
 ghost use Rattle.can_record.specs.declared.faults.Unread.TheVariants as unread;
 ghost use Rattle.can_record.specs.Spelling.{spell, ack_word, answered_line, bus_words, end_words, entry_line, first_line};
-ghost use Rattle.can_record.specs.Texts.{StartsWith, StartsWithLine};
+ghost use Rattle.can_record.specs.Texts.{DecidesLine, StartsWith, StartsWithBus, StartsWithEntry};
 ghost use Rattle.can_record.specs.Values.{HasLine, HasBusLine};
-ghost use Rattle.can_record.specs.RecordFaults.{LacksFirst};
-ghost use Rattle.can_record.specs.inner.Reading.{Gives, ack_at, auto_restart_at, config_at, entry_at, moment_of};
+ghost use Rattle.can_record.specs.RecordFaults.{LacksBus, LacksEntry, LacksFirst};
+ghost use Rattle.can_record.specs.inner.Stored.{HasFittingReply};
+ghost use Rattle.can_record.specs.inner.Reading.{Gives, with_rest, ack_at, auto_restart_at, config_at, entry_at, moment_of};
 
 use crate::event_reading::guess_event;
 use crate::event_writing::put_event;
@@ -28,7 +26,7 @@ use std::alloc::{AllocError, Global};
 
 /// The line of an entry.
 pub(crate) fn put_line(out: &mut Vec<u8>, entry: &Entry) -> Result<(), AllocError>
-    requires { FitsReply entry.now.event entry.now.reply }
+    requires { HasFittingReply entry.now }
     ensures { OnOk result (out.new.items ≡ out.old.items ++ entry_line entry.now []) }
 {
     put_answered(out, &entry.event, &entry.reply)
@@ -66,8 +64,7 @@ pub fn is_line_of(
     text: &[u8],
 ) -> Result<bool, AllocError>
     requires { FitsReply event.now reply.now }
-    ensures yes { IfOk result (λ same. IsTrue same → StartsWithLine event.now reply.now text.now) }
-    ensures no { (rest : List ℕ) → text.now ≡ answered_line event.now reply.now rest → IfOk result IsTrue }
+    ensures { DecidesLine event.now reply.now text.now result }
 {
     let mut line = Text::new();
     if push_answered(&mut line, event, reply) {
@@ -85,8 +82,7 @@ fn has_words_of(
     text: &[u8],
 ) -> Result<bool, AllocError>
     requires { FitsReply event.now reply.now }
-    ensures yes { IfOk result (λ same. IsTrue same → StartsWithLine event.now reply.now text.now) }
-    ensures no { (rest : List ℕ) → text.now ≡ answered_line event.now reply.now rest → IfOk result IsTrue }
+    ensures { DecidesLine event.now reply.now text.now result }
 {
     buffer.clear();
     put_words(buffer, event, reply)?;
@@ -187,8 +183,8 @@ pub fn read_line(
     config: BusConfig,
     text: &[u8],
 ) -> Result<Entry, Unread>
-    ensures found { IfOk result (λ e. HasLine version config e × (buffer.new.items ≡ entry_line e []) × StartsWith (entry_line e []) text.now) }
-    ensures only { (e : AnEntry) (rest : List ℕ) → HasLine version config e → text.now ≡ entry_line e rest → IfErr result (λ u. u ≡ unread.NoMemory) }
+    ensures found { IfOk result (StartsWithEntry version config text.now buffer.new.items) }
+    ensures bad { IfErr result (λ why. why ≡ unread.Bad → LacksEntry version config text.now) }
 {
     let read = match guess_entry(alloc, text) {
         Ok(read) => read,
@@ -236,8 +232,8 @@ fn moment_of(event: &Event) -> Option<Moment>
 
 /// The configuration whose line in this version the text begins with. The line is left in the buffer.
 pub fn read_bus(buffer: &mut Vec<u8>, version: Version, text: &[u8]) -> Result<BusConfig, Unread>
-    ensures found { IfOk result (λ c. HasBusLine version c × (buffer.new.items ≡ spell (bus_words version c) []) × StartsWith (spell (bus_words version c) []) text.now) }
-    ensures only { (c : AConfig) (rest : List ℕ) → HasBusLine version c → text.now ≡ spell (bus_words version c) rest → IfErr result (λ u. u ≡ unread.NoMemory) }
+    ensures found { IfOk result (StartsWithBus version text.now buffer.new.items) }
+    ensures bad { IfErr result (λ why. why ≡ unread.Bad → LacksBus version text.now) }
 {
     let Some(config) = guess_config(version, text) else {
         return Err(Unread::Bad);
@@ -289,7 +285,7 @@ fn guess_config(version: Version, text: &[u8]) -> Option<BusConfig>
 /// After how many attempts an interface is restarted: never in version 1.
 #[tactic(auto, unfolding(crate::specs::inner::Reading::auto_restart_at))]
 fn auto_restart_field(version: Version, text: &[u8]) -> Option<(u32, &[u8])>
-    ensures { option_map (λ x. (x.0, x.1.now)) result ≡ auto_restart_at version text.now }
+    ensures { with_rest result ≡ auto_restart_at version text.now }
 {
     match version {
         Version::One => Some((0, text)),
@@ -300,7 +296,7 @@ fn auto_restart_field(version: Version, text: &[u8]) -> Option<(u32, &[u8])>
 /// Who acknowledges.
 #[tactic(auto, unfolding(crate::specs::inner::Reading::ack_at))]
 fn ack_field(text: &[u8]) -> Option<(AckMode, &[u8])>
-    ensures { option_map (λ x. (x.0, x.1.now)) result ≡ ack_at text.now }
+    ensures { with_rest result ≡ ack_at text.now }
 {
     let (word, rest) = next_word(text);
     if same_word(word, b"always") {

@@ -1,8 +1,6 @@
-ghost use Rattle.std.specs.Prelude.{◌≡◌, ◌++◌, [], All, Err, IfErr, IfOk, ◌<◌, ◌^◌, List, ℕ, length};
-ghost use Rattle.can_event.specs.declared.events.BusConfig.{BusConfig as AConfig};
-ghost use Rattle.can_event.specs.declared.events.Entry.{Entry as AnEntry};
-ghost use Rattle.can_record.specs.Values.{HasLine, HasText};
-ghost use Rattle.can_record.specs.Spelling.{entry_lines, record_spelling};
+ghost use Rattle.std.specs.Prelude.{◌≡◌, [], All, Err, IfErr, IfOk, ◌<◌, ◌^◌};
+ghost use Rattle.can_record.specs.Values.{HasLine};
+ghost use Rattle.can_record.specs.Spelling.{entry_lines};
 ghost use Rattle.can_record.specs.RecordFaults.{LacksEntry, Ends, Reads, ReadsBack};
 ghost use Rattle.can_record.specs.inner.Fronts.{HasFront};
 
@@ -21,7 +19,7 @@ use std::alloc::{AllocError, Global};
 /// The time is linear in the text, and nothing is allocated for a line but the filters that it sets.
 pub fn read_record(alloc: Global, text: &str) -> Result<Record, ReadFault>
     ensures reads { Reads text.now result }
-    ensures back { (c : AConfig) (entries : List AnEntry) → HasText c entries → text.now ≡ record_spelling c entries → ReadsBack c entries result }
+    ensures back { ReadsBack text.now result }
 {
     read_record_bytes(alloc, text.as_bytes())
 }
@@ -29,7 +27,7 @@ pub fn read_record(alloc: Global, text: &str) -> Result<Record, ReadFault>
 /// The same of the bytes of a text, which need not be UTF-8.
 pub fn read_record_bytes(alloc: Global, text: &[u8]) -> Result<Record, ReadFault>
     ensures reads { Reads text.now result }
-    ensures back { (c : AConfig) (entries : List AnEntry) → HasText c entries → text.now ≡ record_spelling c entries → ReadsBack c entries result }
+    ensures back { ReadsBack text.now result }
 {
     read_text(alloc, text)
 }

@@ -1,10 +1,11 @@
-ghost use Rattle.std.specs.Prelude.{◌≡◌, ◌≤◌, ◌++◌, [], length, IfOk, IsTrue, OnOk, reverse};
+ghost use Rattle.std.specs.Prelude.{◌≡◌, ◌≤◌, ◌++◌, [], length, IfOk, IsTrue, OnOk};
 ghost use Rattle.std.specs.Io.KnownBytes.{Appends};
 ghost use Rattle.can_event.specs.Spelled.{FitsReply};
 ghost use Rattle.can_packed.specs.Kept.{entry_in, frames_needed, IsSmall};
 ghost use Rattle.can_packed.specs.Stored.{entry_stored, IsStored};
-ghost use Rattle.can_record.specs.Spelling.{answered_line, entry_line, entry_lines, front_lines};
-ghost use Rattle.can_record.specs.Texts.{text_of};
+ghost use Rattle.can_record.specs.Spelling.{answered_line, entry_line, front_lines};
+ghost use Rattle.can_record.specs.Texts.{lines_of, text_of};
+ghost use Rattle.can_record.specs.inner.Stored.{HasFittingReply, stored_line};
 
 use crate::kept_lines::push_kept;
 use crate::lines::{put_answered, put_bus, put_end, put_line};
@@ -49,7 +50,8 @@ pub fn line_text(alloc: Global, event: &Event, reply: &Reply) -> Result<Vec<u8>,
 /// No more than a line is held. Where the writer fails, or memory is refused, some front of the text may
 /// have gone out.
 pub fn write_record<W: Write>(alloc: Global, record: &Record, writer: &mut W) -> io::Result<()>
-    ensures { OnOk result (Appends (W.contents writer.old) (W.contents writer.new) (text_of «record».now)) }
+    ensures { OnOk result (Appends (W.contents writer.old) (W.contents writer.new)
+        (text_of «record».now)) }
 {
     let mut line = Vec::new(alloc);
     let config = record.config();
@@ -73,7 +75,8 @@ fn put_front(out: &mut Vec<u8>, version: Version, config: BusConfig) -> Result<(
 
 /// Writes the lines of the entries.
 fn write_lines<W: Write>(line: &mut Vec<u8>, record: &Record, writer: &mut W) -> io::Result<()>
-    ensures { OnOk result (Appends (W.contents writer.old) (W.contents writer.new) (entry_lines (reverse «record».now.history) [])) }
+    ensures { OnOk result (Appends (W.contents writer.old) (W.contents writer.new)
+        (lines_of «record».now)) }
 {
     for place in 0..record.len() {
         let stored = record.stored(place).unwrap();
@@ -85,8 +88,9 @@ fn write_lines<W: Write>(line: &mut Vec<u8>, record: &Record, writer: &mut W) ->
 /// Writes the line of an entry.
 fn write_line<W: Write>(line: &mut Vec<u8>, stored: &Stored<'_>, writer: &mut W) -> io::Result<()>
     requires stored { IsStored stored.now }
-    requires fits { FitsReply (entry_stored stored.now).event (entry_stored stored.now).reply }
-    ensures { OnOk result (Appends (W.contents writer.old) (W.contents writer.new) (entry_line (entry_stored stored.now) [])) }
+    requires fits { HasFittingReply (entry_stored stored.now) }
+    ensures { OnOk result (Appends (W.contents writer.old) (W.contents writer.new)
+        (stored_line stored.now)) }
 {
     let mut short = Text::new();
     if push_stored(&mut short, stored) {
@@ -101,7 +105,7 @@ fn write_line<W: Write>(line: &mut Vec<u8>, stored: &Stored<'_>, writer: &mut W)
 /// The line of an entry as it is stored, if it is packed and of a usual kind; else what stands in the room means nothing.
 fn push_stored(line: &mut ShortLine, stored: &Stored<'_>) -> bool
     requires { line.old ≡ [] }
-    ensures { IsTrue result → line.new ≡ entry_line (entry_stored stored.now) [] }
+    ensures { IsTrue result → line.new ≡ stored_line stored.now }
 {
     match stored {
         Stored::Packed(_, kept) => push_kept(line, kept),
@@ -113,8 +117,8 @@ fn push_stored(line: &mut ShortLine, stored: &Stored<'_>) -> bool
 #[inline(never)]
 fn put_stored(out: &mut Vec<u8>, stored: &Stored<'_>) -> Result<(), AllocError>
     requires stored { IsStored stored.now }
-    requires fits { FitsReply (entry_stored stored.now).event (entry_stored stored.now).reply }
-    ensures { OnOk result (out.new.items ≡ out.old.items ++ entry_line (entry_stored stored.now) []) }
+    requires fits { HasFittingReply (entry_stored stored.now) }
+    ensures { OnOk result (out.new.items ≡ out.old.items ++ stored_line stored.now) }
 {
     match stored {
         Stored::Packed(frames, kept) => put_kept(out, frames, kept),
@@ -126,8 +130,9 @@ fn put_stored(out: &mut Vec<u8>, stored: &Stored<'_>) -> Result<(), AllocError>
 fn put_kept(out: &mut Vec<u8>, frames: &[Frame], kept: &Kept) -> Result<(), AllocError>
     requires small { IsSmall kept.now }
     requires within { frames_needed kept.now ≤ length frames.now }
-    requires fits { FitsReply (entry_in frames.now kept.now).event (entry_in frames.now kept.now).reply }
-    ensures { OnOk result (out.new.items ≡ out.old.items ++ entry_line (entry_in frames.now kept.now) []) }
+    requires fits { HasFittingReply (entry_in frames.now kept.now) }
+    ensures { OnOk result (out.new.items ≡ out.old.items ++
+        entry_line (entry_in frames.now kept.now) []) }
 {
     put_answered(out, &event_in(frames, kept), &reply_in(frames, kept))
 }

@@ -1,6 +1,5 @@
 ghost use Rattle.std.specs.Prelude.{◌≡◌};
-ghost use Rattle.std.specs.Option.{option_map};
-ghost use Rattle.can_record.specs.inner.Reading.{class_at, refusal_in, closed_at, data_at, error_at, restarted_at, tried_at, fixed_in, reply_at};
+ghost use Rattle.can_record.specs.inner.Reading.{with_rest, class_at, refusal_in, closed_at, data_at, error_at, restarted_at, tried_at, fixed_in, reply_at};
 
 use crate::fields::{
     begins_with, frame_field, iface_field, item_field, long_field, moment_field, set_behind,
@@ -14,7 +13,7 @@ use can_frame::{IfaceSet, Item, Moment};
 /// A reply to an attempt of this moment, or to another event.
 #[tactic(auto, unfolding(crate::specs::inner::Reading::reply_at))]
 pub fn reply_field(moment: Option<Moment>, text: &[u8]) -> Option<(Reply, &[u8])>
-    ensures { option_map (λ x. (x.0, x.1.now)) result ≡ reply_at moment text.now }
+    ensures { with_rest result ≡ reply_at moment text.now }
 {
     let (word, rest) = next_word(text);
     if same_word(word, b"number") {
@@ -63,7 +62,7 @@ fn fixed_reply(word: &[u8]) -> Option<Reply>
 /// The counts of a closed socket.
 #[tactic(auto, unfolding(crate::specs::inner::Reading::closed_at))]
 fn closed_field(text: &[u8]) -> Option<(Reply, &[u8])>
-    ensures { option_map (λ x. (x.0, x.1.now)) result ≡ closed_at text.now }
+    ensures { with_rest result ≡ closed_at text.now }
 {
     let (unread, rest) = long_field(text)?;
     let (dropped, rest) = long_field(rest)?;
@@ -73,7 +72,7 @@ fn closed_field(text: &[u8]) -> Option<(Reply, &[u8])>
 /// A frame that was received.
 #[tactic(auto, unfolding(crate::specs::inner::Reading::data_at))]
 fn data_field(text: &[u8]) -> Option<(Reply, &[u8])>
-    ensures { option_map (λ x. (x.0, x.1.now)) result ≡ data_at text.now }
+    ensures { with_rest result ≡ data_at text.now }
 {
     let Some((from, rest)) = iface_field(text) else {
         return None;
@@ -97,7 +96,7 @@ fn data_field(text: &[u8]) -> Option<(Reply, &[u8])>
 /// An error message frame that was received.
 #[tactic(auto, unfolding(crate::specs::inner::Reading::error_at))]
 fn error_field(text: &[u8]) -> Option<(Reply, &[u8])>
-    ensures { option_map (λ x. (x.0, x.1.now)) result ≡ error_at text.now }
+    ensures { with_rest result ≡ error_at text.now }
 {
     let Some((from, rest)) = iface_field(text) else {
         return None;
@@ -120,7 +119,7 @@ fn error_field(text: &[u8]) -> Option<(Reply, &[u8])>
 /// A frame that was tried at this moment.
 #[tactic(auto, unfolding(crate::specs::inner::Reading::tried_at))]
 fn tried_field(moment: Moment, text: &[u8]) -> Option<(Reply, &[u8])>
-    ensures { option_map (λ x. (x.0, x.1.now)) result ≡ tried_at moment text.now }
+    ensures { with_rest result ≡ tried_at moment text.now }
 {
     let Some((winner, rest)) = iface_field(text) else {
         return None;
@@ -149,7 +148,7 @@ fn tried_field(moment: Moment, text: &[u8]) -> Option<(Reply, &[u8])>
 /// The interfaces that an attempt restarted, behind the first word of a text; none where the line ends there.
 #[tactic(auto, unfolding(crate::specs::inner::Reading::restarted_at))]
 fn restarted_field(text: &[u8]) -> Option<(IfaceSet, &[u8])>
-    ensures { option_map (λ x. (x.0, x.1.now)) result ≡ restarted_at text.now }
+    ensures { with_rest result ≡ restarted_at text.now }
 {
     let (word, rest) = next_word(text);
     let behind = &text[word.len()..];
@@ -162,7 +161,7 @@ fn restarted_field(text: &[u8]) -> Option<(IfaceSet, &[u8])>
 /// How an attempt ended.
 #[tactic(auto, unfolding(crate::specs::inner::Reading::class_at))]
 fn class_field(text: &[u8]) -> Option<(Class, &[u8])>
-    ensures { option_map (λ x. (x.0, x.1.now)) result ≡ class_at text.now }
+    ensures { with_rest result ≡ class_at text.now }
 {
     let (word, rest) = next_word(text);
     if same_word(word, b"done") {

@@ -1,5 +1,5 @@
-ghost use Rattle.std.specs.Prelude.{◌≡◌, ◌++◌, ◌∷◌, [], decimal, OnOk};
-ghost use Rattle.can_record.specs.Spelling.{gap_before, spell, reply_words, received_words, refusal_words, restarted_words, set_word};
+ghost use Rattle.std.specs.Prelude.{◌≡◌, ◌++◌, ◌∷◌, [], OnOk, Some};
+ghost use Rattle.can_record.specs.Spelling.{gap_before, reply_text, spell, refusal_words, restarted_words, set_word};
 ghost use Rattle.can_event.specs.declared.events.Reply.TheVariants as reply;
 
 use crate::writing::{put_count, put_item, put_moment, put_set, put_word};
@@ -9,7 +9,7 @@ use std::alloc::AllocError;
 
 /// The words of a reply, and the end of its line.
 pub fn put_reply(out: &mut Vec<u8>, reply: &Reply) -> Result<(), AllocError>
-    ensures { OnOk result (out.new.items ≡ out.old.items ++ spell (reply_words reply.now) []) }
+    ensures { OnOk result (out.new.items ≡ out.old.items ++ reply_text reply.now) }
 {
     match reply {
         Reply::Opened(id) => {
@@ -37,7 +37,8 @@ pub fn put_reply(out: &mut Vec<u8>, reply: &Reply) -> Result<(), AllocError>
 
 /// An item that was received, and the end of its line.
 fn put_received(out: &mut Vec<u8>, received: &Received) -> Result<(), AllocError>
-    ensures { OnOk result (out.new.items ≡ out.old.items ++ spell (received_words received.now.item received.now) []) }
+    ensures { OnOk result (out.new.items ≡ out.old.items ++
+        reply_text (reply.Received (Some received.now))) }
 {
     let from = u64::from(received.from.number());
     match &received.item {
@@ -57,7 +58,7 @@ fn put_received(out: &mut Vec<u8>, received: &Received) -> Result<(), AllocError
 
 /// A frame that was tried, and the end of its line.
 fn put_tried(out: &mut Vec<u8>, tried: &Tried) -> Result<(), AllocError>
-    ensures { OnOk result (out.new.items ≡ out.old.items ++ spell (reply_words (reply.Tried tried.now)) []) }
+    ensures { OnOk result (out.new.items ≡ out.old.items ++ reply_text (reply.Tried tried.now)) }
 {
     put_word(out, b"tried", b' ')?;
     put_count(out, u64::from(tried.winner.number()), b' ')?;
@@ -71,7 +72,7 @@ fn put_tried(out: &mut Vec<u8>, tried: &Tried) -> Result<(), AllocError>
 /// The end of the line of an attempt that tried nothing.
 #[tactic(auto, using(crate::proofs::Written::last_word))]
 fn put_idle(out: &mut Vec<u8>, restarted: IfaceSet) -> Result<(), AllocError>
-    ensures { OnOk result (out.new.items ≡ out.old.items ++ spell (reply_words (reply.Idle restarted)) []) }
+    ensures { OnOk result (out.new.items ≡ out.old.items ++ reply_text (reply.Idle restarted)) }
 {
     put_word(out, b"idle", gap_before(restarted))?;
     put_restarted(out, restarted)
@@ -80,7 +81,8 @@ fn put_idle(out: &mut Vec<u8>, restarted: IfaceSet) -> Result<(), AllocError>
 /// The interfaces that went off and those that were restarted, and the end of the line.
 #[tactic(auto, using(crate::proofs::Written::last_word))]
 fn put_off(out: &mut Vec<u8>, off: IfaceSet, restarted: IfaceSet) -> Result<(), AllocError>
-    ensures { OnOk result (out.new.items ≡ out.old.items ++ spell (set_word off ∷ restarted_words restarted) []) }
+    ensures { OnOk result (out.new.items ≡ out.old.items ++
+        spell (set_word off ∷ restarted_words restarted) []) }
 {
     put_set(out, off, gap_before(restarted))?;
     put_restarted(out, restarted)

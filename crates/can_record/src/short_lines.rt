@@ -4,7 +4,7 @@ ghost use Rattle.can_attempt.specs.Words.{class_word};
 ghost use Rattle.can_event.specs.declared.events.Event.TheVariants as event;
 ghost use Rattle.can_event.specs.declared.events.Reply.TheVariants as reply;
 ghost use Rattle.can_record.specs.inner.Words.{spaced};
-ghost use Rattle.can_record.specs.Spelling.{answered_line, moment_word, set_word, spell, verdict_word};
+ghost use Rattle.can_record.specs.Spelling.{answered_line, attempt_line, moment_word, receive_line, reply_words, set_word, spell, verdict_word};
 
 use crate::short_words::{
     ShortLine, push_class, push_error, push_frame, push_moment, push_number, push_set, push_verdict,
@@ -30,7 +30,7 @@ pub(crate) fn push_answered(line: &mut ShortLine, event: &Event, reply: &Reply) 
 /// The same of a receive.
 fn push_received_reply(line: &mut ShortLine, id: SocketId, reply: &Reply) -> bool
     requires { line.old ≡ [] }
-    ensures { IsTrue result → line.new ≡ answered_line (event.Receive id) reply.now [] }
+    ensures { IsTrue result → line.new ≡ receive_line id reply.now }
 {
     match reply {
         Reply::Received(None) => {
@@ -45,7 +45,7 @@ fn push_received_reply(line: &mut ShortLine, id: SocketId, reply: &Reply) -> boo
 /// The line of a receive that gave nothing.
 pub(crate) fn push_nothing(line: &mut ShortLine, id: SocketId)
     requires { line.old ≡ [] }
-    ensures { line.new ≡ answered_line (event.Receive id) (reply.Received None) [] }
+    ensures { line.new ≡ receive_line id (reply.Received None) }
 {
     push_receive(line, id);
     line.push_all(b"none\n");
@@ -54,7 +54,7 @@ pub(crate) fn push_nothing(line: &mut ShortLine, id: SocketId)
 /// The line of a receive that gave this item.
 fn push_received(line: &mut ShortLine, id: SocketId, received: &Received) -> bool
     requires { line.old ≡ [] }
-    ensures { IsTrue result → line.new ≡ answered_line (event.Receive id) (reply.Received (Some received.now)) [] }
+    ensures { IsTrue result → line.new ≡ receive_line id (reply.Received (Some received.now)) }
 {
     match &received.item {
         Item::Data(frame) => {
@@ -99,7 +99,7 @@ fn push_sent_reply(line: &mut ShortLine, id: SocketId, frame: &Frame, reply: &Re
 /// The same of an attempt.
 fn push_attempted(line: &mut ShortLine, moment: Moment, verdict: Verdict, reply: &Reply) -> bool
     requires { line.old ≡ [] }
-    ensures { IsTrue result → line.new ≡ answered_line (event.Attempt moment verdict) reply.now [] }
+    ensures { IsTrue result → line.new ≡ attempt_line moment verdict reply.now }
 {
     match reply {
         Reply::Idle { restarted } => {
@@ -117,7 +117,7 @@ fn push_attempted(line: &mut ShortLine, moment: Moment, verdict: Verdict, reply:
 /// The line of an attempt that tried a frame.
 fn push_tried(line: &mut ShortLine, moment: Moment, verdict: Verdict, tried: &Tried) -> bool
     requires { line.old ≡ [] }
-    ensures { IsTrue result → line.new ≡ answered_line (event.Attempt moment verdict) (reply.Tried tried.now) [] }
+    ensures { IsTrue result → line.new ≡ attempt_line moment verdict (reply.Tried tried.now) }
 {
     if !tried.restarted.is_empty() || !is_short(&tried.frame) {
         return false;
@@ -152,7 +152,8 @@ pub(crate) fn push_receive(line: &mut ShortLine, id: SocketId)
 /// Where a frame that was received comes from, and its number.
 pub(crate) fn push_data(line: &mut ShortLine, from: Iface, number: u64)
     requires { length line.old + 47 ≤ 192 }
-    ensures text { line.new ≡ line.old ++ spaced (codes "data" ∷ decimal from ∷ decimal number ∷ []) }
+    ensures text { line.new ≡ line.old ++
+        spaced (codes "data" ∷ decimal from ∷ decimal number ∷ []) }
     ensures len { length line.new ≤ length line.old + 47 }
 {
     line.push_all(b"data ");
@@ -183,7 +184,7 @@ pub(crate) fn push_send(line: &mut ShortLine, id: SocketId)
 /// What a send is answered with, and the line's end.
 pub(crate) fn push_sent(line: &mut ShortLine, number: u64)
     requires { length line.old + 30 ≤ 192 }
-    ensures text { line.new ≡ line.old ++ (codes "=" ++ 32 ∷ (codes "number" ++ 32 ∷ (decimal number ++ 10 ∷ []))) }
+    ensures text { line.new ≡ line.old ++ spell (codes "=" ∷ reply_words (reply.Sent number)) [] }
 {
     line.push_all(b"= number ");
     push_number(line, number, b'\n');
@@ -192,7 +193,8 @@ pub(crate) fn push_sent(line: &mut ShortLine, number: u64)
 /// An attempt.
 pub(crate) fn push_attempt(line: &mut ShortLine, moment: Moment, verdict: Verdict)
     requires { line.old ≡ [] }
-    ensures text { line.new ≡ spaced (codes "attempt" ∷ moment_word moment ∷ verdict_word verdict ∷ []) }
+    ensures text { line.new ≡
+        spaced (codes "attempt" ∷ moment_word moment ∷ verdict_word verdict ∷ []) }
     ensures len { length line.new ≤ 43 }
 {
     line.push_all(b"attempt ");
@@ -204,7 +206,7 @@ pub(crate) fn push_attempt(line: &mut ShortLine, moment: Moment, verdict: Verdic
 pub(crate) fn push_idle(line: &mut ShortLine, moment: Moment, verdict: Verdict, restarted: IfaceSet)
     requires empty { line.old ≡ [] }
     requires none { restarted.0 ≡ 0 }
-    ensures { line.new ≡ answered_line (event.Attempt moment verdict) (reply.Idle restarted) [] }
+    ensures { line.new ≡ attempt_line moment verdict (reply.Idle restarted) }
 {
     push_attempt(line, moment, verdict);
     line.push_all(b"= idle\n");
@@ -213,7 +215,8 @@ pub(crate) fn push_idle(line: &mut ShortLine, moment: Moment, verdict: Verdict, 
 /// Which interface sent the frame that was tried, and its number.
 pub(crate) fn push_winner(line: &mut ShortLine, winner: u64, number: u64)
     requires { length line.old + 50 ≤ 192 }
-    ensures text { line.new ≡ line.old ++ spaced (codes "=" ∷ codes "tried" ∷ decimal winner ∷ decimal number ∷ []) }
+    ensures text { line.new ≡ line.old ++
+        spaced (codes "=" ∷ codes "tried" ∷ decimal winner ∷ decimal number ∷ []) }
     ensures len { length line.new ≤ length line.old + 50 }
 {
     line.push_all(b"= tried ");
@@ -224,7 +227,8 @@ pub(crate) fn push_winner(line: &mut ShortLine, winner: u64, number: u64)
 /// How an attempt ended, the interfaces that accepted the frame, those that went off, and the line's end.
 pub(crate) fn push_outcome(line: &mut ShortLine, class: Class, accepted: IfaceSet, off: IfaceSet)
     requires { length line.old + 20 ≤ 192 }
-    ensures { line.new ≡ line.old ++ spell (class_word class ∷ set_word accepted ∷ set_word off ∷ []) [] }
+    ensures { line.new ≡ line.old ++
+        spell (class_word class ∷ set_word accepted ∷ set_word off ∷ []) [] }
 {
     push_class(line, class);
     push_set(line, accepted, b' ');

@@ -79,7 +79,8 @@ pub(crate) fn push_frame(line: &mut ShortLine, frame: &Frame)
 pub(crate) fn push_packed(line: &mut ShortLine, word: u32, len: u8, bytes: &[u8; 8])
     requires room { length line.old + 26 ≤ 192 }
     requires data { nat_le (2 ^ 30) (word % 2 ^ 31) ≡ false }
-    ensures text { line.new ≡ line.old ++ (frame_spelling (item.Data (frame_in word len bytes.now)) ++ 32 ∷ []) }
+    ensures text { line.new ≡ line.old ++
+        (frame_spelling (item.Data (frame_in word len bytes.now)) ++ 32 ∷ []) }
     ensures len { length line.new ≤ length line.old + 26 }
 {
     push_id(line, word);

@@ -4,9 +4,8 @@ ghost use Rattle.can_event.specs.declared.events.Entry.{Entry as AnEntry};
 ghost use Rattle.can_event.specs.Events.{IsConfig};
 ghost use Rattle.can_event.specs.Spelled.{IsSpelled};
 ghost use Rattle.can_record.specs.declared.versions.Version.TheVariants as version;
-ghost use Rattle.can_record.specs.Values.{HasBusLine, HasLine, HasText};
-ghost use Rattle.can_record.specs.Spelling.{record_spelling};
-ghost use Rattle.can_record.specs.RecordFaults.{IsTextOf, IsOfNoVersion, IsFirstWrong};
+ghost use Rattle.can_record.specs.Values.{HasBusLine, HasLine};
+ghost use Rattle.can_record.specs.RecordFaults.{IsTextOf, IsRecordText, IsOfNoVersion, IsFirstWrong};
 
 use crate::faults::ReadFault;
 use crate::record_reading::read_record_bytes;
@@ -17,14 +16,15 @@ use std::alloc::{AllocError, Global};
 
 /// No text is the text of two records.
 pub fn record_texts_tell_records_apart()
-    ensures { (c d : AConfig) (es ds : List AnEntry) → HasText c es → HasText d ds → record_spelling c es ≡ record_spelling d ds → (c ≡ d) × (es ≡ ds) }
+    ensures { (text : List ℕ) (c d : AConfig) (es ds : List AnEntry) →
+        IsTextOf text c es → IsTextOf text d ds → (c ≡ d) × (es ≡ ds) }
 {}
 
 /// A text is a record's, or is of no version, or has one line that is the first wrong one: no two of these.
 pub fn a_text_is_at_fault_in_one_way()
-    ensures whole { (text : List ℕ) (n : ℕ) (c : AConfig) (es : List AnEntry) → IsTextOf text c es → IsFirstWrong text n → ⊥ }
-    ensures first { (text : List ℕ) (c : AConfig) (es : List AnEntry) → IsTextOf text c es → IsOfNoVersion text → ⊥ }
-    ensures version { (text : List ℕ) (n : ℕ) → IsOfNoVersion text → IsFirstWrong text n → ⊥ }
+    ensures whole { (text : List ℕ) (n : ℕ) → IsRecordText text → ¬ IsFirstWrong text n }
+    ensures first { (text : List ℕ) → IsRecordText text → ¬ IsOfNoVersion text }
+    ensures version { (text : List ℕ) (n : ℕ) → IsOfNoVersion text → ¬ IsFirstWrong text n }
     ensures line { (text : List ℕ) (n m : ℕ) → IsFirstWrong text n → IsFirstWrong text m → n ≡ m }
 {}
 

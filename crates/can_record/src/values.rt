@@ -1,7 +1,7 @@
-ghost use Rattle.std.specs.Prelude.{ℕ, slice_index, ◌≡◌, ◌<◌, ◌^◌, All, ◌↔◌, IsTrue};
+ghost use Rattle.std.specs.Prelude.{ℕ, slice_index, ◌<◌, ◌^◌, All};
 ghost use Rattle.can_frame.specs.FrameText.{IsItem};
 ghost use Rattle.can_frame.specs.declared.items.Item.TheVariants as item;
-ghost use Rattle.can_record.specs.Values.{HoldsFilter, HoldsOption, HoldsVerdict, HoldsEvent, HoldsTried, HoldsReply};
+ghost use Rattle.can_record.specs.Values.{HoldsFilter, HoldsOption, HoldsVerdict, HoldsEvent, HoldsReceived, HoldsTried, HoldsReply};
 
 use can_bus::{Closed, Event, Opt, Received, Reply, SocketId, Tried};
 use can_fault::Verdict;
@@ -121,7 +121,7 @@ pub fn hold_reply(reply: &Reply)
 }
 
 fn hold_received(received: &Received)
-    ensures { IsItem received.now.item × (received.now.from < 16) × (received.now.number < 2 ^ 64) × (received.now.moment < 10 ^ 16) }
+    ensures { HoldsReceived received.now }
 {
     hold_item(&received.item);
     let _from = received.from.number();

@@ -1,5 +1,6 @@
 ghost use Rattle.std.specs.Prelude.{◌≡◌, ◌≤◌, IsTrue, false, length, reverse, true};
 ghost use Rattle.std.specs.List.{list_any};
+ghost use Rattle.can_event.specs.Replies.{entry_of};
 ghost use Rattle.can_packed.specs.Kept.{entry_in, frames_needed, IsSmall};
 ghost use Rattle.can_packed.specs.Stored.{entry_stored, IsStored};
 ghost use Rattle.can_record.specs.declared.versions.Version.TheVariants as version;
@@ -62,7 +63,8 @@ impl Version {
     /// Whether a record of these entries needs the version: version 3 is for an FD frame, or for the option for such.
     pub(crate) fn is_needed(self, entries: &[Entry]) -> bool
         ensures yes { IsTrue result → self ≡ version.Three → list_any has_fd entries.now ≡ true }
-        ensures no { result ≡ false → (self ≡ version.Three) × (list_any has_fd entries.now ≡ false) }
+        ensures no { result ≡ false →
+            (self ≡ version.Three) × (list_any has_fd entries.now ≡ false) }
     {
         self != Version::Three || entries_have_fd(entries)
     }
@@ -126,7 +128,7 @@ fn entries_have_fd(entries: &[Entry]) -> bool
 
 /// Whether an FD frame or the option for such stands in the line of an event with this reply: version 3 alone has one.
 pub fn has_fd(event: &Event, reply: &Reply) -> bool
-    ensures { result ≡ has_fd (record { event = event.now; reply = reply.now }) }
+    ensures { result ≡ has_fd (entry_of event.now reply.now) }
 {
     asks_for_fd(event) || answers_with_fd(reply)
 }

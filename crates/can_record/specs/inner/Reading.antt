@@ -1,4 +1,5 @@
 use Rattle.std.specs.Prelude.{ℕ, zero, suc, ◌^◌, nat_lt, ◌==◌, bit_and, Bool, true, false, List, [], ◌∷◌, ◌++◌, length, take, drop, codes, Option, Some, None, Result, Ok, Err, ◌≡◌, if◌then◌else◌}
+use denote.Ref.{Bor}
 use Rattle.std.specs.Str.{bytes_eq}
 use Rattle.can_frame.specs.Moments.{moment_in}
 use Rattle.can_frame.specs.Numbers.{number_in}
@@ -37,21 +38,31 @@ use Rattle.can_record.specs.inner.Numerals.{long_in}
 
 -- An entry as a line seems to spell it. It is written again and compared, so here it may be read loosely (own choice).
 
+-- a value and what follows it
+abbrev pub Found : Type 0 → Type 0
+Found A = Option (A × List ℕ)
+
+-- a value that was read, with the rest of the text
+abbrev pub with_rest : {A : Type 0} → Option (A × Bor (List ℕ)) → Found A
+with_rest None = None
+with_rest (Some x) = Some (x.0, x.1.now)
+
 -- what a call answered is what reading gives, unless memory was refused
 abbrev pub Gives : {X : Type 0} → Result X Unread → Option X → Type 0
 Gives (Ok x) read = read ≡ Some x
 Gives (Err unread.NoMemory) read = Unit {0}
 Gives (Err unread.Bad) read = read ≡ None
 
+-- the same of a value with the rest of the text
+abbrev pub Finds : {A : Type 0} → Result (A × Bor (List ℕ)) Unread → Found A → Type 0
+Finds (Ok x) read = read ≡ Some (x.0, x.1.now)
+Finds (Err why) read = Gives (Err why) read
+
 infixl 10 ◌>>=◌
 -- and then, where there is something
 abbrev pub ◌>>=◌ : {A B : Type 0} → Option A → (A → Option B) → Option B
 None >>= f = None
 (Some x) >>= f = f x
-
--- a value and what follows it
-abbrev pub Found : Type 0 → Type 0
-Found A = Option (A × List ℕ)
 
 -- a number below the limit
 unfoldable pub number_at : ℕ → List ℕ → Option (ℕ × List ℕ)
@@ -230,8 +241,8 @@ filters_at fs zero t = Some (fs, t)
 filters_at fs (suc n) t = filter_at fs t >>= λ f. filters_at f.0 n f.1
 
 -- filters were read behind those that were there, unless memory was refused
-abbrev pub GivesFilters : Result (List ℕ) Unread → List CanFilter → Option (List CanFilter × List ℕ) → Type 0
-GivesFilters (Ok rest) filters read = read ≡ Some (filters, rest)
+abbrev pub GivesFilters : Result (Bor (List ℕ)) Unread → List CanFilter → Option (List CanFilter × List ℕ) → Type 0
+GivesFilters (Ok rest) filters read = read ≡ Some (filters, rest.now)
 GivesFilters (Err unread.NoMemory) filters read = Unit {0}
 GivesFilters (Err unread.Bad) filters read = read ≡ None
 

@@ -1,4 +1,4 @@
-use Rattle.std.proofs.Common.{Some, reverse, sym, ap, ◌∙◌}
+use Rattle.std.proofs.Common.{reverse, sym, ap, ◌∙◌}
 use Rattle.std.specs.Option.{option_map}
 use Rattle.std.proofs.lemmas.Option.{slice_get_within, get_or_from_slice_get}
 use Rattle.can_packed.specs.Stored.{entry_stored}

@@ -2,7 +2,7 @@ use Rattle.std.proofs.Common.{◌≡◌, ◌++◌, ◌∙◌, [], refl, ap, reve
 use Rattle.std.specs.Io.KnownBytes.{Appends}
 use Rattle.can_record.specs.Spelling.{spell, end_words, entry_lines, version_for}
 use Rattle.can_record.proofs.Again.{kept}
-use Rattle.can_record.proofs.Growing.{Appends-then}
+use Rattle.std.proofs.KnownBytes.{Appends-trans}
 use Rattle.can_record.proofs.Whole.{text_written}
 use Rattle.can_record.proofs.record_writing.write_record.Goals as goal
 
@@ -19,4 +19,4 @@ returns g c =
     subst (Appends w0 w3)
     (text_written c.new-line.result.items front (front ++ lines) ((front ++ lines) ++ last) c.of-version.result c.config-config.result c.args.record.now.config (reverse c.args.record.now.history) c.args.record.now.history c.len.result c.new-line.ensures.items
     (c.deref.ensures.value ∙ c.in_ok-put_front.ensures) refl (ap (λ x. (front ++ lines) ++ x) end) (c.of-version.ensures ∙ ap (version_for c.config-config.result) c.record_has_fd.ensures) c.config-config.ensures.config refl c.len.ensures)
-    (Appends-then w0 w2 w3 (front ++ lines) last (Appends-then w0 w1 w2 front lines c.in_ok-write_all.ensures.bytes c.in_ok-write_lines.ensures) c.in_ok-write_all-2.ensures.bytes)
+    (Appends-trans w0 w2 w3 (front ++ lines) last (Appends-trans w0 w1 w2 front lines c.in_ok-write_all.ensures.bytes c.in_ok-write_lines.ensures) c.in_ok-write_all-2.ensures.bytes)

@@ -2,10 +2,10 @@ use Rattle.can_record.proofs.Whole.{has_version, nothing_wrong, not_both, one_fi
 use Rattle.can_record.proofs.text_laws.a_text_is_at_fault_in_one_way.Goals as goal
 
 pub returns-clause-whole : goal.returns-clause-whole
-returns-clause-whole c = λ text n d es is wrong. nothing_wrong text n d es is.0 is.1 wrong
+returns-clause-whole c = λ text n is wrong. nothing_wrong text n is.0 is.1 is.2 wrong
 
 pub returns-clause-first : goal.returns-clause-first
-returns-clause-first c = has_version
+returns-clause-first c = λ text is none. has_version text is.0 is.1 is.2 none
 
 pub returns-clause-version : goal.returns-clause-version
 returns-clause-version c = not_both

@@ -13,7 +13,7 @@ whole : (c : After-drop-text) → HasText c.args.kept.now.config (reverse c.args
 whole c = has_text c.args.kept.now.config (reverse c.args.kept.now.history) (subst (HasBusLine version.Three) c.config.ensures.config c.hold_config.ensures) c.hold_lines.ensures
 
 same : (c : After-drop-text) → (c.in-Ok.read.config ≡ c.args.kept.now.config) × (reverse c.in-Ok.read.history ≡ reverse c.args.kept.now.history)
-same c = c.in-Ok.ensures.back c.args.kept.now.config (reverse c.args.kept.now.history) (whole c) (c.deref.ensures.value ∙ c.in_ok-text.ensures)
+same c = c.in-Ok.ensures.back c.args.kept.now.config (reverse c.args.kept.now.history) (whole c, c.deref.ensures.value ∙ c.in_ok-text.ensures)
 
 same_list : (xs ys : List Entry) → reverse xs ≡ reverse ys → xs ≡ ys
 same_list xs ys e = sym (reverse-reverse xs) ∙ ap reverse e ∙ reverse-reverse ys

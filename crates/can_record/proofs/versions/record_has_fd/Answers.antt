@@ -1,4 +1,4 @@
-use Rattle.std.proofs.Common.{◌∙◌, Some, ap, reverse, sym}
+use Rattle.std.proofs.Common.{◌∙◌, ap, reverse, sym}
 use Rattle.std.specs.Option.{option_map}
 use Rattle.can_packed.specs.Stored.{entry_stored}
 use Rattle.can_record.proofs.Versioning.{fd_here, none_more}
