@@ -1,5 +1,5 @@
 -- A piece that asks for one frame to be sent: its turn sends the frame.
-use Rattle.std.proofs.Common.{◌≡◌, ◌≢◌, ℕ, List, [], ◌∷◌, ◌++◌, Option, Result, Ok, Err, false, refl, sym, ap, subst, ◌∙◌}
+use Rattle.std.proofs.Common.{◌≡◌, ℕ, List, [], ◌∷◌, Option, Result, Ok, Err, false, refl, sym, ap, subst, ◌∙◌}
 use Rattle.std.specs.Prelude.{OnOk}
 use Rattle.std.proofs.lemmas.List.{append-nil}
 use Rattle.can_frame.specs.Frames.{CanFrame}
@@ -16,8 +16,8 @@ use Rattle.can_dialog.specs.declared.stages.RawSocket.{RawSocket}
 use Rattle.can_dialog.specs.declared.stages.Dialog.{Dialog}
 use Rattle.can_dialog.specs.Calls.{Call, Reply}
 use Rattle.can_dialog.specs.Plans.{Plan, Plays}
-use Rattle.can_dialog.specs.Turns.{mode_of, answering, doing, unless_over, sending, turn, ending}
-use Rattle.can_dialog.specs.Sessions.{Turns, Wrote, Says, Cut}
+use Rattle.can_dialog.specs.Turns.{mode_of, answering, doing, unless_over, sending, turn}
+use Rattle.can_dialog.specs.Sessions.{Turns, Wrote, Says}
 
 sends : (moment : ℕ) (d : Dialog) (raw : RawSocket) (inside : List ℕ) (frame : CanFrame) → d.stage ≡ Raw raw → reading mode.Raw (words_of inside) ≡ Ok (command.Send frame) → turn false moment d (Message inside) ≡ sending d raw frame
 sends moment d raw inside frame at reads =

@@ -1,8 +1,7 @@
 -- The turns of one item more, and of two lists one after the other.
-use Rattle.std.proofs.Common.{◌≡◌, ℕ, Bool, List, [], ◌∷◌, ◌++◌, refl, sym, ap, subst, ◌∙◌, append_assoc, ◌+◌, ◌<◌, length, take, get_or, Option, Some, None, Result, Ok, Err, false}
+use Rattle.std.proofs.Common.{◌≡◌, ℕ, Bool, List, [], ◌∷◌, ◌++◌, refl, sym, ap, subst, ◌∙◌, append_assoc, ◌+◌, ◌<◌, length, take, get_or, Result, Ok, Err, false}
 use Rattle.std.specs.Prelude.{OnOk}
 use Rattle.std.specs.Result.{is_err}
-use Rattle.std.specs.Io.KnownBytes.{Appends}
 use Rattle.std.proofs.lemmas.List.{append-nil, take_more}
 use Rattle.can_proto.specs.declared.messages.Incoming.{Incoming}
 use Rattle.can_dialog.specs.declared.stages.Dialog.{Dialog}

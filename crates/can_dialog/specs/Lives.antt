@@ -7,7 +7,7 @@ use Rattle.can_dialog.specs.declared.stages.Dialog.{Dialog}
 use Rattle.can_dialog.specs.Calls.{Call, Reply}
 use Rattle.can_dialog.specs.Plans.{Plays}
 use Rattle.can_dialog.specs.Turns.{turn, ending, delivery, greeting}
-use Rattle.can_dialog.specs.Sessions.{Turns}
+use Rattle.can_dialog.specs.Sessions.{TakesTurns}
 
 -- The whole of a session: its turns, and the calls that they come of.
 
@@ -47,7 +47,7 @@ Lives {P} step d _ _ p q text after = ⊥
 -- what a call does and says whose text reaches the client, from the text kept before
 abbrev pub CallDoes : {P : Type 0} → (P → (call : Call) → Reply call → P → Type 0) → Dialog → List ℕ → Act (List ℕ) → P → P → List ℕ → Dialog → Type 0
 CallDoes {P} step d kept Greet p q text after = (q ≡ p) × (text ≡ first_text d.stage) × (after ≡ d)
-CallDoes {P} step d kept (Hear moment piece) p q text after = (forgotten : List Bool) × Turns step moment d forgotten (messages_of (kept ++ piece)) p q text after
+CallDoes {P} step d kept (Hear moment piece) p q text after = TakesTurns step moment d (messages_of (kept ++ piece)) p q text after
 CallDoes {P} step d kept Deliver p q text after = (more : Bool) × Plays step (delivery d.stage) p q text more × (after ≡ d)
 CallDoes {P} step d kept End p q text after = Plays step (ending d.stage d) p q text after
 

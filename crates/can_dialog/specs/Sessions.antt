@@ -1,15 +1,16 @@
 use Rattle.std.specs.Prelude.{◌≡◌, ◌≢◌, ℕ, Bool, List, [], ◌∷◌, ◌++◌, count_by, Option}
 use Rattle.std.specs.Io.KnownBytes.{Appends}
 use Rattle.can_proto.specs.declared.messages.Incoming.{Incoming}
+use Rattle.can_proto.specs.declared.answers.Answer.{Answer}
 use Rattle.can_proto.specs.Messages.{is_open_mark, messages_of, kept_of}
 use Rattle.can_dialog.specs.declared.stages.Stage.{Stage}
-use Rattle.can_dialog.specs.declared.stages.Stage.TheVariants.{Raw, Ended}
+use Rattle.can_dialog.specs.declared.stages.Stage.TheVariants.{NoBus, Raw, Ended}
 use Rattle.can_dialog.specs.declared.stages.RawSocket.{RawSocket}
 use Rattle.can_frame.specs.Frames.{CanFrame}
 use Rattle.can_dialog.specs.declared.stages.Dialog.{Dialog}
 use Rattle.can_dialog.specs.Calls.{Call, Reply}
-use Rattle.can_dialog.specs.Plans.{Plays}
-use Rattle.can_dialog.specs.Turns.{turn, at_stage, sending, ending, delivery}
+use Rattle.can_dialog.specs.Plans.{Plan, Plays}
+use Rattle.can_dialog.specs.Turns.{voiced, turn, at_stage, sending, ending, delivery}
 
 -- What a session says, over any port.
 
@@ -17,6 +18,10 @@ use Rattle.can_dialog.specs.Turns.{turn, at_stage, sending, ending, delivery}
 pub record SessionState : Type 0 where
   pub kept : List ℕ
   pub dialog : Dialog
+
+-- a session at its start, whose socket is to hold this many items
+abbrev pub beginning : ℕ → SessionState
+beginning capacity = record { kept = []; dialog = record { capacity = capacity; stage = NoBus } }
 
 -- the session is over
 abbrev pub IsSessionOver : SessionState → Type 0
@@ -31,6 +36,18 @@ abbrev pub IsNotRaw : Stage → Type 0
 IsNotRaw (Raw raw) = ⊥
 IsNotRaw _ = Unit {0}
 
+-- the port goes through a plan, and this is the reply to the client, if there is one
+abbrev pub Replies : {P : Type 0} → (P → (call : Call) → Reply call → P → Type 0) → Plan Dialog → P → P → Option Answer → Dialog → Type 0
+Replies {P} step plan p q answer after = Plays step plan p q (voiced answer) after
+
+-- the turn of one item, and the reply to it, if there is one; memory may be refused while its command is read
+abbrev pub TakesTurn : {P : Type 0} → (P → (call : Call) → Reply call → P → Type 0) → ℕ → Dialog → Incoming → P → P → Option Answer → Dialog → Type 0
+TakesTurn {P} step moment d item p q answer after = (forgot : Bool) × Replies step (turn forgot moment d item) p q answer after
+
+-- the session ends over the port, and says nothing
+abbrev pub Finishes : {P : Type 0} → (P → (call : Call) → Reply call → P → Type 0) → Dialog → P → P → Dialog → Type 0
+Finishes {P} step d p q after = Plays step (ending d.stage d) p q [] after
+
 -- the turns of items, one after another, with the places where memory was refused while a command was read
 abbrev pub Turns : {P : Type 0} → (P → (call : Call) → Reply call → P → Type 0) → ℕ → Dialog → List Bool → List Incoming → P → P → List ℕ → Dialog → Type 0
 Turns {P} step moment d [] [] p q text after = (q ≡ p) × (text ≡ []) × (after ≡ d)
@@ -38,6 +55,10 @@ Turns {P} step moment d (forgot ∷ more) (item ∷ items) p q text after =
     (first : List ℕ) × (mid : Dialog) × (port : P) × (others : List ℕ)
     × Plays step (turn forgot moment d item) p port first mid × Turns step moment mid more items port q others after × (text ≡ first ++ others)
 Turns {P} step moment d _ _ p q text after = ⊥
+
+-- the turns of items, one after another; memory may be refused while a command is read
+abbrev pub TakesTurns : {P : Type 0} → (P → (call : Call) → Reply call → P → Type 0) → ℕ → Dialog → List Incoming → P → P → List ℕ → Dialog → Type 0
+TakesTurns {P} step moment d items p q text after = (forgotten : List Bool) × Turns step moment d forgotten items p q text after
 
 -- a writer takes a text; an empty text leaves it as it is
 pub record Wrote {W : Type 0} (contents : W → Option (List ℕ)) (old : W) (text : List ℕ) (new : W) : Type 0 where
@@ -59,7 +80,7 @@ pub record Cut {P : Type 0} (step : P → (call : Call) → Reply call → P →
   pub port : P
   pub some : text ≢ []
   pub turns : Turns step moment before forgotten items p port text mid
-  pub ends : Plays step (ending mid.stage mid) port q [] after
+  pub ends : Finishes step mid port q after
 
 -- a frame is sent over the port, and the writer takes what is said
 abbrev pub Sends : {P W : Type 0} → (P → (call : Call) → Reply call → P → Type 0) → (W → Option (List ℕ)) → Dialog → RawSocket → CanFrame → P → P → W → W → Dialog → Type 0
@@ -69,7 +90,7 @@ Sends {P} {W} step contents before raw frame p q out new after = (text : List �
 abbrev pub SendCut : {P : Type 0} → (P → (call : Call) → Reply call → P → Type 0) → Dialog → RawSocket → CanFrame → P → P → Dialog → Type 0
 SendCut {P} step before raw frame p q after =
     (text : List ℕ) × (mid : Dialog) × (port : P) × (text ≢ [])
-    × Plays step (sending before raw frame) p port text mid × Plays step (ending mid.stage mid) port q [] after
+    × Plays step (sending before raw frame) p port text mid × Finishes step mid port q after
 
 -- one delivery over the port, and the writer takes its text; `more`: it was an item
 pub record Delivers {P W : Type 0} (step : P → (call : Call) → Reply call → P → Type 0) (contents : W → Option (List ℕ)) (stage : Stage) (p q : P) (out new : W) (more : Bool) : Type 0 where
@@ -84,7 +105,7 @@ pub record DeliveryCut {P : Type 0} (step : P → (call : Call) → Reply call �
   pub port : P
   pub some : text ≢ []
   pub plays : Plays step (delivery before.stage) p port text more
-  pub ends : Plays step (ending before.stage before) port q [] after
+  pub ends : Finishes step before port q after
 
 -- pieces are fed one after another, from the text kept before
 abbrev pub Feeds : {P : Type 0} → (P → (call : Call) → Reply call → P → Type 0) → ℕ → Dialog → List ℕ → List (List ℕ) → P → P → List ℕ → Dialog → Type 0

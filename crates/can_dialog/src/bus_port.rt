@@ -67,7 +67,8 @@ impl<T: BoundedQueue<Pending>, R: BoundedQueue<Received>, A: Arbiter> BusPort<T,
     /// Tries the frame that wins the bus, under these faults, if a live interface has one to send, and
     /// restarts the interfaces whose time it is. Refusal: `RecordFull`.
     pub fn attempt(&mut self, moment: Moment, verdict: Verdict) -> Result<Attempt, Refusal>
-        ensures answer { Answers told_attempt self.old.journal (event.Attempt moment verdict) result self.new.journal }
+        ensures answer { Answers told_attempt self.old.journal (event.Attempt moment verdict)
+            result self.new.journal }
         ensures names { self.new.names ≡ self.old.names }
     {
         self.bus.attempt(moment, verdict)

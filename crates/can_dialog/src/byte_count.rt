@@ -18,7 +18,7 @@ pub fn count_of(text: &[u8], mark: u8) -> usize
     count
 }
 
-/// The same for few bytes. Branch-free, so that it vectorises.
+/// How many of these bytes a text of at most 128 has. Branch-free, so that it vectorises.
 #[tactic(auto, using(crate::proofs::Counts::counted_more))]
 fn count_in_block(block: &[u8], mark: u8) -> u8
     requires { length block.now ≤ 128 }

@@ -1,7 +1,7 @@
 ghost use Rattle.std.specs.Prelude.{◌≡◌, Some};
 ghost use Rattle.can_dialog.specs.Calls.{cause_of_port};
-ghost use Rattle.can_dialog.specs.Plans.{Plays};
-ghost use Rattle.can_dialog.specs.Turns.{voiced, told as told_of, sending, looking_up, closing, doing, doing_unopened, doing_opened, doing_raw};
+ghost use Rattle.can_dialog.specs.Sessions.{Replies};
+ghost use Rattle.can_dialog.specs.Turns.{told as told_of, sending, looking_up, closing, doing, doing_unopened, doing_opened, doing_raw};
 
 use crate::port::{Port, PortRefusal};
 use crate::stages::{Dialog, RawSocket, Stage};
@@ -28,7 +28,7 @@ fn told(outcome: Result<(), PortRefusal>) -> Option<Answer>
 
 /// A command before an interface is opened.
 fn do_unopened<P: Port>(dialog: &mut Dialog, command: &Command, port: &mut P) -> Option<Answer>
-    ensures { Plays P.step (doing_unopened dialog.old command.now) port.old port.new (voiced result) dialog.new }
+    ensures { Replies P.step (doing_unopened dialog.old command.now) port.old port.new result dialog.new }
 {
     match command {
         Command::Echo => Some(Answer::Echo),
@@ -50,7 +50,7 @@ fn do_opened<P: Port>(
     command: &Command,
     port: &mut P,
 ) -> Option<Answer>
-    ensures { Plays P.step (doing_opened dialog.old iface command.now) port.old port.new (voiced result) dialog.new }
+    ensures { Replies P.step (doing_opened dialog.old iface command.now) port.old port.new result dialog.new }
 {
     match command {
         Command::Echo => Some(Answer::Echo),
@@ -71,7 +71,7 @@ fn do_opened<P: Port>(
 
 /// Sends a frame: only a refusal is reported.
 pub fn send<P: Port>(dialog: Dialog, raw: RawSocket, frame: Frame, port: &mut P) -> Option<Answer>
-    ensures { Plays P.step (sending dialog raw frame) port.old port.new (voiced result) dialog }
+    ensures { Replies P.step (sending dialog raw frame) port.old port.new result dialog }
 {
     match port.send(raw.socket, frame) {
         Ok(_) => None,
@@ -81,7 +81,7 @@ pub fn send<P: Port>(dialog: Dialog, raw: RawSocket, frame: Frame, port: &mut P)
 
 /// The counts of the socket and of its interface.
 fn look_up<P: Port>(dialog: Dialog, raw: RawSocket, port: &mut P) -> Option<Answer>
-    ensures { Plays P.step (looking_up dialog raw) port.old port.new (voiced result) dialog }
+    ensures { Replies P.step (looking_up dialog raw) port.old port.new result dialog }
 {
     let Some(socket) = port.socket_stats(raw.socket) else {
         return refused(PortRefusal::Bus(Refusal::NoSocket));
@@ -94,7 +94,7 @@ fn look_up<P: Port>(dialog: Dialog, raw: RawSocket, port: &mut P) -> Option<Answ
 
 /// The socket is closed, and the session is over.
 fn close<P: Port>(dialog: &mut Dialog, raw: RawSocket, port: &mut P) -> Option<Answer>
-    ensures { Plays P.step (closing dialog.old raw) port.old port.new (voiced result) dialog.new }
+    ensures { Replies P.step (closing dialog.old raw) port.old port.new result dialog.new }
 {
     match port.close(raw.socket) {
         Ok(closed) => {
@@ -113,7 +113,7 @@ fn do_raw<P: Port>(
     moment: Moment,
     port: &mut P,
 ) -> Option<Answer>
-    ensures { Plays P.step (doing_raw moment dialog.old raw command) port.old port.new (voiced result) dialog.new }
+    ensures { Replies P.step (doing_raw moment dialog.old raw command) port.old port.new result dialog.new }
 {
     match command {
         Command::Echo => Some(Answer::Echo),
@@ -140,7 +140,8 @@ pub fn carry_out<P: Port>(
     moment: Moment,
     port: &mut P,
 ) -> Option<Answer>
-    ensures { Plays P.step (doing moment dialog.old dialog.old.stage command) port.old port.new (voiced result) dialog.new }
+    ensures { Replies P.step (doing moment dialog.old dialog.old.stage command)
+        port.old port.new result dialog.new }
 {
     let stage = dialog.stage;
     match &stage {

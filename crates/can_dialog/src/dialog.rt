@@ -1,6 +1,4 @@
-ghost use Rattle.std.specs.Prelude.{◌≡◌, Bool, []};
-ghost use Rattle.can_dialog.specs.Plans.{Plays};
-ghost use Rattle.can_dialog.specs.Turns.{voiced, turn, ending};
+ghost use Rattle.can_dialog.specs.Sessions.{TakesTurn, Finishes};
 
 use crate::commands::carry_out;
 use crate::port::Port;
@@ -17,7 +15,7 @@ pub fn take_turn<P: Port>(
     moment: Moment,
     port: &mut P,
 ) -> Option<Answer>
-    ensures { (forgot : Bool) × Plays P.step (turn forgot moment dialog.old item.now) port.old port.new (voiced result) dialog.new }
+    ensures { TakesTurn P.step moment dialog.old item.now port.old port.new result dialog.new }
 {
     if let Stage::Ended = dialog.stage {
         return None;
@@ -35,7 +33,7 @@ pub fn take_turn<P: Port>(
 
 /// The end of a session: a raw socket is closed, whatever the port replies.
 pub fn finish<P: Port>(dialog: &mut Dialog, port: &mut P)
-    ensures { Plays P.step (ending dialog.old.stage dialog.old) port.old port.new [] dialog.new }
+    ensures { Finishes P.step dialog.old port.old port.new dialog.new }
 {
     if let Stage::Raw(raw) = dialog.stage {
         let _ = port.close(raw.socket);

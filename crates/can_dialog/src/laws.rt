@@ -1,7 +1,7 @@
 ghost use Rattle.std.specs.Prelude.{◌≡◌, ◌↔◌, ℕ, Bool, List, [], flat_map};
 ghost use Rattle.can_proto.specs.Messages.{messages_of};
 ghost use Rattle.can_dialog.specs.declared.stages.Dialog.{Dialog};
-ghost use Rattle.can_dialog.specs.Sessions.{Turns, Feeds};
+ghost use Rattle.can_dialog.specs.Sessions.{TakesTurns, Feeds};
 ghost use Rattle.can_dialog.specs.Lives.{Act, Lives, IsCalled, turns_of, heard_in};
 
 use crate::port::Port;
@@ -13,7 +13,11 @@ use can_proto::laws::every_cut_gives_the_same_messages;
 /// pieces: pieces fed one after another can lead a port and a session somewhere, with some text, exactly
 /// where the whole stream fed at once can.
 pub fn every_cut_says_the_same<P: Port>()
-    ensures { (moment : ℕ) (before after : Dialog) (pieces : List (List ℕ)) (p q : P) (text : List ℕ) → Feeds P.step moment before [] pieces p q text after ↔ ((forgotten : List Bool) × Turns P.step moment before forgotten (messages_of (flat_map (λ piece. piece) pieces)) p q text after) }
+    ensures { (moment : ℕ) (before after : Dialog) (pieces : List (List ℕ))
+        (p q : P) (text : List ℕ) →
+        Feeds P.step moment before [] pieces p q text after
+        ↔ TakesTurns P.step moment before (messages_of (flat_map (λ piece. piece) pieces))
+        p q text after }
 {
     every_cut_gives_the_same_messages();
 }
@@ -22,8 +26,12 @@ pub fn every_cut_says_the_same<P: Port>()
 /// turns are those of the calls made, and what is heard in them is what the whole stream gives, however its
 /// bytes were cut into pieces.
 pub fn calls_come_to_turns<P: Port>()
-    ensures texts { (before after : Dialog) (calls : List (Act (List ℕ))) (p q : P) (text : List ℕ) → IsCalled P.step before [] calls p q text after → (forgotten : List Bool) × Lives P.step before forgotten (turns_of [] calls) p q text after }
-    ensures heard { (calls : List (Act (List ℕ))) → heard_in (turns_of [] calls) ≡ messages_of (flat_map (λ piece. piece) (heard_in calls)) }
+    ensures texts { (before after : Dialog) (calls : List (Act (List ℕ)))
+        (p q : P) (text : List ℕ) →
+        IsCalled P.step before [] calls p q text after →
+        (forgotten : List Bool) × Lives P.step before forgotten (turns_of [] calls) p q text after }
+    ensures heard { (calls : List (Act (List ℕ))) →
+        heard_in (turns_of [] calls) ≡ messages_of (flat_map (λ piece. piece) (heard_in calls)) }
 {
     every_cut_gives_the_same_messages();
 }

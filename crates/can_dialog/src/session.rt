@@ -1,8 +1,7 @@
 ghost use Rattle.std.specs.Prelude.{◌≡◌, ◌≢◌, ◌⊎◌, ◌+◌, ◌*◌, ◌≤◌, ◌++◌, ◌↔◌, [], List, Bool, true, false, length, vec_capacity, IfOk, OnOk, OnErr};
 ghost use Rattle.can_proto.specs.Messages.{messages_of, kept_of};
-ghost use Rattle.can_dialog.specs.Plans.{Plays};
-ghost use Rattle.can_dialog.specs.Turns.{ending, greeting};
-ghost use Rattle.can_dialog.specs.Sessions.{IsSessionOver, ended_session, IsNotRaw, Turns, Says, Cut, Wrote, Sends, SendCut, Delivers, DeliveryCut};
+ghost use Rattle.can_dialog.specs.Turns.{greeting};
+ghost use Rattle.can_dialog.specs.Sessions.{IsSessionOver, beginning, ended_session, IsNotRaw, TakesTurns, Finishes, Says, Cut, Wrote, Sends, SendCut, Delivers, DeliveryCut};
 ghost use Rattle.can_dialog.specs.Deliveries.{Receives};
 
 use crate::commands::send;
@@ -67,7 +66,7 @@ fn take_turns<P: Port>(
 )
     requires empty { said.old.items ≡ [] }
     requires room { length items.now * 256 ≤ vec_capacity said.old }
-    ensures { (forgotten : List Bool) × Turns P.step moment dialog.old forgotten items.now port.old port.new said.new.items dialog.new }
+    ensures { TakesTurns P.step moment dialog.old items.now port.old port.new said.new.items dialog.new }
 {
     for item in items {
         if let Some(answer) = take_turn(dialog, alloc, item, moment, port) {
@@ -80,7 +79,7 @@ impl Session {
     /// A session that has just begun, whose socket is to hold `capacity` items. It takes the room for its
     /// reader.
     pub fn new(alloc: Global, capacity: u32) -> Result<Session, AllocError>
-        ensures { IfOk result (λ s. s ≡ record { kept = []; dialog = record { capacity = capacity; stage = Stage.NoBus } }) }
+        ensures { IfOk result (λ s. s ≡ beginning capacity) }
     {
         Ok(Session {
             reader: Reader::new(alloc)?,
@@ -141,11 +140,14 @@ impl Session {
         port: &mut P,
         out: &mut W,
     ) -> Result<(), SessionFault>
-        ensures said { OnOk result (Says P.step W.contents moment self.old.dialog (messages_of (self.old.kept ++ piece.now)) port.old port.new out.old out.new self.new.dialog) }
+        ensures said { OnOk result (Says P.step W.contents moment self.old.dialog
+            (messages_of (self.old.kept ++ piece.now)) port.old port.new out.old out.new self.new.dialog) }
         ensures keeps { OnOk result (self.new.kept ≡ kept_of (self.old.kept ++ piece.now)) }
         ensures ended { (result ≡ Err SessionFault.Ended) ↔ IsSessionOver self.old }
-        ensures nothing { (result ≡ Err SessionFault.Ended) ⊎ (result ≡ Err SessionFault.NoMemory) → (self.new ≡ self.old) × (port.new ≡ port.old) × (out.new ≡ out.old) }
-        ensures cut { result ≡ Err SessionFault.Write → Cut P.step moment self.old.dialog (messages_of (self.old.kept ++ piece.now)) port.old port.new self.new.dialog }
+        ensures nothing { (result ≡ Err SessionFault.Ended) ⊎ (result ≡ Err SessionFault.NoMemory) →
+            (self.new ≡ self.old) × (port.new ≡ port.old) × (out.new ≡ out.old) }
+        ensures cut { result ≡ Err SessionFault.Write → Cut P.step moment self.old.dialog
+            (messages_of (self.old.kept ++ piece.now)) port.old port.new self.new.dialog }
     {
         if let Stage::Ended = self.dialog.stage {
             return Err(SessionFault::Ended);
@@ -184,10 +186,12 @@ impl Session {
         port: &mut P,
         out: &mut W,
     ) -> Result<(), SessionFault>
-        ensures said { OnOk result (Sends P.step W.contents self.old.dialog raw frame port.old port.new out.old out.new self.new.dialog) }
+        ensures said { OnOk result (Sends P.step W.contents self.old.dialog raw frame
+            port.old port.new out.old out.new self.new.dialog) }
         ensures keeps { OnOk result (self.new.kept ≡ self.old.kept) }
         ensures faults { OnErr result (result ≡ Err SessionFault.Write) }
-        ensures cut { result ≡ Err SessionFault.Write → SendCut P.step self.old.dialog raw frame port.old port.new self.new.dialog }
+        ensures cut { result ≡ Err SessionFault.Write →
+            SendCut P.step self.old.dialog raw frame port.old port.new self.new.dialog }
     {
         let Some(answer) = send(self.dialog, raw, frame, port) else {
             return Ok(());
@@ -210,11 +214,16 @@ impl Session {
         port: &mut P,
         out: &mut W,
     ) -> Result<bool, SessionFault>
-        ensures said { IfOk result (λ more. Delivers P.step W.contents self.old.dialog.stage port.old port.new out.old out.new more × (self.new ≡ self.old)) }
+        ensures said { IfOk result (λ more. Delivers P.step W.contents self.old.dialog.stage
+            port.old port.new out.old out.new more) }
+        ensures same { OnOk result (self.new ≡ self.old) }
         ensures ended { (result ≡ Err SessionFault.Ended) ↔ IsSessionOver self.old }
-        ensures nothing { result ≡ Err SessionFault.Ended → (self.new ≡ self.old) × (port.new ≡ port.old) × (out.new ≡ out.old) }
+        ensures nothing { result ≡ Err SessionFault.Ended →
+            (self.new ≡ self.old) × (port.new ≡ port.old) × (out.new ≡ out.old) }
         ensures memory { result ≢ Err SessionFault.NoMemory }
-        ensures cut { result ≡ Err SessionFault.Write → DeliveryCut P.step self.old.dialog port.old port.new self.new.dialog × (self.new.kept ≡ self.old.kept) }
+        ensures cut { result ≡ Err SessionFault.Write →
+            DeliveryCut P.step self.old.dialog port.old port.new self.new.dialog }
+        ensures keeps { result ≡ Err SessionFault.Write → self.new.kept ≡ self.old.kept }
     {
         if let Stage::Ended = self.dialog.stage {
             return Err(SessionFault::Ended);
@@ -238,7 +247,8 @@ impl Session {
     /// Ends the session: a raw socket is closed, and where the port refuses that, the session is over all
     /// the same. Refusal: `Ended`.
     pub fn end<P: Port>(&mut self, port: &mut P) -> Result<(), SessionFault>
-        ensures done { OnOk result (Plays P.step (ending self.old.dialog.stage self.old.dialog) port.old port.new [] self.new.dialog × (self.new.kept ≡ self.old.kept)) }
+        ensures done { OnOk result (Finishes P.step self.old.dialog port.old port.new self.new.dialog) }
+        ensures keeps { OnOk result (self.new.kept ≡ self.old.kept) }
         ensures ended { (result ≡ Err SessionFault.Ended) ↔ IsSessionOver self.old }
         ensures nothing { result ≡ Err SessionFault.Ended → (self.new ≡ self.old) × (port.new ≡ port.old) }
         ensures faults { OnErr result (result ≡ Err SessionFault.Ended) }

@@ -18,10 +18,10 @@ use Rattle.can_proto.specs.declared.faults.ProtoFault.TheVariants.{BadByte}
 use Rattle.can_proto.specs.declared.verbs.Verb.{Verb}
 use Rattle.can_proto.specs.declared.verbs.Verb.TheVariants as verb
 use Rattle.can_proto.specs.Words.{is_blank, front, words_after, words_of}
-use Rattle.can_proto.specs.Verbs.{stands_in}
+use Rattle.can_proto.specs.Verbs.{stands_in, mode_has}
 use Rattle.can_frame.specs.Numbers.{hex_digit, in_base, one_more, number_after, number_in}
 use Rattle.can_proto.specs.Commands.{◌>>=◌, or_fault, short_id, long_id, id_of, length_of, fd_length_of, bytes_of, send_of, send_fd_of, remote_of, filter_of, filters_of, set_of, mask_of, switch_of, open_of, arguments_of, command_of, reading}
-use Rattle.can_proto.specs.CommandSpelling.{flag_text, frame_words, filter_words, option_words, command_words, command_spelling, verb_of, verb_of_payload, verb_of_option, IsFilter, IsOption, IsCommand}
+use Rattle.can_proto.specs.CommandSpelling.{flag_text, frame_words, filter_words, option_words, command_words, command_spelling, IsFilter, IsOption, IsCommand}
 use Rattle.can_proto.proofs.Cuts.{clear, clear_parts}
 use Rattle.can_proto.proofs.Numerals.{IsMark, clear-digits, clear-decimal}
 use Rattle.can_frame.proofs.Numerals.{left, value-digits, value-decimal}
@@ -272,7 +272,7 @@ tested false x y h = absurd cc
 said : (mode : Mode) (v : Verb) (words : List (List ℕ)) (c : Command) → IsTrue (stands_in v mode) → arguments_of v words ≡ Ok c → command_of mode words (Some v) ≡ Ok c
 said mode v words c may h = tested (stands_in v mode) (arguments_of v words) _ may ∙ h
 
-frame-again : (mode : Mode) (id : Identifier) (p : Payload) → IsIdentifier id → IsPayload p → IsTrue (stands_in (verb_of_payload p) mode) → reading mode (frame_words id p) ≡ Ok (Send (record { id = id; payload = p }))
+frame-again : (mode : Mode) (id : Identifier) (p : Payload) → IsIdentifier id → IsPayload p → IsTrue (mode_has mode (frame_words id p)) → reading mode (frame_words id p) ≡ Ok (Send (record { id = id; payload = p }))
 unfolding arguments_of
 frame-again mode id (Data bytes) is_id h may =
     said mode verb.Send _ _ may (send-again (id_text id) (decimal (length bytes)) (map (digits 16 2) bytes) id (length bytes) bytes (id-again id.extended id.number is_id) (length-again (length bytes) h.0) (length-map bytes (digits 16 2)) (bytes-again bytes h.1))
@@ -281,7 +281,7 @@ frame-again mode id (Fd bytes) is_id h may =
 frame-again mode id (Remote len) is_id h may =
     said mode verb.SendRtr _ _ may (remote-again (id_text id) (decimal len) id len (id-again id.extended id.number is_id) (length-again len h))
 
-option-again : (mode : Mode) (o : Opt) → IsOption o → IsTrue (stands_in (verb_of_option o) mode) → reading mode (option_words o) ≡ Ok (SetOption o)
+option-again : (mode : Mode) (o : Opt) → IsOption o → IsTrue (mode_has mode (option_words o)) → reading mode (option_words o) ≡ Ok (SetOption o)
 unfolding arguments_of
 option-again mode (opt.Loopback on) h may = said mode verb.Loopback _ _ may (ap (λ (r : Result Bool ProtoFault). r >>= λ x. Ok (SetOption (opt.Loopback x))) (flag-again on))
 option-again mode (opt.RecvOwn on) h may = said mode verb.RecvOwn _ _ may (ap (λ (r : Result Bool ProtoFault). r >>= λ x. Ok (SetOption (opt.RecvOwn x))) (flag-again on))
@@ -289,7 +289,7 @@ option-again mode (opt.Join on) h may = said mode verb.Join _ _ may (ap (λ (r :
 option-again mode (opt.FdFrames on) h may = said mode verb.FdFrames _ _ may (ap (λ (r : Result Bool ProtoFault). r >>= λ x. Ok (SetOption (opt.FdFrames x))) (flag-again on))
 option-again mode (opt.ErrMask mask) h may = said mode verb.ErrMask _ _ may (mask-again (digits 16 8 mask) mask (word-again mask h))
 
-command-again : (mode : Mode) (c : Command) → IsCommand c → IsTrue (stands_in (verb_of c) mode) → reading mode (command_words c) ≡ Ok c
+command-again : (mode : Mode) (c : Command) → IsCommand c → IsTrue (mode_has mode (command_words c)) → reading mode (command_words c) ≡ Ok c
 unfolding arguments_of open_of
 command-again mode Echo h may = said mode verb.Echo [] Echo may refl
 command-again mode (Open name) h may = said mode verb.Open (name ∷ []) (Open name) may refl
@@ -303,8 +303,8 @@ command-again mode Status h may = said mode verb.Status [] Status may refl
 command-again mode Restart h may = said mode verb.Restart [] Restart may refl
 command-again mode Close h may = said mode verb.Close [] Close may refl
 
-pub read-back : (mode : Mode) (c : Command) → IsCommand c → IsTrue (stands_in (verb_of c) mode) → reading mode (words_of (command_spelling c)) ≡ Ok c
+pub read-back : (mode : Mode) (c : Command) → IsCommand c → IsTrue (mode_has mode (command_words c)) → reading mode (words_of (command_spelling c)) ≡ Ok c
 read-back mode c h may = ap (reading mode) (words-again (command_words c) (words-command c h)) ∙ command-again mode c h may
 
-pub read-spaced : (mode : Mode) (c : Command) → IsCommand c → IsTrue (stands_in (verb_of c) mode) → reading mode (words_of (32 ∷ command_spelling c ++ 32 ∷ [])) ≡ Ok c
+pub read-spaced : (mode : Mode) (c : Command) → IsCommand c → IsTrue (mode_has mode (command_words c)) → reading mode (words_of (32 ∷ command_spelling c ++ 32 ∷ [])) ≡ Ok c
 read-spaced mode c h may = ap (reading mode) (spaced-again (command_words c) (words-command c h)) ∙ command-again mode c h may

@@ -9,8 +9,6 @@ use Rattle.can_event.specs.declared.events.Opt.{Opt}
 use Rattle.can_event.specs.declared.events.Opt.TheVariants as opt
 use Rattle.can_proto.specs.declared.commands.Command.{Command}
 use Rattle.can_proto.specs.declared.commands.Command.TheVariants.{Echo, Open, Rawmode, Send, SetFilters, SetOption, ErrData, Stats, Status, Restart, Close}
-use Rattle.can_proto.specs.declared.verbs.Verb.{Verb}
-use Rattle.can_proto.specs.declared.verbs.Verb.TheVariants as verb
 use Rattle.can_proto.specs.Words.{front}
 
 -- How a client may write a command (socketcand's raw mode; filter and the options are own choice). Other spellings of it
@@ -56,34 +54,6 @@ command_words Close = codes "close" ∷ []
 -- a command's written spelling: its words with one space (32) between each two
 abbrev pub command_spelling : Command → List ℕ
 command_spelling command = join_with_byte 32 (command_words command)
-
--- data frames, remote frames and FD frames have a word each
-abbrev pub verb_of_payload : Payload → Verb
-verb_of_payload (Data bytes) = verb.Send
-verb_of_payload (Remote len) = verb.SendRtr
-verb_of_payload (Fd bytes) = verb.SendFd
-
--- each option has a word of its own
-abbrev pub verb_of_option : Opt → Verb
-verb_of_option (opt.Loopback on) = verb.Loopback
-verb_of_option (opt.RecvOwn on) = verb.RecvOwn
-verb_of_option (opt.Join on) = verb.Join
-verb_of_option (opt.ErrMask mask) = verb.ErrMask
-verb_of_option (opt.FdFrames on) = verb.FdFrames
-
--- what its first word asks for
-abbrev pub verb_of : Command → Verb
-verb_of Echo = verb.Echo
-verb_of (Open name) = verb.Open
-verb_of Rawmode = verb.Rawmode
-verb_of (Send frame) = verb_of_payload frame.payload
-verb_of (SetFilters filters) = verb.Filter
-verb_of (SetOption option) = verb_of_option option
-verb_of (ErrData on) = verb.ErrData
-verb_of Stats = verb.Stats
-verb_of Status = verb.Status
-verb_of Restart = verb.Restart
-verb_of Close = verb.Close
 
 -- one word: a byte at least, and no blank
 abbrev pub IsWord : List ℕ → Type 0

@@ -145,10 +145,17 @@ set_of (count_word ∷ words) = do
   count ← or_fault BadNumber (number_in 10 3 count_word)
   if nat_lt 512 count then Err TooManyFilters else if length words == count * 2 then filters_of words >>= (λ filters. Ok (SetFilters filters)) else Err BadCount
 
+-- the word of a command that takes one
+abbrev pub only : List (List ℕ) → Result (List ℕ) ProtoFault
+only (word ∷ []) = Ok word
+only _ = Err BadCount
+
 -- `errmask HEX`
 unfoldable pub mask_of : List (List ℕ) → Result Command ProtoFault
-mask_of (word ∷ []) = or_fault BadNumber (number_in 16 8 word) >>= λ mask. Ok (SetOption (opt.ErrMask mask))
-mask_of _ = Err BadCount
+mask_of words = do
+  word ← only words
+  mask ← or_fault BadNumber (number_in 16 8 word)
+  Ok (SetOption (opt.ErrMask mask))
 
 -- `0` or `1`
 abbrev pub flag_of : List ℕ → Option Bool
@@ -157,13 +164,11 @@ flag_of _ = None
 
 -- one flag and no word more
 unfoldable pub switch_of : List (List ℕ) → Result Bool ProtoFault
-switch_of (word ∷ []) = or_fault BadNumber (flag_of word)
-switch_of _ = Err BadCount
+switch_of words = only words >>= λ word. or_fault BadNumber (flag_of word)
 
 -- `open NAME`
 unfoldable pub open_of : List (List ℕ) → Result Command ProtoFault
-open_of (word ∷ []) = Ok (Open word)
-open_of _ = Err BadCount
+open_of words = only words >>= λ name. Ok (Open name)
 
 -- a command of one word
 abbrev pub alone : Command → List (List ℕ) → Result Command ProtoFault

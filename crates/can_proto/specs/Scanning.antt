@@ -1,4 +1,4 @@
-use Rattle.std.specs.Prelude.{ℕ, Bool, if◌then◌else◌, List, [], ◌∷◌, ◌++◌, ◌≡◌, ◌≤◌, take, drop}
+use Rattle.std.specs.Prelude.{ℕ, Bool, if◌then◌else◌, List, [], ◌∷◌, ◌++◌, ◌≡◌, ◌≤◌, length, take, drop}
 use Rattle.can_proto.specs.declared.messages.Incoming.{Incoming}
 use Rattle.can_proto.specs.declared.scanning.Place.{Place}
 use Rattle.can_proto.specs.declared.scanning.Place.TheVariants.{Outside, Carried, At}
@@ -27,3 +27,9 @@ ReadsUpTo held piece i place end before after next =
     (after ≡ before ++ messages_of (text_at held piece i place ++ drop i (take end piece)))
     × (text_at held piece end next ≡ kept_of (text_at held piece i place ++ drop i (take end piece)))
     × IsWithin next end
+
+-- a piece after the text kept gives these items, and leaves the run at its end begun there
+pub record Scans (kept held piece : List ℕ) (items : List Incoming) (place : Place) : Type 0 where
+  pub given : items ≡ messages_of (kept ++ piece)
+  pub keeps : text_at held piece (length piece) place ≡ kept_of (kept ++ piece)
+  pub within : IsWithin place (length piece)

@@ -49,3 +49,13 @@ stands_in Rawmode Opened = true
 stands_in OtherMode Opened = true
 stands_in _ Raw = true
 stands_in _ _ = false
+
+-- the mode has what a first word asks for
+abbrev pub has_verb : Mode → Option Verb → Bool
+has_verb mode None = false
+has_verb mode (Some verb) = stands_in verb mode
+
+-- the mode has the command that these words begin with
+abbrev pub mode_has : Mode → List (List ℕ) → Bool
+mode_has mode [] = false
+mode_has mode (word ∷ words) = has_verb mode (named word)

@@ -1,6 +1,7 @@
 ghost use Rattle.std.specs.Prelude.{◌≡◌};
+ghost use Rattle.std.specs.Result.{result_map_both};
 ghost use Rattle.can_proto.specs.Words.{words_of};
-ghost use Rattle.can_proto.specs.Commands.{Gives, GivesBut, takes_memory, mask_of, flag_of, switch_of, open_of, alone, arguments_of};
+ghost use Rattle.can_proto.specs.Commands.{Gives, GivesBut, takes_memory, only, mask_of, flag_of, switch_of, open_of, alone, arguments_of};
 
 use crate::commands::{Command, WantedName};
 use crate::faults::ProtoFault;
@@ -12,10 +13,9 @@ use can_event::Opt;
 use can_frame::read_hexadecimal;
 use std::alloc::Global;
 
-/// The words of `errmask HEX`.
-#[tactic(auto, unfolding(crate::specs::Commands::mask_of))]
-fn read_mask(rest: &[u8]) -> Result<Command, ProtoFault>
-    ensures { Gives result (mask_of (words_of rest.now)) }
+/// The word of a command that takes one.
+fn read_word(rest: &[u8]) -> Result<&[u8], ProtoFault>
+    ensures { Gives (result_map_both (λ word. word.now) (λ e. e) result) (only (words_of rest.now)) }
 {
     let Some((word, rest)) = next_word(rest) else {
         return Err(ProtoFault::BadCount);
@@ -23,7 +23,15 @@ fn read_mask(rest: &[u8]) -> Result<Command, ProtoFault>
     if next_word(rest).is_some() {
         return Err(ProtoFault::BadCount);
     }
-    match read_hexadecimal(word, 8) {
+    Ok(word)
+}
+
+/// The words of `errmask HEX`.
+#[tactic(auto, unfolding(crate::specs::Commands::mask_of))]
+fn read_mask(rest: &[u8]) -> Result<Command, ProtoFault>
+    ensures { Gives result (mask_of (words_of rest.now)) }
+{
+    match read_hexadecimal(read_word(rest)?, 8) {
         Some(mask) => Ok(Command::SetOption(Opt::ErrMask(mask))),
         None => Err(ProtoFault::BadNumber),
     }
@@ -45,13 +53,7 @@ fn read_flag(word: &[u8]) -> Option<bool>
 fn read_switch(rest: &[u8]) -> Result<bool, ProtoFault>
     ensures { Gives result (switch_of (words_of rest.now)) }
 {
-    let Some((word, rest)) = next_word(rest) else {
-        return Err(ProtoFault::BadCount);
-    };
-    if next_word(rest).is_some() {
-        return Err(ProtoFault::BadCount);
-    }
-    match read_flag(word) {
+    match read_flag(read_word(rest)?) {
         Some(on) => Ok(on),
         None => Err(ProtoFault::BadNumber),
     }
@@ -63,13 +65,7 @@ fn read_switch(rest: &[u8]) -> Result<bool, ProtoFault>
 fn read_open(alloc: Global, rest: &[u8]) -> Result<Command, ProtoFault>
     ensures { GivesBut takes_memory result (open_of (words_of rest.now)) }
 {
-    let Some((word, rest)) = next_word(rest) else {
-        return Err(ProtoFault::BadCount);
-    };
-    if next_word(rest).is_some() {
-        return Err(ProtoFault::BadCount);
-    }
-    match WantedName::copied(alloc, word) {
+    match WantedName::copied(alloc, read_word(rest)?) {
         Ok(name) => Ok(Command::Open(name)),
         Err(_) => Err(ProtoFault::NoMemory),
     }

@@ -4,9 +4,9 @@ ghost use Rattle.can_frame.specs.declared.items.Item.{Item as AnItem};
 ghost use Rattle.can_proto.specs.Messages.{messages_of, given_from, has_mark};
 ghost use Rattle.can_proto.specs.Causes.{cause_text};
 ghost use Rattle.can_proto.specs.Words.{words_of};
-ghost use Rattle.can_proto.specs.Verbs.{stands_in};
+ghost use Rattle.can_proto.specs.Verbs.{mode_has};
 ghost use Rattle.can_proto.specs.Commands.{reading};
-ghost use Rattle.can_proto.specs.CommandSpelling.{command_spelling, verb_of, IsCommand};
+ghost use Rattle.can_proto.specs.CommandSpelling.{command_spelling, command_words, IsCommand};
 ghost use Rattle.can_proto.specs.declared.commands.Mode.{Mode as AMode};
 ghost use Rattle.can_proto.specs.declared.commands.Command.{Command as ACommand};
 ghost use Rattle.can_proto.specs.Spelling.{item_text, reply_text, without_data, IsAnswer, AreAlike};
@@ -17,12 +17,16 @@ use crate::messages::Incoming;
 
 /// However a stream is cut into pieces, the calls of a reader together give what the whole stream gives.
 pub fn every_cut_gives_the_same_messages()
-    ensures { (pieces : List (List ℕ)) → given_from [] pieces ≡ messages_of (flat_map (λ piece. piece) pieces) }
+    ensures { (pieces : List (List ℕ)) →
+        given_from [] pieces ≡ messages_of (flat_map (λ piece. piece) pieces) }
 {}
 
 /// At most 1,024 bytes between marks, no mark among them, are a message. What follows is read by itself.
 pub fn bytes_between_marks_are_a_message()
-    ensures { (inside rest : List ℕ) → has_mark inside ≡ false → length inside ≤ 1024 → messages_of (codes "<" ++ inside ++ codes ">" ++ rest) ≡ Incoming.Message inside ∷ messages_of rest }
+    ensures { (inside rest : List ℕ) →
+        has_mark inside ≡ false → length inside ≤ 1024 →
+        messages_of (codes "<" ++ inside ++ codes ">" ++ rest)
+        ≡ Incoming.Message inside ∷ messages_of rest }
 {}
 
 /// No two causes have the same words.
@@ -45,10 +49,10 @@ pub fn texts_tell_items_apart()
 /// either side, as messages are written.
 pub fn written_commands_are_read()
     ensures alone { (mode : AMode) (c : ACommand) →
-        IsCommand c → IsTrue (stands_in (verb_of c) mode) →
+        IsCommand c → IsTrue (mode_has mode (command_words c)) →
         reading mode (words_of (command_spelling c)) ≡ Ok c }
     ensures spaced { (mode : AMode) (c : ACommand) →
-        IsCommand c → IsTrue (stands_in (verb_of c) mode) →
+        IsCommand c → IsTrue (mode_has mode (command_words c)) →
         reading mode (words_of (codes " " ++ command_spelling c ++ codes " ")) ≡ Ok c }
 {}
 

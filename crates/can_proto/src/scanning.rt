@@ -1,7 +1,7 @@
 ghost use Rattle.std.specs.Prelude.{◌≡◌, ◌≤◌, ◌<◌, ◌+◌, ◌++◌, ◌∷◌, [], true, false, length, take, drop, IfOk, slice_index};
 ghost use Rattle.can_proto.specs.Messages.{is_mark, has_mark, messages_of, kept_of, IsKept};
 ghost use Rattle.can_proto.specs.declared.messages.Incoming.TheVariants.{Message as Given};
-ghost use Rattle.can_proto.specs.Scanning.{text_at, text_of, IsWithin, ReadsUpTo};
+ghost use Rattle.can_proto.specs.Scanning.{text_at, text_of, IsWithin, ReadsUpTo, Scans};
 
 use crate::messages::{Incoming, Message};
 use std::alloc::{AllocError, Global};
@@ -156,9 +156,7 @@ pub fn scan(
     piece: &[u8],
 ) -> Result<(Vec<Incoming>, Place), AllocError>
     requires { IsKept (text_of is_open held.now) }
-    ensures given { IfOk result (λ r. r.0.items ≡ messages_of (text_of is_open held.now ++ piece.now)) }
-    ensures keeps { IfOk result (λ r. text_at held.now piece.now (length piece.now) r.1 ≡ kept_of (text_of is_open held.now ++ piece.now)) }
-    ensures within { IfOk result (λ r. IsWithin r.1 (length piece.now)) }
+    ensures { IfOk result (λ r. Scans (text_of is_open held.now) held.now piece.now r.0.items r.1) }
 {
     let mut out = Vec::new(alloc);
     let mut place = if is_open {

@@ -19,7 +19,7 @@ fn read_id(word: &[u8]) -> Result<CanId, ProtoFault>
     id_in(word).ok_or(ProtoFault::BadId)
 }
 
-/// The same, or nothing.
+/// The identifier that a word spells, if it spells one.
 #[tactic(auto, unfolding(crate::specs::Commands::id_of))]
 fn id_in(word: &[u8]) -> Option<CanId>
     ensures { id_of word.now ≡ ok_or result ProtoFault.BadId }
@@ -33,7 +33,7 @@ fn id_in(word: &[u8]) -> Option<CanId>
     }
 }
 
-/// The same of 8 digits.
+/// The identifier of 29 bits that a word of 8 digits spells, if it spells one.
 #[tactic(auto, unfolding(crate::specs::Commands::id_of))]
 fn long_id(word: &[u8]) -> Option<CanId>
     requires { length word.now ≡ 8 }
@@ -107,7 +107,7 @@ fn read_bytes<const N: usize>(rest: &[u8], len: usize) -> Result<[u8; N], ProtoF
     spelled_bytes::<N>(rest, len)
 }
 
-/// The same, wherever the words are in the text.
+/// The bytes of `read_bytes`, where the words may have any blanks between them.
 #[inline(never)]
 fn spelled_bytes<const N: usize>(rest: &[u8], len: usize) -> Result<[u8; N], ProtoFault>
     requires small { len ≤ N }
@@ -210,7 +210,7 @@ fn usual_id(text: &[u8]) -> Option<(CanId, &[u8])>
     }
 }
 
-/// The same of eight digits.
+/// The identifier of eight digits that the first word spells, and what follows one space after it.
 fn usual_long_id(text: &[u8]) -> Option<(CanId, &[u8])>
     ensures { IfSome result (λ found. IsFirstId found.0 found.1.now text.now) }
 {

@@ -1,7 +1,7 @@
-use Rattle.std.proofs.Common.{◌≡◌, ◌+◌, ◌++◌, List, ℕ, take, length, sym, ap, ◌∙◌, arith}
+use Rattle.std.proofs.Common.{◌≡◌, ◌+◌, ◌++◌, List, ℕ, take, length, sym, ap, subst, ◌∙◌, arith}
 use Rattle.std.proofs.lemmas.List.{take_all}
 use Rattle.can_proto.specs.Messages.{messages_of, kept_of}
-use Rattle.can_proto.specs.Scanning.{text_at, text_of}
+use Rattle.can_proto.specs.Scanning.{text_at, text_of, IsWithin}
 use Rattle.can_proto.proofs.Steps.{starts-carried, starts-outside, nothing-yet, parts, past-given, past-keeps, kept_by}
 use Rattle.can_proto.proofs.scanning.scan.Goals as goal
 use Rattle.can_proto.proofs.scanning.scan.Goals.{then-is_open, else-is_open}
@@ -34,21 +34,20 @@ at_mark-requires-clause-was c =
     let keeps = past-keeps text (take c.loop-i.i c.args.piece.now) _ _ t _ (parts c.args.piece.now c.loop-i.i c.next_mark-end.result c.next_mark-end.ensures.after) c.loop-i.invariant.keeps c.in_ok-place.ensures.1 in
     kept_by _ (text ++ take c.next_mark-end.result c.args.piece.now) keeps
 
-pub returns-then-end-piece-clause-given : goal.returns-then-end-piece-clause-given
-returns-then-end-piece-clause-given c =
+pub returns-then-end-piece : goal.returns-then-end-piece
+returns-then-end-piece c =
     let text = text_of c.args.is_open c.args.held.now in
     let t = text_at c.args.held.now c.args.piece.now c.loop-i.i c.loop-i.place in
-    past-given text (take c.loop-i.i c.args.piece.now) _ _ t _ _ (parts c.args.piece.now c.loop-i.i c.next_mark-end.result c.next_mark-end.ensures.after) c.loop-i.invariant.given c.loop-i.invariant.keeps c.in_ok-place.ensures.0
-    ∙ ap (λ (x : List ℕ). messages_of (text ++ x)) (take_all c.next_mark-end.result c.args.piece.now (omega arith))
-
-pub returns-then-end-piece-clause-keeps : goal.returns-then-end-piece-clause-keeps
-returns-then-end-piece-clause-keeps c =
-    let text = text_of c.args.is_open c.args.held.now in
-    let t = text_at c.args.held.now c.args.piece.now c.loop-i.i c.loop-i.place in
+    let whole = parts c.args.piece.now c.loop-i.i c.next_mark-end.result c.next_mark-end.ensures.after in
     let here : length c.args.piece.now ≡ c.next_mark-end.result = omega arith in
-    ap (λ (n : ℕ). text_at c.args.held.now c.args.piece.now n c.in_ok-place.place) here
-    ∙ past-keeps text (take c.loop-i.i c.args.piece.now) _ _ t _ (parts c.args.piece.now c.loop-i.i c.next_mark-end.result c.next_mark-end.ensures.after) c.loop-i.invariant.keeps c.in_ok-place.ensures.1
-    ∙ ap (λ (x : List ℕ). kept_of (text ++ x)) (take_all c.next_mark-end.result c.args.piece.now (omega arith))
+    record {
+      given = past-given text (take c.loop-i.i c.args.piece.now) _ _ t _ _ whole c.loop-i.invariant.given c.loop-i.invariant.keeps c.in_ok-place.ensures.0
+          ∙ ap (λ (x : List ℕ). messages_of (text ++ x)) (take_all c.next_mark-end.result c.args.piece.now (omega arith));
+      keeps = ap (λ (n : ℕ). text_at c.args.held.now c.args.piece.now n c.in_ok-place.place) here
+          ∙ past-keeps text (take c.loop-i.i c.args.piece.now) _ _ t _ whole c.loop-i.invariant.keeps c.in_ok-place.ensures.1
+          ∙ ap (λ (x : List ℕ). kept_of (text ++ x)) (take_all c.next_mark-end.result c.args.piece.now (omega arith));
+      within = subst (λ (n : ℕ). IsWithin c.in_ok-place.place n) (sym here) c.in_ok-place.ensures.2;
+    }
 
 pub loop-i-preserved : goal.loop-i-preserved
 loop-i-preserved c =
