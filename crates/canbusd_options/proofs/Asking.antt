@@ -1,11 +1,13 @@
-use Rattle.std.proofs.Common.{◌≡◌, List, Option, Some, None, true, refl, rules, ap, ap₂, sym, subst, ◌∙◌}
+use Rattle.std.proofs.Common.{◌≡◌, ◌⊎◌, inl, inr, codes, List, [], Option, Some, None, true, refl, rules, ap, ap₂, sym, subst, ◌∙◌}
 use Rattle.std.specs.Option.{option_map}
 use Rattle.clap.specs.declared.builder.command.Command.{Command}
 use Rattle.clap.specs.declared.parser.matches.ArgMatches.{ArgMatches}
-use Rattle.clap.specs.Words.{App, HasMatchesOf, Row, Text, app_of, is_simple, subcommand_name_of, subcommand_of, subcommand_rows_of}
+use Rattle.clap.specs.Words.{App, HasMatchesOf, Row, Text, app_of, fault_of, is_simple, subcommand_name_of, subcommand_of, subcommand_rows_of}
 use Rattle.clap.proofs.OnLiterals.{clap_on_literals}
 use Rattle.canbusd_options.specs.declared.command_line.Job.{Job}
-use Rattle.canbusd_options.specs.Program.{Asks, IsAsked, program}
+use Rattle.canbusd_options.specs.declared.command_line.Job.TheVariants as job
+use Rattle.canbusd_options.specs.Options.{GiveBenchOptions, GiveServeOptions}
+use Rattle.canbusd_options.specs.Program.{AskJob, Asks, IsAsked, program}
 
 -- What words ask of the program, from the matches of its parse.
 
@@ -29,9 +31,50 @@ both_parts (Some (n, r)) name rows first second =
     ap₂ (λ x y. Some (x, y)) same_name same_rows
 both_parts None name rows first second = absurd (search rules)
 
--- a command was met, with these rows, and the job is what it asks for
-pub asked_by : (c : Command) (words : List Text) (m : ArgMatches) (j : Job) (name : Text) (rows : List Row) → app_of c ≡ program → HasMatchesOf (app_of c) words m
-    → subcommand_name_of m ≡ Some name → option_map (λ (p : Text × List Row). p.1) (subcommand_rows_of m) ≡ Some rows → Asks (Some (name, rows)) j → IsAsked words j
-asked_by c words m j name rows is has met found asks =
-    let ours : subcommand_rows_of m ≡ Some (name, rows) = both_parts _ name rows (named m ∙ met) found in
-    subst (λ o. Asks o j) (sym ours ∙ (has (ap is_simple is ∙ simple)).1 ∙ ap (λ (a : App). subcommand_of a words) is) asks
+-- the matches of the program have the command that its words name
+pub named_by : (c : Command) (words : List Text) (m : ArgMatches) → app_of c ≡ program → HasMatchesOf (app_of c) words m → subcommand_rows_of m ≡ subcommand_of program words
+named_by c words m is has = (has (ap is_simple is ∙ simple)).1 ∙ ap (λ (a : App). subcommand_of a words) is
+
+-- a command was met, with these rows
+pub met_by : (c : Command) (words : List Text) (m : ArgMatches) (name : Text) (rows : List Row) → app_of c ≡ program → HasMatchesOf (app_of c) words m
+    → subcommand_name_of m ≡ Some name → option_map (λ (p : Text × List Row). p.1) (subcommand_rows_of m) ≡ Some rows → subcommand_of program words ≡ Some (name, rows)
+met_by c words m name rows is has met found = sym (named_by c words m is has) ∙ both_parts _ name rows (named m ∙ met) found
+
+-- where clap finds no fault and the job is what a command asks for, the words ask for it
+pub asked_by : (words : List Text) (j : Job) (p : Text × List Row) → fault_of program words ≡ [] → subcommand_of program words ≡ Some p → Asks (Some p) j → IsAsked words j
+asked_by words j p none met asks = (none, subst (λ o. Asks o j) (sym met) asks)
+
+-- words that ask for a job give the options of the command that they name
+bench_given : (j : Job) (rows : List Row) → Asks (Some (codes "bench", rows)) j → GiveBenchOptions rows
+bench_given (job.Bench o) rows asks = (o, asks.1)
+bench_given (job.Serve o) rows asks = absurd (search (rules, asks.0))
+bench_given (job.Audit path) rows asks = absurd (search (rules, asks.0))
+
+serve_given : (j : Job) (rows : List Row) → Asks (Some (codes "serve", rows)) j → GiveServeOptions rows
+serve_given (job.Bench o) rows asks = absurd (search (rules, asks.0))
+serve_given (job.Serve o) rows asks = (o, asks.1)
+serve_given (job.Audit path) rows asks = absurd (search (rules, asks.0))
+
+pub gives_bench : (words : List Text) (rows : List Row) → subcommand_of program words ≡ Some (codes "bench", rows) → AskJob words → GiveBenchOptions rows
+gives_bench words rows met (j, (none, asks)) = bench_given j rows (subst (λ o. Asks o j) met asks)
+
+pub gives_serve : (words : List Text) (rows : List Row) → subcommand_of program words ≡ Some (codes "serve", rows) → AskJob words → GiveServeOptions rows
+gives_serve words rows met (j, (none, asks)) = serve_given j rows (subst (λ o. Asks o j) met asks)
+
+-- words that name no command ask for no job
+names_one : (o : Option (Text × List Row)) (j : Job) → Asks o j
+    → (option_map (λ (p : Text × List Row). p.0) o ≡ Some (codes "bench")) ⊎ ((option_map (λ (p : Text × List Row). p.0) o ≡ Some (codes "serve")) ⊎ (option_map (λ (p : Text × List Row). p.0) o ≡ Some (codes "audit")))
+names_one None j asks = absurd asks
+names_one (Some p) (job.Bench o) asks = inl (ap Some asks.0)
+names_one (Some p) (job.Serve o) asks = inr (inl (ap Some asks.0))
+names_one (Some p) (job.Audit path) asks = inr (inr (ap Some asks.0))
+
+pub asks_nothing : (words : List Text) (m : ArgMatches) → subcommand_rows_of m ≡ subcommand_of program words
+    → (subcommand_name_of m ≡ Some (codes "bench") → ⊥) → (subcommand_name_of m ≡ Some (codes "serve") → ⊥) → (subcommand_name_of m ≡ Some (codes "audit") → ⊥) → AskJob words → ⊥
+asks_nothing words m is bench serve audit (j, (none, asks)) = elim (names_one (subcommand_rows_of m) j (subst (λ o. Asks o j) (sym is) asks)) [
+  | inl name ↦ bench (sym (named m) ∙ name)
+  | inr other ↦ elim other [
+    | inl name ↦ serve (sym (named m) ∙ name)
+    | inr name ↦ audit (sym (named m) ∙ name)
+  ]
+]

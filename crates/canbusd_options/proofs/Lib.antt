@@ -1,3 +1,4 @@
 pub mod Asking
 pub mod Helping
 pub mod Rules
+pub mod Steps

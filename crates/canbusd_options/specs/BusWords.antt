@@ -1,7 +1,13 @@
 use Rattle.std.specs.Prelude.{ℕ, ◌==◌, nat_lt, Bool, List, length, Option, Some, None, if◌then◌else◌}
+use denote.Ref.{Bor}
+use Rattle.std.specs.Option.{option_map}
 use Rattle.std.specs.List.{after_first, before_first, position_or_len}
 
 -- The parts of a word BUS: names, and the script of faults after the first @ (own choice).
+
+-- the text of a path, where one is given
+abbrev pub path_of : Option (Bor (List ℕ)) → Option (List ℕ)
+path_of path = option_map (λ text. text.now) path
 
 -- the byte that parts the names of a bus from its script: @
 abbrev pub is_at : ℕ → Bool

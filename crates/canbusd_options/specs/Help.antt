@@ -1,5 +1,5 @@
-use Rattle.std.specs.Prelude.{◌≡◌, ◌⊎◌, List}
-use Rattle.clap.specs.Words.{IsAmong, Text, fault_of, kind_of}
+use Rattle.std.specs.Prelude.{◌≡◌, ◌⊎◌, List, [], ◌∷◌}
+use Rattle.clap.specs.Words.{HasKind, IsAmong, Kinds, Text, fault_of, kind_of}
 use Rattle.clap.specs.declared.error.Error.{Error}
 use Rattle.clap.specs.declared.error.kind.ErrorKind.TheVariants.{DisplayHelp, DisplayVersion, OutOfMemory, ValueValidation}
 use Rattle.canbusd_options.specs.Program.{program}
@@ -14,6 +14,15 @@ AskHelp words = IsAmong DisplayHelp (fault_of program words) ⊎ IsAmong Display
 abbrev pub ShowsHelp : Error → Type 0
 ShowsHelp e = (kind_of e ≡ DisplayHelp) ⊎ (kind_of e ≡ DisplayVersion)
 
+-- an error of want of memory
+abbrev pub IsNoMemory : Error → Type 0
+IsNoMemory e = kind_of e ≡ OutOfMemory
+
 -- a value is refused, or there is no memory
 abbrev pub RefusesValue : Error → Type 0
-RefusesValue e = (kind_of e ≡ OutOfMemory) ⊎ (kind_of e ≡ ValueValidation)
+RefusesValue e = IsNoMemory e ⊎ (kind_of e ≡ ValueValidation)
+
+-- an error of words in which clap finds these faults: it has the kind of one, and refuses a value where there is none
+abbrev pub IsOfFaults : Kinds → Error → Type 0
+IsOfFaults [] e = RefusesValue e
+IsOfFaults (k ∷ ks) e = HasKind (k ∷ ks) e

@@ -1,14 +1,16 @@
-use Rattle.std.specs.Prelude.{◌≡◌, ◌≢◌, ℕ, ◌≤◌, map, true, false, List, [], ◌<◌, ◌^◌, codes, unwrap_or, Some, IfSome}
-use Rattle.std.specs.Option.{option_map}
+use Rattle.std.specs.Prelude.{◌≡◌, ℕ, ◌≤◌, map, true, false, List, [], ◌∷◌, ◌++◌, ◌<◌, ◌^◌, ◌==◌, codes, unwrap_or, Option, Some, slice_index, if◌then◌else◌}
+use Rattle.std.specs.Path.{path_bytes, path_components, path_names, root_dir, slash}
+use Rattle.std.specs.declared.path.Path.{Path}
 use Rattle.std.specs.Str.Parse.{IsNumeral, digits_value}
 use Rattle.can_attempt.specs.declared.acks.AckMode.{AckMode}
 use Rattle.can_attempt.specs.declared.acks.AckMode.TheVariants as ack
 use Rattle.clap.specs.declared.parser.matches.ArgMatches.{ArgMatches}
 use Rattle.clap.specs.Words.{Row, all_of, first_of, found_of, one_of, rows_of}
 use Rattle.canbusd_options.specs.declared.bus_options.BusSettings.{BusSettings}
+use Rattle.canbusd_options.specs.declared.bus_word.BusWord.{BusWord}
 use Rattle.canbusd_options.specs.declared.bench_options.BenchOptions.{BenchOptions}
 use Rattle.canbusd_options.specs.declared.serve_options.ServeOptions.{ServeOptions}
-use Rattle.canbusd_options.specs.BusWords.{names_part, script_part}
+use Rattle.canbusd_options.specs.BusWords.{names_part, path_of, script_part}
 
 -- The options that the values of a command line's arguments mean. A row has the values of one argument: those that
 -- the words give it, or its default (own choice).
@@ -21,18 +23,30 @@ rows_in m = rows_of (found_of m)
 abbrev pub given : List Row → List ℕ → List ℕ
 given rows id = unwrap_or (first_of id rows) []
 
--- a number is the one that a text of only decimal digits writes
-abbrev pub IsNumberOf : ℕ → List ℕ → Type 0
-IsNumberOf n text = IsNumeral 10 text × (n ≡ digits_value 10 text)
+-- the same in a parse
+abbrev pub given_in : ArgMatches → List ℕ → List ℕ
+given_in m id = given (rows_in m) id
 
--- a text of only decimal digits writes a number within limits, which 32 bits hold
+-- a number of 32 bits is the one that a text of only decimal digits writes
+abbrev pub IsNumberOf : ℕ → List ℕ → Type 0
+IsNumberOf n text = IsNumeral 10 text × (n ≡ digits_value 10 text) × (n < 2 ^ 32)
+
+-- a text of only decimal digits writes a number of 32 bits
+abbrev pub IsNumber : List ℕ → Type 0
+IsNumber text = (n : ℕ) × IsNumberOf n text
+
+-- the number is within limits
 abbrev pub IsNumberWithin : ℕ → ℕ → List ℕ → Type 0
-IsNumberWithin least most text = IsNumeral 10 text × (least ≤ digits_value 10 text) × (digits_value 10 text ≤ most) × (digits_value 10 text < 2 ^ 32)
+IsNumberWithin least most text = (n : ℕ) × IsNumberOf n text × (least ≤ n) × (n ≤ most)
 
 -- the text of a mode of acknowledging
 abbrev pub mode_text : AckMode → List ℕ
 mode_text ack.Always = codes "always"
 mode_text ack.Peers = codes "peers"
+
+-- a text is that of a mode
+abbrev pub IsMode : List ℕ → Type 0
+IsMode text = (mode : AckMode) × (text ≡ mode_text mode)
 
 -- what is said of a bus is what the words give
 pub record AreSettings (rows : List Row) (s : BusSettings) : Type 0 where
@@ -44,16 +58,45 @@ pub record AreSettings (rows : List Row) (s : BusSettings) : Type 0 where
   pub limit : IsNumberOf s.limit (given rows (codes "limit"))
   pub auto_restart : IsNumberOf s.auto_restart (given rows (codes "auto-restart"))
 
+-- rows give settings
+abbrev pub GiveSettings : List Row → Type 0
+GiveSettings rows = (s : BusSettings) × AreSettings rows s
+
+-- the components of a path
+abbrev pub components_of : Path → List (List ℕ)
+components_of path = path_components (path_bytes path)
+
+-- the steps of a path: the root where it begins with a slash, and the names between its slashes, but for `.`
+abbrev pub steps_of : List ℕ → List (List ℕ)
+steps_of path = (if slice_index path 0 == slash then root_dir ∷ [] else []) ++ path_names path
+
+-- two paths are given, and they have the same steps
+abbrev pub AreOneFile : Option (List ℕ) → Option (List ℕ) → Type 0
+AreOneFile (Some path) (Some other) = steps_of path ≡ steps_of other
+AreOneFile _ _ = ⊥
+
+-- the parts of a bus are those of its word
+abbrev pub IsBusWord : BusWord → List ℕ → Type 0
+IsBusWord bus word = (bus.names.now ≡ names_part word) × (path_of bus.script ≡ script_part word)
+
+-- the parts of each bus are those of its word
+abbrev pub AreBusWords : List BusWord → List (List ℕ) → Type 0
+AreBusWords buses words =
+    (map (λ bus. bus.names.now) buses ≡ map names_part words) × (map (λ bus. path_of bus.script) buses ≡ map script_part words)
+
 -- the options of a bench are those that its words give
 pub record AreBenchOptions (rows : List Row) (o : BenchOptions) : Type 0 where
   pub settings : AreSettings rows o.settings
-  pub names : o.bus.names.now ≡ names_part (given rows (codes "BUS"))
-  pub script : option_map (λ path. path.now) o.bus.script ≡ script_part (given rows (codes "BUS"))
-  pub kept : option_map (λ path. path.now) o.record ≡ first_of (codes "record") rows
-  pub logged : option_map (λ path. path.now) o.log ≡ first_of (codes "log") rows
-  pub apart : IfSome o.record (λ kept. IfSome o.log (λ logged. kept.now ≢ logged.now))
+  pub bus : IsBusWord o.bus (given rows (codes "BUS"))
+  pub kept : path_of o.record ≡ first_of (codes "record") rows
+  pub logged : path_of o.log ≡ first_of (codes "log") rows
+  pub apart : ¬ (AreOneFile (first_of (codes "record") rows) (first_of (codes "log") rows))
   pub strict : one_of (codes "strict") rows ≡ Some (codes "true") → o.is_strict ≡ true
   pub lenient : one_of (codes "strict") rows ≡ Some (codes "false") → o.is_strict ≡ false
+
+-- rows give the options of a bench
+abbrev pub GiveBenchOptions : List Row → Type 0
+GiveBenchOptions rows = (o : BenchOptions) × AreBenchOptions rows o
 
 -- the buses that a server was given
 abbrev pub buses_given : List Row → List (List ℕ)
@@ -62,8 +105,7 @@ buses_given rows = unwrap_or (all_of (codes "BUS") rows) []
 -- the options of a server are those that its words give
 pub record AreServeOptions (rows : List Row) (o : ServeOptions) : Type 0 where
   pub settings : AreSettings rows o.settings
-  pub names : map (λ bus. bus.names.now) o.buses.items ≡ map names_part (buses_given rows)
-  pub scripts : map (λ bus. option_map (λ path. path.now) bus.script) o.buses.items ≡ map script_part (buses_given rows)
+  pub buses : AreBusWords o.buses.items (buses_given rows)
   pub address : o.address.now ≡ given rows (codes "listen")
   pub sessions : IsNumberOf o.sessions (given rows (codes "sessions"))
   pub some : 1 ≤ o.sessions
@@ -73,8 +115,12 @@ pub record AreServeOptions (rows : List Row) (o : ServeOptions) : Type 0 where
   pub write : IsNumberOf o.write_bytes (given rows (codes "write"))
   pub one_frame : 256 ≤ o.write_bytes
   pub many_frames : o.write_bytes ≤ 65536
-  pub folder : option_map (λ path. path.now) o.folder ≡ first_of (codes "out") rows
+  pub folder : path_of o.folder ≡ first_of (codes "out") rows
   pub until_eof : one_of (codes "until-eof") rows ≡ Some (codes "true") → o.is_until_eof ≡ true
   pub on_and_on : one_of (codes "until-eof") rows ≡ Some (codes "false") → o.is_until_eof ≡ false
   pub verbose : one_of (codes "verbose") rows ≡ Some (codes "true") → o.is_verbose ≡ true
   pub quiet : one_of (codes "verbose") rows ≡ Some (codes "false") → o.is_verbose ≡ false
+
+-- rows give the options of a server
+abbrev pub GiveServeOptions : List Row → Type 0
+GiveServeOptions rows = (o : ServeOptions) × AreServeOptions rows o

@@ -1,6 +1,6 @@
 use Rattle.std.specs.Prelude.{◌≡◌, List, [], ◌∷◌, codes, Option, Some, None, true}
 use Rattle.clap.specs.Lexer.{usize_max}
-use Rattle.clap.specs.Words.{App, Row, Rule, Text, new_app, new_rule, subcommand_of, with_rule, with_subcommand}
+use Rattle.clap.specs.Words.{App, Row, Rule, Text, fault_of, new_app, new_rule, subcommand_of, with_rule, with_subcommand}
 use Rattle.clap.specs.declared.builder.ArgAction.TheVariants.{SetTrue}
 use Rattle.canbusd_options.specs.declared.command_line.Job.{Job}
 use Rattle.canbusd_options.specs.declared.command_line.Job.TheVariants as job
@@ -78,6 +78,10 @@ Asks (Some p) (job.Bench o) = (p.0 ≡ codes "bench") × AreBenchOptions p.1 o
 Asks (Some p) (job.Serve o) = (p.0 ≡ codes "serve") × AreServeOptions p.1 o
 Asks (Some p) (job.Audit path) = (p.0 ≡ codes "audit") × (path.now ≡ given p.1 (codes "FILE"))
 
--- a job is what words ask for
+-- a job is what words ask for in which clap finds no fault
 abbrev pub IsAsked : List Text → Job → Type 0
-IsAsked words j = Asks (subcommand_of program words) j
+IsAsked words j = (fault_of program words ≡ []) × Asks (subcommand_of program words) j
+
+-- words ask for a job
+abbrev pub AskJob : List Text → Type 0
+AskJob words = (j : Job) × IsAsked words j

@@ -1,8 +1,9 @@
 //! The words of bench.
-ghost use Rattle.std.specs.Prelude.{◌≡◌, ◌≢◌, codes, false, IfErr, IfOk, IfSome, IsSome, IsTrue};
+ghost use Rattle.std.specs.Prelude.{◌≡◌, ◌↔◌, codes, false, IfErr, IfOk, IsTrue};
 ghost use Rattle.clap.specs.Words.{app_of, rule_of};
-ghost use Rattle.canbusd_options.specs.Help.{RefusesValue};
-ghost use Rattle.canbusd_options.specs.Options.{AreBenchOptions, rows_in};
+ghost use Rattle.canbusd_options.specs.BusWords.{path_of};
+ghost use Rattle.canbusd_options.specs.Help.{IsNoMemory, RefusesValue};
+ghost use Rattle.canbusd_options.specs.Options.{AreBenchOptions, AreOneFile, GiveBenchOptions, components_of, rows_in, steps_of};
 ghost use Rattle.canbusd_options.specs.Program.{bench_app, flag_rule, option_rule};
 
 use crate::bus_options::{BUS, BusSettings, Verb, bus_argument, settings_given, with_bus_options};
@@ -10,6 +11,7 @@ use crate::bus_word::BusWord;
 use crate::help::BENCH_HELP;
 use clap::{Arg, ArgAction, ArgMatches, Command, Error};
 use std::alloc::{AllocError, Global};
+use std::path::Path;
 
 const RECORD: &str = "record";
 
@@ -33,6 +35,7 @@ pub struct BenchOptions<'a> {
 #[tactic(auto, using(crate::proofs::Rules::text_in_rows, crate::proofs::Rules::flag_in_rows))]
 pub fn bench_options<'a>(alloc: Global, bench: &ArgMatches<'a>) -> Result<BenchOptions<'a>, Error>
     ensures given { IfOk result (λ options. AreBenchOptions (rows_in bench.now) options) }
+    ensures taken { IfErr result (λ e. GiveBenchOptions (rows_in bench.now) → IsNoMemory e) }
     ensures refused { IfErr result RefusesValue }
 {
     let settings = settings_given(alloc, Verb::Bench, bench)?;
@@ -54,26 +57,30 @@ pub fn bench_options<'a>(alloc: Global, bench: &ArgMatches<'a>) -> Result<BenchO
     })
 }
 
-// Whether both are given, and are spellings of one path. Links are not followed.
-fn are_one_file(kept: Option<&str>, log: Option<&str>) -> bool
-    ensures apart { result ≡ false → IfSome kept.entry (λ k. IfSome log.entry (λ l. k.now ≢ l.now)) }
-    ensures given { IsTrue result → IsSome kept.entry × IsSome log.entry }
+// Whether both are given, and differ at most in what means nothing: `.` and doubled slashes. Links are not followed.
+fn are_one_file(record: Option<&str>, log: Option<&str>) -> bool
+    ensures { IsTrue result ↔ AreOneFile (path_of «record».entry) (path_of log.entry) }
 {
-    match (kept, log) {
-        (Some(kept), Some(log)) => kept == log || is_spelling_of(kept, log),
+    match (record, log) {
+        (Some(record), Some(log)) => have_same_steps(without_dot(record), without_dot(log)),
         _ => false,
     }
 }
 
-// Whether two paths differ at most in what means nothing: `.` between slashes, and slashes more than one.
-fn is_spelling_of(path: &str, other: &str) -> bool {
-    let parts = path.split('/').filter(|part| is_step(part));
-    let others = other.split('/').filter(|part| is_step(part));
-    path.starts_with('/') == other.starts_with('/') && parts.eq(others)
+// Whether two paths have the same steps: then each begins with the other.
+#[tactic(auto, using(crate::proofs::Steps::both_begin, crate::proofs::Steps::begins))]
+fn have_same_steps(path: Path<'_>, other: Path<'_>) -> bool
+    ensures { IsTrue result ↔ (components_of path.entry ≡ components_of other.entry) }
+{
+    path.starts_with(other) && other.starts_with(path)
 }
 
-fn is_step(part: &str) -> bool {
-    part != "" && part != "."
+// A path without the `.` that it may begin with.
+fn without_dot(path: &str) -> Path<'_>
+    ensures { components_of result ≡ steps_of path.now }
+{
+    let path = Path::new(path);
+    path.strip_prefix(".").unwrap_or(path)
 }
 
 pub fn bench_command<'a>(alloc: Global) -> Result<Command<'a>, AllocError>

@@ -2,9 +2,9 @@
 ghost use Rattle.std.specs.Prelude.{◌≡◌, ◌≤◌, ◌^◌, codes, false, IfErr, IfNone, IfOk, IfSome};
 ghost use Rattle.std.specs.Str.Parse.{IsNumeral, digits_value};
 ghost use Rattle.clap.specs.Words.{app_of, kind_of, rule_of};
-ghost use Rattle.clap.specs.declared.error.kind.ErrorKind.TheVariants.{OutOfMemory, ValueValidation};
-ghost use Rattle.canbusd_options.specs.Help.{RefusesValue};
-ghost use Rattle.canbusd_options.specs.Options.{AreSettings, IsNumberOf, IsNumberWithin, given, mode_text, rows_in};
+ghost use Rattle.clap.specs.declared.error.kind.ErrorKind.TheVariants.{ValueValidation};
+ghost use Rattle.canbusd_options.specs.Help.{IsNoMemory, RefusesValue};
+ghost use Rattle.canbusd_options.specs.Options.{AreSettings, GiveSettings, IsMode, IsNumber, IsNumberOf, IsNumberWithin, given_in, mode_text, rows_in};
 ghost use Rattle.canbusd_options.specs.Program.{default_rule, flag_rule, with_bus_rules, word_rule};
 
 use crate::bench_options::bench_command;
@@ -76,6 +76,7 @@ pub fn settings_given(
     matches: &ArgMatches<'_>,
 ) -> Result<BusSettings, Error>
     ensures given { IfOk result (λ settings. AreSettings (rows_in matches.now) settings) }
+    ensures taken { IfErr result (λ e. GiveSettings (rows_in matches.now) → IsNoMemory e) }
     ensures refused { IfErr result RefusesValue }
 {
     Ok(BusSettings {
@@ -89,7 +90,8 @@ pub fn settings_given(
 }
 
 fn ack_mode(alloc: Global, verb: Verb, matches: &ArgMatches<'_>) -> Result<AckMode, Error>
-    ensures given { IfOk result (λ mode. given (rows_in matches.now) (codes "ack") ≡ mode_text mode) }
+    ensures given { IfOk result (λ mode. given_in matches.now (codes "ack") ≡ mode_text mode) }
+    ensures taken { IfErr result (λ e. IsMode (given_in matches.now (codes "ack")) → IsNoMemory e) }
     ensures refused { IfErr result RefusesValue }
 {
     let text = matches.get_str(ACK).unwrap_or("");
@@ -112,8 +114,8 @@ fn number_given(
     option: &str,
     limits: &str,
 ) -> Result<u32, Error>
-    ensures given { IfOk result (λ n. IsNumberOf n (given (rows_in matches.now) option.now)) }
-    ensures taken { IfErr result (λ e. IsNumberWithin 0 (2 ^ 32) (given (rows_in matches.now) option.now) → kind_of e ≡ OutOfMemory) }
+    ensures given { IfOk result (λ n. IsNumberOf n (given_in matches.now option.now)) }
+    ensures taken { IfErr result (λ e. IsNumber (given_in matches.now option.now) → IsNoMemory e) }
     ensures refused { IfErr result RefusesValue }
 {
     let text = matches.get_str(option).unwrap_or("");
@@ -133,10 +135,10 @@ pub fn number_within(
     least: u32,
     most: u32,
 ) -> Result<u32, Error>
-    ensures number { IfOk result (λ n. IsNumberOf n (given (rows_in matches.now) option.now)) }
+    ensures number { IfOk result (λ n. IsNumberOf n (given_in matches.now option.now)) }
     ensures least { IfOk result (λ n. least ≤ n) }
     ensures most { IfOk result (λ n. n ≤ most) }
-    ensures taken { IfErr result (λ e. IsNumberWithin least most (given (rows_in matches.now) option.now) → kind_of e ≡ OutOfMemory) }
+    ensures taken { IfErr result (λ e. IsNumberWithin least most (given_in matches.now option.now) → IsNoMemory e) }
     ensures refused { IfErr result RefusesValue }
 {
     let text = matches.get_str(option).unwrap_or("");

@@ -1,6 +1,5 @@
 ghost use Rattle.std.specs.Prelude.{◌≡◌};
-ghost use Rattle.std.specs.Option.{option_map};
-ghost use Rattle.canbusd_options.specs.BusWords.{first_name_of, names_part, script_part};
+ghost use Rattle.canbusd_options.specs.BusWords.{first_name_of, names_part, path_of, script_part};
 
 /// A word BUS: `names`, or `names@FILE`.
 #[derive(Debug, Clone, Copy)]
@@ -15,7 +14,7 @@ impl<'a> BusWord<'a> {
     /// The names, and what follows the first `@`, if there is one.
     pub fn read(word: &'a str) -> BusWord<'a>
         ensures names { result.names.now ≡ names_part word.now }
-        ensures script { option_map (λ path. path.now) result.script ≡ script_part word.now }
+        ensures script { path_of result.script ≡ script_part word.now }
     {
         match word.split_once('@') {
             Some((names, script)) => BusWord {

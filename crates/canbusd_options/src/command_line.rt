@@ -1,8 +1,8 @@
 //! What a command line asks for.
 ghost use Rattle.std.specs.Prelude.{◌≡◌, codes, false, map, string_bytes, IfErr, IfOk};
-ghost use Rattle.clap.specs.Words.{app_of, rule_of};
-ghost use Rattle.canbusd_options.specs.Help.{AskHelp, ShowsHelp};
-ghost use Rattle.canbusd_options.specs.Program.{IsAsked, audit_app, program, word_rule};
+ghost use Rattle.clap.specs.Words.{app_of, fault_of, rule_of};
+ghost use Rattle.canbusd_options.specs.Help.{AskHelp, IsOfFaults, IsNoMemory, ShowsHelp};
+ghost use Rattle.canbusd_options.specs.Program.{AskJob, IsAsked, audit_app, program, word_rule};
 
 use crate::bench_options::{BenchOptions, bench_command, bench_options};
 use crate::bus_options::Verb;
@@ -28,6 +28,8 @@ pub enum Job<'a> {
 /// words, a request for help or the version, or no memory.
 pub fn read_options<'a>(alloc: Global, words: &'a [String]) -> Result<Job<'a>, Error>
     ensures asked { IfOk result (λ job. IsAsked (map string_bytes words.now) job) }
+    ensures taken { IfErr result (λ e. AskJob (map string_bytes words.now) → IsNoMemory e) }
+    ensures refused { IfErr result (IsOfFaults (fault_of program (map string_bytes words.now))) }
     ensures help { IfErr result (λ e. ShowsHelp e → AskHelp (map string_bytes words.now)) }
 {
     let matches = program_command(alloc)?.try_get_matches_from(words)?;

@@ -1,10 +1,8 @@
 //! The words of serve.
 ghost use Rattle.std.specs.Prelude.{◌≡◌, codes, false, map, IfErr, IfOk};
-ghost use Rattle.std.specs.Option.{option_map};
 ghost use Rattle.clap.specs.Words.{app_of, rule_of};
-ghost use Rattle.canbusd_options.specs.BusWords.{names_part, script_part};
-ghost use Rattle.canbusd_options.specs.Help.{RefusesValue};
-ghost use Rattle.canbusd_options.specs.Options.{AreServeOptions, buses_given as buses_of, rows_in};
+ghost use Rattle.canbusd_options.specs.Help.{IsNoMemory, RefusesValue};
+ghost use Rattle.canbusd_options.specs.Options.{AreBusWords, AreServeOptions, GiveServeOptions, buses_given as buses_of, rows_in};
 ghost use Rattle.canbusd_options.specs.Program.{default_rule, flag_rule, option_rule, serve_app, words_rule};
 
 use crate::bus_options::{
@@ -61,6 +59,7 @@ pub struct ServeOptions<'a> {
 
 pub fn serve_options<'a>(alloc: Global, serve: &ArgMatches<'a>) -> Result<ServeOptions<'a>, Error>
     ensures given { IfOk result (λ options. AreServeOptions (rows_in serve.now) options) }
+    ensures taken { IfErr result (λ e. GiveServeOptions (rows_in serve.now) → IsNoMemory e) }
     ensures refused { IfErr result RefusesValue }
 {
     Ok(ServeOptions {
@@ -77,8 +76,7 @@ pub fn serve_options<'a>(alloc: Global, serve: &ArgMatches<'a>) -> Result<ServeO
 }
 
 fn buses_given<'a>(alloc: Global, serve: &ArgMatches<'a>) -> Result<Vec<BusWord<'a>>, AllocError>
-    ensures names { IfOk result (λ buses. map (λ bus. bus.names.now) buses.items ≡ map names_part (buses_of (rows_in serve.now))) }
-    ensures scripts { IfOk result (λ buses. map (λ bus. option_map (λ path. path.now) bus.script) buses.items ≡ map script_part (buses_of (rows_in serve.now))) }
+    ensures { IfOk result (λ buses. AreBusWords buses.items (buses_of (rows_in serve.now))) }
 {
     match serve.get_strs(BUS) {
         Some(words) => read_buses(alloc, words),
@@ -87,8 +85,7 @@ fn buses_given<'a>(alloc: Global, serve: &ArgMatches<'a>) -> Result<Vec<BusWord<
 }
 
 fn read_buses<'a>(alloc: Global, words: &[&'a str]) -> Result<Vec<BusWord<'a>>, AllocError>
-    ensures names { IfOk result (λ buses. map (λ bus. bus.names.now) buses.items ≡ map names_part (map (λ word. word.now) words.now)) }
-    ensures scripts { IfOk result (λ buses. map (λ bus. option_map (λ path. path.now) bus.script) buses.items ≡ map script_part (map (λ word. word.now) words.now)) }
+    ensures { IfOk result (λ buses. AreBusWords buses.items (map (λ word. word.now) words.now)) }
 {
     let mut buses = Vec::new(alloc);
     for word in words {

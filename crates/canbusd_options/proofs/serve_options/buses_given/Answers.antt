@@ -1,6 +1,7 @@
 use Rattle.std.proofs.Common.{◌≡◌, ℕ, List, [], map, Option, Some, None, unwrap_or, codes, IfOk, sym, subst, ap, ◌∙◌}
 use Rattle.std.specs.Option.{option_map}
-use Rattle.canbusd_options.specs.BusWords.{names_part, script_part}
+use Rattle.canbusd_options.specs.BusWords.{names_part, path_of, script_part}
+use Rattle.canbusd_options.specs.Options.{AreBusWords}
 use Rattle.canbusd_options.proofs.Rules.{texts_in_rows}
 use Rattle.canbusd_options.proofs.serve_options.buses_given.Goals as goal
 
@@ -8,26 +9,18 @@ use Rattle.canbusd_options.proofs.serve_options.buses_given.Goals as goal
 within : {A : Type 0} (f : A → List (List ℕ)) (r : Option A) (o : Option (List (List ℕ))) (x : A) → r ≡ Some x → option_map f r ≡ o → f x ≡ unwrap_or o []
 within f r o x is same = ap (λ q. unwrap_or (option_map f q) []) (sym is) ∙ ap (λ q. unwrap_or q []) same
 
-pub returns-in-Some-clause-names : goal.returns-in-Some-clause-names
-returns-in-Some-clause-names c =
-    subst (λ xs. IfOk c.read_buses.result (λ buses. map (λ bus. bus.names.now) buses.items ≡ map names_part xs))
-    (within _ _ _ _ c.in-Some.is (c.get_strs.ensures ∙ texts_in_rows c.args.serve.now (codes "BUS"))) c.read_buses.ensures.names
-
-pub returns-in-Some-clause-scripts : goal.returns-in-Some-clause-scripts
-returns-in-Some-clause-scripts c =
-    subst (λ xs. IfOk c.read_buses.result (λ buses. map (λ bus. option_map (λ path. path.now) bus.script) buses.items ≡ map script_part xs))
-    (within _ _ _ _ c.in-Some.is (c.get_strs.ensures ∙ texts_in_rows c.args.serve.now (codes "BUS"))) c.read_buses.ensures.scripts
+pub returns-in-Some : goal.returns-in-Some
+returns-in-Some c =
+    subst (λ words. IfOk c.read_buses.result (λ buses. AreBusWords buses.items words))
+    (within _ _ _ _ c.in-Some.is (c.get_strs.ensures ∙ texts_in_rows c.args.serve.now (codes "BUS"))) c.read_buses.ensures
 
 -- and nothing where it is empty
 without : {A : Type 0} (f : A → List (List ℕ)) (r : Option A) (o : Option (List (List ℕ))) → r ≡ None → option_map f r ≡ o → [] ≡ unwrap_or o []
 without f r o is same = ap (λ q. unwrap_or (option_map f q) []) (sym is) ∙ ap (λ q. unwrap_or q []) same
 
-pub returns-in-None-clause-names : goal.returns-in-None-clause-names
-returns-in-None-clause-names c =
-    ap (map (λ bus. bus.names.now)) c.new.ensures.items
-    ∙ ap (map names_part) (without _ _ _ c.in-None.is (c.get_strs.ensures ∙ texts_in_rows c.args.serve.now (codes "BUS")))
-
-pub returns-in-None-clause-scripts : goal.returns-in-None-clause-scripts
-returns-in-None-clause-scripts c =
-    ap (map (λ bus. option_map (λ path. path.now) bus.script)) c.new.ensures.items
-    ∙ ap (map script_part) (without _ _ _ c.in-None.is (c.get_strs.ensures ∙ texts_in_rows c.args.serve.now (codes "BUS")))
+pub returns-in-None : goal.returns-in-None
+returns-in-None c =
+    let none = without _ _ _ c.in-None.is (c.get_strs.ensures ∙ texts_in_rows c.args.serve.now (codes "BUS")) in (
+      ap (map (λ bus. bus.names.now)) c.new.ensures.items ∙ ap (map names_part) none,
+      ap (map (λ bus. path_of bus.script)) c.new.ensures.items ∙ ap (map script_part) none,
+    )

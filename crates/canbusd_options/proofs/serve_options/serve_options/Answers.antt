@@ -9,8 +9,7 @@ returns-clause-given c =
     let address : c.unwrap_or.result.now ≡ unwrap_or (first_value (found_of m) (codes "listen")) [] = search rules in
     record {
       settings = c.in_ok-settings_given.ensures.given;
-      names = c.in_ok-buses_given.ensures.names;
-      scripts = c.in_ok-buses_given.ensures.scripts;
+      buses = c.in_ok-buses_given.ensures;
       address = address ∙ ap (λ o. unwrap_or o []) (text_in_rows m (codes "listen"));
       sessions = c.in_ok-number_within.ensures.number;
       some = c.in_ok-number_within.ensures.least;
