@@ -1,11 +1,16 @@
 use super::{same, same_at};
 use can_fault::{FaultSource, GlobalKind, LocalKind, Perfect, Script, ScriptError, Verdict};
 use can_frame::{IfaceSet, Names};
+use std::alloc::Global;
 use std::fmt::Write;
+use std::process::Abort;
 use std::test::Fail;
 
-fn asked<F: FaultSource>(source: &mut F, attempt: u64) -> Verdict {
-    source.verdict(attempt)
+/// A source gives the first attempts and the last one the verdict good.
+fn is_good_everywhere<F: FaultSource>(rt: &impl Abort, source: &mut F) {
+    for attempt in [0, 1, u64::MAX] {
+        same_at(rt, attempt, source.verdict(attempt), Verdict::Good);
+    }
 }
 
 #[test]
@@ -36,11 +41,8 @@ fn a_script_gives_the_verdicts_of_its_lines(rt: HostRuntime) -> Result<(), Fail>
 #[test]
 fn the_empty_text_and_the_perfect_source_are_good_everywhere(rt: HostRuntime) -> Result<(), Fail> {
     let names = Names::read(rt.alloc(), "can0")?;
-    let mut script = Script::read(rt.alloc(), "", &names)?;
-    for attempt in [0, 1, u64::MAX] {
-        same_at(&rt, attempt, asked(&mut script, attempt), Verdict::Good);
-        same_at(&rt, attempt, asked(&mut Perfect, attempt), Verdict::Good);
-    }
+    is_good_everywhere(&rt, &mut Script::read(rt.alloc(), "", &names)?);
+    is_good_everywhere(&rt, &mut Perfect);
     Ok(())
 }
 
@@ -80,6 +82,11 @@ fn the_first_fault_of_a_text_is_told(rt: HostRuntime) -> Result<(), Fail> {
     Ok(())
 }
 
+/// Whether a fault is shown in these words.
+fn has_words(alloc: Global, fault: ScriptError, words: &str) -> Result<bool, Fail> {
+    Ok(format!(in alloc; "{fault}")?.as_str() == words)
+}
+
 #[test]
 fn faults_are_told_in_words(rt: HostRuntime) -> Result<(), Fail> {
     let words = [
@@ -95,22 +102,26 @@ fn faults_are_told_in_words(rt: HostRuntime) -> Result<(), Fail> {
         (ScriptError::NoMemory, "no memory"),
     ];
     for (fault, text) in words {
-        let mut told = String::new(rt.alloc());
-        write!(told, "{fault}")?;
-        same(&rt, told.as_str(), text);
+        same_at(&rt, text, has_words(rt.alloc(), fault, text)?, true);
     }
     Ok(())
 }
 
-#[test]
-fn a_long_script_is_read_and_asked_quickly(rt: HostRuntime) -> Result<(), Fail> {
-    let names = Names::read(rt.alloc(), "can0")?;
-    let mut text = String::new(rt.alloc());
-    for attempt in 0..100_000u32 {
+/// The script that gives this many attempts a fault in the last bit.
+fn last_bits(alloc: Global, count: u32) -> Result<String, Fail> {
+    let mut text = String::new(alloc);
+    for attempt in 0..count {
         writeln!(text, "{attempt} lastbit")?;
     }
+    Ok(text)
+}
+
+#[test]
+fn a_long_script_is_read_and_asked_quickly(rt: HostRuntime) -> Result<(), Fail> {
+    let text = last_bits(rt.alloc(), 100_000)?;
+    let names = Names::read(rt.alloc(), "can0")?;
     let mut script = Script::read(rt.alloc(), &text, &names)?;
-    for attempt in 0..100_000u64 {
+    for attempt in 0..100_000 {
         same(&rt, script.verdict(attempt), Verdict::LastBit);
     }
     Ok(())
