@@ -45,12 +45,13 @@ def installed(tmp_path_factory):
     """The environment of a process that finds the package as pip installs it, with its entry points."""
     folder = tmp_path_factory.mktemp("installed")
     # Not where it is: setuptools builds in the folder that it is given.
-    shutil.copytree(
-        PYTHON, folder / "source", ignore=shutil.ignore_patterns("build", "*.egg-info", "__pycache__", ".*")
-    )
+    source = folder / "clone" / "python"
+    shutil.copytree(PYTHON, source, ignore=shutil.ignore_patterns("build", "*.egg-info", "__pycache__", ".*"))
+    for name in ("canbusd", "crates.txt"):
+        (source.parent / name).symlink_to(PYTHON.parent / name)
     done = subprocess.run(
         [sys.executable, "-m", "pip", "install", "--quiet", "--no-deps", "--no-build-isolation", "--no-index",
-         "--target", folder / "target", folder / "source"],
+         "--target", folder / "target", source],
         capture_output=True, text=True, check=False,
     )  # fmt: skip
     assert done.returncode == 0, done.stderr

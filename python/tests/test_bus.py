@@ -12,7 +12,7 @@ import can
 import pytest
 from conftest import WAIT, message, shape
 
-from canbusd.bus import CanbusdBus
+from canbusd.bus import CanbusdBus, Self
 from canbusd.faults import Faults
 from canbusd.server import Server
 
@@ -482,6 +482,10 @@ def test_frames_in_the_queue_cannot_be_taken_back(pair):
 
 def test_a_timeout_of_receiving(pair):
     assert [pair[0].recv(timeout) for timeout in (0, 0.01, -1)] == [None, None, None]
+
+
+def test_a_bus_in_a_with_block_has_its_type():
+    assert CanbusdBus.__enter__.__annotations__["return"] is Self
 
 
 def test_messages_by_iteration(pair):

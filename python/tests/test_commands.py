@@ -381,6 +381,7 @@ def test_commands_and_their_help():
     for name in ("dump", "send", "status", "report", "replay"):
         assert call(name, "--help")[0] == 0
     assert call("dance")[0] == 2
+    assert call("--version") == (0, f"canbusd {canbusd.__version__}\n", "")
 
 
 def test_reports_need_no_python_can(record):

@@ -151,6 +151,13 @@ def test_the_program_of_the_clone(monkeypatch):
     assert find_program() == str(CLONE / "canbusd")
 
 
+def test_the_program_of_the_clone_that_pip_installed_it_from(installed, tmp_path):
+    environment = {name: value for name, value in installed.items() if name != "CANBUSD"}
+    program = "from canbusd._program import find_program; print(find_program())"
+    found = subprocess.check_output([sys.executable, "-c", program], env=environment, cwd=tmp_path, text=True)
+    assert found.endswith("/clone/canbusd\n")
+
+
 def test_the_options_reach_the_program():
     with Server("can0,can1", txqueue=3, pace_ms=60000, rxqueue=1, auto_restart=7, limit=500, report=True) as server:
         with server.bus("can0") as can0:
@@ -179,6 +186,11 @@ def test_a_server_that_is_killed_leaves_nothing(tmp_path):
         assert server.kill().status == -signal.SIGKILL
     assert server.stop() == (-signal.SIGKILL, {})
     assert list(tmp_path.iterdir()) == []
+
+
+def test_a_server_that_others_kill_is_a_fault():
+    with pytest.raises(ServerError, match="status -9"), Server("can0,can1") as server:
+        os.killpg(server._child.pid, signal.SIGKILL)
 
 
 def test_the_fault_of_a_test_is_not_hidden():
@@ -251,7 +263,7 @@ def test_the_launcher(launcher, monkeypatch, found_by):
     else:
         monkeypatch.delenv("CANBUSD")
         monkeypatch.setenv("PATH", str(launcher), prepend=os.pathsep)
-        monkeypatch.setattr("canbusd._program.__file__", "/a/b/c/d/_program.py")
+        monkeypatch.setattr("canbusd._program.__file__", "/canbusd/_program.py")
     assert find_program() == str(launcher / "canbusd")
     with Server("can0,can1") as server:
         send_one(server)

@@ -3,6 +3,7 @@
 import http.client
 import json
 import os
+import re
 import subprocess
 import sys
 import threading
@@ -79,16 +80,28 @@ def test_faults_of_the_sender(text, fault):
     assert fault_of(Frame.parse(text)) == fault
 
 
+WATCH = [sys.executable, "-m", "canbusd", "watch"]
+ENVIRONMENT = {
+    **os.environ,
+    "PYTHONPATH": str(Path(canbusd.__file__).parents[1]),
+    "PYTHONDONTWRITEBYTECODE": "1",
+    "PYTHONWARNINGS": "ignore",
+}
+
+
+def called(server, *words):
+    """The command with these words, once it has ended."""
+    words = [*WATCH, "-a", server.address, *words, "can0"]
+    return subprocess.run(words, env=ENVIRONMENT, capture_output=True, text=True, timeout=WAIT, check=False)
+
+
 class Watch:
     """The command as a process."""
 
     def __init__(self, server, *names):
-        package = str(Path(canbusd.__file__).parents[1])
         self.child = subprocess.Popen(
-            [sys.executable, "-m", "canbusd", "watch", "--port", "0", "--interval", "0.05", "-a", server.address,
-             *names],
-            env={**os.environ, "PYTHONPATH": package, "PYTHONDONTWRITEBYTECODE": "1"},
-            stdout=subprocess.PIPE, stderr=subprocess.PIPE, text=True,
+            [*WATCH, "--port", "0", "--interval", "0.05", "-a", server.address, *names],
+            env=ENVIRONMENT, stdout=subprocess.PIPE, stderr=subprocess.PIPE, text=True,
         )  # fmt: skip
         said = self.child.stdout.readline()
         assert said.startswith(f"watching {', '.join(names)} on http://127.0.0.1:"), said + self.child.stderr.read()
@@ -150,6 +163,20 @@ def test_other_sites_and_paths_are_refused():
         assert watch.get("/../watch.py").status == 404
 
 
+@pytest.mark.parametrize("words", [["--port", "65536"], ["--port", "-1"], ["--interval", "0"], ["--interval", "nan"]])
+def test_a_wrong_number_is_named(words):
+    with Server("can0") as server:
+        done = called(server, *words)
+    assert (done.returncode, done.stdout) == (1, "")
+    assert re.fullmatch(rf"canbusd watch: {words[0]} is a number .* not {words[1]}(\.0)?\n", done.stderr)
+
+
+def test_a_port_in_use():
+    with Server("can0") as server, Watch(server, "can0") as watch:
+        done = called(server, "--port", str(watch.port))
+    assert done.stderr == f"canbusd watch: 127.0.0.1:{watch.port}: Address already in use\n"
+
+
 def test_it_ends_with_the_server():
     with Server("can0,can1") as server:
         with Watch(server, "can0") as watch:
@@ -173,6 +200,7 @@ def test_the_page(tmp_path):
                 browser.until("at('facts').textContent.endsWith('Bus off: can0.')")
                 can1.send(message(0x124))
                 browser.until("byIdentifier.has('124')")
+                browser.settle()
             shown = browser.run("at('ifaces').innerText").split("\n")
             assert shown[1].split() == ["can0", "off", "256", "0", "1", "0", "0", "1", "0"]
             assert "bus off" in browser.run("at('events').innerText")

@@ -20,9 +20,13 @@ pub record IsFirstWrong (c : BusConfig) (entries : List Entry) (k : ℕ) : Type 
   pub legal_before : IsLegal c (before entries k)
   pub wrong : (c.limit ≤ k) ⊎ (entry.reply ≢ legal_reply c (before entries k) entry.event)
 
--- the reply that would be legal at entry k, whose event is e: none where no entry may stand there
+-- the reply that would be legal after this many entries, with this history: none where no entry may follow them
+abbrev pub allowed_after : BusConfig → ℕ → List Entry → Event → Option Reply
+allowed_after c k past e = if nat_le c.limit k then None else Some (legal_reply c past e)
+
+-- the reply that would be legal at entry k, whose event is e
 abbrev pub allowed : BusConfig → List Entry → ℕ → Event → Option Reply
-allowed c entries k e = if nat_le c.limit k then None else Some (legal_reply c (before entries k) e)
+allowed c entries k e = allowed_after c k (before entries k) e
 
 -- entry k is the first wrong one, and this reply would be legal there
 pub record IsToldWrong (c : BusConfig) (entries : List Entry) (k : ℕ) (legal : Option Reply) : Type 0 where

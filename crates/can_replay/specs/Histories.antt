@@ -2,6 +2,7 @@ use Rattle.std.specs.Prelude.{ℕ, List, take, reverse}
 use Rattle.can_event.specs.declared.events.BusConfig.{BusConfig}
 use Rattle.can_event.specs.declared.events.Entry.{Entry}
 use Rattle.can_event.specs.Events.{IsConfig}
+use Rattle.can_bus.specs.Journal.{Kept}
 use Rattle.can_bus.specs.Legal.{IsLegal}
 
 -- Lists of entries, the oldest first, read as histories, the newest first.
@@ -9,6 +10,10 @@ use Rattle.can_bus.specs.Legal.{IsLegal}
 -- the history of the first k entries
 abbrev pub before : List Entry → ℕ → List Entry
 before entries k = reverse (take k entries)
+
+-- the record has a legal history (own choice)
+abbrev pub HasLegalHistory : Kept → Type 0
+HasLegalHistory r = IsLegal r.config r.history
 
 -- a history that a bus can have: its configuration is within the limits, and each reply is the legal one
 pub record IsHistory (c : BusConfig) (past : List Entry) : Type 0 where

@@ -1,4 +1,4 @@
-use Rattle.std.specs.Prelude.{nat_le, List, [], ◌∷◌, length, if◌then◌else◌}
+use Rattle.std.specs.Prelude.{◌≢◌, All, nat_le, List, [], ◌∷◌, length, if◌then◌else◌}
 use Rattle.can_event.specs.declared.events.BusConfig.{BusConfig}
 use Rattle.can_event.specs.declared.events.Entry.{Entry}
 use Rattle.can_event.specs.declared.events.Event.{Event}
@@ -8,6 +8,10 @@ use Rattle.can_event.specs.declared.events.Refusal.TheVariants as refusal
 use Rattle.can_bus.specs.Legal.{legal_reply}
 
 -- The replies that a list of events has, one after another.
+
+-- no call was refused memory (own choice)
+abbrev pub HadMemory : List Reply → Type 0
+HadMemory replies = All (λ r. r ≢ reply.Refused refusal.NoMemory) replies
 
 -- the reply of an event after these entries: the one that they give, or "record full" where there are as
 -- many as the limit

@@ -1,7 +1,7 @@
 ghost use Rattle.std.specs.Prelude.{◌≡◌, reverse, OnOk, IfErr};
 ghost use Rattle.can_bus.specs.Headline.{Headline};
-ghost use Rattle.can_bus.specs.Legal.{IsLegal};
 ghost use Rattle.can_replay.specs.Audits.{Blames, fault_at};
+ghost use Rattle.can_replay.specs.Histories.{HasLegalHistory};
 
 use crate::same::same_reply;
 use can_bus::{LeanRingBus, Record, Refusal, Reply};
@@ -44,12 +44,12 @@ fn fault_at(entry: usize, reply: Reply) -> AuditFault
 /// the number of entries and of their filters. Memory is taken for the bus, and for what `open` and `set_filters` take:
 /// `NoMemory` comes where it was refused, and then nothing is known of the record.
 pub fn audit(alloc: Global, record: &Record) -> Result<(), AuditFault>
-    ensures legal { OnOk result (IsLegal «record».now.config «record».now.history) }
+    ensures legal { OnOk result (HasLegalHistory «record».now) }
     ensures headline { OnOk result (Headline «record».now.config «record».now.history) }
     ensures wrong { IfErr result (Blames «record».now.config (reverse «record».now.history)) }
 
     // A legal record is never called wrong.
-    ensures spared { IsLegal «record».now.config «record».now.history → IfErr result (λ why. why ≡ AuditFault.NoMemory) }
+    ensures spared { HasLegalHistory «record».now → IfErr result (λ why. why ≡ AuditFault.NoMemory) }
 {
     let Ok(mut bus) = LeanRingBus::new(alloc, record.config()) else {
         return Err(AuditFault::NoMemory);

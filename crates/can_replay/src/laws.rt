@@ -1,14 +1,12 @@
-ghost use Rattle.std.specs.Prelude.{◌≡◌, ◌≢◌, ℕ, List, All, reverse};
+ghost use Rattle.std.specs.Prelude.{◌≡◌, ℕ, List, reverse};
 ghost use Rattle.can_event.specs.Events.{IsConfig};
-ghost use Rattle.can_bus.specs.Legal.{IsLegal};
 ghost use Rattle.can_bus.specs.Run.{AreAnswers};
 ghost use Rattle.can_event.specs.declared.events.Entry.{Entry};
 ghost use Rattle.can_event.specs.declared.events.Event.{Event};
 ghost use Rattle.can_event.specs.declared.events.Reply.{Reply};
-ghost use Rattle.can_event.specs.declared.events.Reply.TheVariants as reply;
-ghost use Rattle.can_event.specs.declared.events.Refusal.TheVariants as refusal;
 ghost use Rattle.can_replay.specs.Audits.{IsFirstWrong};
-ghost use Rattle.can_replay.specs.Replies.{replies_after};
+ghost use Rattle.can_replay.specs.Histories.{IsHistory};
+ghost use Rattle.can_replay.specs.Replies.{HadMemory, replies_after};
 
 use can_bus::BusConfig;
 
@@ -17,12 +15,15 @@ use can_bus::BusConfig;
 
 /// A bus that is never refused memory answers a list of events as the slow answer does.
 pub fn a_bus_answers_so(config: BusConfig)
-    ensures { (past : List Entry) (events : List Event) (replies : List Reply) → AreAnswers config past events replies → All (λ r. r ≢ reply.Refused refusal.NoMemory) replies → replies ≡ replies_after config past events }
+    ensures { (past : List Entry) (events : List Event) (replies : List Reply) →
+        AreAnswers config past events replies → HadMemory replies → replies ≡ replies_after config past events }
 {}
 
 /// A legal history has no wrong entry, and of other entries at most one is the first wrong one: what an audit
 /// answers is settled by the record, but for want of memory.
 pub fn at_most_one_entry_is_the_first_wrong(config: BusConfig)
-    ensures legal { IsConfig config → (entries : List Entry) (k : ℕ) → IsLegal config (reverse entries) → ¬ IsFirstWrong config entries k }
-    ensures one { IsConfig config → (entries : List Entry) (j k : ℕ) → IsFirstWrong config entries j → IsFirstWrong config entries k → j ≡ k }
+    ensures legal { (entries : List Entry) (k : ℕ) →
+        IsHistory config (reverse entries) → ¬ IsFirstWrong config entries k }
+    ensures one { IsConfig config → (entries : List Entry) (j k : ℕ) →
+        IsFirstWrong config entries j → IsFirstWrong config entries k → j ≡ k }
 {}

@@ -5,6 +5,7 @@ import importlib
 import sys
 from typing import Callable, List, Optional
 
+from canbusd import __version__
 from canbusd._command import carry_out
 
 # Each command is a module, which is imported only where it is called: reports need no python-can.
@@ -41,6 +42,7 @@ def main(given: Optional[List[str]] = None) -> None:
         epilog=f"commands:\n{commands}\n\n`python3 -m canbusd COMMAND --help` says more of each.",
         formatter_class=argparse.RawDescriptionHelpFormatter,
     )
+    parser.add_argument("--version", action="version", version=f"canbusd {__version__}")
     parser.add_argument("command", choices=COMMANDS, metavar="COMMAND", help="one of those below")
     name = parser.parse_args(arguments[:1]).command
     options = parser_of(name).parse_args(arguments[1:])

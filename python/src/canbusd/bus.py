@@ -10,7 +10,7 @@ import logging
 import os
 import threading
 import time
-from typing import Any, Iterable, List, Mapping, Optional, Sequence, Tuple, Union, cast
+from typing import Any, Iterable, List, Mapping, Optional, Sequence, Tuple, TypeVar, Union, cast
 
 import can
 from can.broadcastmanager import CyclicSendTaskABC, ThreadBasedCyclicSendTask
@@ -33,6 +33,8 @@ from canbusd._protocol import (
 )
 from canbusd._words import NAME
 from canbusd.frames import REMOTE, command_of, received
+
+Self = TypeVar("Self", bound="CanbusdBus")
 
 LOG = logging.getLogger("can.canbusd")
 NO_BUFFERS, BUS_OFF, NOT_BUS_OFF = "no buffers", "bus off", "not bus off"
@@ -114,7 +116,7 @@ class CanbusdBus(BusABC):
     :param local_loopback: what is sent here reaches other sockets of the same interface
     :param error_frames: receive error message frames; true, false or a mask of their classes
     :param join_filters: receive what matches all filters, not only one
-    :param timeout: seconds in which the server has to answer
+    :param timeout: seconds in which the server has to reply
     :param kwargs: what python-can hands to all interfaces, such as a bit rate, which has no meaning here
 
     It may be used by several threads at once. Each value may be a text, as in can.conf.
@@ -173,6 +175,10 @@ class CanbusdBus(BusABC):
             self._connection.close()
             raise
         self._is_shutdown = False
+
+    def __enter__(self: Self) -> Self:
+        # That of python-can 4.1 has no type.
+        return self
 
     def send(self, msg: Message, timeout: Optional[float] = None) -> None:
         """Puts a message into the transmit queue of the interface.

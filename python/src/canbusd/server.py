@@ -36,7 +36,7 @@ class ServerError(RuntimeError):
 class Result(NamedTuple):
     """How a server ended."""
 
-    #: The status of the program: 0 if all went well, below 0 if a signal killed it.
+    #: The status of the program: 0, or that of a program killed by a signal, below 0, after :meth:`Server.kill`.
     status: int
     #: How many entries the record of each bus has, by the name of its first interface.
     entries: Dict[str, int]
@@ -127,12 +127,15 @@ class Server(Run):
         return bus
 
     def stop(self) -> Result:
-        """Ends the server; logs and records are written. Called again it returns the same."""
+        """Ends the server; logs and records are written. Called again it returns the same.
+
+        :raises ServerError: where the server ended with a fault, or was killed by others
+        """
         if self._result is None:
             self._close_input()
             status, written = self._ended()
             self._result = Result(status, {name: int(number) for name, number in ENTRIES.findall(written)})
-            if status > 0:
+            if status != 0:
                 raise ServerError(self.said or f"the server ended with status {status}")
         return self._result
 

@@ -12,7 +12,7 @@ from typing import Any, Deque, Dict, Iterator, List, Optional, Sequence, Tuple
 
 from can.exceptions import CanOperationError
 
-from canbusd.bus import CanbusdBus
+from canbusd.bus import CanbusdBus, seconds
 from canbusd.commands import address_words
 from canbusd.frames import SENDING, Frame, frame_like
 from canbusd.report import filled
@@ -102,6 +102,14 @@ class Pages(ThreadingHTTPServer):
     def url(self) -> str:
         """The address of the page."""
         return f"http://127.0.0.1:{self.server_address[1]}/"
+
+
+def opened(port: int, board: Board, names: Sequence[str], source: str) -> Pages:
+    """Returns the pages on this port; the fault of a port that can't be had names it."""
+    try:
+        return Pages(port, board, names, source)
+    except OSError as fault:
+        raise OSError(fault.errno, fault.strerror, f"127.0.0.1:{port}") from None
 
 
 class Request(BaseHTTPRequestHandler):
@@ -209,16 +217,17 @@ def words(parser: argparse.ArgumentParser) -> None:
 
 def run(options: argparse.Namespace) -> None:
     """Serves the page until the server ends or Ctrl-C."""
-    if options.interval <= 0:
-        raise ValueError("--interval is a number of seconds above 0")
+    interval = seconds("--interval", options.interval)
+    if not 0 <= options.port <= 65535:
+        raise ValueError(f"--port is a number from 0 to 65535, not {options.port}")
     names: List[str] = options.interfaces
     watcher, board = Watcher(names, options.address), Board()
-    with Pages(options.port, board, names, watcher.buses[0].address) as pages:
+    with opened(options.port, board, names, watcher.buses[0].address) as pages:
         threading.Thread(target=pages.serve_forever, daemon=True).start()
         print(f"watching {', '.join(names)} on {pages.url}", flush=True)
         try:
             while True:
-                board.add(*watcher.tick(options.interval))
+                board.add(*watcher.tick(interval))
         except CanOperationError as fault:
             board.end(str(fault))
             raise

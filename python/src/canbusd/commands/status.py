@@ -6,7 +6,7 @@ import time
 from typing import List
 
 from canbusd._summary import Row, table
-from canbusd.bus import CanbusdBus
+from canbusd.bus import CanbusdBus, seconds
 from canbusd.commands import NOTHING, address_words
 
 EPILOG = """\
@@ -32,8 +32,7 @@ def words(parser: argparse.ArgumentParser) -> None:
 
 def run(options: argparse.Namespace) -> None:
     """Prints the table, once or again and again."""
-    if options.interval <= 0:
-        raise ValueError("--interval is a number of seconds above 0")
+    interval = seconds("--interval", options.interval)
     names = options.interfaces
     buses = [CanbusdBus(name, NOTHING, address=options.address, error_frames=False) for name in names]
     on_screen = options.watch and sys.stdout.isatty()
@@ -48,7 +47,7 @@ def run(options: argparse.Namespace) -> None:
         sys.stdout.flush()
         if not options.watch:
             break
-        time.sleep(options.interval)
+        time.sleep(interval)
     for bus in buses:
         bus.shutdown()
 
