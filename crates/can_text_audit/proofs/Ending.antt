@@ -113,13 +113,13 @@ ended text line b bus g going few is stands =
     }
 
 -- the end after what was no entry's line
-pub end_taken : (line : List ℕ) (old mid new : Body) (r : Result (Unit {0}) ReadFault) → mid ≡ record old { bus = mid.bus } → old.is_ended ≡ false → mid.count < 2 ^ 64 → OnOk r ((new ≡ record mid { is_ended = true }) × StandsEnd mid.count line)
+pub end_taken : (line : List ℕ) (old mid new : Body) (r : Result (Unit {0}) ReadFault) → mid ≡ record old { bus = mid.bus } → old.is_ended ≡ false → mid.count < 2 ^ 64 → OnOk r (new ≡ record mid { is_ended = true }) → OnOk r (StandsEnd mid.count line)
     → OnOk r ((text : List ℕ) → IsGoing text old → IsLine line → IsGoing (text ++ line) new)
-end_taken line old mid new (Ok u) kept going few h = λ text g is.
+end_taken line old mid new (Ok u) kept going few h end = λ text g is.
     let count : mid.count ≡ old.count = ap (λ (b : Body). b.count) kept in
-    subst (IsGoing (text ++ line)) (sym (h.0 ∙ ap (λ (b : Body). record b { is_ended = true }) kept))
-    (ended text line old mid.bus g going (subst (λ (n : ℕ). n < 2 ^ 64) count few) is (subst (λ (n : ℕ). StandsEnd n line) count h.1))
-end_taken line old mid new (Err why) kept going few h = tt
+    subst (IsGoing (text ++ line)) (sym (h ∙ ap (λ (b : Body). record b { is_ended = true }) kept))
+    (ended text line old mid.bus g going (subst (λ (n : ℕ). n < 2 ^ 64) count few) is (subst (λ (n : ℕ). StandsEnd n line) count end))
+end_taken line old mid new (Err why) kept going few h end = tt
 
 pub end_lacks : (line : List ℕ) (old mid : Body) (r : Result (Unit {0}) ReadFault) → mid ≡ record old { bus = mid.bus } → old.is_ended ≡ false → mid.count < 2 ^ 64 → ((text : List ℕ) → IsGoing text old → old.is_ended ≡ false → LacksEntry old.version old.config line)
     → IfErr r (λ why. IsUnended mid.count line why) → IfErr r (λ why. (text after : List ℕ) → IsGoing text old → IsLine line → MayFollow line after → Reads (text ++ (line ++ after)) (Err why))

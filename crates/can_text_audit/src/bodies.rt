@@ -37,7 +37,8 @@ impl Body {
         version: Version,
         line: &[u8],
     ) -> Result<Body, ReadFault>
-        ensures taken { IfOk result (λ body. IsLine line.now → IsGoing (first_line version ++ line.now) body) }
+        ensures taken { IfOk result (λ body.
+            IsLine line.now → IsGoing (first_line version ++ line.now) body) }
         ensures fault { IfErr result (FailsAfter (first_line version) line.now) }
     {
         let config = match read_bus(buffer, version, line) {
@@ -272,7 +273,8 @@ impl Body {
 
     // The line of the end.
     fn end(&mut self, buffer: &mut Vec<u8>, line: &[u8]) -> Result<(), ReadFault>
-        ensures ended { OnOk result ((self.new ≡ record self.old { is_ended = true }) × StandsEnd self.old.count line.now) }
+        ensures ended { OnOk result (self.new ≡ record self.old { is_ended = true }) }
+        ensures line { OnOk result (StandsEnd self.old.count line.now) }
         ensures fault { IfErr result (λ why. IsUnended self.old.count line.now why) }
         ensures few { self.old.count < 2 ^ 64 }
     {

@@ -102,7 +102,8 @@ impl TextAudit {
     // Takes the second line, which is the bus's.
     #[inline(never)]
     fn take_second(&mut self, alloc: Global, version: Version, line: &[u8]) -> Result<(), ReadFault>
-        ensures taken { OnOk result (IsLine line.now → AreTaken (first_line version ++ line.now) self.new) }
+        ensures taken { OnOk result
+            (IsLine line.now → AreTaken (first_line version ++ line.now) self.new) }
         ensures fault { IfErr result (FailsAfter (first_line version) line.now) }
     {
         self.course = Course::Body(Body::read(alloc, &mut self.buffer, version, line)?);

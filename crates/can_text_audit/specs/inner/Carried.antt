@@ -5,6 +5,7 @@ use Rattle.can_event.specs.declared.events.Event.{Event}
 use Rattle.can_event.specs.declared.events.Reply.{Reply}
 use Rattle.can_bus.specs.Lean.{Lean, Stands}
 use Rattle.can_bus.specs.Legal.{legal_reply}
+use Rattle.can_replay.specs.Audits.{allowed_after}
 use Rattle.can_record.specs.declared.versions.Version.{Version}
 use Rattle.can_record.specs.declared.versions.Version.TheVariants as version
 use Rattle.can_record.specs.Spelling.{entry_line, has_fd}
@@ -21,14 +22,10 @@ pub record IsNext (c : BusConfig) (past : List Entry) (line : List ℕ) (fd : Bo
   pub stands : line ≡ entry_line entry rest
   pub after : Stands bus (entry ∷ past)
 
--- the reply that would be legal after these entries: none where no entry may follow them
-abbrev pub allowed_after : BusConfig → List Entry → Event → Option Reply
-allowed_after c past e = if nat_le c.limit (length past) then None else Some (legal_reply c past e)
-
 -- the entry is wrong after these, where this reply would be legal
 pub record IsWrongNext (c : BusConfig) (past : List Entry) (e : Entry) (legal : Option Reply) : Type 0 where
   pub wrong : (c.limit ≤ length past) ⊎ (e.reply ≢ legal_reply c past e.event)
-  pub is_allowed : legal ≡ allowed_after c past e.event
+  pub is_allowed : legal ≡ allowed_after c (length past) past e.event
 
 -- where an entry's line stands here, the entry is wrong
 abbrev pub IsOther : BusConfig → List Entry → List ℕ → Option Reply → Type 0

@@ -15,7 +15,7 @@ returns-in-Ok-clause-taken c = λ text g is. c.in-Ok.ensures text g c.if-self.fa
 pub returns-in-Err-Bad-clause-taken : goal.returns-in-Err-Bad-clause-taken
 returns-in-Err-Bad-clause-taken c =
     let kept = subst (λ (w : Unread). Takes {A = Unit {0}} c.args.self.now c.carry_entry.new.self c.args.line.now (Err w)) c.in-Err-Bad.field-0-is c.in-Err-Bad.ensures in
-    end_taken c.args.line.now c.args.self.now c.carry_entry.new.self c.end.new.self c.end.result kept.0 c.if-self.false c.end.ensures.few c.end.ensures.ended
+    end_taken c.args.line.now c.args.self.now c.carry_entry.new.self c.end.new.self c.end.result kept.0 c.if-self.false c.end.ensures.few c.end.ensures.ended c.end.ensures.line
 
 pub returns-in-Err-Bad-clause-fault : goal.returns-in-Err-Bad-clause-fault
 returns-in-Err-Bad-clause-fault c =

@@ -3,6 +3,7 @@ use Rattle.can_event.specs.declared.events.BusConfig.{BusConfig}
 use Rattle.can_event.specs.declared.events.Entry.{Entry}
 use Rattle.can_event.specs.Replies.{Enters}
 use Rattle.can_bus.specs.Lean.{Stands}
+use Rattle.can_record.proofs.Again.{starts-with-line}
 use Rattle.can_text_audit.specs.inner.Bodies.{IsGoing}
 use Rattle.can_text_audit.specs.inner.Carried.{IsNext}
 use Rattle.can_text_audit.proofs.Answering.{next_is, other_past, other_reply}
@@ -25,7 +26,7 @@ returns-in-Ok-false c =
     takes_blamed c.args.self.now c.blame_reply.new.self c.answer-reply.new.self c.args.line.now (Some c.answer-reply.result) c.blame_reply.result c.requires.legal c.answer-reply.ensures.config
     (λ past stands v e rest good is.
     other_reply v c.args.self.now.bus.config past c.args.line.now rest c.requires.seems.0 e c.args.event.now c.answer-reply.result good is c.requires.seems.1 enters (c.answer-reply.ensures.answer past stands)
-    (λ same. never c.in-Ok-false.field-0 (c.in-Ok-false.ensures.no rest same) c.in-Ok-false.field-0-test)) c.blame_reply.ensures
+    (λ same. never c.in-Ok-false.field-0 (c.in-Ok-false.ensures.1 (starts-with-line c.args.event.now c.answer-reply.result c.args.line.now rest same)) c.in-Ok-false.field-0-test)) c.blame_reply.ensures
 
 pub returns-then-not-may_stand : goal.returns-then-not-may_stand
 returns-then-not-may_stand c = (
@@ -38,7 +39,7 @@ returns-then-not-may_stand c = (
       let enters : Enters c.answer-reply.result = subst IsTrue c.enters.ensures test in
       let one : IsNext old.bus.config past line c.has_fd-fd.result c.answer-reply.new.self =
       next_is old.bus.config past line c.args.event.now c.answer-reply.result c.has_fd-fd.result c.answer-reply.new.self enters (c.answer-reply.ensures.spelled enters) c.hold_event.ensures c.hold_reply.ensures c.has_fd-fd.ensures
-      (c.in-Ok-true.ensures.yes c.in-Ok-true.field-0-test) (c.answer-reply.ensures.after past (g.stands going c.requires.legal)) in
+      (c.in-Ok-true.ensures.0 c.in-Ok-true.field-0-test) (c.answer-reply.ensures.after past (g.stands going c.requires.legal)) in
       let no = c.may_stand.ensures.no c.if-not-may_stand.true in
       of_three old.version old.config past line c.has_fd-fd.result c.answer-reply.new.self (subst (λ (d : BusConfig). IsNext d past line c.has_fd-fd.result c.answer-reply.new.self) (g.config going) one) no.0 no.1,
 )
@@ -53,5 +54,5 @@ returns c = λ text g going is.
     (legal_more text line old c.answer-reply.new.self c.has_fd-fd.result g c.requires.legal going is c.answer-reply.ensures.config
     (λ past stands.
     next_is old.bus.config past line c.args.event.now c.answer-reply.result c.has_fd-fd.result c.answer-reply.new.self enters (c.answer-reply.ensures.spelled enters) c.hold_event.ensures c.hold_reply.ensures c.has_fd-fd.ensures
-    (c.in-Ok-true.ensures.yes c.in-Ok-true.field-0-test) (c.answer-reply.ensures.after past stands))
+    (c.in-Ok-true.ensures.0 c.in-Ok-true.field-0-test) (c.answer-reply.ensures.after past stands))
     (c.may_stand.ensures.yes c.if-not-may_stand.false))
