@@ -1,6 +1,7 @@
-use super::{same, same_at};
+use super::same_at;
 use can_arbiter::{Arbiter, IndexArbiter, ScanArbiter};
 use can_frame::{CanId, Frame, Iface};
+use std::process::Abort;
 
 // An identifier, and whether the frame is a remote one.
 #[derive(Debug, Clone, Copy)]
@@ -23,11 +24,19 @@ fn key(head: Head) -> Option<u32> {
     Some(frame.arbitration_key())
 }
 
-fn first_of<A: Arbiter>(can0: Head, can1: Head) -> Option<u8> {
-    let mut arbiter = A::new();
-    arbiter.set(Iface::new(0)?, key(can0)?);
-    arbiter.set(Iface::new(1)?, key(can1)?);
+/// The number of the interface that goes first.
+fn first<A: Arbiter>(arbiter: &A) -> Option<u8> {
     Some(arbiter.winner()?.number())
+}
+
+/// Which of two interfaces with these heads goes first.
+fn first_of<A: Arbiter>(can0: Head, can1: Head) -> Option<u8> {
+    let (iface0, iface1) = (Iface::new(0)?, Iface::new(1)?);
+    let (key0, key1) = (key(can0)?, key(can1)?);
+    let mut arbiter = A::new();
+    arbiter.set(iface0, key0);
+    arbiter.set(iface1, key1);
+    first(&arbiter)
 }
 
 #[test]
@@ -41,55 +50,41 @@ fn frames_go_in_the_order_of_their_bits(rt: HostRuntime) {
         (Head::Data11(0x124), Head::Remote29(0x048C_0000), 1),
     ];
     for (can0, can1, first) in rows {
-        let firsts = (
-            first_of::<ScanArbiter>(can0, can1),
-            first_of::<IndexArbiter>(can0, can1),
-        );
-        same_at(&rt, (can0, can1), firsts, (Some(first), Some(first)));
+        let scanned = first_of::<ScanArbiter>(can0, can1);
+        same_at(&rt, (can0, can1), scanned, Some(first));
+        let indexed = first_of::<IndexArbiter>(can0, can1);
+        same_at(&rt, (can0, can1), indexed, Some(first));
     }
 }
 
-// Who goes first after each of some changes: the interface and the key that it gets or, without one, loses.
-fn firsts_of<A: Arbiter>(changes: [(u8, Option<u32>); 9]) -> [Option<u8>; 9] {
+/// Some changes: the interface and the key that it gets or, without one, loses, and who goes first then.
+const CHANGES: [(u8, Option<u32>, Option<u8>); 9] = [
+    (15, None, None),
+    (15, Some(7), Some(15)),
+    (3, Some(8), Some(15)),
+    (0, Some(7), Some(0)),
+    (3, Some(u32::MAX), Some(0)),
+    (0, None, Some(15)),
+    (3, Some(7), Some(3)),
+    (3, None, Some(15)),
+    (15, None, None),
+];
+
+/// Makes the changes, one after the other.
+fn goes_through_changes<A: Arbiter>(rt: &impl Abort) {
     let mut arbiter = A::new();
-    let mut firsts = [None; 9];
-    for (place, (number, key)) in changes.into_iter().enumerate() {
-        let Some(iface) = Iface::new(number) else {
-            continue;
-        };
+    for (number, key, wanted) in CHANGES {
+        let iface = Iface::new(number).expect(rt, "below 16");
         match key {
             Some(key) => arbiter.set(iface, key),
             None => arbiter.clear(iface),
         }
-        firsts[place] = arbiter.winner().map(|iface| iface.number());
+        same_at(rt, (number, key), first(&arbiter), wanted);
     }
-    firsts
 }
 
 #[test]
 fn a_change_of_keys_changes_who_is_first(rt: HostRuntime) {
-    let changes = [
-        (15, None),
-        (15, Some(7)),
-        (3, Some(8)),
-        (0, Some(7)),
-        (3, Some(u32::MAX)),
-        (0, None),
-        (3, Some(7)),
-        (3, None),
-        (15, None),
-    ];
-    let firsts = [
-        None,
-        Some(15),
-        Some(15),
-        Some(0),
-        Some(0),
-        Some(15),
-        Some(3),
-        Some(15),
-        None,
-    ];
-    same(&rt, firsts_of::<ScanArbiter>(changes), firsts);
-    same(&rt, firsts_of::<IndexArbiter>(changes), firsts);
+    goes_through_changes::<ScanArbiter>(&rt);
+    goes_through_changes::<IndexArbiter>(&rt);
 }

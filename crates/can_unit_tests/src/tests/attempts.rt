@@ -1,8 +1,9 @@
-use super::same;
+use super::{same, same_at};
 use can_attempt::{AckMode, Class, Judgement, Nodes, judge};
 use can_confine::Counters;
 use can_fault::{GlobalKind, LocalKind, Verdict};
 use can_frame::{Iface, IfaceSet};
+use std::process::Abort;
 
 /// Nodes with these transmit and receive counts, at most 16 of them.
 fn nodes(counts: &[(u16, u16)]) -> Nodes {
@@ -17,13 +18,25 @@ fn nodes(counts: &[(u16, u16)]) -> Nodes {
     Nodes { count, counters }
 }
 
-/// What an attempt of interface 0 answers, if it may make one.
-fn attempt(nodes: &Nodes, verdict: Verdict, ack: AckMode) -> Option<Judgement> {
-    let winner = Iface::new(0)?;
+/// What an attempt of interface 0 does, which is not off the bus.
+fn attempt(rt: &impl Abort, nodes: &Nodes, verdict: Verdict, ack: AckMode) -> Judgement {
+    let winner = Iface::new(0).expect(rt, "below 16");
     if nodes.count == 0 || nodes.count > 16 || nodes.counters[0].state().is_off() {
-        return None;
+        panic!(rt; "no attempt");
     }
-    Some(judge(nodes, winner, verdict, ack))
+    judge(nodes, winner, verdict, ack)
+}
+
+/// How an attempt ends: its class, the receivers that accept the frame, those that see a local fault, and who goes off.
+fn end(judgement: &Judgement) -> (Class, u16, u16, u16) {
+    let Judgement {
+        class,
+        accepted,
+        hit,
+        off,
+        ..
+    } = *judgement;
+    (class, accepted.0, hit.0, off.0)
 }
 
 fn counts(judgement: &Judgement, place: usize) -> (u16, u16) {
@@ -33,32 +46,32 @@ fn counts(judgement: &Judgement, place: usize) -> (u16, u16) {
     }
 }
 
+/// An attempt leaves the first nodes with these counts.
+fn leaves(rt: &impl Abort, judgement: &Judgement, wanted: &[(u16, u16)]) {
+    for (place, wanted) in wanted.iter().enumerate() {
+        same_at(rt, place, counts(judgement, place), *wanted);
+    }
+}
+
+/// A checksum fault at the third of three nodes, whose receive count is this, in a frame that peers acknowledge.
+fn checksum_fault(rt: &impl Abort, rec: u16) -> Judgement {
+    let verdict = Verdict::Local(IfaceSet(0b100), LocalKind::Crc);
+    attempt(
+        rt,
+        &nodes(&[(0, 0), (0, 0), (0, rec)]),
+        verdict,
+        AckMode::Peers,
+    )
+}
+
 #[test]
 fn a_checksum_fault_at_one_receiver(rt: HostRuntime) {
-    let verdict = Verdict::Local(IfaceSet(0b100), LocalKind::Crc);
-    match attempt(&nodes(&[(0, 0), (0, 0), (0, 130)]), verdict, AckMode::Peers) {
-        Some(passive) => {
-            same(&rt, passive.class, Class::Done);
-            same(&rt, passive.accepted, IfaceSet(0b010));
-            same(&rt, passive.hit, IfaceSet(0b100));
-            same(&rt, passive.off, IfaceSet(0));
-            same(&rt, counts(&passive, 0), (0, 0));
-            same(&rt, counts(&passive, 1), (0, 0));
-            same(&rt, counts(&passive, 2), (0, 131));
-        }
-        None => assert!(rt; false),
-    }
-    match attempt(&nodes(&[(0, 0), (0, 0), (0, 100)]), verdict, AckMode::Peers) {
-        Some(active) => {
-            same(&rt, active.class, Class::Destroyed);
-            same(&rt, active.accepted, IfaceSet(0));
-            same(&rt, active.hit, IfaceSet(0b100));
-            same(&rt, counts(&active, 0), (8, 0));
-            same(&rt, counts(&active, 1), (0, 1));
-            same(&rt, counts(&active, 2), (0, 101));
-        }
-        None => assert!(rt; false),
-    }
+    let passive = checksum_fault(&rt, 130);
+    same(&rt, end(&passive), (Class::Done, 0b010, 0b100, 0));
+    leaves(&rt, &passive, &[(0, 0), (0, 0), (0, 131)]);
+    let active = checksum_fault(&rt, 100);
+    same(&rt, end(&active), (Class::Destroyed, 0, 0b100, 0));
+    leaves(&rt, &active, &[(8, 0), (0, 1), (0, 101)]);
 }
 
 #[test]
@@ -68,14 +81,9 @@ fn a_last_bit_fault_of_a_lone_transmitter(rt: HostRuntime) {
         (AckMode::Always, Class::LastBit),
     ];
     for (ack, class) in rows {
-        match attempt(&nodes(&[(0, 0)]), Verdict::LastBit, ack) {
-            Some(judgement) => {
-                same(&rt, judgement.class, class);
-                same(&rt, judgement.accepted, IfaceSet(0));
-                same(&rt, counts(&judgement, 0), (8, 0));
-            }
-            None => assert!(rt; false),
-        }
+        let judgement = attempt(&rt, &nodes(&[(0, 0)]), Verdict::LastBit, ack);
+        same(&rt, end(&judgement), (class, 0, 0, 0));
+        leaves(&rt, &judgement, &[(8, 0)]);
     }
 }
 
@@ -86,15 +94,10 @@ fn a_lone_transmitter_stays_error_passive(rt: HostRuntime) {
         8, 16, 24, 32, 40, 48, 56, 64, 72, 80, 88, 96, 104, 112, 120, 128, 128,
     ];
     for tec in wanted {
-        match attempt(&lone, Verdict::Good, AckMode::Peers) {
-            Some(judgement) => {
-                same(&rt, judgement.class, Class::NoAck);
-                same(&rt, judgement.accepted, IfaceSet(0));
-                same(&rt, counts(&judgement, 0), (tec, 0));
-                lone.counters = judgement.counters;
-            }
-            None => assert!(rt; false),
-        }
+        let judgement = attempt(&rt, &lone, Verdict::Good, AckMode::Peers);
+        same(&rt, end(&judgement), (Class::NoAck, 0, 0, 0));
+        leaves(&rt, &judgement, &[(tec, 0)]);
+        lone.counters = judgement.counters;
     }
 }
 
@@ -102,19 +105,15 @@ fn a_lone_transmitter_stays_error_passive(rt: HostRuntime) {
 fn thirty_two_destroyed_frames_take_the_winner_off(rt: HostRuntime) {
     let mut pair = nodes(&[(0, 0), (0, 0)]);
     for round in 1..33u16 {
-        match attempt(&pair, Verdict::Global(GlobalKind::Bit), AckMode::Always) {
-            Some(judgement) => {
-                same(&rt, judgement.class, Class::Destroyed);
-                same(&rt, counts(&judgement, 0), (8 * round, 0));
-                same(&rt, counts(&judgement, 1), (0, round));
-                same(
-                    &rt,
-                    judgement.off,
-                    IfaceSet(if round == 32 { 1 } else { 0 }),
-                );
-                pair.counters = judgement.counters;
-            }
-            None => assert!(rt; false),
-        }
+        let judgement = attempt(
+            &rt,
+            &pair,
+            Verdict::Global(GlobalKind::Bit),
+            AckMode::Always,
+        );
+        let off = if round == 32 { 0b01 } else { 0 };
+        same(&rt, end(&judgement), (Class::Destroyed, 0, 0, off));
+        leaves(&rt, &judgement, &[(8 * round, 0), (0, round)]);
+        pair.counters = judgement.counters;
     }
 }

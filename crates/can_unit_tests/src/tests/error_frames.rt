@@ -4,13 +4,14 @@ use can_confine::Counters;
 use can_errframe::{Role, fault_frame, restart_frame, state_frame};
 use can_fault::{GlobalKind, LocalKind, Verdict};
 use can_frame::{ErrorFrame, IfaceSet};
+use std::process::Abort;
 
-/// A frame's class and bytes; class 0 stands for no frame.
-fn parts(frame: Option<ErrorFrame>) -> (u32, [u8; 8]) {
-    match frame {
-        Some(frame) => (frame.class(), frame.data()),
-        None => (0, [0; 8]),
+/// The frame of a class and its bytes. There is none of class 0.
+fn frame_of(class: u32, bytes: [u8; 8]) -> Option<ErrorFrame> {
+    if class == 0 {
+        return None;
     }
+    ErrorFrame::new(class, bytes).ok()
 }
 
 fn counters(counts: (u16, u16)) -> Counters {
@@ -35,10 +36,10 @@ fn changes_of_state(rt: HostRuntime) {
         ((95, 96), (96, 96), 0, [0; 8]),
     ];
     for (old, new, class, bytes) in rows {
-        let told = parts(state_frame(counters(old), counters(new)));
-        same_at(&rt, (old, new), told, (class, bytes));
+        let told = state_frame(counters(old), counters(new));
+        same_at(&rt, (old, new), told, frame_of(class, bytes));
     }
-    same(&rt, parts(Some(restart_frame())), (0x100, [0; 8]));
+    same(&rt, Some(restart_frame()), frame_of(0x100, [0; 8]));
 }
 
 /// The class, the kind and the place that a fault frame tells.
@@ -108,13 +109,49 @@ fn told_rows() -> [(Class, Verdict, Told, Told, Told); 14] {
     ]
 }
 
-/// What a fault frame tells, where its other bytes are 0.
+/// What a fault frame tells, where its other bytes are 0. No frame tells 0 of all.
 fn told(class: Class, verdict: Verdict, role: Role) -> Option<Told> {
-    let (number, bytes) = parts(fault_frame(class, verdict, role));
-    match bytes {
-        [0, 0, kind, place, 0, 0, 0, 0] => Some((number, kind, place)),
+    let Some(frame) = fault_frame(class, verdict, role) else {
+        return Some((0, 0, 0));
+    };
+    match frame.data() {
+        [0, 0, kind, place, 0, 0, 0, 0] => Some((frame.class(), kind, place)),
         _ => None,
     }
+}
+
+/// What the rows say of a class and a verdict. Where none does, nothing is told.
+fn wanted(class: Class, verdict: Verdict) -> (Told, Told, Told) {
+    for (row_class, row_verdict, winner, named, other) in told_rows() {
+        if row_class == class && row_verdict == verdict {
+            return (winner, named, other);
+        }
+    }
+    let none = (0, 0, 0);
+    (none, none, none)
+}
+
+/// A fault of this class and verdict is told as the rows say, in each role.
+fn is_told(rt: &impl Abort, class: Class, verdict: Verdict) {
+    let (winner, named, other) = wanted(class, verdict);
+    same_at(
+        rt,
+        (class, verdict, Role::Winner),
+        told(class, verdict, Role::Winner),
+        Some(winner),
+    );
+    same_at(
+        rt,
+        (class, verdict, Role::Named),
+        told(class, verdict, Role::Named),
+        Some(named),
+    );
+    same_at(
+        rt,
+        (class, verdict, Role::Other),
+        told(class, verdict, Role::Other),
+        Some(other),
+    );
 }
 
 #[test]
@@ -128,19 +165,9 @@ fn faults_by_class_verdict_and_role(rt: HostRuntime) {
         Verdict::Local(IfaceSet(2), LocalKind::Form),
         Verdict::LastBit,
     ];
-    let rows = told_rows();
     for class in [Class::Done, Class::LastBit, Class::Destroyed, Class::NoAck] {
         for verdict in verdicts {
-            let none = (0, 0, 0);
-            let mut wanted = (none, none, none);
-            for (row_class, row_verdict, winner, named, other) in rows {
-                if row_class == class && row_verdict == verdict {
-                    wanted = (winner, named, other);
-                }
-            }
-            same(&rt, told(class, verdict, Role::Winner), Some(wanted.0));
-            same(&rt, told(class, verdict, Role::Named), Some(wanted.1));
-            same(&rt, told(class, verdict, Role::Other), Some(wanted.2));
+            is_told(&rt, class, verdict);
         }
     }
 }

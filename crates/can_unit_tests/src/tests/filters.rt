@@ -1,149 +1,185 @@
 use super::{same, same_at};
 use can_filter::{Filter, FilterError, FilterSet, InvalidFilter, Options, wants};
 use can_frame::{CanId, ErrorFrame, Frame, Item};
+use std::alloc::{AllocGlobal, Global};
+use std::process::Abort;
 use std::test::Fail;
+
+/// The filters of these identifiers and masks.
+fn filters(alloc: Global, words: &[(u32, u32)]) -> Result<Vec<Filter>, Fail> {
+    let mut filters = Vec::new(alloc);
+    for (id, mask) in words {
+        filters.push(Filter::new(*id, *mask)?)?;
+    }
+    Ok(filters)
+}
+
+/// The set of these filters.
+fn set(alloc: Global, words: &[(u32, u32)]) -> Result<FilterSet, Fail> {
+    Ok(FilterSet::from_slice(alloc, &filters(alloc, words)?)?)
+}
+
+/// Whether a set passes a word where some filter has to match, and where all have to.
+fn passes(set: &FilterSet, word: u32) -> (bool, bool) {
+    (set.passes(word, false), set.passes(word, true))
+}
+
+/// These words pass a set so, where some filter has to match and where all have to.
+fn pass(rt: &impl Abort, set: &FilterSet, words: &[(u32, (bool, bool))]) {
+    for (word, wanted) in words {
+        same_at(rt, *word, passes(set, *word), *wanted);
+    }
+}
+
+/// The same of a set and of the set that is compiled of it.
+fn pass_compiled(
+    rt: &(impl Abort + AllocGlobal),
+    set: &FilterSet,
+    words: &[(u32, (bool, bool))],
+) -> Result<(), Fail> {
+    pass(rt, set, words);
+    pass(rt, &set.try_compile(rt.alloc())?, words);
+    Ok(())
+}
 
 #[test]
 fn a_filter_compares_the_masked_bits(rt: HostRuntime) -> Result<(), Fail> {
     let filter = Filter::new(0x123, 0x7FF)?;
     same(&rt, (filter.id(), filter.mask()), (0x123, 0x7FF));
+    same(&rt, Filter::new(0x123, 0x2000_0000), Err(InvalidFilter));
     let set = FilterSet::from_slice(rt.alloc(), &[filter])?;
     same(&rt, set.filters().len(), 1);
-    for (word, want) in [(0x123, true), (0x8000_0123, true), (0x124, false)] {
-        same_at(&rt, word, set.passes(word, false), want);
-    }
-    same(&rt, Filter::new(0x123, 0x2000_0000), Err(InvalidFilter));
+    let words = [
+        (0x123, (true, true)),
+        (0x8000_0123, (true, true)),
+        (0x124, (false, false)),
+    ];
+    pass(&rt, &set, &words);
     Ok(())
 }
 
 #[test]
 fn inverted_filters_join_by_or_and_by_and(rt: HostRuntime) -> Result<(), Fail> {
-    let one = Filter::new(0x2000_0123, 0x7FF)?;
-    let other = Filter::new(0x2000_0124, 0x7FF)?;
-    let set = FilterSet::from_slice(rt.alloc(), &[one, other])?;
-    same(&rt, set.passes(0x123, false), true);
-    same(&rt, set.passes(0x123, true), false);
-    let none = FilterSet::none(rt.alloc());
-    same(&rt, none.passes(0x123, false), false);
-    same(&rt, none.passes(0x123, true), false);
+    let inverted = set(rt.alloc(), &[(0x2000_0123, 0x7FF), (0x2000_0124, 0x7FF)])?;
+    same(&rt, passes(&inverted, 0x123), (true, false));
     Ok(())
 }
 
 #[test]
+fn no_filter_passes_nothing(rt: HostRuntime) {
+    let none = FilterSet::none(rt.alloc());
+    same(&rt, passes(&none, 0x123), (false, false));
+}
+
+#[test]
 fn each_of_many_filters_counts(rt: HostRuntime) -> Result<(), Fail> {
-    let filter = Filter::new(0x123, 0x7FF)?;
-    let other = Filter::new(0x124, 0x7FF)?;
     for place in [0, 7, 8, 10] {
-        let mut filters = vec![in rt.alloc(); filter; 11]?;
-        filters[place] = other;
-        let set = FilterSet::from_slice(rt.alloc(), &filters)?;
-        for set in [&set, &set.try_compile(rt.alloc())?] {
-            same_at(&rt, place, set.passes(0x124, false), true);
-            same_at(&rt, place, set.passes(0x123, true), false);
-        }
+        let mut words = [(0x123, 0x7FF); 11];
+        words[place] = (0x124, 0x7FF);
+        let set = set(rt.alloc(), &words)?;
+        pass_compiled(&rt, &set, &[(0x123, (true, false)), (0x124, (true, false))])?;
     }
     Ok(())
 }
 
 #[test]
 fn filters_of_one_identifier_stand_beside_others(rt: HostRuntime) -> Result<(), Fail> {
-    let list = [
-        Filter::new(0x123, 0xC000_07FF)?,
-        Filter::new(0x123, 0xC000_07FF)?,
-        Filter::new(0x8000_0123, 0xDFFF_FFFF)?,
-        Filter::new(0x2000_0200, 0x700)?,
+    let words = [
+        (0x123, 0xC000_07FF),
+        (0x123, 0xC000_07FF),
+        (0x8000_0123, 0xDFFF_FFFF),
+        (0x2000_0200, 0x700),
     ];
-    let set = FilterSet::from_slice(rt.alloc(), &list)?;
-    let compiled = set.try_compile(rt.alloc())?;
-    let rows = [
-        (0x123, true),
-        (0x8000_0123, true),
-        (0x4000_0100, true),
-        (0x200, false),
-        (0x8000_0200, false),
-        (0x4000_0200, false),
+    let passing = [
+        (0x123, (true, false)),
+        (0x8000_0123, (true, false)),
+        (0x4000_0100, (true, false)),
+        (0x200, (false, false)),
+        (0x8000_0200, (false, false)),
+        (0x4000_0200, (false, false)),
     ];
-    for (word, want) in rows {
-        for set in [&set, &compiled] {
-            let passes = (set.passes(word, false), set.passes(word, true));
-            same_at(&rt, word, passes, (want, false));
-        }
-    }
-    Ok(())
+    pass_compiled(&rt, &set(rt.alloc(), &words)?, &passing)
 }
 
-// 512 filters, half of them of each kind of identifier, in falling order.
-#[test]
-fn many_identifiers_are_each_found(rt: HostRuntime) -> Result<(), Fail> {
-    let mut list = Vec::with_capacity(rt.alloc(), 512)?;
+/// 512 filters, half of them of each kind of identifier, in falling order.
+fn many(alloc: Global) -> Result<FilterSet, Fail> {
+    let mut list = Vec::with_capacity(alloc, 512)?;
     for place in 0..256u32 {
         list.push(Filter::new(0x7FF - 2 * place, 0xC000_07FF)?)?;
         list.push(Filter::new(0x9FFF_FFFF - 2 * place, 0xDFFF_FFFF)?)?;
     }
-    let set = FilterSet::from_slice(rt.alloc(), &list)?.try_compile(rt.alloc())?;
+    Ok(FilterSet::from_slice(alloc, &list)?)
+}
+
+#[test]
+fn many_identifiers_are_each_found(rt: HostRuntime) -> Result<(), Fail> {
+    let set = many(rt.alloc())?.try_compile(rt.alloc())?;
     for place in 0..256u32 {
         let (standard, extended) = (0x7FF - 2 * place, 0x9FFF_FFFF - 2 * place);
-        same_at(
-            &rt,
-            place,
-            (set.passes(standard, false), set.passes(extended, false)),
-            (true, true),
-        );
-        // A remote frame, and an identifier between two of the list.
-        let remote = (
-            set.passes(0x4000_0000 | standard, false),
-            set.passes(0xC000_0000 | extended, false),
-        );
-        let between = (
-            set.passes(standard - 1, false),
-            set.passes(extended - 1, false),
-        );
-        same_at(
-            &rt,
-            place,
-            (remote, between),
-            ((false, false), (false, false)),
-        );
+        let words = [
+            (standard, (true, false)),
+            (extended, (true, false)),
+            // A remote frame, and an identifier between two of the list.
+            (0x4000_0000 | standard, (false, false)),
+            (0xC000_0000 | extended, (false, false)),
+            (standard - 1, (false, false)),
+            (extended - 1, (false, false)),
+        ];
+        pass(&rt, &set, &words);
     }
     Ok(())
 }
 
+/// The set that has one filter this many times.
+fn repeated(alloc: Global, count: usize) -> Result<Result<FilterSet, FilterError>, Fail> {
+    let filters = vec![in alloc; Filter::new(0x123, 0x7FF)?; count]?;
+    Ok(FilterSet::from_slice(alloc, &filters))
+}
+
+/// Whether a copy of a set has as many filters, and the set that is compiled of it the same.
+fn is_copied(alloc: Global, set: &FilterSet) -> Result<bool, Fail> {
+    let count = set.try_copy(alloc)?.filters().len();
+    Ok(count == set.filters().len() && set.try_compile(alloc)? == *set)
+}
+
 #[test]
 fn a_set_has_at_most_512_filters(rt: HostRuntime) -> Result<(), Fail> {
-    let filter = Filter::new(0x123, 0x7FF)?;
-    let many = vec![in rt.alloc(); filter; 513]?;
-    let most = FilterSet::from_slice(rt.alloc(), &many[..512])?;
+    let refused = repeated(rt.alloc(), 513)?.err();
+    same(&rt, refused, Some(FilterError::TooManyFilters));
+    let most = repeated(rt.alloc(), 512)??;
     same(&rt, most.filters().len(), 512);
-    same(&rt, most.try_copy(rt.alloc())?.filters().len(), 512);
-    same(&rt, most.try_compile(rt.alloc())?, most);
-    let over = FilterSet::from_slice(rt.alloc(), &many);
-    same(&rt, over.err(), Some(FilterError::TooManyFilters));
+    same(&rt, is_copied(rt.alloc(), &most)?, true);
     Ok(())
 }
 
 #[test]
 fn sets_of_the_same_filters_are_equal(rt: HostRuntime) -> Result<(), Fail> {
-    let (one, other) = (Filter::new(1, 2)?, Filter::new(1, 3)?);
-    let set = FilterSet::from_slice(rt.alloc(), &[one, other])?;
-    let wants = [
-        (FilterSet::from_slice(rt.alloc(), &[one, other])?, true),
-        (FilterSet::from_slice(rt.alloc(), &[other, one])?, false),
-        (FilterSet::from_slice(rt.alloc(), &[one, one])?, false),
-        (FilterSet::from_slice(rt.alloc(), &[one])?, false),
-        (FilterSet::none(rt.alloc()), false),
+    let (one, other) = ((1, 2), (1, 3));
+    let both = set(rt.alloc(), &[one, other])?;
+    let rows: [(&[(u32, u32)], bool); 4] = [
+        (&[one, other], true),
+        (&[other, one], false),
+        (&[one, one], false),
+        (&[one], false),
     ];
-    for (of, want) in &wants {
-        same(&rt, set == *of, *want);
+    for (words, is_equal) in rows {
+        same_at(&rt, words, both == set(rt.alloc(), words)?, is_equal);
     }
+    same(&rt, both == FilterSet::none(rt.alloc()), false);
     Ok(())
+}
+
+/// Whether a socket whose filters pass every word wants an item.
+fn is_wanted(alloc: Global, options: &Options, item: &Item, is_own: bool) -> Result<bool, Fail> {
+    Ok(wants(&FilterSet::all(alloc)?, options, item, is_own))
 }
 
 #[test]
 fn own_frames_and_error_masks(rt: HostRuntime) -> Result<(), Fail> {
-    let filters = FilterSet::all(rt.alloc())?;
-    let frame = Item::Data(Frame::data(CanId::standard(0x123)?, &[])?);
+    let id = CanId::standard(0x123)?;
+    let frame = Item::Data(Frame::data(id, &[])?);
     let error = Item::Error(ErrorFrame::new(0x204, [0; 8])?);
-    let wide = Item::Data(Frame::fd(CanId::standard(0x123)?, &[0; 12])?);
+    let wide = Item::Data(Frame::fd(id, &[0; 12])?);
     let opened = Options::at_open();
     same(&rt, opened, Options::default());
     let fd = Options { fd: true, ..opened };
@@ -159,20 +195,21 @@ fn own_frames_and_error_masks(rt: HostRuntime) -> Result<(), Fail> {
         err_mask: 0x200,
         ..opened
     };
-    for (options, item, is_own, want) in [
-        (opened, frame, false, true),
-        (opened, frame, true, false),
-        (own, frame, true, true),
-        (opened, error, false, false),
-        (marks, error, false, false),
-        (counts, error, false, true),
-        (opened, wide, false, false),
-        (own, wide, true, false),
-        (fd, wide, false, true),
-        (fd, wide, true, false),
-        (fd, frame, false, true),
+    for (name, options, item, is_own, want) in [
+        ("a frame", opened, frame, false, true),
+        ("an own frame", opened, frame, true, false),
+        ("an own frame, asked for", own, frame, true, true),
+        ("an error", opened, error, false, false),
+        ("an error, with bits 29 to 31", marks, error, false, false),
+        ("an error of the mask", counts, error, false, true),
+        ("an FD frame", opened, wide, false, false),
+        ("an own FD frame, own asked for", own, wide, true, false),
+        ("an FD frame, asked for", fd, wide, false, true),
+        ("an own FD frame, FD asked for", fd, wide, true, false),
+        ("a frame, FD asked for", fd, frame, false, true),
     ] {
-        same(&rt, wants(&filters, &options, &item, is_own), want);
+        let is_wanted = is_wanted(rt.alloc(), &options, &item, is_own)?;
+        same_at(&rt, name, is_wanted, want);
     }
     Ok(())
 }

@@ -3,6 +3,16 @@ use can_frame::{
     CanId, ErrorFrame, Frame, Iface, Item, Moment, Names, NamesError, Text, frame_text, guess_item,
     is_fd_length, is_name, read_decimal, read_frame_text, read_hexadecimal,
 };
+use std::alloc::Global;
+use std::process::Abort;
+
+/// Whether the interface of a number has this name.
+fn is_name_of(names: &Names, number: u8, name: Option<&str>) -> bool {
+    match Iface::new(number) {
+        Some(iface) => names.name(iface) == name,
+        None => false,
+    }
+}
 
 #[test]
 fn names_are_the_pieces_between_the_commas(rt: HostRuntime) {
@@ -13,9 +23,12 @@ fn names_are_the_pieces_between_the_commas(rt: HostRuntime) {
     same(&rt, names.find("vcan-1"), Iface::new(1));
     same(&rt, names.find("vcan"), None);
     for (number, name) in [(0, Some("can0")), (2, Some("x.y_Z")), (3, None)] {
-        let iface = Iface::new(number).expect(&rt, "below 16");
-        same_at(&rt, number, names.name(iface), name);
+        same_at(&rt, number, is_name_of(&names, number, name), true);
     }
+}
+
+fn are_bad_names(alloc: Global, text: &str) -> bool {
+    matches!(Names::read(alloc, text), Err(NamesError::BadNames))
 }
 
 #[test]
@@ -33,8 +46,7 @@ fn names_are_refused_by_their_rule(rt: HostRuntime) {
         ("0,1,2,3,4,5,6,7,8,9,a,b,c,d,e,f,g", false),
     ];
     for (text, good) in texts {
-        let bad = matches!(Names::read(rt.alloc(), text), Err(NamesError::BadNames));
-        same_at(&rt, text, bad, !good);
+        same_at(&rt, text, are_bad_names(rt.alloc(), text), !good);
     }
     for (text, good) in [("can0", true), ("", false), ("can0,can1", false)] {
         same_at(&rt, text, is_name(text), good);
@@ -79,8 +91,15 @@ fn is_written(item: Option<Item>, text: &str) -> bool {
 const LONGEST_FD: &str =
     "7FF##0A5A5A5A5A5A5A5A5A5A5A5A5A5A5A5A5A5A5A5A5A5A5A5A5A5A5A5A5A5A5A5A5A5A5A5A5A5A5A5A5A5A5A5A5A5A5A5A5A5A5A5A5A5A5A5A5A5A5A5A5A5A5A5A5";
 
+/// An item has this text, and is read of it.
+fn goes_there_and_back(rt: &impl Abort, text: &str, item: Option<Item>) {
+    same_at(rt, text, item.is_some(), true);
+    same_at(rt, text, is_read(text, item), true);
+    same_at(rt, text, is_written(item, text), true);
+}
+
 #[test]
-fn every_kind_of_item_goes_there_and_back(rt: HostRuntime) {
+fn data_frames_go_there_and_back(rt: HostRuntime) {
     let items = [
         ("123#", data(0x123, b"")),
         (
@@ -89,15 +108,42 @@ fn every_kind_of_item_goes_there_and_back(rt: HostRuntime) {
         ),
         ("00000123#AF", extended_data(0x123, b"\xAF")),
         ("1FFFFFFF#", extended_data(0x1FFF_FFFF, b"")),
+    ];
+    for (text, item) in items {
+        goes_there_and_back(&rt, text, item);
+    }
+}
+
+#[test]
+fn remote_frames_go_there_and_back(rt: HostRuntime) {
+    let items = [
         ("123#R", remote(0x123, 0)),
         ("00A#R8", remote(0xA, 8)),
         ("12345678#R4", extended_remote(0x1234_5678, 4)),
+    ];
+    for (text, item) in items {
+        goes_there_and_back(&rt, text, item);
+    }
+}
+
+#[test]
+fn fd_frames_go_there_and_back(rt: HostRuntime) {
+    let items = [
         ("123##0", fd(0x123, b"")),
         (
             "123##00102030405060708090A0B0C",
-            fd(0x123, b"\x01\x02\x03\x04\x05\x06\x07\x08\x09\x0A\x0B\x0C"),
+            fd(0x123, &[1, 2, 3, 4, 5, 6, 7, 8, 9, 10, 11, 12]),
         ),
         (LONGEST_FD, fd(0x7FF, &[0xA5; 64])),
+    ];
+    for (text, item) in items {
+        goes_there_and_back(&rt, text, item);
+    }
+}
+
+#[test]
+fn error_message_frames_go_there_and_back(rt: HostRuntime) {
+    let items = [
         (
             "20000204#0008000000006000",
             error(0x204, [0, 8, 0, 0, 0, 0, 0x60, 0]),
@@ -105,19 +151,23 @@ fn every_kind_of_item_goes_there_and_back(rt: HostRuntime) {
         ("3FFFFFFF#FFFFFFFFFFFFFFFF", error(0x1FFF_FFFF, [0xFF; 8])),
     ];
     for (text, item) in items {
-        same_at(&rt, text, item.is_some(), true);
-        same_at(&rt, text, is_read(text, item), true);
-        same_at(&rt, text, is_written(item, text), true);
+        goes_there_and_back(&rt, text, item);
     }
 }
 
 #[test]
 fn frame_text_is_read_in_either_case(rt: HostRuntime) {
-    same(&rt, is_read("7aB#fF0a", data(0x7AB, b"\xFF\x0A")), true);
-    same(&rt, is_read("123#r2", remote(0x123, 2)), true);
-    same(&rt, is_read("123#R0", remote(0x123, 0)), true);
-    same(&rt, is_read("123#r0", remote(0x123, 0)), true);
-    same(&rt, is_read("0000000a#r", extended_remote(0xA, 0)), true);
+    let items = [
+        ("7aB#fF0a", data(0x7AB, b"\xFF\x0A")),
+        ("123#r2", remote(0x123, 2)),
+        ("123#R0", remote(0x123, 0)),
+        ("123#r0", remote(0x123, 0)),
+        ("0000000a#r", extended_remote(0xA, 0)),
+    ];
+    for (text, item) in items {
+        same_at(&rt, text, item.is_some(), true);
+        same_at(&rt, text, is_read(text, item), true);
+    }
 }
 
 #[test]
@@ -160,78 +210,112 @@ fn other_texts_are_bad(rt: HostRuntime) {
     }
 }
 
+/// Whether these bytes make an FD frame. Where they do, it has them.
+fn makes_fd_frame(id: CanId, bytes: &[u8]) -> bool {
+    match Frame::fd(id, bytes) {
+        Ok(frame) => {
+            frame.bytes() == bytes
+                && frame.len() as usize == bytes.len()
+                && frame.is_fd()
+                && !frame.is_remote()
+        }
+        Err(_) => false,
+    }
+}
+
 #[test]
 fn fd_frames_have_their_lengths(rt: HostRuntime) {
     let id = CanId::standard(0x123).expect(&rt, "11 bits");
     let bytes = [7; 80];
     let lengths: [usize; 16] = [0, 1, 2, 3, 4, 5, 6, 7, 8, 12, 16, 20, 24, 32, 48, 64];
     for len in 0..=80 {
-        let frame = Frame::fd(id, &bytes[..len]);
-        same_at(&rt, len, frame.is_ok(), lengths.contains(&len));
-        same_at(&rt, len, is_fd_length(len), lengths.contains(&len));
-        if let Ok(frame) = frame {
-            same_at(&rt, len, frame.bytes(), &bytes[..len]);
-            same_at(&rt, len, (frame.len() as usize, frame.is_fd()), (len, true));
-            same_at(&rt, len, frame.is_remote(), false);
-        }
+        let is_length = lengths.contains(&len);
+        same_at(&rt, len, is_fd_length(len), is_length);
+        same_at(&rt, len, makes_fd_frame(id, &bytes[..len]), is_length);
     }
 }
 
 #[test]
 fn fd_frames_are_other_items_than_data_frames(rt: HostRuntime) {
-    same(&rt, fd(0x123, b"") == data(0x123, b""), false);
-    same(&rt, fd(0x123, b"\x01") == fd(0x123, b"\x01"), true);
-    same(&rt, fd(0x123, b"\x01") == fd(0x123, b"\x02"), false);
+    let rows = [
+        ("FD and data", fd(0x123, b""), data(0x123, b""), false),
+        ("alike", fd(0x123, b"\x01"), fd(0x123, b"\x01"), true),
+        ("other bytes", fd(0x123, b"\x01"), fd(0x123, b"\x02"), false),
+    ];
+    for (name, one, other, is_same) in rows {
+        same_at(&rt, name, one == other, is_same);
+    }
+}
+
+/// The word and the arbitration key of a frame.
+fn keys(frame: Frame) -> (u32, u32) {
+    (frame.word(), frame.arbitration_key())
+}
+
+#[test]
+fn fd_frames_have_the_keys_of_data_frames(rt: HostRuntime) {
     let id = CanId::extended(0x1234_5678).expect(&rt, "29 bits");
     let frame = Frame::data(id, b"").expect(&rt, "a frame");
     let wide = Frame::fd(id, &[0; 64]).expect(&rt, "a frame");
-    same(&rt, wide.word(), frame.word());
-    same(&rt, wide.arbitration_key(), frame.arbitration_key());
+    same(&rt, keys(wide), keys(frame));
 }
 
-fn is_decimal(word: &str, number: Option<u64>) -> bool {
-    read_decimal(word.as_bytes(), 19) == number
+/// The number that a word of at most 19 digits spells.
+fn decimal(word: &str) -> Option<u64> {
+    read_decimal(word.as_bytes(), 19)
 }
 
-fn is_hexadecimal(word: &str, number: Option<u32>) -> bool {
-    read_hexadecimal(word.as_bytes(), 8) == number
+/// The number that a word of at most 8 hexadecimal digits spells.
+fn hexadecimal(word: &str) -> Option<u32> {
+    read_hexadecimal(word.as_bytes(), 8)
 }
 
 #[test]
 fn words_are_read_as_numbers(rt: HostRuntime) {
-    same(&rt, is_decimal("0", Some(0)), true);
-    same(&rt, is_decimal("00123", Some(123)), true);
-    same(
-        &rt,
-        is_decimal("9999999999999999999", Some(9_999_999_999_999_999_999)),
-        true,
-    );
-    same(&rt, is_hexadecimal("fFfFfFfF", Some(0xFFFF_FFFF)), true);
-    same(&rt, is_hexadecimal("0a9", Some(0xA9)), true);
+    let decimals = [
+        ("0", 0),
+        ("00123", 123),
+        ("9999999999999999999", 9_999_999_999_999_999_999),
+    ];
+    for (word, number) in decimals {
+        same_at(&rt, word, decimal(word), Some(number));
+    }
+    for (word, number) in [("fFfFfFfF", 0xFFFF_FFFF), ("0a9", 0xA9)] {
+        same_at(&rt, word, hexadecimal(word), Some(number));
+    }
+}
+
+#[test]
+fn other_words_are_no_numbers(rt: HostRuntime) {
     for word in ["", "00000000000000000000", "1 ", "+1", "-1", "1a", ":", "/"] {
-        same_at(&rt, word, is_decimal(word, None), true);
+        same_at(&rt, word, decimal(word), None);
     }
     for word in ["", "000000000", "g", "0x1", "+1", "@", "G", "`"] {
-        same_at(&rt, word, is_hexadecimal(word, None), true);
+        same_at(&rt, word, hexadecimal(word), None);
     }
 }
 
 #[test]
 fn parts_of_texts_are_written(rt: HostRuntime) {
+    let ids = (CanId::standard(0xA), CanId::extended(0x1FFF_FFFF));
+    let moments = (Moment::new(23_000_042), Moment::new(9_999_999_999_999_999));
+    let ((Ok(short), Ok(long)), (Ok(moment), Ok(last))) = (ids, moments) else {
+        panic!(rt; "no parts");
+    };
     let mut text: Text<64> = Text::new();
-    text.push_id(CanId::standard(0xA).expect(&rt, "11 bits"));
-    text.push_id(CanId::extended(0x1FFF_FFFF).expect(&rt, "29 bits"));
-    text.push_moment(Moment::new(23_000_042).expect(&rt, "small"));
+    text.push_id(short);
+    text.push_id(long);
+    text.push_moment(moment);
     text.push_hex(3, 0x1234);
     text.push_decimals(3, 98_765);
-    text.push_moment(Moment::new(9_999_999_999_999_999).expect(&rt, "the last"));
+    text.push_moment(last);
     let bytes = b"00A1FFFFFFF23.0000422347659999999999.999999";
     same(&rt, text.as_bytes(), bytes.as_slice());
 }
 
 #[test]
 fn what_is_guessed_has_to_be_compared(rt: HostRuntime) {
-    same(&rt, guess_item(b"123#R4") == remote(0x123, 4), true);
-    same(&rt, guess_item(b"12a#") == data(0x12A, b""), true);
-    same(&rt, guess_item(b"123#R9").is_none(), true);
+    same(&rt, guess_item(b"123#R4"), remote(0x123, 4));
+    same(&rt, guess_item(b"12a#"), data(0x12A, b""));
+    same(&rt, guess_item(b"123#R9"), None);
 }

@@ -1,59 +1,91 @@
 use super::{same, same_at};
 use can_bus::{Closed, Opt, Refusal};
 use can_confine::Counters;
-use can_frame::{BadFdLength, CanId, ErrorFrame, Frame, Item, Moment, TooLong};
+use can_frame::{CanId, ErrorFrame, Frame, Item, Moment};
 use can_proto::{
-    Answer, Cause, Command, Incoming, Mode, ProtoFault, Reader, item_text, reply_text,
+    Answer, Cause, Command, Incoming, Message, Mode, ProtoFault, Reader, item_text, reply_text,
 };
+use std::alloc::{AllocError, AllocGlobal, Global};
+use std::process::Abort;
+
+/// What a new reader gives for two pieces.
+fn fed(alloc: Global, first: &[u8], second: &[u8]) -> Result<Vec<Incoming>, AllocError> {
+    let mut reader = Reader::new(alloc)?;
+    let mut given = reader.feed(alloc, first)?;
+    for incoming in reader.feed(alloc, second)? {
+        given.push(incoming)?;
+    }
+    Ok(given)
+}
+
+/// Whether this is a message of these bytes.
+fn is_message(incoming: &Incoming, inside: &[u8]) -> bool {
+    match incoming {
+        Incoming::Message(message) => message.inside() == inside,
+        Incoming::TooLong => false,
+    }
+}
+
+/// The one message of a text.
+fn message(rt: &(impl Abort + AllocGlobal), text: &[u8]) -> Message {
+    let mut given = fed(rt.alloc(), text, b"").expect(rt, "memory");
+    match (given.pop(), given.pop()) {
+        (Some(Incoming::Message(message)), None) => message,
+        _ => panic!(rt; "not one message"),
+    }
+}
+
+/// What is read of the one message of a text.
+fn read(rt: &(impl Abort + AllocGlobal), mode: Mode, text: &[u8]) -> Result<Command, ProtoFault> {
+    Command::read(rt.alloc(), mode, &message(rt, text))
+}
 
 #[test]
 fn every_cut_gives_both_messages(rt: HostRuntime) {
     let stream = b"x< echo >< < echo >";
     for cut in 0..stream.len() + 1 {
-        let mut reader = Reader::new(rt.alloc()).expect(&rt, "memory");
-        let mut given = reader
-            .feed(rt.alloc(), &stream[..cut])
-            .expect(&rt, "memory");
-        let more = reader
-            .feed(rt.alloc(), &stream[cut..])
-            .expect(&rt, "memory");
-        for incoming in more {
-            given.push(incoming).expect(&rt, "memory");
-        }
+        let given = fed(rt.alloc(), &stream[..cut], &stream[cut..]).expect(&rt, "memory");
         same_at(&rt, cut, given.len(), 2);
-        for incoming in given {
-            match incoming {
-                Incoming::Message(message) => { same(&rt, message.inside(), b" echo ".as_slice()) }
-                Incoming::TooLong => panic!(rt; "too long"),
-            }
+        for incoming in &given {
+            same_at(&rt, cut, is_message(incoming, b" echo "), true);
         }
+    }
+}
+
+/// A message of so many bytes, and another one.
+fn long_stream(alloc: Global, len: usize) -> Result<Vec<u8>, AllocError> {
+    let mut stream = Vec::new(alloc);
+    stream.push(b'<')?;
+    stream.resize(len.saturating_add(1), b'a')?;
+    stream.extend_from_slice(b">< echo >")?;
+    Ok(stream)
+}
+
+/// How many bytes the message has that is the first of two, if it is not too long. The other one is read.
+fn first_length(rt: &(impl Abort + AllocGlobal), stream: &[u8]) -> Option<usize> {
+    let given = fed(rt.alloc(), stream, b"").expect(rt, "memory");
+    let [first, second] = given.as_slice() else {
+        panic!(rt; "not two messages");
+    };
+    same(rt, is_message(second, b" echo "), true);
+    match first {
+        Incoming::Message(message) => Some(message.inside().len()),
+        Incoming::TooLong => None,
     }
 }
 
 #[test]
 fn a_message_has_at_most_1024_bytes(rt: HostRuntime) {
-    for (len, passes) in [(1024, true), (1025, false)] {
-        let mut reader = Reader::new(rt.alloc()).expect(&rt, "memory");
-        let mut stream = Vec::new(rt.alloc());
-        stream.push(b'<').expect(&rt, "memory");
-        for _ in 0..len {
-            stream.push(b'a').expect(&rt, "memory");
-        }
-        stream.extend_from_slice(b">< echo >").expect(&rt, "memory");
-        let given = reader.feed(rt.alloc(), &stream).expect(&rt, "memory");
-        assert_eq!(rt; given.len(), 2);
-        match &given[0] {
-            Incoming::Message(message) => {
-                assert!(rt; passes);
-                same(&rt, message.inside().len(), len);
-            }
-            Incoming::TooLong => assert!(rt; !passes),
-        }
-        match &given[1] {
-            Incoming::Message(message) => same(&rt, message.inside(), b" echo ".as_slice()),
-            Incoming::TooLong => panic!(rt; "the next message was not read"),
-        }
+    for (len, read) in [(1024, Some(1024)), (1025, None)] {
+        let stream = long_stream(rt.alloc(), len).expect(&rt, "memory");
+        same_at(&rt, len, first_length(&rt, &stream), read);
     }
+}
+
+/// Whether a fault is shown in the words of its cause.
+fn has_words_of_its_cause(rt: &(impl Abort + AllocGlobal), fault: ProtoFault) -> bool {
+    let shown = format!(in rt.alloc(); "{fault}").expect(rt, "memory");
+    shown.as_bytes() == Cause::from(fault).text()
 }
 
 #[test]
@@ -100,45 +132,37 @@ fn faults_are_told_in_their_order(rt: HostRuntime) {
         (raw, b"< errmask 123456789 >", ProtoFault::BadNumber),
     ];
     for (mode, text, fault) in cases {
-        let mut reader = Reader::new(rt.alloc()).expect(&rt, "memory");
-        let given = reader.feed(rt.alloc(), text).expect(&rt, "memory");
-        let [Incoming::Message(message)] = given.as_slice() else {
-            panic!(rt; "no message");
-        };
-        match Command::read(rt.alloc(), mode, message) {
-            Ok(_) => panic!(rt; "read"),
-            Err(told) => {
-                same_at(&rt, text, told, fault);
-                let shown = format!(in rt.alloc(); "{told}").expect(&rt, "memory");
-                same(&rt, shown.as_bytes(), Cause::from(told).text());
-            }
-        }
+        same_at(&rt, text, read(&rt, mode, text).err(), Some(fault));
+        same_at(&rt, text, has_words_of_its_cause(&rt, fault), true);
     }
+}
+
+/// The frame that a text sends.
+fn sent(rt: &(impl Abort + AllocGlobal), text: &[u8]) -> Option<Frame> {
+    match read(rt, Mode::Raw, text) {
+        Ok(Command::Send(frame)) => Some(frame),
+        _ => None,
+    }
+}
+
+/// A text sends this frame.
+fn sends(rt: &(impl Abort + AllocGlobal), text: &[u8], frame: Option<Frame>) {
+    same_at(rt, text, frame.is_some(), true);
+    same_at(rt, text, sent(rt, text), frame);
 }
 
 #[test]
 fn frames_are_read(rt: HostRuntime) {
     let short = CanId::standard(0x123).expect(&rt, "an id");
     let long = CanId::extended(0x123).expect(&rt, "an id");
-    let cases: [(&[u8], Result<Frame, TooLong>); 4] = [
-        (b"< send 123 0  >", Frame::data(short, b"")),
-        (b"<send 123 2 1 ff>", Frame::data(short, b"\x01\xFF")),
-        (b"< send 80000123 1 aB >", Frame::data(long, b"\xAB")),
-        (b"<\tsendrtr 00000123 3 >", Frame::remote(long, 3)),
+    let cases: [(&[u8], Option<Frame>); 4] = [
+        (b"< send 123 0  >", Frame::data(short, b"").ok()),
+        (b"<send 123 2 1 ff>", Frame::data(short, b"\x01\xFF").ok()),
+        (b"< send 80000123 1 aB >", Frame::data(long, b"\xAB").ok()),
+        (b"<\tsendrtr 00000123 3 >", Frame::remote(long, 3).ok()),
     ];
     for (text, frame) in cases {
-        let mut reader = Reader::new(rt.alloc()).expect(&rt, "memory");
-        let given = reader.feed(rt.alloc(), text).expect(&rt, "memory");
-        let [Incoming::Message(message)] = given.as_slice() else {
-            panic!(rt; "no message");
-        };
-        let Ok(command) = Command::read(rt.alloc(), Mode::Raw, message) else {
-            panic!(rt; "refused");
-        };
-        let Command::Send(read) = &command else {
-            panic!(rt; "no frame");
-        };
-        same_at(&rt, text, Ok(*read), frame);
+        sends(&rt, text, frame);
     }
 }
 
@@ -146,31 +170,55 @@ fn frames_are_read(rt: HostRuntime) {
 fn fd_frames_are_read(rt: HostRuntime) {
     let short = CanId::standard(0x123).expect(&rt, "an id");
     let long = CanId::extended(0x1FFF_FFFF).expect(&rt, "an id");
-    let cases: [(&[u8], Result<Frame, BadFdLength>); 4] = [
-        (b"< sendfd 123 0 >", Frame::fd(short, b"")),
-        (b"< sendfd 123 1 fF >", Frame::fd(short, b"\xFF")),
+    let cases: [(&[u8], Option<Frame>); 4] = [
+        (b"< sendfd 123 0 >", Frame::fd(short, b"").ok()),
+        (b"< sendfd 123 1 fF >", Frame::fd(short, b"\xFF").ok()),
         (
             b"< sendfd 123 12 1 2 3 4 5 6 7 8 9 a b c >",
-            Frame::fd(short, b"\x01\x02\x03\x04\x05\x06\x07\x08\x09\x0A\x0B\x0C"),
+            Frame::fd(short, &[1, 2, 3, 4, 5, 6, 7, 8, 9, 10, 11, 12]).ok(),
         ),
         (
             b"< sendfd 1FFFFFFF 64 a5 a5 a5 a5 a5 a5 a5 a5 a5 a5 a5 a5 a5 a5 a5 a5 a5 a5 a5 a5 a5 a5 a5 a5 a5 a5 a5 a5 a5 a5 a5 a5 a5 a5 a5 a5 a5 a5 a5 a5 a5 a5 a5 a5 a5 a5 a5 a5 a5 a5 a5 a5 a5 a5 a5 a5 a5 a5 a5 a5 a5 a5 a5 a5 >",
-            Frame::fd(long, &[0xA5; 64]),
+            Frame::fd(long, &[0xA5; 64]).ok(),
         ),
     ];
     for (text, frame) in cases {
-        let mut reader = Reader::new(rt.alloc()).expect(&rt, "memory");
-        let given = reader.feed(rt.alloc(), text).expect(&rt, "memory");
-        let [Incoming::Message(message)] = given.as_slice() else {
-            panic!(rt; "no message");
-        };
-        let Ok(command) = Command::read(rt.alloc(), Mode::Raw, message) else {
-            panic!(rt; "refused");
-        };
-        let Command::Send(read) = &command else {
-            panic!(rt; "no frame");
-        };
-        same_at(&rt, text, Ok(*read), frame);
+        sends(&rt, text, frame);
+    }
+}
+
+/// Whether this is the command of this place in the stream of the test below.
+fn is_command(place: usize, command: &Command) -> bool {
+    match (place, command) {
+        (0, Command::Open(name)) => name.bytes() == b"can0".as_slice(),
+        (1, Command::SetFilters(set)) => {
+            set.filters().len() == 2 && set.filters()[0].mask() == 0xC000_07FF
+        }
+        (2, Command::SetOption(option)) => *option == Opt::Join(true),
+        (3, Command::SetOption(option)) => *option == Opt::Loopback(false),
+        (4, Command::SetOption(option)) => *option == Opt::RecvOwn(true),
+        (5, Command::SetOption(option)) => *option == Opt::ErrMask(0x204),
+        (6, Command::ErrData(on)) => *on,
+        (7, Command::Stats)
+        | (8, Command::Status)
+        | (9, Command::Restart)
+        | (10, Command::Echo)
+        | (11, Command::Rawmode)
+        | (13, Command::Close) => true,
+        (12, Command::SetOption(option)) => *option == Opt::FdFrames(true),
+        _ => false,
+    }
+}
+
+/// Whether a message is the command of its place.
+fn is_read(alloc: Global, place: usize, incoming: &Incoming) -> bool {
+    let Incoming::Message(message) = incoming else {
+        return false;
+    };
+    let mode = if place == 0 { Mode::NoBus } else { Mode::Raw };
+    match Command::read(alloc, mode, message) {
+        Ok(command) => is_command(place, &command),
+        Err(_) => false,
     }
 }
 
@@ -178,93 +226,74 @@ fn fd_frames_are_read(rt: HostRuntime) {
 fn commands_are_read(rt: HostRuntime) {
     let stream =
         b"< open can0 >< filter 2 123 C00007FF 0 0 >< join 1 >< loopback 0 >< recvown 1 >< errmask 204 >< errdata 1 >< stats >< status >< restart >< echo >< rawmode >< fdframes 1 >< close >";
-    let mut reader = Reader::new(rt.alloc()).expect(&rt, "memory");
-    let given = reader.feed(rt.alloc(), stream).expect(&rt, "memory");
-    let mut read = 0;
-    for incoming in given {
-        let Incoming::Message(message) = incoming else {
-            panic!(rt; "too long");
-        };
-        let mode = if read == 0 { Mode::NoBus } else { Mode::Raw };
-        let Ok(command) = Command::read(rt.alloc(), mode, &message) else {
-            panic!(rt; "refused");
-        };
-        let right = match (read, command) {
-            (0, Command::Open(name)) => name.bytes() == b"can0".as_slice(),
-            (1, Command::SetFilters(set)) => {
-                set.filters().len() == 2 && set.filters()[0].mask() == 0xC000_07FF
-            }
-            (2, Command::SetOption(option)) => option == Opt::Join(true),
-            (3, Command::SetOption(option)) => option == Opt::Loopback(false),
-            (4, Command::SetOption(option)) => option == Opt::RecvOwn(true),
-            (5, Command::SetOption(option)) => option == Opt::ErrMask(0x204),
-            (6, Command::ErrData(on)) => on,
-            (7, Command::Stats)
-            | (8, Command::Status)
-            | (9, Command::Restart)
-            | (10, Command::Echo)
-            | (11, Command::Rawmode)
-            | (13, Command::Close) => true,
-            (12, Command::SetOption(option)) => option == Opt::FdFrames(true),
-            _ => false,
-        };
-        assert!(rt; right, "at {read}");
-        read += 1;
+    let given = fed(rt.alloc(), stream, b"").expect(&rt, "memory");
+    same(&rt, given.len(), 14);
+    for (place, incoming) in given.iter().enumerate() {
+        same_at(&rt, place, is_read(rt.alloc(), place, incoming), true);
     }
-    same(&rt, read, 14);
+}
+
+/// An item is written so, with the data of error message frames or without.
+fn is_written(rt: &impl Abort, item: Item, micros: u64, errdata: bool, text: &[u8]) {
+    let moment = Moment::new(micros).expect(rt, "a moment");
+    same(rt, item_text(item, moment, errdata).as_bytes(), text);
 }
 
 #[test]
-fn items_are_written(rt: HostRuntime) {
-    let standard = CanId::standard(0x123).expect(&rt, "an id");
-    let extended = CanId::extended(0x123).expect(&rt, "an id");
-    let data = Frame::data(standard, b"\x11\x22\x33\x44").expect(&rt, "a frame");
-    let empty = Frame::data(standard, b"").expect(&rt, "a frame");
-    let remote = Frame::remote(extended, 3).expect(&rt, "a frame");
-    let bytes = [0, 8, 0, 0, 0, 0, 0x60, 0];
-    let state = ErrorFrame::new(0x204, bytes).expect(&rt, "a class");
-    let off = ErrorFrame::new(0x40, [0; 8]).expect(&rt, "a class");
+fn frames_are_written(rt: HostRuntime) {
+    let short = CanId::standard(0x123).expect(&rt, "an id");
+    let long = CanId::extended(0x123).expect(&rt, "an id");
     let wide = [1, 2, 3, 4, 5, 6, 7, 8, 9, 10, 11, 12];
-    let fd = Frame::fd(standard, &wide).expect(&rt, "a frame");
-    let short_fd = Frame::fd(standard, b"").expect(&rt, "a frame");
-    let cases: [(Item, u64, bool, &[u8]); 8] = [
+    let last = 9_999_999_999_999_999;
+    let cases: [(Option<Frame>, u64, bool, &[u8]); 5] = [
         (
-            Item::Data(data),
+            Frame::data(short, b"\x11\x22\x33\x44").ok(),
             23_424_242,
             false,
             b"< frame 123 23.424242 11223344 >",
         ),
         (
-            Item::Data(empty),
-            9_999_999_999_999_999,
+            Frame::data(short, b"").ok(),
+            last,
             true,
             b"< frame 123 9999999999.999999  >",
         ),
         (
-            Item::Data(remote),
+            Frame::remote(long, 3).ok(),
             5,
             false,
             b"< remote 00000123 0.000005 3 >",
         ),
         (
-            Item::Error(state),
-            12,
-            true,
-            b"< error 204 0.000012 0008000000006000 >",
-        ),
-        (Item::Error(state), 12, false, b"< error 204 0.000012 >"),
-        (Item::Error(off), 32, false, b"< error 040 0.000032 >"),
-        (
-            Item::Data(fd),
+            Frame::fd(short, &wide).ok(),
             1,
             false,
             b"< fdframe 123 0.000001 0102030405060708090A0B0C >",
         ),
-        (Item::Data(short_fd), 1, true, b"< fdframe 123 0.000001  >"),
+        (
+            Frame::fd(short, b"").ok(),
+            1,
+            true,
+            b"< fdframe 123 0.000001  >",
+        ),
     ];
-    for (item, micros, errdata, text) in cases {
-        let moment = Moment::new(micros).expect(&rt, "a moment");
-        same(&rt, item_text(item, moment, errdata).as_bytes(), text);
+    for (frame, micros, errdata, text) in cases {
+        let item = Item::Data(frame.expect(&rt, "a frame"));
+        is_written(&rt, item, micros, errdata, text);
+    }
+}
+
+#[test]
+fn error_message_frames_are_written(rt: HostRuntime) {
+    let state = ErrorFrame::new(0x204, [0, 8, 0, 0, 0, 0, 0x60, 0]).expect(&rt, "a class");
+    let off = ErrorFrame::new(0x40, [0; 8]).expect(&rt, "a class");
+    let cases: [(ErrorFrame, u64, bool, &[u8]); 3] = [
+        (state, 12, true, b"< error 204 0.000012 0008000000006000 >"),
+        (state, 12, false, b"< error 204 0.000012 >"),
+        (off, 32, false, b"< error 040 0.000032 >"),
+    ];
+    for (frame, micros, errdata, text) in cases {
+        is_written(&rt, Item::Error(frame), micros, errdata, text);
     }
 }
 
@@ -274,21 +303,10 @@ fn answers_are_written(rt: HostRuntime) {
         unread: 0,
         dropped: 18_446_744_073_709_551_615,
     };
-    let counters = |tec, rec| Counters::new(tec, rec).expect(&rt, "counters");
-    let cases: [(Answer, &[u8]); 11] = [
+    let cases: [(Answer, &[u8]); 7] = [
         (Answer::Greeting, b"< hi >"),
         (Answer::Done, b"< ok >"),
         (Answer::Echo, b"< echo >"),
-        (Answer::Status(counters(95, 0)), b"< status active 95 0 >"),
-        (Answer::Status(counters(0, 96)), b"< status warning 0 96 >"),
-        (
-            Answer::Status(counters(127, 255)),
-            b"< status passive 127 255 >",
-        ),
-        (
-            Answer::Status(counters(256, 128)),
-            b"< status off 256 128 >",
-        ),
         (
             Answer::Closing(closed),
             b"< closed 0 18446744073709551615 >",
@@ -308,5 +326,19 @@ fn answers_are_written(rt: HostRuntime) {
     ];
     for (answer, text) in cases {
         same(&rt, reply_text(answer).as_bytes(), text);
+    }
+}
+
+#[test]
+fn statuses_are_written(rt: HostRuntime) {
+    let cases: [(u16, u16, &[u8]); 4] = [
+        (95, 0, b"< status active 95 0 >"),
+        (0, 96, b"< status warning 0 96 >"),
+        (127, 255, b"< status passive 127 255 >"),
+        (256, 128, b"< status off 256 128 >"),
+    ];
+    for (tec, rec, text) in cases {
+        let counters = Counters::new(tec, rec).expect(&rt, "counters");
+        same(&rt, reply_text(Answer::Status(counters)).as_bytes(), text);
     }
 }

@@ -8,9 +8,8 @@ use can_fault::{GlobalKind, LocalKind, Verdict};
 use can_filter::{Filter, FilterSet};
 use can_frame::{CanId, ErrorFrame, Frame, Iface, IfaceSet, Item, Moment};
 use can_packed::PackedRecord;
-use std::alloc::AllocGlobal;
+use std::alloc::{AllocError, AllocGlobal, Global};
 use std::process::Abort;
-use std::test::Fail;
 
 fn iface(rt: &impl Abort, number: u8) -> Iface {
     Iface::new(number).expect(rt, "below 16")
@@ -79,135 +78,133 @@ const VERDICTS: [Verdict; 8] = [
 
 const CLASSES: [Class; 4] = [Class::Done, Class::LastBit, Class::Destroyed, Class::NoAck];
 
-/// Whether both events ask for the same.
-fn asks_the_same(one: &Event, other: &Event) -> bool {
-    match (one, other) {
-        (Event::Open(i, c), Event::Open(j, d)) => i == j && c == d,
-        (Event::Close(s), Event::Close(t)) => s == t,
-        (Event::SetFilters(s, f), Event::SetFilters(t, g)) => s == t && f.filters() == g.filters(),
-        (Event::SetOption(s, o), Event::SetOption(t, p)) => s == t && o == p,
-        (Event::Send(s, f), Event::Send(t, g)) => s == t && f == g,
-        (Event::Receive(s), Event::Receive(t)) => s == t,
-        (Event::Attempt(m, v), Event::Attempt(n, w)) => m == n && v == w,
-        (Event::Restart(i, m), Event::Restart(j, n)) => i == j && m == n,
-        _ => false,
-    }
-}
-
 /// Whether this entry stands at this place.
-fn holds(record: &PackedRecord, place: usize, event: &Event, reply: &Reply) -> bool {
+fn holds(record: &PackedRecord, place: usize, entry: &Entry) -> bool {
     match record.look(place) {
-        Some(looked) => {
-            asks_the_same(&looked.entry().event, event) && looked.entry().reply == *reply
-        }
+        Some(looked) => looked.entry() == entry,
         None => false,
     }
 }
 
 /// Packs an entry between two with FD frames, and compares what is given back.
-fn comes_back(rt: &(impl Abort + AllocGlobal), event: Event, reply: Reply) -> Result<(), Fail>
+fn comes_back(rt: &(impl Abort + AllocGlobal), event: Event, reply: Reply)
     requires { is_wide event reply ≡ false }
 {
-    let first = Event::Send(SocketId(1), fd(rt, 64));
-    let last = Event::Send(SocketId(2), fd(rt, 12));
-    let (sent, refused) = (Reply::Sent(5), Reply::Refused(Refusal::FdOff));
-    let mut record = PackedRecord::with_capacity(rt.alloc(), 3)?;
-    record.push(&first, &sent);
+    let first = Entry {
+        event: Event::Send(SocketId(1), fd(rt, 64)),
+        reply: Reply::Sent(5),
+    };
+    let last = Entry {
+        event: Event::Send(SocketId(2), fd(rt, 12)),
+        reply: Reply::Refused(Refusal::FdOff),
+    };
+    let mut record = PackedRecord::with_capacity(rt.alloc(), 3).expect(rt, "memory");
+    record.push(&first.event, &first.reply);
     record.push(&event, &reply);
-    record.push(&last, &refused);
-    same(rt, holds(&record, 0, &first, &sent), true);
-    same(rt, holds(&record, 1, &event, &reply), true);
-    same(rt, holds(&record, 2, &last, &refused), true);
-    Ok(())
+    record.push(&last.event, &last.reply);
+    same_at(rt, 0, holds(&record, 0, &first), true);
+    same_at(rt, 1, holds(&record, 1, &Entry { event, reply }), true);
+    same_at(rt, 2, holds(&record, 2, &last), true);
+}
+
+fn copied(alloc: Global, entry: &Entry) -> Result<Entry, AllocError> {
+    Ok(Entry {
+        event: entry.event.try_copy(alloc)?,
+        reply: entry.reply,
+    })
 }
 
 /// Keeps an entry with memory of its own, and compares what is given back.
-fn boxed_comes_back(
-    rt: &(impl Abort + AllocGlobal),
-    event: Event,
-    reply: Reply,
-) -> Result<(), Fail> {
-    let given = event.try_copy(rt.alloc())?;
-    let mut record = PackedRecord::with_capacity(rt.alloc(), 1)?;
-    let entry = Entry {
-        event: given,
-        reply,
-    };
-    record.push_boxed(Box::new(rt.alloc(), entry)?);
-    same(rt, holds(&record, 0, &event, &reply), true);
-    Ok(())
+fn boxed_comes_back(rt: &(impl Abort + AllocGlobal), event: Event, reply: Reply) {
+    let entry = Entry { event, reply };
+    let copy = copied(rt.alloc(), &entry).expect(rt, "memory");
+    let mut record = PackedRecord::with_capacity(rt.alloc(), 1).expect(rt, "memory");
+    record.push_boxed(Box::new(rt.alloc(), copy).expect(rt, "memory"));
+    same(rt, holds(&record, 0, &entry), true);
 }
 
 #[test]
-fn calls_of_sockets_come_back(rt: HostRuntime) -> Result<(), Fail> {
-    let last = SocketId(0xFFFF_FFFF);
+fn opens_and_restarts_come_back(rt: HostRuntime) {
+    let at = moment(&rt, LAST_MOMENT);
     for number in [0, 15] {
         let on = iface(&rt, number);
-        comes_back(&rt, Event::Open(on, 65_536), Reply::Opened(last))?;
-        comes_back(
-            &rt,
-            Event::Open(on, 0),
-            Reply::Refused(Refusal::BadCapacity),
-        )?;
-        let at = moment(&rt, LAST_MOMENT);
-        comes_back(&rt, Event::Restart(on, at), Reply::Done)?;
-        comes_back(
-            &rt,
-            Event::Restart(on, at),
-            Reply::Refused(Refusal::NotBusOff),
-        )?;
+        let opened = Reply::Opened(SocketId(u32::MAX));
+        comes_back(&rt, Event::Open(on, 65_536), opened);
+        let refused = Reply::Refused(Refusal::BadCapacity);
+        comes_back(&rt, Event::Open(on, 0), refused);
+        comes_back(&rt, Event::Restart(on, at), Reply::Done);
+        let refused = Reply::Refused(Refusal::NotBusOff);
+        comes_back(&rt, Event::Restart(on, at), refused);
     }
+}
+
+#[test]
+fn calls_of_sockets_come_back(rt: HostRuntime) {
+    let last = SocketId(u32::MAX);
     let counts = Closed {
         unread: u64::MAX,
         dropped: u64::MAX - 1,
     };
-    comes_back(&rt, Event::Close(last), Reply::Closed(counts))?;
-    comes_back(&rt, Event::Close(last), Reply::Refused(Refusal::NoSocket))?;
+    comes_back(&rt, Event::Close(last), Reply::Closed(counts));
+    let refused = Reply::Refused(Refusal::NoSocket);
+    comes_back(&rt, Event::Close(last), refused);
     for option in [
         Opt::Loopback(false),
         Opt::RecvOwn(true),
         Opt::Join(true),
-        Opt::ErrMask(0xFFFF_FFFF),
+        Opt::ErrMask(u32::MAX),
         Opt::FdFrames(true),
     ] {
-        comes_back(&rt, Event::SetOption(last, option), Reply::Done)?;
+        comes_back(&rt, Event::SetOption(last, option), Reply::Done);
         let refused = Reply::Refused(Refusal::NoSocket);
-        comes_back(&rt, Event::SetOption(last, option), refused)?;
+        comes_back(&rt, Event::SetOption(last, option), refused);
     }
-    Ok(())
+}
+
+/// An item from the last interface, of the last moment.
+fn received(rt: &impl Abort, item: Item, number: u32) -> Received
+    ensures { result.number ≡ number }
+{
+    Received {
+        item,
+        from: iface(rt, 15),
+        number: u64::from(number),
+        moment: moment(rt, LAST_MOMENT),
+    }
 }
 
 #[test]
-fn frames_and_items_come_back(rt: HostRuntime) -> Result<(), Fail> {
-    let id = SocketId(0xFFFF_FFFF);
+fn sent_frames_come_back(rt: HostRuntime) {
+    let id = SocketId(u32::MAX);
     for frame in frames(&rt) {
         for number in [0, u32::MAX] {
-            let number = u64::from(number);
-            comes_back(&rt, Event::Send(id, frame), Reply::Sent(number))?;
-            let received = Received {
-                item: Item::Data(frame),
-                from: iface(&rt, 15),
-                number,
-                moment: moment(&rt, LAST_MOMENT),
-            };
-            comes_back(&rt, Event::Receive(id), Reply::Received(Some(received)))?;
+            let sent = Reply::Sent(u64::from(number));
+            comes_back(&rt, Event::Send(id, frame), sent);
         }
-        comes_back(
-            &rt,
-            Event::Send(id, frame),
-            Reply::Refused(Refusal::NoBuffers),
-        )?;
+        let refused = Reply::Refused(Refusal::NoBuffers);
+        comes_back(&rt, Event::Send(id, frame), refused);
+    }
+}
+
+#[test]
+fn received_items_come_back(rt: HostRuntime) {
+    let id = SocketId(u32::MAX);
+    for frame in frames(&rt) {
+        for number in [0, u32::MAX] {
+            let taken = received(&rt, Item::Data(frame), number);
+            comes_back(&rt, Event::Receive(id), Reply::Received(Some(taken)));
+        }
     }
     let error = ErrorFrame::new(0x1FFF_FFFF, [0, 1, 2, 3, 252, 253, 254, 255]);
-    let received = Received {
-        item: Item::Error(error.expect(&rt, "29 bits")),
+    let error = Item::Error(error.expect(&rt, "29 bits"));
+    let taken = Received {
         from: iface(&rt, 3),
-        number: 0,
         moment: moment(&rt, 1),
+        ..received(&rt, error, 0)
     };
-    comes_back(&rt, Event::Receive(id), Reply::Received(Some(received)))?;
-    comes_back(&rt, Event::Receive(id), Reply::Received(None))?;
-    comes_back(&rt, Event::Receive(id), Reply::Refused(Refusal::NoSocket))
+    comes_back(&rt, Event::Receive(id), Reply::Received(Some(taken)));
+    comes_back(&rt, Event::Receive(id), Reply::Received(None));
+    comes_back(&rt, Event::Receive(id), Reply::Refused(Refusal::NoSocket));
 }
 
 /// A frame that was tried.
@@ -229,84 +226,99 @@ fn tried(moment: Moment, winner: Iface, frame: Frame, class: Class, off: IfaceSe
     }
 }
 
+/// Attempts that tried a frame come back, whether the winner stays on the bus or goes off.
+fn tried_comes_back(rt: &(impl Abort + AllocGlobal), verdict: Verdict, class: Class, frame: Frame) {
+    for (winner, micros) in [(0, 0), (15, LAST_MOMENT), (9, 512)] {
+        let at = moment(rt, micros);
+        let winner = iface(rt, winner);
+        let stays = tried(at, winner, frame, class, IfaceSet(0));
+        comes_back(rt, Event::Attempt(at, verdict), Reply::Tried(stays));
+        let itself = IfaceSet(1 << winner.number());
+        let goes = tried(at, winner, frame, class, itself);
+        comes_back(rt, Event::Attempt(at, verdict), Reply::Tried(goes));
+    }
+}
+
 #[test]
-fn attempts_come_back(rt: HostRuntime) -> Result<(), Fail> {
+fn attempts_come_back(rt: HostRuntime) {
     for verdict in VERDICTS {
         for class in CLASSES {
             for frame in frames(&rt) {
-                for (winner, micros) in [(0, 0), (15, LAST_MOMENT), (9, 512)] {
-                    let at = moment(&rt, micros);
-                    let winner = iface(&rt, winner);
-                    let stays = tried(at, winner, frame, class, IfaceSet(0));
-                    comes_back(&rt, Event::Attempt(at, verdict), Reply::Tried(stays))?;
-                    let itself = IfaceSet(1 << winner.number());
-                    let goes = tried(at, winner, frame, class, itself);
-                    comes_back(&rt, Event::Attempt(at, verdict), Reply::Tried(goes))?;
-                }
+                tried_comes_back(&rt, verdict, class, frame);
             }
         }
-        let at = moment(&rt, LAST_MOMENT);
-        comes_back(
-            &rt,
-            Event::Attempt(at, verdict),
-            Reply::Idle {
-                restarted: IfaceSet(0xFFFF),
-            },
-        )?;
+    }
+}
+
+#[test]
+fn attempts_without_a_frame_come_back(rt: HostRuntime) {
+    let at = moment(&rt, LAST_MOMENT);
+    let restarted = IfaceSet(0xFFFF);
+    for verdict in VERDICTS {
+        let attempt = Event::Attempt(at, verdict);
+        comes_back(&rt, attempt, Reply::Idle { restarted });
         let refused = Reply::Refused(Refusal::RecordFull);
-        comes_back(&rt, Event::Attempt(at, verdict), refused)?;
+        comes_back(&rt, Event::Attempt(at, verdict), refused);
     }
-    Ok(())
+}
+
+/// An event that sets one filter.
+fn filters_set(rt: &(impl Abort + AllocGlobal), id: SocketId) -> Event {
+    let filter = Filter::new(0x2000_0123, 0x7FF).expect(rt, "29 bits");
+    let filters = FilterSet::from_slice(rt.alloc(), &[filter]);
+    Event::SetFilters(id, filters.expect(rt, "memory"))
+}
+
+/// An attempt at microsecond 4, which takes these off the bus.
+fn tried_at_four(rt: &impl Abort, number: u64, off: u16) -> Tried {
+    Tried {
+        moment: moment(rt, 4),
+        winner: iface(rt, 0),
+        number,
+        frame: fd(rt, 64),
+        class: Class::Done,
+        accepted: IfaceSet(0),
+        off: IfaceSet(off),
+        restarted: IfaceSet(0),
+    }
 }
 
 #[test]
-fn wide_entries_come_back(rt: HostRuntime) -> Result<(), Fail> {
+fn wide_entries_come_back(rt: HostRuntime) {
     let id = SocketId(1);
-    let filters = FilterSet::from_slice(rt.alloc(), &[Filter::new(0x2000_0123, 0x7FF)?])?;
-    boxed_comes_back(&rt, Event::SetFilters(id, filters), Reply::Done)?;
+    boxed_comes_back(&rt, filters_set(&rt, id), Reply::Done);
     // What no bus answers.
-    let frame = fd(&rt, 64);
-    boxed_comes_back(&rt, Event::Send(id, frame), Reply::Sent(0x1_0000_0000))?;
+    let sent = Reply::Sent(0x1_0000_0000);
+    boxed_comes_back(&rt, Event::Send(id, fd(&rt, 64)), sent);
     for (at, number, off) in [(5, 0, 0), (4, u64::MAX, 0), (4, 0, 2), (4, 0, 5)] {
-        let tried = Tried {
-            moment: moment(&rt, 4),
-            winner: iface(&rt, 0),
-            number,
-            frame,
-            class: Class::Done,
-            accepted: IfaceSet(0),
-            off: IfaceSet(off),
-            restarted: IfaceSet(0),
-        };
         let event = Event::Attempt(moment(&rt, at), Verdict::Good);
-        boxed_comes_back(&rt, event, Reply::Tried(tried))?;
+        let reply = Reply::Tried(tried_at_four(&rt, number, off));
+        boxed_comes_back(&rt, event, reply);
     }
-    boxed_comes_back(&rt, Event::Close(id), Reply::Done)?;
-    boxed_comes_back(&rt, Event::Receive(id), Reply::Opened(id))
+    boxed_comes_back(&rt, Event::Close(id), Reply::Done);
+    boxed_comes_back(&rt, Event::Receive(id), Reply::Opened(id));
 }
 
-/// The number of the socket that the entry at a place closes.
-fn closed_at(record: &PackedRecord, place: usize) -> Option<u32> {
-    match record.look(place) {
-        Some(looked) => match &looked.entry().event {
-            Event::Close(id) => Some(id.0),
-            _ => None,
-        },
-        None => None,
-    }
+/// Whether the entry at a place is a close of this socket, which was not open.
+fn closes(record: &PackedRecord, place: usize, number: u32) -> bool {
+    let entry = Entry {
+        event: Event::Close(SocketId(number)),
+        reply: Reply::Refused(Refusal::NoSocket),
+    };
+    holds(record, place, &entry)
 }
 
 #[test]
-fn a_packed_record_lists_its_entries(rt: HostRuntime) -> Result<(), Fail> {
-    let mut record = PackedRecord::with_capacity(rt.alloc(), 3)?;
+fn a_packed_record_lists_its_entries(rt: HostRuntime) {
+    let mut record = PackedRecord::with_capacity(rt.alloc(), 3).expect(&rt, "memory");
     same(&rt, record.len(), 0);
-    let refused = Reply::Refused(Refusal::NoSocket);
-    record.push(&Event::Close(SocketId(4)), &refused);
-    record.push(&Event::Close(SocketId(5)), &refused);
-    record.push(&Event::Close(SocketId(6)), &refused);
+    let reply = Reply::Refused(Refusal::NoSocket);
+    record.push(&Event::Close(SocketId(4)), &reply);
+    record.push(&Event::Close(SocketId(5)), &reply);
+    record.push(&Event::Close(SocketId(6)), &reply);
     same(&rt, record.len(), 3);
-    for (place, number) in [(0, Some(4)), (1, Some(5)), (2, Some(6)), (3, None)] {
-        same_at(&rt, place, closed_at(&record, place), number);
+    for (place, number) in [(0, 4), (1, 5), (2, 6)] {
+        same_at(&rt, place, closes(&record, place, number), true);
     }
-    Ok(())
+    same(&rt, record.look(3).is_none(), true);
 }

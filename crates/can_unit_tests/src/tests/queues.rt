@@ -21,6 +21,15 @@ fn keeps_the_order<Q: BoundedQueue<u32>>(rt: &impl Abort, alloc: Global) -> Resu
     Ok(())
 }
 
+/// Fills a queue that has room for one item more, and takes its oldest.
+fn goes_on<Q: BoundedQueue<u32>>(rt: &impl Abort, queue: &mut Q, oldest: u32) {
+    same(rt, queue.try_push(oldest.saturating_add(2)), Ok(()));
+    same(rt, queue.try_push(999), Err(999));
+    same(rt, queue.len(), 3);
+    same(rt, queue.front().copied(), Some(oldest));
+    same(rt, queue.pop(), Some(oldest));
+}
+
 /// Fills a queue with room for three a hundred times, each time one item further, so that a ring goes
 /// round often.
 fn goes_round<Q: BoundedQueue<u32>>(rt: &impl Abort, alloc: Global) -> Result<(), QueueError> {
@@ -28,11 +37,7 @@ fn goes_round<Q: BoundedQueue<u32>>(rt: &impl Abort, alloc: Global) -> Result<()
     same(rt, queue.try_push(0), Ok(()));
     same(rt, queue.try_push(1), Ok(()));
     for oldest in 0..100 {
-        same(rt, queue.try_push(oldest + 2), Ok(()));
-        same(rt, queue.try_push(999), Err(999));
-        same(rt, queue.len(), 3);
-        same(rt, queue.front().copied(), Some(oldest));
-        same(rt, queue.pop(), Some(oldest));
+        goes_on(rt, &mut queue, oldest);
     }
     same(rt, queue.pop(), Some(100));
     same(rt, queue.pop(), Some(101));
@@ -42,25 +47,24 @@ fn goes_round<Q: BoundedQueue<u32>>(rt: &impl Abort, alloc: Global) -> Result<()
 
 /// A queue for no items is refused.
 fn refuses_no_room<Q: BoundedQueue<u32>>(rt: &impl Abort, alloc: Global) {
-    same(
-        rt,
-        Q::with_capacity(alloc, 0).err(),
-        Some(QueueError::BadCapacity),
-    );
+    let refused = Q::with_capacity(alloc, 0).err();
+    same(rt, refused, Some(QueueError::BadCapacity));
+}
+
+/// What holds of every kind of queue.
+fn is_a_queue<Q: BoundedQueue<u32>>(rt: &impl Abort, alloc: Global) -> Result<(), Fail> {
+    keeps_the_order::<Q>(rt, alloc)?;
+    goes_round::<Q>(rt, alloc)?;
+    refuses_no_room::<Q>(rt, alloc);
+    Ok(())
 }
 
 #[test]
 fn a_list_queue_keeps_the_order(rt: HostRuntime) -> Result<(), Fail> {
-    keeps_the_order::<ListQueue<u32>>(&rt, rt.alloc())?;
-    goes_round::<ListQueue<u32>>(&rt, rt.alloc())?;
-    refuses_no_room::<ListQueue<u32>>(&rt, rt.alloc());
-    Ok(())
+    is_a_queue::<ListQueue<u32>>(&rt, rt.alloc())
 }
 
 #[test]
 fn a_ring_queue_keeps_the_order(rt: HostRuntime) -> Result<(), Fail> {
-    keeps_the_order::<RingQueue<u32>>(&rt, rt.alloc())?;
-    goes_round::<RingQueue<u32>>(&rt, rt.alloc())?;
-    refuses_no_room::<RingQueue<u32>>(&rt, rt.alloc());
-    Ok(())
+    is_a_queue::<RingQueue<u32>>(&rt, rt.alloc())
 }
