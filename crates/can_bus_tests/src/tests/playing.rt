@@ -103,21 +103,85 @@ fn call<T: BoundedQueue<Pending>, R: BoundedQueue<Received>, A: Arbiter>(
     })
 }
 
-/// Carries out one event on both buses, on one by its own call and on the other by `answer`. Both give the reply of the
-/// entry, and then report the same.
+/// What the call that is named for an event gives, or why it is refused.
+fn called(alloc: Global, bus: &mut ListBus, event: &Event) -> Reply {
+    call(alloc, bus, event).unwrap_or_else(Reply::Refused)
+}
+
+/// A dialogue, written out: its lines, those of its record, and what the record says.
+#[derive(Drop)]
+struct Dialogue {
+    text: String,
+    lines: String,
+    config: BusConfig,
+    entries: Vec<Entry>,
+}
+
+/// The bus and the entries that the text of a record has.
+fn read_entries(alloc: Global, lines: &str) -> Result<(BusConfig, Vec<Entry>), Fail> {
+    let record = read(alloc, lines)?;
+    Ok((record.config(), entries_of(alloc, &record)?))
+}
+
+impl Dialogue {
+    fn read(alloc: Global, dialogue: &str) -> Result<Dialogue, Fail> {
+        let text = written_out(alloc, dialogue)?;
+        let lines = record_lines(alloc, &text)?;
+        let (config, entries) = read_entries(alloc, &lines)?;
+        Ok(Dialogue {
+            text,
+            lines,
+            config,
+            entries,
+        })
+    }
+}
+
+/// A bus of either pair of types.
+#[derive(Drop)]
+struct Buses {
+    lists: ListBus,
+    rings: RingBus,
+}
+
+impl Buses {
+    fn new(alloc: Global, config: BusConfig) -> Result<Buses, Fail> {
+        let lists = made(alloc, config)?;
+        let rings = made(alloc, config)?;
+        Ok(Buses { lists, rings })
+    }
+}
+
+/// Both buses report the same of themselves, and this is what they report.
+fn alike(rt: &impl Abort, buses: &Buses, place: usize) -> Result<Readings, Fail> {
+    let report = Readings::of(&buses.lists)?;
+    same_at(rt, place, Readings::of(&buses.rings)?, report);
+    Ok(report)
+}
+
+/// Both buses give this reply to an event, one to the call that is named for it and the other to `answer`.
+fn reply(
+    rt: &(impl Abort + AllocGlobal),
+    buses: &mut Buses,
+    place: usize,
+    event: &Event,
+    wanted: &Reply,
+) {
+    let called = called(rt.alloc(), &mut buses.lists, event);
+    same_at(rt, place, called, *wanted);
+    let answered = answer(rt.alloc(), &mut buses.rings, event);
+    same_at(rt, place, answered, *wanted);
+}
+
+/// Carries out one event on both buses. Both give the reply of the entry, and then report the same.
 fn carries_out(
     rt: &(impl Abort + AllocGlobal),
-    lists: &mut ListBus,
-    rings: &mut RingBus,
+    buses: &mut Buses,
     place: usize,
     entry: &Entry,
 ) -> Result<(), Fail> {
-    let called = call(rt.alloc(), lists, &entry.event).unwrap_or_else(Reply::Refused);
-    same_at(rt, place, called, entry.reply);
-    let answered = answer(rt.alloc(), rings, &entry.event);
-    same_at(rt, place, answered, entry.reply);
-    let report = Readings::of(lists)?;
-    same_at(rt, place, Readings::of(rings)?, report);
+    reply(rt, buses, place, &entry.event, &entry.reply);
+    let report = alike(rt, buses, place)?;
     same_at(rt, place, report.entries(), place.saturating_add(1));
     Ok(())
 }
@@ -125,19 +189,16 @@ fn carries_out(
 /// A full record refuses every call, and nothing changes.
 fn stays_full(
     rt: &(impl Abort + AllocGlobal),
-    lists: &mut ListBus,
-    rings: &mut RingBus,
+    buses: &mut Buses,
     entries: &[Entry],
 ) -> Result<(), Fail> {
-    let report = Readings::of(lists)?;
+    let report = alike(rt, buses, entries.len())?;
     let full = Reply::Refused(Refusal::RecordFull);
     for (place, entry) in entries.iter().enumerate() {
-        let called = call(rt.alloc(), lists, &entry.event).unwrap_or_else(Reply::Refused);
-        same_at(rt, place, called, full);
-        same_at(rt, place, answer(rt.alloc(), rings, &entry.event), full);
+        reply(rt, buses, place, &entry.event, &full);
     }
-    same_at(rt, entries.len(), Readings::of(lists)?, report);
-    same_at(rt, entries.len(), Readings::of(rings)?, report);
+    let after = alike(rt, buses, entries.len())?;
+    same_at(rt, entries.len(), after, report);
     Ok(())
 }
 
@@ -152,22 +213,20 @@ fn reports(rt: &(impl Abort + AllocGlobal), bus: &ListBus, reading: &str) -> Res
 /// Carries out the entries on both buses, and compares what a dialogue says of their readings.
 fn carries_all_out(
     rt: &(impl Abort + AllocGlobal),
-    lists: &mut ListBus,
-    rings: &mut RingBus,
-    text: &str,
-    entries: &[Entry],
+    buses: &mut Buses,
+    dialogue: &Dialogue,
 ) -> Result<(), Fail> {
     let mut place = 0usize;
     // The first two lines are the version and the bus.
-    for line in text.split('\n').skip(2) {
+    for line in dialogue.text.split('\n').skip(2) {
         if let Some(reading) = line.strip_prefix("? ") {
-            reports(rt, lists, reading)?;
-        } else if let Some(entry) = entries.get(place) {
-            carries_out(rt, lists, rings, place, entry)?;
+            reports(rt, &buses.lists, reading)?;
+        } else if let Some(entry) = dialogue.entries.get(place) {
+            carries_out(rt, buses, place, entry)?;
             place = place.saturating_add(1);
         }
     }
-    same_at(rt, place, place, entries.len());
+    same_at(rt, place, place, dialogue.entries.len());
     Ok(())
 }
 
@@ -184,61 +243,100 @@ fn goes_over(record: &Record, entries: &[Entry]) -> bool {
         && pairs.all(|(looked, entry)| is_seen(&looked, entry))
 }
 
-/// A record has this text, and gives these entries one by one, each with a line, and no other.
+/// Whether a record has this text.
+fn has_text(alloc: Global, record: &Record, lines: &str) -> Result<bool, Fail> {
+    Ok(written(alloc, record)?.as_slice() == lines.as_bytes())
+}
+
+/// Whether a record gives this entry at a place, which has a line.
+fn has_entry(record: &Record, place: usize, entry: &Entry) -> bool {
+    match looked_at(record, place) {
+        Some(looked) => looked.entry() == entry && has_line(record.config(), entry),
+        None => false,
+    }
+}
+
+/// A record has the text of a dialogue, and gives its entries one by one, each with a line, and no other.
 fn keeps(
     rt: &(impl Abort + AllocGlobal),
     record: &Record,
-    lines: &str,
-    entries: &[Entry],
+    dialogue: &Dialogue,
 ) -> Result<(), Fail> {
-    assert!(rt; written(rt.alloc(), record)?.as_slice() == lines.as_bytes());
+    let entries = dialogue.entries.as_slice();
     for (place, entry) in entries.iter().enumerate() {
-        let looked = looked_at(record, place).ok_or("no entry")?;
-        assert!(rt; looked.entry() == entry, "at entry {place}");
-        assert!(rt; has_line(record.config(), entry), "at entry {place}");
+        same_at(rt, place, has_entry(record, place, entry), true);
     }
     assert!(rt; looked_at(record, entries.len()).is_none());
     assert!(rt; goes_over(record, entries));
+    assert!(rt; has_text(rt.alloc(), record, &dialogue.lines)?);
     Ok(())
 }
 
-/// As one list the events have the same replies, on both buses.
-fn runs_alike(
-    rt: &(impl Abort + AllocGlobal),
-    config: BusConfig,
-    entries: Vec<Entry>,
-) -> Result<(), Fail> {
-    let alloc = rt.alloc();
-    let (mut events, mut replies) = (Vec::new(alloc), Vec::new(alloc));
-    for Entry { event, reply } in entries {
-        events.push(event)?;
-        replies.push(reply)?;
+/// Both buses keep the record of a dialogue.
+fn keep(rt: &(impl Abort + AllocGlobal), buses: Buses, dialogue: &Dialogue) -> Result<(), Fail> {
+    let Buses { lists, rings } = buses;
+    keeps(rt, lists.record(), dialogue)?;
+    keeps(rt, &rings.into_record(), dialogue)
+}
+
+/// Plays a dialogue event by event on both buses, which then keep its record.
+fn goes_by_events(rt: &(impl Abort + AllocGlobal), dialogue: &Dialogue) -> Result<(), Fail> {
+    let mut buses = Buses::new(rt.alloc(), dialogue.config)?;
+    carries_all_out(rt, &mut buses, dialogue)?;
+    if buses.lists.record().is_full() {
+        stays_full(rt, &mut buses, &dialogue.entries)?;
     }
-    let lists: ListBus = made(alloc, config)?;
-    let rings: RingBus = made(alloc, config)?;
-    assert!(rt; replies_of(alloc, lists, &events)?.as_slice() == replies.as_slice());
-    assert!(rt; replies_of(alloc, rings, &events)?.as_slice() == replies.as_slice());
+    keep(rt, buses, dialogue)
+}
+
+/// The events of some entries, in their order.
+fn events_of(alloc: Global, entries: &[Entry]) -> Result<Vec<Event>, Fail> {
+    let mut events = Vec::new(alloc);
+    for entry in entries {
+        events.push(entry.event.try_copy(alloc)?)?;
+    }
+    Ok(events)
+}
+
+/// Whether these are the replies of some entries.
+fn are_replies(replies: &[Reply], entries: &[Entry]) -> bool {
+    let mut pairs = replies.iter().zip(entries);
+    replies.len() == entries.len() && pairs.all(|(reply, entry)| *reply == entry.reply)
+}
+
+/// As one list the events of a dialogue have its replies.
+fn runs<T: BoundedQueue<Pending>, R: BoundedQueue<Received>, A: Arbiter>(
+    rt: &(impl Abort + AllocGlobal),
+    bus: Bus<T, R, A>,
+    events: &[Event],
+    dialogue: &Dialogue,
+) -> Result<(), Fail> {
+    let replies = replies_of(rt.alloc(), bus, events)?;
+    assert!(rt; are_replies(&replies, &dialogue.entries));
     Ok(())
+}
+
+/// Plays a dialogue as one list of events on both buses.
+fn goes_as_one_list(rt: &(impl Abort + AllocGlobal), dialogue: &Dialogue) -> Result<(), Fail> {
+    let events = events_of(rt.alloc(), &dialogue.entries)?;
+    let lists: ListBus = made(rt.alloc(), dialogue.config)?;
+    runs(rt, lists, &events, dialogue)?;
+    let rings: RingBus = made(rt.alloc(), dialogue.config)?;
+    runs(rt, rings, &events, dialogue)
+}
+
+/// A record that is made of the entries of a dialogue keeps them.
+fn is_made_again(rt: &(impl Abort + AllocGlobal), dialogue: &Dialogue) -> Result<(), Fail> {
+    let (config, entries) = read_entries(rt.alloc(), &dialogue.lines)?;
+    let record = made_of(config, entries).ok_or("no record")?;
+    keeps(rt, &record, dialogue)
 }
 
 /// Plays a dialogue on a bus of either pair of types, event by event and as one list. Both give the replies that it
 /// says, and keep its record.
 pub fn plays(rt: &(impl Abort + AllocGlobal), dialogue: &str) -> Result<(), Fail> {
-    let alloc = rt.alloc();
-    let text = written_out(alloc, dialogue)?;
-    let lines = record_lines(alloc, &text)?;
-    let record = read(alloc, &lines)?;
-    let config = record.config();
-    let entries = entries_of(alloc, &record)?;
-    let mut lists: ListBus = made(alloc, config)?;
-    let mut rings: RingBus = made(alloc, config)?;
-    carries_all_out(rt, &mut lists, &mut rings, &text, &entries)?;
-    if lists.record().is_full() {
-        stays_full(rt, &mut lists, &mut rings, &entries)?;
-    }
-    keeps(rt, lists.record(), &lines, &entries)?;
-    keeps(rt, &rings.into_record(), &lines, &entries)?;
-    let again = made_of(config, entries_of(alloc, &record)?).ok_or("no record")?;
-    keeps(rt, &again, &lines, &entries)?;
-    runs_alike(rt, config, entries)
+    let dialogue = Dialogue::read(rt.alloc(), dialogue)?;
+    goes_by_events(rt, &dialogue)?;
+    goes_as_one_list(rt, &dialogue)?;
+    is_made_again(rt, &dialogue)
 }

@@ -6,19 +6,31 @@ use std::fmt::Write;
 use std::process::Abort;
 use std::test::Fail;
 
+/// The script that a text spells, for a bus of two interfaces.
+fn script(alloc: Global, text: &str) -> Result<Script, ScriptError> {
+    match Names::read(alloc, "can0,can1") {
+        Ok(names) => Script::read(alloc, text, &names),
+        Err(_) => Err(ScriptError::NoMemory),
+    }
+}
+
+/// A source gives these attempts these verdicts.
+fn gives<F: FaultSource>(rt: &impl Abort, source: &mut F, verdicts: &[(u64, Verdict)]) {
+    for (attempt, verdict) in verdicts {
+        same_at(rt, *attempt, source.verdict(*attempt), *verdict);
+    }
+}
+
 /// A source gives the first attempts and the last one the verdict good.
 fn is_good_everywhere<F: FaultSource>(rt: &impl Abort, source: &mut F) {
-    for attempt in [0, 1, u64::MAX] {
-        same_at(rt, attempt, source.verdict(attempt), Verdict::Good);
-    }
+    let good = Verdict::Good;
+    gives(rt, source, &[(0, good), (1, good), (u64::MAX, good)]);
 }
 
 #[test]
 fn a_script_gives_the_verdicts_of_its_lines(rt: HostRuntime) -> Result<(), Fail> {
-    let names = Names::read(rt.alloc(), "can0,can1")?;
     let text = "0 lastbit\n# a remark\n\n00000002 global bit\n3 global form\n\
         4 local stuff can1,can0,can1\n5 local crc can1\n6 local form can0\n99999999 good";
-    let mut script = Script::read(rt.alloc(), text, &names)?;
     let verdicts = [
         (0, Verdict::LastBit),
         (1, Verdict::Good),
@@ -32,23 +44,19 @@ fn a_script_gives_the_verdicts_of_its_lines(rt: HostRuntime) -> Result<(), Fail>
         (u64::MAX, Verdict::Good),
         (0, Verdict::LastBit),
     ];
-    for (attempt, verdict) in verdicts {
-        same_at(&rt, attempt, script.verdict(attempt), verdict);
-    }
+    gives(&rt, &mut script(rt.alloc(), text)?, &verdicts);
     Ok(())
 }
 
 #[test]
 fn the_empty_text_and_the_perfect_source_are_good_everywhere(rt: HostRuntime) -> Result<(), Fail> {
-    let names = Names::read(rt.alloc(), "can0")?;
-    is_good_everywhere(&rt, &mut Script::read(rt.alloc(), "", &names)?);
+    is_good_everywhere(&rt, &mut script(rt.alloc(), "")?);
     is_good_everywhere(&rt, &mut Perfect);
     Ok(())
 }
 
 #[test]
-fn the_first_fault_of_a_text_is_told(rt: HostRuntime) -> Result<(), Fail> {
-    let names = Names::read(rt.alloc(), "can0,can1")?;
+fn the_first_fault_of_a_text_is_told(rt: HostRuntime) {
     let faults = [
         (
             "0 good\n5 local crc can1\n5 good",
@@ -76,10 +84,8 @@ fn the_first_fault_of_a_text_is_told(rt: HostRuntime) -> Result<(), Fail> {
         ("1 local bit can0", ScriptError::BadLine(1)),
     ];
     for (text, fault) in faults {
-        let found = Script::read(rt.alloc(), text, &names).err();
-        same_at(&rt, text, found, Some(fault));
+        same_at(&rt, text, script(rt.alloc(), text).err(), Some(fault));
     }
-    Ok(())
 }
 
 /// Whether a fault is shown in these words.
@@ -118,9 +124,7 @@ fn last_bits(alloc: Global, count: u32) -> Result<String, Fail> {
 
 #[test]
 fn a_long_script_is_read_and_asked_quickly(rt: HostRuntime) -> Result<(), Fail> {
-    let text = last_bits(rt.alloc(), 100_000)?;
-    let names = Names::read(rt.alloc(), "can0")?;
-    let mut script = Script::read(rt.alloc(), &text, &names)?;
+    let mut script = script(rt.alloc(), &last_bits(rt.alloc(), 100_000)?)?;
     for attempt in 0..100_000 {
         same(&rt, script.verdict(attempt), Verdict::LastBit);
     }

@@ -130,16 +130,25 @@ fn many_identifiers_are_each_found(rt: HostRuntime) -> Result<(), Fail> {
     Ok(())
 }
 
+/// The set that has one filter this many times.
+fn repeated(alloc: Global, count: usize) -> Result<Result<FilterSet, FilterError>, Fail> {
+    let filters = vec![in alloc; Filter::new(0x123, 0x7FF)?; count]?;
+    Ok(FilterSet::from_slice(alloc, &filters))
+}
+
+/// Whether a copy of a set has as many filters, and the set that is compiled of it the same.
+fn is_copied(alloc: Global, set: &FilterSet) -> Result<bool, Fail> {
+    let count = set.try_copy(alloc)?.filters().len();
+    Ok(count == set.filters().len() && set.try_compile(alloc)? == *set)
+}
+
 #[test]
 fn a_set_has_at_most_512_filters(rt: HostRuntime) -> Result<(), Fail> {
-    let filter = Filter::new(0x123, 0x7FF)?;
-    let many = vec![in rt.alloc(); filter; 513]?;
-    let most = FilterSet::from_slice(rt.alloc(), &many[..512])?;
+    let refused = repeated(rt.alloc(), 513)?.err();
+    same(&rt, refused, Some(FilterError::TooManyFilters));
+    let most = repeated(rt.alloc(), 512)??;
     same(&rt, most.filters().len(), 512);
-    same(&rt, most.try_copy(rt.alloc())?.filters().len(), 512);
-    same(&rt, most.try_compile(rt.alloc())?, most);
-    let over = FilterSet::from_slice(rt.alloc(), &many);
-    same(&rt, over.err(), Some(FilterError::TooManyFilters));
+    same(&rt, is_copied(rt.alloc(), &most)?, true);
     Ok(())
 }
 
@@ -186,21 +195,21 @@ fn own_frames_and_error_masks(rt: HostRuntime) -> Result<(), Fail> {
         err_mask: 0x200,
         ..opened
     };
-    for (options, item, is_own, want) in [
-        (opened, frame, false, true),
-        (opened, frame, true, false),
-        (own, frame, true, true),
-        (opened, error, false, false),
-        (marks, error, false, false),
-        (counts, error, false, true),
-        (opened, wide, false, false),
-        (own, wide, true, false),
-        (fd, wide, false, true),
-        (fd, wide, true, false),
-        (fd, frame, false, true),
+    for (name, options, item, is_own, want) in [
+        ("a frame", opened, frame, false, true),
+        ("an own frame", opened, frame, true, false),
+        ("an own frame, asked for", own, frame, true, true),
+        ("an error", opened, error, false, false),
+        ("an error, with bits 29 to 31", marks, error, false, false),
+        ("an error of the mask", counts, error, false, true),
+        ("an FD frame", opened, wide, false, false),
+        ("an own FD frame, own asked for", own, wide, true, false),
+        ("an FD frame, asked for", fd, wide, false, true),
+        ("an own FD frame, FD asked for", fd, wide, true, false),
+        ("a frame, FD asked for", fd, frame, false, true),
     ] {
         let is_wanted = is_wanted(rt.alloc(), &options, &item, is_own)?;
-        same_at(&rt, (options, item, is_own), is_wanted, want);
+        same_at(&rt, name, is_wanted, want);
     }
     Ok(())
 }

@@ -3,6 +3,8 @@ use can_frame::{
     CanId, ErrorFrame, Frame, Iface, Item, Moment, Names, NamesError, Text, frame_text, guess_item,
     is_fd_length, is_name, read_decimal, read_frame_text, read_hexadecimal,
 };
+use std::alloc::Global;
+use std::process::Abort;
 
 /// Whether the interface of a number has this name.
 fn is_name_of(names: &Names, number: u8, name: Option<&str>) -> bool {
@@ -25,6 +27,10 @@ fn names_are_the_pieces_between_the_commas(rt: HostRuntime) {
     }
 }
 
+fn are_bad_names(alloc: Global, text: &str) -> bool {
+    matches!(Names::read(alloc, text), Err(NamesError::BadNames))
+}
+
 #[test]
 fn names_are_refused_by_their_rule(rt: HostRuntime) {
     let texts = [
@@ -40,8 +46,7 @@ fn names_are_refused_by_their_rule(rt: HostRuntime) {
         ("0,1,2,3,4,5,6,7,8,9,a,b,c,d,e,f,g", false),
     ];
     for (text, good) in texts {
-        let bad = matches!(Names::read(rt.alloc(), text), Err(NamesError::BadNames));
-        same_at(&rt, text, bad, !good);
+        same_at(&rt, text, are_bad_names(rt.alloc(), text), !good);
     }
     for (text, good) in [("can0", true), ("", false), ("can0,can1", false)] {
         same_at(&rt, text, is_name(text), good);
@@ -86,8 +91,15 @@ fn is_written(item: Option<Item>, text: &str) -> bool {
 const LONGEST_FD: &str =
     "7FF##0A5A5A5A5A5A5A5A5A5A5A5A5A5A5A5A5A5A5A5A5A5A5A5A5A5A5A5A5A5A5A5A5A5A5A5A5A5A5A5A5A5A5A5A5A5A5A5A5A5A5A5A5A5A5A5A5A5A5A5A5A5A5A5A5";
 
+/// An item has this text, and is read of it.
+fn goes_there_and_back(rt: &impl Abort, text: &str, item: Option<Item>) {
+    same_at(rt, text, item.is_some(), true);
+    same_at(rt, text, is_read(text, item), true);
+    same_at(rt, text, is_written(item, text), true);
+}
+
 #[test]
-fn every_kind_of_item_goes_there_and_back(rt: HostRuntime) {
+fn data_frames_go_there_and_back(rt: HostRuntime) {
     let items = [
         ("123#", data(0x123, b"")),
         (
@@ -96,15 +108,42 @@ fn every_kind_of_item_goes_there_and_back(rt: HostRuntime) {
         ),
         ("00000123#AF", extended_data(0x123, b"\xAF")),
         ("1FFFFFFF#", extended_data(0x1FFF_FFFF, b"")),
+    ];
+    for (text, item) in items {
+        goes_there_and_back(&rt, text, item);
+    }
+}
+
+#[test]
+fn remote_frames_go_there_and_back(rt: HostRuntime) {
+    let items = [
         ("123#R", remote(0x123, 0)),
         ("00A#R8", remote(0xA, 8)),
         ("12345678#R4", extended_remote(0x1234_5678, 4)),
+    ];
+    for (text, item) in items {
+        goes_there_and_back(&rt, text, item);
+    }
+}
+
+#[test]
+fn fd_frames_go_there_and_back(rt: HostRuntime) {
+    let items = [
         ("123##0", fd(0x123, b"")),
         (
             "123##00102030405060708090A0B0C",
-            fd(0x123, b"\x01\x02\x03\x04\x05\x06\x07\x08\x09\x0A\x0B\x0C"),
+            fd(0x123, &[1, 2, 3, 4, 5, 6, 7, 8, 9, 10, 11, 12]),
         ),
         (LONGEST_FD, fd(0x7FF, &[0xA5; 64])),
+    ];
+    for (text, item) in items {
+        goes_there_and_back(&rt, text, item);
+    }
+}
+
+#[test]
+fn error_message_frames_go_there_and_back(rt: HostRuntime) {
+    let items = [
         (
             "20000204#0008000000006000",
             error(0x204, [0, 8, 0, 0, 0, 0, 0x60, 0]),
@@ -112,9 +151,7 @@ fn every_kind_of_item_goes_there_and_back(rt: HostRuntime) {
         ("3FFFFFFF#FFFFFFFFFFFFFFFF", error(0x1FFF_FFFF, [0xFF; 8])),
     ];
     for (text, item) in items {
-        same_at(&rt, text, item.is_some(), true);
-        same_at(&rt, text, is_read(text, item), true);
-        same_at(&rt, text, is_written(item, text), true);
+        goes_there_and_back(&rt, text, item);
     }
 }
 
@@ -201,12 +238,12 @@ fn fd_frames_have_their_lengths(rt: HostRuntime) {
 #[test]
 fn fd_frames_are_other_items_than_data_frames(rt: HostRuntime) {
     let rows = [
-        (fd(0x123, b""), data(0x123, b""), false),
-        (fd(0x123, b"\x01"), fd(0x123, b"\x01"), true),
-        (fd(0x123, b"\x01"), fd(0x123, b"\x02"), false),
+        ("FD and data", fd(0x123, b""), data(0x123, b""), false),
+        ("alike", fd(0x123, b"\x01"), fd(0x123, b"\x01"), true),
+        ("other bytes", fd(0x123, b"\x01"), fd(0x123, b"\x02"), false),
     ];
-    for (one, other, is_same) in rows {
-        same_at(&rt, (one, other), one == other, is_same);
+    for (name, one, other, is_same) in rows {
+        same_at(&rt, name, one == other, is_same);
     }
 }
 

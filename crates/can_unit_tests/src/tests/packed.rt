@@ -8,7 +8,7 @@ use can_fault::{GlobalKind, LocalKind, Verdict};
 use can_filter::{Filter, FilterSet};
 use can_frame::{CanId, ErrorFrame, Frame, Iface, IfaceSet, Item, Moment};
 use can_packed::PackedRecord;
-use std::alloc::AllocGlobal;
+use std::alloc::{AllocError, AllocGlobal, Global};
 use std::process::Abort;
 
 fn iface(rt: &impl Abort, number: u8) -> Iface {
@@ -107,15 +107,20 @@ fn comes_back(rt: &(impl Abort + AllocGlobal), event: Event, reply: Reply)
     same_at(rt, 2, holds(&record, 2, &last), true);
 }
 
+fn copied(alloc: Global, entry: &Entry) -> Result<Entry, AllocError> {
+    Ok(Entry {
+        event: entry.event.try_copy(alloc)?,
+        reply: entry.reply,
+    })
+}
+
 /// Keeps an entry with memory of its own, and compares what is given back.
 fn boxed_comes_back(rt: &(impl Abort + AllocGlobal), event: Event, reply: Reply) {
-    let given = Entry {
-        event: event.try_copy(rt.alloc()).expect(rt, "memory"),
-        reply,
-    };
+    let entry = Entry { event, reply };
+    let copy = copied(rt.alloc(), &entry).expect(rt, "memory");
     let mut record = PackedRecord::with_capacity(rt.alloc(), 1).expect(rt, "memory");
-    record.push_boxed(Box::new(rt.alloc(), given).expect(rt, "memory"));
-    same(rt, holds(&record, 0, &Entry { event, reply }), true);
+    record.push_boxed(Box::new(rt.alloc(), copy).expect(rt, "memory"));
+    same(rt, holds(&record, 0, &entry), true);
 }
 
 #[test]
@@ -136,12 +141,12 @@ fn opens_and_restarts_come_back(rt: HostRuntime) {
 #[test]
 fn calls_of_sockets_come_back(rt: HostRuntime) {
     let last = SocketId(u32::MAX);
-    let refused = Reply::Refused(Refusal::NoSocket);
     let counts = Closed {
         unread: u64::MAX,
         dropped: u64::MAX - 1,
     };
     comes_back(&rt, Event::Close(last), Reply::Closed(counts));
+    let refused = Reply::Refused(Refusal::NoSocket);
     comes_back(&rt, Event::Close(last), refused);
     for option in [
         Opt::Loopback(false),
@@ -151,6 +156,7 @@ fn calls_of_sockets_come_back(rt: HostRuntime) {
         Opt::FdFrames(true),
     ] {
         comes_back(&rt, Event::SetOption(last, option), Reply::Done);
+        let refused = Reply::Refused(Refusal::NoSocket);
         comes_back(&rt, Event::SetOption(last, option), refused);
     }
 }
@@ -293,6 +299,15 @@ fn wide_entries_come_back(rt: HostRuntime) {
     boxed_comes_back(&rt, Event::Receive(id), Reply::Opened(id));
 }
 
+/// Whether the entry at a place is a close of this socket, which was not open.
+fn closes(record: &PackedRecord, place: usize, number: u32) -> bool {
+    let entry = Entry {
+        event: Event::Close(SocketId(number)),
+        reply: Reply::Refused(Refusal::NoSocket),
+    };
+    holds(record, place, &entry)
+}
+
 #[test]
 fn a_packed_record_lists_its_entries(rt: HostRuntime) {
     let mut record = PackedRecord::with_capacity(rt.alloc(), 3).expect(&rt, "memory");
@@ -303,13 +318,7 @@ fn a_packed_record_lists_its_entries(rt: HostRuntime) {
     record.push(&Event::Close(SocketId(6)), &reply);
     same(&rt, record.len(), 3);
     for (place, number) in [(0, 4), (1, 5), (2, 6)] {
-        let event = Event::Close(SocketId(number));
-        same_at(
-            &rt,
-            place,
-            holds(&record, place, &Entry { event, reply }),
-            true,
-        );
+        same_at(&rt, place, closes(&record, place, number), true);
     }
     same(&rt, record.look(3).is_none(), true);
 }
