@@ -10,7 +10,7 @@ use Rattle.can_event.specs.declared.events.Reply.{Reply}
 use Rattle.can_event.specs.declared.events.Reply.TheVariants as reply
 use Rattle.can_bus.specs.Transmit.{tape, tape_after}
 use Rattle.can_logfile.specs.Log.{log_line, log_lines, tried_of, tried_in, joined, LineGoesOut, TornAfter}
-use Rattle.can_logfile.proofs.Growing.{Appends-then}
+use Rattle.std.proofs.KnownBytes.{Appends-trans}
 
 -- The oldest entries of a history, and their lines.
 
@@ -94,7 +94,7 @@ torn a b c names k whole past e t line lt at is made count out part =
       proper = subst (λ (l : List ℕ). part.0 < length l) made part.1;
       out =
           let taken : take whole (log_lines names past) ≡ base = ap (take whole) cut.1 ∙ take_at base (log_line names t ∷ cut.0) whole long in
-          subst (λ (ls : List (List ℕ)). Appends a c (joined ls ++ take part.0 (log_line names t))) (sym taken) (Appends-then a b c (joined base) (take part.0 (log_line names t)) out (subst (λ (l : List ℕ). Appends b c (take part.0 l)) made part.2));
+          subst (λ (ls : List (List ℕ)). Appends a c (joined ls ++ take part.0 (log_line names t))) (sym taken) (Appends-trans a b c (joined base) (take part.0 (log_line names t)) out (subst (λ (l : List ℕ). Appends b c (take part.0 l)) made part.2));
     }
 
 stays : (r : Reply) (before : List Tried) → ((t : Tried) → r ≡ reply.Tried t → ⊥) → tape_after r before ≡ before
@@ -115,7 +115,7 @@ pub line-more : (a b c : Option (List ℕ)) (names : List (List ℕ)) (k : ℕ) 
     k < length past → e ≡ get_or (reverse past) k e → e.reply ≡ reply.Tried t → line ≡ log_line names t →
     Appends a b (joined (log_lines names (front k past))) → Appends b c line → Appends a c (joined (log_lines names (front (k + 1) past)))
 line-more a b c names k past e t line lt at is made out part =
-    subst (Appends a c) (sym (lines-more names k past e t lt at is)) (Appends-then a b c (joined (log_lines names (front k past))) (log_line names t) out (subst (Appends b c) made part))
+    subst (Appends a c) (sym (lines-more names k past e t lt at is)) (Appends-trans a b c (joined (log_lines names (front k past))) (log_line names t) out (subst (Appends b c) made part))
 
 -- ---- the entry at a place
 

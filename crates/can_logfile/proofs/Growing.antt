@@ -1,14 +1,9 @@
 use Rattle.std.proofs.Common.{◌≡◌, ℕ, zero, suc, zero-add, ◌+◌, ◌-◌, length, subst, refl, arith, List, [], ◌∷◌, ◌++◌, take, drop, Option, Some, None, sym, ap, ◌∙◌, append_assoc}
 use Rattle.std.proofs.lemmas.List.{take_all, length-drop}
 use Rattle.std.specs.Io.KnownBytes.{Appends}
+use Rattle.std.proofs.KnownBytes.{Appends-trans}
 
 -- What a writer holds, write after write.
-
-pub Appends-then : (a b c : Option (List ℕ)) (x y : List ℕ) → Appends a b x → Appends b c y → Appends a c (x ++ y)
-Appends-then None b c x y h k = tt
-Appends-then (Some a) None c x y h k = absurd h
-Appends-then (Some a) (Some b) None x y h k = absurd k
-Appends-then (Some a) (Some b) (Some c) x y h k = k ∙ ap (λ (z : List ℕ). z ++ y) h ∙ append_assoc a x y
 
 abbrev none : List ℕ
 none = []
@@ -25,4 +20,4 @@ take-split (suc k) n (x ∷ xs) = let e : suc k + n ≡ suc (k + n) = omega arit
 pub part_more : (a b c : Option (List ℕ)) (line : List ℕ) (k n : ℕ) → Appends a b (take k line) → Appends b c (take n (take (length line - k) (drop k line))) → Appends a c (take (k + n) line)
 part_more a b c line k n h more =
     let whole : take (length line - k) (drop k line) ≡ drop k line = take_all (length line - k) (drop k line) (omega (arith, length-drop k line)) in
-    subst (λ (x : List ℕ). Appends a c x) (sym (take-split k n line)) (Appends-then a b c (take k line) (take n (drop k line)) h (subst (λ (x : List ℕ). Appends b c (take n x)) whole more))
+    subst (λ (x : List ℕ). Appends a c x) (sym (take-split k n line)) (Appends-trans a b c (take k line) (take n (drop k line)) h (subst (λ (x : List ℕ). Appends b c (take n x)) whole more))

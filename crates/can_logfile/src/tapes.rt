@@ -26,7 +26,8 @@ pub struct LogFault {
 /// So a writer to a file should be a buffered one, and it is the caller's to flush. A write that takes no
 /// byte, and one that was interrupted, is a fault.
 pub fn write_tape<W: Write>(names: &Names, record: &Record, writer: &mut W) -> Result<u64, LogFault>
-    ensures { LinesGoOut (W.contents writer.old) (W.contents writer.new) (log_lines names.now «record».now.history) result }
+    ensures { LinesGoOut (W.contents writer.old) (W.contents writer.new)
+        (log_lines names.now «record».now.history) result }
 {
     // Counting the names shows that none is long.
     let _count = names.count();

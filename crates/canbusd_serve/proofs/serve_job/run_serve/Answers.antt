@@ -1,7 +1,7 @@
 use Rattle.std.proofs.Common.{◌≡◌, not, Bool, false, IsTrue, sym, subst, ◌∙◌, rules}
 use Rattle.can_hub.proofs.Naming.{named}
 use Rattle.std.specs.Io.KnownBytes.{Appends}
-use Rattle.can_logfile.proofs.Growing.{Appends-then}
+use Rattle.std.proofs.KnownBytes.{Appends-trans}
 use Rattle.canbusd_serve.specs.Served.{end_lines}
 use Rattle.canbusd_serve.proofs.Serving.{benches-length, benches-named, not-told}
 use Rattle.canbusd_serve.proofs.serve_job.run_serve.Goals as goal
@@ -29,5 +29,5 @@ returns g c = λ whole.
       each = c.in_ok-settled.ensures.each ∙ benches-length _ _ _ c.in_ok-benches.ensures;
       legal = c.in_ok-settled.ensures.legal;
       heard = c.in_ok-settled.ensures.listening.0;
-      wrote = Appends-then _ _ _ _ _ c.in_ok-settled.ensures.listening.1 all;
+      wrote = Appends-trans _ _ _ _ _ c.in_ok-settled.ensures.listening.1 all;
     }
