@@ -1,5 +1,6 @@
-use Rattle.std.specs.Prelude.{ℕ, ◌+◌, ◌==◌, Bool, true, false, if◌then◌else◌, List, [], ◌∷◌, ◌++◌, slice_get, codes, Option, Some, None, Result, Ok, Err}
+use Rattle.std.specs.Prelude.{ℕ, ◌+◌, ◌==◌, Bool, true, false, if◌then◌else◌, List, [], ◌∷◌, ◌++◌, slice_get, slice_range, codes, Option, Some, None, Result, Ok, Err}
 use Rattle.std.specs.Fmt.{decimal}
+use Rattle.std.specs.List.{join_with_byte}
 use Rattle.can_frame.specs.Sets.{is_in}
 use Rattle.can_frame.specs.declared.ifaces.IfaceSet.{IfaceSet}
 use Rattle.can_attempt.specs.Words.{class_word}
@@ -24,6 +25,10 @@ after_commas (name ∷ names) = 44 ∷ name ++ after_commas names
 abbrev pub member_text : Bool → List ℕ → List ℕ
 member_text true name = name
 member_text false name = 44 ∷ name
+
+-- the names from one place up to another, joined by commas, with a comma before them if they are not the first
+abbrev pub run_text : Bool → List (List ℕ) → ℕ → ℕ → List ℕ
+run_text is_first names first end = member_text is_first (join_with_byte 44 (slice_range names first end))
 
 -- names joined by commas, or a dash for none
 abbrev pub joined : List (List ℕ) → List ℕ

@@ -9,23 +9,27 @@ use Rattle.can_bus.specs.Transmit.{tape}
 use Rattle.can_bus.specs.Answer.{Answers, told_attempt}
 use Rattle.can_proto.specs.Messages.{messages_of, kept_of}
 use Rattle.can_dialog.specs.declared.stages.Stage.{Stage}
-use Rattle.can_dialog.specs.declared.stages.Stage.TheVariants.{NoBus, Ended}
+use Rattle.can_dialog.specs.declared.stages.Stage.TheVariants.{Ended}
 use Rattle.can_dialog.specs.Plans.{Plays}
 use Rattle.can_dialog.specs.Turns.{ending, delivery, greeting}
-use Rattle.can_dialog.specs.Sessions.{SessionState, Turns}
+use Rattle.can_dialog.specs.Sessions.{SessionState, Turns, beginning}
 use Rattle.can_dialog.specs.BusSteps.{NamedBus, BusStep}
+use Rattle.can_session.specs.declared.unheard.Unheard.{Unheard}
+use Rattle.can_session.specs.Unheard.{unheard_then}
 use Rattle.can_session.specs.Orders.{Effect, order_of}
 use Rattle.can_session.specs.Orders.Effect.{Does_nothing, Sets, Starts, Feeds, Drains, Ends, Attempts}
 use Rattle.can_session.specs.AttemptLines.{attempt_line}
 
 -- What the bench does and writes: its lines, one after another (own choice).
 
--- the state of a bench: how many items a socket holds, the bus, the sessions by number, and the moment set
+-- the state of a bench: how many items a socket holds, the bus, the sessions by number, the moment set, and what was fed
+-- that is in no message
 pub record BenchState : Type 0 where
   pub capacity : ℕ
   pub bus : NamedBus
   pub sessions : List (Option SessionState)
   pub moment : ℕ
+  pub unheard : Unheard
 
 -- session s: `Some None` where it was not started, `None` where there is no such number
 abbrev pub session_at : BenchState → ℕ → Option (Option SessionState)
@@ -35,9 +39,9 @@ session_at b s = slice_get b.sessions (s - 1)
 abbrev pub with_session : BenchState → ℕ → SessionState → NamedBus → BenchState
 with_session b s st bus = record b { sessions = slice_set b.sessions (s - 1) (Some st); bus = bus }
 
--- a session at its start
-abbrev pub beginning : ℕ → SessionState
-beginning capacity = record { kept = []; dialog = record { capacity = capacity; stage = NoBus } }
+-- the bench where these bytes, fed to session s, are noted
+abbrev pub with_fed : BenchState → ℕ → List ℕ → BenchState
+with_fed b s bytes = record b { unheard = unheard_then b.unheard s bytes }
 
 -- what a session says in a line: its number, a space, the bytes and LF, or nothing at all
 abbrev pub spoken : ℕ → List ℕ → List ℕ
@@ -50,10 +54,14 @@ pub record Hears (moment : ℕ) (bytes : List ℕ) (old : SessionState) (p : Nam
   pub turns : Turns BusStep moment old.dialog forgotten (messages_of (old.kept ++ bytes)) p q text new.dialog
   pub keeps : new.kept ≡ kept_of (old.kept ++ bytes)
 
--- a session that is over hears nothing
-abbrev pub IsFed : Stage → ℕ → List ℕ → SessionState → NamedBus → List ℕ → SessionState → NamedBus → Type 0
-IsFed Ended moment bytes old p text new q = (new ≡ old) × (text ≡ []) × (q ≡ p)
-IsFed _ moment bytes old p text new q = Hears moment bytes old p text new q
+-- a piece is fed to a session at this stage: one that is over hears nothing
+abbrev pub IsFedAt : Stage → ℕ → List ℕ → SessionState → NamedBus → List ℕ → SessionState → NamedBus → Type 0
+IsFedAt Ended moment bytes old p text new q = (new ≡ old) × (text ≡ []) × (q ≡ p)
+IsFedAt _ moment bytes old p text new q = Hears moment bytes old p text new q
+
+-- a piece is fed to a session at a moment
+abbrev pub IsFed : ℕ → List ℕ → SessionState → NamedBus → List ℕ → SessionState → NamedBus → Type 0
+IsFed moment bytes = λ old. IsFedAt old.dialog.stage moment bytes old
 
 -- this many items are given to a session, one after another
 abbrev pub AreGiven : ℕ → Stage → NamedBus → List ℕ → NamedBus → Type 0
@@ -87,6 +95,10 @@ pub record Speaks (does : SessionState → NamedBus → List ℕ → SessionStat
   pub text_is : text ≡ spoken s said
   pub after_is : after ≡ with_session b s new bus
 
+-- session s, whose number was not used before, is started; its greeting is put out
+abbrev pub IsStarted : ℕ → BenchState → List ℕ → BenchState → Type 0
+IsStarted s b text after = (session_at b s ≡ Some None) × (text ≡ spoken s greeting) × (after ≡ with_session b s (beginning b.capacity) b.bus)
+
 -- an attempt at the moment set, with the verdict that the next attempt's number has
 pub record IsTried (verdicts : VerdictMap) (b : BenchState) (text : List ℕ) (after : BenchState) : Type 0 where
   pub outcome : Result Attempt Refusal
@@ -99,8 +111,8 @@ pub record IsTried (verdicts : VerdictMap) (b : BenchState) (text : List ℕ) (a
 abbrev pub Does : VerdictMap → Effect → BenchState → List ℕ → BenchState → Type 0
 Does verdicts Does_nothing b text after = (text ≡ []) × (after ≡ b)
 Does verdicts (Sets moment) b text after = (text ≡ []) × (after ≡ record b { moment = moment })
-Does verdicts (Starts s) b text after = (session_at b s ≡ Some None) × (text ≡ spoken s greeting) × (after ≡ with_session b s (beginning b.capacity) b.bus)
-Does verdicts (Feeds s bytes) b text after = Speaks (λ old. IsFed old.dialog.stage b.moment bytes old) s b text after
+Does verdicts (Starts s) b text after = IsStarted s b text after
+Does verdicts (Feeds s bytes) b text after = Speaks (IsFed b.moment bytes) s (with_fed b s bytes) text after
 Does verdicts (Drains s) b text after = Speaks IsDrained s b text after
 Does verdicts (Ends s) b text after = Speaks IsEnded s b text after
 Does verdicts Attempts b text after = IsTried verdicts b text after

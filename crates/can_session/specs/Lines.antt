@@ -1,4 +1,4 @@
-use Rattle.std.specs.Prelude.{◌≡◌, ℕ, ◌+◌, ◌<◌, ◌≤◌, Bool, true, false, MatchBool, ◌==◌, ◌⊎◌, if◌then◌else◌, List, [], ◌∷◌, ◌++◌, length, take, count_by, Option, Some, None}
+use Rattle.std.specs.Prelude.{◌≡◌, ℕ, ◌+◌, ◌<◌, ◌≤◌, Bool, true, false, MatchBool, ◌==◌, ◌⊎◌, if◌then◌else◌, List, [], ◌∷◌, ◌++◌, length, take, drop, count_by, Option, Some, None}
 use Rattle.std.specs.List.{list_any, flat_map, AllByRecursion}
 use Rattle.std.specs.Io.KnownBytes.{Consumes, Keeps, IsAtEnd, prepend_known}
 use Rattle.can_session.specs.declared.lines.LineFault.{LineFault}
@@ -49,6 +49,14 @@ pub record Input : Type 0 where
 -- an input of which nothing was read
 abbrev pub unread : Option (List ℕ) → Input
 unread coming = record { line = []; given = 0; held = []; coming = coming; reads = 0; ended = false; fault = None }
+
+-- an input after the next line was given: so many bytes of what is held are the line, and so many with its LF
+abbrev pub after_line : ℕ → ℕ → Input → Input
+after_line line width i = record i { line = take line i.held; given = i.given + width; held = drop width i.held }
+
+-- an input after all that is held was given as the last line
+abbrev pub after_last : Input → Input
+after_last i = record i { line = i.held; given = i.given + length i.held; held = []; ended = true }
 
 -- what is left to be given, where that is known
 abbrev pub left_of : Input → Option (List ℕ)

@@ -10,6 +10,8 @@ use Rattle.can_session.specs.declared.lines.LineFault.TheVariants as line
 use Rattle.can_session.specs.declared.bench_run.BenchFault.{BenchFault}
 use Rattle.can_session.specs.declared.bench_run.BenchFault.TheVariants.{BadConfig, BadLine, TooLong, Read, Write, NoMemory}
 use Rattle.can_session.specs.Lines.{Input, IsLine, IsOver, FindsEnd, TakesLine, Stops, StopsBehind, lines_of, spelled}
+use Rattle.can_session.specs.declared.unheard.Unheard.{Unheard}
+use Rattle.can_session.specs.Unheard.{none_unheard}
 use Rattle.can_session.specs.Orders.{order_of}
 use Rattle.can_session.specs.Benches.{BenchState, AreCarriedOut, IsCarriedOut, IsRefused}
 
@@ -24,7 +26,7 @@ pub record IsBench (names : List (List ℕ)) (config : BusConfig) (capacity : �
 
 -- a bench before its first line
 abbrev pub at_start : List (List ℕ) → BusConfig → ℕ → BenchState
-at_start names config capacity = record { capacity = capacity; bus = record { names = names; journal = record { config = config; history = [] } }; sessions = replicate 64 None; moment = 0 }
+at_start names config capacity = record { capacity = capacity; bus = record { names = names; journal = record { config = config; history = [] } }; sessions = replicate 64 None; moment = 0; unheard = none_unheard }
 
 -- Of a reader that does not say what its bytes are nothing is said of the lines.
 
@@ -86,6 +88,14 @@ Ends {A} {W} leaves contents verdicts input b out (Err BadConfig) now new = ⊥
 pub record IsRecordOf (r : Kept) (b : BenchState) : Type 0 where
   pub config : r.config ≡ b.bus.journal.config
   pub history : r.history ≡ b.bus.journal.history
+
+-- how a run that leaves a record ends, wherever it leaves its input
+abbrev pub EndsOver : {W : Type 0} → (W → Option (List ℕ)) → VerdictMap → Option (List ℕ) → BenchState → W → Result Kept BenchFault → W → Type 0
+EndsOver contents verdicts input b out result new = (now : Input) × Ends IsRecordOf contents verdicts input b out result now new
+
+-- a run over all lines of an input leaves this noted of what sessions were fed
+abbrev pub Notes : {W : Type 0} → (W → Option (List ℕ)) → VerdictMap → Option (List ℕ) → BenchState → W → Unheard → W → Type 0
+Notes contents verdicts input b out unheard new = (now : Input) × Ends (λ (_ : Unit {0}) after. unheard ≡ after.unheard) contents verdicts input b out (Ok tt) now new
 
 -- why a bench is not made
 abbrev pub IsStartFault : BenchFault → Type 0

@@ -1,7 +1,8 @@
-use Rattle.std.specs.Prelude.{◌≡◌, ℕ, ◌-◌, ◌==◌, Bool, true, false, ◌||◌, if◌then◌else◌, List, [], ◌∷◌, ◌++◌, get_or, slice_set}
+use Rattle.std.specs.Prelude.{◌≡◌, ℕ, ◌-◌, ◌==◌, Bool, true, false, ◌||◌, if◌then◌else◌, List, [], ◌∷◌, ◌++◌, get_or, slice_set, replicate}
 use Rattle.std.specs.List.{flat_map, AllByRecursion}
 use Rattle.can_proto.specs.Messages.{has_mark}
 use Rattle.can_proto.specs.Words.{is_blank}
+use Rattle.can_session.specs.declared.unheard.Unheard.{Unheard}
 
 -- What sessions are fed that is in no message (own choice).
 
@@ -55,3 +56,11 @@ begun_then begun s bytes = slice_set begun (s - 1) (begun_after (flag begun s) b
 -- which sessions were fed bytes outside messages, after session s was fed these
 abbrev pub outside_then : List Bool → List Bool → ℕ → List ℕ → List Bool
 outside_then outside begun s bytes = slice_set outside (s - 1) (flag outside s || has_outside (flag begun s) bytes)
+
+-- of no session, before any of them was fed
+abbrev pub none_unheard : Unheard
+none_unheard = record { begun = replicate 64 false; outside = replicate 64 false }
+
+-- of each session, after session s was fed these bytes
+abbrev pub unheard_then : Unheard → ℕ → List ℕ → Unheard
+unheard_then u s bytes = record { begun = begun_then u.begun s bytes; outside = outside_then u.outside u.begun s bytes }

@@ -1,7 +1,6 @@
-ghost use Rattle.std.specs.Prelude.{ℕ, ◌≡◌, ◌<◌, ◌≤◌, ◌++◌, OnOk, true, false, length, slice_get, slice_range};
-ghost use Rattle.std.specs.List.{join_with_byte};
+ghost use Rattle.std.specs.Prelude.{ℕ, ◌≡◌, ◌<◌, ◌≤◌, ◌++◌, OnOk, true, false, length, slice_get};
 ghost use Rattle.can_frame.specs.Sets.{is_in};
-ghost use Rattle.can_session.specs.AttemptLines.{set_text, name_text, member_text, whose_text, ending_text, restarted_text};
+ghost use Rattle.can_session.specs.AttemptLines.{set_text, name_text, run_text, whose_text, ending_text, restarted_text};
 ghost use Rattle.can_session.specs.AttemptLines.{attempt_line, idle_line, tried_line};
 
 use crate::numbers::put_number;
@@ -133,7 +132,7 @@ fn put_run(
 ) -> Result<(), AllocError>
     requires some { first < end }
     requires within { end ≤ length names.now }
-    ensures { OnOk result (said.new.items ≡ said.old.items ++ member_text is_first (join_with_byte 44 (slice_range names.now first end))) }
+    ensures { OnOk result (said.new.items ≡ said.old.items ++ run_text is_first names.now first end) }
 {
     if !is_first {
         said.extend_from_slice(b",")?;

@@ -2,9 +2,9 @@ ghost use Rattle.std.specs.Prelude.{◌≡◌, ◌≢◌, ◌+◌, ◌<◌, ◌�
 ghost use Rattle.std.specs.Io.KnownBytes.{Appends, Keeps};
 ghost use Rattle.can_bus.specs.Headline.{Headline};
 ghost use Rattle.can_bus.specs.Legal.{IsLegal};
-ghost use Rattle.can_session.specs.Lines.{Input, ComesNext, IsWithin, unread};
+ghost use Rattle.can_session.specs.Lines.{ComesNext, IsWithin, unread};
 ghost use Rattle.can_session.specs.Benches.{BenchState};
-ghost use Rattle.can_session.specs.Runs.{IsBench, IsRecordOf, at_start, Ends, EndsAt, StepsOn, fault_of};
+ghost use Rattle.can_session.specs.Runs.{IsBench, IsRecordOf, at_start, Ends, EndsOver, Notes, EndsAt, StepsOn, fault_of};
 
 use crate::bench_state::Bench;
 use crate::lines::{LineFault, Lines};
@@ -68,7 +68,9 @@ pub fn bench<F: FaultSource + Drop, R: Read + Drop, W: Write>(
 ) -> Result<Record, BenchFault>
     ensures bad { (result ≡ Err BenchFault.BadConfig) ↔ (¬ IsBench config.names config.config config.rx_capacity) }
     ensures untouched { result ≡ Err BenchFault.BadConfig → out.new ≡ out.old }
-    ensures runs { result ≢ Err BenchFault.BadConfig → (now : Input) × Ends IsRecordOf W.contents (F.verdicts config.script) (R.remaining input) (at_start config.names config.config config.rx_capacity) out.old result now out.new }
+    ensures runs { result ≢ Err BenchFault.BadConfig →
+        EndsOver W.contents (F.verdicts config.script) (R.remaining input)
+        (at_start config.names config.config config.rx_capacity) out.old result out.new }
     ensures legal { IfOk result (λ r. IsLegal r.config r.history) }
     ensures headline { IfOk result (λ r. Headline r.config r.history) }
 {
@@ -85,7 +87,12 @@ pub fn bench_noting<F: FaultSource + Drop, R: Read + Drop, W: Write>(
 ) -> Result<Record, BenchFault>
     ensures bad { (result ≡ Err BenchFault.BadConfig) ↔ (¬ IsBench config.names config.config config.rx_capacity) }
     ensures untouched { result ≡ Err BenchFault.BadConfig → out.new ≡ out.old }
-    ensures runs { result ≢ Err BenchFault.BadConfig → (now : Input) × Ends IsRecordOf W.contents (F.verdicts config.script) (R.remaining input) (at_start config.names config.config config.rx_capacity) out.old result now out.new }
+    ensures runs { result ≢ Err BenchFault.BadConfig →
+        EndsOver W.contents (F.verdicts config.script) (R.remaining input)
+        (at_start config.names config.config config.rx_capacity) out.old result out.new }
+    ensures notes { OnOk result (Notes W.contents (F.verdicts config.script) (R.remaining input)
+        (at_start config.names config.config config.rx_capacity) out.old unheard.new out.new) }
+    ensures same { OnErr result (unheard.new ≡ unheard.old) }
     ensures legal { IfOk result (λ r. IsLegal r.config r.history) }
     ensures headline { IfOk result (λ r. Headline r.config r.history) }
 {
@@ -110,7 +117,9 @@ pub fn bench_lines<F: FaultSource + Drop, R: Read + Drop, W: Write>(
     requires unread { lines.old ≡ unread lines.old.coming }
     ensures bad { (result ≡ Err BenchFault.BadConfig) ↔ (¬ IsBench config.names config.config config.rx_capacity) }
     ensures untouched { result ≡ Err BenchFault.BadConfig → (out.new ≡ out.old) × (lines.new ≡ lines.old) }
-    ensures runs { result ≢ Err BenchFault.BadConfig → Ends IsRecordOf W.contents (F.verdicts config.script) lines.old.coming (at_start config.names config.config config.rx_capacity) out.old result lines.new out.new }
+    ensures runs { result ≢ Err BenchFault.BadConfig →
+        Ends IsRecordOf W.contents (F.verdicts config.script) lines.old.coming
+        (at_start config.names config.config config.rx_capacity) out.old result lines.new out.new }
     ensures legal { IfOk result (λ r. IsLegal r.config r.history) }
     ensures headline { IfOk result (λ r. Headline r.config r.history) }
 {
@@ -129,7 +138,8 @@ fn run<F: FaultSource, R: Read + Drop, W: Write>(
     out: &mut W,
 ) -> Result<(), BenchFault>
     requires { lines.old ≡ unread lines.old.coming }
-    ensures { Ends (λ (_ : Unit {0}) after. after ≡ state.new) W.contents (F.verdicts script.old) lines.old.coming state.old out.old result lines.new out.new }
+    ensures { Ends (λ (_ : Unit {0}) after. after ≡ state.new) W.contents (F.verdicts script.old)
+        lines.old.coming state.old out.old result lines.new out.new }
 {
     let mut said = Vec::new(alloc);
     let mut number = 1;
@@ -152,8 +162,10 @@ fn go_on<F: FaultSource, R: Read + Drop, W: Write>(
     out: &mut W,
 ) -> Result<bool, BenchFault>
     requires { lines.old.fault ≡ None }
-    ensures on { IfOk result (λ more. StepsOn W.contents (F.verdicts script.old) more lines.old lines.new state.old state.new out.old out.new) }
-    ensures stops { IfErr result (λ fault. EndsAt number fault lines.old lines.new state.old × ((fault ≡ BenchFault.Write) ⊎ Keeps (W.contents out.old) (W.contents out.new))) }
+    ensures on { IfOk result (λ more. StepsOn W.contents (F.verdicts script.old) more
+        lines.old lines.new state.old state.new out.old out.new) }
+    ensures stops { IfErr result (λ fault. EndsAt number fault lines.old lines.new state.old
+        × ((fault ≡ BenchFault.Write) ⊎ Keeps (W.contents out.old) (W.contents out.new))) }
     ensures keeps { F.verdicts script.new ≡ F.verdicts script.old }
     ensures within { IsWithin lines.new }
 {

@@ -2,10 +2,9 @@ ghost use Rattle.std.specs.Prelude.{◌≡◌, ◌≢◌, ◌-◌, ◌<◌, [], 
 ghost use Rattle.can_bus.specs.Headline.{Headline};
 ghost use Rattle.can_bus.specs.Legal.{IsLegal};
 ghost use Rattle.can_session.specs.Runs.{IsBench, IsRecordOf, IsStartFault, at_start};
-ghost use Rattle.can_fault.specs.Sources.{no_verdicts};
-ghost use Rattle.can_session.specs.Orders.{Effect, order_of};
-ghost use Rattle.can_session.specs.Benches.{session_at, Speaks, IsTried, Does, IsCarriedOut, IsRefused};
-ghost use Rattle.can_session.specs.inner.Acts.{done_by};
+ghost use Rattle.can_session.specs.Orders.{order_of};
+ghost use Rattle.can_session.specs.Benches.{session_at, Speaks, IsStarted, IsTried, IsCarriedOut, IsRefused};
+ghost use Rattle.can_session.specs.inner.Acts.{done_by, noted, noted_by};
 
 use crate::attempt_lines::put_attempt;
 use crate::bench_run::BenchFault;
@@ -39,7 +38,7 @@ impl Model for Bench {
 
     ghost Value = { BenchState };
 
-    ghost view = { λ s. record { capacity = s.capacity; bus = s.port; sessions = s.sessions.items; moment = s.moment } };
+    ghost view = { λ s. record { capacity = s.capacity; bus = s.port; sessions = s.sessions.items; moment = s.moment; unheard = s.unheard } };
 
     ghost invariant = { λ s. length s.sessions.items ≡ 64 };
 }
@@ -75,7 +74,9 @@ impl Bench {
     }
 
     /// What its sessions were fed that is in no message.
-    pub fn unheard(&self) -> Unheard {
+    pub fn unheard(&self) -> Unheard
+        ensures { result ≡ self.now.unheard }
+    {
         self.unheard
     }
 
@@ -96,7 +97,9 @@ impl Bench {
         line: &[u8],
         said: &mut Vec<u8>,
     ) -> Result<bool, NoMemory>
-        ensures line { IfOk result (λ good. MatchBool good (IsCarriedOut (F.verdicts script.old) line.now self.old said.new.items self.new) (IsRefused (order_of line.now) self.old)) }
+        ensures line { IfOk result (λ good. MatchBool good
+            (IsCarriedOut (F.verdicts script.old) line.now self.old said.new.items self.new)
+            (IsRefused (order_of line.now) self.old)) }
         ensures keeps { F.verdicts script.new ≡ F.verdicts script.old }
     {
         said.clear();
@@ -129,14 +132,15 @@ impl Bench {
         said: &mut Vec<u8>,
     ) -> Result<bool, NoMemory>
         requires { said.old.items ≡ [] }
-        ensures { IfOk result (λ good. MatchBool good (Speaks (done_by act.entry self.old.moment) session self.old said.new.items self.new) (session_at self.old session ≡ Some None)) }
+        ensures { IfOk result (λ good. MatchBool good
+            (Speaks (done_by act.entry self.old.moment) session (noted act.entry session self.old)
+            said.new.items self.new)
+            (session_at self.old session ≡ Some None)) }
     {
         match &mut self.sessions[session.place()] {
             None => Ok(false),
             Some(speaker) => {
-                if let Act::Feed(bytes) = act {
-                    self.unheard.hear(session, bytes);
-                }
+                note(&mut self.unheard, session, act);
                 let begun = begin_spoken(said, session)?;
                 turns::carry_out(speaker, self.alloc, act, self.moment, &mut self.port, said)?;
                 end_spoken(said, begun)?;
@@ -148,7 +152,9 @@ impl Bench {
     /// Starts a session, if its number was not used before: whether it was not.
     pub fn start(&mut self, session: SessionNumber, said: &mut Vec<u8>) -> Result<bool, NoMemory>
         requires { said.old.items ≡ [] }
-        ensures { IfOk result (λ good. MatchBool good (Does no_verdicts (Effect.Starts session) self.old said.new.items self.new) (session_at self.old session ≢ Some None)) }
+        ensures { IfOk result (λ good. MatchBool good
+            (IsStarted session self.old said.new.items self.new)
+            (session_at self.old session ≢ Some None)) }
     {
         let place = session.place();
         if self.sessions[place].is_some() {
@@ -180,5 +186,15 @@ impl Bench {
         let outcome = self.port.attempt(self.moment, verdict);
         put_attempt(said, self.port.names(), &outcome)?;
         Ok(())
+    }
+}
+
+/// Notes what an act feeds to a session.
+fn note(unheard: &mut Unheard, session: SessionNumber, act: Act<'_>)
+    ensures { unheard.new ≡ noted_by act.entry session unheard.old }
+{
+    match act {
+        Act::Feed(bytes) => unheard.hear(session, bytes),
+        Act::Drain | Act::End => {}
     }
 }

@@ -1,7 +1,7 @@
 ghost use Rattle.std.specs.Prelude.{◌≡◌, ◌≤◌, ◌<◌, ◌+◌, ◌⊎◌, [], ◌∷◌, ◌++◌, true, false, length, take, drop, position, Some, None, IfOk, IfErr, IfSome, OnOk, OnErr, MatchBool};
 ghost use Rattle.std.specs.List.{list_any};
 ghost use Rattle.std.specs.Io.KnownBytes.{IsAtEnd};
-ghost use Rattle.can_session.specs.Lines.{is_lf, unread, ComesNext, Fails, Fills, Halts, IsOver, IsWithin, Repeats, Stops, TakesLine};
+ghost use Rattle.can_session.specs.Lines.{is_lf, unread, after_line, after_last, ComesNext, Fails, Fills, Halts, IsOver, IsWithin, Repeats, Stops, TakesLine};
 ghost use Rattle.can_session.specs.inner.Looks.{Shows};
 
 use crate::byte_search::place_of;
@@ -183,7 +183,7 @@ impl<R: Read + Drop> Lines<R> {
         requires width { width ≤ length self.old.held }
         requires going { self.old.ended ≡ false }
         ensures within { IsWithin self.new }
-        ensures given { self.new ≡ record self.old { line = take line self.old.held; given = self.old.given + width; held = drop width self.old.held } }
+        ensures given { self.new ≡ after_line line width self.old }
     {
         self.buffer.consume(self.width);
         self.line = line;
@@ -195,7 +195,7 @@ impl<R: Read + Drop> Lines<R> {
     fn finish(&mut self)
         requires end { IsAtEnd self.old.coming }
         ensures within { IsWithin self.new }
-        ensures given { self.new ≡ record self.old { line = self.old.held; given = self.old.given + length self.old.held; held = []; ended = true } }
+        ensures given { self.new ≡ after_last self.old }
     {
         self.buffer.consume(self.width);
         let rest = self.buffer.as_slice().len();

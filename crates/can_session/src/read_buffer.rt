@@ -73,7 +73,8 @@ impl ReadBuffer {
         ensures ok { IfOk result (λ n. Gains self.old self.new (R.remaining input.old) (R.remaining input.new) n) }
         ensures most { IfOk result (λ n. n ≤ most) }
         ensures end { IfOk result (λ n. n ≡ 0 → IsAtEnd (R.remaining input.new)) }
-        ensures err { OnErr result ((self.new ≡ self.old) × Keeps (R.remaining input.old) (R.remaining input.new)) }
+        ensures same { OnErr result (self.new ≡ self.old) }
+        ensures keeps { OnErr result (Keeps (R.remaining input.old) (R.remaining input.new)) }
     {
         let end = move_to_front(self.bytes.as_mut_slice(), self.start, self.end);
         self.start = 0;
@@ -108,10 +109,12 @@ fn read_behind<R: Read>(
 ) -> io::Result<usize>
     requires some { 0 < most }
     requires room { end + most ≤ length bytes.old }
-    ensures ok { IfOk result (λ n. Gains (take end bytes.old) (take (end + n) bytes.new) (R.remaining input.old) (R.remaining input.new) n) }
+    ensures ok { IfOk result (λ n. Gains (take end bytes.old) (take (end + n) bytes.new)
+        (R.remaining input.old) (R.remaining input.new) n) }
     ensures most { IfOk result (λ n. n ≤ most) }
     ensures end { IfOk result (λ n. n ≡ 0 → IsAtEnd (R.remaining input.new)) }
-    ensures err { OnErr result ((take end bytes.new ≡ take end bytes.old) × Keeps (R.remaining input.old) (R.remaining input.new)) }
+    ensures same { OnErr result (take end bytes.new ≡ take end bytes.old) }
+    ensures keeps { OnErr result (Keeps (R.remaining input.old) (R.remaining input.new)) }
     ensures len { length bytes.new ≡ length bytes.old }
 {
     let read = input.read(&mut bytes[end..end + most])?;

@@ -1,6 +1,7 @@
 ghost use Rattle.std.specs.Prelude.{◌≡◌, ◌++◌, [], OnOk, IfOk};
 ghost use Rattle.can_dialog.specs.Turns.{greeting};
-ghost use Rattle.can_session.specs.Benches.{beginning, spoken, IsFed, IsDrained, IsEnded};
+ghost use Rattle.can_dialog.specs.Sessions.{beginning};
+ghost use Rattle.can_session.specs.Benches.{spoken, IsFed, IsDrained, IsEnded};
 ghost use Rattle.can_session.specs.inner.Acts.{Adds, done_by};
 
 use crate::line_prefix::{begin_spoken, end_spoken};
@@ -73,7 +74,8 @@ pub fn carry_out(
     port: &mut BenchPort,
     said: &mut Vec<u8>,
 ) -> Result<(), NoMemory>
-    ensures { OnOk result (Adds (done_by act.entry moment) session.old port.old said.old.items session.new port.new said.new.items) }
+    ensures { OnOk result (Adds (done_by act.entry moment)
+        session.old port.old said.old.items session.new port.new said.new.items) }
 {
     match act {
         Act::Feed(bytes) => feed(session, alloc, bytes, moment, port, said),
@@ -94,7 +96,8 @@ fn feed(
     port: &mut BenchPort,
     said: &mut Vec<u8>,
 ) -> Result<(), NoMemory>
-    ensures { OnOk result (Adds (IsFed session.old.dialog.stage moment bytes.now) session.old port.old said.old.items session.new port.new said.new.items) }
+    ensures { OnOk result (Adds (IsFed moment bytes.now)
+        session.old port.old said.old.items session.new port.new said.new.items) }
 {
     match session.feed(alloc, bytes, moment, port, said) {
         Ok(()) => Ok(()),
@@ -105,7 +108,8 @@ fn feed(
 
 /// Gives a session its items until there is none, and adds what it says.
 fn drain(session: &mut Session, port: &mut BenchPort, said: &mut Vec<u8>) -> Result<(), NoMemory>
-    ensures { OnOk result (Adds IsDrained session.old port.old said.old.items session.new port.new said.new.items) }
+    ensures { OnOk result (Adds IsDrained
+        session.old port.old said.old.items session.new port.new said.new.items) }
 {
     loop {
         match session.deliver(port, said) {

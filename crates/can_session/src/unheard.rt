@@ -1,7 +1,7 @@
 //! What sessions are fed that is in no message, so that a run can report it.
-ghost use Rattle.std.specs.Prelude.{◌≡◌, true, false, replicate};
+ghost use Rattle.std.specs.Prelude.{◌≡◌, true, false};
 ghost use Rattle.can_proto.specs.Messages.{has_mark};
-ghost use Rattle.can_session.specs.Unheard.{begun_after, begun_then, flag, has_outside, outside_then};
+ghost use Rattle.can_session.specs.Unheard.{begun_after, flag, has_outside, none_unheard, unheard_then};
 
 use crate::orders::SessionNumber;
 
@@ -17,8 +17,7 @@ pub struct Unheard {
 impl Unheard {
     /// Of no session.
     pub fn none() -> Unheard
-        ensures begun { result.begun ≡ replicate 64 false }
-        ensures outside { result.outside ≡ replicate 64 false }
+        ensures { result ≡ none_unheard }
     {
         Unheard {
             begun: [false; 64],
@@ -42,8 +41,7 @@ impl Unheard {
 
     /// Looks at what a session is fed.
     pub fn hear(&mut self, session: SessionNumber, bytes: &[u8])
-        ensures begun { self.new.begun ≡ begun_then self.old.begun session bytes.now }
-        ensures outside { self.new.outside ≡ outside_then self.old.outside self.old.begun session bytes.now }
+        ensures { self.new ≡ unheard_then self.old session bytes.now }
     {
         let place = session.place();
         let was_begun = self.begun[place];

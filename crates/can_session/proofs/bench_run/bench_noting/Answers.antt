@@ -57,3 +57,19 @@ returns-clause-runs g c =
         subst (λ (b : BenchState). IsRecordOf c.into_record.result b) (sym ran.6) c.into_record.ensures.record,
       ),
     )
+
+pub returns-clause-notes : goal.returns-clause-notes
+returns-clause-notes g c =
+    let ran = c.in_ok-run.ensures in
+    let coming = ap (λ (i : Input). i.coming) c.in-Ok.ensures in (
+      c.run.new.lines,
+      (
+        ran.0,
+        ran.1,
+        subst (λ (o : Option (List ℕ)). AreAll o ran.0) coming ran.2,
+        ran.3,
+        ran.4,
+        subst (λ (b : BenchState). Ran g.W.Write.contents (g.F.FaultSource.verdicts c.args.config.script) ran.0 b c.args.out.now ran.1 c.run.new.out) c.in_ok-state.ensures.made ran.5,
+        c.unheard.ensures ∙ ap (λ (b : BenchState). b.unheard) (sym ran.6),
+      ),
+    )

@@ -8,8 +8,7 @@ use Rattle.can_session.proofs.turns.drain.Goals as goal
 pub loop-preserved : goal.loop-preserved
 loop-preserved c =
     let inv = c.loop.invariant in
-    let delivered = c.in-Ok-true.ensures.said in
-    let one = delivered.0 in
+    let one = c.in-Ok-true.ensures.said in
     let played : Plays BusStep (delivery c.args.session.now.dialog.stage) c.loop.port c.deliver.new.port one.text true
     = subst (λ (st : SessionState). Plays BusStep (delivery st.dialog.stage) c.loop.port c.deliver.new.port one.text true) inv.4
     (subst (λ (more : Bool). Plays BusStep (delivery c.loop.session.dialog.stage) c.loop.port c.deliver.new.port one.text more) c.in-Ok-true.field-0-test one.plays) in (
@@ -17,5 +16,5 @@ loop-preserved c =
       inv.1 ++ one.text,
       (inv.1, c.loop.port, one.text, inv.2, played, refl),
       one.wrote.grows ∙ ap (λ (t : List ℕ). t ++ one.text) inv.3 ∙ append_assoc c.args.said.now.items inv.1 one.text,
-      delivered.1 ∙ inv.4,
+      c.in-Ok-true.ensures.same ∙ inv.4,
     )

@@ -11,7 +11,7 @@ pub returns-clause-tried : goal.returns-clause-tried
 returns-clause-tried g c =
     let stood = c.self.inside in
     let verdicts = g.F.FaultSource.verdicts c.args.script.now in
-    let old : BenchState = record { capacity = stood.capacity; bus = stood.port; sessions = stood.sessions.items; moment = stood.moment } in
+    let old : BenchState = record { capacity = stood.capacity; bus = stood.port; sessions = stood.sessions.items; moment = stood.moment; unheard = stood.unheard } in
     let new = c.attempt-outcome.new.self in
     let after : BenchState = record old { bus = new } in
     let verdict = c.verdict-verdict.ensures.answer ∙ ap (λ (n : ℕ). verdict_in verdicts n) c.next_attempt.ensures in
