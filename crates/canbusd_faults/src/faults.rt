@@ -1,4 +1,4 @@
-ghost use Rattle.std.specs.Prelude.{◌≡◌, IfErr, IsTrue, false};
+ghost use Rattle.std.specs.Prelude.{◌≡◌, IfErr, IsTrue, OnOk, false};
 
 use can_bus::BusFault;
 use can_fault::ScriptError;
@@ -115,6 +115,7 @@ impl<'e, E: Write> Telling<'e, E> {
     pub fn pass_on(&mut self, outcome: Result<(), Failure<'_>>)
         ensures kept { IsTrue self.old.has_told → IsTrue self.new.has_told }
         ensures told { IfErr outcome.entry (λ _. IsTrue self.new.has_told) }
+        ensures quiet { OnOk outcome.entry (self.new.has_told ≡ self.old.has_told) }
     {
         if let Err(failure) = outcome {
             failure.tell(self.errors);

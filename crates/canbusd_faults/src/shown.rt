@@ -1,4 +1,4 @@
-ghost use Rattle.std.specs.Prelude.{◌≤◌};
+ghost use Rattle.std.specs.Prelude.{◌≡◌, ◌&&◌, if◌then◌else◌, nat_le};
 
 use std::fmt;
 
@@ -45,8 +45,7 @@ impl fmt::Display for Shown<'_> {
 
 // The character of a byte, or `?`: one from the space to `~`.
 fn printable(byte: u8) -> char
-    ensures low { 32 ≤ result }
-    ensures high { result ≤ 126 }
+    ensures { result ≡ (if nat_le 32 byte && nat_le byte 126 then byte else 63) }
 {
     if byte.is_ascii_graphic() || byte == b' ' {
         char::from(byte)
