@@ -10,12 +10,18 @@ pub fn joined(alloc: Global, pieces: &[&str]) -> Result<String, AllocError> {
     Ok(text)
 }
 
+/// Adds a piece this many times.
+fn put_times(text: &mut String, piece: &str, count: usize) -> Result<(), AllocError> {
+    for _ in 0..count {
+        text.push_str(piece)?;
+    }
+    Ok(())
+}
+
 /// A text this many times.
 pub fn times(alloc: Global, text: &str, count: usize) -> Result<String, AllocError> {
     let mut all = String::new(alloc);
-    for _ in 0..count {
-        all.push_str(text)?;
-    }
+    put_times(&mut all, text, count)?;
     Ok(all)
 }
 
@@ -25,27 +31,69 @@ fn put_digits(text: &mut String, number: u8) -> Result<(), AllocError> {
     text.push(char::from(b'0' + number % 10))
 }
 
+/// Adds the lines of a script for this many attempts, from 0 on.
+fn put_verdicts(text: &mut String, verdict: &str, count: u8) -> Result<(), AllocError> {
+    for number in 0..count {
+        put_digits(text, number)?;
+        text.push(' ')?;
+        text.push_str(verdict)?;
+        text.push('\n')?;
+    }
+    Ok(())
+}
+
+/// Adds the lines of these attempts of a bench.
+fn put_attempts(text: &mut String, first: u8, last: u8) -> Result<(), AllocError> {
+    for number in first..=last {
+        text.push_str("at 0.0000")?;
+        put_digits(text, number)?;
+        text.push_str("\nattempt\n")?;
+    }
+    Ok(())
+}
+
 /// The script that gives this many attempts the same verdict, at most 99 of them.
 pub fn ever(alloc: Global, verdict: &str, count: u8) -> Result<String, AllocError> {
     let mut script = String::new(alloc);
-    for number in 0..count {
-        put_digits(&mut script, number)?;
-        script.push(' ')?;
-        script.push_str(verdict)?;
-        script.push('\n')?;
-    }
+    put_verdicts(&mut script, verdict, count)?;
     Ok(script)
 }
 
 /// The lines of this many attempts of a bench, a microsecond after one another, from 0.000001 on: at most 99 of them.
 pub fn attempts(alloc: Global, count: u8) -> Result<String, AllocError> {
     let mut lines = String::new(alloc);
-    for number in 0..count {
-        lines.push_str("at 0.0000")?;
-        put_digits(&mut lines, number.saturating_add(1))?;
-        lines.push_str("\nattempt\n")?;
-    }
+    put_attempts(&mut lines, 1, count)?;
     Ok(lines)
+}
+
+/// A part of a text.
+#[derive(Clone, Copy)]
+pub enum Part {
+    Text(&'static str),
+    /// A text, this many times.
+    Times(usize, &'static str),
+    /// The lines of a script that give this many attempts the same verdict, at most 99 of them.
+    Ever(u8, &'static str),
+    /// The lines of these attempts of a bench, of which number N is at microsecond N. The last is at most 99.
+    Attempts(u8, u8),
+}
+
+fn put_part(text: &mut String, part: Part) -> Result<(), AllocError> {
+    match part {
+        Part::Text(piece) => text.push_str(piece),
+        Part::Times(count, piece) => put_times(text, piece, count),
+        Part::Ever(count, verdict) => put_verdicts(text, verdict, count),
+        Part::Attempts(first, last) => put_attempts(text, first, last),
+    }
+}
+
+/// The text of these parts, one after the other.
+pub fn text_of(alloc: Global, parts: &[Part]) -> Result<String, AllocError> {
+    let mut text = String::new(alloc);
+    for part in parts {
+        put_part(&mut text, *part)?;
+    }
+    Ok(text)
 }
 
 /// The script of a bus whose first 32 attempts are destroyed, which takes an interface off that makes them all.

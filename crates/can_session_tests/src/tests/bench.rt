@@ -4,9 +4,7 @@ use can_bus::BusConfig;
 use can_fault::Script;
 use can_frame::Names;
 use can_session::{BenchConfig, BenchFault, LineFault, Lines, bench, bench_lines};
-use can_test_support::{
-    Closed, Pieces, attempts, config, ever, joined, script as script_of, times,
-};
+use can_test_support::{Closed, Part, Pieces, config, joined, script as script_of, text_of, times};
 use std::alloc::Global;
 use std::process::Abort;
 use std::test::Fail;
@@ -139,6 +137,20 @@ pub fn two_write_on(
     writes(rt, made, script, &input, &output)
 }
 
+/// As `two_write_on`, of texts that are made of parts.
+pub fn two_write_parts(
+    rt: &(impl Abort + AllocGlobal),
+    made: Made,
+    script: &[Part],
+    rest: &[Part],
+    wanted: &[Part],
+) -> Result<(), Fail> {
+    let script = text_of(rt.alloc(), script)?;
+    let rest = text_of(rt.alloc(), rest)?;
+    let wanted = text_of(rt.alloc(), wanted)?;
+    two_write_on(rt, made, &script, &rest, &wanted)
+}
+
 #[test]
 fn frames_go_from_one_session_to_another(rt: HostRuntime) -> Result<(), Fail> {
     // The script, what follows the two sessions, and what is written then.
@@ -222,19 +234,19 @@ const TOLD: &str =
 
 #[test]
 fn nobody_acknowledges(rt: HostRuntime) -> Result<(), Fail> {
-    let alloc = rt.alloc();
-    let lines = attempts(alloc, 17)?;
-    let tried = times(alloc, "tried can0 0 noack - -\n", 17)?;
-    let input = joined(alloc, &[ASKED, &lines, "drain 1\nfeed 1 < status >\n"])?;
-    let output = joined(
-        alloc,
-        &[
-            "1 < hi >\n1 < ok >< ok >< ok >< ok >\n",
-            &tried,
-            TOLD,
-            "1 < status passive 128 0 >\n",
-        ],
-    )?;
+    let lines = [
+        Part::Text(ASKED),
+        Part::Attempts(1, 17),
+        Part::Text("drain 1\nfeed 1 < status >\n"),
+    ];
+    let told = [
+        Part::Text("1 < hi >\n1 < ok >< ok >< ok >< ok >\n"),
+        Part::Times(17, "tried can0 0 noack - -\n"),
+        Part::Text(TOLD),
+        Part::Text("1 < status passive 128 0 >\n"),
+    ];
+    let input = text_of(rt.alloc(), &lines)?;
+    let output = text_of(rt.alloc(), &told)?;
     writes(&rt, ALONE, "", &input, &output)
 }
 
@@ -251,13 +263,18 @@ const CAME_BACK: &str =
 
 #[test]
 fn an_interface_goes_off_and_comes_back(rt: HostRuntime) -> Result<(), Fail> {
-    let alloc = rt.alloc();
-    let script = ever(alloc, "global bit", 32)?;
-    let lines = attempts(alloc, 32)?;
-    let tried = times(alloc, "tried can0 0 destroyed - -\n", 31)?;
-    let rest = joined(alloc, &[THREE_SENT, &lines, RESTARTED])?;
-    let output = joined(alloc, &["1 < ok >\n", &tried, WENT_OFF, CAME_BACK])?;
-    two_write(&rt, &script, &rest, &output)
+    let lines = [
+        Part::Text(THREE_SENT),
+        Part::Attempts(1, 32),
+        Part::Text(RESTARTED),
+    ];
+    let told = [
+        Part::Text("1 < ok >\n"),
+        Part::Times(31, "tried can0 0 destroyed - -\n"),
+        Part::Text(WENT_OFF),
+        Part::Text(CAME_BACK),
+    ];
+    two_write_parts(&rt, TWO, &[Part::Ever(32, "global bit")], &lines, &told)
 }
 
 const ONE_SENT: &str = "feed 1 < send 123 0 >\n";
@@ -270,14 +287,18 @@ const ONE_LOST: &str = "\n1 < stats 0 0 0 1 0 0 1 0 >\n";
 
 #[test]
 fn a_frame_is_received_at_most_32_times(rt: HostRuntime) -> Result<(), Fail> {
-    let alloc = rt.alloc();
-    let script = ever(alloc, "lastbit", 32)?;
-    let lines = times(alloc, "attempt\n", 32)?;
-    let tried = times(alloc, "tried can0 0 lastbit can1 -\n", 31)?;
-    let frames = times(alloc, "< frame 123 0.000000  >", 32)?;
-    let rest = joined(alloc, &[ONE_SENT, &lines, DRAINED])?;
-    let output = joined(alloc, &[&tried, LAST_BIT, &frames, ONE_LOST])?;
-    two_write(&rt, &script, &rest, &output)
+    let lines = [
+        Part::Text(ONE_SENT),
+        Part::Times(32, "attempt\n"),
+        Part::Text(DRAINED),
+    ];
+    let told = [
+        Part::Times(31, "tried can0 0 lastbit can1 -\n"),
+        Part::Text(LAST_BIT),
+        Part::Times(32, "< frame 123 0.000000  >"),
+        Part::Text(ONE_LOST),
+    ];
+    two_write_parts(&rt, TWO, &[Part::Ever(32, "lastbit")], &lines, &told)
 }
 
 const BOTH_SEND: &str = "feed 1 < send 123 0 >\nfeed 2 < send 123 0 >\n";
@@ -287,28 +308,36 @@ const BOTH_LOST: &str =
 
 #[test]
 fn two_interfaces_go_off_one_after_the_other(rt: HostRuntime) -> Result<(), Fail> {
-    let alloc = rt.alloc();
-    let script = ever(alloc, "global bit", 64)?;
-    let lines = times(alloc, "attempt\n", 65)?;
-    let rest = joined(
-        alloc,
-        &[BOTH_SEND, &lines, "feed 1 < stats >\nfeed 2 < stats >\n"],
-    )?;
-    let first = times(alloc, "tried can0 0 destroyed - -\n", 31)?;
-    let second = times(alloc, "tried can1 0 destroyed - -\n", 31)?;
-    let output = joined(
-        alloc,
-        &[
-            &first,
-            "tried can0 0 destroyed - can0\n",
-            &second,
-            BOTH_LOST,
-        ],
-    )?;
-    two_write(&rt, &script, &rest, &output)
+    let lines = [
+        Part::Text(BOTH_SEND),
+        Part::Times(65, "attempt\n"),
+        Part::Text("feed 1 < stats >\nfeed 2 < stats >\n"),
+    ];
+    let told = [
+        Part::Times(31, "tried can0 0 destroyed - -\n"),
+        Part::Text("tried can0 0 destroyed - can0\n"),
+        Part::Times(31, "tried can1 0 destroyed - -\n"),
+        Part::Text(BOTH_LOST),
+    ];
+    two_write_parts(&rt, TWO, &[Part::Ever(64, "global bit")], &lines, &told)
 }
 
 const TRIED: &str = "feed 1 < send 123 4 11 22 33 44 >\nat 23.424242\nattempt\n";
+
+/// Runs a bench over an input that can't be read to its end, and compares what is written before that.
+fn breaks_off(rt: &(impl Abort + AllocGlobal), input: &str, wanted: &str) -> Result<(), Fail> {
+    let broken = Pieces {
+        rest: input.as_bytes(),
+        size: 8,
+        is_broken: true,
+    };
+    let config = config_of(rt.alloc(), TWO, "")?;
+    let mut output = Vec::new(rt.alloc());
+    let ended = bench(rt.alloc(), config, broken, &mut output);
+    same(rt, output.as_slice(), wanted.as_bytes());
+    same(rt, ended.err(), Some(BenchFault::Read));
+    Ok(())
+}
 
 #[test]
 fn lines_before_a_read_fault_are_carried_out(rt: HostRuntime) -> Result<(), Fail> {
@@ -317,41 +346,43 @@ fn lines_before_a_read_fault_are_carried_out(rt: HostRuntime) -> Result<(), Fail
     // The reader fails behind the whole line of the attempt, or within the next.
     for next in ["", "drain"] {
         let input = joined(alloc, &[STARTED, TRIED, next])?;
-        let broken = Pieces {
-            rest: input.as_bytes(),
-            size: 8,
-            is_broken: true,
-        };
-        let mut output = Vec::new(alloc);
-        let config = config_of(alloc, TWO, "")?;
-        let ended = bench(alloc, config, broken, &mut output);
-        assert_eq!(rt; output.as_slice(), wanted.as_bytes());
-        assert_eq!(rt; ended.err(), Some(BenchFault::Read));
+        breaks_off(&rt, &input, &wanted)?;
+    }
+    Ok(())
+}
+
+/// The bench ends at the line behind the two sessions, which is no good line.
+fn stops_behind_two(rt: &(impl Abort + AllocGlobal), line: &str) -> Result<(), Fail> {
+    let input = joined(rt.alloc(), &[STARTED, line])?;
+    stops(rt, TWO, &input, GREETED, BenchFault::BadLine(5))
+}
+
+#[test]
+fn bad_lines_end_a_run(rt: HostRuntime) -> Result<(), Fail> {
+    let faulty = [
+        "at 10000000000.000000\nattempt\n",
+        "attempt \nattempt\n",
+        "session 1\nattempt\n",
+        "session 65\nattempt\n",
+        "drain 3\nattempt\n",
+        "end 3\nattempt\n",
+        "feed 3 < echo >\nattempt\n",
+        "feed 1\nattempt\n",
+    ];
+    for line in faulty {
+        stops_behind_two(&rt, line)?;
     }
     Ok(())
 }
 
 #[test]
-fn faults_end_a_run(rt: HostRuntime) -> Result<(), Fail> {
+fn a_long_line_ends_a_run(rt: HostRuntime) -> Result<(), Fail> {
+    stops_behind_two(&rt, &times(rt.alloc(), "#", 4097)?)
+}
+
+#[test]
+fn a_write_fault_ends_a_run(rt: HostRuntime) -> Result<(), Fail> {
     let alloc = rt.alloc();
-    // A line behind the two sessions that is no good line.
-    let faulty = [
-        "at 10000000000.000000",
-        "attempt ",
-        "session 1",
-        "session 65",
-        "drain 3",
-        "end 3",
-        "feed 3 < echo >",
-        "feed 1",
-    ];
-    for line in faulty {
-        let input = joined(alloc, &[STARTED, line, "\nattempt\n"])?;
-        stops(&rt, TWO, &input, GREETED, BenchFault::BadLine(5))?;
-    }
-    let marks = times(alloc, "#", 4097)?;
-    let long = joined(alloc, &[STARTED, &marks])?;
-    stops(&rt, TWO, &long, GREETED, BenchFault::BadLine(5))?;
     let config = config_of(alloc, TWO, "")?;
     let ended = bench(alloc, config, b"session 1\n".as_slice(), &mut Closed);
     same(&rt, ended.err(), Some(BenchFault::Write));
@@ -360,7 +391,6 @@ fn faults_end_a_run(rt: HostRuntime) -> Result<(), Fail> {
 
 #[test]
 fn bad_benches_are_refused(rt: HostRuntime) -> Result<(), Fail> {
-    let alloc = rt.alloc();
     let table = [
         (0, 0, 256, 2),
         (9, 0, 0, 2),
@@ -369,16 +399,21 @@ fn bad_benches_are_refused(rt: HostRuntime) -> Result<(), Fail> {
         (9, 1_000_001, 256, 2),
     ];
     for (limit, auto_restart, rx_capacity, ifaces) in table {
-        let mut config = config_of(alloc, TWO, "")?;
+        let mut config = config_of(rt.alloc(), TWO, "")?;
         config.config.limit = limit;
         config.config.auto_restart = auto_restart;
         config.config.ifaces = ifaces;
         config.rx_capacity = rx_capacity;
-        let ended = bench(alloc, config, b"session 1\n".as_slice(), &mut Closed);
+        let ended = bench(rt.alloc(), config, b"session 1\n".as_slice(), &mut Closed);
         same(&rt, ended.err(), Some(BenchFault::BadConfig));
     }
+    Ok(())
+}
+
+#[test]
+fn a_run_leaves_its_record(rt: HostRuntime) -> Result<(), Fail> {
     let ran = run(
-        alloc,
+        rt.alloc(),
         TWO,
         "",
         "session 1\nfeed 1 < open can0 >< rawmode >\nattempt\n",

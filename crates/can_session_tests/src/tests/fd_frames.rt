@@ -1,6 +1,6 @@
 //! FD frames, which sockets send and get only where their option for such is on.
-use crate::tests::bench::two_write;
-use can_test_support::{attempts, ever, joined, times};
+use crate::tests::bench::{TWO, two_write, two_write_parts};
+use can_test_support::Part;
 use std::test::Fail;
 
 #[test]
@@ -41,26 +41,17 @@ fn the_option_counts_when_a_frame_is_sent_and_when_it_comes(rt: HostRuntime) -> 
 
 #[test]
 fn an_fd_frame_has_up_to_64_bytes(rt: HostRuntime) -> Result<(), Fail> {
-    let alloc = rt.alloc();
-    let words = times(alloc, " 5a", 64)?;
-    let digits = times(alloc, "5A", 64)?;
-    let lines = joined(
-        alloc,
-        &[
-            "feed 1 < fdframes 1 >< sendfd 123 64",
-            &words,
-            " >\nfeed 2 < fdframes 1 >\nattempt\ndrain 2\n",
-        ],
-    )?;
-    let told = joined(
-        alloc,
-        &[
-            "1 < ok >\n2 < ok >\ntried can0 0 done can1 -\n2 < fdframe 123 0.000000 ",
-            &digits,
-            " >\n",
-        ],
-    )?;
-    two_write(&rt, "", &lines, &told)
+    let lines = [
+        Part::Text("feed 1 < fdframes 1 >< sendfd 123 64"),
+        Part::Times(64, " 5a"),
+        Part::Text(" >\nfeed 2 < fdframes 1 >\nattempt\ndrain 2\n"),
+    ];
+    let told = [
+        Part::Text("1 < ok >\n2 < ok >\ntried can0 0 done can1 -\n2 < fdframe 123 0.000000 "),
+        Part::Times(64, "5A"),
+        Part::Text(" >\n"),
+    ];
+    two_write_parts(&rt, TWO, &[], &lines, &told)
 }
 
 #[test]
@@ -78,24 +69,15 @@ fn fd_commands_are_refused_with_their_faults(rt: HostRuntime) -> Result<(), Fail
 /// Where the option is off, nothing is said of an interface that is bus off.
 #[test]
 fn the_option_comes_before_bus_off(rt: HostRuntime) -> Result<(), Fail> {
-    let alloc = rt.alloc();
-    let script = ever(alloc, "global bit", 32)?;
-    let tried = attempts(alloc, 32)?;
-    let destroyed = times(alloc, "tried can0 0 destroyed - -\n", 31)?;
-    let lines = joined(
-        alloc,
-        &[
-            "feed 1 < send 123 0 >\n",
-            &tried,
-            "feed 1 < sendfd 123 0 >< fdframes 1 >< sendfd 123 0 >\n",
-        ],
-    )?;
-    let told = joined(
-        alloc,
-        &[
-            &destroyed,
-            "tried can0 0 destroyed - can0\n1 < error fd frames off >< ok >< error bus off >\n",
-        ],
-    )?;
-    two_write(&rt, &script, &lines, &told)
+    let lines = [
+        Part::Text("feed 1 < send 123 0 >\n"),
+        Part::Attempts(1, 32),
+        Part::Text("feed 1 < sendfd 123 0 >< fdframes 1 >< sendfd 123 0 >\n"),
+    ];
+    let told = [
+        Part::Times(31, "tried can0 0 destroyed - -\n"),
+        Part::Text("tried can0 0 destroyed - can0\n"),
+        Part::Text("1 < error fd frames off >< ok >< error bus off >\n"),
+    ];
+    two_write_parts(&rt, TWO, &[Part::Ever(32, "global bit")], &lines, &told)
 }

@@ -11,7 +11,7 @@ use can_frame::{CanId, Frame, Iface, IfaceSet, Item, Moment, Names};
 use can_queue::ListQueue;
 use can_session::{BusPort, Port, PortRefusal, Session, SessionFault, Stage};
 use can_test_support::Output;
-use std::alloc::{AllocGlobal, Global};
+use std::alloc::{AllocError, AllocGlobal, Global};
 use std::process::Abort;
 
 /// A port that gives one item at each receive, and counts its calls.
@@ -229,6 +229,15 @@ fn one_byte_at_a_time_is_answered_as_all_at_once(rt: HostRuntime) {
     same(&rt, text.as_slice(), want.as_slice());
 }
 
+/// A message of so many bytes, and another one.
+fn long_stream(alloc: Global, len: usize) -> Result<Vec<u8>, AllocError> {
+    let mut stream = Vec::new(alloc);
+    stream.push(b'<')?;
+    stream.resize(len.saturating_add(1), b'a')?;
+    stream.extend_from_slice(b">< echo >")?;
+    Ok(stream)
+}
+
 #[test]
 fn a_long_message_is_told_and_the_next_is_read(rt: HostRuntime) {
     let cases: [(usize, &[u8]); 2] = [
@@ -236,12 +245,7 @@ fn a_long_message_is_told_and_the_next_is_read(rt: HostRuntime) {
         (1025, b"< error message too long >< echo >"),
     ];
     for (len, want) in cases {
-        let mut stream = Vec::new(rt.alloc());
-        stream.push(b'<').expect(&rt, "memory");
-        for _ in 0..len {
-            stream.push(b'a').expect(&rt, "memory");
-        }
-        stream.extend_from_slice(b">< echo >").expect(&rt, "memory");
+        let stream = long_stream(rt.alloc(), len).expect(&rt, "memory");
         let mut session = Session::new(rt.alloc(), 256).expect(&rt, "memory");
         let mut port = Counting::new();
         says(&rt, &mut session, &stream, 0, &mut port, want);
@@ -271,31 +275,23 @@ fn faults_and_refusals_are_told(rt: HostRuntime) {
     for (piece, want) in cases {
         says(&rt, &mut session, piece, 0, &mut port, want);
     }
-    let mut other = Session::new(rt.alloc(), 256).expect(&rt, "memory");
-    says(
-        &rt,
-        &mut other,
-        b"< open can2 >",
-        0,
-        &mut port,
-        b"< error no such interface >",
-    );
-    says(
-        &rt,
-        &mut other,
-        b"<open \xFF>",
-        0,
-        &mut port,
-        b"< error no such interface >",
-    );
-    says(
-        &rt,
-        &mut other,
-        b"< open interface-no-0016 >< open interface-no-16 >",
-        0,
-        &mut port,
-        b"< error no such interface >< error no such interface >",
-    );
+}
+
+#[test]
+fn a_name_that_no_interface_has_is_told(rt: HostRuntime) {
+    let mut port = bus_of(rt.alloc(), "can0,can1", AckMode::Always).expect(&rt, "a bus");
+    let mut session = Session::new(rt.alloc(), 256).expect(&rt, "memory");
+    let cases: [(&[u8], &[u8]); 3] = [
+        (b"< open can2 >", b"< error no such interface >"),
+        (b"<open \xFF>", b"< error no such interface >"),
+        (
+            b"< open interface-no-0016 >< open interface-no-16 >",
+            b"< error no such interface >< error no such interface >",
+        ),
+    ];
+    for (piece, want) in cases {
+        says(&rt, &mut session, piece, 0, &mut port, want);
+    }
 }
 
 /// One attempt at a moment in microseconds.
@@ -426,6 +422,14 @@ fn is_over<P: Port>(session: &mut Session, alloc: Global, port: &mut P) -> bool 
         && out.writes == 0
 }
 
+/// A session is over after so many calls, of which the last was a close, and makes no other.
+fn closed(rt: &(impl Abort + AllocGlobal), session: &mut Session, port: &mut Counting, calls: u32) {
+    same(rt, port.calls, calls);
+    assert!(rt; port.is_last_close);
+    assert!(rt; is_over(session, rt.alloc(), port));
+    same(rt, port.calls, calls);
+}
+
 /// What a delivery answers where the writer has so much room.
 fn deliver<P: Port>(
     session: &mut Session,
@@ -451,10 +455,7 @@ fn a_writer_that_fails_ends_the_session(rt: HostRuntime) {
         deliver(&mut session, rt.alloc(), 12, &mut port),
         Err(SessionFault::Write),
     );
-    same(&rt, port.calls, 5);
-    assert!(rt; port.is_last_close);
-    assert!(rt; is_over(&mut session, rt.alloc(), &mut port));
-    same(&rt, port.calls, 5);
+    closed(&rt, &mut session, &mut port, 5);
 }
 
 #[test]
@@ -481,10 +482,7 @@ fn a_piece_whose_text_is_not_taken_ends_the_session(rt: HostRuntime) {
     let moment = Moment::new(0).expect(&rt, "a moment");
     let fed = session.feed(rt.alloc(), b"< echo >", moment, &mut port, &mut out);
     same(&rt, fed, Err(SessionFault::Write));
-    same(&rt, port.calls, 5);
-    assert!(rt; port.is_last_close);
-    assert!(rt; is_over(&mut session, rt.alloc(), &mut port));
-    same(&rt, port.calls, 5);
+    closed(&rt, &mut session, &mut port, 5);
 }
 
 #[test]
