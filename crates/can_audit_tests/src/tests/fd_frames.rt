@@ -2,7 +2,7 @@
 
 use super::auditing::audited;
 use super::replying::compared;
-use super::texts::{again, bad_line, bus_text, carried_out, fault, legal_lines, made, read};
+use super::texts::{bad_line, bus_text, carried_out, fault, legal_lines, made, read, stays};
 use super::*;
 use can_audit::ReadFault;
 use can_bus::Opt;
@@ -88,31 +88,53 @@ fn the_slow_answer_is_the_same(rt: HostRuntime) -> Result<(), Fail> {
     Ok(())
 }
 
+/// A text is read and written again, and is the record of so many legal entries.
+fn is_legal(rt: &(impl Abort + AllocGlobal), text: &str, count: usize) -> Result<(), Fail> {
+    stays(rt, text)?;
+    same(rt, legal_lines(rt, text), Some(count));
+    Ok(())
+}
+
 #[test]
 fn it_is_read_and_written_again(rt: HostRuntime) -> Result<(), Fail> {
-    assert!(rt; again(&rt, FD_FRAME)?.as_slice() == FD_FRAME.as_bytes());
     assert!(rt; audited(&rt, &read(&rt, FD_FRAME)?) == Ok(()));
-    same(&rt, legal_lines(&rt, FD_FRAME), Some(11));
+    is_legal(&rt, FD_FRAME, 11)?;
     // On a bus with automatic restart the version is the same.
-    let restarting = changed(&rt, FD_FRAME, "10 100 0\n", "10 100 7\n")?;
-    assert!(rt; again(&rt, &restarting)?.as_slice() == restarting.as_bytes());
-    same(&rt, legal_lines(&rt, &restarting), Some(11));
-    Ok(())
+    is_legal(
+        &rt,
+        &changed(&rt, FD_FRAME, "10 100 0\n", "10 100 7\n")?,
+        11,
+    )
 }
 
 #[test]
 fn version_3_is_for_fd_frames_alone(rt: HostRuntime) -> Result<(), Fail> {
     same(&rt, fault(&rt, CLASSIC), Some(ReadFault::BadVersion));
     same(&rt, legal_lines(&rt, CLASSIC), None);
-    let first = changed(
-        &rt,
-        CLASSIC,
-        "record 3\nbus 2 always 0000 10 100 0\n",
-        "record 1\nbus 2 always 0000 10 100\n",
-    )?;
-    assert!(rt; again(&rt, &first)?.as_slice() == first.as_bytes());
-    same(&rt, legal_lines(&rt, &first), Some(5));
-    // The first wrong line is told, wherever it stands.
+    let third = "record 3\nbus 2 always 0000 10 100 0\n";
+    let first = "record 1\nbus 2 always 0000 10 100\n";
+    is_legal(&rt, &changed(&rt, CLASSIC, third, first)?, 5)?;
+    // One line with FD is enough.
+    let more = "option 1 fd 0 = ok\nend 6\n";
+    is_legal(&rt, &changed(&rt, CLASSIC, "end 5\n", more)?, 6)
+}
+
+/// A change makes this line the first that is wrong.
+fn is_bad_at(
+    rt: &(impl Abort + AllocGlobal),
+    of: &str,
+    from: &str,
+    to: &str,
+    line: u64,
+) -> Result<(), Fail> {
+    let text = changed(rt, of, from, to)?;
+    same_at(rt, to, bad_line(rt, &text), Some(line));
+    same_at(rt, to, legal_lines(rt, &text), None);
+    Ok(())
+}
+
+#[test]
+fn the_first_wrong_line_is_told_wherever_it_stands(rt: HostRuntime) -> Result<(), Fail> {
     for (from, to, line) in [
         ("10 100 0\n", "10 100\n", 2),
         ("10 100 0\n", "10 100 00\n", 2),
@@ -122,31 +144,23 @@ fn version_3_is_for_fd_frames_alone(rt: HostRuntime) -> Result<(), Fail> {
         ("end 5\n", "", 8),
         ("end 5\n", "end 5\nend 5\n", 9),
     ] {
-        let text = changed(&rt, CLASSIC, from, to)?;
-        same_at(&rt, to, bad_line(&rt, &text), Some(line));
-        same_at(&rt, to, legal_lines(&rt, &text), None);
+        is_bad_at(&rt, CLASSIC, from, to, line)?;
     }
-    // One line with FD is enough.
-    let taken = changed(&rt, CLASSIC, "end 5\n", "option 1 fd 0 = ok\nend 6\n")?;
-    assert!(rt; again(&rt, &taken)?.as_slice() == taken.as_bytes());
-    same(&rt, legal_lines(&rt, &taken), Some(6));
     Ok(())
 }
 
 #[test]
 fn versions_1_and_2_have_no_fd_frames(rt: HostRuntime) -> Result<(), Fail> {
+    let third = "canbus record 3\nbus 2 always 0000 10 100 0\n";
+    let refused = "send 0 123##00102030405060708090A0B0C = fd-off\n";
+    let without = changed(&rt, FD_FRAME, refused, "")?;
     for front in [
         "canbus record 1\nbus 2 always 0000 10 100\n",
         "canbus record 2\nbus 2 always 0000 10 100 7\n",
     ] {
-        let both = "canbus record 3\nbus 2 always 0000 10 100 0\n";
-        let send = changed(&rt, FD_FRAME, both, front)?;
-        same_at(&rt, front, bad_line(&rt, &send), Some(6));
-        same_at(&rt, front, legal_lines(&rt, &send), None);
-        let refused = "send 0 123##00102030405060708090A0B0C = fd-off\n";
-        let option = changed(&rt, &send, refused, "")?;
-        same_at(&rt, front, bad_line(&rt, &option), Some(6));
-        same_at(&rt, front, legal_lines(&rt, &option), None);
+        // The first of its lines is that of the refused frame, and without it that of the option.
+        is_bad_at(&rt, FD_FRAME, third, front, 6)?;
+        is_bad_at(&rt, &without, third, front, 6)?;
     }
     Ok(())
 }
@@ -173,11 +187,7 @@ fn each_line_of_version_3_is_read_and_written(rt: HostRuntime) -> Result<(), Fai
         "attempt 0.000001 lastbit = tried 0 0 123##0 lastbit FFFE 0000",
     ];
     for line in lines {
-        let text = one_line(&rt, line)?;
-        assert!(rt;
-            again(&rt, &text)?.as_slice() == text.as_bytes(),
-            "at {line}"
-        );
+        stays(&rt, &one_line(&rt, line)?)?;
     }
     Ok(())
 }

@@ -1,7 +1,7 @@
 // Records of a bus with automatic restart: version 2 of the text.
 
 use super::auditing::audited;
-use super::texts::{again, bad_line, fault, read};
+use super::texts::{bad_line, fault, read, stays};
 use super::*;
 use can_audit::{AuditFault, ReadFault};
 use can_bus::{Received, Reply, Tried};
@@ -87,34 +87,48 @@ fn idle(restarted: u16) -> Reply {
 
 #[test]
 fn a_record_with_a_restart_is_read_and_written_again(rt: HostRuntime) -> Result<(), Fail> {
-    assert!(rt; again(&rt, RESTARTED)?.as_slice() == RESTARTED.as_bytes());
+    stays(&rt, RESTARTED)?;
     let record = read(&rt, RESTARTED)?;
     assert!(rt; record.config().auto_restart == 2);
     assert!(rt; audited(&rt, &record) == Ok(()));
     Ok(())
 }
 
+/// Whether a change makes this entry wrong, at which these interfaces are restarted.
+fn is_wrong_at(
+    rt: &impl AllocGlobal,
+    from: &str,
+    to: &str,
+    place: usize,
+    restarted: u16,
+) -> Result<bool, Fail> {
+    let found = wrong(rt, &changed(rt, from, to)?)?;
+    Ok(found == Some((place, Some(idle(restarted)))))
+}
+
 #[test]
 fn a_restart_that_is_left_out_is_wrong(rt: HostRuntime) -> Result<(), Fail> {
-    let left_out = changed(&rt, " restarted 0001", "")?;
-    let restarted = idle(0b01);
-    assert!(rt; wrong(&rt, &left_out)? == Some((37, Some(restarted))));
-    let both = changed(&rt, "restarted 0001", "restarted 0003")?;
-    assert!(rt; wrong(&rt, &both)? == Some((37, Some(restarted))));
-    let early = changed(
-        &rt,
-        "000033 good = idle",
-        "000033 good = idle restarted 0001",
-    )?;
-    assert!(rt; wrong(&rt, &early)? == Some((36, Some(idle(0)))));
-    // Attempts are counted from the one behind that which took the interface off.
-    let sooner = changed(&rt, "10 100 2\n", "10 100 1\n")?;
-    assert!(rt; wrong(&rt, &sooner)? == Some((36, Some(restarted))));
+    let changes = [
+        (" restarted 0001", "", 37, 0b01),
+        ("restarted 0001", "restarted 0003", 37, 0b01),
+        (
+            "000033 good = idle",
+            "000033 good = idle restarted 0001",
+            36,
+            0,
+        ),
+        // Attempts are counted from the one behind that which took the interface off.
+        ("10 100 2\n", "10 100 1\n", 36, 0b01),
+    ];
+    for (from, to, place, restarted) in changes {
+        let is_wrong = is_wrong_at(&rt, from, to, place, restarted)?;
+        same_at(&rt, to, is_wrong, true);
+    }
     Ok(())
 }
 
 #[test]
-fn each_damage_of_the_first_two_lines_is_told(rt: HostRuntime) -> Result<(), Fail> {
+fn each_damage_of_the_first_line_is_told(rt: HostRuntime) -> Result<(), Fail> {
     let firsts = [
         ("record 2\n", "record 3\n"),
         ("record 2\n", "record 02\n"),
@@ -127,8 +141,13 @@ fn each_damage_of_the_first_two_lines_is_told(rt: HostRuntime) -> Result<(), Fai
     ];
     for (from, to) in firsts {
         let text = changed(&rt, from, to)?;
-        assert!(rt; fault(&rt, &text) == Some(ReadFault::BadVersion), "at {to}");
+        same_at(&rt, to, fault(&rt, &text), Some(ReadFault::BadVersion));
     }
+    Ok(())
+}
+
+#[test]
+fn each_damage_of_the_second_line_is_told(rt: HostRuntime) -> Result<(), Fail> {
     let seconds = [
         ("10 100 2\n", "10 100 0\n"),
         ("10 100 2\n", "10 100\n"),
@@ -148,12 +167,15 @@ fn each_damage_of_the_first_two_lines_is_told(rt: HostRuntime) -> Result<(), Fai
     ];
     for (from, to) in seconds {
         let text = changed(&rt, from, to)?;
-        assert!(rt; bad_line(&rt, &text) == Some(2), "at {to}");
+        same_at(&rt, to, bad_line(&rt, &text), Some(2));
     }
-    assert!(rt; bad_line(&rt, "canbus record 2\n") == Some(2));
-    let most = changed(&rt, "10 100 2\n", "10 100 1000000\n")?;
-    assert!(rt; again(&rt, &most)?.as_slice() == most.as_bytes());
+    same(&rt, bad_line(&rt, "canbus record 2\n"), Some(2));
     Ok(())
+}
+
+#[test]
+fn the_greatest_number_is_read_and_written(rt: HostRuntime) -> Result<(), Fail> {
+    stays(&rt, &changed(&rt, "10 100 2\n", "10 100 1000000\n")?)
 }
 
 #[test]
@@ -188,11 +210,7 @@ fn each_line_of_version_2_is_read_and_written(rt: HostRuntime) -> Result<(), Fai
         "restart 1 23.424242 = ok",
     ];
     for line in lines {
-        let text = one_line(&rt, line)?;
-        assert!(rt;
-            again(&rt, &text)?.as_slice() == text.as_bytes(),
-            "at {line}"
-        );
+        stays(&rt, &one_line(&rt, line)?)?;
     }
     Ok(())
 }
@@ -219,10 +237,15 @@ fn what_no_line_of_version_2_spells_is_refused(rt: HostRuntime) -> Result<(), Fa
     ];
     for line in lines {
         let text = one_line(&rt, line)?;
-        assert!(rt; bad_line(&rt, &text) == Some(3), "at {line}");
+        same_at(&rt, line, bad_line(&rt, &text), Some(3));
     }
-    // An attempt that restarted nothing ends its line: the next line is the one that is wrong.
+    Ok(())
+}
+
+/// An attempt that restarted nothing ends its line: the next line is the one that is wrong.
+#[test]
+fn restarted_does_not_begin_a_line(rt: HostRuntime) -> Result<(), Fail> {
     let next = one_line(&rt, "attempt 0.000001 good = idle\nrestarted 0001")?;
-    assert!(rt; bad_line(&rt, &next) == Some(4));
+    same(&rt, bad_line(&rt, &next), Some(4));
     Ok(())
 }

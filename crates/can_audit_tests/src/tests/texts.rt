@@ -93,6 +93,12 @@ pub fn again(rt: &impl AllocGlobal, text: &str) -> Result<Vec<u8>, Fail> {
     written(rt, &read(rt, text)?)
 }
 
+/// A text is read, and written again as it is.
+pub fn stays(rt: &(impl Abort + AllocGlobal), text: &str) -> Result<(), Fail> {
+    assert!(rt; again(rt, text)?.as_slice() == text.as_bytes(), "{text}");
+    Ok(())
+}
+
 pub fn fault(rt: &impl AllocGlobal, text: &str) -> Option<ReadFault> {
     read(rt, text).err()
 }
@@ -129,7 +135,7 @@ fn a_buss_record_has_this_text(rt: HostRuntime) -> Result<(), Fail> {
 
 #[test]
 fn the_text_is_read_and_written_again(rt: HostRuntime) -> Result<(), Fail> {
-    assert!(rt; again(&rt, ONE_FRAME)?.as_slice() == ONE_FRAME.as_bytes());
+    stays(&rt, ONE_FRAME)?;
     let record = read(&rt, ONE_FRAME)?;
     same(&rt, count(&record), 7);
     same(&rt, limit(&record), 100);
@@ -142,7 +148,12 @@ fn a_record_written_in_pieces_has_the_same_text(rt: HostRuntime) -> Result<(), F
     let mut text = Vec::new(rt.alloc());
     written_in_pieces(&rt, &record, &mut text)?;
     assert!(rt; text.as_slice() == ONE_FRAME.as_bytes());
-    let again = read_again(&rt, &record)?;
+    Ok(())
+}
+
+#[test]
+fn a_record_is_read_back_from_its_text(rt: HostRuntime) -> Result<(), Fail> {
+    let again = read_again(&rt, &read(&rt, ONE_FRAME)?)?;
     assert!(rt; written(&rt, &again)?.as_slice() == ONE_FRAME.as_bytes());
     Ok(())
 }
@@ -252,9 +263,7 @@ fn another_first_line_is_another_version(rt: HostRuntime) -> Result<(), Fail> {
 
 #[test]
 fn a_record_may_be_longer_than_its_limit(rt: HostRuntime) -> Result<(), Fail> {
-    let text = changed(&rt, "10 100\n", "10 6\n")?;
-    assert!(rt; again(&rt, &text)?.as_slice() == text.as_bytes());
-    Ok(())
+    stays(&rt, &changed(&rt, "10 100\n", "10 6\n")?)
 }
 
 #[test]
@@ -314,11 +323,7 @@ fn each_kind_of_line_is_read_and_written(rt: HostRuntime) -> Result<(), Fail> {
         "restart 1 23.424242 = ok",
     ];
     for line in lines {
-        let text = one_line(&rt, line)?;
-        assert!(rt;
-            again(&rt, &text)?.as_slice() == text.as_bytes(),
-            "at {line}"
-        );
+        stays(&rt, &one_line(&rt, line)?)?;
     }
     Ok(())
 }
