@@ -1,4 +1,4 @@
-use Rattle.std.proofs.Common.{◌≡◌, ℕ, ◌+◌, [], ◌∷◌, ◌++◌, arith, refl, sym, ap, subst, ◌∙◌}
+use Rattle.std.proofs.Common.{◌≡◌, ℕ, ◌+◌, [], ◌∷◌, ◌++◌, arith, refl, sym, ap, ◌∙◌}
 use Rattle.can_session.specs.Lines.{Input, left_of}
 use Rattle.can_session.specs.Benches.{BenchState}
 use Rattle.can_session.proofs.Running.{of_start, of_more, of_all, left_unread, fine_behind, short_line, ran_start, ran_on, ran_kept, ends_stop, push_length, counted_more, match_true, match_false}
