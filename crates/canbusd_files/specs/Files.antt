@@ -1,12 +1,26 @@
 use Rattle.std.specs.Prelude.{◌≡◌, ◌⊎◌, ℕ, List, Option, Some, None, Err}
+use denote.Ref.{Bor}
+use Rattle.std.specs.Io.KnownBytes.{Appends}
+use Rattle.can_bus.specs.Journal.{Kept}
+use Rattle.can_logfile.specs.Log.{joined, log_lines}
 use Rattle.can_fault.specs.declared.scripts.ScriptError.{ScriptError}
 use Rattle.can_fault.specs.declared.scripts.ScriptError.TheVariants as script
 use Rattle.can_fault.specs.Scripts.{Reads as Spells}
 use Rattle.can_frame.specs.Names.{AreNames, names_in}
+use Rattle.canbusd_options.specs.declared.bus_word.BusWord.{BusWord}
+use Rattle.canbusd_options.specs.BusWords.{first_name_of}
 use Rattle.canbusd_faults.specs.declared.faults.Fault.{Fault}
 use Rattle.canbusd_faults.specs.declared.faults.Fault.TheVariants as fault
 
--- What is reported of names, files and scripts that cannot be read (own choice).
+-- What is written to files, and what is reported of names, files and scripts that cannot be read or written (own choice).
+
+-- a writer took a text
+abbrev pub Took : {W : Type 0} → (W → Option (List ℕ)) → W → W → List ℕ → Type 0
+Took contents old new text = Appends (contents old) (contents new) text
+
+-- the text of the log of a record
+abbrev pub log_text : List (List ℕ) → Kept → List ℕ
+log_text names r = joined (log_lines names r.history)
 
 -- a fault of reading or of memory
 abbrev pub IsOfReading : Fault → Type 0
@@ -19,11 +33,28 @@ abbrev pub IsOfFile : List ℕ → Fault → Type 0
 IsOfFile path (fault.CannotOpen named) = named.now ≡ path
 IsOfFile path why = IsOfReading why
 
+-- a fault of writing or of memory
+abbrev pub IsOfWriting : Fault → Type 0
+IsOfWriting fault.Write = Unit {0}
+IsOfWriting fault.NoMemory = Unit {0}
+IsOfWriting why = ⊥
+
+-- a fault of a record's file with this path: it cannot be opened or written, or memory was refused
+abbrev pub IsOfRecordFile : List ℕ → Fault → Type 0
+IsOfRecordFile path (fault.CannotOpen named) = named.now ≡ path
+IsOfRecordFile path why = IsOfWriting why
+
 -- a fault of names: they are none that a bus may have, or they are, and memory was refused
 abbrev pub IsOfNames : List ℕ → Fault → Type 0
 IsOfNames text fault.BadNames = AreNames (names_in text) → ⊥
 IsOfNames text fault.NoMemory = AreNames (names_in text)
 IsOfNames text why = ⊥
+
+-- a fault of the log of a bus, whose file has this path: it cannot be opened or written, or it is one of the names
+abbrev pub IsOfLogFile : BusWord → List ℕ → Fault → Type 0
+IsOfLogFile bus path (fault.CannotOpen named) = named.now ≡ path
+IsOfLogFile bus path (fault.Log name lines) = name.now ≡ first_name_of bus.names.now
+IsOfLogFile bus path why = IsOfNames bus.names.now why
 
 -- how a fault of a script is reported
 abbrev pub fault_of : ScriptError → Fault
@@ -39,6 +70,6 @@ abbrev pub IsOfScriptFile : List ℕ → List (List ℕ) → Fault → Type 0
 IsOfScriptFile path names why = IsOfFile path why ⊎ ((text : List ℕ) × IsOfScript names text why)
 
 -- a fault of the script of a bus: there is none where no script is named
-abbrev pub IsOfSource : Option (List ℕ) → List (List ℕ) → Fault → Type 0
+abbrev pub IsOfSource : Option (Bor (List ℕ)) → List (List ℕ) → Fault → Type 0
 IsOfSource None names why = ⊥
-IsOfSource (Some path) names why = IsOfScriptFile path names why
+IsOfSource (Some path) names why = IsOfScriptFile path.now names why

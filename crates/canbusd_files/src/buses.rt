@@ -1,5 +1,5 @@
 //! A bus as the words of a command line describe it: its faults and its configuration.
-ghost use Rattle.std.specs.Prelude.{◌≡◌, ◌≤◌, length, IfErr, IfOk, option_map};
+ghost use Rattle.std.specs.Prelude.{◌≡◌, ◌≤◌, length, IfErr, IfOk};
 ghost use Rattle.canbusd_files.specs.Buses.{AreVerdicts, config_of, verdicts_of};
 ghost use Rattle.canbusd_files.specs.Files.{IsOfSource};
 ghost use Rattle.canbusd_files.specs.Buses.{first_ifaces as first_ifaces_of};
@@ -43,8 +43,8 @@ pub fn read_source<'a, H: Files>(
     bus: BusWord<'a>,
     names: &Names,
 ) -> Result<Source, Failure<'a>>
-    ensures verdicts { IfOk result (λ source. AreVerdicts bus.entry.script names.now (verdicts_of source)) }
-    ensures fault { IfErr result (λ failure. IsOfSource (option_map (λ path. path.now) bus.entry.script) names.now failure.fault) }
+    ensures verdicts { IfOk result (λ s. AreVerdicts bus.entry.script names.now (verdicts_of s)) }
+    ensures fault { IfErr result (λ failure. IsOfSource bus.entry.script names.now failure.fault) }
 {
     match bus.script {
         Some(path) => Ok(Source::Script(read_script(rt, alloc, path, bus.names, names)?)),

@@ -1,8 +1,8 @@
 //! The files that a run leaves: the record of a bus, and its log. Where it leaves none, a note says so.
-ghost use Rattle.std.specs.Prelude.{◌≡◌, reverse, OnOk};
-ghost use Rattle.std.specs.Io.KnownBytes.{Appends};
-ghost use Rattle.can_record.specs.Spelling.{record_spelling};
-ghost use Rattle.can_logfile.specs.Log.{joined, log_lines};
+ghost use Rattle.std.specs.Prelude.{◌≡◌, ◌-◌, ◌==◌, count_by, IfErr, OnOk};
+ghost use Rattle.can_record.specs.Texts.{text_of};
+ghost use Rattle.canbusd_faults.specs.declared.faults.Fault.TheVariants as fault;
+ghost use Rattle.canbusd_files.specs.Files.{IsOfLogFile, IsOfRecordFile, IsOfWriting, Took, log_text};
 
 use crate::files::{open_failure, write_failure};
 use crate::names::read_names;
@@ -27,7 +27,9 @@ pub fn save_record<'a, H: Files>(
     alloc: Global,
     path: &'a str,
     record: &Record,
-) -> Result<(), Failure<'a>> {
+) -> Result<(), Failure<'a>>
+    ensures { IfErr result (λ failure. IsOfRecordFile path.now failure.fault) }
+{
     save_record_at(rt, alloc, path, path, record)
 }
 
@@ -38,7 +40,9 @@ pub fn save_record_at<'a, H: Files>(
     path: &'a str,
     at: &str,
     record: &Record,
-) -> Result<(), Failure<'a>> {
+) -> Result<(), Failure<'a>>
+    ensures { IfErr result (λ failure. IsOfRecordFile path.now failure.fault) }
+{
     let file = create(rt, alloc, path, at)?;
     let mut file = BufWriter::new(alloc, file).map_err(|_| Failure::new(alloc, Fault::NoMemory))?;
     put_record(alloc, path, record, &mut file)
@@ -52,7 +56,9 @@ pub fn save_log<'a, H: Files>(
     path: &'a str,
     bus: BusWord<'a>,
     record: &Record,
-) -> Result<(), Failure<'a>> {
+) -> Result<(), Failure<'a>>
+    ensures { IfErr result (λ failure. IsOfLogFile bus.entry path.now failure.fault) }
+{
     save_log_at(rt, alloc, path, path, bus, record)
 }
 
@@ -64,7 +70,9 @@ pub fn save_log_at<'a, H: Files>(
     at: &str,
     bus: BusWord<'a>,
     record: &Record,
-) -> Result<(), Failure<'a>> {
+) -> Result<(), Failure<'a>>
+    ensures { IfErr result (λ failure. IsOfLogFile bus.entry path.now failure.fault) }
+{
     let names = read_names(alloc, bus.names)?;
     let file = create(rt, alloc, path, at)?;
     let Ok(mut file) = BufWriter::with_capacity(alloc, LOG_BLOCK, file) else {
@@ -72,7 +80,10 @@ pub fn save_log_at<'a, H: Files>(
     };
     let put = put_log(&names, record, &mut file);
     let (_, unwritten) = file.into_parts();
-    put.map_err(|lines| log_failure(alloc, bus.first_name(), lines, &unwritten))
+    match put {
+        Ok(()) => Ok(()),
+        Err(lines) => Err(log_failure(alloc, bus.first_name(), lines, &unwritten)),
+    }
 }
 
 /// A fault of a run that ended before it wrote this file of its own, the record or the log, if it was to write one: with
@@ -114,7 +125,9 @@ fn create<'a, H: Files>(
     alloc: Global,
     path: &'a str,
     at: &str,
-) -> Result<H::File, Failure<'a>> {
+) -> Result<H::File, Failure<'a>>
+    ensures { IfErr result (λ failure. failure.fault ≡ fault.CannotOpen path.entry) }
+{
     fs::create(rt, at).map_err(|error| open_failure(alloc, path, &error))
 }
 
@@ -125,7 +138,8 @@ fn put_record<'a, W: Write>(
     record: &Record,
     file: &mut W,
 ) -> Result<(), Failure<'a>>
-    ensures { OnOk result (Appends (W.contents file.old) (W.contents file.new) (record_spelling «record».now.config (reverse «record».now.history))) }
+    ensures written { OnOk result (Took W.contents file.old file.new (text_of «record».now)) }
+    ensures fault { IfErr result (λ failure. IsOfWriting failure.fault) }
 {
     write_record(alloc, record, file).map_err(|error| record_failure(alloc, path, &error))?;
     file.flush()
@@ -134,7 +148,7 @@ fn put_record<'a, W: Write>(
 
 // Writes the lines of a log; on a fault, how many lines the writer took whole.
 fn put_log<W: Write>(names: &Names, record: &Record, file: &mut W) -> Result<(), u64>
-    ensures { OnOk result (Appends (W.contents file.old) (W.contents file.new) (joined (log_lines names.now «record».now.history))) }
+    ensures { OnOk result (Took W.contents file.old file.new (log_text names.now «record».now)) }
 {
     let lines = match write_tape(names, record, file) {
         Ok(lines) => lines,
@@ -144,13 +158,17 @@ fn put_log<W: Write>(names: &Names, record: &Record, file: &mut W) -> Result<(),
 }
 
 // How a fault of writing a log is reported: a buffer took this many whole lines, and has these bytes left.
-fn log_failure<'a>(alloc: Global, name: &'a str, lines: u64, unwritten: &[u8]) -> Failure<'a> {
+fn log_failure<'a>(alloc: Global, name: &'a str, lines: u64, unwritten: &[u8]) -> Failure<'a>
+    ensures { result.fault ≡ fault.Log name.entry (lines - count_by (λ b. b == 10) unwritten.now) }
+{
     let whole_lines = lines.saturating_sub(count_of(unwritten, b'\n') as u64);
     Failure::new(alloc, Fault::Log { name, whole_lines })
 }
 
 // How a fault of writing a record is reported.
-fn record_failure<'a>(alloc: Global, path: &str, error: &Error) -> Failure<'a> {
+fn record_failure<'a>(alloc: Global, path: &str, error: &Error) -> Failure<'a>
+    ensures { IsOfWriting result.fault }
+{
     if error.kind() == ErrorKind::OutOfMemory {
         Failure::new(alloc, Fault::NoMemory)
     } else {
