@@ -21,7 +21,9 @@ use Rattle.can_bus.proofs.Attempting.{between-is}
 use Rattle.can_bus.proofs.OffFacts.{winner-contends}
 use Rattle.can_bus.proofs.Winning.{winner-is, idle-is}
 use Rattle.can_replay.specs.Histories.{IsHistory}
-use Rattle.can_reference.proofs.Counting.{IsLive, live-kept}
+use Rattle.can_reference.specs.inner.Counted.{IsLive}
+use Rattle.can_reference.specs.inner.Replied.{tried_reply}
+use Rattle.can_reference.proofs.Counting.{live-kept}
 
 -- Who wins the bus, and what the reply to the attempt is.
 
@@ -48,16 +50,13 @@ pub winner-of : (c : BusConfig) (past : List Entry) (w : Option ℕ) → IsHisto
 winner-of c past None h first none = sym (idle-is c past h.proper.few_ifaces (none refl))
 winner-of c past (Some i) h first none = sym (winner-is c past h.legal h.proper.few_ifaces i first)
 
-abbrev tried_by : ℕ → ℕ → ℕ → Pending → IfaceSet → Judgement → Reply
-tried_by m w n p set j = reply.Tried (record { moment = m; winner = w; number = n; frame = p.frame; class = j.class; accepted = j.accepted; off = j.off; restarted = set })
-
 pub tried-is : (c : BusConfig) (past : List Entry) (m : ℕ) (v : Verdict) (w : ℕ) (p : Pending) (n : ℕ) (nodes : Nodes) (j : Judgement) (set : IfaceSet) → IsHistory c past → set ≡ restarted_next c past
     → winner c past ≡ Some w → head_of past w ≡ Some p → n ≡ gone_count past w → nodes ≡ kept_nodes c past → j ≡ judged (attempt_between nodes w v c.ack)
-    → tried_by m w n p set j ≡ attempt_reply c past m v (winner c past)
+    → tried_reply m w n p j set ≡ attempt_reply c past m v (winner c past)
 tried-is c past m v w p n nodes j set h restarts won head number are judges =
-    ap (λ (k : ℕ). tried_by m w k p set j) number
-    ∙ ap (λ (s : IfaceSet). tried_by m w (gone_count past w) p s j) restarts
-    ∙ ap (λ (k : Judgement). tried_by m w (gone_count past w) p (restarted_next c past) k)
+    ap (λ (k : ℕ). tried_reply m w k p j set) number
+    ∙ ap (λ (s : IfaceSet). tried_reply m w (gone_count past w) p j s) restarts
+    ∙ ap (λ (k : Judgement). tried_reply m w (gone_count past w) p k (restarted_next c past))
     (judges ∙ ap (λ (q : Nodes). judged (attempt_between q w v c.ack)) are ∙ ap judged (between-is c past w v h.legal h.proper.few_ifaces))
     ∙ ap (tried_head c past m v w) (sym head)
     ∙ ap (attempt_reply c past m v) (sym won)

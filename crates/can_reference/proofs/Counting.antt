@@ -26,17 +26,13 @@ use Rattle.can_bus.proofs.Lawful.{WasTried, by_attempt}
 use Rattle.can_bus.proofs.NodeFacts.{counts_at-kept}
 use Rattle.can_bus.proofs.OffFacts.{all_stepped-append, winner-contends}
 use Rattle.can_replay.proofs.Before.{before_more}
-use Rattle.can_reference.specs.inner.Counted.{Counts}
+use Rattle.can_reference.specs.inner.Counted.{Counts, IsLive, judged_nodes}
+use Rattle.can_event.specs.Replies.{entry_of}
 use Rattle.can_replay.specs.Histories.{before, IsHistory}
 
 -- The error counts of all interfaces, one entry after another.
 
 -- ---- the interface that sent is there, and not bus off
-
-pub record IsLive (nodes : Nodes) (i : ℕ) : Type 0 where
-  pub few : nodes.count ≤ 16
-  pub there : i < nodes.count
-  pub live : is_off (state_of (counts_at nodes i)) ≡ false
 
 pub live-kept : (c : BusConfig) (past : List Entry) (i : ℕ) → IsHistory c past → i < c.ifaces → is_off (state_of (counts_of c past i)) ≡ false → IsLive (kept_nodes c past) i
 live-kept c past i h below live =
@@ -58,7 +54,7 @@ earlier c e past h = record { proper = h.proper; legal = h.legal.2 }
 -- ---- what an entry leaves
 
 counts-tried : (c : BusConfig) (past : List Entry) (m : ℕ) (v : Verdict) (t : Tried) (i : ℕ)
-    → counts_of c (record { event = Attempt m v; reply = reply.Tried t } ∷ past) i ≡ (if is_in i t.restarted then at_start else counts_after (transmission c past t.winner v) i)
+    → counts_of c (entry_of (Attempt m v) (reply.Tried t) ∷ past) i ≡ (if is_in i t.restarted then at_start else counts_after (transmission c past t.winner v) i)
 counts-tried c past m v t i = when (is_in i t.restarted)
   where
     when : (b : Bool) → all_stepped at_start (if b then [] else steps_of c past i ++ steps_at i (transmission c past t.winner v)) ≡ (if b then at_start else counts_after (transmission c past t.winner v) i)
@@ -66,7 +62,7 @@ counts-tried c past m v t i = when (is_in i t.restarted)
     when false = all_stepped-append at_start (steps_of c past i) (steps_at i (transmission c past t.winner v))
 
 counts-idle : (c : BusConfig) (past : List Entry) (m : ℕ) (v : Verdict) (set : IfaceSet) (i : ℕ)
-    → counts_of c (record { event = Attempt m v; reply = reply.Idle set } ∷ past) i ≡ (if is_in i set then at_start else counts_of c past i)
+    → counts_of c (entry_of (Attempt m v) (reply.Idle set) ∷ past) i ≡ (if is_in i set then at_start else counts_of c past i)
 counts-idle c past m v set i = when (is_in i set)
   where
     when : (b : Bool) → all_stepped at_start (if b then [] else steps_of c past i) ≡ (if b then at_start else counts_of c past i)
@@ -82,49 +78,49 @@ map_all : (f g : ℕ → ErrorCounts) (xs : List ℕ) → ((i : ℕ) → f i ≡
 map_all f g xs same = ap (λ (h : ℕ → ErrorCounts). map h xs) (fun_ext same)
 
 nodes-tried : (c : BusConfig) (past : List Entry) (m : ℕ) (v : Verdict) (t : Tried) (old new : Nodes) → IsHistory c past → old ≡ kept_nodes c past
-    → new ≡ begun_anew t.restarted (record old { counters = (judged (attempt_between old t.winner v c.ack)).counters })
-    → new ≡ kept_nodes c (record { event = Attempt m v; reply = reply.Tried t } ∷ past)
+    → new ≡ begun_anew t.restarted (judged_nodes old t.winner v c.ack)
+    → new ≡ kept_nodes c (entry_of (Attempt m v) (reply.Tried t) ∷ past)
 unfolding kept_nodes
 nodes-tried c past m v t old new h are after =
     after
-    ∙ ap (λ (n : Nodes). begun_anew t.restarted (record n { counters = (judged (attempt_between n t.winner v c.ack)).counters })) are
+    ∙ ap (λ (n : Nodes). begun_anew t.restarted (judged_nodes n t.winner v c.ack)) are
     ∙ ap (λ (tr : Transmission). begun_anew t.restarted (record { count = c.ifaces; counters = (judged tr).counters })) (between-is c past t.winner v h.legal h.proper.few_ifaces)
     ∙ anew c.ifaces t.restarted (counts_after (transmission c past t.winner v))
     ∙ ap (λ (cs : List ErrorCounts). record { count = c.ifaces; counters = cs })
-    (map_all (λ i. if is_in i t.restarted then at_start else counts_after (transmission c past t.winner v) i) (counts_of c (record { event = Attempt m v; reply = reply.Tried t } ∷ past)) (range_with_len 0 16)
+    (map_all (λ i. if is_in i t.restarted then at_start else counts_after (transmission c past t.winner v) i) (counts_of c (entry_of (Attempt m v) (reply.Tried t) ∷ past)) (range_with_len 0 16)
     (λ i. sym (counts-tried c past m v t i)))
 
 nodes-idle : (c : BusConfig) (past : List Entry) (m : ℕ) (v : Verdict) (set : IfaceSet) (old new : Nodes)
-    → old ≡ kept_nodes c past → new ≡ begun_anew set old → new ≡ kept_nodes c (record { event = Attempt m v; reply = reply.Idle set } ∷ past)
+    → old ≡ kept_nodes c past → new ≡ begun_anew set old → new ≡ kept_nodes c (entry_of (Attempt m v) (reply.Idle set) ∷ past)
 unfolding kept_nodes
 nodes-idle c past m v set old new are after =
     after
     ∙ ap (begun_anew set) are
     ∙ anew c.ifaces set (counts_of c past)
     ∙ ap (λ (cs : List ErrorCounts). record { count = c.ifaces; counters = cs })
-    (map_all (λ i. if is_in i set then at_start else counts_of c past i) (counts_of c (record { event = Attempt m v; reply = reply.Idle set } ∷ past)) (range_with_len 0 16)
+    (map_all (λ i. if is_in i set then at_start else counts_of c past i) (counts_of c (entry_of (Attempt m v) (reply.Idle set) ∷ past)) (range_with_len 0 16)
     (λ i. sym (counts-idle c past m v set i)))
 
-counts-restarted : (c : BusConfig) (past : List Entry) (i m : ℕ) → counts_of c (record { event = Restart i m; reply = reply.Done } ∷ past) i ≡ at_start
+counts-restarted : (c : BusConfig) (past : List Entry) (i m : ℕ) → counts_of c (entry_of (Restart i m) reply.Done ∷ past) i ≡ at_start
 counts-restarted c past i m = ap (λ (ss : List Step). all_stepped at_start ss) (cond-true (i == i) [] (steps_of c past i) (eq-eqb i i refl))
 
-counts-other : (c : BusConfig) (past : List Entry) (i m j : ℕ) → j ≢ i → counts_of c (record { event = Restart i m; reply = reply.Done } ∷ past) j ≡ counts_of c past j
+counts-other : (c : BusConfig) (past : List Entry) (i m j : ℕ) → j ≢ i → counts_of c (entry_of (Restart i m) reply.Done ∷ past) j ≡ counts_of c past j
 counts-other c past i m j ne = ap (λ (ss : List Step). all_stepped at_start ss) (cond-false (i == j) [] (steps_of c past j) (ne_eqb i j (λ e. ne (sym e))))
 
-nodes-restarted : (c : BusConfig) (past : List Entry) (i m : ℕ) (old new : Nodes) → i < 16 → old ≡ kept_nodes c past → new ≡ record old { counters = slice_set old.counters i at_start } → new ≡ kept_nodes c (record { event = Restart i m; reply = reply.Done } ∷ past)
+nodes-restarted : (c : BusConfig) (past : List Entry) (i m : ℕ) (old new : Nodes) → i < 16 → old ≡ kept_nodes c past → new ≡ record old { counters = slice_set old.counters i at_start } → new ≡ kept_nodes c (entry_of (Restart i m) reply.Done ∷ past)
 unfolding kept_nodes
 nodes-restarted c past i m old new lt are after =
     after
     ∙ ap (λ (n : Nodes). record n { counters = slice_set n.counters i at_start }) are
     ∙ ap (λ (k : ErrorCounts). record { count = c.ifaces; counters = slice_set (map (counts_of c past) (range_with_len 0 16)) i k }) (sym (counts-restarted c past i m))
-    ∙ ap (λ (ks : List ErrorCounts). record { count = c.ifaces; counters = ks }) (sym (sixteen-one (counts_of c past) (counts_of c (record { event = Restart i m; reply = reply.Done } ∷ past)) i 16 lt (counts-other c past i m)))
+    ∙ ap (λ (ks : List ErrorCounts). record { count = c.ifaces; counters = ks }) (sym (sixteen-one (counts_of c past) (counts_of c (entry_of (Restart i m) reply.Done ∷ past)) i 16 lt (counts-other c past i m)))
 
-tried-law : (c : BusConfig) (past : List Entry) (e : Event) (t : Tried) (old new : Nodes) → IsHistory c past → reply.Tried t ≡ legal_reply c past e → old ≡ kept_nodes c past → Counts c e (reply.Tried t) old new → new ≡ kept_nodes c (record { event = e; reply = reply.Tried t } ∷ past)
+tried-law : (c : BusConfig) (past : List Entry) (e : Event) (t : Tried) (old new : Nodes) → IsHistory c past → reply.Tried t ≡ legal_reply c past e → old ≡ kept_nodes c past → Counts c e (reply.Tried t) old new → new ≡ kept_nodes c (entry_of e (reply.Tried t) ∷ past)
 tried-law c past e t old new h law are =
-    by_attempt (λ k. Counts c k (reply.Tried t) old new → new ≡ kept_nodes c (record { event = k; reply = reply.Tried t } ∷ past)) c past e t law
+    by_attempt (λ k. Counts c k (reply.Tried t) old new → new ≡ kept_nodes c (entry_of k (reply.Tried t) ∷ past)) c past e t law
     (λ m v w counted.
     let live : IsLive old t.winner = subst (λ (n : Nodes). IsLive n t.winner) (sym are) (winner-live c past m v t h w) in
-    nodes-tried c past m v t old new h are (counted live.few live.there live.live))
+    nodes-tried c past m v t old new h are (counted live))
 
 -- a restart with this reply is of an interface that is there
 restart-below : (c : BusConfig) (past : List Entry) (i m : ℕ) → reply.Done ≡ legal_reply c past (Restart i m) → i < c.ifaces
@@ -134,7 +130,7 @@ restart-below c past i m law = when (nat_le c.ifaces i) refl law
     when true above l = cc
     when false below l = leb-false c.ifaces i below
 
-pub counted-kept : (c : BusConfig) (past : List Entry) (e : Event) (r : Reply) (old new : Nodes) → IsHistory c past → r ≡ legal_reply c past e → old ≡ kept_nodes c past → Counts c e r old new → new ≡ kept_nodes c (record { event = e; reply = r } ∷ past)
+pub counted-kept : (c : BusConfig) (past : List Entry) (e : Event) (r : Reply) (old new : Nodes) → IsHistory c past → r ≡ legal_reply c past e → old ≡ kept_nodes c past → Counts c e r old new → new ≡ kept_nodes c (entry_of e r ∷ past)
 unfolding kept_nodes
 counted-kept c past e (reply.Tried t) old new h law are counted = tried-law c past e t old new h law are counted
 counted-kept c past (Restart i m) reply.Done old new h law are counted = nodes-restarted c past i m old new (omega (arith, restart-below c past i m law, h.proper.few_ifaces)) are counted

@@ -9,6 +9,7 @@ use Rattle.can_event.specs.declared.events.Event.TheVariants.{Attempt}
 use Rattle.can_event.specs.declared.events.Pending.{Pending}
 use Rattle.can_event.specs.declared.events.Reply.TheVariants as reply
 use Rattle.can_event.specs.declared.events.Tried.{Tried}
+use Rattle.can_event.specs.Replies.{entry_of}
 use Rattle.can_bus.specs.Counters.{transmission}
 use Rattle.can_bus.specs.Posts.{attempt_posts}
 use Rattle.can_bus.specs.State.{kept_nodes}
@@ -16,14 +17,12 @@ use Rattle.can_bus.specs.Transmit.{sent_by}
 use Rattle.can_bus.proofs.Attempting.{between-is}
 use Rattle.can_bus.proofs.Lawful.{was_tried}
 use Rattle.can_replay.specs.Histories.{IsHistory}
-use Rattle.can_reference.proofs.Counting.{IsLive, earlier, winner-live}
-
-abbrev pub tried_entry : ℕ → Verdict → Tried → Entry
-tried_entry m v t = record { event = Attempt m v; reply = reply.Tried t }
+use Rattle.can_reference.specs.inner.Counted.{IsLive}
+use Rattle.can_reference.proofs.Counting.{earlier, winner-live}
 
 -- what an attempt of the record puts to the sockets, from the interfaces and the frame as they were
 pub tried-posts : (c : BusConfig) (past : List Entry) (m : ℕ) (v : Verdict) (t : Tried) (i : ℕ) (nodes : Nodes) (p : Option Pending)
-    → IsHistory c (tried_entry m v t ∷ past) → nodes ≡ kept_nodes c past → p ≡ slice_get (sent_by past t.winner) t.number
+    → IsHistory c (entry_of (Attempt m v) (reply.Tried t) ∷ past) → nodes ≡ kept_nodes c past → p ≡ slice_get (sent_by past t.winner) t.number
     → attempt_posts c.reporting (attempt_between nodes t.winner v c.ack) t p i ≡ attempt_posts c.reporting (transmission c past t.winner v) t (slice_get (sent_by past t.winner) t.number) i
 tried-posts c past m v t i nodes p h are frame =
     ap (λ (n : Nodes). attempt_posts c.reporting (attempt_between n t.winner v c.ack) t p i) are
@@ -32,9 +31,9 @@ tried-posts c past m v t i nodes p h are frame =
 
 -- the attempt is judged
 pub judged-tried : {P : Type 0} (c : BusConfig) (past : List Entry) (m : ℕ) (v : Verdict) (t : Tried) (nodes : Nodes) (j : Option Judgement)
-    → IsHistory c (tried_entry m v t ∷ past) → nodes ≡ kept_nodes c past → (IsLive nodes t.winner → j ≡ Some (judged (attempt_between nodes t.winner v c.ack))) → j ≡ None
+    → IsHistory c (entry_of (Attempt m v) (reply.Tried t) ∷ past) → nodes ≡ kept_nodes c past → (IsLive nodes t.winner → j ≡ Some (judged (attempt_between nodes t.winner v c.ack))) → j ≡ None
     → P
 judged-tried c past m v t nodes j h are some none =
-    let live : IsLive nodes t.winner = subst (λ (n : Nodes). IsLive n t.winner) (sym are) (winner-live c past m v t (earlier c (tried_entry m v t) past h) (was_tried c past m v t h.legal.1)) in
+    let live : IsLive nodes t.winner = subst (λ (n : Nodes). IsLive n t.winner) (sym are) (winner-live c past m v t (earlier c (entry_of (Attempt m v) (reply.Tried t)) past h) (was_tried c past m v t h.legal.1)) in
     let is = some live in
     cc

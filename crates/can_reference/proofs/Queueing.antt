@@ -12,6 +12,7 @@ use Rattle.can_filter.specs.declared.socket_options.Options.{Options}
 use Rattle.can_bus.specs.Posts.{Post, posts_of}
 use Rattle.can_bus.specs.Queues.{passing, candidates_of, candidates_for, taken_from, queued_to, dropped_at}
 use Rattle.can_bus.specs.Sockets.{is_open, capacity_of, filters_of, options_of}
+use Rattle.can_reference.specs.inner.Noted.{room_after}
 use Rattle.can_replay.specs.Histories.{before, IsHistory}
 use Rattle.can_replay.proofs.Before.{before_more}
 use Rattle.can_reference.proofs.Counting.{earlier}
@@ -36,26 +37,26 @@ offered_more c es k s e old more new r so_far is all =
     all ∙ ap (λ (rs : List Received). rs ++ more) so_far ∙ ap (λ (rs : List Received). candidates_for c (before es k) s ++ rs) is ∙ ap (λ (h : List Entry). candidates_for c h s) (sym r.more)
 
 abbrev room_at : BusConfig → List Entry → ℕ → ℕ
-room_at c past s = capacity_of past s + length (taken_from past s) - length (queued_to c past s)
+room_at c past s = room_after past s (length (queued_to c past s))
 
 pub queued_more : (c : BusConfig) (es : List Entry) (k s : ℕ) (e : Entry) (room : ℕ) (old more new : List Received) → Reads c es k e → old ≡ queued_to c (before es k) s
-    → more ≡ candidates_of c (before es k) s e.event e.reply → room ≡ capacity_of (before es k) s + length (taken_from (before es k) s) - length old
+    → more ≡ candidates_of c (before es k) s e.event e.reply → room ≡ room_after (before es k) s (length old)
     → new ≡ old ++ take room more → new ≡ queued_to c (before es (k + 1)) s
 queued_more c es k s e room old more new r so_far is room_is all =
     let past = before es k in
     all
-    ∙ ap (λ (n : ℕ). old ++ take n more) (room_is ∙ ap (λ (rs : List Received). capacity_of past s + length (taken_from past s) - length rs) so_far)
+    ∙ ap (λ (n : ℕ). old ++ take n more) (room_is ∙ ap (λ (rs : List Received). room_after past s (length rs)) so_far)
     ∙ ap (λ (rs : List Received). rs ++ take (room_at c past s) more) so_far
     ∙ ap (λ (rs : List Received). queued_to c past s ++ take (room_at c past s) rs) is
     ∙ ap (λ (h : List Entry). queued_to c h s) (sym r.more)
 
 pub dropped_more : (c : BusConfig) (es : List Entry) (k s : ℕ) (e : Entry) (room : ℕ) (queued old more new : List Received) → Reads c es k e
     → queued ≡ queued_to c (before es k) s → old ≡ dropped_at c (before es k) s → more ≡ candidates_of c (before es k) s e.event e.reply
-    → room ≡ capacity_of (before es k) s + length (taken_from (before es k) s) - length queued → new ≡ old ++ drop room more → new ≡ dropped_at c (before es (k + 1)) s
+    → room ≡ room_after (before es k) s (length queued) → new ≡ old ++ drop room more → new ≡ dropped_at c (before es (k + 1)) s
 dropped_more c es k s e room queued old more new r queued_are so_far is room_is all =
     let past = before es k in
     all
-    ∙ ap (λ (n : ℕ). old ++ drop n more) (room_is ∙ ap (λ (rs : List Received). capacity_of past s + length (taken_from past s) - length rs) queued_are)
+    ∙ ap (λ (n : ℕ). old ++ drop n more) (room_is ∙ ap (λ (rs : List Received). room_after past s (length rs)) queued_are)
     ∙ ap (λ (rs : List Received). rs ++ drop (room_at c past s) more) so_far
     ∙ ap (λ (rs : List Received). dropped_at c past s ++ drop (room_at c past s) rs) is
     ∙ ap (λ (h : List Entry). dropped_at c h s) (sym r.more)

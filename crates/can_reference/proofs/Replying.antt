@@ -23,6 +23,7 @@ use Rattle.can_bus.specs.State.{kept_nodes}
 use Rattle.can_bus.specs.Transmit.{sent_by, gone_count}
 use Rattle.can_bus.proofs.OffFacts.{is_open-iface}
 use Rattle.can_reference.proofs.Counting.{off-kept}
+use Rattle.can_event.specs.Replies.{entry_of}
 use Rattle.can_replay.specs.Histories.{IsHistory}
 use Rattle.can_replay.specs.Replies.{reply_after, entries_after, replies_after}
 
@@ -128,11 +129,11 @@ full-entries c past e full = sym (cond-true (nat_le c.limit (length past)) _ _ (
 pub room-reply : (c : BusConfig) (past : List Entry) (e : Event) (r : Reply) → length past < c.limit → r ≡ legal_reply c past e → r ≡ reply_after c past e
 room-reply c past e r room is = is ∙ sym (cond-false (nat_le c.limit (length past)) _ _ (lt-leb c.limit (length past) room))
 
-pub room-entries : (c : BusConfig) (es new : List Entry) (e f : Event) (r : Reply) → length es < c.limit → r ≡ legal_reply c (reverse es) e → f ≡ e → new ≡ es ++ record { event = f; reply = r } ∷ [] → reverse new ≡ entries_after c (reverse es) e
+pub room-entries : (c : BusConfig) (es new : List Entry) (e f : Event) (r : Reply) → length es < c.limit → r ≡ legal_reply c (reverse es) e → f ≡ e → new ≡ es ++ entry_of f r ∷ [] → reverse new ≡ entries_after c (reverse es) e
 room-entries c es new e f r room is same more =
     ap reverse more
-    ∙ reverse-append es (record { event = f; reply = r } ∷ [])
-    ∙ ap (λ (k : Event). record { event = k; reply = r } ∷ reverse es) same
+    ∙ reverse-append es (entry_of f r ∷ [])
+    ∙ ap (λ (k : Event). entry_of k r ∷ reverse es) same
     ∙ ap (λ (k : Reply). record { event = e; reply = k } ∷ reverse es) is
     ∙ sym (cond-false (nat_le c.limit (length (reverse es))) _ _ (lt-leb c.limit (length (reverse es)) (omega (arith, room, length-reverse es))))
 

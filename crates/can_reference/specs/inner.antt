@@ -1,1 +1,4 @@
 pub mod Counted
+pub mod Noted
+pub mod Posted
+pub mod Replied

@@ -1,10 +1,11 @@
 ghost use Rattle.std.specs.Prelude.{◌≡◌, reverse, slice_set, IfOk, IfSome, IsNone};
 ghost use Rattle.can_arbiter.specs.Keys.{IsWinner, IsIdle};
 ghost use Rattle.can_bus.specs.State.{key_in, kept_keys};
-ghost use Rattle.can_bus.specs.Attempts.{winner, attempt_reply};
+ghost use Rattle.can_bus.specs.Attempts.{winner};
 ghost use Rattle.can_event.specs.declared.events.BusConfig.{BusConfig};
-ghost use Rattle.can_event.specs.declared.events.Reply.TheVariants as reply;
-ghost use Rattle.can_replay.specs.Histories.{IsHistory};
+ghost use Rattle.can_event.specs.declared.events.Event.TheVariants as event;
+ghost use Rattle.can_reference.specs.Histories.{OnHistory, Returns};
+ghost use Rattle.can_reference.specs.inner.Replied.{ReturnsReply, tried_reply};
 
 use crate::counters::{judgement_of, nodes_of};
 use crate::restarts::restarted_next;
@@ -45,7 +46,7 @@ fn first_of<A: Arbiter>(alloc: Global, past: &[Entry]) -> Result<Option<Iface>, 
 
 /// The interface that wins the bus, if one has a frame to send.
 fn winner(alloc: Global, past: &[Entry]) -> Result<Option<Iface>, AllocError>
-    ensures { (c : BusConfig) → IsHistory c (reverse past.now) → IfOk result (λ w. w ≡ winner c (reverse past.now)) }
+    ensures { (c : BusConfig) → OnHistory c past.now (λ h. Returns result (winner c h)) }
 {
     let first = first_of::<ScanArbiter>(alloc, past)?;
     Ok(first)
@@ -60,7 +61,7 @@ fn tried_as(
     judgement: &Judgement,
     restarted: IfaceSet,
 ) -> Reply
-    ensures { result ≡ reply.Tried (record { moment = moment; winner = winner; number = number; frame = pending.now.frame; class = judgement.now.class; accepted = judgement.now.accepted; off = judgement.now.off; restarted = restarted }) }
+    ensures { result ≡ tried_reply moment winner number pending.now judgement.now restarted }
 {
     Reply::Tried(Tried {
         moment,
@@ -82,7 +83,7 @@ pub fn attempt_reply(
     moment: Moment,
     verdict: Verdict,
 ) -> Result<Reply, AllocError>
-    ensures { IsHistory config (reverse past.now) → IfOk result (λ r. r ≡ attempt_reply config (reverse past.now) moment verdict (winner config (reverse past.now))) }
+    ensures { ReturnsReply config past.now (event.Attempt moment verdict) result }
 {
     let restarted = restarted_next(config, past);
     let Some(winner) = winner(alloc, past)? else {

@@ -1,10 +1,10 @@
-ghost use Rattle.std.specs.Prelude.{◌≡◌, ◌<◌, ◌≤◌, reverse, slice_set, false, Some, IfSome};
-ghost use Rattle.can_confine.specs.Confinement.{is_off, state_of, at_start};
-ghost use Rattle.can_attempt.specs.Attempts.{counts_at, attempt_between, judged};
+ghost use Rattle.std.specs.Prelude.{◌≡◌, ◌≤◌, slice_set, Some, IfSome, OnSome};
+ghost use Rattle.can_confine.specs.Confinement.{at_start};
+ghost use Rattle.can_attempt.specs.Attempts.{attempt_between, judged};
 ghost use Rattle.can_bus.specs.Changes.{begun_anew};
 ghost use Rattle.can_bus.specs.State.{kept_nodes};
-ghost use Rattle.can_reference.specs.inner.Counted.{Counts, CountsTried};
-ghost use Rattle.can_replay.specs.Histories.{IsHistory};
+ghost use Rattle.can_reference.specs.inner.Counted.{Counts, CountsTried, IsLive, judged_nodes};
+ghost use Rattle.can_reference.specs.Histories.{OnHistory};
 
 use can_attempt::{AckMode, Judgement, Nodes, judge};
 use can_bus::{BusConfig, Entry, Event, Reply, Tried, begun_anew};
@@ -21,8 +21,10 @@ pub fn judgement_of(
     verdict: Verdict,
     ack: AckMode,
 ) -> Option<Judgement>
-    ensures some { IfSome result (λ j. (j ≡ judged (attempt_between nodes.now winner verdict ack)) × (nodes.now.count ≤ 16)) }
-    ensures live { nodes.now.count ≤ 16 → winner < nodes.now.count → is_off (state_of (counts_at nodes.now winner)) ≡ false → result ≡ Some (judged (attempt_between nodes.now winner verdict ack)) }
+    ensures some { IfSome result (λ j. j ≡ judged (attempt_between nodes.now winner verdict ack)) }
+    ensures few { OnSome result (nodes.now.count ≤ 16) }
+    ensures live { IsLive nodes.now winner →
+        result ≡ Some (judged (attempt_between nodes.now winner verdict ack)) }
 {
     if nodes.count > 16 || winner.number() >= nodes.count || nodes.is_off(winner) {
         return None;
@@ -46,7 +48,8 @@ fn note_restarts(nodes: &mut Nodes, restarted: IfaceSet)
 
 /// What a frame that was tried does to them.
 fn note_frame(config: BusConfig, nodes: &mut Nodes, winner: Iface, verdict: Verdict)
-    ensures { nodes.old.count ≤ 16 → winner < nodes.old.count → is_off (state_of (counts_at nodes.old winner)) ≡ false → nodes.new ≡ record nodes.old { counters = (judged (attempt_between nodes.old winner verdict config.ack)).counters } }
+    ensures { IsLive nodes.old winner →
+        nodes.new ≡ judged_nodes nodes.old winner verdict config.ack }
 {
     if let Some(judgement) = judgement_of(nodes, winner, verdict, config.ack) {
         count(nodes, &judgement);
@@ -89,7 +92,7 @@ fn note(config: BusConfig, entry: &Entry, nodes: &mut Nodes)
 
 /// The interfaces with the error counters that the entries leave.
 pub fn nodes_of(config: BusConfig, past: &[Entry]) -> Nodes
-    ensures { IsHistory config (reverse past.now) → result ≡ kept_nodes config (reverse past.now) }
+    ensures { OnHistory config past.now (λ h. result ≡ kept_nodes config h) }
 {
     let mut nodes = Nodes {
         count: config.ifaces,

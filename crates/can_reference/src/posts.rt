@@ -1,11 +1,13 @@
-ghost use Rattle.std.specs.Prelude.{◌≡◌, ℕ, ◌++◌, ◌∷◌, reverse, IfOk};
+ghost use Rattle.std.specs.Prelude.{◌≡◌, ◌++◌, OnOk};
 ghost use Rattle.can_filter.specs.Passing.{wants};
-ghost use Rattle.can_bus.specs.Posts.{sender_in, data_posts, error_posts, attempt_posts, restart_posts, auto_restart_posts, posts_of, is_own};
+ghost use Rattle.can_bus.specs.Posts.{sender_in, data_posts, error_posts, attempt_posts, restart_posts, auto_restart_posts, is_own};
 ghost use Rattle.can_bus.specs.Queues.{passing};
 ghost use Rattle.can_event.specs.declared.events.Event.TheVariants as event;
 ghost use Rattle.can_event.specs.declared.events.Reply.TheVariants as reply;
 ghost use Rattle.can_bus.specs.Attempted.{transmission_of};
-ghost use Rattle.can_replay.specs.Histories.{IsHistory};
+ghost use Rattle.can_event.specs.Replies.{entry_of};
+ghost use Rattle.can_reference.specs.Histories.{ReturnsList};
+ghost use Rattle.can_reference.specs.inner.Posted.{ReturnsPosts};
 
 use crate::counters::{judgement_of, nodes_of};
 use crate::transmit::{frame_at, sent_by};
@@ -53,7 +55,8 @@ fn put_frame(
     pending: &Option<Pending>,
     iface: Iface,
 ) -> Result<(), AllocError>
-    ensures { IfOk result (λ u. posts.new.items ≡ posts.old.items ++ data_posts iface attempted.now.tried pending.now) }
+    ensures { OnOk result (posts.new.items ≡ posts.old.items ++
+        data_posts iface attempted.now.tried pending.now) }
 {
     let sender = sender_in(pending);
     if attempted.is_posted(iface, *pending) {
@@ -76,7 +79,7 @@ fn put_error(
     moment: Moment,
     error: Option<ErrorFrame>,
 ) -> Result<(), AllocError>
-    ensures { IfOk result (λ u. posts.new.items ≡ posts.old.items ++ error_posts iface moment error) }
+    ensures { OnOk result (posts.new.items ≡ posts.old.items ++ error_posts iface moment error) }
 {
     if let Some(error) = error {
         let received = Received {
@@ -101,7 +104,8 @@ fn attempt_posts(
     pending: Option<Pending>,
     iface: Iface,
 ) -> Result<Vec<Post>, AllocError>
-    ensures { IfOk result (λ ps. ps.items ≡ attempt_posts reporting (transmission_of attempted.now) attempted.now.tried pending iface) }
+    ensures { ReturnsList result
+        (attempt_posts reporting (transmission_of attempted.now) attempted.now.tried pending iface) }
 {
     let moment = attempted.tried().moment;
     let mut posts = Vec::new(alloc);
@@ -120,7 +124,8 @@ fn put_restarted(
     moment: Moment,
     iface: Iface,
 ) -> Result<(), AllocError>
-    ensures { IfOk result (λ u. posts.new.items ≡ posts.old.items ++ auto_restart_posts restarted moment iface) }
+    ensures { OnOk result (posts.new.items ≡ posts.old.items ++
+        auto_restart_posts restarted moment iface) }
 {
     if restarted.contains(iface) {
         put_error(posts, iface, moment, Some(restart_frame()))?;
@@ -135,7 +140,7 @@ fn idle_posts(
     moment: Moment,
     iface: Iface,
 ) -> Result<Vec<Post>, AllocError>
-    ensures { IfOk result (λ ps. ps.items ≡ auto_restart_posts restarted moment iface) }
+    ensures { ReturnsList result (auto_restart_posts restarted moment iface) }
 {
     let mut posts = Vec::new(alloc);
     put_restarted(&mut posts, restarted, moment, iface)?;
@@ -152,7 +157,8 @@ fn tried_posts(
     verdict: Verdict,
     tried: &Tried,
 ) -> Result<Vec<Post>, AllocError>
-    ensures { IsHistory config (record { event = event.Attempt moment verdict; reply = reply.Tried tried.now } ∷ reverse past.now) → IfOk result (λ ps. ps.items ≡ posts_of config (reverse past.now) iface (event.Attempt moment verdict) (reply.Tried tried.now)) }
+    ensures { ReturnsPosts config past.now iface
+        (entry_of (event.Attempt moment verdict) (reply.Tried tried.now)) result }
 {
     let nodes = nodes_of(config, past);
     let judgement = match judgement_of(&nodes, tried.winner, verdict, config.ack) {
@@ -174,7 +180,7 @@ fn restart_posts(
     moment: Moment,
     iface: Iface,
 ) -> Result<Vec<Post>, AllocError>
-    ensures { IfOk result (λ ps. ps.items ≡ restart_posts restarted moment iface) }
+    ensures { ReturnsList result (restart_posts restarted moment iface) }
 {
     let mut posts = Vec::new(alloc);
     if iface == restarted {
@@ -191,7 +197,7 @@ pub fn posts_of(
     iface: Iface,
     entry: &Entry,
 ) -> Result<Vec<Post>, AllocError>
-    ensures { IsHistory config (entry.now ∷ reverse past.now) → IfOk result (λ ps. ps.items ≡ posts_of config (reverse past.now) iface entry.now.event entry.now.reply) }
+    ensures { ReturnsPosts config past.now iface entry.now result }
 {
     match &entry.event {
         Event::Attempt(moment, verdict) => match &entry.reply {
@@ -228,7 +234,8 @@ fn item_of(post: &Post) -> Received
 
 /// Whether a post passes these filters and options.
 fn is_wanted(filters: &FilterSet, options: &Options, id: SocketId, post: &Post) -> bool
-    ensures { result ≡ wants filters.now options.now post.now.received.item (is_own post.now.sender id.0) }
+    ensures { result ≡
+        wants filters.now options.now post.now.received.item (is_own post.now.sender id.0) }
 {
     wants(filters, options, &post.received.item, is_own(post, id))
 }
@@ -241,7 +248,7 @@ pub fn passing(
     id: SocketId,
     posts: &[Post],
 ) -> Result<Vec<Received>, AllocError>
-    ensures { IfOk result (λ rs. rs.items ≡ passing filters.now options.now id.0 posts.now) }
+    ensures { ReturnsList result (passing filters.now options.now id.0 posts.now) }
 {
     let mut passed = Vec::new(alloc);
     for post in posts {

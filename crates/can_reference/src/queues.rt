@@ -1,8 +1,9 @@
-ghost use Rattle.std.specs.Prelude.{◌≡◌, ◌+◌, ◌-◌, ◌++◌, ◌∷◌, reverse, length, slice_get, take, drop, IfOk};
+ghost use Rattle.std.specs.Prelude.{◌≡◌, ◌++◌, reverse, slice_get, take, drop, IfOk, OnOk};
 ghost use Rattle.can_bus.specs.Copies.{is_from, received_from};
-ghost use Rattle.can_bus.specs.Queues.{candidates_of, candidates_for, taken_from, taken_after, queued_to, dropped_at};
-ghost use Rattle.can_bus.specs.Sockets.{capacity_of};
-ghost use Rattle.can_replay.specs.Histories.{IsHistory};
+ghost use Rattle.can_bus.specs.Queues.{candidates_for, taken_from, taken_after, queued_to, dropped_at};
+ghost use Rattle.can_reference.specs.Histories.{OnHistory, OnRecord, Returns, ReturnsList};
+ghost use Rattle.can_reference.specs.inner.Noted.{room_after};
+ghost use Rattle.can_reference.specs.inner.Posted.{ReturnsCandidates};
 
 use crate::posts::{passing, posts_of};
 use crate::sockets::{filters_of, options_of, sockets_of};
@@ -20,7 +21,7 @@ fn candidates_of(
     id: SocketId,
     entry: &Entry,
 ) -> Result<Vec<Received>, AllocError>
-    ensures { IsHistory config (entry.now ∷ reverse past.now) → IfOk result (λ rs. rs.items ≡ candidates_of config (reverse past.now) id.0 entry.now.event entry.now.reply) }
+    ensures { ReturnsCandidates config past.now id.0 entry.now result }
 {
     let sockets = sockets_of(alloc, past)?;
     if !sockets.is_open(id) {
@@ -38,7 +39,7 @@ fn candidates_for(
     past: &[Entry],
     id: SocketId,
 ) -> Result<Vec<Received>, AllocError>
-    ensures { IsHistory config (reverse past.now) → IfOk result (λ rs. rs.items ≡ candidates_for config (reverse past.now) id.0) }
+    ensures { OnHistory config past.now (λ h. ReturnsList result (candidates_for config h id.0)) }
 {
     let mut offered = Vec::new(alloc);
     for k in 0..past.len() {
@@ -50,7 +51,8 @@ fn candidates_for(
 
 /// What an entry adds to the items that were taken from a socket.
 fn note_taken(entry: &Entry, id: SocketId, taken: &mut Vec<Received>) -> Result<(), AllocError>
-    ensures { IfOk result (λ u. taken.new.items ≡ taken_after entry.now.event entry.now.reply id.0 taken.old.items) }
+    ensures { OnOk result (taken.new.items ≡
+        taken_after entry.now.event entry.now.reply id.0 taken.old.items) }
 {
     match &entry.event {
         Event::Receive(of) => {
@@ -71,7 +73,7 @@ pub(crate) fn taken_from(
     past: &[Entry],
     id: SocketId,
 ) -> Result<Vec<Received>, AllocError>
-    ensures { IfOk result (λ rs. rs.items ≡ taken_from (reverse past.now) id.0) }
+    ensures { ReturnsList result (taken_from (reverse past.now) id.0) }
 {
     let mut taken = Vec::new(alloc);
     for entry in past {
@@ -89,7 +91,7 @@ pub(crate) struct Arrivals {
 
 /// How many more items may wait on a socket to which this many were queued.
 fn room_of(alloc: Global, past: &[Entry], id: SocketId, queued: usize) -> Result<u128, AllocError>
-    ensures { IfOk result (λ n. n ≡ capacity_of (reverse past.now) id.0 + length (taken_from (reverse past.now) id.0) - queued) }
+    ensures { Returns result (room_after (reverse past.now) id.0 queued) }
 {
     let capacity = sockets_of(alloc, past)?.capacity_of(id);
     let taken = taken_from(alloc, past, id)?.len();
@@ -98,8 +100,10 @@ fn room_of(alloc: Global, past: &[Entry], id: SocketId, queued: usize) -> Result
 
 /// Queues as many candidates as there is room for.
 fn admit(arrivals: &mut Arrivals, room: u128, candidates: &[Received]) -> Result<(), AllocError>
-    ensures queued { IfOk result (λ u. arrivals.new.queued.items ≡ arrivals.old.queued.items ++ take room candidates.now) }
-    ensures dropped { IfOk result (λ u. arrivals.new.dropped.items ≡ arrivals.old.dropped.items ++ drop room candidates.now) }
+    ensures queued { OnOk result (arrivals.new.queued.items ≡ arrivals.old.queued.items ++
+        take room candidates.now) }
+    ensures dropped { OnOk result (arrivals.new.dropped.items ≡ arrivals.old.dropped.items ++
+        drop room candidates.now) }
 {
     let mut fit = candidates.len();
     if room < fit as u128 {
@@ -124,8 +128,10 @@ pub(crate) fn arrivals_at(
     past: &[Entry],
     id: SocketId,
 ) -> Result<Arrivals, AllocError>
-    ensures queued { IsHistory config (reverse past.now) → IfOk result (λ a. a.queued.items ≡ queued_to config (reverse past.now) id.0) }
-    ensures dropped { IsHistory config (reverse past.now) → IfOk result (λ a. a.dropped.items ≡ dropped_at config (reverse past.now) id.0) }
+    ensures queued { OnHistory config past.now
+        (λ h. IfOk result (λ a. a.queued.items ≡ queued_to config h id.0)) }
+    ensures dropped { OnHistory config past.now
+        (λ h. IfOk result (λ a. a.dropped.items ≡ dropped_at config h id.0)) }
 {
     let mut arrivals = Arrivals {
         queued: Vec::new(alloc),
@@ -145,7 +151,7 @@ pub(crate) fn arrivals_at(
 /// Of a record that no bus could have made, nothing is said. The time grows with the cube of the number of
 /// entries.
 pub fn queued(alloc: Global, record: &Record, id: SocketId) -> Result<Vec<Received>, AllocError>
-    ensures { IsHistory «record».now.config «record».now.history → IfOk result (λ rs. rs.items ≡ queued_to «record».now.config «record».now.history id.0) }
+    ensures { OnRecord «record».now (λ c h. ReturnsList result (queued_to c h id.0)) }
 {
     let entries = record.to_entries(alloc)?;
     Ok(arrivals_at(alloc, record.config(), &entries, id)?.queued)
@@ -157,7 +163,7 @@ pub fn queued(alloc: Global, record: &Record, id: SocketId) -> Result<Vec<Receiv
 /// Of a record that no bus could have made, nothing is said. The time grows with the cube of the number of
 /// entries.
 pub fn candidates(alloc: Global, record: &Record, id: SocketId) -> Result<Vec<Received>, AllocError>
-    ensures { IsHistory «record».now.config «record».now.history → IfOk result (λ rs. rs.items ≡ candidates_for «record».now.config «record».now.history id.0) }
+    ensures { OnRecord «record».now (λ c h. ReturnsList result (candidates_for c h id.0)) }
 {
     let entries = record.to_entries(alloc)?;
     candidates_for(alloc, record.config(), &entries, id)
@@ -183,7 +189,7 @@ pub fn projected(
     iface: Iface,
     id: SocketId,
 ) -> Result<Vec<Received>, AllocError>
-    ensures { IsHistory «record».now.config «record».now.history → IfOk result (λ rs. rs.items ≡ received_from «record».now.config «record».now.history iface id.0) }
+    ensures { OnRecord «record».now (λ c h. ReturnsList result (received_from c h iface id.0)) }
 {
     let all = queued(alloc, record, id)?;
     let mut of_iface = Vec::new(alloc);

@@ -1,9 +1,12 @@
-ghost use Rattle.std.specs.Prelude.{◌≡◌, ℕ, ◌≤◌, ◌<◌, ◌↔◌, [], ◌∷◌, ◌++◌, reverse, length, IfOk, OnOk, Err};
+ghost use Rattle.std.specs.Prelude.{◌≡◌, ℕ, ◌≤◌, ◌↔◌, [], ◌∷◌, ◌++◌, reverse, length, OnOk, Err};
 ghost use Rattle.can_event.specs.Events.{IsConfig, max_limit};
 ghost use Rattle.can_bus.specs.Legal.{lacks_fd, legal_reply, if_open};
 ghost use Rattle.can_bus.specs.Sockets.{options_of};
 ghost use Rattle.can_event.specs.declared.events.Event.TheVariants as event;
 ghost use Rattle.can_event.specs.declared.events.Reply.TheVariants as reply;
+ghost use Rattle.can_event.specs.Replies.{entry_of};
+ghost use Rattle.can_reference.specs.Histories.{OnHistory, Returns, ReturnsList};
+ghost use Rattle.can_reference.specs.inner.Replied.{ReturnsReply};
 ghost use Rattle.can_replay.specs.Histories.{IsHistory};
 ghost use Rattle.can_replay.specs.Replies.{replies_after, reply_after, entries_after};
 
@@ -38,7 +41,7 @@ fn open_reply(
     capacity: u32,
 ) -> Result<Reply, AllocError>
     requires { length past.now ≤ max_limit }
-    ensures { IfOk result (λ r. r ≡ legal_reply config (reverse past.now) (event.Open iface capacity)) }
+    ensures { Returns result (legal_reply config (reverse past.now) (event.Open iface capacity)) }
 {
     if iface.number() >= config.ifaces {
         return Ok(Reply::Refused(Refusal::NoInterface));
@@ -60,7 +63,7 @@ fn close_reply(
     past: &[Entry],
     id: SocketId,
 ) -> Result<Reply, AllocError>
-    ensures { IsHistory config (reverse past.now) → IfOk result (λ r. r ≡ legal_reply config (reverse past.now) (event.Close id)) }
+    ensures { ReturnsReply config past.now (event.Close id) result }
 {
     if !sockets_of(alloc, past)?.is_open(id) {
         return Ok(Reply::Refused(Refusal::NoSocket));
@@ -75,7 +78,7 @@ fn close_reply(
 
 /// The reply of an event that sets the filters or an option of a socket.
 fn set_reply(alloc: Global, past: &[Entry], id: SocketId) -> Result<Reply, AllocError>
-    ensures { IfOk result (λ r. r ≡ if_open (reverse past.now) id.0 reply.Done) }
+    ensures { Returns result (if_open (reverse past.now) id.0 reply.Done) }
 {
     if !sockets_of(alloc, past)?.is_open(id) {
         return Ok(Reply::Refused(Refusal::NoSocket));
@@ -98,7 +101,7 @@ fn send_reply(
     id: SocketId,
     frame: Frame,
 ) -> Result<Reply, AllocError>
-    ensures { IsHistory config (reverse past.now) → IfOk result (λ r. r ≡ legal_reply config (reverse past.now) (event.Send id frame)) }
+    ensures { ReturnsReply config past.now (event.Send id frame) result }
 {
     let sockets = sockets_of(alloc, past)?;
     if !sockets.is_open(id) {
@@ -126,7 +129,7 @@ fn receive_reply(
     past: &[Entry],
     id: SocketId,
 ) -> Result<Reply, AllocError>
-    ensures { IsHistory config (reverse past.now) → IfOk result (λ r. r ≡ legal_reply config (reverse past.now) (event.Receive id)) }
+    ensures { ReturnsReply config past.now (event.Receive id) result }
 {
     if !sockets_of(alloc, past)?.is_open(id) {
         return Ok(Reply::Refused(Refusal::NoSocket));
@@ -138,7 +141,8 @@ fn receive_reply(
 
 /// The reply of a restart.
 fn restart_reply(config: BusConfig, past: &[Entry], iface: Iface) -> Reply
-    ensures { (m : ℕ) → IsHistory config (reverse past.now) → result ≡ legal_reply config (reverse past.now) (event.Restart iface m) }
+    ensures { (m : ℕ) →
+        OnHistory config past.now (λ h. result ≡ legal_reply config h (event.Restart iface m)) }
 {
     if iface.number() >= config.ifaces {
         return Reply::Refused(Refusal::NoInterface);
@@ -158,7 +162,7 @@ fn legal_reply(
     event: &Event,
 ) -> Result<Reply, AllocError>
     requires { length past.now ≤ max_limit }
-    ensures { IsHistory config (reverse past.now) → IfOk result (λ r. r ≡ legal_reply config (reverse past.now) event.now) }
+    ensures { ReturnsReply config past.now event.now result }
 {
     match event {
         Event::Open(iface, capacity) => open_reply(alloc, config, past, *iface, *capacity),
@@ -172,25 +176,9 @@ fn legal_reply(
     }
 }
 
-/// The same event once more.
-fn copy_of(alloc: Global, event: &Event) -> Result<Event, AllocError>
-    ensures { IfOk result (λ e. e ≡ event.now) }
-{
-    Ok(match event {
-        Event::Open(iface, capacity) => Event::Open(*iface, *capacity),
-        Event::Close(id) => Event::Close(*id),
-        Event::SetFilters(id, filters) => Event::SetFilters(*id, filters.try_copy(alloc)?),
-        Event::SetOption(id, option) => Event::SetOption(*id, *option),
-        Event::Send(id, frame) => Event::Send(*id, *frame),
-        Event::Receive(id) => Event::Receive(*id),
-        Event::Attempt(moment, verdict) => Event::Attempt(*moment, *verdict),
-        Event::Restart(iface, moment) => Event::Restart(*iface, *moment),
-    })
-}
-
 /// Adds an event with its reply.
 fn note(past: &mut Vec<Entry>, event: Event, reply: Reply) -> Result<(), AllocError>
-    ensures { IfOk result (λ u. past.new.items ≡ past.old.items ++ record { event = event; reply = reply } ∷ []) }
+    ensures { OnOk result (past.new.items ≡ past.old.items ++ entry_of event reply ∷ []) }
 {
     // The checker has to meet the types inside a reply before a vector takes one.
     let _types: Option<(Item, Received)> = None;
@@ -206,21 +194,22 @@ fn answer(
     event: &Event,
 ) -> Result<Reply, AllocError>
     requires { IsHistory config (reverse past.old.items) }
-    ensures reply { IfOk result (λ r. r ≡ reply_after config (reverse past.old.items) event.now) }
-    ensures entries { IfOk result (λ r. reverse past.new.items ≡ entries_after config (reverse past.old.items) event.now) }
+    ensures reply { Returns result (reply_after config (reverse past.old.items) event.now) }
+    ensures entries { OnOk result (reverse past.new.items ≡
+        entries_after config (reverse past.old.items) event.now) }
 {
     if past.len() >= config.limit as usize {
         return Ok(Reply::Refused(Refusal::RecordFull));
     }
     let reply = legal_reply(alloc, config, past, event)?;
-    note(past, copy_of(alloc, event)?, reply)?;
+    note(past, event.try_copy(alloc)?, reply)?;
     Ok(reply)
 }
 
 /// The replies that the entries before each event give.
 fn replies(alloc: Global, events: &[Event], config: BusConfig) -> Result<Vec<Reply>, AllocError>
     requires { IsConfig config }
-    ensures { IfOk result (λ rs. rs.items ≡ replies_after config [] events.now) }
+    ensures { ReturnsList result (replies_after config [] events.now) }
 {
     let _types: Option<(Item, Received)> = None;
     let mut past = Vec::new(alloc);
@@ -242,7 +231,7 @@ pub fn replies_of(
     events: &[Event],
     config: BusConfig,
 ) -> Result<Vec<Reply>, ReplayFault>
-    ensures replies { IfOk result (λ rs. rs.items ≡ replies_after config [] events.now) }
+    ensures replies { ReturnsList result (replies_after config [] events.now) }
     ensures proper { OnOk result (IsConfig config) }
     ensures bad { (result ≡ Err ReplayFault.BadConfig) ↔ (¬ IsConfig config) }
 {

@@ -1,4 +1,4 @@
-ghost use Rattle.std.specs.Prelude.{◌≡◌, ℕ, suc, ◌+◌, ◌<◌, ◌≤◌, ◌^◌, length, reverse, IfSome};
+ghost use Rattle.std.specs.Prelude.{◌≡◌, suc, ◌<◌, ◌≤◌, ◌^◌, length, reverse, IfSome};
 ghost use Rattle.std.specs.Option.{option_map};
 ghost use Rattle.can_bus.specs.AutoRestart.{attempts_off, attempts_off_after, is_due, restarted_next};
 

@@ -1,6 +1,8 @@
-ghost use Rattle.std.specs.Prelude.{◌≡◌, ◌<◌, ◌==◌, not, filter, reverse, length, slice_get, IfOk};
+ghost use Rattle.std.specs.Prelude.{◌≡◌, ◌<◌, ◌==◌, not, filter, reverse, slice_get, IfOk, OnOk};
 ghost use Rattle.std.specs.List.{list_any};
-ghost use Rattle.can_bus.specs.Sockets.{places, places_after, open_sockets, open_after, is_open, iface_in, capacity_in, options_of, options_after, filters_of, filters_after};
+ghost use Rattle.can_reference.specs.Histories.{Returns};
+ghost use Rattle.can_reference.specs.inner.Noted.{IsNoted};
+ghost use Rattle.can_bus.specs.Sockets.{places, open_sockets, iface_in, capacity_in, options_of, options_after, filters_of, filters_after};
 
 use can_bus::{Entry, Event, Reply, SocketId};
 use can_filter::{FilterSet, Options};
@@ -87,8 +89,7 @@ fn take_out(numbers: &mut Vec<usize>, closed: usize)
 
 /// What an entry does to the sockets.
 fn note(sockets: &mut Sockets, entry: &Entry) -> Result<(), AllocError>
-    ensures places { IfOk result (λ u. sockets.new.places.items ≡ places_after entry.now.event entry.now.reply sockets.old.places.items) }
-    ensures open { IfOk result (λ u. sockets.new.numbers.items ≡ open_after (length sockets.old.places.items) entry.now.event entry.now.reply sockets.old.numbers.items) }
+    ensures { OnOk result (IsNoted entry.now sockets.old sockets.new) }
 {
     match &entry.event {
         Event::Open(iface, capacity) => {
@@ -161,7 +162,7 @@ fn filters_after(
     id: SocketId,
     before: FilterSet,
 ) -> Result<FilterSet, AllocError>
-    ensures { IfOk result (λ fs. fs ≡ filters_after entry.now.event entry.now.reply id.0 before) }
+    ensures { Returns result (filters_after entry.now.event entry.now.reply id.0 before) }
 {
     match &entry.event {
         Event::SetFilters(of, filters) => {
@@ -177,7 +178,7 @@ fn filters_after(
 
 /// The filters of a socket as last set.
 pub fn filters_of(alloc: Global, past: &[Entry], id: SocketId) -> Result<FilterSet, AllocError>
-    ensures { IfOk result (λ fs. fs ≡ filters_of (reverse past.now) id.0) }
+    ensures { Returns result (filters_of (reverse past.now) id.0) }
 {
     let mut filters = FilterSet::all(alloc)?;
     for entry in past {

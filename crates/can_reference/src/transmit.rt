@@ -1,4 +1,5 @@
-ghost use Rattle.std.specs.Prelude.{◌≡◌, ◌+◌, ◌<◌, ◌≤◌, ◌^◌, reverse, length, slice_get, IfOk};
+ghost use Rattle.std.specs.Prelude.{◌≡◌, ◌+◌, ◌≤◌, reverse, length, slice_get, IfOk, OnOk};
+ghost use Rattle.can_reference.specs.Histories.{Returns, ReturnsList};
 ghost use Rattle.can_bus.specs.Transmit.{sent_by, sent_after, gone_count, gone_after, head_of};
 
 use crate::sockets::{options_of, sockets_of};
@@ -17,7 +18,8 @@ fn note_sent(
     iface: Iface,
     sent: &mut Vec<Pending>,
 ) -> Result<(), AllocError>
-    ensures { IfOk result (λ u. sent.new.items ≡ sent_after (reverse past.now) iface entry.now.event entry.now.reply sent.old.items) }
+    ensures { OnOk result (sent.new.items ≡
+        sent_after (reverse past.now) iface entry.now.event entry.now.reply sent.old.items) }
 {
     match &entry.event {
         Event::Send(id, frame) => {
@@ -39,7 +41,7 @@ fn note_sent(
 
 /// The frames accepted for sending on an interface, in order.
 pub fn sent_by(alloc: Global, past: &[Entry], iface: Iface) -> Result<Vec<Pending>, AllocError>
-    ensures { IfOk result (λ ps. ps.items ≡ sent_by (reverse past.now) iface) }
+    ensures { ReturnsList result (sent_by (reverse past.now) iface) }
 {
     let mut sent = Vec::new(alloc);
     for k in 0..past.len() {
@@ -57,7 +59,8 @@ fn gone_after(
     before: usize,
 ) -> Result<usize, AllocError>
     requires { before ≤ length past.now }
-    ensures gone { IfOk result (λ n. n ≡ gone_after entry.now.reply iface (length (sent_by (reverse past.now) iface)) before) }
+    ensures gone { Returns result
+        (gone_after entry.now.reply iface (length (sent_by (reverse past.now) iface)) before) }
     ensures few { IfOk result (λ n. n ≤ length past.now + 1) }
 {
     match &entry.reply {
@@ -77,7 +80,7 @@ fn gone_after(
 
 /// How many frames of an interface have left its transmit queue.
 pub fn gone_count(alloc: Global, past: &[Entry], iface: Iface) -> Result<usize, AllocError>
-    ensures { IfOk result (λ n. n ≡ gone_count (reverse past.now) iface) }
+    ensures { Returns result (gone_count (reverse past.now) iface) }
 {
     let mut gone = 0;
     for k in 0..past.len() {
@@ -95,7 +98,7 @@ pub fn frame_at(sent: &[Pending], number: usize) -> Option<Pending>
 
 /// The oldest frame in the transmit queue of an interface.
 pub fn head_of(alloc: Global, past: &[Entry], iface: Iface) -> Result<Option<Pending>, AllocError>
-    ensures { IfOk result (λ p. p ≡ head_of (reverse past.now) iface) }
+    ensures { Returns result (head_of (reverse past.now) iface) }
 {
     let gone = gone_count(alloc, past, iface)?;
     let sent = sent_by(alloc, past, iface)?;

@@ -1,5 +1,6 @@
-use Rattle.std.specs.Prelude.{◌≡◌, ◌<◌, ◌≤◌, false, slice_set}
+use Rattle.std.specs.Prelude.{◌≡◌, ◌<◌, ◌≤◌, ℕ, false, slice_set}
 use Rattle.can_confine.specs.Confinement.{at_start, state_of, is_off}
+use Rattle.can_attempt.specs.declared.acks.AckMode.{AckMode}
 use Rattle.can_attempt.specs.declared.nodes.Nodes.{Nodes}
 use Rattle.can_attempt.specs.Attempts.{attempt_between, counts_at, judged}
 use Rattle.can_fault.specs.declared.verdicts.Verdict.{Verdict}
@@ -15,12 +16,21 @@ use Rattle.can_event.specs.declared.events.Tried.{Tried}
 -- attempt of a live interface counts as its faults have it, a restart sets one interface's counts to 0, and an attempt
 -- those of the interfaces that it restarts.
 
+-- the interface is there, and not bus off
+pub record IsLive (nodes : Nodes) (i : ℕ) : Type 0 where
+  pub few : nodes.count ≤ 16
+  pub there : i < nodes.count
+  pub live : is_off (state_of (counts_at nodes i)) ≡ false
+
+-- the error counts after an attempt of this interface
+abbrev pub judged_nodes : Nodes → ℕ → Verdict → AckMode → Nodes
+judged_nodes nodes i v ack = record nodes { counters = (judged (attempt_between nodes i v ack)).counters }
+
 -- an attempt that tried a frame, where its winner is there and live
 abbrev pub CountsTried : BusConfig → Tried → Verdict → Nodes → Nodes → Type 0
-CountsTried c t v old new =
-    old.count ≤ 16 → t.winner < old.count → is_off (state_of (counts_at old t.winner)) ≡ false
-    → new ≡ begun_anew t.restarted (record old { counters = (judged (attempt_between old t.winner v c.ack)).counters })
+CountsTried c t v old new = IsLive old t.winner → new ≡ begun_anew t.restarted (judged_nodes old t.winner v c.ack)
 
+-- an entry
 abbrev pub Counts : BusConfig → Event → Reply → Nodes → Nodes → Type 0
 Counts c (Attempt m v) (reply.Tried t) old new = CountsTried c t v old new
 Counts c (Attempt m v) (reply.Idle restarted) old new = new ≡ begun_anew restarted old

@@ -14,6 +14,6 @@ returns c = λ h.
     elim c.match-judgement_of.branch [
       | in-Some-judgement_of s ↦ s.result-is ∙ s.tried_as.ensures
           ∙ tried-is c.args.config past c.args.moment c.args.verdict w c.in-Some-2.pending c.in_ok-number.number
-          c.nodes_of-nodes.result s.in-Some-judgement_of.judgement c.restarted_next-restarted.result h c.restarted_next-restarted.ensures won head c.in_ok-number.ensures (c.nodes_of-nodes.ensures h) s.in-Some-judgement_of.ensures.some.0
-      | in-None n ↦ judged-winner c.args.config past w c.args.verdict c.nodes_of-nodes.result c.judgement_of.result h won (c.nodes_of-nodes.ensures h) (λ l. c.judgement_of.ensures.live l.few l.there l.live) n.in-None.is
+          c.nodes_of-nodes.result s.in-Some-judgement_of.judgement c.restarted_next-restarted.result h c.restarted_next-restarted.ensures won head c.in_ok-number.ensures (c.nodes_of-nodes.ensures h) s.in-Some-judgement_of.ensures.some
+      | in-None n ↦ judged-winner c.args.config past w c.args.verdict c.nodes_of-nodes.result c.judgement_of.result h won (c.nodes_of-nodes.ensures h) c.judgement_of.ensures.live n.in-None.is
     ]

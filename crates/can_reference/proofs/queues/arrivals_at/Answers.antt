@@ -1,8 +1,8 @@
-use Rattle.std.proofs.Common.{◌≡◌, ℕ, ◌+◌, ◌-◌, ◌++◌, List, length, take, drop, rules, subst, sym, ap, ◌∙◌}
+use Rattle.std.proofs.Common.{◌≡◌, ◌++◌, List, length, take, drop, rules, subst, sym, ap, ◌∙◌}
 use Rattle.can_event.specs.declared.events.Entry.{Entry}
 use Rattle.can_event.specs.declared.events.Received.{Received}
-use Rattle.can_bus.specs.Queues.{taken_from, queued_to, dropped_at}
-use Rattle.can_bus.specs.Sockets.{capacity_of}
+use Rattle.can_bus.specs.Queues.{queued_to, dropped_at}
+use Rattle.can_reference.specs.inner.Noted.{room_after}
 use Rattle.can_replay.specs.Histories.{before, IsHistory}
 use Rattle.can_replay.proofs.Before.{before_all}
 use Rattle.can_reference.proofs.Queueing.{reads, queued_more, dropped_more}
@@ -17,7 +17,7 @@ loop-k-preserved c =
     let offered = c.in_ok-offered.offered.items in
     let room = c.in_ok-room.room in
     let long : c.len.result ≡ length queued = search rules in
-    let room_is : room ≡ capacity_of past s + length (taken_from past s) - length queued = c.in_ok-room.ensures ∙ ap (λ (n : ℕ). capacity_of past s + length (taken_from past s) - n) long in
+    let room_is : room ≡ room_after past s (length queued) = c.in_ok-room.ensures ∙ ap (room_after past s) long in
     record {
       queued = λ h.
           let r = reads c.args.config c.args.past.now c.loop-k.k c.index-past-k.result c.loop-k-test.true c.index-past-k.is h in

@@ -22,5 +22,5 @@ returns c =
     let legal = subst (λ (es : List Entry). IsHistory c.args.config (reverse es) → c.in_ok-reply.reply ≡ legal_reply c.args.config (reverse es) c.args.event.now) c.deref.ensures.value c.in_ok-reply.ensures c.requires in
     record {
       reply = room-reply c.args.config (reverse c.args.past.now.items) c.args.event.now c.in_ok-reply.reply (omega (arith, room, length-reverse c.args.past.now.items)) legal;
-      entries = room-entries c.args.config c.args.past.now.items c.note.new.past.items c.args.event.now c.in_ok-copy_of.field-0 c.in_ok-reply.reply room legal c.in_ok-copy_of.ensures c.in_ok-note.ensures;
+      entries = room-entries c.args.config c.args.past.now.items c.note.new.past.items c.args.event.now c.in_ok-try_copy.field-0 c.in_ok-reply.reply room legal c.in_ok-try_copy.ensures c.in_ok-note.ensures;
     }

@@ -1,0 +1,22 @@
+use Rattle.std.specs.Prelude.{ℕ, List, Result}
+use Rattle.can_frame.specs.declared.ifaces.IfaceSet.{IfaceSet}
+use Rattle.can_attempt.specs.declared.judgements.Judgement.{Judgement}
+use Rattle.can_event.specs.declared.events.BusConfig.{BusConfig}
+use Rattle.can_event.specs.declared.events.Entry.{Entry}
+use Rattle.can_event.specs.declared.events.Event.{Event}
+use Rattle.can_event.specs.declared.events.Pending.{Pending}
+use Rattle.can_event.specs.declared.events.Reply.{Reply}
+use Rattle.can_event.specs.declared.events.Reply.TheVariants as reply
+use Rattle.can_bus.specs.Legal.{legal_reply}
+use Rattle.can_reference.specs.Histories.{OnHistory, Returns}
+
+-- The reply of an event (own choice).
+
+-- the call returned the reply of this event after these entries, where a bus can have them
+abbrev pub ReturnsReply : {E : Type 0} → BusConfig → List Entry → Event → Result Reply E → Type 0
+ReturnsReply c entries e result = OnHistory c entries (λ past. Returns result (legal_reply c past e))
+
+-- the reply of an attempt: the winner, the number of its frame, the frame, what became of it, and the interfaces that were
+-- restarted
+abbrev pub tried_reply : ℕ → ℕ → ℕ → Pending → Judgement → IfaceSet → Reply
+tried_reply moment winner number p j restarted = reply.Tried (record { moment = moment; winner = winner; number = number; frame = p.frame; class = j.class; accepted = j.accepted; off = j.off; restarted = restarted })
