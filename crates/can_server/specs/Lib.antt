@@ -4,4 +4,3 @@ pub mod Settling
 pub mod PassSteps
 pub mod Guests
 pub mod Driving
-pub mod Calling
