@@ -1,11 +1,16 @@
-use Rattle.std.specs.Prelude.{◌≡◌}
+use Rattle.std.specs.Prelude.{◌≡◌, ℕ, Option, Some, None}
 use Rattle.can_frame.specs.Sets.{no_ifaces}
 use Rattle.can_frame.specs.declared.ifaces.IfaceSet.{IfaceSet}
 use Rattle.can_attempt.specs.declared.classes.Class.TheVariants.{NoAck}
 use Rattle.can_event.specs.declared.events.Attempt.{Attempt}
 use Rattle.can_event.specs.declared.events.Attempt.TheVariants as attempt
+use Rattle.can_event.specs.declared.events.Event.{Event}
+use Rattle.can_event.specs.declared.events.Event.TheVariants.{Restart}
+use Rattle.can_event.specs.declared.events.Reply.{Reply}
+use Rattle.can_event.specs.declared.events.Reply.TheVariants.{Done}
 
--- What a driver sees change in an attempt (own choice).
+-- Which interfaces change in an attempt of a driver and in a call of a session, as a server reports it to its host
+-- (own choice).
 
 -- the interfaces that went bus off
 abbrev pub off_in : Attempt → IfaceSet
@@ -16,3 +21,8 @@ off_in (attempt.Tried tried) = tried.off
 abbrev pub IsInVain : Attempt → Type 0
 IsInVain (attempt.Idle restarted) = restarted ≡ no_ifaces
 IsInVain (attempt.Tried tried) = (tried.class ≡ NoAck) × (tried.restarted ≡ no_ifaces)
+
+-- the interface that this event with this reply restarted
+abbrev pub restarted_by : Event → Reply → Option ℕ
+restarted_by (Restart iface moment) Done = Some iface
+restarted_by _ _ = None

@@ -1,3 +1,2 @@
 pub mod Guests
 pub mod Driving
-pub mod Calling

@@ -1,5 +1,5 @@
 ghost use Rattle.std.specs.Prelude.{◌≡◌};
-ghost use Rattle.can_server.specs.Calling.{restarted_by};
+ghost use Rattle.can_server.specs.Driving.{restarted_by};
 
 use crate::conns::{Conn, Out};
 use can_bus::{Entry, Event, Received, Reply, SocketId};
