@@ -137,18 +137,13 @@ fn faults_are_told_in_their_order(rt: HostRuntime) {
     }
 }
 
-/// The frame that a text sends.
-fn sent(rt: &(impl Abort + AllocGlobal), text: &[u8]) -> Option<Frame> {
-    match read(rt, Mode::Raw, text) {
-        Ok(Command::Send(frame)) => Some(frame),
-        _ => None,
-    }
-}
-
 /// A text sends this frame.
 fn sends(rt: &(impl Abort + AllocGlobal), text: &[u8], frame: Option<Frame>) {
-    same_at(rt, text, frame.is_some(), true);
-    same_at(rt, text, sent(rt, text), frame);
+    let command = read(rt, Mode::Raw, text);
+    let Ok(Command::Send(sent)) = &command else {
+        panic!(rt; "no frame");
+    };
+    same_at(rt, text, Some(*sent), frame);
 }
 
 #[test]
