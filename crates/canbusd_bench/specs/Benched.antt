@@ -1,4 +1,4 @@
-use Rattle.std.specs.Prelude.{◌≡◌, ◌⊎◌, ℕ, true, List, length, Option, option_map, Result, Ok, Err}
+use Rattle.std.specs.Prelude.{◌≡◌, ◌⊎◌, ℕ, true, List, length, Option, Result, Ok, Err}
 use Rattle.std.specs.Io.KnownBytes.{Keeps}
 use Rattle.can_frame.specs.Names.{AreNames, names_in}
 use Rattle.can_fault.specs.Sources.{VerdictMap}
@@ -35,7 +35,7 @@ StopsBy contents o names verdicts input out _ new = ⊥
 -- how a run that options describe ends in a fault of its script, before anything was written, or over the verdicts of one
 abbrev pub FailsBy : {W : Type 0} → (W → Option (List ℕ)) → BenchOptions → List (List ℕ) → Option (List ℕ) → W → Fault → W → Type 0
 FailsBy contents o names input out why new =
-    (IsOfSource (option_map (λ path. path.now) o.bus.script) names why × (new ≡ out))
+    (IsOfSource o.bus.script names why × (new ≡ out))
     ⊎ ((verdicts : VerdictMap) × AreVerdicts o.bus.script names verdicts × StopsBy contents o names verdicts input out why new)
 
 -- a run that options describe came to its end, with these names and this record
