@@ -1,4 +1,5 @@
-use Rattle.std.proofs.Common.{◌≡◌, ◌≢◌, ◌↔◌, inl, inr, ℕ, true, List, length, Option, Some, None, Result, Ok, Err, IfErr, IfNone, IfOk, rules, refl, sym, subst}
+use Rattle.std.proofs.Common.{◌≡◌, ◌≢◌, ◌↔◌, ◌⊎◌, inl, inr, ℕ, Bool, true, false, List, length, Option, Some, None, Result, Ok, Err, IfErr, IfNone, IfOk, IfSome, IsSome, MatchOption, rules, refl, sym, subst}
+use Rattle.std.specs.Prelude.{IsErrAnd}
 use Rattle.std.specs.Io.KnownBytes.{Appends, Keeps}
 use Rattle.std.proofs.KnownBytes.{Keeps-refl}
 use Rattle.can_frame.specs.Names.{AreNames, names_in}
@@ -9,13 +10,15 @@ use Rattle.can_bus.specs.Legal.{IsLegal}
 use Rattle.can_session.specs.declared.bench_run.BenchFault.{BenchFault}
 use Rattle.can_session.specs.declared.bench_run.BenchFault.TheVariants.{BadConfig, BadLine, TooLong, Read, Write, NoMemory}
 use Rattle.can_session.specs.Benches.{BenchState}
-use Rattle.can_session.specs.Runs.{IsBench, at_start}
+use Rattle.can_session.specs.Runs.{IsBench, Ran, at_start}
 use Rattle.canbusd_options.specs.declared.bench_options.BenchOptions.{BenchOptions}
 use Rattle.canbusd_faults.specs.declared.faults.Fault.{Fault}
 use Rattle.canbusd_faults.specs.declared.faults.Fault.TheVariants as fault
 use Rattle.canbusd_files.specs.Buses.{AreVerdicts, config_of}
-use Rattle.canbusd_bench.specs.Benched.{EndsOver, IsBenched, IsRun, StopsBy, begun}
-use Rattle.canbusd_bench.proofs.Watching.{Watching, nothing, quiet_if, seen_whole, wrote}
+use Rattle.canbusd_bench.specs.Benched.{EndsOver, FailsBy, IsBenched, IsRun, IsStopped, MeetsRefusal, StopsBy, begun}
+use Rattle.canbusd_bench.specs.Refusals.{GrowsByRefusal, GrowsQuietly}
+use Rattle.canbusd_bench.specs.inner.Watched.{told}
+use Rattle.canbusd_bench.proofs.Watching.{Watching, loudly, nothing, quiet_if, seen_whole, unknown_refusal, wrote}
 
 -- A run of the bench over the configuration that options describe.
 
@@ -56,6 +59,26 @@ pub ran : {W : Type 0} (E : Type 0) (contents : W → Option (List ℕ)) (o : Be
 ran E contents o names verdicts input out new (Ok k) scripted ends legal = record { verdicts = verdicts; scripted = scripted; ends = ends; legal = legal }
 ran E contents o names verdicts input out new (Err why) scripted ends legal = tt
 
+-- the writer that took what a watcher was given, where its bytes are known: the one that was flushed
+pub record Taken {W : Type 0} (contents : W → Option (List ℕ)) (old behind new : W) (text : List ℕ) : Type 0 where
+  pub written : W
+  pub took : Appends (contents old) (contents written) text
+  pub kept : Keeps (contents written) (contents new)
+  pub known : (contents old ≡ None) ⊎ (written ≡ behind)
+
+taken : {W : Type 0} (contents : W → Option (List ℕ)) (before after : Option (List ℕ)) (strict : Bool) (old behind flushed new : W) (seen : Watching contents before after strict old behind flushed new) (text : List ℕ)
+    → Appends before after text → Taken contents old behind new text
+taken contents before after strict old behind flushed new seen text a =
+    elim (wrote seen.name seen.is strict seen.on seen.written seen.seen (contents old) (contents behind) text (seen_whole contents before after strict old behind flushed new seen text a)) [
+      | inl unknown ↦ record { written = new; took = (nothing (contents old) (contents new) text unknown).0; kept = Keeps-refl (contents new); known = inl unknown }
+      | inr known ↦ record {
+        written = behind;
+        took = known.1;
+        kept = subst (λ x. Keeps (contents behind) (contents x)) (sym (seen.back known.0)) seen.kept;
+        known = inr refl;
+      }
+    ]
+
 -- what a run that came to its end has put out
 abbrev text_in : {V : Type 0} (outer : V → Option (List ℕ)) (verdicts : VerdictMap) (input : Option (List ℕ)) (b : BenchState) (v w : V) (r : Kept)
     → EndsOver outer verdicts input b v (Ok r) w → (text : List ℕ) × Appends (outer v) (outer w) text
@@ -72,39 +95,122 @@ run_over : {V W : Type 0} (outer : V → Option (List ℕ)) (contents : W → Op
 run_over outer contents o names input v w old new r run a =
     record { verdicts = run.verdicts; scripted = run.scripted; ends = moved outer contents run.verdicts input (begun o names) v w old new r run.ends a; legal = run.legal }
 
+-- known bytes that did not grow quietly, or by a refusal, are known
+unless_known : {W : Type 0} (contents : W → Option (List ℕ)) (P : Option (List ℕ) → Option (List ℕ) → Type 0) (old behind written : W)
+    → (contents old ≡ None) ⊎ (written ≡ behind) → (contents old ≡ None → P (contents old) (contents written)) → P (contents old) (contents behind) → P (contents old) (contents written)
+unless_known contents P old behind written (inl unknown) first second = first unknown
+unless_known contents P old behind written (inr is) first second = subst (λ w. P (contents old) (contents w)) (sym is) second
+
 -- a run whose output went through a watcher that saw no refusal
 pub benched : {V W : Type 0} (outer : V → Option (List ℕ)) (contents : W → Option (List ℕ)) (o : BenchOptions) (input : Option (List ℕ)) (v w : V) (old behind flushed new : W) (r : Kept)
-    → AreNames (names_in o.bus.names.now) → Watching contents (outer v) (outer w) o.is_strict old behind flushed new → IsRun outer o (names_in o.bus.names.now) input v r w
-    → IsBenched contents o input old new
-benched outer contents o input v w old behind flushed new r named seen run =
+    → AreNames (names_in o.bus.names.now) → (seen : Watching contents (outer v) (outer w) o.is_strict old behind flushed new) → (seen.on ≡ false) ⊎ (seen.seen ≢ 9)
+    → IsRun outer o (names_in o.bus.names.now) input v r w → IsBenched contents o input old new
+benched outer contents o input v w old behind flushed new r named seen none run =
     let names = names_in o.bus.names.now in
     let text = text_in outer run.verdicts input (begun o names) v w r run.ends in
     let whole = seen_whole contents (outer v) (outer w) o.is_strict old behind flushed new seen text.0 text.1 in
-    elim (wrote seen.name seen.is o.is_strict seen.on seen.written seen.seen (contents old) (contents behind) text.0 whole) [
-      | inl unknown ↦
-          let n = nothing (contents old) (contents new) text.0 unknown in
-          record {
-            named = named;
-            kept = r;
-            written = new;
-            run = run_over outer contents o names input v w old new r run n.0;
-            flushed = Keeps-refl (contents new);
-            strict = λ e. n.1;
-          }
-      | inr known ↦ record {
-        named = named;
-        kept = r;
-        written = behind;
-        run = run_over outer contents o names input v w old behind r run known.1;
-        flushed = subst (λ x. Keeps (contents behind) (contents x)) (sym (seen.back known.0)) seen.kept;
-        strict = quiet_if seen.name seen.is o.is_strict seen.on seen.written seen.seen (contents old) (contents behind) text.0 whole seen.none;
-      }
-    ]
+    let t = taken contents (outer v) (outer w) o.is_strict old behind flushed new seen text.0 text.1 in
+    record {
+      named = named;
+      kept = r;
+      written = t.written;
+      run = run_over outer contents o names input v w old t.written r run t.took;
+      flushed = t.kept;
+      strict = λ e. unless_known contents GrowsQuietly old behind t.written t.known (λ unknown. (nothing (contents old) (contents t.written) text.0 unknown).1)
+          (quiet_if seen.name seen.is o.is_strict seen.on seen.written seen.seen (contents old) (contents behind) text.0 whole none e);
+    }
 
-pub if_none : {A : Type 0} (r : Option A) (P Q : Type 0) → IfNone r P → (P → Q) → IfNone r Q
-if_none None P Q p f = f p
-if_none (Some a) P Q p f = tt
+-- and through one that saw a refusal
+pub refused : {V W : Type 0} (outer : V → Option (List ℕ)) (contents : W → Option (List ℕ)) (o : BenchOptions) (input : Option (List ℕ)) (v w : V) (old behind flushed new : W) (r : Kept)
+    → AreNames (names_in o.bus.names.now) → (seen : Watching contents (outer v) (outer w) o.is_strict old behind flushed new) → (seen.on ≡ true) × (seen.seen ≡ 9)
+    → IsRun outer o (names_in o.bus.names.now) input v r w → MeetsRefusal contents o input old new
+refused outer contents o input v w old behind flushed new r named seen some run =
+    let names = names_in o.bus.names.now in
+    let text = text_in outer run.verdicts input (begun o names) v w r run.ends in
+    let whole = seen_whole contents (outer v) (outer w) o.is_strict old behind flushed new seen text.0 text.1 in
+    let t = taken contents (outer v) (outer w) o.is_strict old behind flushed new seen text.0 text.1 in
+    record {
+      named = named;
+      kept = r;
+      written = t.written;
+      run = run_over outer contents o names input v w old t.written r run t.took;
+      flushed = t.kept;
+      refused = unless_known contents (GrowsByRefusal o.is_strict) old behind t.written t.known (λ unknown. unknown_refusal o.is_strict (contents old) (contents t.written) unknown)
+          (loudly seen.name seen.is o.is_strict seen.written seen.seen (contents old) (contents behind) text.0 (subst (λ b. Appends (told seen.name o.is_strict 0 0 (contents old)) (told seen.is b seen.written seen.seen (contents behind)) text.0) some.0 whole) some.1);
+    }
+
+-- a run that ended in a fault, whose output went through a watcher
+pub record Stopped {W : Type 0} (P : W → Type 0) (contents : W → Option (List ℕ)) (new : W) : Type 0 where
+  pub written : W
+  pub stops : P written
+  pub kept : Keeps (contents written) (contents new)
+
+carried_over : {V W : Type 0} (outer : V → Option (List ℕ)) (contents : W → Option (List ℕ)) (verdicts : VerdictMap) (lines : List (List ℕ)) (b after : BenchState) (v w : V) (strict : Bool) (old behind flushed new : W)
+    → Watching contents (outer v) (outer w) strict old behind flushed new → Ran outer verdicts lines b v after w → Stopped (Ran contents verdicts lines b old after) contents new
+carried_over outer contents verdicts lines b after v w strict old behind flushed new seen ran =
+    let t = taken contents (outer v) (outer w) strict old behind flushed new seen ran.text ran.wrote in
+    record { written = t.written; stops = record { text = ran.text; short = ran.short; carried = ran.carried; wrote = t.took }; kept = t.kept }
+
+stopped_over : {V W : Type 0} (outer : V → Option (List ℕ)) (contents : W → Option (List ℕ)) (verdicts : VerdictMap) (input : Option (List ℕ)) (b : BenchState) (v w : V) (strict : Bool) (old behind flushed new : W) (why : BenchFault)
+    → Watching contents (outer v) (outer w) strict old behind flushed new → EndsOver outer verdicts input b v (Err why) w → Stopped (λ x. EndsOver contents verdicts input b old (Err why) x) contents new
+stopped_over outer contents verdicts input b v w strict old behind flushed new (BadLine n) seen (now, (lines, after, come, ran, number)) =
+    let s = carried_over outer contents verdicts lines b after v w strict old behind flushed new seen ran in
+    record { written = s.written; stops = (now, (lines, after, come, s.stops, number)); kept = s.kept }
+stopped_over outer contents verdicts input b v w strict old behind flushed new TooLong seen (now, (lines, after, come, ran)) =
+    let s = carried_over outer contents verdicts lines b after v w strict old behind flushed new seen ran in
+    record { written = s.written; stops = (now, (lines, after, come, s.stops)); kept = s.kept }
+stopped_over outer contents verdicts input b v w strict old behind flushed new Read seen (now, (lines, after, come, ran)) =
+    let s = carried_over outer contents verdicts lines b after v w strict old behind flushed new seen ran in
+    record { written = s.written; stops = (now, (lines, after, come, s.stops)); kept = s.kept }
+stopped_over outer contents verdicts input b v w strict old behind flushed new NoMemory seen (now, (lines, after, come, ran)) =
+    let s = carried_over outer contents verdicts lines b after v w strict old behind flushed new seen ran in
+    record { written = s.written; stops = (now, (lines, after, come, s.stops)); kept = s.kept }
+stopped_over outer contents verdicts input b v w strict old behind flushed new Write seen (now, end) = record { written = new; stops = (now, tt); kept = Keeps-refl (contents new) }
+stopped_over outer contents verdicts input b v w strict old behind flushed new BadConfig seen (now, end) = absurd end
+
+-- a watcher that nothing went through keeps what its writer has
+untouched : {W : Type 0} (contents : W → Option (List ℕ)) (before after : Option (List ℕ)) (strict : Bool) (old behind flushed new : W) (seen : Watching contents before after strict old behind flushed new)
+    → (seen.is ≡ seen.name) × (behind ≡ old) → Keeps (contents old) (contents new)
+untouched contents before after strict old behind flushed new seen (is, same) =
+    subst (λ x. Keeps (contents old) (contents x)) (sym (seen.back is)) (subst (λ x. Keeps (contents x) (contents flushed)) same seen.kept)
+
+fails_so : {V W : Type 0} (outer : V → Option (List ℕ)) (contents : W → Option (List ℕ)) (o : BenchOptions) (names : List (List ℕ)) (verdicts : VerdictMap) (input : Option (List ℕ)) (v w : V) (old behind flushed new : W) (why : Fault)
+    → (seen : Watching contents (outer v) (outer w) o.is_strict old behind flushed new) → (w ≡ v → (seen.is ≡ seen.name) × (behind ≡ old))
+    → StopsBy outer o names verdicts input v why w → Stopped (λ x. StopsBy contents o names verdicts input old why x) contents new
+fails_so outer contents o names verdicts input v w old behind flushed new (fault.Bench BadConfig) seen same (bad, is) =
+    record { written = old; stops = (bad, refl); kept = untouched contents (outer v) (outer w) o.is_strict old behind flushed new seen (same is) }
+fails_so outer contents o names verdicts input v w old behind flushed new (fault.Bench (BadLine n)) seen same ends = stopped_over outer contents verdicts input (begun o names) v w o.is_strict old behind flushed new (BadLine n) seen ends
+fails_so outer contents o names verdicts input v w old behind flushed new (fault.Bench TooLong) seen same ends = stopped_over outer contents verdicts input (begun o names) v w o.is_strict old behind flushed new TooLong seen ends
+fails_so outer contents o names verdicts input v w old behind flushed new (fault.Bench Read) seen same ends = stopped_over outer contents verdicts input (begun o names) v w o.is_strict old behind flushed new Read seen ends
+fails_so outer contents o names verdicts input v w old behind flushed new (fault.Bench NoMemory) seen same ends = stopped_over outer contents verdicts input (begun o names) v w o.is_strict old behind flushed new NoMemory seen ends
+fails_so outer contents o names verdicts input v w old behind flushed new (fault.Bench Write) seen same ends = stopped_over outer contents verdicts input (begun o names) v w o.is_strict old behind flushed new Write seen ends
+fails_so outer contents o names verdicts input v w old behind flushed new _ seen same stops = absurd stops
+
+-- a run that failed, whose output went through a watcher
+pub failed : {V W : Type 0} (outer : V → Option (List ℕ)) (contents : W → Option (List ℕ)) (o : BenchOptions) (input : Option (List ℕ)) (v w : V) (old behind flushed new : W) (why : Fault)
+    → AreNames (names_in o.bus.names.now) → (seen : Watching contents (outer v) (outer w) o.is_strict old behind flushed new) → (w ≡ v → (seen.is ≡ seen.name) × (behind ≡ old))
+    → FailsBy outer o (names_in o.bus.names.now) input v why w → IsStopped contents o input old why new
+failed outer contents o input v w old behind flushed new why named seen same (inl (source, is)) =
+    inr (inr (named, old, inl (source, refl), untouched contents (outer v) (outer w) o.is_strict old behind flushed new seen (same is)))
+failed outer contents o input v w old behind flushed new why named seen same (inr (verdicts, scripted, stops)) =
+    let s = fails_so outer contents o (names_in o.bus.names.now) verdicts input v w old behind flushed new why seen same stops in
+    inr (inr (named, s.written, inr (verdicts, scripted, s.stops), s.kept))
+
+-- a run that came to its end, by whether a refusal was seen
+pub by_refusal : {A : Type 0} (r : Option A) (N P S R : Type 0) (Q : A → Type 0) → IfNone r N → IfSome r Q → (IsSome r → S) → (N → P) → (S → R) → MatchOption r P (λ a. Q a × R)
+by_refusal None N P S R Q none some seen f g = f none
+by_refusal (Some a) N P S R Q none some seen f g = (some, g (seen (search rules)))
+
+-- whether a refusal was seen, the run came to its end
+pub has_ended : {A : Type 0} (r : Option A) (P R : Type 0) (Q : A → Type 0) → MatchOption r P (λ a. Q a × R) → P ⊎ R
+has_ended None P R Q has = inl has
+has_ended (Some a) P R Q has = inr has.1
 
 pub if_err : {A E : Type 0} (r : Result A E) (P Q : E → Type 0) → IfErr r P → ((e : E) → P e → Q e) → IfErr r Q
 if_err (Ok a) P Q p f = tt
 if_err (Err e) P Q p f = f e p
+
+-- what holds of an error holds of the one that is passed on
+pub passed_on : {T F : Type 0} (P : F → Type 0) (e : F) (r : Result T F) → IsErrAnd r (λ x. x ≡ e) → P e → IfErr r P
+passed_on P e (Ok t) same holds = tt
+passed_on P e (Err x) same holds = subst P (sym same) holds

@@ -1,2 +1,3 @@
 pub mod Benching
+pub mod Refused
 pub mod Watching

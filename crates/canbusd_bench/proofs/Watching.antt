@@ -3,8 +3,9 @@ use Rattle.std.specs.Io.KnownBytes.{Appends, Keeps, WriteAppends}
 use Rattle.std.proofs.lemmas.List.Sums.{fold-append}
 use Rattle.std.proofs.lemmas.List.Folds.{fold_stays}
 use lib.Seq.{drop-append-le}
-use Rattle.canbusd_bench.specs.Refusals.{GrowsQuietly, HasRefusal}
+use Rattle.canbusd_bench.specs.Refusals.{GrowsByRefusal, GrowsQuietly, HasRefusal}
 use Rattle.canbusd_bench.specs.inner.Watched.{saw, seen_after, seen_in, told}
+use Rattle.canbusd_bench.proofs.Refused.{is_refusal}
 
 -- What a watcher knows of its writer's bytes.
 
@@ -124,6 +125,17 @@ found : (text : List ℕ) → HasRefusal text → seen_in 0 text ≡ 9
 found text r =
     ap (seen_in 0) r.stands ∙ fold-append seen_after 0 r.before (codes "< error " ++ r.letter ∷ r.after) ∙ behind_front (seen_in 0 r.before) r.letter r.after r.least r.most
 
+-- a watcher that is on saw all that was written
+saw_all : (name is w s : ℕ) (bytes after text : List ℕ) → Appends (told name true 0 0 (Some bytes)) (told is true w s (Some after)) text → (after ≡ bytes ++ text) × (seen_in 0 text ≡ s)
+saw_all name is w s bytes after text a =
+    let t = told_as name is true w s (suc (length bytes - 0)) bytes after text (subst (λ o. Appends o (told is true w s (Some after)) text) (at_start name true bytes) a) in
+    let halves : (nat_le w (length after) ≡ true) × ((seen_in 0 (drop (length after - w) after) == s) ≡ true) = both _ _ (t.3 refl) in
+    let start : length after - w ≡ length bytes = search (rules, t.1) in
+    let here : seen_in 0 (drop (length bytes) after) ≡ s = ap (λ n. seen_in 0 (drop n after)) (sym start) ∙ eqb-true _ _ halves.1 in
+    let rest : drop (length bytes) after ≡ text =
+    ap (drop (length bytes)) t.2 ∙ drop-append-le (length bytes) bytes text (omega arith) ∙ ap (λ l. l ++ text) (drop_of_length-le bytes {i = length bytes} (omega arith)) in
+    (t.2, sym (ap (seen_in 0) rest) ∙ here)
+
 -- where it is on and saw no refusal, none was written
 pub quietly : (name is : ℕ) (on : Bool) (w s : ℕ) (old new : Option (List ℕ)) (text : List ℕ) → Appends (told name true 0 0 old) (told is on w s new) text → (on ≡ false) ⊎ (s ≢ 9) → GrowsQuietly old new
 quietly name is on w s None new text a none = tt
@@ -132,13 +144,14 @@ quietly name is false w s (Some bytes) (Some after) text a none =
     let t = told_as name is false w s _ bytes after text (subst (λ o. Appends o (told is false w s (Some after)) text) (at_start name true bytes) a) in absurd (search (rules, t.1))
 quietly name is true w s (Some bytes) (Some after) text a (inl off) = absurd (true≢false off)
 quietly name is true w s (Some bytes) (Some after) text a (inr none) =
-    let t = told_as name is true w s _ bytes after text (subst (λ o. Appends o (told is true w s (Some after)) text) (at_start name true bytes) a) in
-    let halves = both _ _ (t.3 refl) in
-    let start : length after - w ≡ length bytes = search (rules, t.1) in
-    let here : seen_in 0 (drop (length bytes) after) ≡ s = ap (λ n. seen_in 0 (drop n after)) (sym start) ∙ eqb-true _ _ halves.1 in
-    let rest : drop (length bytes) after ≡ text =
-    ap (drop (length bytes)) t.2 ∙ drop-append-le (length bytes) bytes text (omega arith) ∙ ap (λ l. l ++ text) (drop_of_length-le bytes {i = length bytes} (omega arith)) in
-    (text, t.2, λ r. none (sym here ∙ ap (seen_in 0) rest ∙ found text r))
+    let t = saw_all name is w s bytes after text a in (text, t.0, λ r. none (sym t.1 ∙ found text r))
+
+-- where it is on and saw a refusal, it was to be on, and one was written
+pub loudly : (name is : ℕ) (strict : Bool) (w s : ℕ) (old new : Option (List ℕ)) (text : List ℕ) → Appends (told name strict 0 0 old) (told is true w s new) text → s ≡ 9 → GrowsByRefusal strict old new
+loudly name is strict w s None new text a e = tt
+loudly name is strict w s (Some bytes) None text a e = subst (λ o. Appends o None text) (at_start name strict bytes) a
+loudly name is true w s (Some bytes) (Some after) text a e = let t = saw_all name is w s bytes after text a in (refl, text, t.0, is_refusal text (t.1 ∙ e))
+loudly name is false w s (Some bytes) (Some after) text a e = let t = told_as name is true w s 0 bytes after text a in absurd (search (rules, t.1))
 
 -- what a watcher knows at its start
 pub first_told : (name w s : ℕ) (on strict : Bool) (now old : Option (List ℕ)) → on ≡ strict → w ≡ 0 → s ≡ 0 → now ≡ old → told name on w s now ≡ told name strict 0 0 old
@@ -153,7 +166,6 @@ pub record Watching {W : Type 0} (contents : W → Option (List ℕ)) (before af
   pub seen : ℕ
   pub first : before ≡ told name strict 0 0 (contents old)
   pub last : after ≡ told is on written seen (contents behind)
-  pub none : (on ≡ false) ⊎ (seen ≢ 9)
   pub back : is ≡ name → new ≡ flushed
   pub kept : Keeps (contents behind) (contents flushed)
 
@@ -168,3 +180,7 @@ nothing (Some bytes) new text e = absurd (search (rules, e))
 
 pub quiet_if : (name is : ℕ) (strict on : Bool) (w s : ℕ) (old new : Option (List ℕ)) (text : List ℕ) → Appends (told name strict 0 0 old) (told is on w s new) text → (on ≡ false) ⊎ (s ≢ 9) → strict ≡ true → GrowsQuietly old new
 quiet_if name is strict on w s old new text a none e = quietly name is on w s old new text (subst (λ b. Appends (told name b 0 0 old) (told is on w s new) text) e a) none
+
+pub unknown_refusal : (strict : Bool) (old new : Option (List ℕ)) → old ≡ None → GrowsByRefusal strict old new
+unknown_refusal strict None new e = tt
+unknown_refusal strict (Some bytes) new e = absurd (search (rules, e))

@@ -1,4 +1,4 @@
-use Rattle.std.specs.Prelude.{◌≡◌, ◌⊎◌, ℕ, true, List, length, Option, Result, Ok, Err}
+use Rattle.std.specs.Prelude.{◌≡◌, ◌⊎◌, ℕ, true, List, length, Option, Result, Ok, Err, IsSomeAnd, MatchOption}
 use Rattle.std.specs.Io.KnownBytes.{Keeps}
 use Rattle.can_frame.specs.Names.{AreNames, names_in}
 use Rattle.can_fault.specs.Sources.{VerdictMap}
@@ -11,8 +11,9 @@ use Rattle.can_session.specs.Benches.{BenchState}
 use Rattle.can_session.specs.Runs.{IsBench, IsRecordOf, Ends, at_start}
 use Rattle.canbusd_options.specs.declared.bench_options.BenchOptions.{BenchOptions}
 use Rattle.canbusd_files.specs.Buses.{AreVerdicts, config_of}
-use Rattle.canbusd_files.specs.Files.{IsOfSource}
-use Rattle.canbusd_bench.specs.Refusals.{GrowsQuietly}
+use Rattle.canbusd_files.specs.Files.{IsOfLogFile, IsOfNames, IsOfRecordFile, IsOfSource}
+use Rattle.canbusd_bench.specs.declared.bench_job.Ran.{Ran}
+use Rattle.canbusd_bench.specs.Refusals.{GrowsByRefusal, GrowsQuietly}
 use Rattle.canbusd_faults.specs.declared.faults.Fault.{Fault}
 use Rattle.canbusd_faults.specs.declared.faults.Fault.TheVariants as fault
 
@@ -53,3 +54,37 @@ pub record IsBenched {W : Type 0} (contents : W → Option (List ℕ)) (o : Benc
   pub run : IsRun contents o (names_in o.bus.names.now) input old kept written
   pub flushed : Keeps (contents written) (contents new)
   pub strict : o.is_strict ≡ true → GrowsQuietly (contents old) (contents written)
+
+-- a run that options describe came to its end, all that it put out was written, and where that is known they are strict and it has
+-- a refusal
+pub record MeetsRefusal {W : Type 0} (contents : W → Option (List ℕ)) (o : BenchOptions) (input : Option (List ℕ)) (old new : W) : Type 0 where
+  pub named : AreNames (names_in o.bus.names.now)
+  pub kept : Kept
+  pub written : W
+  pub run : IsRun contents o (names_in o.bus.names.now) input old kept written
+  pub flushed : Keeps (contents written) (contents new)
+  pub refused : GrowsByRefusal o.is_strict (contents old) (contents written)
+
+-- a run came to its end, with a message that was refused or without one
+abbrev pub HasRun : {W : Type 0} → (W → Option (List ℕ)) → BenchOptions → Option (List ℕ) → W → Ran → W → Type 0
+HasRun contents o input old ran new =
+    MatchOption ran.refusal (IsBenched contents o input old new) (λ failure. (failure.fault ≡ fault.Refused) × MeetsRefusal contents o input old new)
+
+-- how the bench that options describe ends before the end of its run: with a fault of its names, before anything was written, of the
+-- writer, or of the run, whose output was written
+abbrev pub IsStopped : {W : Type 0} → (W → Option (List ℕ)) → BenchOptions → Option (List ℕ) → W → Fault → W → Type 0
+IsStopped {W} contents o input old why new =
+    (IsOfNames o.bus.names.now why × (new ≡ old))
+    ⊎ ((why ≡ fault.Write)
+    ⊎ (AreNames (names_in o.bus.names.now) × (written : W) × FailsBy contents o (names_in o.bus.names.now) input old why written × Keeps (contents written) (contents new)))
+
+-- a fault of the record's file or of the log's, where options ask for one
+abbrev pub IsOfFiles : BenchOptions → Fault → Type 0
+IsOfFiles o why = IsSomeAnd o.record (λ path. IsOfRecordFile path.now why) ⊎ IsSomeAnd o.log (λ path. IsOfLogFile o.bus path.now why)
+
+-- how the bench that options describe ends in a fault: before the end of its run, or at a file or a refused message after it
+abbrev pub FailsAs : {W : Type 0} → (W → Option (List ℕ)) → BenchOptions → Option (List ℕ) → W → Fault → W → Type 0
+FailsAs contents o input old why new =
+    IsStopped contents o input old why new
+    ⊎ ((IsOfFiles o why × (IsBenched contents o input old new ⊎ MeetsRefusal contents o input old new))
+    ⊎ ((why ≡ fault.Refused) × MeetsRefusal contents o input old new))

@@ -1,4 +1,4 @@
-use Rattle.std.specs.Prelude.{◌≡◌, ◌≤◌, ℕ, List, ◌∷◌, ◌++◌, codes, Option, Some, None}
+use Rattle.std.specs.Prelude.{◌≡◌, ◌≤◌, ℕ, Bool, true, List, ◌∷◌, ◌++◌, codes, Option, Some, None}
 
 -- Refusals among what a bench writes (own choice). Each is `< error TEXT >` with a text that begins with a small letter; an
 -- error message frame has its class there, in digits and capital letters.
@@ -11,6 +11,12 @@ pub record HasRefusal (text : List ℕ) : Type 0 where
   pub stands : text ≡ before ++ (codes "< error " ++ letter ∷ after)
   pub least : 97 ≤ letter
   pub most : letter ≤ 122
+
+-- known bytes grow by a text with a refusal, where the options are strict
+abbrev pub GrowsByRefusal : Bool → Option (List ℕ) → Option (List ℕ) → Type 0
+GrowsByRefusal strict (Some old) (Some new) = (strict ≡ true) × (text : List ℕ) × (new ≡ old ++ text) × HasRefusal text
+GrowsByRefusal strict (Some old) None = ⊥
+GrowsByRefusal strict None new = Unit {0}
 
 -- known bytes grow by a text without a refusal
 abbrev pub GrowsQuietly : Option (List ℕ) → Option (List ℕ) → Type 0

@@ -1,7 +1,6 @@
-ghost use Rattle.std.specs.Prelude.{◌≡◌, IfErr, IfNone, IfOk, IfSome, Ok, OnOk};
+ghost use Rattle.std.specs.Prelude.{IfErr, IfOk, Ok, OnOk};
 ghost use Rattle.can_bus.specs.Legal.{IsLegal};
-ghost use Rattle.canbusd_faults.specs.declared.faults.Fault.TheVariants as fault;
-ghost use Rattle.canbusd_bench.specs.Benched.{EndsOver, FailsBy, IsBenched, IsRun, StopsBy, begun};
+ghost use Rattle.canbusd_bench.specs.Benched.{EndsOver, FailsAs, FailsBy, HasRun, IsBenched, IsOfFiles, IsRun, IsStopped, StopsBy, begun};
 
 use crate::input_notes::input_note;
 use crate::recent::Recent;
@@ -42,7 +41,8 @@ pub fn run_bench<'a, H: Files, R: Read + Drop, W: Write>(
     output: &mut W,
     unheard: &mut Unheard,
 ) -> Result<(), Failure<'a>>
-    ensures { OnOk result (IsBenched W.contents options.entry (R.remaining input) output.old output.new) }
+    ensures done { OnOk result (IsBenched W.contents options.entry (R.remaining input) output.old output.new) }
+    ensures fault { IfErr result (λ failure. FailsAs W.contents options.entry (R.remaining input) output.old failure.fault output.new) }
 {
     match run_out(rt, alloc, options, input, output, unheard) {
         Ok(Ran { record, refusal }) => {
@@ -69,8 +69,8 @@ fn run_out<'a, H: Files, R: Read + Drop, W: Write>(
     output: &mut W,
     unheard: &mut Unheard,
 ) -> Result<Ran<'a>, Failure<'a>>
-    ensures ran { IfOk result (λ ran. IfNone ran.refusal (IsBenched W.contents options.entry (R.remaining input) output.old output.new)) }
-    ensures refusal { IfOk result (λ ran. IfSome ran.refusal (λ failure. failure.fault ≡ fault.Refused)) }
+    ensures ran { IfOk result (λ ran. HasRun W.contents options.entry (R.remaining input) output.old ran output.new) }
+    ensures fault { IfErr result (λ failure. IsStopped W.contents options.entry (R.remaining input) output.old failure.fault output.new) }
 {
     let names = read_names(alloc, options.bus.names)?;
     let mut watch = Watch::new(alloc, options.is_strict, output);
@@ -89,7 +89,9 @@ fn save_run<'a, H: Files>(
     alloc: Global,
     options: &BenchOptions<'a>,
     record: &Record,
-) -> Result<(), Failure<'a>> {
+) -> Result<(), Failure<'a>>
+    ensures { IfErr result (λ failure. IsOfFiles options.now failure.fault) }
+{
     let recorded = match options.record {
         Some(path) => save_record(rt, alloc, path, record),
         None => Ok(()),

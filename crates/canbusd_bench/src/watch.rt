@@ -1,5 +1,5 @@
 //! A writer that looks for refusals among what goes through it.
-ghost use Rattle.std.specs.Prelude.{◌≡◌, ◌≢◌, ◌+◌, ◌<◌, ◌^◌, ◌⊎◌, [], false, true, length, IfNone, IfSome, Some};
+ghost use Rattle.std.specs.Prelude.{◌≡◌, ◌≢◌, ◌+◌, ◌<◌, ◌^◌, ◌⊎◌, [], false, true, length, IfNone, IfSome, IsSome, Some};
 ghost use Rattle.canbusd_faults.specs.declared.faults.Fault.TheVariants as fault;
 ghost use Rattle.canbusd_bench.specs.inner.Watched.{seen_after as seen_after_byte, seen_in, told};
 
@@ -54,6 +54,7 @@ impl<'w, W> Watch<'w, W> {
     pub fn finish<'a>(self, alloc: Global) -> (&'w mut W, Option<Failure<'a>>)
         ensures writer { result.0 ≡ self.entry.writer }
         ensures some { IfSome result.1 (λ failure. failure.fault ≡ fault.Refused) }
+        ensures seen { IsSome result.1 → (self.entry.is_on ≡ true) × (self.entry.seen ≡ 9) }
         ensures none { IfNone result.1 ((self.entry.is_on ≡ false) ⊎ (self.entry.seen ≢ 9)) }
     {
         if self.is_on && self.seen == FOUND {
