@@ -103,11 +103,6 @@ fn call<T: BoundedQueue<Pending>, R: BoundedQueue<Received>, A: Arbiter>(
     })
 }
 
-/// What the call that is named for an event gives, or why it is refused.
-fn called(alloc: Global, bus: &mut ListBus, event: &Event) -> Reply {
-    call(alloc, bus, event).unwrap_or_else(Reply::Refused)
-}
-
 /// A dialogue, written out: its lines, those of its record, and what the record says.
 #[derive(Drop)]
 struct Dialogue {
@@ -167,7 +162,7 @@ fn reply(
     event: &Event,
     wanted: &Reply,
 ) {
-    let called = called(rt.alloc(), &mut buses.lists, event);
+    let called = call(rt.alloc(), &mut buses.lists, event).unwrap_or_else(Reply::Refused);
     same_at(rt, place, called, *wanted);
     let answered = answer(rt.alloc(), &mut buses.rings, event);
     same_at(rt, place, answered, *wanted);
