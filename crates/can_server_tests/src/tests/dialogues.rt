@@ -18,8 +18,6 @@ fn dialogue<N: RollName + MeterName, R: Wait + Abort>(
     let hub = made::<N, _, _, _>(rt, alloc, benches);
     let mut first = LocalClient::new(rt, alloc, &hub);
     let mut second = LocalClient::new(rt, alloc, &hub);
-    first.is_greeted("< hi >");
-    second.is_greeted("< hi >");
     second.ask("< open can1 >< rawmode >", "< ok >< ok >");
     let sends = "< open can0 >< rawmode >< send 123 4 11 22 33 44 >";
     first.ask(sends, "< ok >< ok >");

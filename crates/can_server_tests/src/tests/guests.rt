@@ -57,16 +57,17 @@ impl<R: Abort> House<'_, R> {
 #[test]
 fn a_closed_server_lets_nobody_in(rt: HostRuntime) {
     let (conn, client) = pair(&rt);
+    let now = moment(&rt, 23_424_242);
     let mut house = House {
         rt: &rt,
         guests: no_guests(&rt, rt.alloc()),
         conn,
-        now: moment(&rt, 23_424_242),
+        now,
     };
     house.fills();
     // All places are taken; then one is free, and then the server is closed.
     house.refuses(NotAdmitted::Full);
-    assert!(&rt; !house.guests.make_room(house.now));
+    assert!(&rt; !house.guests.make_room(now));
     house.guests.leave(23);
     house.gives(23);
     house.guests.leave(42);

@@ -18,24 +18,20 @@ pub struct LocalClient<'a, N: RollName + MeterName, F: FaultSource + Drop, R: Wa
 }
 
 impl<'a, N: RollName + MeterName, F: FaultSource + Drop, R: Wait + Abort> LocalClient<'a, N, F, R> {
-    /// A client that has opened no bus.
+    /// A client that was greeted, and has opened no bus.
     pub fn new(rt: &'a R, alloc: Global, hub: &'a Hub<N, F, Open>) -> LocalClient<'a, N, F, R> {
-        let Ok(session) = Session::new(alloc, 16) else {
+        let Ok(mut session) = Session::new(alloc, 16) else {
             panic!(rt; "no session");
         };
+        let mut out = Output::new(alloc, 1_000);
+        assert!(rt; session.greet(&mut out).is_ok());
+        assert!(rt; out.text.as_slice() == b"< hi >".as_slice());
         LocalClient {
             rt,
             alloc,
             session,
             port: PassPort::new(rt, alloc, hub),
         }
-    }
-
-    /// Hears this before it says anything.
-    pub fn is_greeted(&mut self, wanted: &str) {
-        let mut out = Output::new(self.alloc, 1_000);
-        assert!(self.rt; self.session.greet(&mut out).is_ok());
-        assert!(self.rt; out.text.as_slice() == wanted.as_bytes());
     }
 
     /// Says a text and hears its answer.
