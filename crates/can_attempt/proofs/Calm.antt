@@ -9,14 +9,14 @@ use Rattle.std.proofs.lemmas.Nat.{or_comm}
 use Rattle.std.proofs.lemmas.Nat.Bits.{bit_at_ones, bit_at_ones_above, bit_at_or, bit_at_xor, bit_at-zero, bit_at-pow_same, bit_at-pow_other, same_from_bits}
 use Rattle.can_frame.specs.Sets.{bits_where, set_where, no_ifaces}
 use Rattle.can_confine.specs.Confinement.{ErrorCounts, all_stepped, at_start, is_off, is_passive, state_of}
-use Rattle.can_confine.specs.declared.states.State.{State}
-use Rattle.can_fault.specs.declared.verdicts.Verdict.{Verdict}
-use Rattle.can_fault.specs.declared.verdicts.Verdict.TheVariants as verdict
-use Rattle.can_attempt.specs.declared.classes.Class.TheVariants as class
-use Rattle.can_attempt.specs.declared.acks.AckMode.{AckMode}
-use Rattle.can_attempt.specs.declared.acks.AckMode.TheVariants.{Always, Peers}
-use Rattle.can_attempt.specs.declared.classes.Class.{Class}
-use Rattle.can_attempt.specs.declared.judgements.Judgement.{Judgement}
+use Rattle.can_confine.specs.declared.state.State.{State}
+use Rattle.can_fault.specs.declared.verdict.Verdict.{Verdict}
+use Rattle.can_fault.specs.declared.verdict.Verdict.TheVariants as verdict
+use Rattle.can_attempt.specs.declared.class.Class.TheVariants as class
+use Rattle.can_attempt.specs.declared.ack_mode.AckMode.{AckMode}
+use Rattle.can_attempt.specs.declared.ack_mode.AckMode.TheVariants.{Always, Peers}
+use Rattle.can_attempt.specs.declared.class.Class.{Class}
+use Rattle.can_attempt.specs.declared.judgement.Judgement.{Judgement}
 use Rattle.can_attempt.specs.declared.nodes.Nodes.{Nodes}
 use Rattle.can_attempt.specs.Attempts.{Transmission, accepted_in, attempt_between, can_hear, class_of, class_when, counts_after, counts_at, counts_in, hit, is_acknowledged, is_always, is_among, is_named, judged, receivers, receiver_step, set_of, state_at, steps_in, unhurt, winner_step}
 use Rattle.can_attempt.proofs.Judged.{same_judgement}

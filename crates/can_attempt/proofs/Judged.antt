@@ -1,11 +1,11 @@
 use Rattle.std.proofs.Common.{◌≡◌, ℕ, ◌<◌, List, [], ◌∷◌, map, refl, ap, ◌∙◌, arith, if◌then◌else◌}
 use Rattle.std.specs.List.{range_with_len}
 use Rattle.std.proofs.lemmas.List.FromFn.{fill_by_all, length-map-range_with_len, get_or-map-range_with_len}
-use Rattle.can_frame.specs.declared.ifaces.IfaceSet.{IfaceSet}
+use Rattle.can_frame.specs.declared.iface.IfaceSet.{IfaceSet}
 use Rattle.can_confine.specs.Confinement.{ErrorCounts, at_start, is_off, state_of}
-use Rattle.can_attempt.specs.declared.classes.Class.{Class}
-use Rattle.can_attempt.specs.declared.classes.Class.TheVariants as class
-use Rattle.can_attempt.specs.declared.judgements.Judgement.{Judgement}
+use Rattle.can_attempt.specs.declared.class.Class.{Class}
+use Rattle.can_attempt.specs.declared.class.Class.TheVariants as class
+use Rattle.can_attempt.specs.declared.judgement.Judgement.{Judgement}
 use Rattle.can_attempt.specs.Attempts.{Transmission, SameToTheLive, SameToSixteen, unhurt, set_of, class_of, accepted_in, counts_after, judged}
 use Rattle.can_attempt.proofs.Same.{same_class, same_hit, same_unhurt, same_counts}
 

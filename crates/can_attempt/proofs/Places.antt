@@ -3,7 +3,7 @@ use Rattle.std.proofs.lemmas.Bool.{cases_lt, cases_eq, false≢true}
 use Rattle.std.specs.List.{list_any, range_with_len}
 use Rattle.std.proofs.lemmas.Map.Views.{any-filter_same}
 use Rattle.can_frame.specs.Sets.{bits_where}
-use Rattle.can_attempt.specs.declared.classes.Class.{Class}
+use Rattle.can_attempt.specs.declared.class.Class.{Class}
 use Rattle.can_attempt.specs.Attempts.{is_among, Transmission, can_hear, receivers, hit, unhurt, is_named, steps_in, counts_in, receiver_step}
 
 -- Lists of interfaces, and the bits of the sets that they make.

@@ -1,9 +1,9 @@
 use Rattle.std.proofs.Common.{◌≡◌, ℕ, ◌<◌, Bool, true, false, not, nat_lt, ◌&&◌, ◌||◌, ◌==◌, List, [], if◌then◌else◌, filter, length, ap, sym, arith, refl, ◌∙◌}
 use Rattle.std.specs.List.{list_any, range_with_len}
 use Rattle.can_confine.specs.Confinement.{ErrorCounts, all_stepped, is_off, is_passive, state_of}
-use Rattle.can_fault.specs.declared.verdicts.Verdict.{Verdict}
-use Rattle.can_attempt.specs.declared.classes.Class.{Class}
-use Rattle.can_attempt.specs.declared.acks.AckMode.{AckMode}
+use Rattle.can_fault.specs.declared.verdict.Verdict.{Verdict}
+use Rattle.can_attempt.specs.declared.class.Class.{Class}
+use Rattle.can_attempt.specs.declared.ack_mode.AckMode.{AckMode}
 use Rattle.can_attempt.specs.Attempts.{Transmission, SameToTheLive, is_among, state_at, can_hear, receivers, hit, unhurt, is_named, is_global, is_last_bit, is_always, is_destroyed, is_acknowledged, class_of, class_when, winner_step, receiver_step, counts_after}
 use Rattle.can_attempt.proofs.Places.{any_same, filter_same, below_among, is_among-hit}
 

@@ -4,8 +4,8 @@ use Rattle.std.proofs.lemmas.Bool.{cases_eq, ne_eqb}
 use Rattle.std.proofs.lemmas.Nat.Bits.{bit_at_or, bit_at-pow_same, bit_at-pow_other, bit_at_above}
 use Rattle.can_frame.specs.Sets.{is_in, bits_where}
 use Rattle.can_confine.specs.Confinement.{ErrorCounts, all_stepped, is_off, state_of}
-use Rattle.can_attempt.specs.declared.classes.Class.{Class}
-use Rattle.can_attempt.specs.declared.classes.Class.TheVariants.{Done, LastBit, Destroyed, NoAck}
+use Rattle.can_attempt.specs.declared.class.Class.{Class}
+use Rattle.can_attempt.specs.declared.class.Class.TheVariants.{Done, LastBit, Destroyed, NoAck}
 use Rattle.can_attempt.specs.Attempts.{Transmission, state_at, is_among, set_of, receivers, is_named, receiver_step, class_of, counts_after}
 
 -- Who stands in a set, and who goes off the bus.

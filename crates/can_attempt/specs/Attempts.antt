@@ -1,18 +1,18 @@
 use Rattle.std.specs.Prelude.{◌≡◌, ◌<◌, ◌≤◌, ℕ, ◌==◌, Bool, true, false, not, ◌&&◌, ◌||◌, List, [], ◌∷◌, length, filter, map, slice_index_or, nat_lt, All, IsTrue, if◌then◌else◌}
 use Rattle.std.specs.List.{list_any, range_with_len}
 use Rattle.can_frame.specs.Sets.{is_in, set_where}
-use Rattle.can_frame.specs.declared.ifaces.IfaceSet.{IfaceSet}
+use Rattle.can_frame.specs.declared.iface.IfaceSet.{IfaceSet}
 use Rattle.can_confine.specs.Confinement.{ErrorCounts, Step, all_stepped, at_start, state_of, is_off, is_passive}
 use Rattle.can_confine.specs.Confinement.Step.{TransmitError, ReceiveError, GoodTransmission, GoodReception}
-use Rattle.can_confine.specs.declared.states.State.{State}
-use Rattle.can_fault.specs.declared.verdicts.Verdict.{Verdict}
-use Rattle.can_fault.specs.declared.verdicts.Verdict.TheVariants as verdict
-use Rattle.can_attempt.specs.declared.classes.Class.{Class}
-use Rattle.can_attempt.specs.declared.classes.Class.TheVariants as class
-use Rattle.can_attempt.specs.declared.acks.AckMode.{AckMode}
-use Rattle.can_attempt.specs.declared.acks.AckMode.TheVariants.{Always, Peers}
+use Rattle.can_confine.specs.declared.state.State.{State}
+use Rattle.can_fault.specs.declared.verdict.Verdict.{Verdict}
+use Rattle.can_fault.specs.declared.verdict.Verdict.TheVariants as verdict
+use Rattle.can_attempt.specs.declared.class.Class.{Class}
+use Rattle.can_attempt.specs.declared.class.Class.TheVariants as class
+use Rattle.can_attempt.specs.declared.ack_mode.AckMode.{AckMode}
+use Rattle.can_attempt.specs.declared.ack_mode.AckMode.TheVariants.{Always, Peers}
 use Rattle.can_attempt.specs.declared.nodes.Nodes.{Nodes}
-use Rattle.can_attempt.specs.declared.judgements.Judgement.{Judgement}
+use Rattle.can_attempt.specs.declared.judgement.Judgement.{Judgement}
 
 -- One attempt to send a frame: who hears it, what becomes of it, and what it does to each interface's error
 -- counts. Own choice throughout, resting on the fault confinement and the message validation of the Bosch CAN

@@ -1,6 +1,6 @@
 use Rattle.std.specs.Prelude.{◌≡◌}
 use Rattle.can_attempt.specs.Attempts.{Transmission, hit, unhurt, is_hit_active, is_heard, set_of}
-use Rattle.can_attempt.specs.declared.surveys.Survey.{Survey}
+use Rattle.can_attempt.specs.declared.survey.Survey.{Survey}
 
 -- What the receivers of an attempt see of its faults. Nothing that a caller has to know.
 

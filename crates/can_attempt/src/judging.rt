@@ -3,13 +3,13 @@ ghost use Rattle.std.specs.List.{range_with_len};
 ghost use Rattle.can_frame.specs.Sets.{set_where};
 ghost use Rattle.can_confine.specs.Confinement.{all_stepped, is_off, state_of};
 ghost use Rattle.can_attempt.specs.Attempts.{IsCalm, IsCalmJudgement, Transmission, accepted_in, attempt_between, class_when, counts_in, counts_at, is_always, is_global, is_last_bit, judged, set_of, unhurt, winner_step, receiver_step};
-ghost use Rattle.can_attempt.specs.declared.acks.AckMode.{AckMode};
+ghost use Rattle.can_attempt.specs.declared.ack_mode.AckMode.{AckMode};
 
-use crate::acks::AckMode;
-use crate::classes::Class;
-use crate::judgements::Judgement;
+use crate::ack_mode::AckMode;
+use crate::class::Class;
+use crate::judgement::Judgement;
 use crate::nodes::Nodes;
-use crate::surveys::{Survey, can_hear, is_named, survey_of};
+use crate::survey::{Survey, can_hear, is_named, survey_of};
 use can_confine::Counters;
 use can_fault::Verdict;
 use can_frame::{Iface, IfaceSet};

@@ -2,8 +2,8 @@ ghost use Rattle.std.specs.Prelude.{◌≡◌, ◌≢◌, ◌<◌, ℕ, List, le
 ghost use Rattle.can_frame.specs.Sets.{is_in};
 ghost use Rattle.can_confine.specs.Confinement.{is_off, is_passive, state_of};
 ghost use Rattle.can_attempt.specs.Attempts.{Transmission, SameToSixteen, SameToTheLive, is_among, set_of, state_at, receivers, hit, unhurt, is_global, class_of, accepted_in, counts_after, judged};
-ghost use Rattle.can_attempt.specs.declared.acks.AckMode.TheVariants.{Peers};
-ghost use Rattle.can_attempt.specs.declared.classes.Class.TheVariants.{Done, LastBit, Destroyed, NoAck};
+ghost use Rattle.can_attempt.specs.declared.ack_mode.AckMode.TheVariants.{Peers};
+ghost use Rattle.can_attempt.specs.declared.class.Class.TheVariants.{Done, LastBit, Destroyed, NoAck};
 
 /// An interface is in the set of some interfaces exactly where it is one of them.
 pub fn sets_hold_their_interfaces()

@@ -5,16 +5,16 @@
 //! receivers, the verdict and the acknowledgement mode. It takes no memory.
 #![tactic(auto)]
 
-pub mod acks;
-pub mod classes;
-pub mod judgements;
+pub mod ack_mode;
+pub mod class;
+pub mod judgement;
 pub mod judging;
 pub mod laws;
 pub mod nodes;
-mod surveys;
+mod survey;
 
-pub use acks::AckMode;
-pub use classes::Class;
-pub use judgements::Judgement;
+pub use ack_mode::AckMode;
+pub use class::Class;
+pub use judgement::Judgement;
 pub use judging::{is_calm, judge, judge_asked};
 pub use nodes::Nodes;

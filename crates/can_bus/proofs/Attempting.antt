@@ -7,9 +7,9 @@ use Rattle.std.proofs.lemmas.List.{length_push, length-append, length-drop, drop
 use Rattle.std.proofs.lemmas.List.FromFn.{length-range_with_len}
 use Rattle.can_frame.specs.Frames.{CanFrame}
 use Rattle.can_frame.specs.Sets.{is_in}
-use Rattle.can_frame.specs.declared.ifaces.IfaceSet.{IfaceSet}
+use Rattle.can_frame.specs.declared.iface.IfaceSet.{IfaceSet}
 use Rattle.can_confine.specs.Confinement.{ErrorCounts, Step, all_stepped, at_start, state_of, is_off}
-use Rattle.can_fault.specs.declared.verdicts.Verdict.{Verdict}
+use Rattle.can_fault.specs.declared.verdict.Verdict.{Verdict}
 use Rattle.can_attempt.specs.Attempts.{Transmission, attempt_between, counts_at, judged, set_of, is_among, off_after, counts_after, steps_at, is_done}
 use Rattle.can_attempt.proofs.Standing.{is_in-of}
 use Rattle.can_event.specs.declared.events.BusConfig.{BusConfig}

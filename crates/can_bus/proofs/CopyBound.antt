@@ -5,10 +5,10 @@ use Rattle.std.proofs.lemmas.Option.{slice_get_within}
 use Rattle.can_frame.specs.Sets.{is_in}
 use Rattle.can_confine.specs.Confinement.{ErrorCounts, all_stepped, at_start, state_of, is_off, is_passive}
 use Rattle.can_confine.specs.Confinement.Step.{TransmitError}
-use Rattle.can_confine.specs.declared.states.State.{State}
-use Rattle.can_fault.specs.declared.verdicts.Verdict.{Verdict}
-use Rattle.can_attempt.specs.declared.classes.Class.{Class}
-use Rattle.can_attempt.specs.declared.classes.Class.TheVariants as class
+use Rattle.can_confine.specs.declared.state.State.{State}
+use Rattle.can_fault.specs.declared.verdict.Verdict.{Verdict}
+use Rattle.can_attempt.specs.declared.class.Class.{Class}
+use Rattle.can_attempt.specs.declared.class.Class.TheVariants as class
 use Rattle.can_attempt.specs.Attempts.{Transmission, is_among, is_named, receivers, class_of, steps_at, counts_after, winner_step, receiver_step, is_done}
 use Rattle.can_attempt.specs.Attempts as attempts
 use Rattle.can_event.specs.declared.events.Entry.{Entry}

@@ -3,21 +3,21 @@ use Rattle.std.proofs.lemmas.List.{length-take, length-drop, length-append}
 use Rattle.std.proofs.lemmas.List.Elements.{All-cons}
 use Rattle.can_filter.specs.Filters.{CanFilter}
 use Rattle.can_filter.specs.Passing.{wants}
-use Rattle.can_filter.specs.declared.socket_options.Options.{Options}
+use Rattle.can_filter.specs.declared.options.Options.{Options}
 use Rattle.can_frame.specs.Frames.{ErrorMessage}
 use Rattle.can_frame.specs.Sets.{is_in}
-use Rattle.can_frame.specs.declared.ifaces.IfaceSet.{IfaceSet}
+use Rattle.can_frame.specs.declared.iface.IfaceSet.{IfaceSet}
 use Rattle.can_confine.specs.Confinement.{ErrorCounts, at_start}
-use Rattle.can_fault.specs.declared.verdicts.Verdict.{Verdict}
-use Rattle.can_fault.specs.declared.verdicts.Verdict.TheVariants as verdict
+use Rattle.can_fault.specs.declared.verdict.Verdict.{Verdict}
+use Rattle.can_fault.specs.declared.verdict.Verdict.TheVariants as verdict
 use Rattle.can_attempt.specs.Attempts.{Transmission, attempt_between, class_of, counts_at, counts_after, counts_in}
-use Rattle.can_attempt.specs.declared.acks.AckMode.{AckMode}
-use Rattle.can_attempt.specs.declared.classes.Class.{Class}
-use Rattle.can_attempt.specs.declared.classes.Class.TheVariants as class
+use Rattle.can_attempt.specs.declared.ack_mode.AckMode.{AckMode}
+use Rattle.can_attempt.specs.declared.class.Class.{Class}
+use Rattle.can_attempt.specs.declared.class.Class.TheVariants as class
 use Rattle.can_attempt.specs.declared.nodes.Nodes.{Nodes}
 use Rattle.can_attempt.proofs.Calm.{calm_stays, zero_at}
-use Rattle.can_errframe.specs.declared.roles.Role.{Role}
-use Rattle.can_errframe.specs.declared.roles.Role.TheVariants as role
+use Rattle.can_errframe.specs.declared.role.Role.{Role}
+use Rattle.can_errframe.specs.declared.role.Role.TheVariants as role
 use Rattle.can_event.specs.declared.events.Pending.{Pending}
 use Rattle.can_event.specs.declared.events.Tried.{Tried}
 use Rattle.can_errframe.specs.ErrorMessages.{state_message}

@@ -4,12 +4,12 @@ use Rattle.std.proofs.lemmas.List.{length_push, length-append, length-take, leng
 use Rattle.std.proofs.lemmas.Option.{slice_get_within, slice_get-get_or}
 use Rattle.can_frame.specs.Frames.{ErrorMessage}
 use Rattle.can_frame.specs.Sets.{is_in}
-use Rattle.can_frame.specs.declared.ifaces.IfaceSet.{IfaceSet}
+use Rattle.can_frame.specs.declared.iface.IfaceSet.{IfaceSet}
 use Rattle.can_filter.specs.Filters.{CanFilter}
-use Rattle.can_filter.specs.declared.socket_options.Options.{Options}
+use Rattle.can_filter.specs.declared.options.Options.{Options}
 use Rattle.can_filter.specs.Passing.{wants}
 use Rattle.can_confine.specs.Confinement.{is_off}
-use Rattle.can_fault.specs.declared.verdicts.Verdict.{Verdict}
+use Rattle.can_fault.specs.declared.verdict.Verdict.{Verdict}
 use Rattle.can_attempt.specs.Attempts.{Transmission, counts_after, is_done}
 use Rattle.can_errframe.specs.ErrorMessages.{state_message, restart_message}
 use Rattle.can_event.specs.declared.events.Entry.{Entry}

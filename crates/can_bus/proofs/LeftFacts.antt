@@ -3,7 +3,7 @@ use Rattle.std.specs.List.{list_any, range_with_len}
 use Rattle.std.specs.Option.{option_map}
 use Rattle.std.proofs.lemmas.Bool.{eqb-true, cases_lt}
 use Rattle.can_frame.specs.Sets.{is_in}
-use Rattle.can_frame.specs.declared.ifaces.IfaceSet.{IfaceSet}
+use Rattle.can_frame.specs.declared.iface.IfaceSet.{IfaceSet}
 use Rattle.can_attempt.specs.Attempts.{is_among}
 use Rattle.can_attempt.proofs.Places.{is_among-filter, is_among-range, bits_where_same}
 use Rattle.can_event.specs.declared.events.BusConfig.{BusConfig}

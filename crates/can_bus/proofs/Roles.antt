@@ -4,8 +4,8 @@ use Rattle.can_frame.specs.Sets.{is_in}
 use Rattle.can_confine.specs.Confinement.{is_off}
 use Rattle.can_attempt.specs.Attempts.{Transmission, state_at, can_hear, is_among, receivers, hit, set_of}
 use Rattle.can_attempt.proofs.Places.{is_among-receivers}
-use Rattle.can_errframe.specs.declared.roles.Role.{Role}
-use Rattle.can_errframe.specs.declared.roles.Role.TheVariants as role
+use Rattle.can_errframe.specs.declared.role.Role.{Role}
+use Rattle.can_errframe.specs.declared.role.Role.TheVariants as role
 use Rattle.can_bus.specs.Posts.{role_at}
 use Rattle.can_attempt.proofs.Standing.{is_in-set_of}
 

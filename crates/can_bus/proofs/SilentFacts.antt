@@ -3,9 +3,9 @@ use Rattle.std.proofs.lemmas.Bool.{ne_eqb, and_left, and_right}
 use Rattle.can_frame.specs.Frames.{CanFrame}
 use Rattle.can_frame.specs.Sets.{is_in}
 use Rattle.can_confine.specs.Confinement.{all_stepped, at_start, is_off}
-use Rattle.can_fault.specs.declared.verdicts.Verdict.{Verdict}
-use Rattle.can_attempt.specs.declared.classes.Class.{Class}
-use Rattle.can_attempt.specs.declared.classes.Class.TheVariants as class
+use Rattle.can_fault.specs.declared.verdict.Verdict.{Verdict}
+use Rattle.can_attempt.specs.declared.class.Class.{Class}
+use Rattle.can_attempt.specs.declared.class.Class.TheVariants as class
 use Rattle.can_attempt.specs.Attempts.{Transmission, is_among, set_of, can_hear, is_named, receivers, unhurt, accepted_in, class_of, steps_at}
 use Rattle.can_attempt.specs.Attempts as attempts
 use Rattle.can_attempt.proofs.Places.{is_among-unhurt, is_among-receivers}

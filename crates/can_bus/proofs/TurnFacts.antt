@@ -6,11 +6,11 @@ use Rattle.std.proofs.lemmas.List.Elements.{All-nil, All-cons, All-weaker}
 use Rattle.std.proofs.lemmas.List.Kept.{AllPairs-cons}
 use Rattle.std.proofs.lemmas.List.Sums.{length-filter}
 use Rattle.can_frame.specs.Sets.{is_in}
-use Rattle.can_frame.specs.declared.items.Item.TheVariants as item
+use Rattle.can_frame.specs.declared.item.Item.TheVariants as item
 use Rattle.can_filter.specs.Passing.{wants}
-use Rattle.can_fault.specs.declared.verdicts.Verdict.{Verdict}
-use Rattle.can_attempt.specs.declared.classes.Class.{Class}
-use Rattle.can_attempt.specs.declared.classes.Class.TheVariants as class
+use Rattle.can_fault.specs.declared.verdict.Verdict.{Verdict}
+use Rattle.can_attempt.specs.declared.class.Class.{Class}
+use Rattle.can_attempt.specs.declared.class.Class.TheVariants as class
 use Rattle.can_attempt.specs.Attempts.{Transmission, set_of, accepted_in, class_of, is_done}
 use Rattle.can_event.specs.declared.events.Entry.{Entry}
 use Rattle.can_event.specs.declared.events.Event.{Event}

@@ -1,7 +1,7 @@
 use Rattle.std.specs.Prelude.{◌≡◌, ◌≤◌}
-use Rattle.can_fault.specs.declared.verdicts.Verdict.{Verdict}
-use Rattle.can_attempt.specs.declared.acks.AckMode.{AckMode}
-use Rattle.can_attempt.specs.declared.judgements.Judgement.{Judgement}
+use Rattle.can_fault.specs.declared.verdict.Verdict.{Verdict}
+use Rattle.can_attempt.specs.declared.ack_mode.AckMode.{AckMode}
+use Rattle.can_attempt.specs.declared.judgement.Judgement.{Judgement}
 use Rattle.can_attempt.specs.declared.nodes.Nodes.{Nodes}
 use Rattle.can_attempt.specs.Attempts.{Transmission, attempt_between, judged}
 use Rattle.can_event.specs.declared.events.Tried.{Tried}

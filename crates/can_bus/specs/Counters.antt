@@ -1,8 +1,8 @@
 use Rattle.std.specs.Prelude.{ℕ, ◌==◌, List, [], ◌++◌, ◌∷◌, if◌then◌else◌}
 use Rattle.can_frame.specs.Sets.{is_in}
 use Rattle.can_confine.specs.Confinement.{ErrorCounts, Step, all_stepped, at_start, state_of}
-use Rattle.can_confine.specs.declared.states.State.{State}
-use Rattle.can_fault.specs.declared.verdicts.Verdict.{Verdict}
+use Rattle.can_confine.specs.declared.state.State.{State}
+use Rattle.can_fault.specs.declared.verdict.Verdict.{Verdict}
 use Rattle.can_attempt.specs.Attempts.{Transmission, steps_at}
 use Rattle.can_event.specs.declared.events.BusConfig.{BusConfig}
 use Rattle.can_event.specs.declared.events.Entry.{Entry}

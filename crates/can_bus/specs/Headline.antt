@@ -1,6 +1,6 @@
 use Rattle.std.specs.Prelude.{◌≡◌, ℕ, ◌+◌, true, List, ◌∷◌, ◌++◌, length, map, All, AllPairs}
 use Rattle.std.specs.List.{range_with_len}
-use Rattle.can_attempt.specs.declared.classes.Class.TheVariants as class
+use Rattle.can_attempt.specs.declared.class.Class.TheVariants as class
 use Rattle.can_event.specs.declared.events.BusConfig.{BusConfig}
 use Rattle.can_event.specs.declared.events.Closed.{Closed}
 use Rattle.can_event.specs.declared.events.Entry.{Entry}

@@ -1,6 +1,6 @@
 use Rattle.std.specs.Prelude.{ℕ, List, [], ◌++◌, Some, if◌then◌else◌}
 use Rattle.can_frame.specs.Sets.{is_in}
-use Rattle.can_frame.specs.declared.ifaces.IfaceSet.{IfaceSet}
+use Rattle.can_frame.specs.declared.iface.IfaceSet.{IfaceSet}
 use Rattle.can_attempt.specs.Attempts.{counts_after}
 use Rattle.can_errframe.specs.ErrorMessages.{state_message}
 use Rattle.can_event.specs.declared.events.Pending.{Pending}

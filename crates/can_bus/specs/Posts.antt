@@ -2,14 +2,14 @@ use Rattle.std.specs.Prelude.{ℕ, ◌==◌, Bool, false, ◌&&◌, ◌||◌, Li
 use Rattle.std.specs.Option.{option_map}
 use Rattle.can_frame.specs.Frames.{ErrorMessage}
 use Rattle.can_frame.specs.Sets.{is_in}
-use Rattle.can_frame.specs.declared.ifaces.IfaceSet.{IfaceSet}
-use Rattle.can_frame.specs.declared.items.Item.TheVariants as item
-use Rattle.can_fault.specs.declared.verdicts.Verdict.{Verdict}
-use Rattle.can_attempt.specs.declared.classes.Class.{Class}
+use Rattle.can_frame.specs.declared.iface.IfaceSet.{IfaceSet}
+use Rattle.can_frame.specs.declared.item.Item.TheVariants as item
+use Rattle.can_fault.specs.declared.verdict.Verdict.{Verdict}
+use Rattle.can_attempt.specs.declared.class.Class.{Class}
 use Rattle.can_attempt.specs.Attempts.{Transmission, is_among, receivers, hit, counts_after, is_done}
 use Rattle.can_errframe.specs.ErrorMessages.{fault_message, state_message, restart_message}
-use Rattle.can_errframe.specs.declared.roles.Role.{Role}
-use Rattle.can_errframe.specs.declared.roles.Role.TheVariants as role
+use Rattle.can_errframe.specs.declared.role.Role.{Role}
+use Rattle.can_errframe.specs.declared.role.Role.TheVariants as role
 use Rattle.can_event.specs.declared.events.BusConfig.{BusConfig}
 use Rattle.can_event.specs.declared.events.Entry.{Entry}
 use Rattle.can_event.specs.declared.events.Event.{Event}

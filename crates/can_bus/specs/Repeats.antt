@@ -1,6 +1,6 @@
 use Rattle.std.specs.Prelude.{◌≡◌, ℕ, ◌+◌, ◌≤◌, ◌==◌, List, ◌∷◌, count_by, Some}
-use Rattle.can_attempt.specs.declared.classes.Class.TheVariants as class
-use Rattle.can_fault.specs.declared.verdicts.Verdict.TheVariants as verdict
+use Rattle.can_attempt.specs.declared.class.Class.TheVariants as class
+use Rattle.can_fault.specs.declared.verdict.Verdict.TheVariants as verdict
 use Rattle.can_event.specs.declared.events.BusConfig.{BusConfig}
 use Rattle.can_event.specs.declared.events.Entry.{Entry}
 use Rattle.can_event.specs.declared.events.Event.TheVariants.{Attempt}

@@ -1,7 +1,7 @@
 use Rattle.std.specs.Prelude.{ℕ, ◌==◌, Bool, not, List, [], ◌∷◌, ◌++◌, length, filter, slice_get, Option, Some, None, if◌then◌else◌}
 use Rattle.std.specs.List.{list_any}
 use Rattle.can_filter.specs.Filters.{CanFilter}
-use Rattle.can_filter.specs.declared.socket_options.Options.{Options}
+use Rattle.can_filter.specs.declared.options.Options.{Options}
 use Rattle.can_filter.specs.Passing.{receives_all, default_options}
 use Rattle.can_event.specs.declared.events.Event.{Event}
 use Rattle.can_event.specs.declared.events.Event.TheVariants.{Open, Close, SetFilters, SetOption}

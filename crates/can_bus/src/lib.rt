@@ -7,32 +7,32 @@
 #![tactic(auto)]
 
 mod attempts;
-pub mod buses;
-mod countdowns;
+pub mod bus;
+mod countdown;
 pub mod entries;
 mod held;
 pub mod laws;
-pub mod lean;
+pub mod lean_bus;
 mod line;
 mod lines;
 pub mod outcomes;
 mod posting;
 pub mod records;
 mod replies;
-pub mod runs;
+pub mod run;
 mod socket;
 mod sockets;
 mod state;
 
 pub use attempts::begun_anew;
-pub use buses::{Bus, BusFault, ListBus, RingBus};
+pub use bus::{Bus, BusFault, ListBus, RingBus};
 pub use can_event::{
     Attempt, BusConfig, Closed, Entry, Event, IfaceStats, Opt, Pending, Received, Refusal, Reply,
     SocketId, SocketStats, Tried, is_spelled,
 };
 pub use can_packed::{Looked, Stored};
 pub use entries::{Entries, EntriesIter};
-pub use lean::{LeanBus, LeanRingBus};
+pub use lean_bus::{LeanBus, LeanRingBus};
 pub use outcomes::Attempted;
 pub use records::Record;
-pub use runs::{RunFault, run};
+pub use run::{RunFault, run};

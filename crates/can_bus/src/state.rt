@@ -5,7 +5,7 @@ ghost use Rattle.can_bus.specs.Lean.{Carries, IsReady, record_of};
 ghost use Rattle.can_bus.specs.State.{IsKept, kept_parts};
 ghost use Rattle.can_event.specs.declared.events.Entry.{Entry as AnEntry};
 
-use crate::countdowns::Countdown;
+use crate::countdown::Countdown;
 use crate::line::Line;
 use crate::lines;
 use crate::replies::{attempt_reply, sent_reply};

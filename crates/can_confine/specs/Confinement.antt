@@ -1,6 +1,6 @@
 use Rattle.std.specs.Prelude.{ℕ, ◌+◌, ◌-◌, nat_le, min, Bool, true, false, ◌||◌, List, [], ◌∷◌, if◌then◌else◌}
-use Rattle.can_confine.specs.declared.states.State.{State}
-use Rattle.can_confine.specs.declared.states.State.TheVariants.{Active, Warning, Passive, Off}
+use Rattle.can_confine.specs.declared.state.State.{State}
+use Rattle.can_confine.specs.declared.state.State.TheVariants.{Active, Warning, Passive, Off}
 
 -- Fault confinement: error counters, and the state that they give (Bosch CAN Specification 2.0, part B, section 8).
 

@@ -2,7 +2,7 @@ ghost use Rattle.std.specs.Prelude.{◌≡◌, ◌<◌, ◌≤◌, SomeIff, if�
 ghost use Rattle.can_confine.specs.Confinement.{stepped, at_start, state_of, is_passive};
 ghost use Rattle.can_confine.specs.Confinement.Step.{TransmitError, ReceiveError, GoodTransmission, GoodReception};
 
-use crate::states::State;
+use crate::state::State;
 use std::marker::Model;
 
 /// The most that a transmit count reaches: bus off from 255 by one error more.

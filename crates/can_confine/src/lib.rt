@@ -6,7 +6,7 @@
 
 pub mod counters;
 pub mod laws;
-pub mod states;
+pub mod state;
 
 pub use counters::{Counters, MAX_REC, MAX_TEC};
-pub use states::State;
+pub use state::State;

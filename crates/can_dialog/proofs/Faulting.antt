@@ -1,17 +1,17 @@
 -- A message that was refused: the turn is the one that says so.
 use Rattle.std.proofs.Common.{◌≡◌, ℕ, Bool, true, false, List, Result, Ok, Err, refl, sym, ap, subst, ◌∙◌, arith}
-use Rattle.can_proto.specs.declared.messages.Incoming.TheVariants.{Message}
-use Rattle.can_proto.specs.declared.commands.Command.{Command}
-use Rattle.can_proto.specs.declared.faults.ProtoFault.{ProtoFault}
-use Rattle.can_proto.specs.declared.faults.ProtoFault.TheVariants.{NoMemory, InvalidFilter, TooManyFilters, EmptyMessage, UnknownCommand, WrongState, ModeNotSupported, BadCount, BadId, BadLength, BadByte, BadNumber}
-use Rattle.can_proto.specs.declared.answers.Answer.TheVariants as answer
+use Rattle.can_proto.specs.declared.message.Incoming.TheVariants.{Message}
+use Rattle.can_proto.specs.declared.command.Command.{Command}
+use Rattle.can_proto.specs.declared.fault.ProtoFault.{ProtoFault}
+use Rattle.can_proto.specs.declared.fault.ProtoFault.TheVariants.{NoMemory, InvalidFilter, TooManyFilters, EmptyMessage, UnknownCommand, WrongState, ModeNotSupported, BadCount, BadId, BadLength, BadByte, BadNumber}
+use Rattle.can_proto.specs.declared.answer.Answer.TheVariants as answer
 use Rattle.can_proto.specs.Words.{words_of}
 use Rattle.can_proto.specs.Commands.{GivesBut, reading, takes_memory}
 use Rattle.can_proto.specs.Causes.{cause_of_fault}
 use Rattle.can_proto.specs.Spelling.{reply_text}
-use Rattle.can_dialog.specs.declared.stages.Stage.{Stage}
-use Rattle.can_dialog.specs.declared.stages.Stage.TheVariants.{NoBus, Opened, Raw, Ended}
-use Rattle.can_dialog.specs.declared.stages.Dialog.{Dialog}
+use Rattle.can_dialog.specs.declared.stage.Stage.{Stage}
+use Rattle.can_dialog.specs.declared.stage.Stage.TheVariants.{NoBus, Opened, Raw, Ended}
+use Rattle.can_dialog.specs.declared.stage.Dialog.{Dialog}
 use Rattle.can_dialog.specs.Calls.{Call, Reply}
 use Rattle.can_dialog.specs.Plans.{Plan, Plays}
 use Rattle.can_dialog.specs.Turns.{mode_of, without_memory, read_as, answering, heard, unless_over, turn}

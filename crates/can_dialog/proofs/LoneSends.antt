@@ -3,17 +3,17 @@ use Rattle.std.proofs.Common.{◌≡◌, ℕ, List, [], ◌∷◌, Option, Resul
 use Rattle.std.specs.Prelude.{OnOk}
 use Rattle.std.proofs.lemmas.List.{append-nil}
 use Rattle.can_frame.specs.Frames.{CanFrame}
-use Rattle.can_proto.specs.declared.messages.Incoming.{Incoming}
-use Rattle.can_proto.specs.declared.messages.Incoming.TheVariants.{Message}
-use Rattle.can_proto.specs.declared.commands.Mode.TheVariants as mode
-use Rattle.can_proto.specs.declared.commands.Command.TheVariants as command
+use Rattle.can_proto.specs.declared.message.Incoming.{Incoming}
+use Rattle.can_proto.specs.declared.message.Incoming.TheVariants.{Message}
+use Rattle.can_proto.specs.declared.command.Mode.TheVariants as mode
+use Rattle.can_proto.specs.declared.command.Command.TheVariants as command
 use Rattle.can_proto.specs.Words.{words_of}
 use Rattle.can_proto.specs.Messages.{messages_of}
 use Rattle.can_proto.specs.Commands.{reading, IsLoneSend}
-use Rattle.can_dialog.specs.declared.stages.Stage.{Stage}
-use Rattle.can_dialog.specs.declared.stages.Stage.TheVariants.{Raw}
-use Rattle.can_dialog.specs.declared.stages.RawSocket.{RawSocket}
-use Rattle.can_dialog.specs.declared.stages.Dialog.{Dialog}
+use Rattle.can_dialog.specs.declared.stage.Stage.{Stage}
+use Rattle.can_dialog.specs.declared.stage.Stage.TheVariants.{Raw}
+use Rattle.can_dialog.specs.declared.stage.RawSocket.{RawSocket}
+use Rattle.can_dialog.specs.declared.stage.Dialog.{Dialog}
 use Rattle.can_dialog.specs.Calls.{Call, Reply}
 use Rattle.can_dialog.specs.Plans.{Plan, Plays}
 use Rattle.can_dialog.specs.Turns.{mode_of, answering, doing, unless_over, sending, turn}

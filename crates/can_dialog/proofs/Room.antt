@@ -1,7 +1,7 @@
 -- How many replies a piece can ask for.
 use Rattle.std.proofs.Common.{◌≡◌, ℕ, ◌+◌, ◌*◌, ◌≤◌, List, [], ◌∷◌, ◌++◌, length, cond, refl, ap, arith, length-append}
 use Rattle.std.proofs.lemmas.List.Sums.{sum_by-append, sum_by-cons}
-use Rattle.can_proto.specs.declared.messages.Incoming.{Incoming}
+use Rattle.can_proto.specs.declared.message.Incoming.{Incoming}
 use Rattle.can_proto.specs.Messages.{is_open_mark, run_of, given_by, messages_of, left_by, kept_of}
 use Rattle.can_dialog.specs.Sessions.{begun}
 

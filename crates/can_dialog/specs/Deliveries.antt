@@ -1,10 +1,10 @@
 use Rattle.std.specs.Prelude.{ℕ, Bool, true, false, List, []}
 use Rattle.can_event.specs.declared.events.Received.{Received}
-use Rattle.can_proto.specs.declared.answers.Answer.TheVariants as answer
+use Rattle.can_proto.specs.declared.answer.Answer.TheVariants as answer
 use Rattle.can_proto.specs.Spelling.{reply_text, item_text}
-use Rattle.can_dialog.specs.declared.deliveries.Delivery.{Delivery}
-use Rattle.can_dialog.specs.declared.deliveries.Delivery.TheVariants.{Nothing, Item, Refused}
-use Rattle.can_dialog.specs.declared.stages.Stage.{Stage}
+use Rattle.can_dialog.specs.declared.delivery.Delivery.{Delivery}
+use Rattle.can_dialog.specs.declared.delivery.Delivery.TheVariants.{Nothing, Item, Refused}
+use Rattle.can_dialog.specs.declared.stage.Stage.{Stage}
 use Rattle.can_dialog.specs.Calls.{Call, Reply}
 use Rattle.can_dialog.specs.Plans.{Plays}
 use Rattle.can_dialog.specs.Turns.{delivery}

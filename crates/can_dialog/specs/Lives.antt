@@ -1,9 +1,9 @@
 use Rattle.std.specs.Prelude.{◌≡◌, ℕ, Bool, List, [], ◌∷◌, ◌++◌, map}
-use Rattle.can_proto.specs.declared.messages.Incoming.{Incoming}
+use Rattle.can_proto.specs.declared.message.Incoming.{Incoming}
 use Rattle.can_proto.specs.Messages.{messages_of, kept_of}
-use Rattle.can_dialog.specs.declared.stages.Stage.{Stage}
-use Rattle.can_dialog.specs.declared.stages.Stage.TheVariants.{Ended}
-use Rattle.can_dialog.specs.declared.stages.Dialog.{Dialog}
+use Rattle.can_dialog.specs.declared.stage.Stage.{Stage}
+use Rattle.can_dialog.specs.declared.stage.Stage.TheVariants.{Ended}
+use Rattle.can_dialog.specs.declared.stage.Dialog.{Dialog}
 use Rattle.can_dialog.specs.Calls.{Call, Reply}
 use Rattle.can_dialog.specs.Plans.{Plays}
 use Rattle.can_dialog.specs.Turns.{turn, ending, delivery, greeting}

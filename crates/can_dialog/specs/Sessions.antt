@@ -1,13 +1,13 @@
 use Rattle.std.specs.Prelude.{◌≡◌, ◌≢◌, ℕ, Bool, List, [], ◌∷◌, ◌++◌, count_by, Option}
 use Rattle.std.specs.Io.KnownBytes.{Appends}
-use Rattle.can_proto.specs.declared.messages.Incoming.{Incoming}
-use Rattle.can_proto.specs.declared.answers.Answer.{Answer}
+use Rattle.can_proto.specs.declared.message.Incoming.{Incoming}
+use Rattle.can_proto.specs.declared.answer.Answer.{Answer}
 use Rattle.can_proto.specs.Messages.{is_open_mark, messages_of, kept_of}
-use Rattle.can_dialog.specs.declared.stages.Stage.{Stage}
-use Rattle.can_dialog.specs.declared.stages.Stage.TheVariants.{NoBus, Raw, Ended}
-use Rattle.can_dialog.specs.declared.stages.RawSocket.{RawSocket}
+use Rattle.can_dialog.specs.declared.stage.Stage.{Stage}
+use Rattle.can_dialog.specs.declared.stage.Stage.TheVariants.{NoBus, Raw, Ended}
+use Rattle.can_dialog.specs.declared.stage.RawSocket.{RawSocket}
 use Rattle.can_frame.specs.Frames.{CanFrame}
-use Rattle.can_dialog.specs.declared.stages.Dialog.{Dialog}
+use Rattle.can_dialog.specs.declared.stage.Dialog.{Dialog}
 use Rattle.can_dialog.specs.Calls.{Call, Reply}
 use Rattle.can_dialog.specs.Plans.{Plan, Plays}
 use Rattle.can_dialog.specs.Turns.{voiced, turn, at_stage, sending, ending, delivery}

@@ -7,27 +7,27 @@ use Rattle.can_event.specs.declared.events.Received.{Received}
 use Rattle.can_event.specs.declared.events.Refusal.TheVariants as refusal
 use Rattle.can_event.specs.declared.stats.SocketStats.{SocketStats}
 use Rattle.can_event.specs.declared.stats.IfaceStats.{IfaceStats}
-use Rattle.can_proto.specs.declared.messages.Incoming.{Incoming}
-use Rattle.can_proto.specs.declared.messages.Incoming.TheVariants.{Message, TooLong}
-use Rattle.can_proto.specs.declared.commands.Mode.{Mode}
-use Rattle.can_proto.specs.declared.commands.Mode.TheVariants as mode
-use Rattle.can_proto.specs.declared.commands.Command.{Command}
-use Rattle.can_proto.specs.declared.commands.Command.TheVariants as command
-use Rattle.can_proto.specs.declared.faults.ProtoFault.{ProtoFault}
-use Rattle.can_proto.specs.declared.faults.ProtoFault.TheVariants as fault
-use Rattle.can_proto.specs.declared.answers.Answer.{Answer}
-use Rattle.can_proto.specs.declared.answers.Answer.TheVariants as answer
-use Rattle.can_proto.specs.declared.answers.Cause.TheVariants as cause
+use Rattle.can_proto.specs.declared.message.Incoming.{Incoming}
+use Rattle.can_proto.specs.declared.message.Incoming.TheVariants.{Message, TooLong}
+use Rattle.can_proto.specs.declared.command.Mode.{Mode}
+use Rattle.can_proto.specs.declared.command.Mode.TheVariants as mode
+use Rattle.can_proto.specs.declared.command.Command.{Command}
+use Rattle.can_proto.specs.declared.command.Command.TheVariants as command
+use Rattle.can_proto.specs.declared.fault.ProtoFault.{ProtoFault}
+use Rattle.can_proto.specs.declared.fault.ProtoFault.TheVariants as fault
+use Rattle.can_proto.specs.declared.answer.Answer.{Answer}
+use Rattle.can_proto.specs.declared.answer.Answer.TheVariants as answer
+use Rattle.can_proto.specs.declared.answer.Cause.TheVariants as cause
 use Rattle.can_proto.specs.Words.{words_of}
 use Rattle.can_proto.specs.Commands.{reading, takes_memory}
 use Rattle.can_proto.specs.Causes.{cause_of_fault}
 use Rattle.can_proto.specs.Spelling.{reply_text, item_text}
 use Rattle.can_dialog.specs.declared.port.PortRefusal.{PortRefusal}
 use Rattle.can_dialog.specs.declared.port.PortRefusal.TheVariants as port
-use Rattle.can_dialog.specs.declared.stages.Stage.{Stage}
-use Rattle.can_dialog.specs.declared.stages.Stage.TheVariants.{NoBus, Opened, Raw, Ended}
-use Rattle.can_dialog.specs.declared.stages.RawSocket.{RawSocket}
-use Rattle.can_dialog.specs.declared.stages.Dialog.{Dialog}
+use Rattle.can_dialog.specs.declared.stage.Stage.{Stage}
+use Rattle.can_dialog.specs.declared.stage.Stage.TheVariants.{NoBus, Opened, Raw, Ended}
+use Rattle.can_dialog.specs.declared.stage.RawSocket.{RawSocket}
+use Rattle.can_dialog.specs.declared.stage.Dialog.{Dialog}
 use Rattle.can_dialog.specs.Calls.{cause_of_port}
 use Rattle.can_dialog.specs.Calls.Call.{Attach, Open, Close, SetFilters, SetOption, Send, Receive, Restart, CountsOfSocket, CountsOfIface, CountersOfIface}
 use Rattle.can_dialog.specs.Plans.{Plan}

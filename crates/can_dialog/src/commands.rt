@@ -4,7 +4,7 @@ ghost use Rattle.can_dialog.specs.Sessions.{Replies};
 ghost use Rattle.can_dialog.specs.Turns.{told as told_of, sending, looking_up, closing, doing, doing_unopened, doing_opened, doing_raw};
 
 use crate::port::{Port, PortRefusal};
-use crate::stages::{Dialog, RawSocket, Stage};
+use crate::stage::{Dialog, RawSocket, Stage};
 use can_bus::Refusal;
 use can_frame::{Frame, Iface, Moment};
 use can_proto::{Answer, Cause, Command};

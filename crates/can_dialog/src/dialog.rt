@@ -2,7 +2,7 @@ ghost use Rattle.can_dialog.specs.Sessions.{TakesTurn, Finishes};
 
 use crate::commands::carry_out;
 use crate::port::Port;
-use crate::stages::{Dialog, Stage};
+use crate::stage::{Dialog, Stage};
 use can_frame::Moment;
 use can_proto::{Answer, Cause, Command, Incoming};
 use std::alloc::Global;

@@ -1,6 +1,6 @@
 ghost use Rattle.std.specs.Prelude.{◌≡◌, ◌↔◌, ℕ, Bool, List, [], flat_map};
 ghost use Rattle.can_proto.specs.Messages.{messages_of};
-ghost use Rattle.can_dialog.specs.declared.stages.Dialog.{Dialog};
+ghost use Rattle.can_dialog.specs.declared.stage.Dialog.{Dialog};
 ghost use Rattle.can_dialog.specs.Sessions.{TakesTurns, Feeds};
 ghost use Rattle.can_dialog.specs.Lives.{Act, Lives, IsCalled, turns_of, heard_in};
 

@@ -10,17 +10,17 @@
 pub mod bus_port;
 mod byte_count;
 mod commands;
-pub mod deliveries;
+pub mod delivery;
 mod dialog;
 pub mod laws;
 mod output;
 pub mod port;
 pub mod session;
-pub mod stages;
+pub mod stage;
 
 pub use bus_port::BusPort;
 pub use byte_count::count_of;
-pub use deliveries::Delivery;
+pub use delivery::Delivery;
 pub use port::{Port, PortRefusal};
 pub use session::{Session, SessionFault};
-pub use stages::{Dialog, RawSocket, Stage};
+pub use stage::{Dialog, RawSocket, Stage};

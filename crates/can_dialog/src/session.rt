@@ -5,11 +5,11 @@ ghost use Rattle.can_dialog.specs.Sessions.{IsSessionOver, beginning, ended_sess
 ghost use Rattle.can_dialog.specs.Deliveries.{Receives};
 
 use crate::commands::send;
-use crate::deliveries::{Delivery, take_delivery};
+use crate::delivery::{Delivery, take_delivery};
 use crate::dialog::{finish, take_turn};
 use crate::output::{make_room, put, say};
 use crate::port::Port;
-use crate::stages::{Dialog, RawSocket, Stage};
+use crate::stage::{Dialog, RawSocket, Stage};
 use can_bus::Received;
 use can_frame::{Frame, Moment};
 use can_proto::{Answer, Incoming, Reader, reply_text};

@@ -2,19 +2,19 @@ use Rattle.std.specs.Prelude.{ℕ, ◌+◌, ◌==◌, nat_le, Bool, true, false,
 use Rattle.can_frame.specs.Frames.{ErrorMessage}
 use Rattle.can_confine.specs.Confinement.{ErrorCounts, Step, state_of, is_off, severity}
 use Rattle.can_confine.specs.Confinement.Step.{ReceiveError}
-use Rattle.can_fault.specs.declared.verdicts.Verdict.{Verdict}
-use Rattle.can_fault.specs.declared.verdicts.Verdict.TheVariants as verdict
-use Rattle.can_fault.specs.declared.verdicts.GlobalKind.{GlobalKind}
-use Rattle.can_fault.specs.declared.verdicts.GlobalKind.TheVariants as global
-use Rattle.can_fault.specs.declared.verdicts.LocalKind.{LocalKind}
-use Rattle.can_fault.specs.declared.verdicts.LocalKind.TheVariants as local
-use Rattle.can_attempt.specs.declared.classes.Class.{Class}
-use Rattle.can_attempt.specs.declared.classes.Class.TheVariants as class
+use Rattle.can_fault.specs.declared.verdict.Verdict.{Verdict}
+use Rattle.can_fault.specs.declared.verdict.Verdict.TheVariants as verdict
+use Rattle.can_fault.specs.declared.verdict.GlobalKind.{GlobalKind}
+use Rattle.can_fault.specs.declared.verdict.GlobalKind.TheVariants as global
+use Rattle.can_fault.specs.declared.verdict.LocalKind.{LocalKind}
+use Rattle.can_fault.specs.declared.verdict.LocalKind.TheVariants as local
+use Rattle.can_attempt.specs.declared.class.Class.{Class}
+use Rattle.can_attempt.specs.declared.class.Class.TheVariants as class
 use Rattle.can_attempt.specs.Attempts.{Transmission, is_named}
-use Rattle.can_errframe.specs.declared.sides.Side.{Side}
-use Rattle.can_errframe.specs.declared.sides.Side.TheVariants as side
-use Rattle.can_errframe.specs.declared.roles.Role.{Role}
-use Rattle.can_errframe.specs.declared.roles.Role.TheVariants.{Winner, Named, Other}
+use Rattle.can_errframe.specs.declared.side.Side.{Side}
+use Rattle.can_errframe.specs.declared.side.Side.TheVariants as side
+use Rattle.can_errframe.specs.declared.role.Role.{Role}
+use Rattle.can_errframe.specs.declared.role.Role.TheVariants.{Winner, Named, Other}
 use Rattle.can_errframe.specs.ErrorCodes.{err_crtl, err_prot, err_ack, err_busoff, err_buserror, err_restarted, err_cnt, crtl_rx_warning, crtl_tx_warning, crtl_rx_passive, crtl_tx_passive}
 use Rattle.can_errframe.specs.ErrorCodes.{crtl_active, prot_unspec, prot_bit, prot_form, prot_stuff, prot_tx, loc_unspec, loc_crc_seq, loc_data, loc_ack, loc_eof, loc_ack_del}
 

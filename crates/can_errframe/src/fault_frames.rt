@@ -1,9 +1,9 @@
 ghost use Rattle.std.specs.Prelude.{◌≡◌, ◌<◌, ◌^◌};
 ghost use Rattle.can_errframe.specs.ErrorMessages.{fault_message, fault_codes, fault_class, local_codes, global_codes};
-ghost use Rattle.can_errframe.specs.declared.roles.Role.TheVariants.{Winner, Named, Other};
+ghost use Rattle.can_errframe.specs.declared.role.Role.TheVariants.{Winner, Named, Other};
 
 use crate::codes::*;
-use crate::roles::Role;
+use crate::role::Role;
 use crate::state_frames::frame_of;
 use can_attempt::Class;
 use can_fault::{GlobalKind, LocalKind, Verdict};

@@ -1,14 +1,14 @@
 ghost use Rattle.std.specs.Prelude.{◌≡◌, ◌↔◌, ℕ, true, false, IsNone, IfSome, None, is_some, slice_index, not};
-ghost use Rattle.can_frame.specs.declared.ifaces.IfaceSet.{IfaceSet};
+ghost use Rattle.can_frame.specs.declared.iface.IfaceSet.{IfaceSet};
 ghost use Rattle.can_confine.specs.Confinement.{ErrorCounts, state_of, is_off};
-ghost use Rattle.can_fault.specs.declared.verdicts.LocalKind.{LocalKind};
-ghost use Rattle.can_fault.specs.declared.verdicts.Verdict.TheVariants.{Good, Local};
-ghost use Rattle.can_attempt.specs.declared.classes.Class.{Class};
-ghost use Rattle.can_attempt.specs.declared.classes.Class.TheVariants.{Done};
+ghost use Rattle.can_fault.specs.declared.verdict.LocalKind.{LocalKind};
+ghost use Rattle.can_fault.specs.declared.verdict.Verdict.TheVariants.{Good, Local};
+ghost use Rattle.can_attempt.specs.declared.class.Class.{Class};
+ghost use Rattle.can_attempt.specs.declared.class.Class.TheVariants.{Done};
 ghost use Rattle.can_attempt.specs.Attempts.{Transmission, class_of, is_done, is_among, receivers, steps_at};
 ghost use Rattle.can_errframe.specs.ErrorMessages.{state_message, fault_message, is_receive_error, receiver_role};
-ghost use Rattle.can_errframe.specs.declared.roles.Role.{Role};
-ghost use Rattle.can_errframe.specs.declared.roles.Role.TheVariants.{Winner};
+ghost use Rattle.can_errframe.specs.declared.role.Role.{Role};
+ghost use Rattle.can_errframe.specs.declared.role.Role.TheVariants.{Winner};
 
 /// There is no state frame exactly where the state stays.
 pub fn state_frames_tell_changes()

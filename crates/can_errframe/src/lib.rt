@@ -8,10 +8,10 @@
 pub mod codes;
 pub mod fault_frames;
 pub mod laws;
-pub mod roles;
-mod sides;
+pub mod role;
+mod side;
 pub mod state_frames;
 
 pub use fault_frames::fault_frame;
-pub use roles::Role;
+pub use role::Role;
 pub use state_frames::{restart_frame, state_frame};

@@ -2,7 +2,7 @@ ghost use Rattle.std.specs.Prelude.{◌≡◌, ◌<◌, ◌^◌};
 ghost use Rattle.can_errframe.specs.ErrorMessages.{state_message, restart_message};
 
 use crate::codes::{CAN_ERR_BUSOFF, CAN_ERR_CNT, CAN_ERR_CRTL, CAN_ERR_RESTARTED};
-use crate::sides::{Side, controller_code};
+use crate::side::{Side, controller_code};
 use can_confine::{Counters, State};
 use can_frame::ErrorFrame;
 

@@ -1,9 +1,9 @@
 use Rattle.std.specs.Prelude.{ℕ, ◌≤◌, false, []}
 use Rattle.can_frame.specs.Frames.Payload.{Data}
-use Rattle.can_frame.specs.declared.items.Item.TheVariants as item
+use Rattle.can_frame.specs.declared.item.Item.TheVariants as item
 use Rattle.can_frame.specs.Sets.{no_ifaces}
-use Rattle.can_frame.specs.declared.ifaces.IfaceSet.{IfaceSet}
-use Rattle.can_filter.specs.declared.socket_options.Options.{Options}
+use Rattle.can_frame.specs.declared.iface.IfaceSet.{IfaceSet}
+use Rattle.can_filter.specs.declared.options.Options.{Options}
 use Rattle.can_event.specs.declared.events.BusConfig.{BusConfig}
 use Rattle.can_event.specs.declared.events.Opt.{Opt}
 use Rattle.can_event.specs.declared.events.Opt.TheVariants as opt

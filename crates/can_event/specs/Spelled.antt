@@ -1,8 +1,8 @@
 use Rattle.std.specs.Prelude.{Bool, true, false, IsTrue, ◌≡◌, ℕ, List, Option, Some, None, All}
 use Rattle.can_frame.specs.Frames.{is_fd}
 use Rattle.can_frame.specs.Sets.{no_ifaces}
-use Rattle.can_frame.specs.declared.items.Item.{Item}
-use Rattle.can_frame.specs.declared.items.Item.TheVariants as item
+use Rattle.can_frame.specs.declared.item.Item.{Item}
+use Rattle.can_frame.specs.declared.item.Item.TheVariants as item
 use Rattle.can_event.specs.declared.events.BusConfig.{BusConfig}
 use Rattle.can_event.specs.declared.events.Entry.{Entry}
 use Rattle.can_event.specs.declared.events.Event.{Event}

@@ -7,8 +7,8 @@ use Rattle.std.proofs.lemmas.List.{at_drop_more}
 use Rattle.can_fault.specs.Scripts.{Saying, line_spelling, script_spelling, spelled_after, at_line, Reads}
 use Rattle.can_fault.specs.declared.script_lines.LineFault.{LineFault}
 use Rattle.can_fault.specs.declared.script_lines.LineFault.TheVariants.{BadLine, UnknownInterface}
-use Rattle.can_fault.specs.declared.scripts.ScriptError.TheVariants.{RepeatedAttempt}
-use Rattle.can_fault.specs.declared.verdicts.Verdict.{Verdict}
+use Rattle.can_fault.specs.declared.script.ScriptError.TheVariants.{RepeatedAttempt}
+use Rattle.can_fault.specs.declared.verdict.Verdict.{Verdict}
 use Rattle.can_fault.proofs.VerdictMaps.{contains_key-from_tree, from_tree-insert}
 
 -- The lines of a script, one after another.

@@ -9,9 +9,9 @@ use Rattle.can_fault.specs.Sources.{VerdictMap, no_verdicts}
 use Rattle.can_fault.specs.Scripts.{Saying, spelled_after, at_line, Gives, HasFault}
 use Rattle.can_fault.specs.declared.script_lines.LineFault.{LineFault}
 use Rattle.can_fault.specs.declared.script_lines.LineFault.TheVariants as line
-use Rattle.can_fault.specs.declared.scripts.ScriptError.{ScriptError}
-use Rattle.can_fault.specs.declared.scripts.ScriptError.TheVariants as script
-use Rattle.can_fault.specs.declared.verdicts.Verdict.{Verdict}
+use Rattle.can_fault.specs.declared.script.ScriptError.{ScriptError}
+use Rattle.can_fault.specs.declared.script.ScriptError.TheVariants as script
+use Rattle.can_fault.specs.declared.verdict.Verdict.{Verdict}
 
 -- What the lines of a script say of the script.
 

@@ -5,7 +5,7 @@ use Rattle.std.specs.Cmp.{nat_cmp_total, eq_by_cmp_equiv}
 use Rattle.std.specs.BTreeMap.{BTreeMap, is_at}
 use Rattle.std.specs.BTreeMap as tree
 use Rattle.std.specs.FinMap.{get, find, from_entries, insert, contains_key, same_map, nat_cmp-IsAntisymmetric, get-from_entries, get-insert}
-use Rattle.can_fault.specs.declared.verdicts.Verdict.{Verdict}
+use Rattle.can_fault.specs.declared.verdict.Verdict.{Verdict}
 
 -- A map of the program, and the finite map that it stands for.
 

@@ -7,17 +7,17 @@ use Rattle.std.specs.Str.Parse.{digits_value}
 use Rattle.std.specs.FinMap.{contains_key, insert}
 use Rattle.can_frame.specs.Names.{names_in, is_name, place_of}
 use Rattle.can_frame.specs.Sets.{set_where}
-use Rattle.can_frame.specs.declared.ifaces.IfaceSet.{IfaceSet}
+use Rattle.can_frame.specs.declared.iface.IfaceSet.{IfaceSet}
 use Rattle.can_fault.specs.Sources.{VerdictMap, no_verdicts}
 use Rattle.can_fault.specs.declared.script_lines.LineFault.{LineFault}
 use Rattle.can_fault.specs.declared.script_lines.LineFault.TheVariants as line
-use Rattle.can_fault.specs.declared.scripts.ScriptError.{ScriptError}
-use Rattle.can_fault.specs.declared.scripts.ScriptError.TheVariants as script
-use Rattle.can_fault.specs.declared.verdicts.GlobalKind.TheVariants as global
-use Rattle.can_fault.specs.declared.verdicts.LocalKind.{LocalKind}
-use Rattle.can_fault.specs.declared.verdicts.LocalKind.TheVariants as local
-use Rattle.can_fault.specs.declared.verdicts.Verdict.{Verdict}
-use Rattle.can_fault.specs.declared.verdicts.Verdict.TheVariants.{Good, Global, Local, LastBit}
+use Rattle.can_fault.specs.declared.script.ScriptError.{ScriptError}
+use Rattle.can_fault.specs.declared.script.ScriptError.TheVariants as script
+use Rattle.can_fault.specs.declared.verdict.GlobalKind.TheVariants as global
+use Rattle.can_fault.specs.declared.verdict.LocalKind.{LocalKind}
+use Rattle.can_fault.specs.declared.verdict.LocalKind.TheVariants as local
+use Rattle.can_fault.specs.declared.verdict.Verdict.{Verdict}
+use Rattle.can_fault.specs.declared.verdict.Verdict.TheVariants.{Good, Global, Local, LastBit}
 
 -- Fault scripts: the verdicts of attempts as a text of lines (own choice).
 

@@ -2,11 +2,11 @@ use Rattle.std.specs.Prelude.{◌≡◌, ℕ, ◌==◌, unwrap_or, if◌then◌e
 use Rattle.std.specs.Ordering.{nat_cmp}
 use Rattle.std.specs.FinMap.{FinMap, get, empty, code}
 use Rattle.std.specs.Coded.{Coded, code_by, coded×, coded_ℕ}
-use Rattle.can_frame.specs.declared.ifaces.IfaceSet.{IfaceSet}
-use Rattle.can_fault.specs.declared.verdicts.GlobalKind.TheVariants as global
-use Rattle.can_fault.specs.declared.verdicts.LocalKind.TheVariants as local
-use Rattle.can_fault.specs.declared.verdicts.Verdict.{Verdict}
-use Rattle.can_fault.specs.declared.verdicts.Verdict.TheVariants.{Good, Global, Local, LastBit}
+use Rattle.can_frame.specs.declared.iface.IfaceSet.{IfaceSet}
+use Rattle.can_fault.specs.declared.verdict.GlobalKind.TheVariants as global
+use Rattle.can_fault.specs.declared.verdict.LocalKind.TheVariants as local
+use Rattle.can_fault.specs.declared.verdict.Verdict.{Verdict}
+use Rattle.can_fault.specs.declared.verdict.Verdict.TheVariants.{Good, Global, Local, LastBit}
 
 -- Sources of verdicts, as finite maps (own choice).
 

@@ -7,8 +7,8 @@ ghost use Rattle.std.specs.FinMap.{get};
 ghost use Rattle.can_fault.specs.Grammar.{SpellsEntry, LacksInterface};
 ghost use Rattle.can_fault.specs.Sources.{VerdictMap, no_verdicts};
 ghost use Rattle.can_fault.specs.Scripts.{set_named, line_spelling, sayings, script_spelling, Gives, IsFirstFault};
-ghost use Rattle.can_fault.specs.declared.scripts.ScriptError.{ScriptError};
-ghost use Rattle.can_fault.specs.declared.verdicts.Verdict.{Verdict};
+ghost use Rattle.can_fault.specs.declared.script.ScriptError.{ScriptError};
+ghost use Rattle.can_fault.specs.declared.verdict.Verdict.{Verdict};
 
 use crate::script_lines::LineFault;
 

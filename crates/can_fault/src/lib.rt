@@ -6,10 +6,10 @@
 
 pub mod laws;
 mod script_lines;
-pub mod scripts;
-pub mod sources;
-pub mod verdicts;
+pub mod script;
+pub mod fault_source;
+pub mod verdict;
 
-pub use scripts::{Script, ScriptError};
-pub use sources::{FaultSource, Perfect};
-pub use verdicts::{GlobalKind, LocalKind, Verdict};
+pub use script::{Script, ScriptError};
+pub use fault_source::{FaultSource, Perfect};
+pub use verdict::{GlobalKind, LocalKind, Verdict};

@@ -3,7 +3,7 @@ ghost use Rattle.std.specs.List.{list_all};
 ghost use Rattle.can_frame.specs.Names.{names_in, is_name as is_name_of};
 ghost use Rattle.can_fault.specs.Scripts.{word, after, number_spelling, set_spelling, kind_spelling, local_spelling, verdict_spelling, entry_spelling, line_spelling};
 
-use crate::verdicts::{GlobalKind, LocalKind, Verdict};
+use crate::verdict::{GlobalKind, LocalKind, Verdict};
 use can_frame::{IfaceSet, Names, is_name, read_decimal};
 
 /// What is wrong with a line of a script by itself.

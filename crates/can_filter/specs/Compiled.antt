@@ -4,7 +4,7 @@ use Rattle.can_filter.specs.Filters.{CanFilter, receives_all}
 use Rattle.can_filter.specs.Lookups.{is_matched}
 use Rattle.can_filter.specs.Parts.{is_found_in}
 use Rattle.can_filter.specs.declared.compiled.Compiled.{Compiled}
-use Rattle.can_filter.specs.declared.filter_sets.FilterSet.TheInside.{Inside}
+use Rattle.can_filter.specs.declared.filter_set.FilterSet.TheInside.{Inside}
 
 -- Compiled filters, and the sets that have them. Nothing that a caller has to know.
 

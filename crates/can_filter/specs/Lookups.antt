@@ -1,8 +1,8 @@
 use Rattle.std.specs.Prelude.{◌≡◌, ◌==◌, ◌<◌, ⊤, ℕ, Bool, false, ◌||◌, List, slice_index_or, bit_and, IsTrue}
 use Rattle.std.specs.List.{list_any}
 use Rattle.can_filter.specs.Filters.{CanFilter, matches}
-use Rattle.can_filter.specs.declared.lookups.Lookup.{Lookup}
-use Rattle.can_filter.specs.declared.lookups.Lookup.TheVariants.{Standard, Extended, Masked, Inverted}
+use Rattle.can_filter.specs.declared.lookup.Lookup.{Lookup}
+use Rattle.can_filter.specs.declared.lookup.Lookup.TheVariants.{Standard, Extended, Masked, Inverted}
 
 -- Filters parted by how a word is looked up among them. Nothing that a caller has to know: the sets of filters say
 -- what passes in terms of Filters alone.

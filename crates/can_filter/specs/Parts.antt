@@ -1,6 +1,6 @@
 use Rattle.std.specs.Prelude.{ℕ, Bool}
 use Rattle.can_filter.specs.Lookups.{is_found}
-use Rattle.can_filter.specs.declared.lookups.Parts.{Parts}
+use Rattle.can_filter.specs.declared.lookup.Parts.{Parts}
 
 -- What is found in the parts. Nothing that a caller has to know.
 

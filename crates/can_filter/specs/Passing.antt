@@ -1,8 +1,8 @@
 use Rattle.std.specs.Prelude.{ℕ, ◌==◌, Bool, true, false, not, ◌&&◌, ◌||◌, List, bit_and}
 use Rattle.can_frame.specs.Frames.{word_of, is_fd}
-use Rattle.can_frame.specs.declared.items.Item.{Item}
-use Rattle.can_frame.specs.declared.items.Item.TheVariants.{Data, Error}
-use Rattle.can_filter.specs.declared.socket_options.Options.{Options}
+use Rattle.can_frame.specs.declared.item.Item.{Item}
+use Rattle.can_frame.specs.declared.item.Item.TheVariants.{Data, Error}
+use Rattle.can_filter.specs.declared.options.Options.{Options}
 pub use Rattle.can_filter.specs.Filters.{CanFilter, is_inverted, inverse_of, agrees, matches, passes, everything, receives_all}
 
 -- What a socket receives, as the kernel's networking/can document and linux/can/raw.h have it.

@@ -4,10 +4,10 @@ ghost use Rattle.can_filter.specs.Gates.{IsGate, IsGateTo};
 ghost use Rattle.can_filter.specs.Lookups.{is_listed, is_marked, is_matched};
 ghost use Rattle.can_filter.specs.Parts.{is_found_in};
 
-use crate::filters::Filter;
+use crate::filter::Filter;
 use crate::gates::gate_of;
 use crate::joining::some_match;
-use crate::lookups::{EXTENDED, Parts, STANDARD, is_extended};
+use crate::lookup::{EXTENDED, Parts, STANDARD, is_extended};
 use std::alloc::{AllocError, Global};
 
 /// A list of filters compiled for frames that have to match some filter.

@@ -1,6 +1,6 @@
 ghost use Rattle.can_filter.specs.Gates.{IsGate};
 
-use crate::filters::Filter;
+use crate::filter::Filter;
 
 /// A gate of these filters: it compares the bits that all of them compare, with the same value. A word that
 /// differs there is matched by none of them, so that they need not be looked at.

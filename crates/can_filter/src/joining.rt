@@ -2,7 +2,7 @@ ghost use Rattle.std.specs.Prelude.{◌≡◌};
 ghost use Rattle.std.specs.List.{list_any, list_all};
 ghost use Rattle.can_filter.specs.Filters.{matches};
 
-use crate::filters::Filter;
+use crate::filter::Filter;
 
 /// How many filters are compared before the answer is looked at. There is no branch within a block, so that
 /// the compiler can compare its filters side by side.

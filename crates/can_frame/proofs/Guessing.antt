@@ -5,8 +5,8 @@ use Rattle.hex.specs.Hex.{IsBytes, encode_upper, upper_digits}
 use Rattle.hex.proofs.HexLemmas.{decode_sized-twice, decode_of-encode_upper, length-encode_with}
 use Rattle.can_frame.specs.Frames.{IsIdentifier, Payload, is_fd_length}
 use Rattle.can_frame.specs.Frames.Payload.{Data, Remote, Fd}
-use Rattle.can_frame.specs.declared.items.Item.{Item}
-use Rattle.can_frame.specs.declared.items.Item.TheVariants as item
+use Rattle.can_frame.specs.declared.item.Item.{Item}
+use Rattle.can_frame.specs.declared.item.Item.TheVariants as item
 use Rattle.can_frame.specs.FrameText.{digit_of, digits, pairs, id_text, payload_text, frame_spelling, AsksForNothing, IsPayload, IsItem, IsSpelling}
 use Rattle.can_frame.specs.FrameGuess.{bytes_in, stands_at, request_in, data_in, fd_data_in, fd_in, payload_in, frame_in, error_in, standard_in, long_in, short_item_in, long_item_in, item_in}
 use Rattle.can_frame.specs.Numbers.{number_in}

@@ -2,9 +2,9 @@ use Rattle.std.specs.Prelude.{◌≡◌, ℕ, ◌-◌, ◌≤◌, nat_le, Bool, 
 use Rattle.std.proofs.Common.{sym, ap, ◌∙◌, take-append-drop, length-take-le, arith}
 use Rattle.can_frame.specs.Frames.{Identifier, Payload, CanFrame, payload_len, is_fd_length}
 use Rattle.can_frame.specs.Frames.Payload.{Data, Remote, Fd}
-use Rattle.can_frame.specs.declared.frames.Frame.TheInside.{Inside}
-use Rattle.can_frame.specs.declared.frames.Kind.{Kind}
-use Rattle.can_frame.specs.declared.frames.Kind.TheVariants as kind
+use Rattle.can_frame.specs.declared.frame.Frame.TheInside.{Inside}
+use Rattle.can_frame.specs.declared.frame.Kind.{Kind}
+use Rattle.can_frame.specs.declared.frame.Kind.TheVariants as kind
 
 -- How a frame is kept: 64 bytes, of which the first few count.
 

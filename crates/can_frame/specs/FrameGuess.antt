@@ -5,8 +5,8 @@ use Rattle.hex.specs.Hex.{decode_sized}
 use Rattle.can_frame.specs.Numbers.{number_in}
 use Rattle.can_frame.specs.Frames.{Identifier, Payload, is_fd_length}
 use Rattle.can_frame.specs.Frames.Payload.{Data, Remote, Fd}
-use Rattle.can_frame.specs.declared.items.Item.{Item}
-use Rattle.can_frame.specs.declared.items.Item.TheVariants as item
+use Rattle.can_frame.specs.declared.item.Item.{Item}
+use Rattle.can_frame.specs.declared.item.Item.TheVariants as item
 
 -- The item that an upper-case text may spell: what was guessed is written again, and compared (own choice).
 

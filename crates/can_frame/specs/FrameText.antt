@@ -4,8 +4,8 @@ use Rattle.std.specs.Fmt.{decimal}
 use Rattle.hex.specs.Hex.{IsBytes}
 use Rattle.can_frame.specs.Frames.{Identifier, IsIdentifier, Payload, is_fd_length}
 use Rattle.can_frame.specs.Frames.Payload.{Data, Remote, Fd}
-use Rattle.can_frame.specs.declared.items.Item.{Item}
-use Rattle.can_frame.specs.declared.items.Item.TheVariants as item
+use Rattle.can_frame.specs.declared.item.Item.{Item}
+use Rattle.can_frame.specs.declared.item.Item.TheVariants as item
 
 -- Frames as text, in the shape of candump's log files (can-utils).
 

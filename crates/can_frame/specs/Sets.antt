@@ -1,6 +1,6 @@
 use Rattle.std.specs.Prelude.{ℕ, zero, suc, ◌^◌, ◌==◌, Bool, bit_or, if◌then◌else◌}
 use Rattle.std.specs.Int.{bit_at}
-use Rattle.can_frame.specs.declared.ifaces.IfaceSet.{IfaceSet}
+use Rattle.can_frame.specs.declared.iface.IfaceSet.{IfaceSet}
 
 -- interface i is in the set: its bit is 1
 abbrev pub is_in : ℕ → IfaceSet → Bool

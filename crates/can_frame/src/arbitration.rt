@@ -1,7 +1,7 @@
 ghost use Rattle.std.specs.Prelude.{◌≡◌, ◌<◌, ◌^◌};
 ghost use Rattle.can_frame.specs.Arbitration.{key_of};
 
-use crate::frames::Frame;
+use crate::frame::Frame;
 
 impl Frame {
     /// The frame's place in arbitration as one number, the lesser going first: its arbitration bits from

@@ -3,12 +3,12 @@ ghost use Rattle.std.specs.Option.{option_map};
 ghost use Rattle.can_frame.specs.Frames.Payload.{Data, Remote, Fd};
 ghost use Rattle.can_frame.specs.FrameGuess.{stands_at, request_in, data_in, fd_data_in, fd_in, payload_in, frame_in, error_in, standard_in, long_in, short_item_in, long_item_in, item_in};
 ghost use Rattle.can_frame.specs.FrameText.{IsItem, IsSpelling};
-ghost use Rattle.can_frame.specs.declared.items.Item.{Item as AnItem};
+ghost use Rattle.can_frame.specs.declared.item.Item.{Item as AnItem};
 
-use crate::error_frames::ErrorFrame;
-use crate::frames::{Frame, is_fd_length};
-use crate::identifiers::CanId;
-use crate::items::Item;
+use crate::error_frame::ErrorFrame;
+use crate::frame::{Frame, is_fd_length};
+use crate::can_id::CanId;
+use crate::item::Item;
 use crate::numbers::read_hexadecimal;
 use hex::decode_to_slice;
 

@@ -1,11 +1,11 @@
 ghost use Rattle.std.specs.Prelude.{◌≡◌, ◌≤◌, ◌+◌, ◌++◌, ◌↔◌, length, IsTrue, IsErr, IfOk, IfSome, Ok, Err, Some};
 ghost use Rattle.can_frame.specs.FrameText.{payload_text, frame_spelling, AsksForNothing, IsItem, IsSpelling, Spells};
-ghost use Rattle.can_frame.specs.declared.items.Item.{Item as AnItem};
+ghost use Rattle.can_frame.specs.declared.item.Item.{Item as AnItem};
 
 use crate::frame_guess::guess_item;
-use crate::frames::Frame;
-use crate::items::Item;
-use crate::texts::Text;
+use crate::frame::Frame;
+use crate::item::Item;
+use crate::text::Text;
 use thiserror::Error;
 
 /// A text that spells no item.

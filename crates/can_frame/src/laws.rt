@@ -3,7 +3,7 @@ ghost use Rattle.can_frame.specs.Frames.{CanFrame, Identifier, IsIdentifier, is_
 ghost use Rattle.can_frame.specs.Frames.Payload.{Data, Remote, Fd};
 ghost use Rattle.can_frame.specs.Arbitration.{arbitration_bits, GoesBefore, goes_before, Outranks, key_of, Wins, DifferInBits};
 ghost use Rattle.can_frame.specs.FrameText.{frame_spelling, IsItem, Spells};
-ghost use Rattle.can_frame.specs.declared.items.Item.{Item as AnItem};
+ghost use Rattle.can_frame.specs.declared.item.Item.{Item as AnItem};
 
 /// The frame with the lesser key outranks the other, and frames have one key exactly where their
 /// arbitration bits are equal.

@@ -3,7 +3,7 @@ ghost use Rattle.std.specs.List.{Contains, AllPairs, join_with_byte, list_all};
 ghost use Rattle.std.specs.Option.{option_map};
 ghost use Rattle.can_frame.specs.Names.{names_in, is_name_byte, is_name as is_name_of, AreNames, start_of, place_of};
 
-use crate::ifaces::Iface;
+use crate::iface::Iface;
 use std::alloc::Global;
 use std::marker::Model;
 use thiserror::Error;

@@ -1,5 +1,5 @@
 use Rattle.std.proofs.Common.{◌≡◌, ◌+◌, ℕ, suc, List, [], ◌∷◌, ◌++◌, length, Vec, sym, subst, arith}
-use Rattle.can_station.specs.declared.passes.Settled.{Settled}
+use Rattle.can_station.specs.declared.pass.Settled.{Settled}
 use Rattle.can_station.specs.Passes.{PassSeen, AllOf, Settles}
 use Rattle.can_hub.specs.Settling.{AllOwn, AllSettle}
 

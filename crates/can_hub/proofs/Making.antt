@@ -5,7 +5,7 @@ use Rattle.atomic_table.specs.Seated.{TableId}
 use Rattle.can_frame.specs.Names.{AreNames}
 use Rattle.can_hub.specs.Buses.{BusSeen, NumberedFrom, names_of}
 use Rattle.can_hub.specs.Benches.{IsProper, NamedFrom, bench_names, bus_of, buses_from}
-use Rattle.can_hub.specs.declared.benches.Bench.{Bench}
+use Rattle.can_hub.specs.declared.bench.Bench.{Bench}
 
 -- a list is its first element and what follows it
 parted : {X : Type 0} (xs : List X) (x : X) → 1 ≤ length xs → x ≡ get_or xs 0 x → xs ≡ x ∷ take (length xs - 1) (drop 1 xs)

@@ -1,7 +1,7 @@
 use Rattle.std.proofs.Common.{◌≡◌, ◌+◌, ℕ, zero, suc, List, [], ◌∷◌, ap, sym, ◌∙◌, arith}
 use Rattle.atomic_table.specs.Seated.{TableId}
 use Rattle.can_hub.specs.Benches.{NamedFrom}
-use Rattle.can_hub.specs.declared.benches.Bench.{Bench}
+use Rattle.can_hub.specs.declared.bench.Bench.{Bench}
 
 -- A hub named after its own benches.
 

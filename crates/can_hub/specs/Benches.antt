@@ -3,7 +3,7 @@ use Rattle.atomic_table.specs.Seated.{TableId}
 use Rattle.can_frame.specs.Names.{AreNames}
 use Rattle.can_event.specs.Events.{IsConfig, max_rx_capacity}
 use Rattle.can_hub.specs.Buses.{BusSeen, AllApart}
-use Rattle.can_hub.specs.declared.benches.Bench.{Bench}
+use Rattle.can_hub.specs.declared.bench.Bench.{Bench}
 
 -- What the buses of a hub are made of.
 

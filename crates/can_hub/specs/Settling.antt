@@ -1,5 +1,5 @@
 use Rattle.std.specs.Prelude.{◌≡◌, ℕ, suc, List, [], ◌∷◌, ◌++◌, length, Vec}
-use Rattle.can_station.specs.declared.passes.Settled.{Settled}
+use Rattle.can_station.specs.declared.pass.Settled.{Settled}
 use Rattle.can_station.specs.Passes.{PassSeen, AllOf, SomeOther, Settles}
 
 -- The end of a hub: each bus is settled with its list of passes.

@@ -6,12 +6,12 @@
 //! back and hands out the record of each bus.
 #![tactic(auto)]
 
-pub mod benches;
-pub mod held;
-pub mod hubs;
-pub mod ports;
+pub mod bench;
+pub mod held_port;
+pub mod hub;
+pub mod pass_port;
 
-pub use benches::Bench;
-pub use held::HeldPort;
-pub use hubs::{Hub, SettleFault};
-pub use ports::PassPort;
+pub use bench::Bench;
+pub use held_port::HeldPort;
+pub use hub::{Hub, SettleFault};
+pub use pass_port::PassPort;

@@ -1,7 +1,7 @@
 use Rattle.std.specs.Prelude.{◌+◌, ◌-◌, min, map, length, vec_len, vec_capacity}
 use Rattle.can_packed.specs.Kept.{entry_in, AreWithin}
 use Rattle.can_packed.specs.Records.{PackedEntries}
-use Rattle.can_packed.specs.declared.records.PackedRecord.TheInside.{Inside}
+use Rattle.can_packed.specs.declared.packed_record.PackedRecord.TheInside.{Inside}
 
 -- A list of kept entries, beside the list of their FD frames.
 

@@ -1,12 +1,12 @@
 use Rattle.std.specs.Prelude.{ℕ, ◌==◌, if◌then◌else◌}
 use Rattle.can_frame.specs.Sets.{no_ifaces}
-use Rattle.can_frame.specs.declared.ifaces.IfaceSet.{IfaceSet}
-use Rattle.can_attempt.specs.declared.classes.Class.{Class}
-use Rattle.can_attempt.specs.declared.classes.Class.TheVariants as class
-use Rattle.can_fault.specs.declared.verdicts.GlobalKind.TheVariants as global
-use Rattle.can_fault.specs.declared.verdicts.LocalKind.TheVariants as local
-use Rattle.can_fault.specs.declared.verdicts.Verdict.{Verdict}
-use Rattle.can_fault.specs.declared.verdicts.Verdict.TheVariants.{Good, Global, Local, LastBit}
+use Rattle.can_frame.specs.declared.iface.IfaceSet.{IfaceSet}
+use Rattle.can_attempt.specs.declared.class.Class.{Class}
+use Rattle.can_attempt.specs.declared.class.Class.TheVariants as class
+use Rattle.can_fault.specs.declared.verdict.GlobalKind.TheVariants as global
+use Rattle.can_fault.specs.declared.verdict.LocalKind.TheVariants as local
+use Rattle.can_fault.specs.declared.verdict.Verdict.{Verdict}
+use Rattle.can_fault.specs.declared.verdict.Verdict.TheVariants.{Good, Global, Local, LastBit}
 
 -- Classes and verdicts as numbers.
 

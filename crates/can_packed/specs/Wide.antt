@@ -1,5 +1,5 @@
 use Rattle.std.specs.Prelude.{ℕ, ◌^◌, ◌==◌, nat_le, Bool, true, false, not, ◌||◌, Some, None}
-use Rattle.can_frame.specs.declared.ifaces.IfaceSet.{IfaceSet}
+use Rattle.can_frame.specs.declared.iface.IfaceSet.{IfaceSet}
 use Rattle.can_event.specs.declared.events.Event.{Event}
 use Rattle.can_event.specs.declared.events.Event.TheVariants.{Open, Close, SetOption, Send, Receive, Attempt, Restart}
 use Rattle.can_event.specs.declared.events.Reply.{Reply}

@@ -4,11 +4,11 @@ use Rattle.std.proofs.lemmas.Bool.{cases_Bool}
 use Rattle.can_frame.specs.Frames.{CanFrame, Identifier}
 use Rattle.can_frame.specs.Frames.Payload.{Data}
 use Rattle.can_frame.specs.Numbers.{digit_in, number_in}
-use Rattle.can_proto.specs.declared.faults.ProtoFault.{ProtoFault}
-use Rattle.can_proto.specs.declared.faults.ProtoFault.TheVariants.{BadByte, BadCount}
-use Rattle.can_proto.specs.declared.commands.Command.{Command}
-use Rattle.can_proto.specs.declared.commands.Command.TheVariants.{Send}
-use Rattle.can_proto.specs.declared.commands.Mode.TheVariants.{Raw}
+use Rattle.can_proto.specs.declared.fault.ProtoFault.{ProtoFault}
+use Rattle.can_proto.specs.declared.fault.ProtoFault.TheVariants.{BadByte, BadCount}
+use Rattle.can_proto.specs.declared.command.Command.{Command}
+use Rattle.can_proto.specs.declared.command.Command.TheVariants.{Send}
+use Rattle.can_proto.specs.declared.command.Mode.TheVariants.{Raw}
 use Rattle.can_proto.specs.Messages.{messages_of, kept_of, has_mark, is_mark}
 use Rattle.can_proto.specs.Words.{is_blank, front, words_after, words_of}
 use Rattle.can_proto.specs.Commands.{◌>>=◌, or_fault, id_of, length_of, bytes_of, send_of, arguments_of, reading, IsLoneSend}

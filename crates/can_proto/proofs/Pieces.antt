@@ -2,8 +2,8 @@
 use Rattle.std.proofs.Common.{◌≡◌, ℕ, ◌<◌, ◌≤◌, true, false, ◌||◌, ltb, List, [], ◌∷◌, ◌++◌, length, flat_map, refl, sym, ap, subst, ◌∙◌, append_assoc, arith, inl, inr}
 use Rattle.std.proofs.lemmas.Bool.{cases_Bool, cases_lt, eq-eqb, eqb-true, ne_eqb, lt-ltb, le-ltb, cond-true, cond-false}
 use Rattle.std.proofs.lemmas.List.{append-nil, length-append}
-use Rattle.can_proto.specs.declared.messages.Incoming.{Incoming}
-use Rattle.can_proto.specs.declared.messages.Incoming.TheVariants.{Message, TooLong}
+use Rattle.can_proto.specs.declared.message.Incoming.{Incoming}
+use Rattle.can_proto.specs.declared.message.Incoming.TheVariants.{Message, TooLong}
 use Rattle.can_proto.specs.Messages.{is_open_mark, is_close_mark, run_of, is_closed, limit, given_by, messages_of, has_open_mark, left_by, kept_of, given_from, has_mark, IsKept}
 
 -- up to the first mark, what follows has no say

@@ -10,13 +10,13 @@ use Rattle.can_frame.specs.FrameText.{digits, id_text, IsPayload}
 use Rattle.can_filter.specs.Filters.{CanFilter}
 use Rattle.can_event.specs.declared.events.Opt.{Opt}
 use Rattle.can_event.specs.declared.events.Opt.TheVariants as opt
-use Rattle.can_proto.specs.declared.commands.Mode.{Mode}
-use Rattle.can_proto.specs.declared.commands.Command.{Command}
-use Rattle.can_proto.specs.declared.commands.Command.TheVariants.{Echo, Open, Rawmode, Send, SetFilters, SetOption, ErrData, Stats, Status, Restart, Close}
-use Rattle.can_proto.specs.declared.faults.ProtoFault.{ProtoFault}
-use Rattle.can_proto.specs.declared.faults.ProtoFault.TheVariants.{BadByte}
-use Rattle.can_proto.specs.declared.verbs.Verb.{Verb}
-use Rattle.can_proto.specs.declared.verbs.Verb.TheVariants as verb
+use Rattle.can_proto.specs.declared.command.Mode.{Mode}
+use Rattle.can_proto.specs.declared.command.Command.{Command}
+use Rattle.can_proto.specs.declared.command.Command.TheVariants.{Echo, Open, Rawmode, Send, SetFilters, SetOption, ErrData, Stats, Status, Restart, Close}
+use Rattle.can_proto.specs.declared.fault.ProtoFault.{ProtoFault}
+use Rattle.can_proto.specs.declared.fault.ProtoFault.TheVariants.{BadByte}
+use Rattle.can_proto.specs.declared.verb.Verb.{Verb}
+use Rattle.can_proto.specs.declared.verb.Verb.TheVariants as verb
 use Rattle.can_proto.specs.Words.{is_blank, front, words_after, words_of}
 use Rattle.can_proto.specs.Verbs.{stands_in, mode_has}
 use Rattle.can_frame.specs.Numbers.{hex_digit, in_base, one_more, number_after, number_in}

@@ -1,8 +1,8 @@
 -- More bytes, seen from where the run began.
 use Rattle.std.proofs.Common.{◌≡◌, ℕ, ◌+◌, ◌-◌, ◌<◌, ◌≤◌, false, ◌||◌, List, [], ◌∷◌, ◌++◌, length, take, drop, get_or, sym, ap, subst, ◌∙◌, append_assoc, arith}
 use Rattle.std.proofs.lemmas.List.{append-nil, length-append, length-take, length-drop, take_more, drop-append-le, drop_all, drop-take, take-take, take-append-drop, take_all}
-use Rattle.can_proto.specs.declared.messages.Incoming.{Incoming}
-use Rattle.can_proto.specs.declared.messages.Incoming.TheVariants.{Message, TooLong}
+use Rattle.can_proto.specs.declared.message.Incoming.{Incoming}
+use Rattle.can_proto.specs.declared.message.Incoming.TheVariants.{Message, TooLong}
 use Rattle.can_proto.specs.declared.scanning.Place.{Place}
 use Rattle.can_proto.specs.declared.scanning.Place.TheVariants.{Outside, Carried, At}
 use Rattle.can_proto.specs.Messages.{messages_of, kept_of, has_mark, is_mark, limit, IsKept}

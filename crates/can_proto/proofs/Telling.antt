@@ -1,7 +1,7 @@
 -- The words of a cause determine it.
 use Rattle.std.proofs.Common.{◌≡◌, ℕ, List, if◌then◌else◌, codes, refl, sym, ap, ◌∙◌}
-use Rattle.can_proto.specs.declared.answers.Cause.{Cause}
-use Rattle.can_proto.specs.declared.answers.Cause.TheVariants as cause
+use Rattle.can_proto.specs.declared.answer.Cause.{Cause}
+use Rattle.can_proto.specs.declared.answer.Cause.TheVariants as cause
 use Rattle.can_proto.specs.Causes.{cause_text}
 use Rattle.can_proto.specs.Verbs.{is_word}
 

@@ -6,17 +6,17 @@ use Rattle.std.proofs.lemmas.List.{append_cancel_right}
 use Rattle.can_frame.specs.Frames.{Identifier, Payload}
 use Rattle.can_frame.specs.Frames.Payload.{Data, Remote, Fd}
 use Rattle.can_frame.specs.FrameText.{digits, pairs, id_text}
-use Rattle.can_frame.specs.declared.items.Item.{Item}
-use Rattle.can_frame.specs.declared.items.Item.TheVariants as item
+use Rattle.can_frame.specs.declared.item.Item.{Item}
+use Rattle.can_frame.specs.declared.item.Item.TheVariants as item
 use Rattle.can_confine.specs.Confinement.{ErrorCounts, state_of}
-use Rattle.can_confine.specs.declared.states.State.{State}
-use Rattle.can_confine.specs.declared.states.State.TheVariants.{Active, Warning, Passive, Off}
+use Rattle.can_confine.specs.declared.state.State.{State}
+use Rattle.can_confine.specs.declared.state.State.TheVariants.{Active, Warning, Passive, Off}
 use Rattle.can_event.specs.declared.stats.SocketStats.{SocketStats}
 use Rattle.can_event.specs.declared.stats.IfaceStats.{IfaceStats}
-use Rattle.can_proto.specs.declared.answers.Answer.{Answer}
-use Rattle.can_proto.specs.declared.answers.Answer.TheVariants.{Greeting, Done, Echo, Stats, Status, Closing, Refused}
-use Rattle.can_proto.specs.declared.answers.Cause.{Cause}
-use Rattle.can_proto.specs.declared.answers.Cause.TheVariants as cause
+use Rattle.can_proto.specs.declared.answer.Answer.{Answer}
+use Rattle.can_proto.specs.declared.answer.Answer.TheVariants.{Greeting, Done, Echo, Stats, Status, Closing, Refused}
+use Rattle.can_proto.specs.declared.answer.Cause.{Cause}
+use Rattle.can_proto.specs.declared.answer.Cause.TheVariants as cause
 use Rattle.can_proto.specs.Causes.{cause_text}
 use Rattle.can_frame.specs.Moments.{moment_text}
 use Rattle.can_proto.specs.Spelling.{class_text, item_text, stats_text, state_word, status_text, reply_text, told_counts, IsAnswer, AreAlike}

@@ -3,8 +3,8 @@ use Rattle.std.specs.Fmt.{decimal}
 use Rattle.std.proofs.lemmas.Fmt.{decimal_injective}
 use Rattle.can_frame.specs.Frames.{Identifier, IsIdentifier, Payload, CanFrame, ErrorMessage}
 use Rattle.can_frame.specs.Frames.Payload.{Data, Remote, Fd}
-use Rattle.can_frame.specs.declared.items.Item.{Item}
-use Rattle.can_frame.specs.declared.items.Item.TheVariants as item
+use Rattle.can_frame.specs.declared.item.Item.{Item}
+use Rattle.can_frame.specs.declared.item.Item.TheVariants as item
 use Rattle.can_frame.specs.FrameText.{digits, pairs, id_text, IsPayload, IsItem}
 use Rattle.can_frame.specs.Moments.{moment_text}
 use Rattle.can_proto.specs.Spelling.{class_width, class_text, item_text, without_data}

@@ -1,10 +1,10 @@
 use Rattle.std.specs.Prelude.{ℕ, List, codes}
 use Rattle.can_event.specs.declared.events.Refusal.{Refusal}
 use Rattle.can_event.specs.declared.events.Refusal.TheVariants as refusal
-use Rattle.can_proto.specs.declared.faults.ProtoFault.{ProtoFault}
-use Rattle.can_proto.specs.declared.faults.ProtoFault.TheVariants as fault
-use Rattle.can_proto.specs.declared.answers.Cause.{Cause}
-use Rattle.can_proto.specs.declared.answers.Cause.TheVariants as cause
+use Rattle.can_proto.specs.declared.fault.ProtoFault.{ProtoFault}
+use Rattle.can_proto.specs.declared.fault.ProtoFault.TheVariants as fault
+use Rattle.can_proto.specs.declared.answer.Cause.{Cause}
+use Rattle.can_proto.specs.declared.answer.Cause.TheVariants as cause
 
 -- Why a client's message was not carried out, and how that is reported (own choice).
 

@@ -3,15 +3,15 @@ use Rattle.can_frame.specs.Frames.{Identifier, CanFrame, is_fd_length}
 use Rattle.can_frame.specs.Frames.Payload.{Data, Remote, Fd}
 use Rattle.can_filter.specs.Filters.{CanFilter}
 use Rattle.can_event.specs.declared.events.Opt.TheVariants as opt
-use Rattle.can_proto.specs.declared.messages.Incoming.TheVariants.{Message}
-use Rattle.can_proto.specs.declared.commands.Mode.{Mode}
-use Rattle.can_proto.specs.declared.commands.Mode.TheVariants.{Raw}
-use Rattle.can_proto.specs.declared.commands.Command.{Command}
-use Rattle.can_proto.specs.declared.commands.Command.TheVariants.{Echo, Open, Rawmode, Send, SetFilters, SetOption, ErrData, Stats, Status, Restart, Close}
-use Rattle.can_proto.specs.declared.faults.ProtoFault.{ProtoFault}
-use Rattle.can_proto.specs.declared.faults.ProtoFault.TheVariants.{NoMemory, InvalidFilter, TooManyFilters, EmptyMessage, UnknownCommand, WrongState, ModeNotSupported, BadCount, BadId, BadLength, BadByte, BadNumber}
-use Rattle.can_proto.specs.declared.verbs.Verb.{Verb}
-use Rattle.can_proto.specs.declared.verbs.Verb.TheVariants as verb
+use Rattle.can_proto.specs.declared.message.Incoming.TheVariants.{Message}
+use Rattle.can_proto.specs.declared.command.Mode.{Mode}
+use Rattle.can_proto.specs.declared.command.Mode.TheVariants.{Raw}
+use Rattle.can_proto.specs.declared.command.Command.{Command}
+use Rattle.can_proto.specs.declared.command.Command.TheVariants.{Echo, Open, Rawmode, Send, SetFilters, SetOption, ErrData, Stats, Status, Restart, Close}
+use Rattle.can_proto.specs.declared.fault.ProtoFault.{ProtoFault}
+use Rattle.can_proto.specs.declared.fault.ProtoFault.TheVariants.{NoMemory, InvalidFilter, TooManyFilters, EmptyMessage, UnknownCommand, WrongState, ModeNotSupported, BadCount, BadId, BadLength, BadByte, BadNumber}
+use Rattle.can_proto.specs.declared.verb.Verb.{Verb}
+use Rattle.can_proto.specs.declared.verb.Verb.TheVariants as verb
 use Rattle.can_frame.specs.Numbers.{number_in}
 use Rattle.can_proto.specs.Messages.{messages_of, kept_of}
 use Rattle.can_proto.specs.Words.{words_of}

@@ -1,6 +1,6 @@
 use Rattle.std.specs.Prelude.{◌≡◌, ℕ, Bool, true, false, not, ◌&&◌, ◌||◌, ◌==◌, nat_lt, if◌then◌else◌, List, [], ◌∷◌, ◌++◌, ◌≤◌, length}
-use Rattle.can_proto.specs.declared.messages.Incoming.{Incoming}
-use Rattle.can_proto.specs.declared.messages.Incoming.TheVariants.{Message, TooLong}
+use Rattle.can_proto.specs.declared.message.Incoming.{Incoming}
+use Rattle.can_proto.specs.declared.message.Incoming.TheVariants.{Message, TooLong}
 
 -- The messages of a stream of bytes, each `<` taken by itself (the marks are those of socketcand's
 -- protocol; the limit and what breaks a message off are own choice).

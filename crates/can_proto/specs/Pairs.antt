@@ -1,9 +1,9 @@
 use Rattle.std.specs.Prelude.{◌≡◌, ℕ, ◌==◌, if◌then◌else◌, List, ◌∷◌, length, Some, Ok}
 use Rattle.can_frame.specs.Frames.{Identifier, CanFrame}
 use Rattle.can_frame.specs.Numbers.{number_in}
-use Rattle.can_proto.specs.declared.commands.Command.TheVariants.{Send}
-use Rattle.can_proto.specs.declared.faults.ProtoFault.{ProtoFault}
-use Rattle.can_proto.specs.declared.faults.ProtoFault.TheVariants.{BadByte, BadCount}
+use Rattle.can_proto.specs.declared.command.Command.TheVariants.{Send}
+use Rattle.can_proto.specs.declared.fault.ProtoFault.{ProtoFault}
+use Rattle.can_proto.specs.declared.fault.ProtoFault.TheVariants.{BadByte, BadCount}
 use Rattle.can_proto.specs.Words.{BeginsWith}
 use Rattle.can_proto.specs.Commands.{id_of, send_of}
 

@@ -1,5 +1,5 @@
 use Rattle.std.specs.Prelude.{ℕ, Bool, if◌then◌else◌, List, [], ◌∷◌, ◌++◌, ◌≡◌, ◌≤◌, length, take, drop}
-use Rattle.can_proto.specs.declared.messages.Incoming.{Incoming}
+use Rattle.can_proto.specs.declared.message.Incoming.{Incoming}
 use Rattle.can_proto.specs.declared.scanning.Place.{Place}
 use Rattle.can_proto.specs.declared.scanning.Place.TheVariants.{Outside, Carried, At}
 use Rattle.can_proto.specs.Messages.{messages_of, kept_of}

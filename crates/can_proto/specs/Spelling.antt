@@ -4,15 +4,15 @@ use Rattle.std.specs.List.{All}
 use Rattle.can_frame.specs.Frames.{CanFrame, ErrorMessage, is_remote, is_fd, payload_len, payload_bytes}
 use Rattle.can_frame.specs.FrameText.{digits, pairs, id_text}
 use Rattle.can_frame.specs.Moments.{moment_text}
-use Rattle.can_frame.specs.declared.items.Item.{Item}
-use Rattle.can_frame.specs.declared.items.Item.TheVariants as item
+use Rattle.can_frame.specs.declared.item.Item.{Item}
+use Rattle.can_frame.specs.declared.item.Item.TheVariants as item
 use Rattle.can_confine.specs.Confinement.{ErrorCounts, state_of}
-use Rattle.can_confine.specs.declared.states.State.{State}
-use Rattle.can_confine.specs.declared.states.State.TheVariants.{Active, Warning, Passive, Off}
+use Rattle.can_confine.specs.declared.state.State.{State}
+use Rattle.can_confine.specs.declared.state.State.TheVariants.{Active, Warning, Passive, Off}
 use Rattle.can_event.specs.declared.stats.SocketStats.{SocketStats}
 use Rattle.can_event.specs.declared.stats.IfaceStats.{IfaceStats}
-use Rattle.can_proto.specs.declared.answers.Answer.{Answer}
-use Rattle.can_proto.specs.declared.answers.Answer.TheVariants.{Greeting, Done, Echo, Stats, Status, Closing, Refused}
+use Rattle.can_proto.specs.declared.answer.Answer.{Answer}
+use Rattle.can_proto.specs.declared.answer.Answer.TheVariants.{Greeting, Done, Echo, Stats, Status, Closing, Refused}
 use Rattle.can_proto.specs.Causes.{cause_text}
 
 -- How replies and received items are written to a client (socketcand's raw mode; the exact texts are own choice).

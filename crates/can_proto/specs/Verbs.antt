@@ -1,8 +1,8 @@
 use Rattle.std.specs.Prelude.{ℕ, Bool, true, false, ◌&&◌, ◌||◌, ◌==◌, if◌then◌else◌, List, [], ◌∷◌, Option, Some, None, codes}
-use Rattle.can_proto.specs.declared.commands.Mode.{Mode}
-use Rattle.can_proto.specs.declared.commands.Mode.TheVariants.{NoBus, Opened, Raw}
-use Rattle.can_proto.specs.declared.verbs.Verb.{Verb}
-use Rattle.can_proto.specs.declared.verbs.Verb.TheVariants.{Echo, Open, Rawmode, OtherMode, Send, SendRtr, SendFd, Filter, Join, Loopback, RecvOwn, FdFrames, ErrMask, ErrData, Stats, Status, Restart, Close}
+use Rattle.can_proto.specs.declared.command.Mode.{Mode}
+use Rattle.can_proto.specs.declared.command.Mode.TheVariants.{NoBus, Opened, Raw}
+use Rattle.can_proto.specs.declared.verb.Verb.{Verb}
+use Rattle.can_proto.specs.declared.verb.Verb.TheVariants.{Echo, Open, Rawmode, OtherMode, Send, SendRtr, SendFd, Filter, Join, Loopback, RecvOwn, FdFrames, ErrMask, ErrData, Stats, Status, Restart, Close}
 
 -- The commands' first words and the modes that have them (socketcand's raw mode; sendfd, and filter and what follows it, is own choice).
 

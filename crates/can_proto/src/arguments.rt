@@ -3,11 +3,11 @@ ghost use Rattle.std.specs.Result.{result_map_both};
 ghost use Rattle.can_proto.specs.Words.{words_of};
 ghost use Rattle.can_proto.specs.Commands.{Gives, GivesBut, takes_memory, only, mask_of, flag_of, switch_of, open_of, alone, arguments_of};
 
-use crate::commands::{Command, WantedName};
-use crate::faults::ProtoFault;
+use crate::command::{Command, WantedName};
+use crate::fault::ProtoFault;
 use crate::filtering::read_set;
 use crate::sending::{read_remote, read_send, read_send_fd};
-use crate::verbs::Verb;
+use crate::verb::Verb;
 use crate::words::next_word;
 use can_event::Opt;
 use can_frame::read_hexadecimal;

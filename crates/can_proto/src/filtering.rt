@@ -3,10 +3,10 @@ ghost use Rattle.std.specs.Result.{result_map_both};
 ghost use Rattle.can_proto.specs.Words.{words_of};
 ghost use Rattle.can_proto.specs.Commands.{Gives, GivesBut, takes_memory, filter_of, filters_of, set_of, IsFilterFault};
 
-use crate::commands::Command;
-use crate::faults::ProtoFault;
+use crate::command::Command;
+use crate::fault::ProtoFault;
 use crate::words::{has_words, next_word};
-use can_filter::filter_sets::MAX_FILTERS;
+use can_filter::filter_set::MAX_FILTERS;
 use can_filter::{Filter, FilterSet};
 use can_frame::{read_decimal, read_hexadecimal};
 use std::alloc::Global;

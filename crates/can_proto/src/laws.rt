@@ -1,19 +1,19 @@
 ghost use Rattle.std.specs.Prelude.{◌≡◌, ◌≤◌, ◌<◌, ◌^◌, ◌++◌, ◌∷◌, [], List, ℕ, Bool, Ok, IsTrue, true, false, length, flat_map, codes};
 ghost use Rattle.can_frame.specs.FrameText.{IsItem};
-ghost use Rattle.can_frame.specs.declared.items.Item.{Item as AnItem};
+ghost use Rattle.can_frame.specs.declared.item.Item.{Item as AnItem};
 ghost use Rattle.can_proto.specs.Messages.{messages_of, given_from, has_mark};
 ghost use Rattle.can_proto.specs.Causes.{cause_text};
 ghost use Rattle.can_proto.specs.Words.{words_of};
 ghost use Rattle.can_proto.specs.Verbs.{mode_has};
 ghost use Rattle.can_proto.specs.Commands.{reading};
 ghost use Rattle.can_proto.specs.CommandSpelling.{command_spelling, command_words, IsCommand};
-ghost use Rattle.can_proto.specs.declared.commands.Mode.{Mode as AMode};
-ghost use Rattle.can_proto.specs.declared.commands.Command.{Command as ACommand};
+ghost use Rattle.can_proto.specs.declared.command.Mode.{Mode as AMode};
+ghost use Rattle.can_proto.specs.declared.command.Command.{Command as ACommand};
 ghost use Rattle.can_proto.specs.Spelling.{item_text, reply_text, without_data, IsAnswer, AreAlike};
-ghost use Rattle.can_proto.specs.declared.answers.Answer.{Answer as AnAnswer};
+ghost use Rattle.can_proto.specs.declared.answer.Answer.{Answer as AnAnswer};
 
-use crate::answers::Cause;
-use crate::messages::Incoming;
+use crate::answer::Cause;
+use crate::message::Incoming;
 
 /// However a stream is cut into pieces, the calls of a reader together give what the whole stream gives.
 pub fn every_cut_gives_the_same_messages()

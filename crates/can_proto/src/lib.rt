@@ -9,28 +9,28 @@
 //! a command is read back as that command, and different items and replies have different texts.
 #![tactic(auto)]
 
-pub mod answers;
+pub mod answer;
 mod arguments;
-pub mod commands;
-pub mod faults;
+pub mod command;
+pub mod fault;
 mod filtering;
 pub mod laws;
-pub mod messages;
+pub mod message;
 mod pairs;
 mod scanning;
 mod sending;
 pub mod spelling;
 mod stored;
-pub mod stream;
+pub mod reader;
 pub mod texts;
 mod usual_sends;
-mod verbs;
+mod verb;
 mod words;
 
-pub use answers::{Answer, Cause};
-pub use commands::{Command, Mode, WantedName};
-pub use faults::ProtoFault;
-pub use messages::{Incoming, Message};
+pub use answer::{Answer, Cause};
+pub use command::{Command, Mode, WantedName};
+pub use fault::ProtoFault;
+pub use message::{Incoming, Message};
 pub use spelling::{item_text, push_item, refusal_text, reply_text};
-pub use stream::Reader;
+pub use reader::Reader;
 pub use texts::{ItemText, Text};

@@ -4,7 +4,7 @@ ghost use Rattle.can_proto.specs.Words.{IsSolid, words_of};
 ghost use Rattle.can_frame.specs.Numbers.{hex_digit, number_in};
 ghost use Rattle.can_proto.specs.Commands.{bytes_of, id_of};
 
-use crate::faults::ProtoFault;
+use crate::fault::ProtoFault;
 use can_frame::CanId;
 
 /// The entry of the table for a byte that is no digit.

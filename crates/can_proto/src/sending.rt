@@ -3,11 +3,11 @@ ghost use Rattle.can_frame.specs.Frames.{is_fd_length};
 ghost use Rattle.can_frame.specs.Numbers.{number_in};
 ghost use Rattle.can_proto.specs.Words.{words_of};
 ghost use Rattle.can_proto.specs.Pairs.{IsFirstByte, IsFirstId, AsksFor, fault_of_byte};
-ghost use Rattle.can_proto.specs.declared.commands.Command.TheVariants.{Send};
+ghost use Rattle.can_proto.specs.declared.command.Command.TheVariants.{Send};
 ghost use Rattle.can_proto.specs.Commands.{Gives, id_of, length_of, fd_length_of, bytes_of, IsDataFault, asked, send_of, send_fd_of, remote_of};
 
-use crate::commands::Command;
-use crate::faults::ProtoFault;
+use crate::command::Command;
+use crate::fault::ProtoFault;
 use crate::pairs::{byte_of, paired_bytes, short_id};
 use crate::words::{has_words, next_word};
 use can_frame::{CanId, Frame, is_fd_length, read_decimal, read_hexadecimal};

@@ -2,9 +2,9 @@ ghost use Rattle.std.specs.Prelude.{◌≡◌, ◌≤◌, ◌<◌, ◌+◌, ◌^
 ghost use Rattle.std.specs.Fmt.{decimal};
 ghost use Rattle.can_frame.specs.Frames.{is_remote};
 ghost use Rattle.can_proto.specs.Spelling.{class_width, class_text, body_text, data_text, fd_text, remote_text, error_text, item_text, stats_text, state_word, status_text, reply_text};
-ghost use Rattle.can_proto.specs.declared.answers.Answer.TheVariants.{Refused};
+ghost use Rattle.can_proto.specs.declared.answer.Answer.TheVariants.{Refused};
 
-use crate::answers::{Answer, Cause};
+use crate::answer::{Answer, Cause};
 use crate::texts::{ItemText, Text, push_next};
 use can_confine::{Counters, State};
 use can_event::{IfaceStats, SocketStats};

@@ -3,7 +3,7 @@ ghost use Rattle.std.specs.Prelude.{◌≡◌, ◌∷◌, ◌++◌, [], IfSome};
 ghost use Rattle.can_proto.specs.Commands.{IsLoneSend};
 
 use crate::sending::usual_frame;
-use crate::verbs::after_send;
+use crate::verb::after_send;
 use can_frame::Frame;
 
 /// A `send` of eight bytes has 41 bytes between its marks. A piece that is longer has mostly more than one message, and is

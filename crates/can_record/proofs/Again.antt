@@ -7,20 +7,20 @@ use Rattle.std.proofs.Math.Seq.{drop-append_seam}
 use Rattle.std.proofs.lemmas.List.Elements.{All-head, All-tail}
 use Rattle.can_frame.specs.FrameText.{frame_spelling, IsItem}
 use Rattle.can_frame.specs.Frames.{CanFrame}
-use Rattle.can_frame.specs.declared.items.Item.{Item}
-use Rattle.can_frame.specs.declared.items.Item.TheVariants as item
-use Rattle.can_frame.specs.declared.ifaces.IfaceSet.{IfaceSet}
+use Rattle.can_frame.specs.declared.item.Item.{Item}
+use Rattle.can_frame.specs.declared.item.Item.TheVariants as item
+use Rattle.can_frame.specs.declared.iface.IfaceSet.{IfaceSet}
 use Rattle.can_frame.specs.Sets.{no_ifaces}
 use Rattle.can_filter.specs.Filters.{CanFilter}
-use Rattle.can_fault.specs.declared.verdicts.GlobalKind.TheVariants as global
-use Rattle.can_fault.specs.declared.verdicts.LocalKind.TheVariants as local
-use Rattle.can_fault.specs.declared.verdicts.Verdict.{Verdict}
-use Rattle.can_fault.specs.declared.verdicts.Verdict.TheVariants as verdict
-use Rattle.can_attempt.specs.declared.classes.Class.{Class}
-use Rattle.can_attempt.specs.declared.classes.Class.TheVariants as class
+use Rattle.can_fault.specs.declared.verdict.GlobalKind.TheVariants as global
+use Rattle.can_fault.specs.declared.verdict.LocalKind.TheVariants as local
+use Rattle.can_fault.specs.declared.verdict.Verdict.{Verdict}
+use Rattle.can_fault.specs.declared.verdict.Verdict.TheVariants as verdict
+use Rattle.can_attempt.specs.declared.class.Class.{Class}
+use Rattle.can_attempt.specs.declared.class.Class.TheVariants as class
 use Rattle.can_attempt.specs.Words.{class_word}
-use Rattle.can_attempt.specs.declared.acks.AckMode.{AckMode}
-use Rattle.can_attempt.specs.declared.acks.AckMode.TheVariants as ack
+use Rattle.can_attempt.specs.declared.ack_mode.AckMode.{AckMode}
+use Rattle.can_attempt.specs.declared.ack_mode.AckMode.TheVariants as ack
 use Rattle.can_event.specs.declared.events.BusConfig.{BusConfig}
 use Rattle.can_event.specs.declared.events.SocketId.{SocketId}
 use Rattle.can_event.specs.declared.events.Opt.{Opt}
@@ -37,10 +37,10 @@ use Rattle.can_event.specs.declared.events.Entry.{Entry}
 use Rattle.can_event.specs.Replies.{entry_of}
 use Rattle.can_event.specs.Spelled.{LeavesEntry, MayRefuse, IsNumberOf, FitsReply}
 use Rattle.std.proofs.lemmas.Option.{none-some, same_Some}
-use Rattle.can_record.specs.declared.faults.Unread.{Unread}
-use Rattle.can_record.specs.declared.faults.Unread.TheVariants as unread
-use Rattle.can_record.specs.declared.versions.Version.{Version}
-use Rattle.can_record.specs.declared.versions.Version.TheVariants as version
+use Rattle.can_record.specs.declared.fault.Unread.{Unread}
+use Rattle.can_record.specs.declared.fault.Unread.TheVariants as unread
+use Rattle.can_record.specs.declared.version.Version.{Version}
+use Rattle.can_record.specs.declared.version.Version.TheVariants as version
 use Rattle.can_record.specs.inner.Words.{is_gap, is_word, word, after}
 use Rattle.can_record.specs.Spelling.{gap_before, spell, set_word, mask_word, moment_word, flag_word, verdict_word, option_words, filter_words, refusal_words, received_words, event_words, restarted_words, reply_words, entry_words, entry_line, answered_line, ack_word, auto_restart_words, bus_words, end_words}
 use Rattle.can_record.specs.Texts.{StartsWith, StartsWithLine}

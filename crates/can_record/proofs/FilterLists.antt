@@ -1,8 +1,8 @@
 -- Filters are read one by one.
 use Rattle.std.proofs.Common.{◌≡◌, ℕ, zero, suc, ◌-◌, ◌<◌, ◌≤◌, List, Some, None, Err, refl, ap, ◌∙◌, arith}
 use Rattle.can_filter.specs.Filters.{CanFilter}
-use Rattle.can_record.specs.declared.faults.Unread.{Unread}
-use Rattle.can_record.specs.declared.faults.Unread.TheVariants as unread
+use Rattle.can_record.specs.declared.fault.Unread.{Unread}
+use Rattle.can_record.specs.declared.fault.Unread.TheVariants as unread
 use Rattle.can_record.specs.inner.Reading.{GivesFilters, filter_at, filters_at}
 
 pub filters_more : (fs : List CanFilter) (n : ℕ) (t : List ℕ) (more : List CanFilter) (rest : List ℕ) → 0 < n → filter_at fs t ≡ Some (more, rest) → filters_at fs n t ≡ filters_at more (n - 1) rest

@@ -3,8 +3,8 @@ use Rattle.std.proofs.Common.{◌≡◌, inl, ℕ, ◌+◌, ◌^◌, ◌≤◌, 
 use Rattle.std.specs.Prelude.{decimal}
 use Rattle.can_frame.specs.Frames.{Payload}
 use Rattle.can_frame.specs.Frames.Payload.{Data, Remote, Fd}
-use Rattle.can_frame.specs.declared.items.Item.{Item}
-use Rattle.can_frame.specs.declared.items.Item.TheVariants as item
+use Rattle.can_frame.specs.declared.item.Item.{Item}
+use Rattle.can_frame.specs.declared.item.Item.TheVariants as item
 use Rattle.can_frame.specs.FrameText.{digits, pairs, id_text, payload_text, frame_spelling, IsPayload, IsItem}
 use Rattle.can_frame.specs.FrameGuess.{item_in}
 use Rattle.can_frame.proofs.Guessing.{guessed}

@@ -3,7 +3,7 @@ use Rattle.std.proofs.Common.{◌≡◌, ◌++◌, ◌∙◌, List, Option, Some
 use Rattle.std.specs.Prelude.{ℕ, codes, IfSome}
 use Rattle.std.proofs.lemmas.Option.{none-some, same_Some}
 use Rattle.can_frame.specs.Frames.{CanFrame}
-use Rattle.can_fault.specs.declared.verdicts.Verdict.{Verdict}
+use Rattle.can_fault.specs.declared.verdict.Verdict.{Verdict}
 use Rattle.can_event.specs.declared.events.SocketId.{SocketId}
 use Rattle.can_event.specs.declared.events.Event.{Event}
 use Rattle.can_event.specs.declared.events.Event.TheVariants.{Attempt, Receive, Send}

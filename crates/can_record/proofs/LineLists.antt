@@ -3,7 +3,7 @@ use Rattle.std.proofs.Common.{◌≡◌, ℕ, ◌<◌, ◌≤◌, List, [], ◌�
 use Rattle.std.proofs.lemmas.List.{length-drop}
 use Rattle.can_event.specs.declared.events.BusConfig.{BusConfig}
 use Rattle.can_event.specs.declared.events.Entry.{Entry}
-use Rattle.can_record.specs.declared.versions.Version.{Version}
+use Rattle.can_record.specs.declared.version.Version.{Version}
 use Rattle.can_record.specs.Values.{HasLine}
 use Rattle.can_record.specs.Spelling.{entry_words, entry_line, entry_lines}
 use Rattle.can_record.proofs.Again.{spell-rest, line_some}

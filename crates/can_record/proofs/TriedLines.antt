@@ -2,8 +2,8 @@
 use Rattle.std.proofs.Common.{◌≡◌, ◌∙◌, ap, append_assoc, ℕ, List, [], ◌∷◌, ◌++◌}
 use Rattle.std.specs.Prelude.{codes, decimal}
 use Rattle.can_frame.specs.FrameText.{frame_spelling}
-use Rattle.can_frame.specs.declared.items.Item.TheVariants as item
-use Rattle.can_fault.specs.declared.verdicts.Verdict.{Verdict}
+use Rattle.can_frame.specs.declared.item.Item.TheVariants as item
+use Rattle.can_fault.specs.declared.verdict.Verdict.{Verdict}
 use Rattle.can_attempt.specs.Words.{class_word}
 use Rattle.can_event.specs.declared.events.Event.TheVariants.{Attempt}
 use Rattle.can_event.specs.declared.events.Reply.TheVariants as reply

@@ -10,8 +10,8 @@ use Rattle.can_frame.specs.Frames.{is_fd}
 use Rattle.can_packed.specs.FrameWords.{payload_in}
 use Rattle.can_event.specs.declared.events.BusConfig.{BusConfig}
 use Rattle.can_event.specs.declared.events.Entry.{Entry}
-use Rattle.can_record.specs.declared.versions.Version.{Version}
-use Rattle.can_record.specs.declared.versions.Version.TheVariants as version
+use Rattle.can_record.specs.declared.version.Version.{Version}
+use Rattle.can_record.specs.declared.version.Version.TheVariants as version
 use Rattle.can_record.specs.Spelling.{has_fd, version_for, version_of}
 use Rattle.can_record.specs.Values.{HasLine, HasBusLine, HasLines, HasText, Restarts}
 

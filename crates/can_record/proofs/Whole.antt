@@ -8,10 +8,10 @@ use Rattle.std.proofs.lemmas.Option.{none-some, same_Some}
 use Rattle.can_event.specs.declared.events.BusConfig.{BusConfig}
 use Rattle.can_event.specs.declared.events.Entry.{Entry}
 use Rattle.can_bus.specs.Journal.{Kept}
-use Rattle.can_record.specs.declared.faults.ReadFault.{ReadFault}
-use Rattle.can_record.specs.declared.faults.ReadFault.TheVariants as fault
-use Rattle.can_record.specs.declared.versions.Version.{Version}
-use Rattle.can_record.specs.declared.versions.Version.TheVariants as version
+use Rattle.can_record.specs.declared.fault.ReadFault.{ReadFault}
+use Rattle.can_record.specs.declared.fault.ReadFault.TheVariants as fault
+use Rattle.can_record.specs.declared.version.Version.{Version}
+use Rattle.can_record.specs.declared.version.Version.TheVariants as version
 use Rattle.can_record.specs.Spelling.{gap_before, spell, has_fd, version_of, first_line, bus_words, front_lines, end_words, entry_words, entry_line, entry_lines, text_in, record_spelling}
 use Rattle.can_record.specs.Values.{HasLine, HasBusLine, HasLines}
 use Rattle.can_record.specs.inner.Reading.{entry_at, config_at}

@@ -3,10 +3,10 @@ use Rattle.std.specs.List.{list_any}
 use Rattle.can_event.specs.declared.events.BusConfig.{BusConfig}
 use Rattle.can_event.specs.declared.events.Entry.{Entry}
 use Rattle.can_bus.specs.Journal.{Kept}
-use Rattle.can_record.specs.declared.faults.ReadFault.{ReadFault}
-use Rattle.can_record.specs.declared.faults.ReadFault.TheVariants as fault
-use Rattle.can_record.specs.declared.versions.Version.{Version}
-use Rattle.can_record.specs.declared.versions.Version.TheVariants as version
+use Rattle.can_record.specs.declared.fault.ReadFault.{ReadFault}
+use Rattle.can_record.specs.declared.fault.ReadFault.TheVariants as fault
+use Rattle.can_record.specs.declared.version.Version.{Version}
+use Rattle.can_record.specs.declared.version.Version.TheVariants as version
 use Rattle.can_record.specs.Spelling.{spell, first_line, bus_words, end_words, entry_line, entry_lines, front_lines, text_in, has_fd, record_spelling}
 use Rattle.can_record.specs.Values.{HasLine, HasBusLine, HasLines, HasText}
 

@@ -4,7 +4,7 @@ use Rattle.can_event.specs.declared.events.Entry.{Entry}
 use Rattle.can_event.specs.declared.events.Event.{Event}
 use Rattle.can_event.specs.declared.events.Reply.{Reply}
 use Rattle.can_bus.specs.Journal.{Kept}
-use Rattle.can_record.specs.declared.versions.Version.{Version}
+use Rattle.can_record.specs.declared.version.Version.{Version}
 use Rattle.can_record.specs.Spelling.{answered_line, bus_words, entry_line, entry_lines, record_spelling, spell}
 use Rattle.can_record.specs.Values.{HasBusLine, HasLine}
 

@@ -1,8 +1,8 @@
 use Rattle.std.specs.Prelude.{◌≡◌, ◌≢◌, ◌^◌, ◌<◌, ◌≤◌, true, List, length, Some, None, All, bit_and}
-use Rattle.can_frame.specs.declared.items.Item.TheVariants as item
+use Rattle.can_frame.specs.declared.item.Item.TheVariants as item
 use Rattle.can_filter.specs.Filters.{CanFilter}
-use Rattle.can_fault.specs.declared.verdicts.Verdict.{Verdict}
-use Rattle.can_fault.specs.declared.verdicts.Verdict.TheVariants as verdict
+use Rattle.can_fault.specs.declared.verdict.Verdict.{Verdict}
+use Rattle.can_fault.specs.declared.verdict.Verdict.TheVariants as verdict
 use Rattle.can_event.specs.declared.events.BusConfig.{BusConfig}
 use Rattle.can_event.specs.declared.events.Opt.{Opt}
 use Rattle.can_event.specs.declared.events.Opt.TheVariants as opt
@@ -16,8 +16,8 @@ use Rattle.can_event.specs.declared.events.Entry.{Entry}
 use Rattle.can_frame.specs.FrameText.{IsItem}
 use Rattle.can_event.specs.Events.{IsConfig}
 use Rattle.can_event.specs.Spelled.{IsSpelled}
-use Rattle.can_record.specs.declared.versions.Version.{Version}
-use Rattle.can_record.specs.declared.versions.Version.TheVariants as version
+use Rattle.can_record.specs.declared.version.Version.{Version}
+use Rattle.can_record.specs.declared.version.Version.TheVariants as version
 use Rattle.can_record.specs.Spelling.{has_fd, version_of}
 
 -- The values that the types of an entry hold: a clause that ranges over all entries has to say so.

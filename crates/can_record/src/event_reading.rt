@@ -2,7 +2,7 @@ ghost use Rattle.std.specs.Prelude.{IfSome, OnOk, ◌++◌, ◌∷◌, [], ◌+�
 ghost use Rattle.can_record.specs.inner.Reading.{Finds, GivesFilters, with_rest, option_at, verdict_at, filter_at, filters_at, set_filters_at, setting_at, plain_at, event_at, attempted_in, sent_in, SeemsToBe};
 ghost use Rattle.can_event.specs.declared.events.Event.TheVariants as event;
 
-use crate::faults::Unread;
+use crate::fault::Unread;
 use crate::fields::{
     begins_with, count_field, flag_field, frame_field, iface_field, mask_field, moment_field,
     set_behind, short_field, socket_field,

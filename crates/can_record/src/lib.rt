@@ -6,7 +6,7 @@
 
 pub mod event_reading;
 mod event_writing;
-pub mod faults;
+pub mod fault;
 mod fields;
 mod kept_lines;
 pub mod lines;
@@ -19,10 +19,10 @@ mod short_lines;
 mod short_words;
 pub mod text_laws;
 pub mod values;
-pub mod versions;
+pub mod version;
 mod words;
 mod writing;
 
-pub use faults::ReadFault;
+pub use fault::ReadFault;
 pub use record_reading::{read_record, read_record_bytes};
 pub use record_writing::{line_text, record_text, write_record};

@@ -1,6 +1,6 @@
 ghost use Rattle.std.specs.Prelude.{◌≡◌, ◌≤◌, ◌++◌, ◌∷◌, [], IfOk, IfErr, IfSome, IsNone, IsTrue, OnOk, drop, length, List, ℕ};
 ghost use Rattle.can_event.specs.Spelled.{FitsReply};
-ghost use Rattle.can_record.specs.declared.faults.Unread.TheVariants as unread;
+ghost use Rattle.can_record.specs.declared.fault.Unread.TheVariants as unread;
 ghost use Rattle.can_record.specs.Spelling.{spell, ack_word, answered_line, bus_words, end_words, entry_line, first_line};
 ghost use Rattle.can_record.specs.Texts.{DecidesLine, StartsWith, StartsWithBus, StartsWithEntry};
 ghost use Rattle.can_record.specs.Values.{HasLine, HasBusLine};
@@ -10,13 +10,13 @@ ghost use Rattle.can_record.specs.inner.Reading.{Gives, with_rest, ack_at, auto_
 
 use crate::event_reading::guess_event;
 use crate::event_writing::put_event;
-use crate::faults::Unread;
+use crate::fault::Unread;
 use crate::fields::{byte_field, set_field, short_field};
 use crate::reply_reading::reply_field;
 use crate::reply_writing::put_reply;
 use crate::short_lines::push_answered;
 use crate::values::{hold_event, hold_reply};
-use crate::versions::{Version, has_fd};
+use crate::version::{Version, has_fd};
 use crate::words::{next_word, same_word};
 use crate::writing::{put_count, put_set, put_word};
 use can_attempt::AckMode;

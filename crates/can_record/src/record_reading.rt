@@ -4,9 +4,9 @@ ghost use Rattle.can_record.specs.Spelling.{entry_lines};
 ghost use Rattle.can_record.specs.RecordFaults.{LacksEntry, Ends, Reads, ReadsBack};
 ghost use Rattle.can_record.specs.inner.Fronts.{HasFront};
 
-use crate::faults::{ReadFault, Unread};
+use crate::fault::{ReadFault, Unread};
 use crate::lines::{begins, behind, put_end, read_bus, read_line, read_version};
-use crate::versions::Version;
+use crate::version::Version;
 use can_bus::{BusConfig, Entry, Received, Record};
 use can_frame::Item;
 use std::alloc::{AllocError, Global};

@@ -10,7 +10,7 @@ ghost use Rattle.can_record.specs.inner.Stored.{HasFittingReply, stored_line};
 use crate::kept_lines::push_kept;
 use crate::lines::{put_answered, put_bus, put_end, put_line};
 use crate::short_words::ShortLine;
-use crate::versions::{Version, record_has_fd};
+use crate::version::{Version, record_has_fd};
 use can_bus::{BusConfig, Event, Record, Reply, Stored};
 use can_frame::{Frame, Text};
 use can_packed::{Kept, event_in, reply_in};

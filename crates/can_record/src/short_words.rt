@@ -1,7 +1,7 @@
 ghost use Rattle.std.specs.Prelude.{◌≡◌, ◌≤◌, ◌+◌, ◌%◌, ◌^◌, ◌++◌, ◌∷◌, [], false, length, decimal, nat_le};
 ghost use Rattle.can_frame.specs.Frames.{is_remote, is_fd, payload_len};
 ghost use Rattle.can_frame.specs.FrameText.{frame_spelling, id_text, pairs};
-ghost use Rattle.can_frame.specs.declared.items.Item.TheVariants as item;
+ghost use Rattle.can_frame.specs.declared.item.Item.TheVariants as item;
 ghost use Rattle.can_attempt.specs.Words.{class_word};
 ghost use Rattle.can_packed.specs.FrameWords.{frame_in, identifier_in};
 ghost use Rattle.can_record.specs.Spelling.{local_front, moment_word, set_word, verdict_word};

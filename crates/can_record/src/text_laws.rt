@@ -3,11 +3,11 @@ ghost use Rattle.can_event.specs.declared.events.BusConfig.{BusConfig as AConfig
 ghost use Rattle.can_event.specs.declared.events.Entry.{Entry as AnEntry};
 ghost use Rattle.can_event.specs.Events.{IsConfig};
 ghost use Rattle.can_event.specs.Spelled.{IsSpelled};
-ghost use Rattle.can_record.specs.declared.versions.Version.TheVariants as version;
+ghost use Rattle.can_record.specs.declared.version.Version.TheVariants as version;
 ghost use Rattle.can_record.specs.Values.{HasBusLine, HasLine};
 ghost use Rattle.can_record.specs.RecordFaults.{IsTextOf, IsRecordText, IsOfNoVersion, IsFirstWrong};
 
-use crate::faults::ReadFault;
+use crate::fault::ReadFault;
 use crate::record_reading::read_record_bytes;
 use crate::record_writing::record_text;
 use crate::values::{hold_event, hold_reply};

@@ -1,6 +1,6 @@
 ghost use Rattle.std.specs.Prelude.{ℕ, slice_index, ◌<◌, ◌^◌, All};
 ghost use Rattle.can_frame.specs.FrameText.{IsItem};
-ghost use Rattle.can_frame.specs.declared.items.Item.TheVariants as item;
+ghost use Rattle.can_frame.specs.declared.item.Item.TheVariants as item;
 ghost use Rattle.can_record.specs.Values.{HoldsFilter, HoldsOption, HoldsVerdict, HoldsEvent, HoldsReceived, HoldsTried, HoldsReply};
 
 use can_bus::{Closed, Event, Opt, Received, Reply, SocketId, Tried};

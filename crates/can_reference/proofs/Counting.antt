@@ -3,7 +3,7 @@ use mathlib.Core.Path.{fun_ext}
 use Rattle.std.specs.List.{range_with_len}
 use Rattle.std.proofs.lemmas.Bool.{eq-eqb, ne_eqb, cond-true, cond-false, leb-false}
 use Rattle.can_confine.specs.Confinement.{ErrorCounts, Step, all_stepped, at_start, state_of, is_off}
-use Rattle.can_fault.specs.declared.verdicts.Verdict.{Verdict}
+use Rattle.can_fault.specs.declared.verdict.Verdict.{Verdict}
 use Rattle.can_attempt.specs.declared.nodes.Nodes.{Nodes}
 use Rattle.can_attempt.specs.Attempts.{Transmission, attempt_between, counts_at, counts_after, judged, steps_at}
 use Rattle.can_event.specs.declared.events.BusConfig.{BusConfig}
@@ -14,7 +14,7 @@ use Rattle.can_event.specs.declared.events.Reply.{Reply}
 use Rattle.can_event.specs.declared.events.Reply.TheVariants as reply
 use Rattle.can_event.specs.declared.events.Refusal.TheVariants as refusal
 use Rattle.can_event.specs.declared.events.Tried.{Tried}
-use Rattle.can_frame.specs.declared.ifaces.IfaceSet.{IfaceSet}
+use Rattle.can_frame.specs.declared.iface.IfaceSet.{IfaceSet}
 use Rattle.can_frame.specs.Sets.{is_in}
 use Rattle.can_bus.specs.Changes.{begun_anew}
 use Rattle.can_bus.specs.Counters.{counts_of, steps_of, state_at, transmission}

@@ -1,6 +1,6 @@
 use Rattle.std.proofs.Common.{◌≡◌, ℕ, List, ◌∷◌, slice_get, Option, Some, None, sym, ap, ◌∙◌, subst}
-use Rattle.can_fault.specs.declared.verdicts.Verdict.{Verdict}
-use Rattle.can_attempt.specs.declared.judgements.Judgement.{Judgement}
+use Rattle.can_fault.specs.declared.verdict.Verdict.{Verdict}
+use Rattle.can_attempt.specs.declared.judgement.Judgement.{Judgement}
 use Rattle.can_attempt.specs.declared.nodes.Nodes.{Nodes}
 use Rattle.can_attempt.specs.Attempts.{Transmission, attempt_between, judged}
 use Rattle.can_event.specs.declared.events.BusConfig.{BusConfig}

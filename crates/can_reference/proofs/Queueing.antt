@@ -8,7 +8,7 @@ use Rattle.can_event.specs.declared.events.Event.{Event}
 use Rattle.can_event.specs.declared.events.Reply.{Reply}
 use Rattle.can_event.specs.declared.events.Received.{Received}
 use Rattle.can_filter.specs.Filters.{CanFilter}
-use Rattle.can_filter.specs.declared.socket_options.Options.{Options}
+use Rattle.can_filter.specs.declared.options.Options.{Options}
 use Rattle.can_bus.specs.Posts.{Post, posts_of}
 use Rattle.can_bus.specs.Queues.{passing, candidates_of, candidates_for, taken_from, queued_to, dropped_at}
 use Rattle.can_bus.specs.Sockets.{is_open, capacity_of, filters_of, options_of}

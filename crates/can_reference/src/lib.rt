@@ -7,7 +7,7 @@
 
 mod attempts;
 mod counters;
-mod posts;
+mod post;
 pub mod queues;
 pub mod replies;
 mod restarts;

@@ -5,7 +5,7 @@ ghost use Rattle.can_reference.specs.Histories.{OnHistory, OnRecord, Returns, Re
 ghost use Rattle.can_reference.specs.inner.Noted.{room_after};
 ghost use Rattle.can_reference.specs.inner.Posted.{ReturnsCandidates};
 
-use crate::posts::{passing, posts_of};
+use crate::post::{passing, posts_of};
 use crate::sockets::{filters_of, options_of, sockets_of};
 use can_bus::{BusConfig, Entry, Event, Received, Record, Reply, SocketId};
 use can_frame::{Iface, Item};

@@ -17,11 +17,11 @@
 //! to learn what the rule says. Each call takes at most four loads.
 #![tactic(auto)]
 
-mod names;
-mod rolls;
+mod roll_name;
+mod roll;
 mod rule;
-mod slips;
+mod slip;
 
-pub use names::RollName;
-pub use rolls::{Roll, RollBlank, roll_blank};
-pub use slips::Slip;
+pub use roll_name::RollName;
+pub use roll::{Roll, RollBlank, roll_blank};
+pub use slip::Slip;

@@ -1,7 +1,7 @@
 use Rattle.std.specs.Prelude.{◌≡◌, ℕ, Option, Some, None}
 use Rattle.can_frame.specs.Sets.{no_ifaces}
-use Rattle.can_frame.specs.declared.ifaces.IfaceSet.{IfaceSet}
-use Rattle.can_attempt.specs.declared.classes.Class.TheVariants.{NoAck}
+use Rattle.can_frame.specs.declared.iface.IfaceSet.{IfaceSet}
+use Rattle.can_attempt.specs.declared.class.Class.TheVariants.{NoAck}
 use Rattle.can_event.specs.declared.events.Attempt.{Attempt}
 use Rattle.can_event.specs.declared.events.Attempt.TheVariants as attempt
 use Rattle.can_event.specs.declared.events.Event.{Event}

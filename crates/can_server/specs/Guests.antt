@@ -1,7 +1,7 @@
 use Rattle.std.specs.Prelude.{◌≡◌, ℕ, ◌+◌, List, Bool, true, false, nat_le, if◌then◌else◌, map, Option, None, Some, option_map, Result, Ok, Err, set, replicate, slice_get, slice_index_or}
 use Rattle.std.specs.declared.sync.Arc.{Arc}
 use Rattle.std.specs.declared.alloc.Global.{Global}
-use Rattle.can_server.specs.declared.conns.Conn.{Conn}
+use Rattle.can_server.specs.declared.conn.Conn.{Conn}
 use Rattle.can_server.specs.declared.guests.Guest.{Guest}
 use Rattle.can_server.specs.declared.guests.NotAdmitted.{NotAdmitted}
 use Rattle.can_server.specs.declared.guests.NotAdmitted.TheVariants as refused

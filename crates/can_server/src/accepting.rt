@@ -1,7 +1,7 @@
-use crate::conns::{Conn, Out};
-use crate::doors::Door;
+use crate::conn::{Conn, Out};
+use crate::door::Door;
 use crate::guests::NotAdmitted;
-use crate::notices::Notice;
+use crate::notice::Notice;
 use crate::server::Server;
 use crate::serving::Clock;
 use crate::sums::Sums;

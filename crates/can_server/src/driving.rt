@@ -4,7 +4,7 @@ ghost use Rattle.can_frame.specs.Sets.{no_ifaces};
 ghost use Rattle.can_bus.specs.Answer.{told_attempt};
 ghost use Rattle.can_server.specs.Driving.{IsInVain, off_in};
 
-use crate::notices::Notice;
+use crate::notice::Notice;
 use crate::server::Server;
 use crate::serving::Clock;
 use can_attempt::Class;

@@ -2,7 +2,7 @@
 ghost use Rattle.std.specs.Prelude.{◌≡◌, IfOk, IsTrue, ◌↔◌, Any, option_map, MatchOption, None, true, not, set};
 ghost use Rattle.can_server.specs.Guests.{Admits, IsFree, IsShutOut, NoneFree, all_asked, asked_for_room, is_idle, no_guests, raw_at};
 
-use crate::conns::Conn;
+use crate::conn::Conn;
 use can_frame::Moment;
 use std::alloc::{AllocError, Global};
 use std::marker::Model;

@@ -11,21 +11,21 @@
 #![tactic(auto)]
 
 mod accepting;
-pub mod conns;
-pub mod doors;
+pub mod conn;
+pub mod door;
 mod driving;
 pub mod guests;
-pub mod notices;
+pub mod notice;
 mod returned;
 mod server;
 pub mod serving;
 mod sessions;
 mod sums;
-mod talks;
+mod talk;
 
 pub use can_hub::{Bench, HeldPort, Hub, PassPort, SettleFault};
-pub use conns::Conn;
-pub use doors::{Door, Listener};
+pub use conn::Conn;
+pub use door::{Door, Listener};
 pub use guests::{Guests, NotAdmitted};
-pub use notices::Notice;
+pub use notice::Notice;
 pub use serving::{Clock, serve};

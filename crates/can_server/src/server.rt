@@ -1,4 +1,4 @@
-use crate::doors::Door;
+use crate::door::Door;
 use crate::guests::Guests;
 use crate::returned::Returned;
 use crate::serving::Clock;

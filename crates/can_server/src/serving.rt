@@ -1,8 +1,8 @@
 ghost use Rattle.std.specs.Prelude.{◌≡◌, length, IfOk};
 
-use crate::doors::Door;
+use crate::door::Door;
 use crate::guests::Guests;
-use crate::notices::Notice;
+use crate::notice::Notice;
 use crate::returned::Returned;
 use crate::server::Server;
 use can_fault::FaultSource;

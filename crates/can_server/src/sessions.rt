@@ -1,10 +1,10 @@
 use crate::accepting::Admitted;
-use crate::conns::Conn;
-use crate::notices::Notice;
+use crate::conn::Conn;
+use crate::notice::Notice;
 use crate::server::Server;
 use crate::serving::Clock;
 use crate::sums::Sums;
-use crate::talks::{Place, Talk};
+use crate::talk::{Place, Talk};
 use can_fault::FaultSource;
 use can_frame::Iface;
 use can_meter::MeterName;

@@ -8,8 +8,8 @@ use Rattle.can_bus.specs.Journal.{Journal}
 use Rattle.can_bus.specs.Transmit.{tape}
 use Rattle.can_bus.specs.Answer.{Answers, told_attempt}
 use Rattle.can_proto.specs.Messages.{messages_of, kept_of}
-use Rattle.can_dialog.specs.declared.stages.Stage.{Stage}
-use Rattle.can_dialog.specs.declared.stages.Stage.TheVariants.{Ended}
+use Rattle.can_dialog.specs.declared.stage.Stage.{Stage}
+use Rattle.can_dialog.specs.declared.stage.Stage.TheVariants.{Ended}
 use Rattle.can_dialog.specs.Plans.{Plays}
 use Rattle.can_dialog.specs.Turns.{ending, delivery, greeting}
 use Rattle.can_dialog.specs.Sessions.{SessionState, Turns, beginning}

@@ -3,8 +3,8 @@ use Rattle.std.specs.Option.{option_map, option_and_then}
 use Rattle.can_frame.specs.Moments.{moment_in}
 use Rattle.can_frame.specs.Numbers.{number_in}
 use Rattle.can_proto.specs.Verbs.{is_word}
-use Rattle.can_session.specs.declared.orders.Order.{Order}
-use Rattle.can_session.specs.declared.orders.Order.TheVariants.{Nothing, At, Session, Feed, Drain, End, Attempt}
+use Rattle.can_session.specs.declared.order.Order.{Order}
+use Rattle.can_session.specs.declared.order.Order.TheVariants.{Nothing, At, Session, Feed, Drain, End, Attempt}
 
 -- What a line of the bench's input asks for (own choice).
 

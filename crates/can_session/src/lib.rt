@@ -7,13 +7,13 @@
 
 mod attempt_lines;
 pub mod bench_run;
-mod bench_state;
+mod bench;
 mod byte_search;
 pub mod laws;
 mod line_prefix;
 pub mod lines;
 mod numbers;
-pub mod orders;
+pub mod order;
 mod read_buffer;
 mod starts;
 mod turns;
@@ -24,5 +24,5 @@ pub use can_dialog::{
     BusPort, Dialog, Port, PortRefusal, RawSocket, Session, SessionFault, Stage, count_of,
 };
 pub use lines::{LineFault, Lines};
-pub use orders::{Order, SessionNumber, read_order};
+pub use order::{Order, SessionNumber, read_order};
 pub use unheard::Unheard;

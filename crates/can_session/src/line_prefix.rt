@@ -3,7 +3,7 @@ ghost use Rattle.std.specs.Prelude.{◌≡◌, ◌++◌, ◌∷◌, ◌<◌, ◌
 ghost use Rattle.std.specs.Fmt.{decimal};
 
 use crate::numbers::put_number;
-use crate::orders::SessionNumber;
+use crate::order::SessionNumber;
 use std::alloc::AllocError;
 
 /// Puts the session's number and a space, and returns how long they are.

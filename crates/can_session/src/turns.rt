@@ -5,7 +5,7 @@ ghost use Rattle.can_session.specs.Benches.{spoken, IsFed, IsDrained, IsEnded};
 ghost use Rattle.can_session.specs.inner.Acts.{Adds, done_by};
 
 use crate::line_prefix::{begin_spoken, end_spoken};
-use crate::orders::SessionNumber;
+use crate::order::SessionNumber;
 use can_arbiter::IndexArbiter;
 use can_bus::{Pending, Received};
 use can_dialog::{BusPort, Session, SessionFault};

@@ -3,7 +3,7 @@ ghost use Rattle.std.specs.Prelude.{◌≡◌, true, false};
 ghost use Rattle.can_proto.specs.Messages.{has_mark};
 ghost use Rattle.can_session.specs.Unheard.{begun_after, flag, has_outside, none_unheard, unheard_then};
 
-use crate::orders::SessionNumber;
+use crate::order::SessionNumber;
 
 /// Which sessions of a run were fed bytes outside messages, and which a message that was not ended. Spaces, tabs, CR and
 /// LF outside messages do not count.

@@ -9,7 +9,7 @@ use Rattle.can_event.specs.declared.events.Refusal.{Refusal}
 use Rattle.can_event.specs.declared.events.Refusal.TheVariants as refusal
 use Rattle.can_event.specs.declared.events.SocketId.{SocketId}
 use Rattle.can_event.specs.declared.events.Attempt.{Attempt}
-use Rattle.can_fault.specs.declared.verdicts.Verdict.{Verdict}
+use Rattle.can_fault.specs.declared.verdict.Verdict.{Verdict}
 use Rattle.can_bus.specs.Answer.{told_attempt}
 use Rattle.can_bus.specs.Journal.{Kept}
 use Rattle.can_bus.specs.Legal.{IsLegal}

@@ -4,10 +4,10 @@ ghost use Rattle.can_event.specs.declared.events.Reply.TheVariants as reply;
 ghost use Rattle.can_station.specs.Passes.{Answered, Called};
 
 use crate::attempts::attempt_in;
-use crate::gates::Gate;
-use crate::passes::Pass;
+use crate::gate::Gate;
+use crate::pass::Pass;
 use crate::refusals::StationRefusal;
-use crate::stations::Station;
+use crate::station::Station;
 use can_bus::{Attempt, Closed, Event, Opt, Received, Refusal, Reply, SocketId};
 use can_fault::{FaultSource, Verdict};
 use can_filter::FilterSet;

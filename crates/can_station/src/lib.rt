@@ -13,22 +13,22 @@
 
 mod attempts;
 mod calls;
-pub mod gates;
+pub mod gate;
 mod gauges;
-pub mod holds;
-pub mod passes;
+pub mod hold;
+pub mod pass;
 mod publishing;
 mod receives;
 pub mod refusals;
 mod rooms;
-pub mod state;
-pub mod stations;
+pub mod station_state;
+pub mod station;
 mod waits;
 
-pub use gates::{Gate, Open, Point};
-pub use holds::Hold;
-pub use passes::{Pass, Settled};
+pub use gate::{Gate, Open, Point};
+pub use hold::Hold;
+pub use pass::{Pass, Settled};
 pub use refusals::{StationRefusal, TooManyPasses, WrongStation};
-pub use state::StationState;
-pub use stations::{Blanks, Station};
+pub use station_state::StationState;
+pub use station::{Blanks, Station};
 pub use waits::Wake;

@@ -2,11 +2,11 @@ ghost use Rattle.std.specs.Prelude.{◌≡◌, true, Some, IfSome, IfNone, is_no
 ghost use Rattle.can_station.specs.Passes.{InSome};
 ghost use Rattle.can_station.specs.Waits.{AreCounts, EndsItemWait, IsIdleAndStopped, frame_wake, has_work, work_wake};
 
-use crate::gates::{Gate, Point};
-use crate::holds::Hold;
+use crate::gate::{Gate, Point};
+use crate::hold::Hold;
 use crate::rooms::RoomSet;
-use crate::state::StationState;
-use crate::stations::Station;
+use crate::station_state::StationState;
+use crate::station::Station;
 use can_bus::{Event, IfaceStats, Refusal, Reply, SocketId, SocketStats};
 use can_fault::FaultSource;
 use can_frame::Iface;

@@ -6,10 +6,10 @@ use Rattle.std.proofs.lemmas.Option.{none-some}
 use Rattle.can_event.specs.declared.events.BusConfig.{BusConfig}
 use Rattle.can_event.specs.declared.events.Entry.{Entry}
 use Rattle.can_bus.specs.Lean.{Lean, Stands}
-use Rattle.can_record.specs.declared.faults.ReadFault.{ReadFault}
-use Rattle.can_record.specs.declared.faults.ReadFault.TheVariants as fault
-use Rattle.can_record.specs.declared.versions.Version.{Version}
-use Rattle.can_record.specs.declared.versions.Version.TheVariants as version
+use Rattle.can_record.specs.declared.fault.ReadFault.{ReadFault}
+use Rattle.can_record.specs.declared.fault.ReadFault.TheVariants as fault
+use Rattle.can_record.specs.declared.version.Version.{Version}
+use Rattle.can_record.specs.declared.version.Version.TheVariants as version
 use Rattle.can_record.specs.inner.Reading.{entry_at}
 use Rattle.can_record.specs.Spelling.{bus_words, end_words, entry_lines, first_line, front_lines, spell, text_in}
 use Rattle.can_record.specs.Values.{HasBusLine, HasLine, HasLines}
@@ -18,8 +18,8 @@ use Rattle.can_record.proofs.Again.{entry_again, nothing_is_none}
 use Rattle.can_record.proofs.LineLists.{lines-rest}
 use Rattle.can_record.proofs.Versioning.{version_is}
 use Rattle.can_record.proofs.Whole.{first_is_wrong, front-then, needs_no_three}
-use Rattle.can_text_audit.specs.declared.bodies.Body.{Body}
-use Rattle.can_text_audit.specs.declared.faults.WrongLine.{WrongLine}
+use Rattle.can_text_audit.specs.declared.body.Body.{Body}
+use Rattle.can_text_audit.specs.declared.fault.WrongLine.{WrongLine}
 use Rattle.can_text_audit.specs.TextAudits.{IsLegalText, IsLine, IsWrongText, MayFollow}
 use Rattle.can_text_audit.specs.inner.Bodies.{IsGoing, IsSettled, so_far}
 use Rattle.can_text_audit.specs.inner.Steps.{IsUnended, StandsEnd}

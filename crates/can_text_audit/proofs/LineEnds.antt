@@ -8,8 +8,8 @@ use Rattle.std.specs.Io.BufRead.{take_through}
 use Rattle.std.proofs.lemmas.List.{append-nil}
 use Rattle.can_event.specs.declared.events.BusConfig.{BusConfig}
 use Rattle.can_event.specs.declared.events.Entry.{Entry}
-use Rattle.can_record.specs.declared.versions.Version.{Version}
-use Rattle.can_record.specs.declared.versions.Version.TheVariants as version
+use Rattle.can_record.specs.declared.version.Version.{Version}
+use Rattle.can_record.specs.declared.version.Version.TheVariants as version
 use Rattle.can_record.specs.inner.Words.{is_gap, is_word}
 use Rattle.can_record.specs.RecordFaults.{LacksBus, LacksEnd, LacksEntry, LacksFirst}
 use Rattle.can_record.specs.Spelling.{bus_words, end_words, entry_line, entry_words, event_words, first_line, reply_words, spell}

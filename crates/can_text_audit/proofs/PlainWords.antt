@@ -1,19 +1,19 @@
 -- The words of a line: no byte of theirs ends a line.
 use Rattle.std.proofs.Common.{◌≡◌, ◌^◌, ◌<◌, ◌==◌, cond, Bool, true, false, List, [], ◌∷◌, ◌++◌, length, Some, None, refl, arith}
 use Rattle.std.specs.Prelude.{ℕ, codes, decimal}
-use Rattle.can_frame.specs.declared.items.Item.{Item}
-use Rattle.can_frame.specs.declared.items.Item.TheVariants as item
-use Rattle.can_frame.specs.declared.ifaces.IfaceSet.{IfaceSet}
+use Rattle.can_frame.specs.declared.item.Item.{Item}
+use Rattle.can_frame.specs.declared.item.Item.TheVariants as item
+use Rattle.can_frame.specs.declared.iface.IfaceSet.{IfaceSet}
 use Rattle.can_frame.specs.FrameText.{IsItem}
 use Rattle.can_filter.specs.Filters.{CanFilter}
-use Rattle.can_fault.specs.declared.verdicts.GlobalKind.TheVariants as global
-use Rattle.can_fault.specs.declared.verdicts.LocalKind.TheVariants as local
-use Rattle.can_fault.specs.declared.verdicts.Verdict.{Verdict}
-use Rattle.can_fault.specs.declared.verdicts.Verdict.TheVariants as verdict
-use Rattle.can_attempt.specs.declared.acks.AckMode.{AckMode}
-use Rattle.can_attempt.specs.declared.acks.AckMode.TheVariants as ack
-use Rattle.can_attempt.specs.declared.classes.Class.{Class}
-use Rattle.can_attempt.specs.declared.classes.Class.TheVariants as class
+use Rattle.can_fault.specs.declared.verdict.GlobalKind.TheVariants as global
+use Rattle.can_fault.specs.declared.verdict.LocalKind.TheVariants as local
+use Rattle.can_fault.specs.declared.verdict.Verdict.{Verdict}
+use Rattle.can_fault.specs.declared.verdict.Verdict.TheVariants as verdict
+use Rattle.can_attempt.specs.declared.ack_mode.AckMode.{AckMode}
+use Rattle.can_attempt.specs.declared.ack_mode.AckMode.TheVariants as ack
+use Rattle.can_attempt.specs.declared.class.Class.{Class}
+use Rattle.can_attempt.specs.declared.class.Class.TheVariants as class
 use Rattle.can_attempt.specs.Words.{class_word}
 use Rattle.can_event.specs.declared.events.BusConfig.{BusConfig}
 use Rattle.can_event.specs.declared.events.Opt.{Opt}
@@ -27,8 +27,8 @@ use Rattle.can_event.specs.declared.events.Refusal.TheVariants as refusal
 use Rattle.can_event.specs.declared.events.Reply.{Reply}
 use Rattle.can_event.specs.declared.events.Reply.TheVariants as reply
 use Rattle.can_event.specs.declared.events.Tried.{Tried}
-use Rattle.can_record.specs.declared.versions.Version.{Version}
-use Rattle.can_record.specs.declared.versions.Version.TheVariants as version
+use Rattle.can_record.specs.declared.version.Version.{Version}
+use Rattle.can_record.specs.declared.version.Version.TheVariants as version
 use Rattle.can_record.specs.inner.Words.{is_word}
 use Rattle.can_record.specs.Spelling.{flag_word, option_words, verdict_word, filter_words, refusal_words, received_words, event_words, restarted_words, reply_words, entry_words, ack_word, auto_restart_words, bus_words, end_words, set_word}
 use Rattle.can_record.specs.Values.{HoldsEvent, HoldsReply, HoldsTried, HasLine, HasBusLine}

@@ -13,8 +13,8 @@ use Rattle.can_event.specs.declared.events.Entry.{Entry}
 use Rattle.can_event.specs.declared.events.Reply.{Reply}
 use Rattle.can_bus.specs.Lean.{Lean, Stands}
 use Rattle.can_bus.specs.Legal.{IsLegal, legal_reply}
-use Rattle.can_record.specs.declared.versions.Version.{Version}
-use Rattle.can_record.specs.declared.versions.Version.TheVariants as version
+use Rattle.can_record.specs.declared.version.Version.{Version}
+use Rattle.can_record.specs.declared.version.Version.TheVariants as version
 use Rattle.can_record.specs.Spelling.{entry_line, entry_lines, front_lines, has_fd}
 use Rattle.can_record.specs.Values.{HasLine}
 use Rattle.can_record.specs.inner.Reading.{entry_at}
@@ -26,14 +26,14 @@ use Rattle.can_record.proofs.Whole.{front-then}
 use Rattle.can_replay.specs.Audits.{IsToldWrong}
 use Rattle.can_replay.specs.Histories.{before}
 use Rattle.std.proofs.lemmas.Option.{none-some, same_Some}
-use Rattle.can_text_audit.specs.declared.bodies.Body.{Body}
-use Rattle.can_text_audit.specs.declared.faults.WrongLine.{WrongLine}
+use Rattle.can_text_audit.specs.declared.body.Body.{Body}
+use Rattle.can_text_audit.specs.declared.fault.WrongLine.{WrongLine}
 use Rattle.can_text_audit.specs.TextAudits.{IsLine}
 use Rattle.can_text_audit.specs.inner.Bodies.{IsGoing, IsRead, IsSettled, IsWrongIn, so_far}
 use Rattle.can_text_audit.specs.inner.Carried.{IsNext, IsOther, IsWrongNext}
 use Rattle.can_text_audit.specs.inner.Steps.{Blames, Takes}
-use Rattle.can_record.specs.declared.faults.Unread.{Unread}
-use Rattle.can_record.specs.declared.faults.Unread.TheVariants as unread
+use Rattle.can_record.specs.declared.fault.Unread.{Unread}
+use Rattle.can_record.specs.declared.fault.Unread.TheVariants as unread
 use Rattle.can_text_audit.proofs.LineEnds.{cut_entry}
 
 -- ---- the first wrong entry, and entries behind it

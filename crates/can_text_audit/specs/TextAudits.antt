@@ -4,15 +4,15 @@ use Rattle.std.specs.Io.BufRead.{take_through}
 use Rattle.can_event.specs.declared.events.BusConfig.{BusConfig}
 use Rattle.can_event.specs.declared.events.Entry.{Entry}
 use Rattle.can_bus.specs.Legal.{IsLegal}
-use Rattle.can_record.specs.declared.faults.ReadFault.{ReadFault}
+use Rattle.can_record.specs.declared.fault.ReadFault.{ReadFault}
 use Rattle.can_record.specs.RecordFaults.{IsTextOf, Reads}
 use Rattle.can_record.specs.Spelling.{first_line}
-use Rattle.can_text_audit.specs.declared.faults.TextFault.{TextFault}
-use Rattle.can_text_audit.specs.declared.faults.TextFault.TheVariants as fault
-use Rattle.can_text_audit.specs.declared.faults.WrongLine.{WrongLine}
-use Rattle.can_text_audit.specs.declared.text_audits.Course.{Course}
-use Rattle.can_text_audit.specs.declared.text_audits.Course.TheVariants as course
-use Rattle.can_text_audit.specs.declared.text_audits.TextAudit.{TextAudit}
+use Rattle.can_text_audit.specs.declared.fault.TextFault.{TextFault}
+use Rattle.can_text_audit.specs.declared.fault.TextFault.TheVariants as fault
+use Rattle.can_text_audit.specs.declared.fault.WrongLine.{WrongLine}
+use Rattle.can_text_audit.specs.declared.text_audit.Course.{Course}
+use Rattle.can_text_audit.specs.declared.text_audit.Course.TheVariants as course
+use Rattle.can_text_audit.specs.declared.text_audit.TextAudit.{TextAudit}
 use Rattle.can_text_audit.specs.inner.Bodies.{IsGoing, IsWrongIn}
 
 -- What an audit of a text answers (own choice).

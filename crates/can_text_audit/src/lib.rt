@@ -5,9 +5,9 @@
 //! the first line that is wrong, and where there is none the first entry that is, with the reply that would be legal.
 #![tactic(auto)]
 
-mod bodies;
-pub mod faults;
-pub mod text_audits;
+mod body;
+pub mod fault;
+pub mod text_audit;
 
-pub use faults::{TextFault, WrongLine};
-pub use text_audits::TextAudit;
+pub use fault::{TextFault, WrongLine};
+pub use text_audit::TextAudit;

@@ -11,13 +11,13 @@ use Rattle.can_bus.proofs.Fitting.{legal_is_spelled}
 use Rattle.can_record.specs.Spelling.{version_of}
 use Rattle.can_record.specs.Values.{HasLine}
 use Rattle.can_replay.specs.Histories.{before}
-use Rattle.can_text_audit.specs.declared.faults.TextFault.{TextFault}
-use Rattle.can_text_audit.specs.declared.faults.TextFault.TheVariants as found
-use Rattle.can_text_audit.specs.declared.faults.WrongLine.{WrongLine}
+use Rattle.can_text_audit.specs.declared.fault.TextFault.{TextFault}
+use Rattle.can_text_audit.specs.declared.fault.TextFault.TheVariants as found
+use Rattle.can_text_audit.specs.declared.fault.WrongLine.{WrongLine}
 use Rattle.can_text_audit.specs.TextAudits.{AreTaken, IsWrongText, Tells}
-use Rattle.can_text_audit.specs.declared.text_audits.TextAudit.{TextAudit}
-use Rattle.canbusd_faults.specs.declared.faults.Failure.{Failure}
-use Rattle.canbusd_faults.specs.declared.faults.Fault.{Fault}
+use Rattle.can_text_audit.specs.declared.text_audit.TextAudit.{TextAudit}
+use Rattle.canbusd_faults.specs.declared.fault.Failure.{Failure}
+use Rattle.canbusd_faults.specs.declared.fault.Fault.{Fault}
 use Rattle.canbusd_audit.specs.Audited.{Faults, FitsLines, HasNote, IsAudited, IsTextIn, IsTold, IsWritten, entries_line}
 
 -- a reply that is told is the legal one

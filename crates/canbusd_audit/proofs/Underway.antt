@@ -5,13 +5,13 @@ use Rattle.std.specs.Io.{StopsAt, appended_bytes}
 use Rattle.std.specs.Io.BufRead.{take_through}
 use Rattle.std.specs.Io.KnownBytes.{Consumes, IsAtEnd}
 use Rattle.std.proofs.lemmas.List.{append-nil}
-use Rattle.can_record.specs.declared.faults.ReadFault.{ReadFault}
+use Rattle.can_record.specs.declared.fault.ReadFault.{ReadFault}
 use Rattle.can_record.specs.RecordFaults.{Reads}
-use Rattle.can_text_audit.specs.declared.text_audits.TextAudit.{TextAudit}
+use Rattle.can_text_audit.specs.declared.text_audit.TextAudit.{TextAudit}
 use Rattle.can_text_audit.specs.TextAudits.{AreTaken, IsLine, MayFollow}
 use Rattle.can_text_audit.proofs.LineEnds.{nothing_more}
-use Rattle.canbusd_faults.specs.declared.faults.Fault.{Fault}
-use Rattle.canbusd_faults.specs.declared.faults.Fault.TheVariants as fault
+use Rattle.canbusd_faults.specs.declared.fault.Fault.{Fault}
+use Rattle.canbusd_faults.specs.declared.fault.Fault.TheVariants as fault
 use Rattle.canbusd_files.specs.Files.{IsOfReading}
 use Rattle.canbusd_audit.specs.Audited.{Faults, IsAtFault, IsBefore, IsOfLine, IsRead, IsTextIn, IsUnderway}
 

@@ -5,19 +5,19 @@ use Rattle.can_event.specs.declared.events.Entry.{Entry}
 use Rattle.can_event.specs.declared.events.Reply.{Reply}
 use Rattle.can_event.specs.Spelled.{FitsReply}
 use Rattle.can_bus.specs.Legal.{IsLegal}
-use Rattle.can_record.specs.declared.faults.ReadFault.{ReadFault}
+use Rattle.can_record.specs.declared.fault.ReadFault.{ReadFault}
 use Rattle.can_record.specs.RecordFaults.{IsTextOf, Reads}
 use Rattle.can_replay.specs.Audits.{IsFirstWrong}
-use Rattle.can_text_audit.specs.declared.faults.TextFault.{TextFault}
-use Rattle.can_text_audit.specs.declared.faults.TextFault.TheVariants as found
-use Rattle.can_text_audit.specs.declared.faults.WrongLine.{WrongLine}
-use Rattle.can_text_audit.specs.declared.text_audits.TextAudit.{TextAudit}
+use Rattle.can_text_audit.specs.declared.fault.TextFault.{TextFault}
+use Rattle.can_text_audit.specs.declared.fault.TextFault.TheVariants as found
+use Rattle.can_text_audit.specs.declared.fault.WrongLine.{WrongLine}
+use Rattle.can_text_audit.specs.declared.text_audit.TextAudit.{TextAudit}
 use Rattle.can_text_audit.specs.TextAudits.{AreTaken, IsLine, MayFollow}
-use Rattle.canbusd_faults.specs.declared.faults.Fault.{Fault}
-use Rattle.canbusd_faults.specs.declared.faults.Fault.TheVariants as fault
+use Rattle.canbusd_faults.specs.declared.fault.Fault.{Fault}
+use Rattle.canbusd_faults.specs.declared.fault.Fault.TheVariants as fault
 use Rattle.canbusd_files.specs.Files.{IsOfReading}
-use Rattle.canbusd_audit.specs.declared.held_lines.Held.{Held}
-use Rattle.canbusd_audit.specs.declared.held_lines.Held.TheVariants as held
+use Rattle.canbusd_audit.specs.declared.held.Held.{Held}
+use Rattle.canbusd_audit.specs.declared.held.Held.TheVariants as held
 
 -- What an audit of a text answers (own choice).
 

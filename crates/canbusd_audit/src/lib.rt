@@ -8,7 +8,7 @@
 
 mod audit_job;
 mod ends;
-mod held_lines;
+mod held;
 mod line_taking;
 mod notes;
 mod wrong_entries;

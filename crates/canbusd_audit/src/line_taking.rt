@@ -3,7 +3,7 @@ ghost use Rattle.can_text_audit.specs.TextAudits.{AreTaken};
 ghost use Rattle.canbusd_audit.specs.Audited.{Faults, IsNextLine, IsOfLine, IsTextIn};
 ghost use Rattle.canbusd_files.specs.Files.{IsOfReading};
 
-use crate::held_lines::{Held, take_held};
+use crate::held::{Held, take_held};
 use crate::notes::record_note;
 use can_record::ReadFault;
 use can_text_audit::TextAudit;

@@ -12,8 +12,8 @@ use Rattle.can_session.specs.declared.bench_run.BenchFault.TheVariants.{BadConfi
 use Rattle.can_session.specs.Benches.{BenchState}
 use Rattle.can_session.specs.Runs.{IsBench, Ran, at_start}
 use Rattle.canbusd_options.specs.declared.bench_options.BenchOptions.{BenchOptions}
-use Rattle.canbusd_faults.specs.declared.faults.Fault.{Fault}
-use Rattle.canbusd_faults.specs.declared.faults.Fault.TheVariants as fault
+use Rattle.canbusd_faults.specs.declared.fault.Fault.{Fault}
+use Rattle.canbusd_faults.specs.declared.fault.Fault.TheVariants as fault
 use Rattle.canbusd_files.specs.Buses.{AreVerdicts, config_of}
 use Rattle.canbusd_bench.specs.Benched.{EndsOver, FailsBy, IsBenched, IsRun, IsStopped, MeetsRefusal, StopsBy, begun}
 use Rattle.canbusd_bench.specs.Refusals.{GrowsByRefusal, GrowsQuietly}

@@ -14,8 +14,8 @@ use Rattle.canbusd_files.specs.Buses.{AreVerdicts, config_of}
 use Rattle.canbusd_files.specs.Files.{IsOfLogFile, IsOfNames, IsOfRecordFile, IsOfSource}
 use Rattle.canbusd_bench.specs.declared.bench_job.Ran.{Ran}
 use Rattle.canbusd_bench.specs.Refusals.{GrowsByRefusal, GrowsQuietly}
-use Rattle.canbusd_faults.specs.declared.faults.Fault.{Fault}
-use Rattle.canbusd_faults.specs.declared.faults.Fault.TheVariants as fault
+use Rattle.canbusd_faults.specs.declared.fault.Fault.{Fault}
+use Rattle.canbusd_faults.specs.declared.fault.Fault.TheVariants as fault
 
 -- What the options of a bench ask for (own choice).
 

@@ -1,6 +1,6 @@
 //! A writer that looks for refusals among what goes through it.
 ghost use Rattle.std.specs.Prelude.{◌≡◌, ◌≢◌, ◌+◌, ◌<◌, ◌^◌, ◌⊎◌, [], false, true, length, IfNone, IfSome, IsSome, Some};
-ghost use Rattle.canbusd_faults.specs.declared.faults.Fault.TheVariants as fault;
+ghost use Rattle.canbusd_faults.specs.declared.fault.Fault.TheVariants as fault;
 ghost use Rattle.canbusd_bench.specs.inner.Watched.{seen_after as seen_after_byte, seen_in, told};
 
 use canbusd_faults::{Failure, Fault, Shown};

@@ -4,10 +4,10 @@
 //! shown of what a file or a client holds.
 #![tactic(auto)]
 
-mod faults;
+mod fault;
 mod notes;
 mod shown;
 
-pub use faults::{Failure, Fault, Telling};
+pub use fault::{Failure, Fault, Telling};
 pub use notes::{WITH_CR, fixed_note, line_of, reason_note};
 pub use shown::{Line, Shown};

@@ -1,5 +1,5 @@
 use Rattle.std.specs.Prelude.{◌≡◌, ℕ, ◌-◌, ◌^◌, List, Option, Some, None, Ok, if◌then◌else◌}
-use Rattle.can_frame.specs.declared.ifaces.IfaceSet.{IfaceSet}
+use Rattle.can_frame.specs.declared.iface.IfaceSet.{IfaceSet}
 use Rattle.can_frame.specs.Sets.{no_ifaces}
 use Rattle.can_fault.specs.Sources.{VerdictMap, no_verdicts}
 use Rattle.can_fault.specs.Scripts.{Reads as Spells}

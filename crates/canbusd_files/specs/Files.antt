@@ -3,14 +3,14 @@ use denote.Ref.{Bor}
 use Rattle.std.specs.Io.KnownBytes.{Appends}
 use Rattle.can_bus.specs.Journal.{Kept}
 use Rattle.can_logfile.specs.Log.{joined, log_lines}
-use Rattle.can_fault.specs.declared.scripts.ScriptError.{ScriptError}
-use Rattle.can_fault.specs.declared.scripts.ScriptError.TheVariants as script
+use Rattle.can_fault.specs.declared.script.ScriptError.{ScriptError}
+use Rattle.can_fault.specs.declared.script.ScriptError.TheVariants as script
 use Rattle.can_fault.specs.Scripts.{Reads as Spells}
 use Rattle.can_frame.specs.Names.{AreNames, names_in}
 use Rattle.canbusd_options.specs.declared.bus_word.BusWord.{BusWord}
 use Rattle.canbusd_options.specs.BusWords.{first_name_of}
-use Rattle.canbusd_faults.specs.declared.faults.Fault.{Fault}
-use Rattle.canbusd_faults.specs.declared.faults.Fault.TheVariants as fault
+use Rattle.canbusd_faults.specs.declared.fault.Fault.{Fault}
+use Rattle.canbusd_faults.specs.declared.fault.Fault.TheVariants as fault
 
 -- What is written to files, and what is reported of names, files and scripts that cannot be read or written (own choice).
 

@@ -1,6 +1,6 @@
 //! The files that the program reads, whose bytes no contract knows.
 ghost use Rattle.std.specs.Prelude.{◌≡◌, IfErr};
-ghost use Rattle.canbusd_faults.specs.declared.faults.Fault.TheVariants as fault;
+ghost use Rattle.canbusd_faults.specs.declared.fault.Fault.TheVariants as fault;
 ghost use Rattle.canbusd_files.specs.Files.{IsOfFile, IsOfReading};
 
 use crate::few_reads::{FewReads, MOST_READS};

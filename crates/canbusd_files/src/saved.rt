@@ -1,7 +1,7 @@
 //! The files that a run leaves: the record of a bus, and its log. Where it leaves none, a note says so.
 ghost use Rattle.std.specs.Prelude.{◌≡◌, ◌-◌, ◌==◌, count_by, IfErr, OnOk};
 ghost use Rattle.can_record.specs.Texts.{text_of};
-ghost use Rattle.canbusd_faults.specs.declared.faults.Fault.TheVariants as fault;
+ghost use Rattle.canbusd_faults.specs.declared.fault.Fault.TheVariants as fault;
 ghost use Rattle.canbusd_files.specs.Files.{IsOfLogFile, IsOfRecordFile, IsOfWriting, Took, log_text};
 
 use crate::files::{open_failure, write_failure};

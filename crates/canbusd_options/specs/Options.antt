@@ -2,8 +2,8 @@ use Rattle.std.specs.Prelude.{◌≡◌, ℕ, ◌≤◌, map, true, false, List,
 use Rattle.std.specs.Path.{path_bytes, path_components, path_names, root_dir, slash}
 use Rattle.std.specs.declared.path.Path.{Path}
 use Rattle.std.specs.Str.Parse.{IsNumeral, digits_value}
-use Rattle.can_attempt.specs.declared.acks.AckMode.{AckMode}
-use Rattle.can_attempt.specs.declared.acks.AckMode.TheVariants as ack
+use Rattle.can_attempt.specs.declared.ack_mode.AckMode.{AckMode}
+use Rattle.can_attempt.specs.declared.ack_mode.AckMode.TheVariants as ack
 use Rattle.clap.specs.declared.parser.matches.ArgMatches.{ArgMatches}
 use Rattle.clap.specs.Words.{Row, all_of, first_of, found_of, one_of, rows_of}
 use Rattle.canbusd_options.specs.declared.bus_options.BusSettings.{BusSettings}

@@ -2,10 +2,10 @@ use Rattle.std.proofs.Common.{◌≡◌, ◌+◌, ◌<◌, ℕ, suc, take, get_o
 use Rattle.std.proofs.lemmas.List.{take_more}
 use Rattle.std.proofs.lemmas.List.Elements.{All-cons}
 use Rattle.can_frame.specs.Names.{AreNames, names_in}
-use Rattle.can_station.specs.declared.gates.Open.{Open}
-use Rattle.can_station.specs.declared.passes.Settled.{Settled}
+use Rattle.can_station.specs.declared.gate.Open.{Open}
+use Rattle.can_station.specs.declared.pass.Settled.{Settled}
 use Rattle.can_station.specs.Passes.{PassSeen}
-use Rattle.can_hub.specs.declared.benches.Bench.{Bench}
+use Rattle.can_hub.specs.declared.bench.Bench.{Bench}
 use Rattle.can_hub.specs.Benches.{buses_from}
 use Rattle.can_hub.specs.Settling.{AllSettle}
 use Rattle.canbusd_options.specs.declared.bus_word.BusWord.{BusWord}

@@ -3,9 +3,9 @@ use Rattle.std.specs.List.{AllZip}
 use Rattle.std.specs.Io.KnownBytes.{Appends}
 use Rattle.can_frame.specs.Names.{AreNames, names_in}
 use Rattle.can_bus.specs.Legal.{IsLegal}
-use Rattle.can_station.specs.declared.gates.Open.{Open}
-use Rattle.can_station.specs.declared.passes.Settled.{Settled}
-use Rattle.can_hub.specs.declared.benches.Bench.{Bench}
+use Rattle.can_station.specs.declared.gate.Open.{Open}
+use Rattle.can_station.specs.declared.pass.Settled.{Settled}
+use Rattle.can_hub.specs.declared.bench.Bench.{Bench}
 use Rattle.canbusd_options.specs.declared.bus_word.BusWord.{BusWord}
 use Rattle.canbusd_files.specs.declared.buses.Source.{Source}
 use Rattle.canbusd_options.specs.declared.serve_options.ServeOptions.{ServeOptions}

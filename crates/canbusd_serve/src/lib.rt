@@ -6,12 +6,12 @@
 #![tactic(auto)]
 
 mod buses_notes;
-mod drafts;
-mod hosts;
+mod draft;
+mod host;
 mod listening;
 mod notices;
 mod serve_files;
 mod serve_job;
-mod socket_files;
+mod socket_file;
 
 pub use serve_job::{ServerRuntime, run_serve};

@@ -1,6 +1,6 @@
 //! Where a server listens: a Unix path, or a host and a port.
 
-use crate::socket_files::SocketFile;
+use crate::socket_file::SocketFile;
 use can_server::{Door, Listener};
 use canbusd_faults::{Failure, Fault, reason_note};
 use std::alloc::{AllocError, Global};

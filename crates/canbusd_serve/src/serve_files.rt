@@ -1,7 +1,7 @@
 //! The records and logs that a server leaves.
 ghost use Rattle.std.specs.Prelude.{IsTrue};
 
-use crate::drafts::Draft;
+use crate::draft::Draft;
 use can_bus::Record;
 use can_station::Settled;
 use canbusd_faults::{Failure, Fault, Shown, Telling};

@@ -4,7 +4,7 @@ ghost use Rattle.can_hub.specs.Benches.{NamedFrom};
 ghost use Rattle.canbusd_serve.specs.Served.{AreBenches, IsBenchOf, IsLegalEnd, IsListening, IsServed, end_line, end_lines, listening_line};
 
 use crate::buses_notes::buses_note;
-use crate::hosts::Host;
+use crate::host::Host;
 use crate::listening::{Listening, leave, listen, listen_failure};
 use crate::serve_files::{look_at_folder, save_all};
 use can_bus::BusFault;

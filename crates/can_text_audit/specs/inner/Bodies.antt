@@ -4,12 +4,12 @@ use Rattle.can_event.specs.declared.events.BusConfig.{BusConfig}
 use Rattle.can_event.specs.declared.events.Entry.{Entry}
 use Rattle.can_bus.specs.Lean.{Stands}
 use Rattle.can_bus.specs.Legal.{IsLegal}
-use Rattle.can_record.specs.declared.versions.Version.{Version}
+use Rattle.can_record.specs.declared.version.Version.{Version}
 use Rattle.can_record.specs.Spelling.{entry_lines, front_lines, has_fd, text_in}
 use Rattle.can_record.specs.Values.{HasLines}
 use Rattle.can_replay.specs.Audits.{IsToldWrong}
-use Rattle.can_text_audit.specs.declared.bodies.Body.{Body}
-use Rattle.can_text_audit.specs.declared.faults.WrongLine.{WrongLine}
+use Rattle.can_text_audit.specs.declared.body.Body.{Body}
+use Rattle.can_text_audit.specs.declared.fault.WrongLine.{WrongLine}
 
 -- What is known of the lines behind the first.
 

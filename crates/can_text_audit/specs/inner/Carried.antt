@@ -6,8 +6,8 @@ use Rattle.can_event.specs.declared.events.Reply.{Reply}
 use Rattle.can_bus.specs.Lean.{Lean, Stands}
 use Rattle.can_bus.specs.Legal.{legal_reply}
 use Rattle.can_replay.specs.Audits.{allowed_after}
-use Rattle.can_record.specs.declared.versions.Version.{Version}
-use Rattle.can_record.specs.declared.versions.Version.TheVariants as version
+use Rattle.can_record.specs.declared.version.Version.{Version}
+use Rattle.can_record.specs.declared.version.Version.TheVariants as version
 use Rattle.can_record.specs.Spelling.{entry_line, has_fd}
 use Rattle.can_record.specs.Values.{HasLine}
 

@@ -1,13 +1,13 @@
 use Rattle.std.specs.Prelude.{◌≡◌, ℕ, ◌+◌, false, List, [], ◌++◌, reverse, Option, Result, Ok, Err}
 use Rattle.can_event.specs.declared.events.Reply.{Reply}
-use Rattle.can_record.specs.declared.faults.Unread.{Unread}
-use Rattle.can_record.specs.declared.faults.Unread.TheVariants as unread
+use Rattle.can_record.specs.declared.fault.Unread.{Unread}
+use Rattle.can_record.specs.declared.fault.Unread.TheVariants as unread
 use Rattle.can_record.specs.RecordFaults.{LacksEnd, LacksEntry}
-use Rattle.can_record.specs.declared.faults.ReadFault.{ReadFault}
-use Rattle.can_record.specs.declared.faults.ReadFault.TheVariants as fault
+use Rattle.can_record.specs.declared.fault.ReadFault.{ReadFault}
+use Rattle.can_record.specs.declared.fault.ReadFault.TheVariants as fault
 use Rattle.can_record.specs.Spelling.{end_words, spell}
 use Rattle.can_record.specs.Texts.{StartsWith}
-use Rattle.can_text_audit.specs.declared.bodies.Body.{Body}
+use Rattle.can_text_audit.specs.declared.body.Body.{Body}
 use Rattle.can_text_audit.specs.inner.Bodies.{IsGoing, IsRead}
 use Rattle.can_text_audit.specs.inner.Carried.{IsOther}
 use Rattle.can_text_audit.specs.TextAudits.{IsLine}

@@ -1,5 +1,5 @@
 use Rattle.std.proofs.Common.{ap, sym, ◌∙◌, inl, inr}
-use Rattle.can_attempt.specs.declared.classes.Class.{Class}
+use Rattle.can_attempt.specs.declared.class.Class.{Class}
 use Rattle.can_attempt.specs.Attempts.{set_of, accepted_in}
 use Rattle.can_attempt.proofs.judging.accepted_of.Goals as goal
 

@@ -1,6 +1,6 @@
 use Rattle.std.proofs.Common.{◌≡◌, ℕ, ◌<◌, ◌≤◌, length, get_or}
 use Rattle.can_confine.specs.Confinement.{at_start}
-use Rattle.can_attempt.specs.declared.acks.AckMode.{AckMode}
+use Rattle.can_attempt.specs.declared.ack_mode.AckMode.{AckMode}
 use Rattle.can_attempt.specs.Attempts.{attempt_between, counts_at, counts_in}
 use Rattle.can_attempt.proofs.judging.all_counters_after.Given as goal
 

@@ -1,5 +1,5 @@
 use Rattle.std.proofs.Common.{refl, sym, ap, ◌∙◌, arith}
-use Rattle.can_fault.specs.declared.verdicts.Verdict.{Verdict}
+use Rattle.can_fault.specs.declared.verdict.Verdict.{Verdict}
 use Rattle.can_attempt.specs.Attempts.{attempt_between, judged}
 use Rattle.can_attempt.proofs.Calm.{judged_calm}
 use Rattle.can_attempt.proofs.judging.judge_calm.Goals as goal

@@ -2,7 +2,7 @@ use Rattle.std.proofs.Common.{◌≡◌, Bool, ◌||◌, List, [], ◌∷◌, ma
 use Rattle.std.specs.List.{range_with_len}
 use Rattle.std.proofs.lemmas.List.FromFn.{get_or-map-range_with_len}
 use Rattle.can_confine.specs.Confinement.{ErrorCounts, is_off, state_of}
-use Rattle.can_attempt.specs.declared.classes.Class.{Class}
+use Rattle.can_attempt.specs.declared.class.Class.{Class}
 use Rattle.can_attempt.specs.Attempts.{Transmission, attempt_between, counts_in, counts_after, class_of, class_when, is_global, is_always, is_last_bit, is_destroyed, set_of, accepted_in}
 use Rattle.can_attempt.specs.Surveys.{IsSurveyOf}
 use Rattle.can_attempt.proofs.Judged.{same_judgement}

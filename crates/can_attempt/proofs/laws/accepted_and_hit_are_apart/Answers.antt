@@ -1,7 +1,7 @@
 use Rattle.std.proofs.Common.{◌≡◌, ℕ, Bool, true, false, not, nat_lt, ◌&&◌, sym, arith, refl, ◌∙◌}
 use Rattle.std.proofs.lemmas.Bool.{false≢true}
-use Rattle.can_attempt.specs.declared.classes.Class.{Class}
-use Rattle.can_attempt.specs.declared.classes.Class.TheVariants.{Done, LastBit, Destroyed, NoAck}
+use Rattle.can_attempt.specs.declared.class.Class.{Class}
+use Rattle.can_attempt.specs.declared.class.Class.TheVariants.{Done, LastBit, Destroyed, NoAck}
 use Rattle.can_attempt.specs.Attempts.{Transmission, is_among, unhurt, can_hear, is_named, class_of, accepted_in}
 use Rattle.can_attempt.proofs.Places.{is_among-hit, is_among-unhurt}
 use Rattle.can_attempt.proofs.laws.accepted_and_hit_are_apart.Goals as goal

@@ -2,8 +2,8 @@ use Rattle.std.proofs.Common.{◌≡◌, ◌≢◌, Bool, true, false, not, ap, 
 use Rattle.std.specs.List.{list_any}
 use Rattle.std.proofs.lemmas.Bool.{false≢true}
 use Rattle.can_confine.specs.Confinement.{is_passive}
-use Rattle.can_attempt.specs.declared.classes.Class.{Class}
-use Rattle.can_attempt.specs.declared.classes.Class.TheVariants.{Destroyed}
+use Rattle.can_attempt.specs.declared.class.Class.{Class}
+use Rattle.can_attempt.specs.declared.class.Class.TheVariants.{Destroyed}
 use Rattle.can_attempt.specs.Attempts.{state_at, hit, is_destroyed, is_acknowledged, is_last_bit, class_when}
 use Rattle.can_attempt.proofs.Places.{any_same, any_none}
 use Rattle.can_attempt.proofs.laws.passive_receivers_destroy_nothing.Goals as goal

@@ -1,7 +1,7 @@
 use Rattle.std.proofs.Common.{◌≡◌, ◌<◌, ◌+◌, ◌^◌, map, Some, All, sym, ap, ◌∙◌, subst, arith}
-use Rattle.can_fault.specs.declared.verdicts.Verdict.{Verdict}
+use Rattle.can_fault.specs.declared.verdict.Verdict.{Verdict}
 use Rattle.can_attempt.specs.Attempts.{attempt_between, class_of}
-use Rattle.can_attempt.specs.declared.classes.Class.TheVariants as class
+use Rattle.can_attempt.specs.declared.class.Class.TheVariants as class
 use Rattle.can_attempt.proofs.Calm.{calm_class}
 use Rattle.can_event.specs.declared.events.Tried.{Tried}
 use Rattle.can_bus.specs.Attempted.{transmission_of}

@@ -3,7 +3,7 @@ use Rattle.std.specs.Int.{bit_at}
 use Rattle.std.proofs.lemmas.Bool.{cases_eq, eq-eqb, ne_eqb}
 use Rattle.std.proofs.lemmas.Nat.Bits.{bit_at-pow_same, bit_at-pow_other}
 use Rattle.can_frame.specs.Sets.{is_in}
-use Rattle.can_frame.specs.declared.ifaces.IfaceSet.{IfaceSet}
+use Rattle.can_frame.specs.declared.iface.IfaceSet.{IfaceSet}
 use Rattle.can_errframe.specs.ErrorMessages.{restart_message}
 use Rattle.can_bus.specs.Posts.{Post, restart_posts, auto_restart_posts, error_posts}
 use Rattle.can_bus.specs.State.{SocketState, filled, reached}

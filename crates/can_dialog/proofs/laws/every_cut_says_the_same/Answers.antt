@@ -1,5 +1,5 @@
 use Rattle.std.proofs.Common.{◌≡◌, List, [], sym, subst, flat_map}
-use Rattle.can_proto.specs.declared.messages.Incoming.{Incoming}
+use Rattle.can_proto.specs.declared.message.Incoming.{Incoming}
 use Rattle.can_proto.specs.Messages.{given_from, messages_of}
 use Rattle.can_dialog.specs.Sessions.{Turns}
 use Rattle.can_dialog.proofs.Cuts.{of_pieces, in_pieces}

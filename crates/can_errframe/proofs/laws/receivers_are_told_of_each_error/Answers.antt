@@ -1,11 +1,11 @@
 use Rattle.std.proofs.Common.{◌≡◌, ℕ, ◌<◌, ◌==◌, nat_lt, Bool, true, false, is_some, refl, ◌||◌, ◌&&◌, ap, sym, ◌∙◌, arith, if◌then◌else◌}
 use Rattle.std.proofs.lemmas.Bool.{false≢true, true≢false}
-use Rattle.can_fault.specs.declared.verdicts.Verdict.{Verdict}
-use Rattle.can_fault.specs.declared.verdicts.Verdict.TheVariants as verdict
+use Rattle.can_fault.specs.declared.verdict.Verdict.{Verdict}
+use Rattle.can_fault.specs.declared.verdict.Verdict.TheVariants as verdict
 use Rattle.can_attempt.specs.Attempts.{class_when, class_of, is_global, is_named, is_last_bit, is_destroyed, is_acknowledged, receiver_step, can_hear}
 use Rattle.can_attempt.proofs.Places.{is_among-receivers, steps_in-receiver}
 use Rattle.can_errframe.specs.ErrorMessages.{fault_message, is_receive_error}
-use Rattle.can_errframe.specs.declared.roles.Role.TheVariants.{Named, Other}
+use Rattle.can_errframe.specs.declared.role.Role.TheVariants.{Named, Other}
 use Rattle.can_errframe.proofs.Faults.{is_local, not_destroyed}
 use Rattle.can_errframe.proofs.laws.receivers_are_told_of_each_error.Goals as goal
 

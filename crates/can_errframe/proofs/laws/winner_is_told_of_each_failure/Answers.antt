@@ -1,10 +1,10 @@
 use Rattle.std.proofs.Common.{◌≡◌, Bool, true, false, not, is_some, refl, ◌||◌}
 use Rattle.std.proofs.lemmas.Bool.{false≢true, true≢false}
-use Rattle.can_fault.specs.declared.verdicts.Verdict.{Verdict}
-use Rattle.can_fault.specs.declared.verdicts.Verdict.TheVariants as verdict
+use Rattle.can_fault.specs.declared.verdict.Verdict.{Verdict}
+use Rattle.can_fault.specs.declared.verdict.Verdict.TheVariants as verdict
 use Rattle.can_attempt.specs.Attempts.{class_when, is_done, is_global, is_last_bit, is_destroyed, is_acknowledged}
 use Rattle.can_errframe.specs.ErrorMessages.{fault_message}
-use Rattle.can_errframe.specs.declared.roles.Role.TheVariants.{Winner}
+use Rattle.can_errframe.specs.declared.role.Role.TheVariants.{Winner}
 use Rattle.can_errframe.proofs.Faults.{is_local, not_destroyed}
 use Rattle.can_errframe.proofs.laws.winner_is_told_of_each_failure.Goals as goal
 

@@ -1,7 +1,7 @@
 use Rattle.std.proofs.Common.{⊎_elim, inr}
 use Rattle.std.specs.Ordering.{nat_cmp}
 use Rattle.std.specs.FinMap.{get-empty}
-use Rattle.can_fault.specs.declared.verdicts.Verdict.{Verdict}
+use Rattle.can_fault.specs.declared.verdict.Verdict.{Verdict}
 use Rattle.can_fault.specs.Sources.{no_verdicts}
 use Rattle.can_fault.specs.Scripts.{sayings}
 use Rattle.can_fault.proofs.ScriptLaws.{found, kept}

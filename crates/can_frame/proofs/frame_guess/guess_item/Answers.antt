@@ -1,5 +1,5 @@
 use Rattle.std.proofs.Common.{◌≡◌, ◌∙◌, List, ℕ, Option, Some, None, IfSome, sym}
-use Rattle.can_frame.specs.declared.items.Item.{Item}
+use Rattle.can_frame.specs.declared.item.Item.{Item}
 use Rattle.can_frame.specs.FrameText.{IsItem}
 use Rattle.can_frame.specs.FrameGuess.{item_in}
 use Rattle.can_frame.proofs.Guessing.{guessed}

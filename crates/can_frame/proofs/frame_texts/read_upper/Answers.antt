@@ -1,5 +1,5 @@
 use Rattle.std.proofs.Common.{◌≡◌, Bool, false, Some, None, IsTrue, sym, subst, ◌∙◌}
-use Rattle.can_frame.specs.declared.items.Item.{Item}
+use Rattle.can_frame.specs.declared.item.Item.{Item}
 use Rattle.can_frame.specs.FrameText.{IsSpelling}
 use Rattle.can_frame.proofs.frame_texts.read_upper.Goals as goal
 

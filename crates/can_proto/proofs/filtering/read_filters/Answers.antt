@@ -1,7 +1,7 @@
 use Rattle.std.proofs.Common.{rules, ◌≡◌, ◌<◌, ◌++◌, ◌∷◌, [], List, ℕ, Ok, Err, Result, length, take, refl, sym, ap, ◌∙◌, arith, append_assoc}
 use Rattle.std.proofs.lemmas.List.{length-set, append-nil, take_more_set, nil_from_length}
 use Rattle.can_filter.specs.Filters.{CanFilter}
-use Rattle.can_proto.specs.declared.faults.ProtoFault.{ProtoFault}
+use Rattle.can_proto.specs.declared.fault.ProtoFault.{ProtoFault}
 use Rattle.can_proto.specs.Words.{words_of}
 use Rattle.can_proto.specs.Commands.{◌>>=◌, with_front, filter_of, filters_of}
 use Rattle.can_proto.proofs.filtering.read_filters.Goals as goal

@@ -1,7 +1,7 @@
 use Rattle.std.proofs.Common.{◌≡◌, ◌≤◌, ◌<◌, ◌+◌, ◌*◌, ◌∷◌, [], List, ℕ, Option, Some, None, MatchOption, Err, if◌then◌else◌, ◌^◌, nat_lt, ◌⊎◌, inl, inr, refl, ap, ◌∙◌, arith}
 use Rattle.std.proofs.lemmas.Bool.{lt-ltb}
 use Rattle.can_frame.specs.Numbers.{hex_digit, in_base, one_more, number_after, number_in}
-use Rattle.can_proto.specs.declared.faults.ProtoFault.TheVariants.{BadId}
+use Rattle.can_proto.specs.declared.fault.ProtoFault.TheVariants.{BadId}
 use Rattle.can_proto.specs.Commands.{id_of, short_id}
 use Rattle.can_proto.proofs.pairs.short_id.Goals as goal
 

@@ -1,6 +1,6 @@
 use Rattle.std.proofs.Common.{◌≡◌, ◌≤◌, ◌<◌, ◌∷◌, [], List, ℕ, Option, ok_or, length, slice_index_or, arith}
 use Rattle.can_frame.specs.Frames.{Identifier}
-use Rattle.can_proto.specs.declared.faults.ProtoFault.TheVariants.{BadId}
+use Rattle.can_proto.specs.declared.fault.ProtoFault.TheVariants.{BadId}
 use Rattle.can_proto.specs.Commands.{id_of}
 use Rattle.can_proto.proofs.sending.id_in.Goals as goal
 

@@ -1,7 +1,7 @@
 use Rattle.std.proofs.Common.{◌≡◌, ◌+◌, ◌==◌, if◌then◌else◌, inl, inr, ◌∷◌, List, ℕ, Ok, Err, None, Option, length, sym, ap, ◌∙◌, arith}
 use Rattle.std.proofs.lemmas.Bool.{cases_Bool, eq-eqb, ne_eqb, eqb-true, eqb-false, cond-true, cond-false}
-use Rattle.can_proto.specs.declared.faults.ProtoFault.{ProtoFault}
-use Rattle.can_proto.specs.declared.faults.ProtoFault.TheVariants.{BadByte, BadCount}
+use Rattle.can_proto.specs.declared.fault.ProtoFault.{ProtoFault}
+use Rattle.can_proto.specs.declared.fault.ProtoFault.TheVariants.{BadByte, BadCount}
 use Rattle.can_proto.specs.Words.{words_of}
 use Rattle.can_frame.specs.Numbers.{number_in}
 use Rattle.can_proto.specs.Commands.{◌>>=◌, bytes_of, or_fault, IsDataFault}

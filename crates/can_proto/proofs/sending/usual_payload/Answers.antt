@@ -3,7 +3,7 @@ use Rattle.std.proofs.lemmas.List.{take_all, length-drop}
 use Rattle.std.proofs.lemmas.Bool.{eq-eqb}
 use Rattle.can_frame.specs.Frames.{Identifier}
 use Rattle.can_frame.specs.Frames.Payload.{Data}
-use Rattle.can_proto.specs.declared.commands.Command.TheVariants.{Send}
+use Rattle.can_proto.specs.declared.command.Command.TheVariants.{Send}
 use Rattle.can_proto.specs.Words.{is_blank, words_of}
 use Rattle.can_proto.specs.Commands.{id_of, length_of, bytes_of, send_of}
 use Rattle.can_proto.proofs.sending.usual_payload.Goals as goal

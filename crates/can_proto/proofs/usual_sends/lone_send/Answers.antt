@@ -1,6 +1,6 @@
 use Rattle.std.proofs.Common.{◌≡◌, ◌≤◌, ◌++◌, ◌∷◌, [], ℕ, List, Ok, Option, Some, None, IfSome, codes, length, arith}
 use Rattle.can_frame.specs.Frames.{CanFrame}
-use Rattle.can_proto.specs.declared.commands.Command.TheVariants.{Send}
+use Rattle.can_proto.specs.declared.command.Command.TheVariants.{Send}
 use Rattle.can_proto.specs.Words.{words_of}
 use Rattle.can_proto.specs.Commands.{send_of, IsLoneSend}
 use Rattle.can_proto.proofs.LoneSends.{lone}

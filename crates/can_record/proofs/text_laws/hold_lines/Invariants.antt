@@ -1,6 +1,6 @@
 use Rattle.std.proofs.Common.{take, reverse}
 use Rattle.std.specs.Prelude.{All}
-use Rattle.can_record.specs.declared.versions.Version.TheVariants as version
+use Rattle.can_record.specs.declared.version.Version.TheVariants as version
 use Rattle.can_record.specs.Values.{HasLine}
 use Rattle.can_record.proofs.text_laws.hold_lines.Given as goal
 

@@ -3,7 +3,7 @@ use Rattle.can_record.specs.RecordFaults.{Reads}
 use Rattle.can_text_audit.specs.TextAudits.{AreTaken, IsLine, MayFollow}
 use Rattle.canbusd_files.specs.Files.{IsOfReading}
 use Rattle.canbusd_audit.specs.Audited.{BecomesOf, IsNextLine}
-use Rattle.canbusd_audit.specs.declared.held_lines.Held.{Held}
+use Rattle.canbusd_audit.specs.declared.held.Held.{Held}
 use Rattle.canbusd_audit.proofs.Underway.{ends, fails_held, fails_so, goes_on, stops}
 use Rattle.canbusd_audit.proofs.line_taking.take_lines.Goals as goal
 

@@ -1,5 +1,5 @@
 use Rattle.std.proofs.Common.{◌≡◌, ℕ, List, [], codes, unwrap_or, rules, ap, sym, subst, ◌∙◌}
-use Rattle.can_attempt.specs.declared.acks.AckMode.TheVariants as ack
+use Rattle.can_attempt.specs.declared.ack_mode.AckMode.TheVariants as ack
 use Rattle.clap.specs.Words.{first_value, found_of}
 use Rattle.canbusd_options.specs.Options.{IsMode}
 use Rattle.canbusd_options.proofs.Rules.{text_in_rows}

@@ -2,7 +2,7 @@ use Rattle.std.proofs.Common.{◌≡◌, ◌<◌, ◌==◌, true, false, ap, sym
 use Rattle.std.proofs.lemmas.Bool.{ne_eqb}
 use Rattle.can_frame.specs.Sets.{is_in}
 use Rattle.can_attempt.specs.Attempts.{hit, set_of}
-use Rattle.can_attempt.specs.declared.judgements.Judgement.{Judgement}
+use Rattle.can_attempt.specs.declared.judgement.Judgement.{Judgement}
 use Rattle.can_bus.specs.Attempted.{Outcome, outcome_of, transmission_of}
 use Rattle.can_bus.specs.Posts.{role_at}
 use Rattle.can_bus.proofs.Roles.{role-named, role-other, role-beyond, role-off}

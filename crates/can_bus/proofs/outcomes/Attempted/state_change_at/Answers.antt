@@ -3,7 +3,7 @@ use Rattle.std.specs.List.{range_with_len}
 use Rattle.std.proofs.lemmas.List.FromFn.{get_or-map-range_with_len}
 use Rattle.can_confine.specs.Confinement.{ErrorCounts}
 use Rattle.can_attempt.specs.Attempts.{counts_at, counts_after}
-use Rattle.can_attempt.specs.declared.judgements.Judgement.{Judgement}
+use Rattle.can_attempt.specs.declared.judgement.Judgement.{Judgement}
 use Rattle.can_errframe.specs.ErrorMessages.{state_message}
 use Rattle.can_bus.specs.Attempted.{Outcome, outcome_of, transmission_of}
 use Rattle.can_bus.proofs.outcomes.Attempted.state_change_at.Goals as goal

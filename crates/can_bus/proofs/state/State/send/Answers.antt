@@ -1,5 +1,5 @@
 use Rattle.std.proofs.Common.{◌≡◌, ◌+◌, ◌<◌, ◌^◌, [], ◌∷◌, ◌++◌, sym, ap, ◌∙◌, refl, arith}
-use Rattle.can_filter.specs.declared.socket_options.Options.{Options}
+use Rattle.can_filter.specs.declared.options.Options.{Options}
 use Rattle.can_bus.specs.Changes.{pending_of}
 use Rattle.can_bus.specs.State.{LineState}
 use Rattle.can_bus.proofs.Reading.{stands-at, fd-off-for, off-for, on-line, of-line, line-of, found_full, took}

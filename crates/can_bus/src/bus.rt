@@ -1,0 +1,350 @@
+ghost use Rattle.std.specs.Prelude.{◌≡◌, ◌≢◌, ◌<◌, true, [], length, Ok, IfOk, OnOk, ◌↔◌};
+ghost use Rattle.can_bus.specs.Answer.{Answers, done_reply, told_attempt};
+ghost use Rattle.can_bus.specs.Attempts.{winner};
+ghost use Rattle.can_bus.specs.AutoRestart.{is_counting};
+ghost use Rattle.can_bus.specs.Headline.{Headline};
+ghost use Rattle.can_event.specs.Events.{IsConfig};
+ghost use Rattle.can_event.specs.Replies.{entry_of, taken_reply};
+ghost use Rattle.can_bus.specs.Legal.{IsLegal};
+ghost use Rattle.can_bus.specs.Run.{IsAnswered};
+ghost use Rattle.can_bus.specs.Stats.{socket_stats_of, iface_stats_of, all_counts};
+ghost use Rattle.can_bus.specs.Transmit.{tape};
+ghost use Rattle.can_event.specs.declared.events.Event.TheVariants as event;
+ghost use Rattle.can_event.specs.declared.events.Reply.TheVariants as reply;
+
+use crate::records::Record;
+use crate::state::State;
+use can_arbiter::{Arbiter, IndexArbiter, ScanArbiter};
+use can_confine::Counters;
+use can_event::{
+    Attempt, BusConfig, Closed, Entry, Event, IfaceStats, Opt, Pending, Received, Refusal, Reply,
+    SocketId, SocketStats,
+};
+use can_fault::Verdict;
+use can_filter::FilterSet;
+use can_frame::{Frame, Iface, Moment};
+use can_queue::{BoundedQueue, ListQueue, RingQueue};
+use std::alloc::{AllocError, Global};
+use std::marker::Model;
+use thiserror::Error;
+
+/// Why no bus was made.
+#[derive(Debug, Clone, Copy, PartialEq, Eq, Error)]
+pub enum BusFault {
+    /// The configuration is outside the limits of a bus.
+    #[error("bad bus")]
+    BadConfig,
+    /// Memory was refused.
+    #[error("no memory")]
+    NoMemory,
+}
+
+impl From<AllocError> for BusFault {
+    ghost use Rattle.can_bus.specs.declared.bus.BusFault.TheVariants.{NoMemory};
+
+    ghost from_gives = { λ _ fault. fault ≡ NoMemory };
+
+    fn from(_refused: AllocError) -> BusFault {
+        BusFault::NoMemory
+    }
+}
+
+/// A bus: interfaces that share one wire, and the sockets open on them.
+///
+/// Each event call is answered from the bus's record alone, and adds one entry to it; a call that is
+/// refused for a full record or for want of memory adds none and changes nothing. Contracts see a bus
+/// as its configuration and its history. The queues that frames and items wait in are known by the
+/// laws of `BoundedQueue` alone, and the arbiter by those of `Arbiter`.
+///
+/// No event but `open` and `set_filters` takes memory: `new` reserves the record, of 32 bytes an entry and 76 for its FD
+/// frame, the transmit queues and the places of 64 sockets. A call on a socket looks through the open ones, at most 64.
+#[derive(Drop)]
+pub struct Bus<T: BoundedQueue<Pending>, R: BoundedQueue<Received>, A: Arbiter> {
+    alloc: Global,
+    record: Record,
+    state: State<T, R, A>,
+}
+
+/// The bus of the program: rings for its queues.
+pub type RingBus = Bus<RingQueue<Pending>, RingQueue<Received>, IndexArbiter>;
+
+/// The plainest bus, with lists for its queues.
+pub type ListBus = Bus<ListQueue<Pending>, ListQueue<Received>, ScanArbiter>;
+
+impl<T: BoundedQueue<Pending>, R: BoundedQueue<Received>, A: Arbiter> Model for Bus<T, R, A> {
+    ghost use Rattle.can_bus.specs.Journal.{Journal};
+    ghost use Rattle.can_bus.specs.State.{IsKept};
+
+    ghost Value = { Journal };
+
+    ghost view = { λ b. record { config = b.record.config; history = b.record.history } };
+
+    ghost invariant = { λ b. IsKept b.record b.state };
+}
+
+/// The entry of a socket's filters that are set to a copy of these, in memory of its own.
+fn filters_entry(alloc: Global, id: SocketId, filters: &FilterSet) -> Result<Box<Entry>, AllocError>
+    ensures { IfOk result (λ entry.
+        entry.value ≡ entry_of (event.SetFilters id filters.now) reply.Done) }
+{
+    let event = Event::SetFilters(id, filters.try_copy(alloc)?);
+    let reply = Reply::Done;
+    Ok(Box::new(alloc, Entry { event, reply })?)
+}
+
+impl<T: BoundedQueue<Pending>, R: BoundedQueue<Received>, A: Arbiter> Bus<T, R, A> {
+    /// A bus on which nothing was done. It takes memory for all of `limit` entries.
+    pub fn new(alloc: Global, config: BusConfig) -> Result<Bus<T, R, A>, BusFault>
+        ensures made { IfOk result (λ b. b ≡ record { config = config; history = [] }) }
+        ensures proper { OnOk result (IsConfig config) }
+        ensures bad { (result ≡ Err BusFault.BadConfig) ↔ (¬ IsConfig config) }
+    {
+        if !config.is_proper() {
+            return Err(BusFault::BadConfig);
+        }
+        let Ok(state) = State::new(alloc, config) else {
+            return Err(BusFault::NoMemory);
+        };
+        Ok(Bus {
+            alloc,
+            record: Record::new(alloc, config)?,
+            state,
+        })
+    }
+
+    /// The bus's record: its configuration, and each event with its reply.
+    pub fn record(&self) -> &Record
+        ensures config { result.now.config ≡ self.now.config }
+        ensures history { result.now.history ≡ self.now.history }
+        ensures legal { IsLegal self.now.config self.now.history }
+        ensures headline { Headline self.now.config self.now.history }
+    {
+        &self.record
+    }
+
+    /// The bus's record alone, at the end of its run.
+    pub fn into_record(self) -> Record
+        ensures config { result.config ≡ self.config }
+        ensures history { result.history ≡ self.history }
+        ensures legal { IsLegal self.config self.history }
+        ensures headline { Headline self.config self.history }
+    {
+        let Bus { record, .. } = self;
+        record
+    }
+
+    /// The number of the next attempt that tries a frame: how many there were.
+    pub fn next_attempt(&self) -> u64
+        ensures { result ≡ length (tape self.now.history) }
+    {
+        self.state.tried()
+    }
+
+    /// Carries out an event, and returns its reply. A refusal is a reply as well.
+    ///
+    /// The event enters the record with its reply, unless that is `RecordFull` or `NoMemory`: then nothing has changed.
+    /// Memory is taken for `Open` and `SetFilters` alone. It costs what the event's own call does.
+    pub fn answer(&mut self, alloc: Global, event: &Event) -> Reply
+        ensures { IsAnswered self.old event.now result self.new }
+    {
+        if self.record.is_full() {
+            return Reply::Refused(Refusal::RecordFull);
+        }
+        if let Event::SetFilters(id, filters) = event {
+            return self.answer_filters(alloc, *id, filters);
+        }
+        let reply = self.state.answer(alloc, self.record.config(), event);
+        if !reply.enters() {
+            return reply;
+        }
+        self.record.push(event, &reply);
+        reply
+    }
+
+    // Sets the filters of a socket where the record has room: all memory is taken before anything changes.
+    #[inline(never)]
+    fn answer_filters(&mut self, alloc: Global, id: SocketId, filters: &FilterSet) -> Reply
+        requires room { length self.old.history < self.old.config.limit }
+        ensures { IsAnswered self.old (event.SetFilters id filters.now) result self.new }
+    {
+        let Ok(mut entry) = filters_entry(alloc, id, filters) else {
+            return Reply::Refused(Refusal::NoMemory);
+        };
+        let reply = self.state.answer(alloc, self.record.config(), &entry.event);
+        if !reply.enters() {
+            return reply;
+        }
+        entry.reply = reply;
+        self.record.push_boxed(entry);
+        reply
+    }
+
+    /// Opens a socket on an interface, where `capacity` items may wait.
+    ///
+    /// Refusals, in this order: `RecordFull`, `NoInterface`, `BadCapacity` outside 1 to 65,536,
+    /// `TooManySockets` where 64 are open, `NoMemory`.
+    pub fn open(&mut self, alloc: Global, iface: Iface, capacity: u32) -> Result<SocketId, Refusal>
+        ensures { Answers reply.Opened self.old (event.Open iface capacity) result self.new }
+    {
+        match self.answer(alloc, &Event::Open(iface, capacity)) {
+            Reply::Opened(id) => Ok(id),
+            Reply::Refused(why) => Err(why),
+            _ => unreachable!(),
+        }
+    }
+
+    /// Closes a socket, and counts what nobody took and what found no room.
+    ///
+    /// Frames that it sent stay in their transmit queue. Refusals: `RecordFull`, `NoSocket`.
+    pub fn close(&mut self, id: SocketId) -> Result<Closed, Refusal>
+        ensures { Answers reply.Closed self.old (event.Close id) result self.new }
+    {
+        match self.answer(self.alloc, &Event::Close(id)) {
+            Reply::Closed(counts) => Ok(counts),
+            Reply::Refused(why) => Err(why),
+            _ => unreachable!(),
+        }
+    }
+
+    /// Sets the filters of a socket, to a copy of these.
+    ///
+    /// Refusals, in this order: `RecordFull`, `NoMemory` (all memory is taken before the socket is
+    /// looked up), `NoSocket`. It costs the length of the set.
+    pub fn set_filters(
+        &mut self,
+        alloc: Global,
+        id: SocketId,
+        filters: &FilterSet,
+    ) -> Result<(), Refusal>
+        ensures { Answers done_reply self.old (event.SetFilters id filters.now) result self.new }
+    {
+        if self.record.is_full() {
+            return Err(Refusal::RecordFull);
+        }
+        match self.answer_filters(alloc, id, filters) {
+            Reply::Done => Ok(()),
+            Reply::Refused(why) => Err(why),
+            _ => unreachable!(),
+        }
+    }
+
+    /// Sets an option of a socket. Refusals: `RecordFull`, `NoSocket`.
+    pub fn set_option(&mut self, id: SocketId, option: Opt) -> Result<(), Refusal>
+        ensures { Answers done_reply self.old (event.SetOption id option) result self.new }
+    {
+        match self.answer(self.alloc, &Event::SetOption(id, option)) {
+            Reply::Done => Ok(()),
+            Reply::Refused(why) => Err(why),
+            _ => unreachable!(),
+        }
+    }
+
+    /// Puts a frame into the transmit queue of the socket's interface, and answers its number there.
+    ///
+    /// Refusals, in this order: `RecordFull`, `NoSocket`, `FdOff` where the frame is an FD frame and the
+    /// socket did not ask for such, `BusOff`, `NoBuffers` exactly where the queue is full.
+    pub fn send(&mut self, id: SocketId, frame: Frame) -> Result<u64, Refusal>
+        ensures { Answers reply.Sent self.old (event.Send id frame) result self.new }
+    {
+        if self.record.is_full() {
+            return Err(Refusal::RecordFull);
+        }
+        let outcome = self.state.send(id, frame);
+        self.record.push_send(id, &frame, outcome);
+        outcome
+    }
+
+    /// Takes the oldest item of a socket: `None` where nothing waits.
+    ///
+    /// Refusals: `RecordFull`, `NoSocket`.
+    pub fn receive(&mut self, id: SocketId) -> Result<Option<Received>, Refusal>
+        ensures { Answers reply.Received self.old (event.Receive id) result self.new }
+    {
+        let mut room = Received::nothing();
+        let taken = self.receive_into(id, &mut room)?;
+        Ok(taken.then_some(room))
+    }
+
+    /// Takes the oldest item of a socket into the room, and returns whether there was one: where nothing waits the room
+    /// stays.
+    ///
+    /// Refusals: `RecordFull`, `NoSocket`. The room stays then, too.
+    pub fn receive_into(&mut self, id: SocketId, room: &mut Received) -> Result<bool, Refusal>
+        ensures answer { Answers (taken_reply room.new) self.old (event.Receive id)
+            result self.new }
+        ensures stays { result ≢ Ok true → room.new ≡ room.old }
+    {
+        if self.record.is_full() {
+            return Err(Refusal::RecordFull);
+        }
+        let outcome = self.state.receive_into(id, room);
+        self.record.push_receive(id, outcome, room);
+        outcome
+    }
+
+    /// Tries the frame that wins the bus, under these faults: `Idle` where no live interface has one to
+    /// send. Then it restarts each interface that was off for as many attempts as `auto_restart` says, this
+    /// one included.
+    ///
+    /// It costs a look at each interface and at each open socket. Refusal: `RecordFull`.
+    pub fn attempt(&mut self, moment: Moment, verdict: Verdict) -> Result<Attempt, Refusal>
+        ensures { Answers told_attempt self.old (event.Attempt moment verdict) result self.new }
+    {
+        if self.record.is_full() {
+            return Err(Refusal::RecordFull);
+        }
+        let config = self.record.config();
+        let attempt = self.state.attempt(config, moment, verdict);
+        self.record.push_attempt(moment, verdict, &attempt);
+        Ok(attempt)
+    }
+
+    /// Brings an interface that is bus off back, with both its error counts 0.
+    ///
+    /// Refusals, in this order: `RecordFull`, `NoInterface`, `NotBusOff`.
+    pub fn restart(&mut self, iface: Iface, moment: Moment) -> Result<(), Refusal>
+        ensures { Answers done_reply self.old (event.Restart iface moment) result self.new }
+    {
+        match self.answer(self.alloc, &Event::Restart(iface, moment)) {
+            Reply::Done => Ok(()),
+            Reply::Refused(why) => Err(why),
+            _ => unreachable!(),
+        }
+    }
+
+    /// How many items found room on an open socket, found none, and were taken. No event.
+    pub fn socket_stats(&self, id: SocketId) -> Option<SocketStats>
+        ensures { result ≡ socket_stats_of self.now.config self.now.history id.0 }
+    {
+        self.state.socket_stats(id)
+    }
+
+    /// What became of the frames of an interface, and its error counters. No event.
+    pub fn iface_stats(&self, iface: Iface) -> Option<IfaceStats>
+        ensures { result ≡ iface_stats_of self.now.config self.now.history iface }
+    {
+        self.state.iface_stats(iface)
+    }
+
+    /// The interface whose frame the next attempt tries: `None` where no live interface has one to send.
+    /// No event.
+    pub fn next_winner(&self) -> Option<Iface>
+        ensures { result ≡ winner self.now.config self.now.history }
+    {
+        self.state.winner()
+    }
+
+    /// Whether an interface that is bus off counts the attempts until it is restarted. No event.
+    pub fn is_counting(&self) -> bool
+        ensures { result ≡ is_counting self.now.config self.now.history }
+    {
+        self.state.is_counting()
+    }
+
+    /// The error counters of all 16 places, by interface; where there is no interface they are 0. No event.
+    pub fn counters(&self) -> [Counters; 16]
+        ensures { result ≡ all_counts self.now.config self.now.history }
+    {
+        self.state.counters()
+    }
+}

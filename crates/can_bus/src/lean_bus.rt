@@ -1,0 +1,85 @@
+ghost use Rattle.std.specs.Prelude.{◌≡◌, [], Err, List, IfOk, OnOk, ◌↔◌};
+ghost use Rattle.can_bus.specs.Lean.{Stands};
+ghost use Rattle.can_bus.specs.Run.{IsAnswer, history_after};
+ghost use Rattle.can_event.specs.Events.{IsConfig};
+ghost use Rattle.can_event.specs.Replies.{Enters, entry_of};
+ghost use Rattle.can_event.specs.Spelled.{IsSpelled};
+ghost use Rattle.can_event.specs.declared.events.Entry.{Entry as AnEntry};
+
+use crate::bus::BusFault;
+use crate::state::State;
+use can_arbiter::{Arbiter, IndexArbiter};
+use can_event::{BusConfig, Event, Pending, Received, Refusal, Reply};
+use can_queue::{BoundedQueue, RingQueue};
+use std::alloc::Global;
+use std::marker::Model;
+
+/// A bus that keeps no record: it answers each event as a bus does that was told the same ones, and is for those who
+/// have the entries elsewhere, as the text of a record that is audited.
+///
+/// Contracts name the entries so far, the newest first, as `past`. `new` takes memory for the transmit queues and the
+/// places of 64 sockets, and none for a record.
+#[derive(Drop)]
+pub struct LeanBus<T: BoundedQueue<Pending>, R: BoundedQueue<Received>, A: Arbiter> {
+    config: BusConfig,
+    count: u32,
+    state: State<T, R, A>,
+}
+
+/// The lean bus of the program: rings for its queues.
+pub type LeanRingBus = LeanBus<RingQueue<Pending>, RingQueue<Received>, IndexArbiter>;
+
+impl<T: BoundedQueue<Pending>, R: BoundedQueue<Received>, A: Arbiter> Model for LeanBus<T, R, A> {
+    ghost use Rattle.can_bus.specs.Lean.{IsStanding, Lean};
+
+    ghost Value = { Lean };
+
+    ghost view = { λ b. record { config = b.config; count = b.count; parts = b.state } };
+
+    ghost invariant = { λ b.
+        IsStanding (record { config = b.config; count = b.count; parts = b.state }) };
+}
+
+impl<T: BoundedQueue<Pending>, R: BoundedQueue<Received>, A: Arbiter> LeanBus<T, R, A> {
+    /// A bus on which nothing was done.
+    pub fn new(alloc: Global, config: BusConfig) -> Result<LeanBus<T, R, A>, BusFault>
+        ensures made { IfOk result (λ b. Stands b []) }
+        ensures config { IfOk result (λ b. b.config ≡ config) }
+        ensures proper { OnOk result (IsConfig config) }
+        ensures bad { (result ≡ Err BusFault.BadConfig) ↔ (¬ IsConfig config) }
+    {
+        if !config.is_proper() {
+            return Err(BusFault::BadConfig);
+        }
+        let Ok(state) = State::new(alloc, config) else {
+            return Err(BusFault::NoMemory);
+        };
+        Ok(LeanBus {
+            config,
+            count: 0,
+            state,
+        })
+    }
+
+    /// Carries out one event, and answers its reply: `RecordFull` where there were as many entries as the limit
+    /// allows, and `NoMemory` where memory was refused to `open` or `set_filters`. Neither changes anything.
+    ///
+    /// It costs what the call on a bus costs.
+    pub fn answer(&mut self, alloc: Global, event: &Event) -> Reply
+        ensures answer { (past : List AnEntry) → Stands self.old past →
+            IsAnswer self.old.config past event.now result }
+        ensures after { (past : List AnEntry) → Stands self.old past →
+            Stands self.new (history_after event.now result past) }
+        ensures spelled { Enters result → IsSpelled self.old.config (entry_of event.now result) }
+        ensures config { self.new.config ≡ self.old.config }
+    {
+        if self.count >= self.config.limit {
+            return Reply::Refused(Refusal::RecordFull);
+        }
+        let reply = self.state.answer(alloc, self.config, event);
+        if reply.enters() {
+            self.count += 1;
+        }
+        reply
+    }
+}

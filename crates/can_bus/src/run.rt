@@ -1,0 +1,73 @@
+ghost use Rattle.std.specs.Prelude.{◌≡◌, ◌≤◌, ◌<◌, ◌++◌, ◌∷◌, [], vec_len, vec_capacity, IfOk, OnErr, OnOk, length};
+ghost use Rattle.can_bus.specs.Headline.{Headline};
+ghost use Rattle.can_bus.specs.Run.{AreAnswers, history_after_all};
+ghost use Rattle.can_bus.specs.Legal.{IsLegal};
+
+use crate::bus::Bus;
+use can_arbiter::Arbiter;
+use can_event::{Event, Pending, Received, Reply};
+use can_frame::Item;
+use can_queue::BoundedQueue;
+use std::alloc::Global;
+use thiserror::Error;
+
+/// Why no event of a list was done.
+#[derive(Debug, Clone, Copy, PartialEq, Eq, Error)]
+pub enum RunFault {
+    /// Memory for the list of replies was refused.
+    #[error("no memory")]
+    NoMemory,
+}
+
+/// Adds a reply where there is room for it.
+fn note(replies: &mut Vec<Reply>, reply: Reply)
+    requires { vec_len replies.old < vec_capacity replies.old }
+    ensures items { replies.new.items ≡ replies.old.items ++ reply ∷ [] }
+    ensures room { vec_capacity replies.old ≤ vec_capacity replies.new }
+{
+    // The checker has to meet the types inside a reply before a vector takes one.
+    let _types: Option<(Item, Received)> = None;
+    let _ = replies.push(reply);
+}
+
+/// Carries out events in order, and answers each one's reply.
+///
+/// The record is a legal history before and after, the entries added are the events with these replies,
+/// but for those that were refused for a full record or for want of memory, and each reply is the one that
+/// the entries before it allow. `RunFault` comes before the first event, and then nothing was done.
+///
+/// Every accepted frame, exactly: so for every list of events, the data frames queued to a socket from each
+/// sending interface are, in order sent, exactly those that its interface accepted while the socket was
+/// open (or, on the sender's own interface, looped back once done), that passed its filters and options and
+/// found room, each once, and again only for each attempt whose sole fault was the last bit of end of
+/// frame; every lost frame is counted; nothing is queued after close. `specs/Headline.antt` says it part by
+/// part.
+pub fn run<T: BoundedQueue<Pending>, R: BoundedQueue<Received>, A: Arbiter>(
+    bus: &mut Bus<T, R, A>,
+    alloc: Global,
+    events: &[Event],
+) -> Result<Vec<Reply>, RunFault>
+    ensures count { IfOk result (λ replies. length replies.items ≡ length events.now) }
+    ensures answers { IfOk result (λ replies.
+        AreAnswers bus.old.config bus.old.history events.now replies.items) }
+    ensures after { IfOk result (λ replies.
+        bus.new ≡ record bus.old {
+          history = history_after_all events.now replies.items bus.old.history;
+        }) }
+    ensures was_legal { IsLegal bus.old.config bus.old.history }
+    ensures legal { IsLegal bus.new.config bus.new.history }
+    ensures headline { Headline bus.new.config bus.new.history }
+    ensures err { OnErr result (bus.new ≡ bus.old) }
+{
+    // Looking at the record tells the proof that it is a legal history, before and after.
+    let _before = bus.record().len();
+    let Ok(mut replies) = Vec::with_capacity(alloc, events.len()) else {
+        return Err(RunFault::NoMemory);
+    };
+    for event in events {
+        let reply = bus.answer(alloc, event);
+        note(&mut replies, reply);
+    }
+    let _after = bus.record().len();
+    Ok(replies)
+}

@@ -1,0 +1,5 @@
+use Rattle.std.proofs.Common.{length}
+use Rattle.can_hub.proofs.bench.+is_apart.Given as goal
+
+abbrev pub decreases-is_apart : goal.decreases-is_apart
+decreases-is_apart g l = length l.benches.now

@@ -1,0 +1,217 @@
+ghost use Rattle.std.specs.Prelude.{◌≡◌};
+ghost use Rattle.can_hub.specs.Buses.{IsFirstNamed};
+ghost use Rattle.can_hub.specs.PassSteps.{GaugeTells, passed_on, with_room};
+
+use crate::hub::Hub;
+use can_bus::{Event, IfaceStats, Refusal, Reply, SocketId, SocketStats};
+use can_confine::Counters;
+use can_dialog::{Port, PortRefusal};
+use can_fault::FaultSource;
+use can_frame::Iface;
+use can_meter::{Gauge, MeterName};
+use can_roll::RollName;
+use can_station::{Gate, Pass, Station, StationRefusal};
+use std::alloc::Global;
+use std::marker::Model;
+use std::sync::Wait;
+
+/// A station that was entered, with a gauge of its meter and the pass.
+#[derive(Drop)]
+pub struct Entered<'a, N: RollName + MeterName, F: FaultSource + Drop, G: Gate + Drop> {
+    pub(crate) station: &'a Station<N, F, G>,
+    gauge: Gauge<N>,
+    pub(crate) pass: Pass<N>,
+}
+
+impl<'a, N: RollName + MeterName, F: FaultSource + Drop, G: Gate + Drop> Model
+    for Entered<'a, N, F, G> {
+    ghost use Rattle.can_hub.specs.PassSteps.{EnteredSeen};
+
+    ghost Value = { EnteredSeen };
+
+    ghost view = { λ e. record { number = e.station.now; gauge = e.gauge; pass = e.pass } };
+}
+
+/// A session's way to the buses of a hub: the pass of the station that it opens.
+///
+/// `attach` takes a gauge of the station whose bus has the name and enters it; a pass that was entered before is
+/// lost to `settle`. Refusals, in this order: `NoInterface`; `NoMemory` where it is refused to the gauge;
+/// `TooManyPasses`. Each other call but the two counts and the status is that call of the station, made with the
+/// pass, and may wait for its lock; a socket holds as many items as its bus says, whatever is asked. Where no station
+/// was entered there is no socket.
+///
+/// `status` returns the error counters that were published last, as the gauge reads them: it takes no lock and waits
+/// for nobody. They are 0/0 where no station was entered, or where its bus has no such interface.
+#[derive(Drop)]
+pub struct PassPort<'a, N: RollName + MeterName, F: FaultSource + Drop, G: Gate + Drop, R: Wait> {
+    pub(crate) rt: &'a R,
+    pub(crate) alloc: Global,
+    hub: &'a Hub<N, F, G>,
+    pub(crate) entered: Option<Entered<'a, N, F, G>>,
+}
+
+impl<'a, N: RollName + MeterName, F: FaultSource + Drop, G: Gate + Drop, R: Wait> Model
+    for PassPort<'a, N, F, G, R> {
+    ghost use Rattle.can_hub.specs.PassSteps.{PortSeen};
+
+    ghost Value = { PortSeen };
+
+    ghost view = { λ p. record { buses = p.hub.now; entered = p.entered } };
+}
+
+impl<'a, N: RollName + MeterName, F: FaultSource + Drop, G: Gate + Drop, R: Wait> PassPort<
+    'a,
+    N,
+    F,
+    G,
+    R,
+> {
+    ghost use Rattle.std.specs.Prelude.{None, option_map};
+
+    /// A port over the buses of a hub; no station was entered.
+    pub fn new(rt: &'a R, alloc: Global, hub: &'a Hub<N, F, G>) -> PassPort<'a, N, F, G, R>
+        ensures { result ≡ record { buses = hub.now; entered = None } }
+    {
+        PassPort {
+            rt,
+            alloc,
+            hub,
+            entered: None,
+        }
+    }
+
+    /// The station that was entered.
+    pub fn station(&self) -> Option<&'a Station<N, F, G>>
+        ensures { option_map (λ s. s.now) result ≡ option_map (λ e. e.number) self.now.entered }
+    {
+        match &self.entered {
+            Some(entered) => Some(entered.station),
+            None => None,
+        }
+    }
+
+    /// The pass, where a station was entered.
+    pub fn pass(&self) -> Option<&Pass<N>>
+        ensures { option_map (λ p. p.now) result ≡ option_map (λ e. e.pass) self.now.entered }
+    {
+        match &self.entered {
+            Some(entered) => Some(&entered.pass),
+            None => None,
+        }
+    }
+
+    /// Gives the pass away, where a station was entered.
+    pub fn into_pass(self) -> Option<Pass<N>>
+        ensures { result ≡ option_map (λ e. e.pass) self.entry.entered }
+    {
+        let PassPort { entered, .. } = self;
+        match entered {
+            Some(Entered { pass, .. }) => Some(pass),
+            None => None,
+        }
+    }
+}
+
+/// The event as a pass makes it: a socket holds as many items as its bus says.
+fn sized(event: Event, room: u32) -> Event
+    ensures { result ≡ with_room event room }
+{
+    match event {
+        Event::Open(iface, _) => Event::Open(iface, room),
+        event => event,
+    }
+}
+
+/// A station's reply, as a port gives it.
+pub(crate) fn pass_on<V>(outcome: Result<V, StationRefusal>) -> Result<V, PortRefusal>
+    ensures { result ≡ passed_on outcome }
+{
+    match outcome {
+        Ok(value) => Ok(value),
+        Err(StationRefusal::Bus(why)) => Err(PortRefusal::Bus(why)),
+        Err(StationRefusal::WrongStation) => Err(PortRefusal::WrongStation),
+    }
+}
+
+/// The error counters that a gauge reads of an interface: 0/0 where its meter has none.
+fn read_gauge<N: MeterName>(gauge: &mut Gauge<N>, iface: Iface) -> Counters
+    ensures { GaugeTells gauge.old iface result gauge.new }
+{
+    let place = usize::from(iface.number());
+    if place >= gauge.ifaces() {
+        return Counters::zero();
+    }
+    gauge.status(place).counters
+}
+
+/// The bus that has an interface of this name, and that interface. Names are ASCII, so bytes that are no UTF-8 are
+/// none of them.
+fn interface_named<N: RollName + MeterName, F: FaultSource + Drop, G: Gate + Drop>(
+    hub: &Hub<N, F, G>,
+    name: &[u8],
+) -> Option<(usize, Iface)>
+    ensures { IsFirstNamed hub.now name.now result }
+{
+    // The proof learns here that the names are good.
+    let _ = hub.count();
+    match str::from_utf8(name) {
+        Ok(name) => hub.find(name),
+        Err(_) => None,
+    }
+}
+
+impl<'a, N: RollName + MeterName, F: FaultSource + Drop, G: Gate + Drop, R: Wait> Port
+    for PassPort<'a, N, F, G, R> {
+    ghost use Rattle.can_hub.specs.PassSteps.{PassStep};
+
+    ghost step = { PassStep F };
+
+    fn call(&mut self, event: Event) -> Result<Reply, PortRefusal> {
+        let Some(entered) = &mut self.entered else {
+            return Err(PortRefusal::Bus(Refusal::NoSocket));
+        };
+        let room = self.hub.rx_capacity(usize::from(entered.station.number()));
+        pass_on(
+            entered
+                .station
+                .call(self.rt, self.alloc, &mut entered.pass, sized(event, room)),
+        )
+    }
+
+    fn attach(&mut self, name: &[u8]) -> Result<Iface, PortRefusal> {
+        let Some(found) = interface_named(self.hub, name) else {
+            return Err(PortRefusal::Bus(Refusal::NoInterface));
+        };
+        let station = self.hub.station(found.0);
+        let Ok(gauge) = station.gauge(self.rt) else {
+            return Err(PortRefusal::Bus(Refusal::NoMemory));
+        };
+        let Ok(pass) = station.enter(self.rt, self.alloc) else {
+            return Err(PortRefusal::TooManyPasses);
+        };
+        self.entered = Some(Entered {
+            station,
+            gauge,
+            pass,
+        });
+        Ok(found.1)
+    }
+
+    fn socket_stats(&mut self, socket: SocketId) -> Option<SocketStats> {
+        let first = Iface::new(0).unwrap();
+        let entered = self.entered.as_ref()?;
+        entered.station.stats(self.rt, socket, first).0
+    }
+
+    fn iface_stats(&mut self, iface: Iface) -> Option<IfaceStats> {
+        let entered = self.entered.as_ref()?;
+        entered.station.stats(self.rt, SocketId(0), iface).1
+    }
+
+    fn status(&mut self, iface: Iface) -> Counters {
+        let Some(entered) = &mut self.entered else {
+            return Counters::zero();
+        };
+        read_gauge(&mut entered.gauge, iface)
+    }
+}

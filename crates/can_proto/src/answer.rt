@@ -1,0 +1,137 @@
+ghost use Rattle.std.specs.Prelude.{◌≡◌, ◌≤◌, length};
+ghost use Rattle.can_proto.specs.Causes.{cause_text};
+
+use crate::fault::ProtoFault;
+use can_confine::Counters;
+use can_event::{Closed, IfaceStats, Refusal, SocketStats};
+
+/// A reply to a client.
+#[derive(Debug, Clone, Copy, PartialEq, Eq)]
+pub enum Answer {
+    /// The first text of a session.
+    Greeting,
+    /// The command was done.
+    Done,
+    /// The reply to `echo`.
+    Echo,
+    /// What became of the items offered to the socket and of the frames of its interface.
+    Stats(SocketStats, IfaceStats),
+    /// The error counters of the interface.
+    Status(Counters),
+    /// The socket was closed.
+    Closing(Closed),
+    /// Nothing was done.
+    Refused(Cause),
+}
+
+/// Why a client's message was not carried out.
+#[derive(Debug, Clone, Copy, PartialEq, Eq)]
+pub enum Cause {
+    NoMemory,
+    RecordFull,
+    NoInterface,
+    BadCapacity,
+    TooManySockets,
+    NoSocket,
+    FdOff,
+    BusOff,
+    NoBuffers,
+    NotBusOff,
+    TooManyPasses,
+    InvalidFilter,
+    TooManyFilters,
+    EmptyMessage,
+    UnknownCommand,
+    WrongState,
+    ModeNotSupported,
+    BadCount,
+    BadId,
+    BadLength,
+    BadByte,
+    BadNumber,
+    MessageTooLong,
+    TooManySessions,
+    WrongStation,
+}
+
+impl Cause {
+    /// Its words, at most 18 bytes.
+    pub fn text(self) -> &'static [u8]
+        ensures text { result.now ≡ cause_text self }
+        ensures short { length result.now ≤ 18 }
+    {
+        match self {
+            Cause::NoMemory => b"no memory",
+            Cause::RecordFull => b"record full",
+            Cause::NoInterface => b"no such interface",
+            Cause::BadCapacity => b"bad capacity",
+            Cause::TooManySockets => b"too many sockets",
+            Cause::NoSocket => b"no socket",
+            Cause::FdOff => b"fd frames off",
+            Cause::BusOff => b"bus off",
+            Cause::NoBuffers => b"no buffers",
+            Cause::NotBusOff => b"not bus off",
+            Cause::TooManyPasses => b"too many passes",
+            Cause::InvalidFilter => b"invalid filter",
+            Cause::TooManyFilters => b"too many filters",
+            Cause::EmptyMessage => b"empty message",
+            Cause::UnknownCommand => b"unknown command",
+            Cause::WrongState => b"wrong state",
+            Cause::ModeNotSupported => b"mode not supported",
+            Cause::BadCount => b"bad word count",
+            Cause::BadId => b"bad id",
+            Cause::BadLength => b"bad length",
+            Cause::BadByte => b"bad byte",
+            Cause::BadNumber => b"bad number",
+            Cause::MessageTooLong => b"message too long",
+            Cause::TooManySessions => b"too many sessions",
+            Cause::WrongStation => b"wrong station",
+        }
+    }
+}
+
+impl From<ProtoFault> for Cause {
+    ghost use Rattle.std.specs.Prelude.{◌≡◌};
+    ghost use Rattle.can_proto.specs.Causes.{cause_of_fault};
+
+    ghost from_gives = { λ fault cause. cause ≡ cause_of_fault fault };
+
+    fn from(fault: ProtoFault) -> Cause {
+        match fault {
+            ProtoFault::NoMemory => Cause::NoMemory,
+            ProtoFault::InvalidFilter => Cause::InvalidFilter,
+            ProtoFault::TooManyFilters => Cause::TooManyFilters,
+            ProtoFault::EmptyMessage => Cause::EmptyMessage,
+            ProtoFault::UnknownCommand => Cause::UnknownCommand,
+            ProtoFault::WrongState => Cause::WrongState,
+            ProtoFault::ModeNotSupported => Cause::ModeNotSupported,
+            ProtoFault::BadCount => Cause::BadCount,
+            ProtoFault::BadId => Cause::BadId,
+            ProtoFault::BadLength => Cause::BadLength,
+            ProtoFault::BadByte => Cause::BadByte,
+            ProtoFault::BadNumber => Cause::BadNumber,
+        }
+    }
+}
+
+impl From<Refusal> for Cause {
+    ghost use Rattle.std.specs.Prelude.{◌≡◌};
+    ghost use Rattle.can_proto.specs.Causes.{cause_of_refusal};
+
+    ghost from_gives = { λ refusal cause. cause ≡ cause_of_refusal refusal };
+
+    fn from(refusal: Refusal) -> Cause {
+        match refusal {
+            Refusal::RecordFull => Cause::RecordFull,
+            Refusal::NoInterface => Cause::NoInterface,
+            Refusal::BadCapacity => Cause::BadCapacity,
+            Refusal::TooManySockets => Cause::TooManySockets,
+            Refusal::NoSocket => Cause::NoSocket,
+            Refusal::FdOff => Cause::FdOff,
+            Refusal::BusOff => Cause::BusOff,
+            Refusal::NoBuffers => Cause::NoBuffers,
+            Refusal::NotBusOff => Cause::NotBusOff,
+            Refusal::NoMemory => Cause::NoMemory,
+        }
+    }
+}

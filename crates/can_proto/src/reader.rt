@@ -1,0 +1,90 @@
+ghost use Rattle.std.specs.Prelude.{◌≡◌, ◌≤◌, ◌+◌, ◌++◌, [], length, IfOk, IfSome, OnOk, OnErr, vec_capacity};
+ghost use Rattle.can_proto.specs.Messages.{messages_of, kept_of};
+ghost use Rattle.can_proto.specs.Commands.{IsLoneSend};
+
+use crate::message::Incoming;
+use crate::scanning::{LIMIT, Place, scan};
+use crate::usual_sends::lone_send;
+use can_frame::Frame;
+use std::alloc::{AllocError, Global};
+use std::marker::Model;
+
+/// Reads the messages of a stream that comes in pieces. Between two calls it keeps the last `<` and the
+/// at most 1,024 bytes after it, where these may still become a message.
+#[derive(Drop)]
+pub struct Reader {
+    is_open: bool,
+    inside: Vec<u8>,
+}
+
+impl Model for Reader {
+    ghost use Rattle.std.specs.Prelude.{ℕ, List, ◌≤◌, vec_capacity};
+    ghost use Rattle.can_proto.specs.Messages.{IsKept};
+    ghost use Rattle.can_proto.specs.Scanning.{text_of};
+
+    ghost Value = { List ℕ };
+
+    ghost view = { λ r. text_of r.is_open r.inside.items };
+
+    ghost invariant = { λ r. IsKept (text_of r.is_open r.inside.items) × (1024 ≤ vec_capacity r.inside) };
+}
+
+impl Reader {
+    /// A reader at the start of a stream. It takes the room for what it will keep.
+    pub fn new(alloc: Global) -> Result<Reader, AllocError>
+        ensures { IfOk result (λ r. r ≡ []) }
+    {
+        Ok(Reader {
+            is_open: false,
+            inside: Vec::with_capacity(alloc, LIMIT)?,
+        })
+    }
+
+    /// What the stream gives up to the end of this piece, beyond what it gave before. An error comes only
+    /// where memory was refused, and then the reader is as before the call. The time grows with the
+    /// piece.
+    pub fn feed(&mut self, alloc: Global, piece: &[u8]) -> Result<Vec<Incoming>, AllocError>
+        ensures given { IfOk result (λ out. out.items ≡ messages_of (self.old ++ piece.now)) }
+        ensures keeps { OnOk result (self.new ≡ kept_of (self.old ++ piece.now)) }
+        ensures refused { OnErr result (self.new ≡ self.old) }
+    {
+        let (out, place) = scan(alloc, self.is_open, &self.inside, piece)?;
+        match place {
+            Place::Outside => self.is_open = false,
+            Place::Carried => {
+                self.is_open = true;
+                put(&mut self.inside, piece);
+            }
+            Place::At(start) => {
+                self.is_open = true;
+                self.inside.clear();
+                put(&mut self.inside, &piece[start..]);
+            }
+        }
+        Ok(out)
+    }
+
+    /// The frame that a piece asks to be sent in raw mode, where it is one whole `send` in its usual spelling and
+    /// no message was begun before it. The reader stays as it is, and this is all that the piece gives.
+    pub fn lone_send(&self, piece: &[u8]) -> Option<Frame>
+        ensures sends { IfSome result (λ frame. IsLoneSend (self.now ++ piece.now) frame) }
+        ensures keeps { IfSome result (λ _. kept_of (self.now ++ piece.now) ≡ self.now) }
+    {
+        if self.is_open {
+            return None;
+        }
+        lone_send(piece)
+    }
+}
+
+/// Adds bytes where room was taken before.
+fn put(inside: &mut Vec<u8>, more: &[u8])
+    requires { length inside.old.items + length more.now ≤ vec_capacity inside.old }
+    ensures items { inside.new.items ≡ inside.old.items ++ more.now }
+    ensures room { vec_capacity inside.old ≤ vec_capacity inside.new }
+{
+    match inside.extend_from_slice(more) {
+        Ok(()) => {}
+        Err(_) => unreachable!(),
+    }
+}

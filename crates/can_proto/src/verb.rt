@@ -1,0 +1,111 @@
+ghost use Rattle.std.specs.Prelude.{◌≡◌, codes, IfSome};
+ghost use Rattle.can_proto.specs.Words.{BeginsWith};
+ghost use Rattle.can_proto.specs.Verbs.{is_word, is_other_mode, named, stands_in};
+
+use crate::command::Mode;
+
+/// What the first word of a command asks for.
+#[derive(Debug, Clone, Copy, PartialEq, Eq)]
+pub enum Verb {
+    Echo,
+    Open,
+    Rawmode,
+    /// A mode of socketcand that is left out.
+    OtherMode,
+    Send,
+    SendRtr,
+    SendFd,
+    Filter,
+    Join,
+    Loopback,
+    RecvOwn,
+    FdFrames,
+    ErrMask,
+    ErrData,
+    Stats,
+    Status,
+    Restart,
+    Close,
+}
+
+#[inline(always)]
+fn matches(word: &[u8], name: &[u8]) -> bool
+    ensures { result ≡ is_word word.now name.now }
+{
+    word == name
+}
+
+/// The verb that a word names.
+pub fn verb_of(word: &[u8]) -> Option<Verb>
+    ensures { result ≡ named word.now }
+{
+    if matches(word, b"send") {
+        Some(Verb::Send)
+    } else if matches(word, b"sendrtr") {
+        Some(Verb::SendRtr)
+    } else if matches(word, b"sendfd") {
+        Some(Verb::SendFd)
+    } else if matches(word, b"echo") {
+        Some(Verb::Echo)
+    } else if matches(word, b"open") {
+        Some(Verb::Open)
+    } else if matches(word, b"rawmode") {
+        Some(Verb::Rawmode)
+    } else if matches(word, b"filter") {
+        Some(Verb::Filter)
+    } else if matches(word, b"join") {
+        Some(Verb::Join)
+    } else if matches(word, b"loopback") {
+        Some(Verb::Loopback)
+    } else if matches(word, b"recvown") {
+        Some(Verb::RecvOwn)
+    } else if matches(word, b"fdframes") {
+        Some(Verb::FdFrames)
+    } else if matches(word, b"errmask") {
+        Some(Verb::ErrMask)
+    } else if matches(word, b"errdata") {
+        Some(Verb::ErrData)
+    } else if matches(word, b"stats") {
+        Some(Verb::Stats)
+    } else if matches(word, b"status") {
+        Some(Verb::Status)
+    } else if matches(word, b"restart") {
+        Some(Verb::Restart)
+    } else if matches(word, b"close") {
+        Some(Verb::Close)
+    } else if names_other_mode(word) {
+        Some(Verb::OtherMode)
+    } else {
+        None
+    }
+}
+
+/// What follows `send` and a space, where these and a space before them begin the text, as they begin
+/// most messages.
+pub fn after_send(text: &[u8]) -> Option<&[u8]>
+    ensures { IfSome result (λ rest. BeginsWith (codes "send") rest.now text.now) }
+{
+    match text {
+        [b' ', b's', b'e', b'n', b'd', b' ', rest @ ..] => Some(rest),
+        _ => None,
+    }
+}
+
+/// Whether a word names one of the modes of socketcand that are left out.
+fn names_other_mode(word: &[u8]) -> bool
+    ensures { result ≡ is_other_mode word.now }
+{
+    matches(word, b"bcmmode") || matches(word, b"isotpmode") || matches(word, b"controlmode")
+}
+
+/// Whether a mode has the verb.
+pub fn may_stand(verb: Verb, mode: Mode) -> bool
+    ensures { result ≡ stands_in verb mode }
+{
+    match (verb, mode) {
+        (Verb::Echo, Mode::NoBus | Mode::Opened) => true,
+        (Verb::Open, mode) => matches!(mode, Mode::NoBus),
+        (Verb::Rawmode | Verb::OtherMode, Mode::Opened) => true,
+        (_, mode) => matches!(mode, Mode::Raw),
+    }
+}

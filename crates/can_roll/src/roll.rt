@@ -1,0 +1,184 @@
+ghost use Rattle.std.specs.Prelude.{◌≡◌, ◌<◌, [], ◌∷◌, length};
+ghost use Rattle.can_event.specs.Replies.{entry_of};
+ghost use Rattle.can_roll.specs.Lists.{row, last_of, without_last, NotIn};
+ghost use Rattle.can_roll.specs.Rule.{slip_view};
+ghost use Rattle.can_roll.specs.Seen.{roll_seen, slip_seen, slip_with_call, with_call, with_called_in, with_pass};
+
+use crate::roll_name::RollName;
+use crate::rule::{CallsIn, Enters, Law, Note, Return, Says, Sends, View};
+use crate::slip::Slip;
+use atomic_table::{Badge, Seat, Table};
+use can_event::{Event, Reply};
+use std::alloc::{AllocError, Global};
+use std::marker::{Brand, Model, PhantomData};
+use std::mem;
+
+/// The table of a roll: one word, and no slot.
+type Word = Table<(), View, (), Law, Global>;
+
+/// A roll that has no number yet. To a contract it is the identity of its table, which a [`RollName`] can name.
+#[derive(Drop)]
+pub struct RollBlank {
+    table: Word,
+    seat: Seat<(), View>,
+}
+
+impl Model for RollBlank {
+    ghost use Rattle.std.specs.Prelude.{◌≡◌, []};
+    ghost use Rattle.atomic_table.specs.Seated.{TableId, table_id_coded};
+    ghost use Rattle.can_roll.specs.declared.rule.View.TheVariants.{OfRoll};
+
+    ghost Value = { TableId };
+
+    ghost coded = { table_id_coded };
+
+    ghost view = { λ b. b.table.shared.table_id };
+
+    ghost invariant = { λ b. (b.seat.table_id ≡ b.table.shared.table_id) × (b.seat.me ≡ (OfRoll [] [] [], [])) × (b.table.shared.table_id.words ≡ 1) };
+}
+
+/// The calls of each pass. To a contract it is its number, the list of calls of each pass with the newest in
+/// front, and the passes called in, in the order of their coming.
+#[derive(Drop)]
+pub struct Roll<N: RollName> {
+    table: Word,
+    seat: Seat<(), View>,
+    number: u8,
+    passes: u32,
+    name: PhantomData<N>,
+}
+
+impl<N: RollName> Model for Roll<N> {
+    ghost use Rattle.can_roll.specs.Rule.{lists_of, called_of, IsAtTable, IsRollSeat};
+    ghost use Rattle.can_roll.specs.Seen.{RollSeen};
+
+    ghost Value = { RollSeen };
+
+    ghost view = { λ r. record { number = r.number; lists = lists_of r.seat.me.0; called = called_of r.seat.me.0 } };
+
+    ghost invariant = { λ r. IsAtTable (N.roll r.number) r.table.shared.table_id r.seat.table_id × IsRollSeat r.seat.me r.passes };
+}
+
+/// A roll without passes, for [`Roll::new`]. It fails only where memory is refused.
+#[tactic(auto, using(crate::proofs::Steps::begins))]
+pub fn roll_blank(alloc: Global) -> Result<RollBlank, AllocError> {
+    let (table, seat) = Table::of_words(alloc, &[0], &())?;
+    Ok(RollBlank { table, seat })
+}
+
+impl<N: RollName> Roll<N> {
+    /// The blank as the roll of this number, with no pass. The caller shows that `N` names the blank so.
+    pub fn new(blank: RollBlank, number: u8) -> Roll<N>
+        requires { blank ≡ N.roll number }
+        ensures { result ≡ roll_seen number [] [] }
+    {
+        let RollBlank { table, seat } = blank;
+        Roll {
+            table,
+            seat,
+            number,
+            passes: 0,
+            name: PhantomData,
+        }
+    }
+
+    /// Its number.
+    pub fn number(&self) -> u8
+        ensures { result ≡ self.now.number }
+    {
+        self.number
+    }
+
+    /// How many passes have entered.
+    pub fn passes(&self) -> u32
+        ensures { result ≡ length self.now.lists }
+    {
+        self.passes
+    }
+
+    /// A slip of the next pass, with no call. Passes are numbered from 0. The caller shows that fewer than 4,096
+    /// have entered.
+    pub fn enter(&mut self) -> Slip<N>
+        requires { length self.old.lists < 4096 }
+        ensures roll { self.new ≡ with_pass self.old }
+        ensures slip { result ≡ slip_seen self.old.number (length self.old.lists) [] }
+    {
+        let table = &self.table;
+        let seat = table.shared.split_seat::<Enters>(&mut self.seat);
+        let pass = self.passes;
+        self.passes += 1;
+        Slip {
+            badge: seat.into_badge(),
+            number: self.number,
+            pass,
+            name: PhantomData,
+        }
+    }
+
+    /// Notes a call with its reply: it comes in front of the slip's list and of the roll's list of the slip's
+    /// pass, which are the same before and after. The caller shows that the slip is of this roll's number.
+    pub fn note(&mut self, slip: &mut Slip<N>, event: &Event, reply: &Reply)
+        requires { slip.old.number ≡ self.old.number }
+        ensures roll { self.new ≡ with_call slip.old.pass (entry_of event.now reply.now) self.old }
+        ensures slip { slip.new ≡ slip_with_call (entry_of event.now reply.now) slip.old }
+        ensures below { slip.old.pass < length self.old.lists }
+        ensures before { row self.old.lists slip.old.pass ≡ slip.old.calls }
+        ensures after { row self.new.lists slip.old.pass ≡ slip.new.calls }
+    {
+        let taken: Slip<N> = Slip {
+            badge: mem::replace(&mut slip.badge, Badge::blank()),
+            number: slip.number,
+            pass: slip.pass,
+            name: PhantomData,
+        };
+        self.recall(taken);
+        self.note_last::<Brand>(event, reply);
+        slip.badge = self.send_last();
+    }
+
+    /// Calls a slip's pass in, for good. Its calls are the roll's list of its pass, which had not been called in
+    /// before. The caller shows that the slip is of this roll's number.
+    pub fn recall(&mut self, slip: Slip<N>)
+        requires { slip.number ≡ self.old.number }
+        ensures roll { self.new ≡ with_called_in slip.pass self.old }
+        ensures calls { row self.old.lists slip.pass ≡ slip.calls }
+        ensures once { NotIn slip.pass self.old.called }
+        ensures below { slip.pass < length self.old.lists }
+    {
+        let Slip {
+            badge,
+            number: _,
+            pass: _,
+            name: _,
+        } = slip;
+        let table = &self.table;
+        table
+            .shared
+            .join_seat::<CallsIn>(&mut self.seat, badge.into_seat());
+        table.shared.load::<Return>(&mut self.seat, 0);
+    }
+
+    // Notes a call of the pass that was called in last.
+    fn note_last<C: Says>(&mut self, event: &Event, reply: &Reply)
+        requires said { C.said ≡ entry_of event.now reply.now }
+        requires some_in { 0 < length self.old.called }
+        ensures { self.new ≡ with_call (last_of self.old.called) (entry_of event.now reply.now) self.old }
+    {
+        let table = &self.table;
+        table.shared.load::<Note<C>>(&mut self.seat, 0);
+    }
+
+    // Sends the pass that was called in last out again, and gives the badge of its slip.
+    fn send_last(&mut self) -> Badge<View>
+        requires { 0 < length self.old.called }
+        ensures roll { self.new ≡ roll_seen self.old.number self.old.lists (without_last self.old.called) }
+        ensures table { result.table_id ≡ N.roll self.old.number }
+        ensures views { result.views ≡ slip_view self.old.lists (last_of self.old.called) ∷ [] }
+    {
+        let table = &self.table;
+        table
+            .shared
+            .split_seat::<Sends>(&mut self.seat)
+            .into_badge()
+    }
+}

@@ -1,0 +1,103 @@
+use crate::conn::Conn;
+use std::io;
+use std::net::{TcpListener, TcpStream};
+use std::os::fd::OwnedFd;
+use std::os::unix::net::{UnixListener, UnixStream};
+
+/// The most connections that wait at a listener: Linux's `somaxconn`, as it mostly is.
+const MOST_WAITING: u32 = 4096;
+
+/// Where connections come in.
+#[derive(Drop)]
+pub enum Listener {
+    Tcp(TcpListener),
+    Unix(UnixListener),
+}
+
+impl Listener {
+    /// Waits for the next connection. What is written to it over TCP goes out at once.
+    fn accept(&self) -> io::Result<Conn> {
+        match self {
+            Listener::Tcp(listener) => {
+                let (stream, _) = listener.accept()?;
+                stream.set_nodelay(true)?;
+                Ok(Conn::Tcp(stream))
+            }
+            Listener::Unix(listener) => {
+                let (stream, _) = listener.accept()?;
+                Ok(Conn::Unix(stream))
+            }
+        }
+    }
+
+    /// From now on `accept` is a fault where no connection waits.
+    fn never_waits(&self) -> io::Result<()> {
+        match self {
+            Listener::Tcp(listener) => listener.set_nonblocking(true),
+            Listener::Unix(listener) => listener.set_nonblocking(true),
+        }
+    }
+
+    /// A second handle of the listening socket, to shut it down by.
+    fn latch(&self) -> io::Result<Conn> {
+        match self {
+            Listener::Tcp(listener) => {
+                let handle = OwnedFd::from(listener.try_clone()?);
+                Ok(Conn::Tcp(TcpStream::from(handle)))
+            }
+            Listener::Unix(listener) => {
+                let handle = OwnedFd::from(listener.try_clone()?);
+                Ok(Conn::Unix(UnixStream::from(handle)))
+            }
+        }
+    }
+}
+
+/// A listener, with how many sessions it takes.
+#[derive(Drop)]
+pub struct Door {
+    listener: Listener,
+    latch: Conn,
+    sessions: u32,
+}
+
+impl Door {
+    /// A door for this many sessions. It takes a file descriptor.
+    pub fn new(listener: Listener, sessions: u32) -> io::Result<Door> {
+        let latch = listener.latch()?;
+        Ok(Door {
+            listener,
+            latch,
+            sessions,
+        })
+    }
+
+    /// How many sessions it takes.
+    pub fn sessions(&self) -> u32 {
+        self.sessions
+    }
+
+    /// Waits for the next connection.
+    pub(crate) fn accept(&self) -> io::Result<Conn> {
+        self.listener.accept()
+    }
+
+    /// Lets nobody in any more: who comes later is refused by the system. A thread that waits for a connection returns:
+    /// Linux refuses an `accept` on a listening socket that was shut down.
+    pub(crate) fn close(&self) {
+        self.latch.shutdown();
+    }
+
+    /// Closes the connections that came before the door was closed and that nobody has accepted. Linux still gives those
+    /// of a Unix path.
+    pub(crate) fn turn_away(&self) {
+        if self.listener.never_waits().is_err() {
+            return;
+        }
+        for _ in 0..MOST_WAITING {
+            if self.accept().is_err() {
+                break;
+            }
+        }
+    }
+}

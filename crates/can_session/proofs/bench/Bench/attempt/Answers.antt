@@ -1,0 +1,26 @@
+use Rattle.std.proofs.Common.{ℕ, List, ◌++◌, ap, subst, ◌∙◌}
+use Rattle.can_fault.specs.declared.verdict.Verdict.{Verdict}
+use Rattle.can_fault.specs.Sources.{verdict_in}
+use Rattle.can_event.specs.declared.events.Event.TheVariants as event
+use Rattle.can_bus.specs.Answer.{Answers, told_attempt}
+use Rattle.can_session.specs.AttemptLines.{attempt_line}
+use Rattle.can_session.specs.Benches.{BenchState, IsTried}
+use Rattle.can_session.proofs.bench.Bench.attempt.Goals as goal
+
+pub returns-clause-tried : goal.returns-clause-tried
+returns-clause-tried g c =
+    let stood = c.self.inside in
+    let verdicts = g.F.FaultSource.verdicts c.args.script.now in
+    let old : BenchState = record { capacity = stood.capacity; bus = stood.port; sessions = stood.sessions.items; moment = stood.moment; unheard = stood.unheard } in
+    let new = c.attempt-outcome.new.self in
+    let after : BenchState = record old { bus = new } in
+    let verdict = c.verdict-verdict.ensures.answer ∙ ap (λ (n : ℕ). verdict_in verdicts n) c.next_attempt.ensures in
+    let names = c.names.ensures ∙ c.attempt-outcome.ensures.names in
+    subst (λ (b : BenchState). IsTried verdicts b c.put_attempt.new.said.items after) c.self.view_is
+    (record {
+      outcome = c.attempt-outcome.result;
+      journal = new.journal;
+      answers = subst (λ (v : Verdict). Answers told_attempt stood.port.journal (event.Attempt stood.moment v) c.attempt-outcome.result new.journal) verdict c.attempt-outcome.ensures.answer;
+      text_is = c.in_ok-put_attempt.ensures ∙ ap (λ (said : List ℕ). said ++ attempt_line c.names.result.now c.attempt-outcome.result) c.requires ∙ ap (λ (ns : List (List ℕ)). attempt_line ns c.attempt-outcome.result) names;
+      after_is = ap (λ (ns : List (List ℕ)). record old { bus = record { names = ns; journal = new.journal } }) c.attempt-outcome.ensures.names;
+    })

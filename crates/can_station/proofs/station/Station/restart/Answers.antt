@@ -1,0 +1,12 @@
+use Rattle.std.specs.Prelude.{Ok, Err}
+use Rattle.can_bus.specs.Answer.{done_reply}
+use Rattle.can_event.specs.declared.events.Event.TheVariants as event
+use Rattle.can_station.specs.declared.refusals.StationRefusal.TheVariants as station
+use Rattle.can_station.proofs.Answering.{answered}
+use Rattle.can_station.proofs.station.Station.restart.Goals as goal
+
+pub returns-in-Done-clause-answered : goal.returns-in-Done-clause-answered
+returns-in-Done-clause-answered g c = answered g.row.F.Denot done_reply c.args.self.now (event.Restart c.args.iface c.args.moment) _ (Ok tt) c.in-Done.is c.in_ok-call.ensures.answered
+
+pub returns-in-Refused-clause-answered : goal.returns-in-Refused-clause-answered
+returns-in-Refused-clause-answered g c = answered g.row.F.Denot done_reply c.args.self.now (event.Restart c.args.iface c.args.moment) _ (Err (station.Bus c.in-Refused.why)) c.in-Refused.is c.in_ok-call.ensures.answered

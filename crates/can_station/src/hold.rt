@@ -1,0 +1,203 @@
+ghost use Rattle.std.specs.Prelude.{◌≡◌, ◌≢◌, Ok, true, IfOk};
+ghost use Rattle.can_event.specs.Replies.{receive_reply, taken_reply};
+ghost use Rattle.can_event.specs.declared.events.Event.TheVariants as event;
+ghost use Rattle.can_station.specs.Passes.{IsCarriedOut, IsReady, IsReadyFor, IsReceived, IsStepped, Keeps, Suits, Called, Made, MadeStep, next_attempt, same};
+ghost use Rattle.can_station.specs.Waits.{has_work};
+
+use crate::attempts::attempt_in;
+use crate::gate::{Gate, Point};
+use crate::pass::{Pass, keep, make_ready, make_ready_for};
+use crate::receives::keep_receive;
+use crate::refusals::StationRefusal;
+use crate::station_state::StationState;
+use crate::station::Station;
+use crate::waits::News;
+use can_bus::{Attempt, Event, Received, Refusal, Reply, SocketId};
+use can_fault::FaultSource;
+use can_frame::Moment;
+use can_meter::MeterName;
+use can_packed::PackedList;
+use can_roll::{RollName, Slip};
+use std::alloc::Global;
+use std::marker::Model;
+use std::sync::MutexGuard;
+
+/// A station's lock, taken for several calls. Each is one event of the bus, as a call of the station itself is.
+///
+/// Contracts see it as the state under the lock. Whoever the calls have given something to do is woken once the lock is
+/// free again.
+pub struct Hold<'s, N: RollName + MeterName, F: FaultSource + Drop, G: Gate + Drop> {
+    pub(crate) station: &'s Station<N, F, G>,
+    pub(crate) state: MutexGuard<'s, StationState<N, F>>,
+    pub(crate) news: News,
+}
+
+impl<'s, N: RollName + MeterName, F: FaultSource + Drop, G: Gate + Drop> Model
+    for Hold<'s, N, F, G> {
+    ghost use Rattle.std.specs.Sync.Mutex.{mutex_guard_value};
+    ghost use Rattle.can_station.specs.Held.{Held};
+
+    ghost Value = { Held F };
+
+    ghost view = { λ h. mutex_guard_value h.state };
+}
+
+impl<'s, N: RollName + MeterName, F: FaultSource + Drop, G: Gate + Drop> Hold<'s, N, F, G> {
+    /// The number of the station.
+    pub fn number(&self) -> u8
+        ensures { result ≡ self.now.number }
+    {
+        self.state.number()
+    }
+
+    /// Whether a live interface has a frame to send, or an interface counts towards its restart.
+    pub fn has_work(&self) -> bool
+        ensures { result ≡ has_work self.now.journal }
+    {
+        self.state.has_work()
+    }
+
+    /// Makes an event with a pass, as the station's `call` does.
+    pub fn call(
+        &mut self,
+        alloc: Global,
+        pass: &mut Pass<N>,
+        event: Event,
+    ) -> Result<Reply, StationRefusal>
+        ensures made { Made same self.old pass.old event result self.new pass.new }
+        ensures called { Called same self.old.number pass.old event result pass.new }
+        ensures suits { IfOk result (λ r. Suits event r) }
+    {
+        if make_ready_for(&mut pass.calls, alloc, &event).is_err() {
+            return Err(StationRefusal::Bus(Refusal::NoMemory));
+        }
+        if pass.slip.number() != self.state.number() {
+            return Err(StationRefusal::WrongStation);
+        }
+        Ok(self.carry_out(alloc, &mut pass.slip, &mut pass.calls, event))
+    }
+
+    /// Carries out an event for the pass of this slip, and keeps it among its calls.
+    pub(crate) fn carry_out(
+        &mut self,
+        alloc: Global,
+        slip: &mut Slip<N>,
+        calls: &mut PackedList,
+        event: Event,
+    ) -> Reply
+        requires own { slip.old.number ≡ self.old.number }
+        requires ready { IsReadyFor event calls.old }
+        ensures carried { IsCarriedOut self.old slip.old event result self.new slip.new }
+        ensures calls { Keeps calls.old event result calls.new }
+        ensures suits { Suits event result }
+    {
+        let reply = self.state.call(alloc, slip, &event);
+        self.news.add(&event, &reply);
+        keep(calls, event, &reply);
+        reply
+    }
+
+    /// Receives into the caller's room, as the station's `receive` does: whether there was an item. The room stays where
+    /// there was none.
+    pub fn receive_into(
+        &mut self,
+        alloc: Global,
+        pass: &mut Pass<N>,
+        socket: SocketId,
+        room: &mut Received,
+    ) -> Result<bool, StationRefusal>
+        ensures made { Made (taken_reply room.new) self.old pass.old (event.Receive socket) result self.new pass.new }
+        ensures called { Called (taken_reply room.new) self.old.number pass.old (event.Receive socket) result pass.new }
+        ensures stays { result ≢ Ok true → room.new ≡ room.old }
+    {
+        if make_ready(&mut pass.calls, alloc).is_err() {
+            return Err(StationRefusal::Bus(Refusal::NoMemory));
+        }
+        if pass.slip.number() != self.state.number() {
+            return Err(StationRefusal::WrongStation);
+        }
+        match self.carry_out_receive(&mut pass.slip, &mut pass.calls, socket, room) {
+            Ok(is_item) => Ok(is_item),
+            Err(why) => Err(StationRefusal::Bus(why)),
+        }
+    }
+
+    /// Carries out a receive into the room for the pass of this slip, and keeps it among its calls.
+    fn carry_out_receive(
+        &mut self,
+        slip: &mut Slip<N>,
+        calls: &mut PackedList,
+        socket: SocketId,
+        room: &mut Received,
+    ) -> Result<bool, Refusal>
+        requires own { slip.old.number ≡ self.old.number }
+        requires ready { IsReady calls.old }
+        ensures carried { IsReceived self.old slip.old socket room.new result self.new slip.new }
+        ensures calls { Keeps calls.old (event.Receive socket) (receive_reply room.new result) calls.new }
+        ensures stays { result ≢ Ok true → room.new ≡ room.old }
+    {
+        let outcome = self.state.receive_into(slip, socket, room);
+        if let Err(why) = outcome {
+            self.news.add_refusal(why);
+        }
+        keep_receive(calls, socket, outcome, room);
+        outcome
+    }
+
+    /// Tries the frame that wins the bus, as the station's `step` does.
+    pub fn step(
+        &mut self,
+        alloc: Global,
+        pass: &mut Pass<N>,
+        moment: Moment,
+    ) -> Result<Attempt, StationRefusal>
+        ensures made { MadeStep F.verdicts self.old pass.old moment result self.new pass.new }
+        ensures source { F.verdicts self.new.source ≡ F.verdicts self.old.source }
+    {
+        if make_ready(&mut pass.calls, alloc).is_err() {
+            return Err(StationRefusal::Bus(Refusal::NoMemory));
+        }
+        if pass.slip.number() != self.state.number() {
+            return Err(StationRefusal::WrongStation);
+        }
+        let reply = self.carry_out_step(alloc, &mut pass.slip, &mut pass.calls, moment);
+        attempt_in(reply)
+    }
+
+    /// Carries out an attempt at a moment, with the source's verdict, for the pass of this slip.
+    pub(crate) fn carry_out_step(
+        &mut self,
+        alloc: Global,
+        slip: &mut Slip<N>,
+        calls: &mut PackedList,
+        moment: Moment,
+    ) -> Reply
+        requires own { slip.old.number ≡ self.old.number }
+        requires ready { IsReady calls.old }
+        ensures carried { IsStepped F.verdicts self.old slip.old moment result self.new slip.new }
+        ensures source { F.verdicts self.new.source ≡ F.verdicts self.old.source }
+        ensures calls { Keeps calls.old (next_attempt F.verdicts self.old moment) result calls.new }
+        ensures suits { Suits (next_attempt F.verdicts self.old moment) result }
+    {
+        let station = self.station;
+        station.gate.at(Point::InStep);
+        let (verdict, reply) = self.state.step(alloc, slip, moment);
+        let event = Event::Attempt(moment, verdict);
+        self.news.add(&event, &reply);
+        keep(calls, event, &reply);
+        reply
+    }
+}
+
+impl<N: RollName + MeterName, F: FaultSource + Drop, G: Gate + Drop> Drop for Hold<'_, N, F, G> {
+    fn drop(self) {
+        let Hold {
+            station,
+            mut state,
+            news,
+        } = self;
+        let woken = news.woken(&mut state);
+        drop(state);
+        station.wake(news, woken);
+    }
+}

@@ -1,0 +1,259 @@
+ghost use Rattle.std.specs.Prelude.{◌≡◌, ◌<◌, ◌≤◌, IfOk, OnErr, ◌↔◌};
+ghost use Rattle.std.specs.Sync.Mutex.{mutex_guard_value};
+ghost use Rattle.can_event.specs.Events.{IsConfig};
+ghost use Rattle.can_station.specs.Passes.{HadNoPassLeft, IsNewPass, Settles, Suits, Answered, Called, Stepped, same};
+ghost use Rattle.can_station.specs.Published.{AllTrue, TakesBack};
+
+use crate::attempts::attempt_in;
+use crate::gate::{Gate, Point};
+use crate::hold::Hold;
+use crate::pass::{Pass, Settled, make_ready, make_ready_for};
+use crate::refusals::{StationRefusal, TooManyPasses, WrongStation};
+use crate::rooms::Rooms;
+use crate::station_state::StationState;
+use crate::waits::{News, ROOM};
+use can_bus::{Attempt, BusConfig, BusFault, Event, Refusal, Reply, RingBus};
+use can_fault::FaultSource;
+use can_frame::Moment;
+use can_meter::{Gauge, MeterBlank, MeterName, meter, meter_blank};
+use can_packed::PackedList;
+use can_roll::{RollBlank, RollName, Slip, roll_blank};
+use std::alloc::{AllocError, Global};
+use std::marker::Model;
+use std::sync::atomic::AtomicU8;
+use std::sync::{Condvar, Mutex, MutexGuard, Wait};
+
+/// What a station is made of before it has a name: the blanks of its roll and of its meter.
+#[derive(Drop)]
+pub struct Blanks {
+    pub roll: RollBlank,
+    pub meter: MeterBlank,
+}
+
+impl Blanks {
+    /// Blanks for a bus of 1 to 16 interfaces. `AllocError` where there is no memory.
+    pub fn new(alloc: Global, ifaces: usize) -> Result<Blanks, AllocError>
+        requires { (0 < ifaces) × (ifaces ≤ 16) }
+        ensures { IfOk result (λ b. b.meter.words ≡ ifaces) }
+    {
+        Ok(Blanks {
+            roll: roll_blank(alloc)?,
+            meter: meter_blank(alloc, ifaces)?,
+        })
+    }
+}
+
+/// A bus that threads share. Contracts see it as its number.
+///
+/// Each of the eight calls of a pass, and `step`, is one event of the bus in one hold of the lock. What the lock
+/// keeps is a [`StationState`].
+#[derive(Drop)]
+pub struct Station<N: RollName + MeterName, F: FaultSource + Drop, G: Gate + Drop> {
+    pub(crate) state: Mutex<StationState<N, F>>,
+    /// Where drivers wait for frames to send and interfaces to restart.
+    pub(crate) work: Condvar,
+    /// Where receivers wait for items.
+    pub(crate) items: Rooms,
+    /// Where rests wait for the end.
+    pub(crate) ends: Condvar,
+    pub(crate) gate: G,
+    pub(crate) number: u8,
+    /// Whether a call met a full record, and whether that was reported.
+    pub(crate) fullness: AtomicU8,
+}
+
+impl<N: RollName + MeterName, F: FaultSource + Drop, G: Gate + Drop> Model for Station<N, F, G> {
+    ghost use Rattle.std.specs.Prelude.{ℕ};
+
+    ghost Value = { ℕ };
+
+    ghost view = { λ s. s.number };
+}
+
+impl<N: RollName + MeterName, F: FaultSource + Drop, G: Gate + Drop> Station<N, F, G> {
+    /// A station with an empty record, named by `N` under this number. It takes memory for all of `limit` entries
+    /// and their marks.
+    ///
+    /// `BadConfig` exactly where the configuration is outside the limits of a bus, or has another number of
+    /// interfaces than the blanks; else `NoMemory` where memory was refused.
+    pub fn new(
+        alloc: Global,
+        blanks: Blanks,
+        number: u8,
+        config: BusConfig,
+        source: F,
+        gate: G,
+    ) -> Result<Station<N, F, G>, BusFault>
+        requires roll { blanks.roll ≡ N.roll number }
+        requires meter { blanks.meter ≡ N.meter number }
+        ensures made { IfOk result (λ s. s ≡ number) }
+        ensures bad { (result ≡ Err BusFault.BadConfig) ↔ (¬ (IsConfig config × (blanks.meter.words ≡ config.ifaces))) }
+    {
+        if !config.is_proper() || blanks.meter.ifaces() != usize::from(config.ifaces) {
+            return Err(BusFault::BadConfig);
+        }
+        let bus = RingBus::new(alloc, config)?;
+        let marks = Vec::with_capacity(alloc, config.limit as usize)?;
+        let Blanks { roll, meter: blank } = blanks;
+        let Ok((keeper, spare)) = meter::<N>(alloc, blank, number) else {
+            return Err(BusFault::NoMemory);
+        };
+        let state = StationState::new(roll, number, bus, source, marks, keeper, spare);
+        Ok(Station {
+            state: Mutex::new(state),
+            work: Condvar::new(),
+            items: Rooms::new(),
+            ends: Condvar::new(),
+            gate,
+            number,
+            fullness: AtomicU8::new(ROOM),
+        })
+    }
+
+    /// The number of the station.
+    pub fn number(&self) -> u8
+        ensures { result ≡ self.now }
+    {
+        self.number
+    }
+
+    /// The state under the lock. It has the station's number since `new`. No type says so: for another number this
+    /// would wait for ever.
+    pub(crate) fn hold<R: Wait>(&self, rt: &R) -> MutexGuard<'_, StationState<N, F>>
+        ensures { (mutex_guard_value result).number ≡ self.now }
+    {
+        self.own(rt, self.state.lock(rt))
+    }
+
+    /// The state under the lock, which has the station's number.
+    pub(crate) fn own<'s, R: Wait>(
+        &'s self,
+        rt: &R,
+        state: MutexGuard<'s, StationState<N, F>>,
+    ) -> MutexGuard<'s, StationState<N, F>>
+        ensures number { (mutex_guard_value result).number ≡ self.now }
+        ensures same { mutex_guard_value result ≡ mutex_guard_value state.entry }
+    {
+        if state.number() == self.number {
+            return state;
+        }
+        for _ in rt.forever() {}
+        unreachable!()
+    }
+
+    /// Takes the lock for several calls. Until the hold is dropped, all other calls of the station wait.
+    pub fn lock<R: Wait>(&self, rt: &R) -> Hold<'_, N, F, G>
+        ensures { result.number ≡ self.now }
+    {
+        Hold {
+            station: self,
+            state: self.hold(rt),
+            news: News::none(),
+        }
+    }
+
+    /// The next pass, with which no call was made. Passes are numbered from 0; `TooManyPasses` exactly from the 4,097th
+    /// on.
+    pub fn enter<R: Wait>(&self, rt: &R, alloc: Global) -> Result<Pass<N>, TooManyPasses>
+        ensures ok { IfOk result (λ pass. IsNewPass F self.now pass) }
+        ensures err { OnErr result (HadNoPassLeft F self.now) }
+    {
+        let slip = self.hold(rt).enter()?;
+        Ok(Pass {
+            slip,
+            calls: PackedList::new(alloc),
+        })
+    }
+
+    /// Another gauge of the station's meter, which reads the error counters without the lock. `AllocError` where
+    /// there is no memory.
+    pub fn gauge<R: Wait>(&self, rt: &R) -> Result<Gauge<N>, AllocError>
+        ensures { IfOk result (λ g. g.number ≡ self.now) }
+    {
+        self.hold(rt).gauge()
+    }
+
+    /// Makes an event with a pass, in one hold of the lock, and returns the bus's reply, which is of the event's kind or a
+    /// refusal. `Err` where the event did not come to the bus: `NoMemory` where the pass's list of calls can't grow, then
+    /// `WrongStation`.
+    pub fn call<R: Wait>(
+        &self,
+        rt: &R,
+        alloc: Global,
+        pass: &mut Pass<N>,
+        event: Event,
+    ) -> Result<Reply, StationRefusal>
+        ensures called { Called same self.now pass.old event result pass.new }
+        ensures answered { Answered F same self.now event result }
+        ensures suits { IfOk result (λ r. Suits event r) }
+    {
+        if make_ready_for(&mut pass.calls, alloc, &event).is_err() {
+            return Err(StationRefusal::Bus(Refusal::NoMemory));
+        }
+        if pass.slip.number() != self.number {
+            return Err(StationRefusal::WrongStation);
+        }
+        let mut hold = self.lock(rt);
+        let reply = hold.carry_out(alloc, &mut pass.slip, &mut pass.calls, event);
+        drop(hold);
+        self.gate.at(Point::AfterReply);
+        Ok(reply)
+    }
+
+    /// Tries the frame that wins the bus, with the verdict that the source has for the next attempt: `Idle` where no
+    /// live interface has a frame to send. Interfaces whose count has run out are restarted.
+    ///
+    /// Refusals, in this order: `NoMemory` where the pass's list of calls can't grow, `WrongStation`, `RecordFull`.
+    pub fn step<R: Wait>(
+        &self,
+        rt: &R,
+        alloc: Global,
+        pass: &mut Pass<N>,
+        moment: Moment,
+    ) -> Result<Attempt, StationRefusal>
+        ensures { Stepped F.verdicts self.now pass.old moment result pass.new }
+    {
+        if make_ready(&mut pass.calls, alloc).is_err() {
+            return Err(StationRefusal::Bus(Refusal::NoMemory));
+        }
+        if self.number != pass.slip.number() {
+            return Err(StationRefusal::WrongStation);
+        }
+        self.gate.at(Point::BeforeStep);
+        let mut hold = self.lock(rt);
+        let reply = hold.carry_out_step(alloc, &mut pass.slip, &mut pass.calls, moment);
+        attempt_in(reply)
+    }
+
+    /// Takes passes and gauges back, and hands out the record: a legal history whose entries can be marked with
+    /// passes so that the calls of each of these passes are its entries, in order. What the gauges have seen are
+    /// publications of that history.
+    ///
+    /// `WrongStation` exactly where some pass or gauge is another station's; then nothing is handed back.
+    pub fn settle<R: Wait>(
+        self,
+        rt: &R,
+        passes: Vec<Pass<N>>,
+        gauges: Vec<Gauge<N>>,
+    ) -> Result<Settled, WrongStation>
+        ensures settled { IfOk result (λ s. Settles s.history s.passes passes.items) }
+        ensures gauges { IfOk result (λ s. AllTrue s.history gauges.items) }
+        ensures refused { TakesBack self passes.items gauges.items result }
+    {
+        let Station {
+            state,
+            work: _,
+            items: _,
+            ends: _,
+            gate: _,
+            number,
+            fullness: _,
+        } = self;
+        let state = state.into_inner();
+        if state.number() != number {
+            for _ in rt.forever() {}
+            unreachable!()
+        }
+        state.settle(passes, gauges)
+    }
+}

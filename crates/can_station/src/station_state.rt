@@ -1,0 +1,359 @@
+ghost use Rattle.std.specs.Prelude.{◌≡◌, ◌≢◌, ◌<◌, ◌≤◌, ℕ, [], true, List, length, reverse, IfOk, OnErr, vec_len, vec_capacity};
+ghost use Rattle.can_event.specs.Events.{IsConfig};
+ghost use Rattle.can_event.specs.Replies.{enters};
+ghost use Rattle.can_bus.specs.Legal.{IsLegal};
+ghost use Rattle.can_event.specs.declared.events.Event.TheVariants as event;
+ghost use Rattle.can_meter.specs.Readings.{readings};
+ghost use Rattle.can_station.specs.Held.{HasEntered, NoPassLeft, marks_after, new_held, roll_after, slip_after};
+ghost use Rattle.can_station.specs.Marks.{IsMarked};
+ghost use Rattle.can_station.specs.Passes.{IsCarriedOut, IsReceived, IsStepped, Settles, Suits, next_verdict};
+ghost use Rattle.can_station.specs.Published.{AllTrue, IsPublished, TakesBack};
+ghost use Rattle.can_station.specs.Waits.{AreCounts, frame_wake, has_work, work_wake, stopped_wake, waiting_at};
+
+use crate::gauges::{absorb_all, are_gauges_of};
+use crate::pass::{Pass, Settled, are_all_of, recall_all};
+use crate::publishing::{counters_before, publish_changes};
+use crate::refusals::{TooManyPasses, WrongStation};
+use crate::rooms::{ROOMS, RoomSet, Sleeper, Sleepers};
+use crate::waits::Wake;
+use can_bus::{
+    Event, IfaceStats, Received, Record, Refusal, Reply, RingBus, SocketId, SocketStats,
+};
+use can_fault::{FaultSource, Verdict};
+use can_frame::{Iface, Moment};
+use can_meter::{Gauge, Keeper, MeterName};
+use can_packed::receive_reply;
+use can_roll::{Roll, RollBlank, RollName, Slip};
+use std::alloc::{AllocError, Global};
+use std::marker::Model;
+
+/// The most passes of a station.
+const MAX_PASSES: u32 = 4096;
+
+/// What a station keeps under its lock: the bus with the source of its verdicts, the roll with a mark for each
+/// entry, and the keeper of its meter.
+///
+/// Whenever the lock is free the record is a legal history, the roll's list of each pass is the entries marked with
+/// it, and the keeper has published each change of an interface's error counters.
+#[derive(Drop)]
+pub struct StationState<N: RollName + MeterName, F: FaultSource + Drop> {
+    bus: RingBus,
+    source: F,
+    roll: Roll<N>,
+    marks: Vec<u32>,
+    keeper: Keeper<N>,
+    spare: Gauge<N>,
+    stopped: bool,
+    sleepers: Sleepers,
+}
+
+impl<N: RollName + MeterName, F: FaultSource + Drop> Model for StationState<N, F> {
+    ghost use Rattle.std.specs.Prelude.{◌≡◌, reverse, vec_capacity};
+    ghost use Rattle.can_station.specs.Held.{Held};
+    ghost use Rattle.can_station.specs.Marks.{IsBooked};
+    ghost use Rattle.can_station.specs.Published.{IsPublished};
+
+    ghost Value = { Held F };
+
+    ghost view = { λ s. record { number = s.roll.number; journal = s.bus; lists = s.roll.lists; source = s.source; stopped = s.stopped } };
+
+    ghost invariant = { λ s. IsBooked s.roll (reverse s.marks.items) (vec_capacity s.marks) s.bus × IsPublished s.keeper s.roll.number s.bus × (s.spare.number ≡ s.roll.number) };
+}
+
+impl<N: RollName + MeterName, F: FaultSource + Drop> StationState<N, F> {
+    /// The state of a station whose bus has an empty record.
+    pub(crate) fn new(
+        blank: RollBlank,
+        number: u8,
+        bus: RingBus,
+        source: F,
+        marks: Vec<u32>,
+        keeper: Keeper<N>,
+        spare: Gauge<N>,
+    ) -> StationState<N, F>
+        requires name { blank ≡ N.roll number }
+        requires proper { IsConfig bus.config }
+        requires empty { (bus.history ≡ []) × (marks.items ≡ []) }
+        requires room { bus.config.limit ≤ vec_capacity marks }
+        requires keeper { keeper ≡ readings number bus.config.ifaces [] }
+        requires spare { spare.number ≡ number }
+        ensures { result ≡ new_held number bus source }
+    {
+        StationState {
+            bus,
+            source,
+            roll: Roll::new(blank, number),
+            marks,
+            keeper,
+            spare,
+            stopped: false,
+            sleepers: Sleepers::none(),
+        }
+    }
+
+    /// The number of the station.
+    pub fn number(&self) -> u8
+        ensures { result ≡ self.now.number }
+    {
+        self.roll.number()
+    }
+
+    /// The record: a legal history, whose entries are marked with the passes that made them.
+    pub fn record(&self) -> &Record
+        ensures config { result.now.config ≡ self.now.journal.config }
+        ensures history { result.now.history ≡ self.now.journal.history }
+        ensures legal { IsLegal self.now.journal.config self.now.journal.history }
+        ensures marked { (marks : List ℕ) × IsMarked self.now.lists marks self.now.journal.history }
+    {
+        self.bus.record()
+    }
+
+    /// The keeper of the station's meter: it has published each change of an interface's error counters.
+    pub fn keeper(&self) -> &Keeper<N>
+        ensures { IsPublished result.now self.now.number self.now.journal }
+    {
+        &self.keeper
+    }
+
+    /// The next pass, numbered from 0, which has made no call. `TooManyPasses` exactly where there are 4,096.
+    pub fn enter(&mut self) -> Result<Slip<N>, TooManyPasses>
+        ensures ok { IfOk result (λ slip. HasEntered self.old slip self.new) }
+        ensures err { OnErr result (NoPassLeft self.old × (self.new ≡ self.old)) }
+    {
+        if self.roll.passes() >= MAX_PASSES {
+            return Err(TooManyPasses);
+        }
+        Ok(self.roll.enter())
+    }
+
+    /// Another gauge of the station's meter, or `AllocError` where there is no memory for it.
+    pub fn gauge(&mut self) -> Result<Gauge<N>, AllocError>
+        ensures same { self.new ≡ self.old }
+        ensures gauge { IfOk result (λ g. g.number ≡ self.old.number) }
+    {
+        self.spare.another()
+    }
+
+    /// Carries out an event for the pass of this slip: its reply comes from the record, it is noted there and in
+    /// the pass's list, and what it changed of the error counters is published.
+    pub fn call(&mut self, alloc: Global, slip: &mut Slip<N>, event: &Event) -> Reply
+        requires { slip.old.number ≡ self.old.number }
+        ensures carried { IsCarriedOut self.old slip.old event.now result self.new slip.new }
+        ensures suits { Suits event.now result }
+    {
+        let before = counters_before(&self.bus, event);
+        let reply = self.bus.answer(alloc, event);
+        book(&mut self.roll, &mut self.marks, slip, event, &reply);
+        let Some(before) = before else {
+            return reply;
+        };
+        let after = self.bus.counters();
+        let at = self.bus.record().len() as u32;
+        publish_changes(&mut self.keeper, &reply, at, &before, &after);
+        reply
+    }
+
+    /// Carries out a receive into the caller's room for the pass of this slip, as `call` does: whether there was an item.
+    /// The room stays where there was none. No error counter changes.
+    pub fn receive_into(
+        &mut self,
+        slip: &mut Slip<N>,
+        socket: SocketId,
+        room: &mut Received,
+    ) -> Result<bool, Refusal>
+        requires { slip.old.number ≡ self.old.number }
+        ensures carried { IsReceived self.old slip.old socket room.new result self.new slip.new }
+        ensures stays { result ≢ Ok true → room.new ≡ room.old }
+    {
+        let outcome = self.bus.receive_into(socket, room);
+        let event = Event::Receive(socket);
+        let reply = receive_reply(outcome, room);
+        book(&mut self.roll, &mut self.marks, slip, &event, &reply);
+        outcome
+    }
+
+    /// Carries out an attempt at a moment, with the verdict that the source has for its number.
+    pub fn step(&mut self, alloc: Global, slip: &mut Slip<N>, moment: Moment) -> (Verdict, Reply)
+        requires { slip.old.number ≡ self.old.number }
+        ensures verdict { result.0 ≡ next_verdict F.verdicts self.old }
+        ensures carried { IsStepped F.verdicts self.old slip.old moment result.1 self.new slip.new }
+        ensures source { F.verdicts self.new.source ≡ F.verdicts self.old.source }
+        ensures suits { Suits (event.Attempt moment result.0) result.1 }
+    {
+        let verdict = self.source.verdict(self.bus.next_attempt());
+        let reply = self.call(alloc, slip, &Event::Attempt(moment, verdict));
+        (verdict, reply)
+    }
+
+    /// The counts of a socket and of an interface.
+    pub(crate) fn stats(
+        &self,
+        socket: SocketId,
+        iface: Iface,
+    ) -> (Option<SocketStats>, Option<IfaceStats>)
+        ensures { AreCounts self.now.journal socket.0 iface result }
+    {
+        (self.bus.socket_stats(socket), self.bus.iface_stats(iface))
+    }
+
+    /// How many items are queued to this socket: 0 where it is not open.
+    pub(crate) fn waiting(&self, socket: SocketId) -> u64
+        ensures { result ≡ waiting_at self.now.journal socket.0 }
+    {
+        match self.bus.socket_stats(socket) {
+            None => 0,
+            Some(counts) => counts.queued.saturating_sub(counts.taken),
+        }
+    }
+
+    /// Why a wait for an item of this socket ends; where it does not, the thread is noted as one who waits.
+    pub(crate) fn frame_wake_or_sleep(&mut self, socket: SocketId) -> Option<Wake>
+        ensures wake { result ≡ frame_wake self.old socket.0 }
+        ensures same { self.new ≡ self.old }
+    {
+        let wake = self.frame_wake(socket);
+        if wake.is_none() {
+            self.sleepers.add(socket);
+        }
+        wake
+    }
+
+    /// The rooms in which a wait for an item may be over. Nobody counts as waiting there any more.
+    pub(crate) fn take_woken(&mut self) -> RoomSet
+        ensures { self.new ≡ self.old }
+    {
+        let woken = self.woken();
+        self.sleepers.leave(woken);
+        woken
+    }
+
+    fn woken(&self) -> RoomSet {
+        let mut woken = RoomSet::none();
+        for place in 0..ROOMS {
+            let is_over = match self.sleepers.sleeper(place) {
+                Sleeper::Nobody => false,
+                Sleeper::One(socket) => self.frame_wake(socket).is_some(),
+                Sleeper::Several => true,
+            };
+            if is_over {
+                woken.add(place);
+            }
+        }
+        woken
+    }
+
+    /// Why a wait for an item of this socket ends, if it does.
+    pub(crate) fn frame_wake(&self, socket: SocketId) -> Option<Wake>
+        ensures { result ≡ frame_wake self.now socket.0 }
+    {
+        match self.bus.socket_stats(socket) {
+            None => Some(Wake::Closed),
+            Some(counts) if counts.queued > counts.taken => Some(Wake::Ready),
+            Some(_) => self.stopped_wake(),
+        }
+    }
+
+    /// Whether a live interface has a frame to send, or an interface counts towards its restart.
+    pub(crate) fn has_work(&self) -> bool
+        ensures { result ≡ has_work self.now.journal }
+    {
+        self.bus.next_winner().is_some() || self.bus.is_counting()
+    }
+
+    /// Why a wait for work ends, if it does.
+    pub(crate) fn work_wake(&self) -> Option<Wake>
+        ensures { result ≡ work_wake self.now }
+    {
+        if self.has_work() {
+            Some(Wake::Ready)
+        } else {
+            self.stopped_wake()
+        }
+    }
+
+    /// What a stop signals to those who wait.
+    fn stopped_wake(&self) -> Option<Wake>
+        ensures { result ≡ stopped_wake self.now.stopped }
+    {
+        if self.stopped {
+            Some(Wake::Stopped)
+        } else {
+            None
+        }
+    }
+
+    /// Whether waits end.
+    pub(crate) fn is_stopped(&self) -> bool
+        ensures { result ≡ self.now.stopped }
+    {
+        self.stopped
+    }
+
+    /// Ends all waits, now and from now on.
+    pub(crate) fn stop(&mut self)
+        ensures { self.new ≡ record self.old { stopped = true } }
+    {
+        self.stopped = true;
+    }
+
+    /// The record, with all these passes and gauges taken in. `WrongStation` exactly where some of them is
+    /// another station's.
+    pub fn settle(
+        self,
+        passes: Vec<Pass<N>>,
+        gauges: Vec<Gauge<N>>,
+    ) -> Result<Settled, WrongStation>
+        ensures config { IfOk result (λ s. s.history.config ≡ self.journal.config) }
+        ensures history { IfOk result (λ s. s.history.history ≡ self.journal.history) }
+        ensures passes { IfOk result (λ s. s.passes ≡ length self.lists) }
+        ensures settled { IfOk result (λ s. Settles s.history s.passes passes.items) }
+        ensures gauges { IfOk result (λ s. AllTrue s.history gauges.items) }
+        ensures refused { TakesBack self.number passes.items gauges.items result }
+    {
+        let StationState {
+            bus,
+            source: _,
+            mut roll,
+            marks: _,
+            mut keeper,
+            spare: _,
+            stopped: _,
+            sleepers: _,
+        } = self;
+        if !are_all_of(&passes, roll.number()) {
+            return Err(WrongStation);
+        }
+        if !are_gauges_of(&gauges, roll.number()) {
+            return Err(WrongStation);
+        }
+        recall_all(&mut roll, passes);
+        absorb_all(&mut keeper, gauges);
+        Ok(Settled {
+            history: bus.into_record(),
+            passes: roll.passes(),
+        })
+    }
+}
+
+/// Notes a call of a slip's pass, and marks the entry with it, where it left one.
+#[inline(always)]
+fn book<N: RollName>(
+    roll: &mut Roll<N>,
+    marks: &mut Vec<u32>,
+    slip: &mut Slip<N>,
+    event: &Event,
+    reply: &Reply,
+)
+    requires slip { slip.old.number ≡ roll.old.number }
+    requires room { enters reply.now ≡ true → vec_len marks.old < vec_capacity marks.old }
+    ensures roll { roll.new ≡ roll_after slip.old.pass event.now reply.now roll.old }
+    ensures marks { reverse marks.new.items ≡ marks_after slip.old.pass reply.now (reverse marks.old.items) }
+    ensures places { vec_capacity marks.new ≡ vec_capacity marks.old }
+    ensures slip { slip.new ≡ slip_after event.now reply.now slip.old }
+    ensures below { enters reply.now ≡ true → slip.old.pass < length roll.old.lists }
+{
+    if reply.enters() {
+        roll.note(slip, event, reply);
+        marks.push_reserved(slip.pass());
+    }
+}
