@@ -9,9 +9,9 @@ use Rattle.can_fault.specs.declared.verdict.Verdict.{Verdict}
 use Rattle.can_attempt.specs.Attempts.{counts_at, attempt_between}
 use Rattle.can_attempt.specs.declared.nodes.Nodes.{Nodes}
 use Rattle.can_attempt.proofs.Standing.{is_in-of}
-use Rattle.can_event.specs.declared.events.Attempt.{Attempt}
-use Rattle.can_event.specs.declared.events.BusConfig.{BusConfig}
-use Rattle.can_event.specs.declared.events.Tried.{Tried}
+use Rattle.can_event.specs.declared.attempt.Attempt.{Attempt}
+use Rattle.can_event.specs.declared.bus_config.BusConfig.{BusConfig}
+use Rattle.can_event.specs.declared.attempt.Tried.{Tried}
 use Rattle.can_bus.specs.Changes.{AreReady, Tries, Attempts, came_to, ticked, due_in, begun_anew, after_auto_restart}
 use Rattle.can_bus.specs.Posts.{Post, attempt_posts, auto_restart_posts}
 use Rattle.can_bus.specs.State.{SocketState, Parts, filled, reached}

@@ -18,10 +18,10 @@ use Rattle.can_attempt.specs.declared.nodes.Nodes.{Nodes}
 use Rattle.can_attempt.proofs.Calm.{calm_stays, zero_at}
 use Rattle.can_errframe.specs.declared.role.Role.{Role}
 use Rattle.can_errframe.specs.declared.role.Role.TheVariants as role
-use Rattle.can_event.specs.declared.events.Pending.{Pending}
-use Rattle.can_event.specs.declared.events.Tried.{Tried}
+use Rattle.can_event.specs.declared.pending.Pending.{Pending}
+use Rattle.can_event.specs.declared.attempt.Tried.{Tried}
 use Rattle.can_errframe.specs.ErrorMessages.{state_message}
-use Rattle.can_event.specs.declared.events.Received.{Received}
+use Rattle.can_event.specs.declared.received.Received.{Received}
 use Rattle.can_bus.specs.Attempted.{Outcome, transmission_of}
 use Rattle.can_bus.specs.News.{fault_posts, frame_posts}
 use Rattle.can_bus.specs.Posts.{Post, is_own, attempt_posts, data_posts, error_posts, fault_message_for, role_at}

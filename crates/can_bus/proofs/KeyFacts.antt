@@ -1,7 +1,7 @@
 use Rattle.std.proofs.Common.{◌≡◌, ◌≢◌, ℕ, ◌<◌, List, ◌∷◌, map, slice_set, Option, Some, ap, ◌∙◌, arith}
 use Rattle.std.specs.List.{range_with_len}
-use Rattle.can_event.specs.declared.events.Entry.{Entry}
-use Rattle.can_event.specs.declared.events.Pending.{Pending}
+use Rattle.can_event.specs.declared.entry.Entry.{Entry}
+use Rattle.can_event.specs.declared.pending.Pending.{Pending}
 use Rattle.can_bus.specs.Transmit.{head_of}
 use Rattle.can_bus.specs.State.{key_in, kept_keys}
 use Rattle.can_bus.proofs.Lists.{map_one, range-rises, slice_get-range}

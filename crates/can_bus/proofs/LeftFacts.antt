@@ -6,8 +6,8 @@ use Rattle.can_frame.specs.Sets.{is_in}
 use Rattle.can_frame.specs.declared.iface.IfaceSet.{IfaceSet}
 use Rattle.can_attempt.specs.Attempts.{is_among}
 use Rattle.can_attempt.proofs.Places.{is_among-filter, is_among-range, bits_where_same}
-use Rattle.can_event.specs.declared.events.BusConfig.{BusConfig}
-use Rattle.can_event.specs.declared.events.Entry.{Entry}
+use Rattle.can_event.specs.declared.bus_config.BusConfig.{BusConfig}
+use Rattle.can_event.specs.declared.entry.Entry.{Entry}
 use Rattle.can_bus.specs.AutoRestart.{attempts_off, is_nth_after, is_due, restarted_next, is_counting, attempts_left, left_after}
 use Rattle.can_bus.specs.Legal.{IsLegal}
 use Rattle.can_bus.specs.State.{kept_left}

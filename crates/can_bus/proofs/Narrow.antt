@@ -13,16 +13,16 @@ use Rattle.can_confine.specs.Confinement.{is_off, state_of}
 use Rattle.can_fault.specs.declared.verdict.Verdict.{Verdict}
 use Rattle.can_attempt.specs.Attempts.{Transmission, counts_after, set_of, off_after, is_among}
 use Rattle.can_errframe.specs.ErrorMessages.{state_message, restart_message}
-use Rattle.can_event.specs.declared.events.BusConfig.{BusConfig}
-use Rattle.can_event.specs.declared.events.Entry.{Entry}
-use Rattle.can_event.specs.declared.events.Event.{Event}
-use Rattle.can_event.specs.declared.events.Event.TheVariants.{Open, Close, SetFilters, SetOption, Send, Receive, Attempt, Restart}
-use Rattle.can_event.specs.declared.events.Pending.{Pending}
-use Rattle.can_event.specs.declared.events.Received.{Received}
-use Rattle.can_event.specs.declared.events.SocketId.{SocketId}
-use Rattle.can_event.specs.declared.events.Reply.{Reply}
-use Rattle.can_event.specs.declared.events.Reply.TheVariants as reply
-use Rattle.can_event.specs.declared.events.Tried.{Tried}
+use Rattle.can_event.specs.declared.bus_config.BusConfig.{BusConfig}
+use Rattle.can_event.specs.declared.entry.Entry.{Entry}
+use Rattle.can_event.specs.declared.event.Event.{Event}
+use Rattle.can_event.specs.declared.event.Event.TheVariants.{Open, Close, SetFilters, SetOption, Send, Receive, Attempt, Restart}
+use Rattle.can_event.specs.declared.pending.Pending.{Pending}
+use Rattle.can_event.specs.declared.received.Received.{Received}
+use Rattle.can_event.specs.declared.socket_id.SocketId.{SocketId}
+use Rattle.can_event.specs.declared.reply.Reply.{Reply}
+use Rattle.can_event.specs.declared.reply.Reply.TheVariants as reply
+use Rattle.can_event.specs.declared.attempt.Tried.{Tried}
 use Rattle.can_packed.specs.Wide.{is_wide, is_large, is_off_alone}
 use Rattle.can_bus.specs.Journal.{Kept}
 use Rattle.can_bus.specs.State.{Parts, IsKept}

@@ -2,8 +2,8 @@ use Rattle.std.proofs.Common.{◌≡◌, ℕ, zero, suc, ◌+◌, ◌<◌, List,
 use Rattle.std.specs.List.{range_with_len}
 use Rattle.can_confine.specs.Confinement.{ErrorCounts, at_start, state_of, is_off}
 use Rattle.can_attempt.specs.Attempts.{counts_at}
-use Rattle.can_event.specs.declared.events.BusConfig.{BusConfig}
-use Rattle.can_event.specs.declared.events.Entry.{Entry}
+use Rattle.can_event.specs.declared.bus_config.BusConfig.{BusConfig}
+use Rattle.can_event.specs.declared.entry.Entry.{Entry}
 use Rattle.can_bus.specs.Counters.{counts_of, state_at}
 use Rattle.can_bus.specs.State.{kept_nodes}
 use Rattle.can_bus.specs.Stats.{all_counts}

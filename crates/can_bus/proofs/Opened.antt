@@ -3,11 +3,11 @@ use Rattle.std.specs.List.{list_any}
 use Rattle.std.specs.Option.{option_map}
 use Rattle.std.proofs.lemmas.Option.{slice_get-map}
 use Rattle.std.proofs.lemmas.Bool.{eq-eqb}
-use Rattle.can_event.specs.declared.events.BusConfig.{BusConfig}
+use Rattle.can_event.specs.declared.bus_config.BusConfig.{BusConfig}
 use Rattle.can_bus.specs.Sockets.{open_sockets, is_open}
 use Rattle.can_bus.specs.State.{SocketState, kept_socket, kept_sockets}
 use Rattle.can_bus.specs.Changes.{StandsAt, IsNowhere}
-use Rattle.can_event.specs.declared.events.Entry.{Entry}
+use Rattle.can_event.specs.declared.entry.Entry.{Entry}
 use Rattle.can_bus.proofs.Lists.{list_any_there}
 
 -- where a socket stands, it is open, and what stands there c is what the history leaves of it

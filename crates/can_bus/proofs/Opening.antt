@@ -3,15 +3,15 @@ use Rattle.std.specs.List.{list_any}
 use Rattle.std.proofs.lemmas.Bool.{ne_eqb, cond-true, cond-false, le-leb, lt-leb, and_from, leb-true, eqb-true, or_from, false_from_ne_true}
 use Rattle.std.proofs.lemmas.List.{length_push, map_push}
 use Rattle.can_filter.specs.Passing.{receives_all, default_options}
-use Rattle.can_event.specs.declared.events.Entry.{Entry}
-use Rattle.can_event.specs.declared.events.SocketId.{SocketId}
-use Rattle.can_event.specs.declared.events.Refusal.{Refusal}
-use Rattle.can_event.specs.declared.events.Refusal.TheVariants as refusal
-use Rattle.can_event.specs.declared.events.BusConfig.{BusConfig}
-use Rattle.can_event.specs.declared.events.Event.{Event}
-use Rattle.can_event.specs.declared.events.Event.TheVariants.{Open, SetFilters, SetOption, Receive}
-use Rattle.can_event.specs.declared.events.Reply.{Reply}
-use Rattle.can_event.specs.declared.events.Reply.TheVariants as reply
+use Rattle.can_event.specs.declared.entry.Entry.{Entry}
+use Rattle.can_event.specs.declared.socket_id.SocketId.{SocketId}
+use Rattle.can_event.specs.declared.refusal.Refusal.{Refusal}
+use Rattle.can_event.specs.declared.refusal.Refusal.TheVariants as refusal
+use Rattle.can_event.specs.declared.bus_config.BusConfig.{BusConfig}
+use Rattle.can_event.specs.declared.event.Event.{Event}
+use Rattle.can_event.specs.declared.event.Event.TheVariants.{Open, SetFilters, SetOption, Receive}
+use Rattle.can_event.specs.declared.reply.Reply.{Reply}
+use Rattle.can_event.specs.declared.reply.Reply.TheVariants as reply
 use Rattle.can_bus.specs.Answer.{TakesMemory}
 use Rattle.can_bus.specs.Sockets.{Place, places, places_after, open_sockets, is_open, filters_of, filters_after, options_of, options_after}
 use Rattle.can_bus.specs.Queues.{queued_to, dropped_at, taken_from, taken_after, candidates_of}

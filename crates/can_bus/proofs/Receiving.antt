@@ -1,14 +1,14 @@
 use Rattle.std.proofs.Common.{◌≡◌, ◌≢◌, ℕ, ◌+◌, ◌==◌, Bool, List, [], ◌∷◌, ◌++◌, length, drop, slice_get, Option, Some, None, Result, Ok, Err, refl, sym, ap, ◌∙◌}
 use Rattle.std.proofs.lemmas.Bool.{eq-eqb, ne_eqb, cond-true, cond-false}
 use Rattle.std.proofs.lemmas.List.{drop-drop, length_push}
-use Rattle.can_event.specs.declared.events.Entry.{Entry}
-use Rattle.can_event.specs.declared.events.BusConfig.{BusConfig}
-use Rattle.can_event.specs.declared.events.Received.{Received}
-use Rattle.can_event.specs.declared.events.Refusal.{Refusal}
-use Rattle.can_event.specs.declared.events.SocketId.{SocketId}
-use Rattle.can_event.specs.declared.events.Event.TheVariants.{Receive}
-use Rattle.can_event.specs.declared.events.Reply.{Reply}
-use Rattle.can_event.specs.declared.events.Reply.TheVariants as reply
+use Rattle.can_event.specs.declared.entry.Entry.{Entry}
+use Rattle.can_event.specs.declared.bus_config.BusConfig.{BusConfig}
+use Rattle.can_event.specs.declared.received.Received.{Received}
+use Rattle.can_event.specs.declared.refusal.Refusal.{Refusal}
+use Rattle.can_event.specs.declared.socket_id.SocketId.{SocketId}
+use Rattle.can_event.specs.declared.event.Event.TheVariants.{Receive}
+use Rattle.can_event.specs.declared.reply.Reply.{Reply}
+use Rattle.can_event.specs.declared.reply.Reply.TheVariants as reply
 use Rattle.can_event.specs.Replies.{entry_of, taken_reply}
 use Rattle.can_bus.specs.Answer.{Answers, received_into}
 use Rattle.can_bus.specs.Journal.{Journal}

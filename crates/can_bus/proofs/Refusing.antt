@@ -1,14 +1,14 @@
 use Rattle.std.proofs.Common.{◌≡◌, ℕ, ◌-◌, ◌==◌, nat_le, Bool, true, false, not, ◌&&◌, List, length, Option, Some, None, if◌then◌else◌, refl, ap, ◌∙◌}
 use Rattle.can_confine.specs.Confinement.{is_off}
 use Rattle.can_fault.specs.declared.verdict.Verdict.{Verdict}
-use Rattle.can_event.specs.declared.events.BusConfig.{BusConfig}
-use Rattle.can_event.specs.declared.events.Entry.{Entry}
-use Rattle.can_event.specs.declared.events.Event.{Event}
-use Rattle.can_event.specs.declared.events.Event.TheVariants.{Open, Close, SetFilters, SetOption, Send, Receive, Attempt, Restart}
-use Rattle.can_event.specs.declared.events.Pending.{Pending}
-use Rattle.can_event.specs.declared.events.Reply.{Reply}
-use Rattle.can_event.specs.declared.events.Reply.TheVariants as reply
-use Rattle.can_event.specs.declared.events.Refusal.TheVariants as refusal
+use Rattle.can_event.specs.declared.bus_config.BusConfig.{BusConfig}
+use Rattle.can_event.specs.declared.entry.Entry.{Entry}
+use Rattle.can_event.specs.declared.event.Event.{Event}
+use Rattle.can_event.specs.declared.event.Event.TheVariants.{Open, Close, SetFilters, SetOption, Send, Receive, Attempt, Restart}
+use Rattle.can_event.specs.declared.pending.Pending.{Pending}
+use Rattle.can_event.specs.declared.reply.Reply.{Reply}
+use Rattle.can_event.specs.declared.reply.Reply.TheVariants as reply
+use Rattle.can_event.specs.declared.refusal.Refusal.TheVariants as refusal
 use Rattle.can_bus.specs.Sockets.{open_sockets, is_open, iface_of, options_of}
 use Rattle.can_bus.specs.Transmit.{sent_by, gone_count, head_of}
 use Rattle.can_bus.specs.Counters.{state_at}

@@ -3,12 +3,12 @@ use Rattle.std.specs.List.{range_with_len}
 use Rattle.std.proofs.lemmas.Bool.{eq-eqb, ne_eqb, cond-true, cond-false, le-leb, lt-leb}
 use Rattle.can_confine.specs.Confinement.{ErrorCounts, Step, all_stepped, at_start, is_off}
 use Rattle.can_attempt.specs.declared.nodes.Nodes.{Nodes}
-use Rattle.can_event.specs.declared.events.BusConfig.{BusConfig}
-use Rattle.can_event.specs.declared.events.Entry.{Entry}
-use Rattle.can_event.specs.declared.events.Event.TheVariants.{Restart}
-use Rattle.can_event.specs.declared.events.Reply.{Reply}
-use Rattle.can_event.specs.declared.events.Reply.TheVariants as reply
-use Rattle.can_event.specs.declared.events.Refusal.TheVariants as refusal
+use Rattle.can_event.specs.declared.bus_config.BusConfig.{BusConfig}
+use Rattle.can_event.specs.declared.entry.Entry.{Entry}
+use Rattle.can_event.specs.declared.event.Event.TheVariants.{Restart}
+use Rattle.can_event.specs.declared.reply.Reply.{Reply}
+use Rattle.can_event.specs.declared.reply.Reply.TheVariants as reply
+use Rattle.can_event.specs.declared.refusal.Refusal.TheVariants as refusal
 use Rattle.can_bus.specs.Counters.{counts_of, steps_of, state_at}
 use Rattle.can_bus.specs.AutoRestart.{attempts_off, attempts_left, left_after}
 use Rattle.can_bus.specs.Posts.{restart_posts}

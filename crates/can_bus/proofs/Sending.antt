@@ -3,14 +3,14 @@ use Rattle.std.proofs.lemmas.Bool.{eq-eqb, ne_eqb, cond-true, cond-false}
 use Rattle.std.proofs.lemmas.List.{length_push, length-drop, drop-append-le}
 use Rattle.can_frame.specs.Frames.{CanFrame}
 use Rattle.can_confine.specs.Confinement.{is_off}
-use Rattle.can_event.specs.declared.events.Entry.{Entry}
-use Rattle.can_event.specs.declared.events.BusConfig.{BusConfig}
-use Rattle.can_event.specs.declared.events.Pending.{Pending}
-use Rattle.can_event.specs.declared.events.Refusal.{Refusal}
-use Rattle.can_event.specs.declared.events.Refusal.TheVariants as refusal
-use Rattle.can_event.specs.declared.events.SocketId.{SocketId}
-use Rattle.can_event.specs.declared.events.Event.TheVariants.{Send}
-use Rattle.can_event.specs.declared.events.Reply.TheVariants as reply
+use Rattle.can_event.specs.declared.entry.Entry.{Entry}
+use Rattle.can_event.specs.declared.bus_config.BusConfig.{BusConfig}
+use Rattle.can_event.specs.declared.pending.Pending.{Pending}
+use Rattle.can_event.specs.declared.refusal.Refusal.{Refusal}
+use Rattle.can_event.specs.declared.refusal.Refusal.TheVariants as refusal
+use Rattle.can_event.specs.declared.socket_id.SocketId.{SocketId}
+use Rattle.can_event.specs.declared.event.Event.TheVariants.{Send}
+use Rattle.can_event.specs.declared.reply.Reply.TheVariants as reply
 use Rattle.can_event.specs.Replies.{told}
 use Rattle.can_bus.specs.Counters.{state_at}
 use Rattle.can_event.specs.Events.{IsConfig}

@@ -3,8 +3,8 @@ use Rattle.std.specs.List.{range_with_len}
 use Rattle.can_arbiter.specs.Keys.{no_keys}
 use Rattle.can_confine.specs.Confinement.{ErrorCounts, at_start}
 use Rattle.can_attempt.specs.declared.nodes.Nodes.{Nodes}
-use Rattle.can_event.specs.declared.events.Entry.{Entry}
-use Rattle.can_event.specs.declared.events.BusConfig.{BusConfig}
+use Rattle.can_event.specs.declared.entry.Entry.{Entry}
+use Rattle.can_event.specs.declared.bus_config.BusConfig.{BusConfig}
 use Rattle.can_bus.specs.Journal.{Kept}
 use Rattle.can_event.specs.Events.{IsConfig}
 use Rattle.can_bus.specs.State.{LineState, SocketState, Parts, fresh_line, kept_line, kept_lines, kept_sockets, kept_keys, kept_nodes, kept_left, kept_parts, IsKept}

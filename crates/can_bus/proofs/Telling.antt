@@ -6,8 +6,8 @@ use Rattle.std.proofs.lemmas.List.{length-drop}
 use Rattle.std.proofs.lemmas.Option.{slice_get-map, slice_get_past}
 use Rattle.can_confine.specs.Confinement.{ErrorCounts}
 use Rattle.can_attempt.specs.Attempts.{counts_at}
-use Rattle.can_event.specs.declared.events.BusConfig.{BusConfig}
-use Rattle.can_event.specs.declared.events.Entry.{Entry}
+use Rattle.can_event.specs.declared.bus_config.BusConfig.{BusConfig}
+use Rattle.can_event.specs.declared.entry.Entry.{Entry}
 use Rattle.can_event.specs.declared.stats.SocketStats.{SocketStats}
 use Rattle.can_event.specs.declared.stats.IfaceStats.{IfaceStats}
 use Rattle.can_bus.specs.Counters.{counts_of}

@@ -11,9 +11,9 @@ use Rattle.can_arbiter.specs.Keys.{IsWinner, IsIdle}
 use Rattle.can_confine.specs.Confinement.{is_off}
 use Rattle.can_attempt.specs.Attempts.{is_among}
 use Rattle.can_attempt.proofs.Places.{is_among-filter, is_among-range, any_among, any_same, any_none}
-use Rattle.can_event.specs.declared.events.BusConfig.{BusConfig}
-use Rattle.can_event.specs.declared.events.Entry.{Entry}
-use Rattle.can_event.specs.declared.events.Pending.{Pending}
+use Rattle.can_event.specs.declared.bus_config.BusConfig.{BusConfig}
+use Rattle.can_event.specs.declared.entry.Entry.{Entry}
+use Rattle.can_event.specs.declared.pending.Pending.{Pending}
 use Rattle.can_bus.specs.Transmit.{head_of}
 use Rattle.can_bus.specs.Counters.{state_at}
 use Rattle.can_bus.specs.Attempts.{contenders, bits_in, beats, winner}

@@ -4,7 +4,7 @@ use Rattle.can_attempt.specs.declared.ack_mode.AckMode.{AckMode}
 use Rattle.can_attempt.specs.declared.judgement.Judgement.{Judgement}
 use Rattle.can_attempt.specs.declared.nodes.Nodes.{Nodes}
 use Rattle.can_attempt.specs.Attempts.{Transmission, attempt_between, judged}
-use Rattle.can_event.specs.declared.events.Tried.{Tried}
+use Rattle.can_event.specs.declared.attempt.Tried.{Tried}
 
 -- An attempt that tried a frame, and what followed.
 

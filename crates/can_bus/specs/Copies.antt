@@ -6,13 +6,13 @@ use Rattle.can_frame.specs.declared.item.Item.TheVariants as item
 use Rattle.can_filter.specs.Passing.{wants}
 use Rattle.can_attempt.specs.declared.class.Class.{Class}
 use Rattle.can_attempt.specs.declared.class.Class.TheVariants as class
-use Rattle.can_event.specs.declared.events.BusConfig.{BusConfig}
-use Rattle.can_event.specs.declared.events.Entry.{Entry}
-use Rattle.can_event.specs.declared.events.Pending.{Pending}
-use Rattle.can_event.specs.declared.events.Received.{Received}
-use Rattle.can_event.specs.declared.events.Reply.{Reply}
-use Rattle.can_event.specs.declared.events.Reply.TheVariants as reply
-use Rattle.can_event.specs.declared.events.Tried.{Tried}
+use Rattle.can_event.specs.declared.bus_config.BusConfig.{BusConfig}
+use Rattle.can_event.specs.declared.entry.Entry.{Entry}
+use Rattle.can_event.specs.declared.pending.Pending.{Pending}
+use Rattle.can_event.specs.declared.received.Received.{Received}
+use Rattle.can_event.specs.declared.reply.Reply.{Reply}
+use Rattle.can_event.specs.declared.reply.Reply.TheVariants as reply
+use Rattle.can_event.specs.declared.attempt.Tried.{Tried}
 use Rattle.can_bus.specs.Sockets.{is_open, iface_of, capacity_of, filters_of, options_of}
 use Rattle.can_bus.specs.Transmit.{sent_by}
 use Rattle.can_bus.specs.Posts.{is_looped_back, is_own, sender_in}

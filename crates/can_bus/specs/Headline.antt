@@ -1,10 +1,10 @@
 use Rattle.std.specs.Prelude.{◌≡◌, ℕ, ◌+◌, true, List, ◌∷◌, ◌++◌, length, map, All, AllPairs}
 use Rattle.std.specs.List.{range_with_len}
 use Rattle.can_attempt.specs.declared.class.Class.TheVariants as class
-use Rattle.can_event.specs.declared.events.BusConfig.{BusConfig}
-use Rattle.can_event.specs.declared.events.Closed.{Closed}
-use Rattle.can_event.specs.declared.events.Entry.{Entry}
-use Rattle.can_event.specs.declared.events.SocketId.{SocketId}
+use Rattle.can_event.specs.declared.bus_config.BusConfig.{BusConfig}
+use Rattle.can_event.specs.declared.reply.Closed.{Closed}
+use Rattle.can_event.specs.declared.entry.Entry.{Entry}
+use Rattle.can_event.specs.declared.socket_id.SocketId.{SocketId}
 use Rattle.can_bus.specs.Sockets.{places, iface_of, capacity_of}
 use Rattle.can_bus.specs.Transmit.{lost_count}
 use Rattle.can_bus.specs.Queues.{queued_to, taken_from, dropped_at, candidates_for}

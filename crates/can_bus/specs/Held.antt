@@ -1,5 +1,5 @@
 use Rattle.std.specs.Prelude.{ℕ, ◌≤◌, List}
-use Rattle.can_event.specs.declared.events.Entry.{Entry}
+use Rattle.can_event.specs.declared.entry.Entry.{Entry}
 use Rattle.can_packed.specs.Records.{Adds}
 use Rattle.can_bus.specs.declared.held.Held.{Held}
 use Rattle.can_bus.specs.declared.held.Held.TheVariants.{Packed, Given}

@@ -3,8 +3,8 @@ use Rattle.can_frame.specs.Sets.{is_in}
 use Rattle.can_frame.specs.declared.iface.IfaceSet.{IfaceSet}
 use Rattle.can_attempt.specs.Attempts.{counts_after}
 use Rattle.can_errframe.specs.ErrorMessages.{state_message}
-use Rattle.can_event.specs.declared.events.Pending.{Pending}
-use Rattle.can_event.specs.declared.events.Tried.{Tried}
+use Rattle.can_event.specs.declared.pending.Pending.{Pending}
+use Rattle.can_event.specs.declared.attempt.Tried.{Tried}
 use Rattle.can_bus.specs.Attempted.{Outcome, transmission_of}
 use Rattle.can_bus.specs.Posts.{Post, attempt_posts, data_posts, error_posts, fault_message_for, role_at}
 

@@ -10,16 +10,16 @@ use Rattle.can_attempt.specs.Attempts.{Transmission, is_among, receivers, hit, c
 use Rattle.can_errframe.specs.ErrorMessages.{fault_message, state_message, restart_message}
 use Rattle.can_errframe.specs.declared.role.Role.{Role}
 use Rattle.can_errframe.specs.declared.role.Role.TheVariants as role
-use Rattle.can_event.specs.declared.events.BusConfig.{BusConfig}
-use Rattle.can_event.specs.declared.events.Entry.{Entry}
-use Rattle.can_event.specs.declared.events.Event.{Event}
-use Rattle.can_event.specs.declared.events.Event.TheVariants.{Attempt, Restart}
-use Rattle.can_event.specs.declared.events.Pending.{Pending}
-use Rattle.can_event.specs.declared.events.Received.{Received}
-use Rattle.can_event.specs.declared.events.Reply.{Reply}
-use Rattle.can_event.specs.declared.events.Reply.TheVariants as reply
-use Rattle.can_event.specs.declared.events.SocketId.{SocketId}
-use Rattle.can_event.specs.declared.events.Tried.{Tried}
+use Rattle.can_event.specs.declared.bus_config.BusConfig.{BusConfig}
+use Rattle.can_event.specs.declared.entry.Entry.{Entry}
+use Rattle.can_event.specs.declared.event.Event.{Event}
+use Rattle.can_event.specs.declared.event.Event.TheVariants.{Attempt, Restart}
+use Rattle.can_event.specs.declared.pending.Pending.{Pending}
+use Rattle.can_event.specs.declared.received.Received.{Received}
+use Rattle.can_event.specs.declared.reply.Reply.{Reply}
+use Rattle.can_event.specs.declared.reply.Reply.TheVariants as reply
+use Rattle.can_event.specs.declared.socket_id.SocketId.{SocketId}
+use Rattle.can_event.specs.declared.attempt.Tried.{Tried}
 use Rattle.can_bus.specs.Transmit.{sent_by}
 use Rattle.can_bus.specs.Counters.{transmission}
 use Rattle.can_event.specs.Events.{tried_item}

@@ -3,11 +3,11 @@ use Rattle.std.specs.List.{list_any}
 use Rattle.can_filter.specs.Filters.{CanFilter}
 use Rattle.can_filter.specs.declared.options.Options.{Options}
 use Rattle.can_filter.specs.Passing.{receives_all, default_options}
-use Rattle.can_event.specs.declared.events.Event.{Event}
-use Rattle.can_event.specs.declared.events.Event.TheVariants.{Open, Close, SetFilters, SetOption}
-use Rattle.can_event.specs.declared.events.Reply.{Reply}
-use Rattle.can_event.specs.declared.events.Reply.TheVariants as reply
-use Rattle.can_event.specs.declared.events.Entry.{Entry}
+use Rattle.can_event.specs.declared.event.Event.{Event}
+use Rattle.can_event.specs.declared.event.Event.TheVariants.{Open, Close, SetFilters, SetOption}
+use Rattle.can_event.specs.declared.reply.Reply.{Reply}
+use Rattle.can_event.specs.declared.reply.Reply.TheVariants as reply
+use Rattle.can_event.specs.declared.entry.Entry.{Entry}
 use Rattle.can_event.specs.Events.{with_option}
 
 -- The sockets of a bus, by its history. A history is the list of a bus's entries so far, the newest

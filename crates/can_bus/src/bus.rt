@@ -9,8 +9,8 @@ ghost use Rattle.can_bus.specs.Legal.{IsLegal};
 ghost use Rattle.can_bus.specs.Run.{IsAnswered};
 ghost use Rattle.can_bus.specs.Stats.{socket_stats_of, iface_stats_of, all_counts};
 ghost use Rattle.can_bus.specs.Transmit.{tape};
-ghost use Rattle.can_event.specs.declared.events.Event.TheVariants as event;
-ghost use Rattle.can_event.specs.declared.events.Reply.TheVariants as reply;
+ghost use Rattle.can_event.specs.declared.event.Event.TheVariants as event;
+ghost use Rattle.can_event.specs.declared.reply.Reply.TheVariants as reply;
 
 use crate::records::Record;
 use crate::state::State;

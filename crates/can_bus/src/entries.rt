@@ -15,7 +15,7 @@ pub struct Entries<'a> {
 impl<'a> Model for Entries<'a> {
     ghost use Rattle.std.specs.Prelude.{List};
     ghost use Rattle.can_bus.specs.Held.{entries_in};
-    ghost use Rattle.can_event.specs.declared.events.Entry.{Entry};
+    ghost use Rattle.can_event.specs.declared.entry.Entry.{Entry};
 
     ghost Value = { List Entry };
 
@@ -74,7 +74,7 @@ pub struct EntriesIter<'a> {
 impl<'a> Model for EntriesIter<'a> {
     ghost use Rattle.std.specs.Prelude.{List, drop};
     ghost use Rattle.can_bus.specs.Held.{entries_in};
-    ghost use Rattle.can_event.specs.declared.events.Entry.{Entry};
+    ghost use Rattle.can_event.specs.declared.entry.Entry.{Entry};
 
     ghost Value = { List Entry };
 

@@ -2,9 +2,9 @@ ghost use Rattle.std.specs.Prelude.{◌≡◌, ◌<◌, ◌≤◌, false, [], le
 ghost use Rattle.std.specs.Option.{option_map};
 ghost use Rattle.can_bus.specs.Held.{HoldsMore, entries_in, room_in};
 ghost use Rattle.can_event.specs.Replies.{entry_of, receive_reply, told};
-ghost use Rattle.can_event.specs.declared.events.Event.TheVariants as asked;
-ghost use Rattle.can_event.specs.declared.events.Reply.TheVariants as answer;
-ghost use Rattle.can_event.specs.declared.events.Attempt.TheVariants.{Idle};
+ghost use Rattle.can_event.specs.declared.event.Event.TheVariants as asked;
+ghost use Rattle.can_event.specs.declared.reply.Reply.TheVariants as answer;
+ghost use Rattle.can_event.specs.declared.attempt.Attempt.TheVariants.{Idle};
 ghost use Rattle.can_bus.specs.Answer.{attempt_entry, told_attempt};
 ghost use Rattle.can_packed.specs.Kept.{receive_entry, send_entry};
 ghost use Rattle.can_packed.specs.Records.{Adds};

@@ -16,15 +16,15 @@ ghost use Rattle.can_bus.specs.Offers.{Offer, offers_to, with_room, without_room
 ghost use Rattle.can_bus.specs.Sockets.{places, open_sockets, is_open, iface_of, capacity_of, options_of};
 ghost use Rattle.can_bus.specs.Fates.{numbers_given, opening, closing, is_restart_of, frames_with, goes_off};
 ghost use Rattle.can_bus.specs.Fates.Fate.{Waiting, Done, Lost};
-ghost use Rattle.can_event.specs.declared.events.Closed.{Closed};
-ghost use Rattle.can_event.specs.declared.events.SocketId.{SocketId};
+ghost use Rattle.can_event.specs.declared.reply.Closed.{Closed};
+ghost use Rattle.can_event.specs.declared.socket_id.SocketId.{SocketId};
 ghost use Rattle.can_bus.specs.Legal.{lacks_fd, legal_reply, IsLegal};
 ghost use Rattle.can_event.specs.Spelled.{IsSpelled};
-ghost use Rattle.can_event.specs.declared.events.Event.TheVariants as event;
-ghost use Rattle.can_event.specs.declared.events.Reply.TheVariants as reply;
-ghost use Rattle.can_event.specs.declared.events.Refusal.TheVariants as refusal;
-ghost use Rattle.can_event.specs.declared.events.Entry.{Entry};
-ghost use Rattle.can_event.specs.declared.events.Tried.{Tried};
+ghost use Rattle.can_event.specs.declared.event.Event.TheVariants as event;
+ghost use Rattle.can_event.specs.declared.reply.Reply.TheVariants as reply;
+ghost use Rattle.can_event.specs.declared.refusal.Refusal.TheVariants as refusal;
+ghost use Rattle.can_event.specs.declared.entry.Entry.{Entry};
+ghost use Rattle.can_event.specs.declared.attempt.Tried.{Tried};
 
 use can_event::BusConfig;
 

@@ -4,7 +4,7 @@ ghost use Rattle.can_bus.specs.Run.{IsAnswer, history_after};
 ghost use Rattle.can_event.specs.Events.{IsConfig};
 ghost use Rattle.can_event.specs.Replies.{Enters, entry_of};
 ghost use Rattle.can_event.specs.Spelled.{IsSpelled};
-ghost use Rattle.can_event.specs.declared.events.Entry.{Entry as AnEntry};
+ghost use Rattle.can_event.specs.declared.entry.Entry.{Entry as AnEntry};
 
 use crate::bus::BusFault;
 use crate::state::State;

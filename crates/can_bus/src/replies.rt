@@ -1,7 +1,7 @@
 ghost use Rattle.std.specs.Prelude.{◌≡◌};
 ghost use Rattle.can_bus.specs.Answer.{told_attempt};
 ghost use Rattle.can_event.specs.Replies.{told};
-ghost use Rattle.can_event.specs.declared.events.Reply.TheVariants as reply;
+ghost use Rattle.can_event.specs.declared.reply.Reply.TheVariants as reply;
 
 use can_event::{Attempt, Refusal, Reply};
 

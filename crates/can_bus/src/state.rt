@@ -3,7 +3,7 @@ ghost use Rattle.can_arbiter.specs.Keys.{IsWinner, IsIdle};
 ghost use Rattle.std.specs.List.{list_any};
 ghost use Rattle.can_bus.specs.Lean.{Carries, IsReady, record_of};
 ghost use Rattle.can_bus.specs.State.{IsKept, kept_parts};
-ghost use Rattle.can_event.specs.declared.events.Entry.{Entry as AnEntry};
+ghost use Rattle.can_event.specs.declared.entry.Entry.{Entry as AnEntry};
 
 use crate::countdown::Countdown;
 use crate::line::Line;

@@ -1,19 +1,19 @@
 -- A bus's reply to an event, as the step of a port.
 use Rattle.std.proofs.Common.{◌≡◌, Bool, Result, Ok, Err, refl}
-use Rattle.can_event.specs.declared.events.Event.{Event}
-use Rattle.can_event.specs.declared.events.Event.TheVariants as event
-use Rattle.can_event.specs.declared.events.Reply.{Reply}
-use Rattle.can_event.specs.declared.events.Reply.TheVariants as reply
-use Rattle.can_event.specs.declared.events.Refusal.{Refusal}
-use Rattle.can_event.specs.declared.events.Refusal.TheVariants as refusal
+use Rattle.can_event.specs.declared.event.Event.{Event}
+use Rattle.can_event.specs.declared.event.Event.TheVariants as event
+use Rattle.can_event.specs.declared.reply.Reply.{Reply}
+use Rattle.can_event.specs.declared.reply.Reply.TheVariants as reply
+use Rattle.can_event.specs.declared.refusal.Refusal.{Refusal}
+use Rattle.can_event.specs.declared.refusal.Refusal.TheVariants as refusal
 use Rattle.can_bus.specs.Journal.{Journal}
-use Rattle.can_event.specs.declared.events.Received.{Received}
-use Rattle.can_event.specs.declared.events.SocketId.{SocketId}
+use Rattle.can_event.specs.declared.received.Received.{Received}
+use Rattle.can_event.specs.declared.socket_id.SocketId.{SocketId}
 use Rattle.can_event.specs.Replies.{taken_item, taken_reply}
 use Rattle.can_bus.specs.Answer.{Answers, Noted, Refuses, done_reply, received_into, told_attempt}
 use Rattle.can_bus.specs.Run.{IsAnswer, history_after}
 use Rattle.can_bus.proofs.Fitting.{legal_is_spelled}
-use Rattle.can_event.specs.declared.events.Attempt.TheVariants as attempt
+use Rattle.can_event.specs.declared.attempt.Attempt.TheVariants as attempt
 use Rattle.can_dialog.specs.declared.port.PortRefusal.TheVariants as port
 use Rattle.can_dialog.specs.BusSteps.{NamedBus, BusStep, IsEvent, passed_on}
 use Rattle.can_dialog.specs.Calls.{Gives}

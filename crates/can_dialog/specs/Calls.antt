@@ -3,16 +3,16 @@ use Rattle.can_frame.specs.Frames.{CanFrame}
 use Rattle.can_filter.specs.Filters.{CanFilter}
 use Rattle.can_fault.specs.declared.verdict.Verdict.{Verdict}
 use Rattle.can_confine.specs.Confinement.{ErrorCounts}
-use Rattle.can_event.specs.declared.events.SocketId.{SocketId}
-use Rattle.can_event.specs.declared.events.Opt.{Opt}
-use Rattle.can_event.specs.declared.events.Attempt.{Attempt as AnAttempt}
-use Rattle.can_event.specs.declared.events.Attempt.TheVariants as attempt
-use Rattle.can_event.specs.declared.events.Closed.{Closed}
-use Rattle.can_event.specs.declared.events.Event.{Event}
-use Rattle.can_event.specs.declared.events.Event.TheVariants as event
-use Rattle.can_event.specs.declared.events.Received.{Received}
-use Rattle.can_event.specs.declared.events.Reply.{Reply as EventReply}
-use Rattle.can_event.specs.declared.events.Reply.TheVariants as reply
+use Rattle.can_event.specs.declared.socket_id.SocketId.{SocketId}
+use Rattle.can_event.specs.declared.opt.Opt.{Opt}
+use Rattle.can_event.specs.declared.attempt.Attempt.{Attempt as AnAttempt}
+use Rattle.can_event.specs.declared.attempt.Attempt.TheVariants as attempt
+use Rattle.can_event.specs.declared.reply.Closed.{Closed}
+use Rattle.can_event.specs.declared.event.Event.{Event}
+use Rattle.can_event.specs.declared.event.Event.TheVariants as event
+use Rattle.can_event.specs.declared.received.Received.{Received}
+use Rattle.can_event.specs.declared.reply.Reply.{Reply as EventReply}
+use Rattle.can_event.specs.declared.reply.Reply.TheVariants as reply
 use Rattle.can_event.specs.declared.stats.SocketStats.{SocketStats}
 use Rattle.can_event.specs.declared.stats.IfaceStats.{IfaceStats}
 use Rattle.can_proto.specs.declared.answer.Cause.{Cause}

@@ -1,5 +1,5 @@
 use Rattle.std.specs.Prelude.{ℕ, Bool, true, false, List, []}
-use Rattle.can_event.specs.declared.events.Received.{Received}
+use Rattle.can_event.specs.declared.received.Received.{Received}
 use Rattle.can_proto.specs.declared.answer.Answer.TheVariants as answer
 use Rattle.can_proto.specs.Spelling.{reply_text, item_text}
 use Rattle.can_dialog.specs.declared.delivery.Delivery.{Delivery}

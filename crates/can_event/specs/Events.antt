@@ -4,13 +4,13 @@ use Rattle.can_frame.specs.declared.item.Item.TheVariants as item
 use Rattle.can_frame.specs.Sets.{no_ifaces}
 use Rattle.can_frame.specs.declared.iface.IfaceSet.{IfaceSet}
 use Rattle.can_filter.specs.declared.options.Options.{Options}
-use Rattle.can_event.specs.declared.events.BusConfig.{BusConfig}
-use Rattle.can_event.specs.declared.events.Opt.{Opt}
-use Rattle.can_event.specs.declared.events.Opt.TheVariants as opt
-use Rattle.can_event.specs.declared.events.Received.{Received}
-use Rattle.can_event.specs.declared.events.Reply.{Reply}
-use Rattle.can_event.specs.declared.events.Reply.TheVariants as reply
-use Rattle.can_event.specs.declared.events.Tried.{Tried}
+use Rattle.can_event.specs.declared.bus_config.BusConfig.{BusConfig}
+use Rattle.can_event.specs.declared.opt.Opt.{Opt}
+use Rattle.can_event.specs.declared.opt.Opt.TheVariants as opt
+use Rattle.can_event.specs.declared.received.Received.{Received}
+use Rattle.can_event.specs.declared.reply.Reply.{Reply}
+use Rattle.can_event.specs.declared.reply.Reply.TheVariants as reply
+use Rattle.can_event.specs.declared.attempt.Tried.{Tried}
 
 -- The limits of a configuration, and what the plain types of a bus say of themselves.
 

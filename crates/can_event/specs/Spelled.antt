@@ -3,15 +3,15 @@ use Rattle.can_frame.specs.Frames.{is_fd}
 use Rattle.can_frame.specs.Sets.{no_ifaces}
 use Rattle.can_frame.specs.declared.item.Item.{Item}
 use Rattle.can_frame.specs.declared.item.Item.TheVariants as item
-use Rattle.can_event.specs.declared.events.BusConfig.{BusConfig}
-use Rattle.can_event.specs.declared.events.Entry.{Entry}
-use Rattle.can_event.specs.declared.events.Event.{Event}
-use Rattle.can_event.specs.declared.events.Event.TheVariants.{Open, Close, SetFilters, SetOption, Send, Receive, Attempt, Restart}
-use Rattle.can_event.specs.declared.events.Received.{Received}
-use Rattle.can_event.specs.declared.events.Refusal.{Refusal}
-use Rattle.can_event.specs.declared.events.Refusal.TheVariants as refusal
-use Rattle.can_event.specs.declared.events.Reply.{Reply}
-use Rattle.can_event.specs.declared.events.Reply.TheVariants as reply
+use Rattle.can_event.specs.declared.bus_config.BusConfig.{BusConfig}
+use Rattle.can_event.specs.declared.entry.Entry.{Entry}
+use Rattle.can_event.specs.declared.event.Event.{Event}
+use Rattle.can_event.specs.declared.event.Event.TheVariants.{Open, Close, SetFilters, SetOption, Send, Receive, Attempt, Restart}
+use Rattle.can_event.specs.declared.received.Received.{Received}
+use Rattle.can_event.specs.declared.refusal.Refusal.{Refusal}
+use Rattle.can_event.specs.declared.refusal.Refusal.TheVariants as refusal
+use Rattle.can_event.specs.declared.reply.Reply.{Reply}
+use Rattle.can_event.specs.declared.reply.Reply.TheVariants as reply
 use Rattle.can_event.specs.Events.{IsConfig, restarted_in}
 
 -- Which entries the text of a record has a line for.

@@ -5,13 +5,28 @@
 //! within the limits, and which entries the text of a record has a line for. Only the copy of an event takes memory.
 #![tactic(auto)]
 
-pub mod events;
+pub mod attempt;
+pub mod bus_config;
+pub mod entry;
+pub mod event;
+pub mod opt;
+pub mod pending;
+pub mod received;
+pub mod refusal;
+pub mod reply;
+pub mod socket_id;
 pub mod spelled;
 pub mod stats;
 
-pub use events::{
-    Attempt, BusConfig, Closed, Entry, Event, MAX_AUTO_RESTART, MAX_LIMIT, MAX_RX_CAPACITY,
-    MAX_TX_CAPACITY, Opt, Pending, Received, Refusal, Reply, SocketId, Tried,
-};
+pub use attempt::{Attempt, Tried};
+pub use bus_config::{BusConfig, MAX_AUTO_RESTART, MAX_LIMIT, MAX_RX_CAPACITY, MAX_TX_CAPACITY};
+pub use entry::Entry;
+pub use event::Event;
+pub use opt::Opt;
+pub use pending::Pending;
+pub use received::Received;
+pub use refusal::Refusal;
+pub use reply::{Closed, Reply};
+pub use socket_id::SocketId;
 pub use spelled::is_spelled;
 pub use stats::{IfaceStats, SocketStats};

@@ -1,8 +1,14 @@
 ghost use Rattle.std.specs.Prelude.{IsTrue, ◌↔◌};
 ghost use Rattle.can_event.specs.Spelled.{SendsFd, MayRefuse, IsNumbered, AreNumbered, FitsReply, MayRestart, IsSpelled};
-ghost use Rattle.can_event.specs.declared.events.Reply.TheVariants as reply;
+ghost use Rattle.can_event.specs.declared.reply.Reply.TheVariants as reply;
 
-use crate::events::{BusConfig, Entry, Event, Received, Refusal, Reply, Tried};
+use crate::attempt::Tried;
+use crate::bus_config::BusConfig;
+use crate::entry::Entry;
+use crate::event::Event;
+use crate::received::Received;
+use crate::refusal::Refusal;
+use crate::reply::Reply;
 use can_frame::{IfaceSet, Item};
 
 /// Whether the text of a record has a line for an entry: its reply is of the event's own kind, or a refusal other than

@@ -4,12 +4,12 @@
 //! at the attempt's number, and `Good` elsewhere, however often it is asked.
 #![tactic(auto)]
 
-pub mod laws;
-mod script_lines;
-pub mod script;
 pub mod fault_source;
+pub mod laws;
+pub mod script;
+mod script_lines;
 pub mod verdict;
 
-pub use script::{Script, ScriptError};
 pub use fault_source::{FaultSource, Perfect};
+pub use script::{Script, ScriptError};
 pub use verdict::{GlobalKind, LocalKind, Verdict};

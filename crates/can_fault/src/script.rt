@@ -2,8 +2,8 @@ ghost use Rattle.std.specs.Prelude.{◌≡◌};
 ghost use Rattle.can_fault.specs.Sources.{verdict_in};
 ghost use Rattle.can_fault.specs.Scripts.{Reads};
 
-use crate::script_lines::{LineFault, read_line};
 use crate::fault_source::FaultSource;
+use crate::script_lines::{LineFault, read_line};
 use crate::verdict::Verdict;
 use can_frame::Names;
 use std::alloc::Global;

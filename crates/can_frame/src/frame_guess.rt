@@ -5,9 +5,9 @@ ghost use Rattle.can_frame.specs.FrameGuess.{stands_at, request_in, data_in, fd_
 ghost use Rattle.can_frame.specs.FrameText.{IsItem, IsSpelling};
 ghost use Rattle.can_frame.specs.declared.item.Item.{Item as AnItem};
 
+use crate::can_id::CanId;
 use crate::error_frame::ErrorFrame;
 use crate::frame::{Frame, is_fd_length};
-use crate::can_id::CanId;
 use crate::item::Item;
 use crate::numbers::read_hexadecimal;
 use hex::decode_to_slice;

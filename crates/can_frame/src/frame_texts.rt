@@ -2,8 +2,8 @@ ghost use Rattle.std.specs.Prelude.{◌≡◌, ◌≤◌, ◌+◌, ◌++◌, ◌
 ghost use Rattle.can_frame.specs.FrameText.{payload_text, frame_spelling, AsksForNothing, IsItem, IsSpelling, Spells};
 ghost use Rattle.can_frame.specs.declared.item.Item.{Item as AnItem};
 
-use crate::frame_guess::guess_item;
 use crate::frame::Frame;
+use crate::frame_guess::guess_item;
 use crate::item::Item;
 use crate::text::Text;
 use thiserror::Error;

@@ -16,12 +16,12 @@
 #![tactic(auto)]
 
 pub mod arbitration;
+pub mod can_id;
 mod digit_writing;
 pub mod error_frame;
+pub mod frame;
 pub mod frame_guess;
 pub mod frame_texts;
-pub mod frame;
-pub mod can_id;
 pub mod iface;
 pub mod item;
 pub mod laws;
@@ -30,11 +30,11 @@ pub mod names;
 pub mod numbers;
 pub mod text;
 
+pub use can_id::{CanId, IdTooLarge};
 pub use error_frame::{ClassTooLarge, ErrorFrame};
+pub use frame::{BadFdLength, Frame, TooLong, is_fd_length};
 pub use frame_guess::guess_item;
 pub use frame_texts::{BadText, FrameText, frame_text, read_frame_text};
-pub use frame::{BadFdLength, Frame, TooLong, is_fd_length};
-pub use can_id::{CanId, IdTooLarge};
 pub use iface::{Iface, IfaceSet};
 pub use item::Item;
 pub use moment::{Moment, MomentTooLarge, read_moment};

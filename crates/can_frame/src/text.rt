@@ -3,8 +3,8 @@ ghost use Rattle.std.specs.Fmt.{decimal};
 ghost use Rattle.can_frame.specs.FrameText.{digits, pairs, id_text, upper};
 ghost use Rattle.can_frame.specs.Moments.{moment_text};
 
-use crate::digit_writing::{write_decimals, write_hexadecimals, write_pairs};
 use crate::can_id::CanId;
+use crate::digit_writing::{write_decimals, write_hexadecimals, write_pairs};
 use crate::moment::Moment;
 use std::marker::Model;
 

@@ -5,10 +5,10 @@ use Rattle.std.proofs.lemmas.List.Elements.{All-head, All-tail, All-weaker, All-
 use Rattle.can_frame.specs.Frames.{CanFrame, is_fd}
 use Rattle.can_frame.specs.declared.item.Item.{Item}
 use Rattle.can_frame.specs.declared.item.Item.TheVariants as item
-use Rattle.can_event.specs.declared.events.Event.{Event}
-use Rattle.can_event.specs.declared.events.Event.TheVariants.{Send, Receive, Attempt}
-use Rattle.can_event.specs.declared.events.Reply.{Reply}
-use Rattle.can_event.specs.declared.events.Reply.TheVariants as reply
+use Rattle.can_event.specs.declared.event.Event.{Event}
+use Rattle.can_event.specs.declared.event.Event.TheVariants.{Send, Receive, Attempt}
+use Rattle.can_event.specs.declared.reply.Reply.{Reply}
+use Rattle.can_event.specs.declared.reply.Reply.TheVariants as reply
 use Rattle.can_packed.specs.declared.kept.Kept.{Kept}
 use Rattle.can_packed.specs.declared.kept.Kept.TheVariants as kept
 use Rattle.can_packed.specs.FrameWords.{no_frame}

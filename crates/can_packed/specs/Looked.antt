@@ -1,4 +1,4 @@
-use Rattle.can_event.specs.declared.events.Entry.{Entry}
+use Rattle.can_event.specs.declared.entry.Entry.{Entry}
 use Rattle.can_packed.specs.declared.looked.Sight.{Sight}
 use Rattle.can_packed.specs.declared.looked.Sight.TheVariants.{Made, Lent}
 

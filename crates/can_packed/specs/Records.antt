@@ -1,5 +1,5 @@
 use Rattle.std.specs.Prelude.{◌≡◌, ℕ, Bool, List, [], ◌∷◌, ◌++◌}
-use Rattle.can_event.specs.declared.events.Entry.{Entry}
+use Rattle.can_event.specs.declared.entry.Entry.{Entry}
 
 -- entries, the oldest first, and how many there is memory for
 pub record PackedEntries : Type 0 where

@@ -1,5 +1,5 @@
 use Rattle.std.specs.Prelude.{◌≤◌, length}
-use Rattle.can_event.specs.declared.events.Entry.{Entry}
+use Rattle.can_event.specs.declared.entry.Entry.{Entry}
 use Rattle.can_packed.specs.declared.stored.Stored.{Stored}
 use Rattle.can_packed.specs.declared.stored.Stored.TheVariants.{Packed, Whole}
 use Rattle.can_packed.specs.Kept.{entry_in, frames_needed, IsSmall}

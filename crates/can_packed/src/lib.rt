@@ -9,10 +9,10 @@
 
 pub mod frame_words;
 pub mod kept;
-pub mod packed_list;
 pub mod looked;
-mod packing;
+pub mod packed_list;
 pub mod packed_record;
+mod packing;
 pub mod stored;
 pub mod unpacking;
 pub mod verdicts;
@@ -20,8 +20,8 @@ mod wide;
 
 pub use frame_words::frame_in;
 pub use kept::Kept;
-pub use packed_list::{PackedList, receive_reply};
 pub use looked::Looked;
+pub use packed_list::{PackedList, receive_reply};
 pub use packed_record::PackedRecord;
 pub use stored::Stored;
 pub use unpacking::{event_in, reply_in, stamp_moment, tried_in};

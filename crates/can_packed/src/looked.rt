@@ -21,7 +21,7 @@ enum Sight<'a> {
 }
 
 impl<'a> Model for Looked<'a> {
-    ghost use Rattle.can_event.specs.declared.events.Entry.{Entry};
+    ghost use Rattle.can_event.specs.declared.entry.Entry.{Entry};
     ghost use Rattle.can_packed.specs.Looked.{entry_seen};
 
     ghost Value = { Entry };

@@ -1,8 +1,8 @@
 ghost use Rattle.std.specs.Prelude.{◌≡◌, ◌<◌, ◌≤◌, ◌+◌, false, [], length, slice_get, IfOk, IfSome, IsOk, OnOk};
 ghost use Rattle.std.specs.Option.{option_map};
 ghost use Rattle.can_event.specs.Replies.{entry_of, receive_reply, told};
-ghost use Rattle.can_event.specs.declared.events.Event.TheVariants as asked;
-ghost use Rattle.can_event.specs.declared.events.Reply.TheVariants as answer;
+ghost use Rattle.can_event.specs.declared.event.Event.TheVariants as asked;
+ghost use Rattle.can_event.specs.declared.reply.Reply.TheVariants as answer;
 ghost use Rattle.can_packed.specs.Kept.{entry_in, frames_needed, receive_entry, send_entry, tried_entry};
 ghost use Rattle.can_packed.specs.Records.{Adds};
 ghost use Rattle.can_packed.specs.Stored.{entry_stored, IsStored};

@@ -1,6 +1,6 @@
 ghost use Rattle.std.specs.Prelude.{◌≡◌, ◌<◌, ◌≤◌, ◌/◌, ◌%◌, ◌++◌, List, length, vec_capacity, false, IsTrue, Some};
-ghost use Rattle.can_event.specs.declared.events.Event.TheVariants as asked;
-ghost use Rattle.can_event.specs.declared.events.Reply.TheVariants as answer;
+ghost use Rattle.can_event.specs.declared.event.Event.TheVariants as asked;
+ghost use Rattle.can_event.specs.declared.reply.Reply.TheVariants as answer;
 ghost use Rattle.can_event.specs.Replies.{entry_of, receive_reply, told};
 ghost use Rattle.can_frame.specs.Frames.{CanFrame};
 ghost use Rattle.can_packed.specs.Kept.{entry_in, frames_needed, frame_kept, frames_needed_for, fd_frames, fd_frames_of, fd_frames_of_item, receive_entry, receive_frames, send_entry, tried_entry, IsShort, stamp_moment, stamp_winner, stamp_len, stamp_off};

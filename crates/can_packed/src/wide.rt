@@ -1,7 +1,7 @@
 ghost use Rattle.std.specs.Prelude.{◌≡◌};
 ghost use Rattle.can_event.specs.Replies.{receive_reply};
-ghost use Rattle.can_event.specs.declared.events.Event.TheVariants as asked;
-ghost use Rattle.can_event.specs.declared.events.SocketId.{SocketId};
+ghost use Rattle.can_event.specs.declared.event.Event.TheVariants as asked;
+ghost use Rattle.can_event.specs.declared.socket_id.SocketId.{SocketId};
 ghost use Rattle.can_packed.specs.Wide.{is_wide, is_large, is_off_alone};
 
 use can_event::{Event, Received, Refusal, Reply};

@@ -8,8 +8,8 @@ use Rattle.can_frame.specs.Frames.{Identifier, IsIdentifier, Payload, is_fd_leng
 use Rattle.can_frame.specs.Frames.Payload.{Data, Remote, Fd}
 use Rattle.can_frame.specs.FrameText.{digits, id_text, IsPayload}
 use Rattle.can_filter.specs.Filters.{CanFilter}
-use Rattle.can_event.specs.declared.events.Opt.{Opt}
-use Rattle.can_event.specs.declared.events.Opt.TheVariants as opt
+use Rattle.can_event.specs.declared.opt.Opt.{Opt}
+use Rattle.can_event.specs.declared.opt.Opt.TheVariants as opt
 use Rattle.can_proto.specs.declared.command.Mode.{Mode}
 use Rattle.can_proto.specs.declared.command.Command.{Command}
 use Rattle.can_proto.specs.declared.command.Command.TheVariants.{Echo, Open, Rawmode, Send, SetFilters, SetOption, ErrData, Stats, Status, Restart, Close}

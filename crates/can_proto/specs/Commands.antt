@@ -2,7 +2,7 @@ use Rattle.std.specs.Prelude.{◌≡◌, ◌⊎◌, ℕ, ◌-◌, ◌*◌, ◌^�
 use Rattle.can_frame.specs.Frames.{Identifier, CanFrame, is_fd_length}
 use Rattle.can_frame.specs.Frames.Payload.{Data, Remote, Fd}
 use Rattle.can_filter.specs.Filters.{CanFilter}
-use Rattle.can_event.specs.declared.events.Opt.TheVariants as opt
+use Rattle.can_event.specs.declared.opt.Opt.TheVariants as opt
 use Rattle.can_proto.specs.declared.message.Incoming.TheVariants.{Message}
 use Rattle.can_proto.specs.declared.command.Mode.{Mode}
 use Rattle.can_proto.specs.declared.command.Mode.TheVariants.{Raw}

@@ -4,9 +4,9 @@ use Rattle.std.specs.Prelude.{ℕ, codes, IfSome}
 use Rattle.std.proofs.lemmas.Option.{none-some, same_Some}
 use Rattle.can_frame.specs.Frames.{CanFrame}
 use Rattle.can_fault.specs.declared.verdict.Verdict.{Verdict}
-use Rattle.can_event.specs.declared.events.SocketId.{SocketId}
-use Rattle.can_event.specs.declared.events.Event.{Event}
-use Rattle.can_event.specs.declared.events.Event.TheVariants.{Attempt, Receive, Send}
+use Rattle.can_event.specs.declared.socket_id.SocketId.{SocketId}
+use Rattle.can_event.specs.declared.event.Event.{Event}
+use Rattle.can_event.specs.declared.event.Event.TheVariants.{Attempt, Receive, Send}
 use Rattle.can_record.specs.inner.Words.{word, after}
 use Rattle.can_record.specs.inner.Reading.{◌>>=◌, SeemsToBe, attempted_in, event_at, plain_at, frame_at, moment_at, sent_in, socket_at, verdict_at}
 

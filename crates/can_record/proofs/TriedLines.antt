@@ -5,9 +5,9 @@ use Rattle.can_frame.specs.FrameText.{frame_spelling}
 use Rattle.can_frame.specs.declared.item.Item.TheVariants as item
 use Rattle.can_fault.specs.declared.verdict.Verdict.{Verdict}
 use Rattle.can_attempt.specs.Words.{class_word}
-use Rattle.can_event.specs.declared.events.Event.TheVariants.{Attempt}
-use Rattle.can_event.specs.declared.events.Reply.TheVariants as reply
-use Rattle.can_event.specs.declared.events.Tried.{Tried}
+use Rattle.can_event.specs.declared.event.Event.TheVariants.{Attempt}
+use Rattle.can_event.specs.declared.reply.Reply.TheVariants as reply
+use Rattle.can_event.specs.declared.attempt.Tried.{Tried}
 use Rattle.can_record.specs.inner.Words.{spaced}
 use Rattle.can_record.specs.Spelling.{spell, moment_word, verdict_word, set_word, answered_line}
 use Rattle.can_record.proofs.Written.{spell-append}

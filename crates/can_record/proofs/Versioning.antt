@@ -8,8 +8,8 @@ use Rattle.std.proofs.lemmas.Option.{slice_get_within, get_or_from_slice_get}
 use Rattle.std.proofs.lemmas.List.Elements.{All-cons, All-head, All-nil, All-tail}
 use Rattle.can_frame.specs.Frames.{is_fd}
 use Rattle.can_packed.specs.FrameWords.{payload_in}
-use Rattle.can_event.specs.declared.events.BusConfig.{BusConfig}
-use Rattle.can_event.specs.declared.events.Entry.{Entry}
+use Rattle.can_event.specs.declared.bus_config.BusConfig.{BusConfig}
+use Rattle.can_event.specs.declared.entry.Entry.{Entry}
 use Rattle.can_record.specs.declared.version.Version.{Version}
 use Rattle.can_record.specs.declared.version.Version.TheVariants as version
 use Rattle.can_record.specs.Spelling.{has_fd, version_for, version_of}

@@ -15,18 +15,18 @@ use Rattle.can_fault.specs.declared.verdict.Verdict.TheVariants as verdict
 use Rattle.can_attempt.specs.declared.ack_mode.AckMode.{AckMode}
 use Rattle.can_attempt.specs.declared.ack_mode.AckMode.TheVariants as ack
 use Rattle.can_attempt.specs.Words.{class_word}
-use Rattle.can_event.specs.declared.events.BusConfig.{BusConfig}
-use Rattle.can_event.specs.declared.events.Opt.{Opt}
-use Rattle.can_event.specs.declared.events.Opt.TheVariants as opt
-use Rattle.can_event.specs.declared.events.Event.{Event}
-use Rattle.can_event.specs.declared.events.Event.TheVariants.{Open, Close, SetFilters, SetOption, Send, Receive, Attempt, Restart}
-use Rattle.can_event.specs.declared.events.Refusal.{Refusal}
-use Rattle.can_event.specs.declared.events.Refusal.TheVariants as refusal
-use Rattle.can_event.specs.declared.events.Received.{Received}
-use Rattle.can_event.specs.declared.events.Reply.{Reply}
-use Rattle.can_event.specs.declared.events.Reply.TheVariants as reply
-use Rattle.can_event.specs.declared.events.Entry.{Entry}
-use Rattle.can_event.specs.declared.events.SocketId.{SocketId}
+use Rattle.can_event.specs.declared.bus_config.BusConfig.{BusConfig}
+use Rattle.can_event.specs.declared.opt.Opt.{Opt}
+use Rattle.can_event.specs.declared.opt.Opt.TheVariants as opt
+use Rattle.can_event.specs.declared.event.Event.{Event}
+use Rattle.can_event.specs.declared.event.Event.TheVariants.{Open, Close, SetFilters, SetOption, Send, Receive, Attempt, Restart}
+use Rattle.can_event.specs.declared.refusal.Refusal.{Refusal}
+use Rattle.can_event.specs.declared.refusal.Refusal.TheVariants as refusal
+use Rattle.can_event.specs.declared.received.Received.{Received}
+use Rattle.can_event.specs.declared.reply.Reply.{Reply}
+use Rattle.can_event.specs.declared.reply.Reply.TheVariants as reply
+use Rattle.can_event.specs.declared.entry.Entry.{Entry}
+use Rattle.can_event.specs.declared.socket_id.SocketId.{SocketId}
 use Rattle.can_event.specs.Replies.{entry_of}
 use Rattle.can_record.specs.declared.version.Version.{Version}
 use Rattle.can_record.specs.declared.version.Version.TheVariants as version

@@ -1,8 +1,8 @@
 use Rattle.std.specs.Prelude.{◌≡◌, ◌↔◌, ℕ, Bool, IsTrue, List, [], ◌++◌, drop, length, reverse, Result, Ok, Err}
-use Rattle.can_event.specs.declared.events.BusConfig.{BusConfig}
-use Rattle.can_event.specs.declared.events.Entry.{Entry}
-use Rattle.can_event.specs.declared.events.Event.{Event}
-use Rattle.can_event.specs.declared.events.Reply.{Reply}
+use Rattle.can_event.specs.declared.bus_config.BusConfig.{BusConfig}
+use Rattle.can_event.specs.declared.entry.Entry.{Entry}
+use Rattle.can_event.specs.declared.event.Event.{Event}
+use Rattle.can_event.specs.declared.reply.Reply.{Reply}
 use Rattle.can_bus.specs.Journal.{Kept}
 use Rattle.can_record.specs.declared.version.Version.{Version}
 use Rattle.can_record.specs.Spelling.{answered_line, bus_words, entry_line, entry_lines, record_spelling, spell}

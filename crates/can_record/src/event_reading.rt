@@ -1,6 +1,6 @@
 ghost use Rattle.std.specs.Prelude.{IfSome, OnOk, ◌++◌, ◌∷◌, [], ◌+◌, ◌≡◌, length};
 ghost use Rattle.can_record.specs.inner.Reading.{Finds, GivesFilters, with_rest, option_at, verdict_at, filter_at, filters_at, set_filters_at, setting_at, plain_at, event_at, attempted_in, sent_in, SeemsToBe};
-ghost use Rattle.can_event.specs.declared.events.Event.TheVariants as event;
+ghost use Rattle.can_event.specs.declared.event.Event.TheVariants as event;
 
 use crate::fault::Unread;
 use crate::fields::{

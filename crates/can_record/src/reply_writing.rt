@@ -1,6 +1,6 @@
 ghost use Rattle.std.specs.Prelude.{◌≡◌, ◌++◌, ◌∷◌, [], OnOk, Some};
 ghost use Rattle.can_record.specs.Spelling.{gap_before, reply_text, spell, refusal_words, restarted_words, set_word};
-ghost use Rattle.can_event.specs.declared.events.Reply.TheVariants as reply;
+ghost use Rattle.can_event.specs.declared.reply.Reply.TheVariants as reply;
 
 use crate::writing::{put_count, put_item, put_moment, put_set, put_word};
 use can_bus::{Received, Refusal, Reply, Tried};

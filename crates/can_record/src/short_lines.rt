@@ -1,8 +1,8 @@
 ghost use Rattle.std.specs.Prelude.{◌≡◌, ◌≤◌, ◌+◌, ◌++◌, ◌∷◌, [], false, IsTrue, None, Some, codes, decimal, length};
 ghost use Rattle.can_frame.specs.Frames.{is_remote, is_fd, payload_len};
 ghost use Rattle.can_attempt.specs.Words.{class_word};
-ghost use Rattle.can_event.specs.declared.events.Event.TheVariants as event;
-ghost use Rattle.can_event.specs.declared.events.Reply.TheVariants as reply;
+ghost use Rattle.can_event.specs.declared.event.Event.TheVariants as event;
+ghost use Rattle.can_event.specs.declared.reply.Reply.TheVariants as reply;
 ghost use Rattle.can_record.specs.inner.Words.{spaced};
 ghost use Rattle.can_record.specs.Spelling.{answered_line, attempt_line, moment_word, receive_line, reply_words, set_word, spell, verdict_word};
 

@@ -1,6 +1,6 @@
 ghost use Rattle.std.specs.Prelude.{◌≡◌, List, ℕ, All, IfOk, reverse};
-ghost use Rattle.can_event.specs.declared.events.BusConfig.{BusConfig as AConfig};
-ghost use Rattle.can_event.specs.declared.events.Entry.{Entry as AnEntry};
+ghost use Rattle.can_event.specs.declared.bus_config.BusConfig.{BusConfig as AConfig};
+ghost use Rattle.can_event.specs.declared.entry.Entry.{Entry as AnEntry};
 ghost use Rattle.can_event.specs.Events.{IsConfig};
 ghost use Rattle.can_event.specs.Spelled.{IsSpelled};
 ghost use Rattle.can_record.specs.declared.version.Version.TheVariants as version;

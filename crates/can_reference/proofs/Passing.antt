@@ -4,7 +4,7 @@ use Rattle.std.proofs.lemmas.List.{take_more}
 use Rattle.can_filter.specs.Filters.{CanFilter}
 use Rattle.can_filter.specs.Passing.{wants}
 use Rattle.can_filter.specs.declared.options.Options.{Options}
-use Rattle.can_event.specs.declared.events.Received.{Received}
+use Rattle.can_event.specs.declared.received.Received.{Received}
 use Rattle.can_bus.specs.Posts.{Post, is_own}
 use Rattle.can_bus.specs.Queues.{passing}
 use Rattle.can_bus.proofs.Filling.{passing-append}

@@ -6,15 +6,15 @@ use Rattle.can_frame.specs.Frames.{CanFrame}
 use Rattle.can_confine.specs.Confinement.{state_of, is_off}
 use Rattle.can_attempt.specs.declared.nodes.Nodes.{Nodes}
 use Rattle.can_attempt.specs.Attempts.{counts_at}
-use Rattle.can_event.specs.declared.events.BusConfig.{BusConfig}
-use Rattle.can_event.specs.declared.events.Entry.{Entry}
-use Rattle.can_event.specs.declared.events.Event.{Event}
-use Rattle.can_event.specs.declared.events.Event.TheVariants as event
-use Rattle.can_event.specs.declared.events.Received.{Received}
-use Rattle.can_event.specs.declared.events.Reply.{Reply}
-use Rattle.can_event.specs.declared.events.Reply.TheVariants as reply
-use Rattle.can_event.specs.declared.events.Refusal.TheVariants as refusal
-use Rattle.can_event.specs.declared.events.SocketId.{SocketId}
+use Rattle.can_event.specs.declared.bus_config.BusConfig.{BusConfig}
+use Rattle.can_event.specs.declared.entry.Entry.{Entry}
+use Rattle.can_event.specs.declared.event.Event.{Event}
+use Rattle.can_event.specs.declared.event.Event.TheVariants as event
+use Rattle.can_event.specs.declared.received.Received.{Received}
+use Rattle.can_event.specs.declared.reply.Reply.{Reply}
+use Rattle.can_event.specs.declared.reply.Reply.TheVariants as reply
+use Rattle.can_event.specs.declared.refusal.Refusal.TheVariants as refusal
+use Rattle.can_event.specs.declared.socket_id.SocketId.{SocketId}
 use Rattle.can_bus.specs.Counters.{state_at}
 use Rattle.can_bus.specs.Legal.{lacks_fd, legal_reply}
 use Rattle.can_bus.specs.Queues.{queued_to, dropped_at, taken_from}

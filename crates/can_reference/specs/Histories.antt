@@ -1,6 +1,6 @@
 use Rattle.std.specs.Prelude.{◌≡◌, List, ◌∷◌, reverse, Vec, Result, IfOk}
-use Rattle.can_event.specs.declared.events.BusConfig.{BusConfig}
-use Rattle.can_event.specs.declared.events.Entry.{Entry}
+use Rattle.can_event.specs.declared.bus_config.BusConfig.{BusConfig}
+use Rattle.can_event.specs.declared.entry.Entry.{Entry}
 use Rattle.can_bus.specs.Journal.{Kept}
 use Rattle.can_replay.specs.Histories.{IsHistory}
 

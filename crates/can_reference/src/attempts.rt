@@ -2,8 +2,8 @@ ghost use Rattle.std.specs.Prelude.{◌≡◌, reverse, slice_set, IfOk, IfSome,
 ghost use Rattle.can_arbiter.specs.Keys.{IsWinner, IsIdle};
 ghost use Rattle.can_bus.specs.State.{key_in, kept_keys};
 ghost use Rattle.can_bus.specs.Attempts.{winner};
-ghost use Rattle.can_event.specs.declared.events.BusConfig.{BusConfig};
-ghost use Rattle.can_event.specs.declared.events.Event.TheVariants as event;
+ghost use Rattle.can_event.specs.declared.bus_config.BusConfig.{BusConfig};
+ghost use Rattle.can_event.specs.declared.event.Event.TheVariants as event;
 ghost use Rattle.can_reference.specs.Histories.{OnHistory, Returns};
 ghost use Rattle.can_reference.specs.inner.Replied.{ReturnsReply, tried_reply};
 

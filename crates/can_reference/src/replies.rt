@@ -2,8 +2,8 @@ ghost use Rattle.std.specs.Prelude.{◌≡◌, ℕ, ◌≤◌, ◌↔◌, [], �
 ghost use Rattle.can_event.specs.Events.{IsConfig, max_limit};
 ghost use Rattle.can_bus.specs.Legal.{lacks_fd, legal_reply, if_open};
 ghost use Rattle.can_bus.specs.Sockets.{options_of};
-ghost use Rattle.can_event.specs.declared.events.Event.TheVariants as event;
-ghost use Rattle.can_event.specs.declared.events.Reply.TheVariants as reply;
+ghost use Rattle.can_event.specs.declared.event.Event.TheVariants as event;
+ghost use Rattle.can_event.specs.declared.reply.Reply.TheVariants as reply;
 ghost use Rattle.can_event.specs.Replies.{entry_of};
 ghost use Rattle.can_reference.specs.Histories.{OnHistory, Returns, ReturnsList};
 ghost use Rattle.can_reference.specs.inner.Replied.{ReturnsReply};

@@ -1,10 +1,10 @@
 use Rattle.std.specs.Prelude.{◌≡◌, ◌≢◌, ℕ, ◌≤◌, nat_le, ◌⊎◌, List, slice_get, Option, Some, None, if◌then◌else◌}
-use Rattle.can_event.specs.declared.events.BusConfig.{BusConfig}
-use Rattle.can_event.specs.declared.events.Entry.{Entry}
-use Rattle.can_event.specs.declared.events.Event.{Event}
-use Rattle.can_event.specs.declared.events.Reply.{Reply}
-use Rattle.can_event.specs.declared.events.Reply.TheVariants.{Refused}
-use Rattle.can_event.specs.declared.events.Refusal.TheVariants.{NoMemory, RecordFull}
+use Rattle.can_event.specs.declared.bus_config.BusConfig.{BusConfig}
+use Rattle.can_event.specs.declared.entry.Entry.{Entry}
+use Rattle.can_event.specs.declared.event.Event.{Event}
+use Rattle.can_event.specs.declared.reply.Reply.{Reply}
+use Rattle.can_event.specs.declared.reply.Reply.TheVariants.{Refused}
+use Rattle.can_event.specs.declared.refusal.Refusal.TheVariants.{NoMemory, RecordFull}
 use Rattle.can_bus.specs.Legal.{legal_reply, IsLegal}
 use Rattle.can_replay.specs.declared.audit.AuditFault.{AuditFault}
 use Rattle.can_replay.specs.declared.audit.AuditFault.TheVariants as fault

@@ -1,9 +1,9 @@
 ghost use Rattle.std.specs.Prelude.{◌≡◌, ℕ, List, reverse};
 ghost use Rattle.can_event.specs.Events.{IsConfig};
 ghost use Rattle.can_bus.specs.Run.{AreAnswers};
-ghost use Rattle.can_event.specs.declared.events.Entry.{Entry};
-ghost use Rattle.can_event.specs.declared.events.Event.{Event};
-ghost use Rattle.can_event.specs.declared.events.Reply.{Reply};
+ghost use Rattle.can_event.specs.declared.entry.Entry.{Entry};
+ghost use Rattle.can_event.specs.declared.event.Event.{Event};
+ghost use Rattle.can_event.specs.declared.reply.Reply.{Reply};
 ghost use Rattle.can_replay.specs.Audits.{IsFirstWrong};
 ghost use Rattle.can_replay.specs.Histories.{IsHistory};
 ghost use Rattle.can_replay.specs.Replies.{HadMemory, replies_after};

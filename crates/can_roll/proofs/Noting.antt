@@ -1,6 +1,6 @@
 -- A roll while a call is noted: its pass is called in, the call noted, and the pass sent out again.
 use Rattle.std.proofs.Common.{◌≡◌, ℕ, ◌<◌, List, [], ◌∷◌, ◌++◌, length, ap, ◌∙◌}
-use Rattle.can_event.specs.declared.events.Entry.{Entry}
+use Rattle.can_event.specs.declared.entry.Entry.{Entry}
 use Rattle.can_roll.specs.declared.rule.View.{View}
 use Rattle.can_roll.specs.declared.rule.View.TheVariants.{OfSlip}
 use Rattle.can_roll.specs.Lists.{row, added, last_of, without_last}

@@ -1,6 +1,6 @@
 -- Lists of calls, one for each pass, each with the newest call in front; and lists of passes.
 use Rattle.std.specs.Prelude.{◌≢◌, ℕ, zero, suc, ◌<◌, List, [], ◌∷◌}
-use Rattle.can_event.specs.declared.events.Entry.{Entry}
+use Rattle.can_event.specs.declared.entry.Entry.{Entry}
 
 -- the calls of pass p, none where there is no such pass
 abbrev pub row : List (List Entry) → ℕ → List Entry

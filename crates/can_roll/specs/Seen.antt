@@ -1,6 +1,6 @@
 -- What contracts see of a roll and of a slip.
 use Rattle.std.specs.Prelude.{ℕ, List, [], ◌∷◌, ◌++◌}
-use Rattle.can_event.specs.declared.events.Entry.{Entry}
+use Rattle.can_event.specs.declared.entry.Entry.{Entry}
 use Rattle.can_roll.specs.Lists.{added}
 
 -- a roll: its number, the calls of each pass, and the passes called in, the last one at the end

@@ -17,11 +17,11 @@
 //! to learn what the rule says. Each call takes at most four loads.
 #![tactic(auto)]
 
-mod roll_name;
 mod roll;
+mod roll_name;
 mod rule;
 mod slip;
 
-pub use roll_name::RollName;
 pub use roll::{Roll, RollBlank, roll_blank};
+pub use roll_name::RollName;
 pub use slip::Slip;

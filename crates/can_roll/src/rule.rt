@@ -83,14 +83,14 @@ impl Split<View> for Sends {
 
 /// Names a call with its reply, for contracts only.
 pub trait Says {
-    ghost use Rattle.can_event.specs.declared.events.Entry.{Entry};
+    ghost use Rattle.can_event.specs.declared.entry.Entry.{Entry};
 
     ghost said: { Entry };
 }
 
 impl Says for Brand {
-    ghost use Rattle.can_event.specs.declared.events.Event.TheVariants.{Receive};
-    ghost use Rattle.can_event.specs.declared.events.Reply.TheVariants.{Done};
+    ghost use Rattle.can_event.specs.declared.event.Event.TheVariants.{Receive};
+    ghost use Rattle.can_event.specs.declared.reply.Reply.TheVariants.{Done};
 
     ghost said = { record { event = Receive (record { 0 = 0 }); reply = Done } };
 }

@@ -2,12 +2,12 @@ use Rattle.std.specs.Prelude.{◌≡◌, ℕ, Option, Some, None}
 use Rattle.can_frame.specs.Sets.{no_ifaces}
 use Rattle.can_frame.specs.declared.iface.IfaceSet.{IfaceSet}
 use Rattle.can_attempt.specs.declared.class.Class.TheVariants.{NoAck}
-use Rattle.can_event.specs.declared.events.Attempt.{Attempt}
-use Rattle.can_event.specs.declared.events.Attempt.TheVariants as attempt
-use Rattle.can_event.specs.declared.events.Event.{Event}
-use Rattle.can_event.specs.declared.events.Event.TheVariants.{Restart}
-use Rattle.can_event.specs.declared.events.Reply.{Reply}
-use Rattle.can_event.specs.declared.events.Reply.TheVariants.{Done}
+use Rattle.can_event.specs.declared.attempt.Attempt.{Attempt}
+use Rattle.can_event.specs.declared.attempt.Attempt.TheVariants as attempt
+use Rattle.can_event.specs.declared.event.Event.{Event}
+use Rattle.can_event.specs.declared.event.Event.TheVariants.{Restart}
+use Rattle.can_event.specs.declared.reply.Reply.{Reply}
+use Rattle.can_event.specs.declared.reply.Reply.TheVariants.{Done}
 
 -- Which interfaces change in an attempt of a driver and in a call of a session, as a server reports it to its host
 -- (own choice).

@@ -4,10 +4,10 @@ use Rattle.std.specs.List.{join_with_byte}
 use Rattle.can_frame.specs.Sets.{is_in}
 use Rattle.can_frame.specs.declared.iface.IfaceSet.{IfaceSet}
 use Rattle.can_attempt.specs.Words.{class_word}
-use Rattle.can_event.specs.declared.events.Attempt.{Attempt}
-use Rattle.can_event.specs.declared.events.Attempt.TheVariants as attempt
-use Rattle.can_event.specs.declared.events.Refusal.{Refusal}
-use Rattle.can_event.specs.declared.events.Tried.{Tried}
+use Rattle.can_event.specs.declared.attempt.Attempt.{Attempt}
+use Rattle.can_event.specs.declared.attempt.Attempt.TheVariants as attempt
+use Rattle.can_event.specs.declared.refusal.Refusal.{Refusal}
+use Rattle.can_event.specs.declared.attempt.Tried.{Tried}
 
 -- What the bench puts out for an attempt (own choice).
 

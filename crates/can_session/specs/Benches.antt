@@ -1,9 +1,9 @@
 use Rattle.std.specs.Prelude.{◌≡◌, ◌≢◌, ℕ, zero, suc, ◌-◌, Bool, true, false, List, [], ◌∷◌, ◌++◌, length, slice_get, slice_set, Option, Some, None, Result}
 use Rattle.std.specs.Fmt.{decimal}
 use Rattle.can_fault.specs.Sources.{VerdictMap, verdict_in}
-use Rattle.can_event.specs.declared.events.Event.TheVariants as event
-use Rattle.can_event.specs.declared.events.Refusal.{Refusal}
-use Rattle.can_event.specs.declared.events.Attempt.{Attempt}
+use Rattle.can_event.specs.declared.event.Event.TheVariants as event
+use Rattle.can_event.specs.declared.refusal.Refusal.{Refusal}
+use Rattle.can_event.specs.declared.attempt.Attempt.{Attempt}
 use Rattle.can_bus.specs.Journal.{Journal}
 use Rattle.can_bus.specs.Transmit.{tape}
 use Rattle.can_bus.specs.Answer.{Answers, told_attempt}

@@ -1,6 +1,6 @@
 ghost use Rattle.can_bus.specs.Answer.{done_reply, told_attempt};
-ghost use Rattle.can_event.specs.declared.events.Event.TheVariants as event;
-ghost use Rattle.can_event.specs.declared.events.Reply.TheVariants as reply;
+ghost use Rattle.can_event.specs.declared.event.Event.TheVariants as event;
+ghost use Rattle.can_event.specs.declared.reply.Reply.TheVariants as reply;
 ghost use Rattle.can_station.specs.Passes.{Answered, Called};
 
 use crate::attempts::attempt_in;

@@ -1,6 +1,6 @@
 ghost use Rattle.std.specs.Prelude.{◌≡◌, ◌≢◌, Ok, true, IfOk};
 ghost use Rattle.can_event.specs.Replies.{receive_reply, taken_reply};
-ghost use Rattle.can_event.specs.declared.events.Event.TheVariants as event;
+ghost use Rattle.can_event.specs.declared.event.Event.TheVariants as event;
 ghost use Rattle.can_station.specs.Passes.{IsCarriedOut, IsReady, IsReadyFor, IsReceived, IsStepped, Keeps, Suits, Called, Made, MadeStep, next_attempt, same};
 ghost use Rattle.can_station.specs.Waits.{has_work};
 
@@ -9,8 +9,8 @@ use crate::gate::{Gate, Point};
 use crate::pass::{Pass, keep, make_ready, make_ready_for};
 use crate::receives::keep_receive;
 use crate::refusals::StationRefusal;
-use crate::station_state::StationState;
 use crate::station::Station;
+use crate::station_state::StationState;
 use crate::waits::News;
 use can_bus::{Attempt, Event, Received, Refusal, Reply, SocketId};
 use can_fault::FaultSource;

@@ -21,14 +21,14 @@ mod publishing;
 mod receives;
 pub mod refusals;
 mod rooms;
-pub mod station_state;
 pub mod station;
+pub mod station_state;
 mod waits;
 
 pub use gate::{Gate, Open, Point};
 pub use hold::Hold;
 pub use pass::{Pass, Settled};
 pub use refusals::{StationRefusal, TooManyPasses, WrongStation};
-pub use station_state::StationState;
 pub use station::{Blanks, Station};
+pub use station_state::StationState;
 pub use waits::Wake;

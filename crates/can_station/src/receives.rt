@@ -1,7 +1,7 @@
 ghost use Rattle.std.specs.Prelude.{◌≡◌};
 ghost use Rattle.can_event.specs.Replies.{enters, receive_reply};
-ghost use Rattle.can_event.specs.declared.events.Event.TheVariants as event;
-ghost use Rattle.can_event.specs.declared.events.Received.{Received};
+ghost use Rattle.can_event.specs.declared.event.Event.TheVariants as event;
+ghost use Rattle.can_event.specs.declared.received.Received.{Received};
 ghost use Rattle.can_station.specs.Passes.{IsReady, Keeps};
 
 use can_bus::{Received, Refusal, SocketId};

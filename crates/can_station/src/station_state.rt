@@ -2,7 +2,7 @@ ghost use Rattle.std.specs.Prelude.{◌≡◌, ◌≢◌, ◌<◌, ◌≤◌, �
 ghost use Rattle.can_event.specs.Events.{IsConfig};
 ghost use Rattle.can_event.specs.Replies.{enters};
 ghost use Rattle.can_bus.specs.Legal.{IsLegal};
-ghost use Rattle.can_event.specs.declared.events.Event.TheVariants as event;
+ghost use Rattle.can_event.specs.declared.event.Event.TheVariants as event;
 ghost use Rattle.can_meter.specs.Readings.{readings};
 ghost use Rattle.can_station.specs.Held.{HasEntered, NoPassLeft, marks_after, new_held, roll_after, slip_after};
 ghost use Rattle.can_station.specs.Marks.{IsMarked};

@@ -5,8 +5,8 @@ ghost use Rattle.can_station.specs.Waits.{AreCounts, EndsItemWait, IsIdleAndStop
 use crate::gate::{Gate, Point};
 use crate::hold::Hold;
 use crate::rooms::RoomSet;
-use crate::station_state::StationState;
 use crate::station::Station;
+use crate::station_state::StationState;
 use can_bus::{Event, IfaceStats, Refusal, Reply, SocketId, SocketStats};
 use can_fault::FaultSource;
 use can_frame::Iface;

@@ -8,9 +8,9 @@ use Rattle.std.proofs.lemmas.List.{get_or_append_left, length_push, length-rever
 use Rattle.std.proofs.lemmas.List.Elements.{All-push}
 use Rattle.std.proofs.lemmas.List.Folds.{list_any-append}
 use Rattle.std.proofs.lemmas.Option.{get_or_from_slice_get, slice_get-get_or, slice_get_within}
-use Rattle.can_event.specs.declared.events.BusConfig.{BusConfig}
-use Rattle.can_event.specs.declared.events.Entry.{Entry}
-use Rattle.can_event.specs.declared.events.Reply.{Reply}
+use Rattle.can_event.specs.declared.bus_config.BusConfig.{BusConfig}
+use Rattle.can_event.specs.declared.entry.Entry.{Entry}
+use Rattle.can_event.specs.declared.reply.Reply.{Reply}
 use Rattle.can_bus.specs.Lean.{Lean, Stands}
 use Rattle.can_bus.specs.Legal.{IsLegal, legal_reply}
 use Rattle.can_record.specs.declared.version.Version.{Version}

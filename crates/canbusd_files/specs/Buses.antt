@@ -3,7 +3,7 @@ use Rattle.can_frame.specs.declared.iface.IfaceSet.{IfaceSet}
 use Rattle.can_frame.specs.Sets.{no_ifaces}
 use Rattle.can_fault.specs.Sources.{VerdictMap, no_verdicts}
 use Rattle.can_fault.specs.Scripts.{Reads as Spells}
-use Rattle.can_event.specs.declared.events.BusConfig.{BusConfig}
+use Rattle.can_event.specs.declared.bus_config.BusConfig.{BusConfig}
 use Rattle.canbusd_options.specs.declared.bus_options.BusSettings.{BusSettings}
 use Rattle.canbusd_files.specs.declared.buses.Source.{Source}
 use Rattle.canbusd_files.specs.declared.buses.Source.TheVariants.{Script, Perfect}

@@ -1,5 +1,5 @@
 use Rattle.std.specs.Prelude.{◌≡◌, List, ℕ}
-use Rattle.can_event.specs.declared.events.BusConfig.{BusConfig}
+use Rattle.can_event.specs.declared.bus_config.BusConfig.{BusConfig}
 use Rattle.can_record.specs.declared.version.Version.{Version}
 use Rattle.can_record.specs.Spelling.{front_lines}
 use Rattle.can_record.specs.Values.{HasBusLine}

@@ -1,6 +1,6 @@
 use Rattle.std.specs.Prelude.{◌≡◌, ℕ, List, []}
 use Rattle.can_frame.specs.Frames.{CanFrame}
-use Rattle.can_event.specs.declared.events.Entry.{Entry}
+use Rattle.can_event.specs.declared.entry.Entry.{Entry}
 use Rattle.can_event.specs.Spelled.{FitsReply}
 use Rattle.can_packed.specs.declared.kept.Kept.{Kept}
 use Rattle.can_packed.specs.declared.stored.Stored.{Stored}

@@ -5,12 +5,12 @@ use Rattle.can_attempt.specs.declared.nodes.Nodes.{Nodes}
 use Rattle.can_attempt.specs.Attempts.{attempt_between, counts_at, judged}
 use Rattle.can_fault.specs.declared.verdict.Verdict.{Verdict}
 use Rattle.can_bus.specs.Changes.{begun_anew}
-use Rattle.can_event.specs.declared.events.BusConfig.{BusConfig}
-use Rattle.can_event.specs.declared.events.Event.{Event}
-use Rattle.can_event.specs.declared.events.Event.TheVariants.{Attempt, Restart}
-use Rattle.can_event.specs.declared.events.Reply.{Reply}
-use Rattle.can_event.specs.declared.events.Reply.TheVariants as reply
-use Rattle.can_event.specs.declared.events.Tried.{Tried}
+use Rattle.can_event.specs.declared.bus_config.BusConfig.{BusConfig}
+use Rattle.can_event.specs.declared.event.Event.{Event}
+use Rattle.can_event.specs.declared.event.Event.TheVariants.{Attempt, Restart}
+use Rattle.can_event.specs.declared.reply.Reply.{Reply}
+use Rattle.can_event.specs.declared.reply.Reply.TheVariants as reply
+use Rattle.can_event.specs.declared.attempt.Tried.{Tried}
 
 -- What an entry does to the error counts of all interfaces (Bosch CAN Specification 2.0, fault confinement): an
 -- attempt of a live interface counts as its faults have it, a restart sets one interface's counts to 0, and an attempt

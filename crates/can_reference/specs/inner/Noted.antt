@@ -1,5 +1,5 @@
 use Rattle.std.specs.Prelude.{◌≡◌, ℕ, ◌+◌, ◌-◌, List, length}
-use Rattle.can_event.specs.declared.events.Entry.{Entry}
+use Rattle.can_event.specs.declared.entry.Entry.{Entry}
 use Rattle.can_bus.specs.Queues.{taken_from}
 use Rattle.can_bus.specs.Sockets.{capacity_of, open_after, places_after}
 use Rattle.can_reference.specs.declared.sockets.Sockets.{Sockets}

@@ -1,7 +1,7 @@
 use Rattle.std.specs.Prelude.{ℕ, List, Vec, Result}
-use Rattle.can_event.specs.declared.events.BusConfig.{BusConfig}
-use Rattle.can_event.specs.declared.events.Entry.{Entry}
-use Rattle.can_event.specs.declared.events.Received.{Received}
+use Rattle.can_event.specs.declared.bus_config.BusConfig.{BusConfig}
+use Rattle.can_event.specs.declared.entry.Entry.{Entry}
+use Rattle.can_event.specs.declared.received.Received.{Received}
 use Rattle.can_bus.specs.Posts.{Post, posts_of}
 use Rattle.can_bus.specs.Queues.{candidates_of}
 use Rattle.can_reference.specs.Histories.{BeforeEntry, ReturnsList}

@@ -1,5 +1,5 @@
 use Rattle.std.specs.Prelude.{◌≡◌, ℕ, ◌+◌, false, List, [], ◌++◌, reverse, Option, Result, Ok, Err}
-use Rattle.can_event.specs.declared.events.Reply.{Reply}
+use Rattle.can_event.specs.declared.reply.Reply.{Reply}
 use Rattle.can_record.specs.declared.fault.Unread.{Unread}
 use Rattle.can_record.specs.declared.fault.Unread.TheVariants as unread
 use Rattle.can_record.specs.RecordFaults.{LacksEnd, LacksEntry}

@@ -3,7 +3,7 @@ use Rattle.can_fault.specs.declared.verdict.Verdict.{Verdict}
 use Rattle.can_attempt.specs.Attempts.{attempt_between, class_of}
 use Rattle.can_attempt.specs.declared.class.Class.TheVariants as class
 use Rattle.can_attempt.proofs.Calm.{calm_class}
-use Rattle.can_event.specs.declared.events.Tried.{Tried}
+use Rattle.can_event.specs.declared.attempt.Tried.{Tried}
 use Rattle.can_bus.specs.Attempted.{transmission_of}
 use Rattle.can_bus.specs.News.{frame_posts, fault_posts, outcome_posts}
 use Rattle.can_bus.specs.State.{SocketState, reached}

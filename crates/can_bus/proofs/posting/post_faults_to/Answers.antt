@@ -1,6 +1,6 @@
 use Rattle.std.proofs.Common.{◌≡◌, ℕ, [], Bool, true, false, if◌then◌else◌, refl, ap, sym, ◌∙◌, arith}
 use Rattle.can_frame.specs.Sets.{is_in}
-use Rattle.can_event.specs.declared.events.Tried.{Tried}
+use Rattle.can_event.specs.declared.attempt.Tried.{Tried}
 use Rattle.can_bus.specs.Attempted.{transmission_of}
 use Rattle.can_bus.specs.Posts.{error_posts, fault_message_for, role_at}
 use Rattle.can_bus.specs.State.{SocketState, filled}

@@ -1,7 +1,7 @@
 use Rattle.std.proofs.Common.{◌+◌, ◌<◌, List, ℕ, length, sym, ap, subst, ◌∙◌, arith}
 use Rattle.std.specs.Prelude.{map}
 use Rattle.std.specs.Io.KnownBytes.{Appends}
-use Rattle.can_event.specs.declared.events.Tried.{Tried}
+use Rattle.can_event.specs.declared.attempt.Tried.{Tried}
 use Rattle.can_logfile.specs.Log.{log_line, joined}
 use Rattle.can_logfile.proofs.Fronts.{seen, torn, count-more, line-more, same-tape}
 use Rattle.can_logfile.proofs.tapes.write_tape.Goals.{in-Some+else-not-write_line, in_default}

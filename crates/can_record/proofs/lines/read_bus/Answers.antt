@@ -1,5 +1,5 @@
 use Rattle.std.proofs.Common.{◌≡◌, ◌++◌, ◌∙◌, IsTrue, Bool, true, false, [], ap, sym, subst, List, ℕ}
-use Rattle.can_event.specs.declared.events.BusConfig.{BusConfig}
+use Rattle.can_event.specs.declared.bus_config.BusConfig.{BusConfig}
 use Rattle.can_record.specs.Spelling.{spell, bus_words}
 use Rattle.can_record.specs.Values.{HasBusLine}
 use Rattle.can_record.proofs.Again.{config_refused, same_config, spell-rest, kept}

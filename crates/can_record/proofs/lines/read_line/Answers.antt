@@ -1,5 +1,5 @@
 use Rattle.std.proofs.Common.{◌≡◌, ◌++◌, ◌∙◌, IsTrue, [], ap, sym, subst, arith, List, ℕ}
-use Rattle.can_event.specs.declared.events.Entry.{Entry}
+use Rattle.can_event.specs.declared.entry.Entry.{Entry}
 use Rattle.can_record.specs.declared.fault.Unread.TheVariants as unread
 use Rattle.can_record.specs.Values.{HasLine}
 use Rattle.can_record.specs.Spelling.{entry_words, entry_line}

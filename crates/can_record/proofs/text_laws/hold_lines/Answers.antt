@@ -3,8 +3,8 @@ use Rattle.std.specs.Prelude.{All, List}
 use Rattle.std.proofs.lemmas.List.{take_all, length-reverse}
 use Rattle.std.proofs.lemmas.List.Elements.{All-more}
 use Rattle.std.proofs.lemmas.Option.{slice_get_within, get_or_from_slice_get}
-use Rattle.can_event.specs.declared.events.BusConfig.{BusConfig}
-use Rattle.can_event.specs.declared.events.Entry.{Entry}
+use Rattle.can_event.specs.declared.bus_config.BusConfig.{BusConfig}
+use Rattle.can_event.specs.declared.entry.Entry.{Entry}
 use Rattle.can_record.specs.declared.version.Version.TheVariants as version
 use Rattle.can_record.specs.Values.{HasLine}
 use Rattle.can_record.proofs.text_laws.hold_lines.Goals as goal

@@ -1,5 +1,5 @@
 use Rattle.std.proofs.Common.{◌++◌, ◌∷◌, [], ap, ◌∙◌}
-use Rattle.can_event.specs.declared.events.Received.{Received}
+use Rattle.can_event.specs.declared.received.Received.{Received}
 use Rattle.can_reference.proofs.Passing.{passing_more, pushed, left_out}
 use Rattle.can_reference.proofs.post.passing.Goals as goal
 use Rattle.can_reference.proofs.post.passing.Goals.{then-is_wanted+in_ok-push, else-is_wanted}

@@ -1,7 +1,7 @@
 use Rattle.std.proofs.Common.{◌≡◌, ◌++◌, List, slice_get, reverse, sym, ap, ◌∙◌}
-use Rattle.can_event.specs.declared.events.Event.TheVariants.{Attempt}
-use Rattle.can_event.specs.declared.events.Pending.{Pending}
-use Rattle.can_event.specs.declared.events.Reply.TheVariants as reply
+use Rattle.can_event.specs.declared.event.Event.TheVariants.{Attempt}
+use Rattle.can_event.specs.declared.pending.Pending.{Pending}
+use Rattle.can_event.specs.declared.reply.Reply.TheVariants as reply
 use Rattle.can_event.specs.Replies.{entry_of}
 use Rattle.can_bus.specs.Attempted.{Outcome, transmission_of}
 use Rattle.can_bus.specs.Posts.{Post, attempt_posts, auto_restart_posts}

@@ -1,6 +1,6 @@
 use Rattle.std.proofs.Common.{◌≡◌, ◌++◌, List, length, take, drop, rules, subst, sym, ap, ◌∙◌}
-use Rattle.can_event.specs.declared.events.Entry.{Entry}
-use Rattle.can_event.specs.declared.events.Received.{Received}
+use Rattle.can_event.specs.declared.entry.Entry.{Entry}
+use Rattle.can_event.specs.declared.received.Received.{Received}
 use Rattle.can_bus.specs.Queues.{queued_to, dropped_at}
 use Rattle.can_reference.specs.inner.Noted.{room_after}
 use Rattle.can_replay.specs.Histories.{before, IsHistory}

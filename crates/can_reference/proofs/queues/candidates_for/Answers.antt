@@ -1,6 +1,6 @@
 use Rattle.std.proofs.Common.{◌++◌, List, subst, sym, ap, ◌∙◌}
-use Rattle.can_event.specs.declared.events.Entry.{Entry}
-use Rattle.can_event.specs.declared.events.Received.{Received}
+use Rattle.can_event.specs.declared.entry.Entry.{Entry}
+use Rattle.can_event.specs.declared.received.Received.{Received}
 use Rattle.can_bus.specs.Queues.{candidates_for}
 use Rattle.can_replay.specs.Histories.{IsHistory}
 use Rattle.can_replay.proofs.Before.{before_all}

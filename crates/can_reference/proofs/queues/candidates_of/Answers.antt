@@ -1,5 +1,5 @@
 use Rattle.std.proofs.Common.{◌≡◌, List, IfOk, reverse, subst, sym, ◌∙◌}
-use Rattle.can_event.specs.declared.events.Received.{Received}
+use Rattle.can_event.specs.declared.received.Received.{Received}
 use Rattle.can_reference.proofs.Queueing.{candidates-are, none-offered}
 use Rattle.can_reference.proofs.Replying.{opened, is-on}
 use Rattle.can_reference.proofs.queues.candidates_of.Goals as goal

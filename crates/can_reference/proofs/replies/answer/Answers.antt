@@ -1,6 +1,6 @@
 use Rattle.std.proofs.Common.{◌≡◌, ◌<◌, ◌≤◌, List, length, reverse, rules, arith, subst}
 use Rattle.std.proofs.lemmas.List.{length-reverse}
-use Rattle.can_event.specs.declared.events.Entry.{Entry}
+use Rattle.can_event.specs.declared.entry.Entry.{Entry}
 use Rattle.can_bus.specs.Legal.{legal_reply}
 use Rattle.can_replay.specs.Histories.{IsHistory}
 use Rattle.can_reference.proofs.Replying.{full-reply, full-entries, room-reply, room-entries}

@@ -1,5 +1,5 @@
 use Rattle.std.proofs.Common.{◌≡◌, IfOk, reverse, subst, sym, ap, ◌∙◌}
-use Rattle.can_event.specs.declared.events.Event.{Event}
+use Rattle.can_event.specs.declared.event.Event.{Event}
 use Rattle.can_bus.specs.Legal.{legal_reply}
 use Rattle.can_reference.proofs.replies.legal_reply.Goals as goal
 

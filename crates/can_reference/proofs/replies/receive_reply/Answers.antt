@@ -1,6 +1,6 @@
 use Rattle.std.proofs.Common.{◌≡◌, List, length, slice_get, rules, ap, sym, ◌∙◌, reverse, Option}
-use Rattle.can_event.specs.declared.events.Received.{Received}
-use Rattle.can_event.specs.declared.events.Reply.TheVariants as reply
+use Rattle.can_event.specs.declared.received.Received.{Received}
+use Rattle.can_event.specs.declared.reply.Reply.TheVariants as reply
 use Rattle.can_reference.proofs.Replying.{opened, received}
 use Rattle.can_reference.proofs.replies.receive_reply.Goals as goal
 

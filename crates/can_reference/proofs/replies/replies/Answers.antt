@@ -1,6 +1,6 @@
 use Rattle.std.proofs.Common.{◌++◌, List, reverse, ap, sym, ◌∙◌, subst}
-use Rattle.can_event.specs.declared.events.Entry.{Entry}
-use Rattle.can_event.specs.declared.events.Reply.{Reply}
+use Rattle.can_event.specs.declared.entry.Entry.{Entry}
+use Rattle.can_event.specs.declared.reply.Reply.{Reply}
 use Rattle.can_replay.specs.Histories.{IsHistory}
 use Rattle.can_replay.specs.Replies.{replies_after}
 use Rattle.can_reference.proofs.Replying.{entries-legal, replies_more, replies_all}

@@ -1,7 +1,7 @@
 use Rattle.std.proofs.Common.{IsTrue, ◌≡◌, ◌<◌, ◌∙◌, length, ap, sym, subst}
-use Rattle.can_event.specs.declared.events.Entry.{Entry}
-use Rattle.can_event.specs.declared.events.Event.{Event}
-use Rattle.can_event.specs.declared.events.Event.TheVariants as event
+use Rattle.can_event.specs.declared.entry.Entry.{Entry}
+use Rattle.can_event.specs.declared.event.Event.{Event}
+use Rattle.can_event.specs.declared.event.Event.TheVariants as event
 use Rattle.can_bus.specs.Journal.{Journal}
 use Rattle.can_bus.specs.State.{IsLonger}
 use Rattle.can_bus.proofs.Answering.{KeepsAnswer, answer_is_spelled, carries, entered, is_ready}

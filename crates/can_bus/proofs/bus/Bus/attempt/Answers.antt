@@ -1,8 +1,8 @@
 use Rattle.std.proofs.Common.{Ok, refl, subst}
 use Rattle.can_bus.specs.Answer.{told_attempt}
 use Rattle.can_bus.specs.Changes.{Attempts}
-use Rattle.can_event.specs.declared.events.BusConfig.{BusConfig}
-use Rattle.can_event.specs.declared.events.Event.TheVariants as event
+use Rattle.can_event.specs.declared.bus_config.BusConfig.{BusConfig}
+use Rattle.can_event.specs.declared.event.Event.TheVariants as event
 use Rattle.can_bus.specs.State.{Parts}
 use Rattle.can_bus.proofs.Attempting.{attempt_follows, never_left, sixteen_nodes, ready, few_nodes}
 use Rattle.can_bus.proofs.Bounds.{small_gone, small_done, small_dropped, small_tried}

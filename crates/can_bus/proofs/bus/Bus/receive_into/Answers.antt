@@ -1,6 +1,6 @@
 use Rattle.std.proofs.Common.{refl, subst}
 use Rattle.can_event.specs.Replies.{receive_reply, taken_reply}
-use Rattle.can_event.specs.declared.events.Event.TheVariants as event
+use Rattle.can_event.specs.declared.event.Event.TheVariants as event
 use Rattle.can_bus.specs.State.{Parts}
 use Rattle.can_bus.specs.Changes.{Receives}
 use Rattle.can_bus.proofs.Bounds.{small_taken}

@@ -1,6 +1,6 @@
 use Rattle.std.proofs.Common.{refl, subst}
-use Rattle.can_event.specs.declared.events.Event.TheVariants as event
-use Rattle.can_event.specs.declared.events.Reply.TheVariants as reply
+use Rattle.can_event.specs.declared.event.Event.TheVariants as event
+use Rattle.can_event.specs.declared.reply.Reply.TheVariants as reply
 use Rattle.can_bus.specs.State.{Parts}
 use Rattle.can_bus.specs.Changes.{Sends, pending_of}
 use Rattle.can_bus.proofs.Bounds.{small_sent, small_refused, known_ifaces}

@@ -1,6 +1,6 @@
 use Rattle.std.proofs.Common.{ap, subst, arith}
 use Rattle.can_event.specs.Spelled.{IsSpelled}
-use Rattle.can_event.specs.declared.events.BusConfig.{BusConfig}
+use Rattle.can_event.specs.declared.bus_config.BusConfig.{BusConfig}
 use Rattle.can_bus.specs.Lean.{Lean}
 use Rattle.can_bus.proofs.Answering.{answer_is_spelled}
 use Rattle.can_bus.proofs.lean_bus.LeanBus.answer.Goals as goal

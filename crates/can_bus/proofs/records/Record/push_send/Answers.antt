@@ -1,6 +1,6 @@
 use Rattle.std.proofs.Common.{All, sym, subst}
 use Rattle.std.proofs.lemmas.List.Elements.{All-push}
-use Rattle.can_event.specs.declared.events.Entry.{Entry}
+use Rattle.can_event.specs.declared.entry.Entry.{Entry}
 use Rattle.can_bus.specs.Held.{entries_in}
 use Rattle.can_bus.specs.Journal.{Kept}
 use Rattle.can_event.specs.Spelled.{IsSpelled}

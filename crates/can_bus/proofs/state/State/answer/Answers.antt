@@ -1,7 +1,7 @@
 use Rattle.std.proofs.Common.{refl, sym, subst}
 use Rattle.can_event.specs.Events.{with_option}
-use Rattle.can_event.specs.declared.events.Event.{Event}
-use Rattle.can_event.specs.declared.events.Event.TheVariants as event
+use Rattle.can_event.specs.declared.event.Event.{Event}
+use Rattle.can_event.specs.declared.event.Event.TheVariants as event
 use Rattle.can_bus.specs.Changes.{Attempts, Closes, Receives, Restarts, Sends, Sets, pending_of}
 use Rattle.can_bus.specs.Lean.{Carries}
 use Rattle.can_bus.specs.State.{Parts}

@@ -1,7 +1,7 @@
 use Rattle.std.proofs.Common.{◌≡◌, ℕ, ◌<◌, ◌≤◌, ◌+◌, ◌^◌, Bool, length, map, take, drop, ◌++◌, slice_get, slice_set, Some, All, ◌∙◌, arith, sym, ap, refl, subst}
 use Rattle.can_attempt.specs.Attempts.{IsCalm, attempt_between, class_of, judged}
 use Rattle.can_attempt.specs.declared.judgement.Judgement.{Judgement}
-use Rattle.can_event.specs.declared.events.Tried.{Tried}
+use Rattle.can_event.specs.declared.attempt.Tried.{Tried}
 use Rattle.can_bus.specs.Attempted.{Outcome, outcome_of, transmission_of}
 use Rattle.can_bus.specs.Changes.{Carries, settled, after_try, counting_down}
 use Rattle.can_bus.specs.News.{outcome_posts}

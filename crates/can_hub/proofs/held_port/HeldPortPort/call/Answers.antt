@@ -1,6 +1,6 @@
 use Rattle.std.proofs.Common.{Some, ℕ, sym, ap, subst, ◌∙◌, refl}
 use Rattle.std.specs.Prelude.{IfOk, slice_get}
-use Rattle.can_event.specs.declared.events.Event.{Event}
+use Rattle.can_event.specs.declared.event.Event.{Event}
 use Rattle.can_station.specs.Passes.{Called, Suits, same}
 use Rattle.can_hub.specs.Buses.{items_on}
 use Rattle.can_hub.specs.PassSteps.{EnteredSeen}

@@ -1,5 +1,5 @@
 use Rattle.std.proofs.Common.{Some, ℕ, sym, ap, subst, ◌∙◌}
-use Rattle.can_event.specs.declared.events.Event.TheVariants as event
+use Rattle.can_event.specs.declared.event.Event.TheVariants as event
 use Rattle.can_event.specs.Replies.{taken_reply}
 use Rattle.can_station.specs.Passes.{Called}
 use Rattle.can_hub.specs.PassSteps.{EnteredSeen}

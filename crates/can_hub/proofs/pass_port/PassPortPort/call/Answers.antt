@@ -1,6 +1,6 @@
 use Rattle.std.proofs.Common.{Some, sym, ap, subst, ◌∙◌}
 use Rattle.std.specs.Prelude.{IfOk}
-use Rattle.can_event.specs.declared.events.Event.{Event}
+use Rattle.can_event.specs.declared.event.Event.{Event}
 use Rattle.can_station.specs.Passes.{Called, Suits, same}
 use Rattle.can_hub.specs.PassSteps.{EnteredSeen}
 use Rattle.can_hub.proofs.Passing.{on_pass}

@@ -1,7 +1,7 @@
 use Rattle.std.proofs.Common.{◌≡◌, ◌≤◌, ◌+◌, ◌∷◌, ◌++◌, [], length, length-append, ap, arith}
 use Rattle.std.proofs.lemmas.Grind.{common_steps}
 use Rattle.can_event.specs.Replies.{receive_reply}
-use Rattle.can_event.specs.declared.events.Event.TheVariants.{Receive}
+use Rattle.can_event.specs.declared.event.Event.TheVariants.{Receive}
 use Rattle.can_packed.specs.Kept.{entry_in, frames_needed, receive_entry, receive_frames}
 use Rattle.can_packed.specs.Records.{PackedEntries}
 use Rattle.can_packed.proofs.Growing.{entries_pushed, few_frames, within_pushed}

@@ -1,8 +1,8 @@
 use Rattle.std.proofs.Common.{◌≡◌, ◌≤◌, ◌+◌, ◌∷◌, ◌++◌, [], length, length-append, ap, arith}
 use Rattle.std.proofs.lemmas.Grind.{common_steps}
 use Rattle.can_event.specs.Replies.{told}
-use Rattle.can_event.specs.declared.events.Event.TheVariants.{Send}
-use Rattle.can_event.specs.declared.events.Reply.TheVariants.{Sent}
+use Rattle.can_event.specs.declared.event.Event.TheVariants.{Send}
+use Rattle.can_event.specs.declared.reply.Reply.TheVariants.{Sent}
 use Rattle.can_packed.specs.Kept.{entry_in, frames_needed, fd_frames_of, send_entry}
 use Rattle.can_packed.specs.Records.{PackedEntries}
 use Rattle.can_packed.proofs.Growing.{entries_pushed, few_frames, within_pushed}

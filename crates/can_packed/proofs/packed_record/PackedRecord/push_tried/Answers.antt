@@ -1,7 +1,7 @@
 use Rattle.std.proofs.Common.{◌≡◌, ◌≤◌, ◌+◌, ◌∷◌, ◌++◌, [], length, length-append, ap, arith}
 use Rattle.std.proofs.lemmas.Grind.{common_steps}
-use Rattle.can_event.specs.declared.events.Event.TheVariants.{Attempt}
-use Rattle.can_event.specs.declared.events.Reply.TheVariants.{Tried}
+use Rattle.can_event.specs.declared.event.Event.TheVariants.{Attempt}
+use Rattle.can_event.specs.declared.reply.Reply.TheVariants.{Tried}
 use Rattle.can_packed.specs.Kept.{entry_in, frames_needed, fd_frames_of, tried_entry}
 use Rattle.can_packed.specs.Records.{PackedEntries}
 use Rattle.can_packed.proofs.Growing.{entries_pushed, few_frames, within_pushed}

@@ -1,6 +1,6 @@
 use Rattle.std.specs.Prelude.{Ok, Err}
-use Rattle.can_event.specs.declared.events.Event.TheVariants as event
-use Rattle.can_event.specs.declared.events.Reply.TheVariants as reply
+use Rattle.can_event.specs.declared.event.Event.TheVariants as event
+use Rattle.can_event.specs.declared.reply.Reply.TheVariants as reply
 use Rattle.can_station.specs.declared.refusals.StationRefusal.TheVariants as station
 use Rattle.can_station.proofs.Answering.{answered}
 use Rattle.can_station.proofs.station.Station.receive.Goals as goal

@@ -1,7 +1,7 @@
 use Rattle.std.proofs.Common.{◌≡◌, reverse, vec_capacity, sym, ap, ◌∙◌, refl}
 use Rattle.std.specs.Prelude.{None}
-use Rattle.can_event.specs.declared.events.Event.{Event}
-use Rattle.can_event.specs.declared.events.Event.TheVariants as event
+use Rattle.can_event.specs.declared.event.Event.{Event}
+use Rattle.can_event.specs.declared.event.Event.TheVariants as event
 use Rattle.can_roll.specs.Seen.{RollSeen}
 use Rattle.can_station.proofs.Marking.{booked_after}
 use Rattle.can_station.proofs.PublishedFacts.{published_still}

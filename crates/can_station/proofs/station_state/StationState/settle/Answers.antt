@@ -1,6 +1,6 @@
 use Rattle.std.proofs.Common.{◌≡◌, List, length, reverse, sym, ap, ◌∙◌, subst}
-use Rattle.can_event.specs.declared.events.BusConfig.{BusConfig}
-use Rattle.can_event.specs.declared.events.Entry.{Entry}
+use Rattle.can_event.specs.declared.bus_config.BusConfig.{BusConfig}
+use Rattle.can_event.specs.declared.entry.Entry.{Entry}
 use Rattle.can_bus.specs.Legal.{IsLegal}
 use Rattle.can_roll.specs.Lists.{AllBelow}
 use Rattle.can_roll.specs.Seen.{RollSeen}

@@ -1,6 +1,6 @@
 use Rattle.std.proofs.Common.{◌≡◌, ℕ, ap, sym, ◌∙◌, subst}
-use Rattle.can_event.specs.declared.events.Event.{Event}
-use Rattle.can_event.specs.declared.events.Event.TheVariants as event
+use Rattle.can_event.specs.declared.event.Event.{Event}
+use Rattle.can_event.specs.declared.event.Event.TheVariants as event
 use Rattle.can_fault.specs.Sources.{verdict_in}
 use Rattle.can_station.specs.Held.{Held, with_source}
 use Rattle.can_station.specs.Passes.{IsCarriedOut, next_verdict}
