@@ -71,15 +71,15 @@ pub fn last_bit_attempts_had_that_fault_alone(config: BusConfig)
     ensures { (past : List Entry) → IsLegal config past → All HadThatFaultAlone past }
 {}
 
-/// A number stands on a socket as often as there are attempts that copied the frame of that number.
-pub fn each_number_stands_once_for_each_attempt(config: BusConfig)
+/// A number is queued to a socket as often as there are attempts that copied the frame of that number.
+pub fn each_number_is_queued_once_for_each_attempt(config: BusConfig)
     ensures { (past : List Entry) → IsLegal config past → (i s n : ℕ) →
         count_by (λ m. m == n) (numbers_from i (queued_to config past s))
         ≡ count_by (λ (t : Tried). t.number == n) (copying config past i s) }
 {}
 
-/// A socket of the sending interface itself gets a frame by loopback alone, once it is done: a number
-/// stands there at most once.
+/// A socket of the sending interface itself gets a frame only by loopback, once it is done: a number
+/// is queued there at most once.
 pub fn own_copies_are_single(config: BusConfig)
     ensures done { (past : List Entry) → IsLegal config past → (s : ℕ) →
         All (λ t. t.class ≡ class.Done) (copying config past (iface_of past s) s) }
@@ -110,9 +110,9 @@ pub fn no_frame_is_forgotten(config: BusConfig)
         ≡ done_count past i + (length (sent_by past i) - gone_count past i) + lost_count past i }
 {}
 
-/// Each frame that was accepted for sending has one fate, and the counts that an interface tells are how
-/// many frames have each.
-pub fn counts_tell_the_fates(config: BusConfig)
+/// Each frame that was accepted for sending has one fate, and the counts of an interface are how many
+/// frames have each.
+pub fn counts_are_those_of_the_fates(config: BusConfig)
     ensures waiting { (past : List Entry) → IsLegal config past → (i : ℕ) →
         frames_with Waiting past i ≡ length (sent_by past i) - gone_count past i }
     ensures done { (past : List Entry) → IsLegal config past → (i : ℕ) →

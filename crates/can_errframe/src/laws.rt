@@ -11,36 +11,45 @@ ghost use Rattle.can_errframe.specs.declared.role.Role.{Role};
 ghost use Rattle.can_errframe.specs.declared.role.Role.TheVariants.{Winner};
 
 /// There is no state frame exactly where the state stays.
-pub fn state_frames_tell_changes()
-    ensures { (old new : ErrorCounts) → IsNone (state_message old new) ↔ (state_of old ≡ state_of new) }
+pub fn state_frames_report_changes()
+    ensures { (old new : ErrorCounts) →
+        IsNone (state_message old new) ↔ (state_of old ≡ state_of new) }
 {}
 
 /// A state frame is a bus off frame, class 0x040, exactly where the new state is bus off.
 pub fn bus_off_has_its_own_class()
-    ensures { (old new : ErrorCounts) → IfSome (state_message old new) (λ e. (e.class ≡ 0x040) ↔ (is_off (state_of new) ≡ true)) }
+    ensures { (old new : ErrorCounts) →
+        IfSome (state_message old new) (λ e. (e.class ≡ 0x040) ↔ (is_off (state_of new) ≡ true)) }
 {}
 
 /// Any other state frame has the transmit count in byte 6 and the receive count in byte 7.
-pub fn counts_stand_in_their_bytes()
-    ensures { (old new : ErrorCounts) → is_off (state_of new) ≡ false → IfSome (state_message old new) (λ e. (slice_index e.bytes 6 ≡ new.tec) × (slice_index e.bytes 7 ≡ new.rec)) }
+pub fn counts_are_in_their_bytes()
+    ensures { (old new : ErrorCounts) →
+        is_off (state_of new) ≡ false →
+        IfSome (state_message old new) (λ e. (slice_index e.bytes 6 ≡ new.tec) × (slice_index e.bytes 7 ≡ new.rec)) }
 {}
 
 /// In an attempt without a fault none is reported.
-pub fn good_attempts_tell_nothing()
+pub fn good_attempts_report_nothing()
     ensures { (role : Role) → fault_message Done Good role ≡ None }
 {}
 
 /// Which interfaces a local fault names makes no difference to its frames.
-pub fn named_set_has_no_say()
-    ensures { (class : Class) (s z : IfaceSet) (kind : LocalKind) (role : Role) → fault_message class (Local s kind) role ≡ fault_message class (Local z kind) role }
+pub fn named_interfaces_make_no_difference()
+    ensures { (class : Class) (s z : IfaceSet) (kind : LocalKind) (role : Role) →
+        fault_message class (Local s kind) role ≡ fault_message class (Local z kind) role }
 {}
 
 /// The winner of an attempt gets the report of a fault exactly where its frame did not go out whole.
-pub fn winner_is_told_of_each_failure()
-    ensures { (t : Transmission) → is_some (fault_message (class_of t) t.verdict Winner) ≡ not (is_done (class_of t)) }
+pub fn winner_gets_each_failure()
+    ensures { (t : Transmission) →
+        is_some (fault_message (class_of t) t.verdict Winner) ≡ not (is_done (class_of t)) }
 {}
 
 /// A receiver gets the report of a fault exactly where the attempt gives it a receive error.
-pub fn receivers_are_told_of_each_error()
-    ensures { (t : Transmission) (i : ℕ) → is_among i (receivers t) ≡ true → is_some (fault_message (class_of t) t.verdict (receiver_role t i)) ≡ is_receive_error (steps_at i t) }
+pub fn receivers_get_each_error()
+    ensures { (t : Transmission) (i : ℕ) →
+        is_among i (receivers t) ≡ true →
+        is_some (fault_message (class_of t) t.verdict (receiver_role t i))
+        ≡ is_receive_error (steps_at i t) }
 {}

@@ -153,7 +153,8 @@ fn count_in(text: &str) -> usize
 // Where each piece begins in the text, and where one more would begin.
 fn starts_in(text: &str) -> [u16; 17]
     requires { AreNames (names_in text.now) }
-    ensures { (k : ℕ) → k ≤ length (names_in text.now) → slice_index result k ≡ start_of (names_in text.now) k }
+    ensures { (k : ℕ) →
+        k ≤ length (names_in text.now) → slice_index result k ≡ start_of (names_in text.now) k }
 {
     let mut starts = [0; 17];
     let mut place = 0;

@@ -7,7 +7,7 @@ use Rattle.can_attempt.proofs.Places.{is_among-receivers, steps_in-receiver}
 use Rattle.can_errframe.specs.ErrorMessages.{fault_message, is_receive_error}
 use Rattle.can_errframe.specs.declared.role.Role.TheVariants.{Named, Other}
 use Rattle.can_errframe.proofs.Faults.{is_local, not_destroyed}
-use Rattle.can_errframe.proofs.laws.receivers_are_told_of_each_error.Goals as goal
+use Rattle.can_errframe.proofs.laws.receivers_get_each_error.Goals as goal
 
 told : (v : Verdict) (d a n : Bool) → (is_global v ≡ true → d ≡ true) → (is_global v ≡ false → is_local v ≡ false → d ≡ false) → (is_local v ≡ false → n ≡ false)
     → is_some (fault_message (class_when d a (is_last_bit v)) v (if n then Named else Other)) ≡ is_receive_error (receiver_step (class_when d a (is_last_bit v)) n)

@@ -6,7 +6,7 @@ use Rattle.can_attempt.specs.Attempts.{class_when, is_done, is_global, is_last_b
 use Rattle.can_errframe.specs.ErrorMessages.{fault_message}
 use Rattle.can_errframe.specs.declared.role.Role.TheVariants.{Winner}
 use Rattle.can_errframe.proofs.Faults.{is_local, not_destroyed}
-use Rattle.can_errframe.proofs.laws.winner_is_told_of_each_failure.Goals as goal
+use Rattle.can_errframe.proofs.laws.winner_gets_each_failure.Goals as goal
 
 told : (v : Verdict) (d a : Bool) → (is_global v ≡ true → d ≡ true) → (is_global v ≡ false → is_local v ≡ false → d ≡ false) → is_some (fault_message (class_when d a (is_last_bit v)) v Winner) ≡ not (is_done (class_when d a (is_last_bit v)))
 told verdict.Good true a broken whole = absurd (true≢false (whole refl refl))

@@ -2,7 +2,7 @@ use Rattle.can_fault.specs.Sources.{no_verdicts}
 use Rattle.can_fault.specs.Scripts.{sayings, script_spelling, IsFirstFault}
 use Rattle.std.proofs.Common.{◌≡◌, Err}
 use Rattle.can_fault.proofs.ScriptLaws.{first_fault, from_start, fault_told, to_start}
-use Rattle.can_fault.proofs.laws.the_first_fault_is_told.Goals as goal
+use Rattle.can_fault.proofs.laws.the_first_fault_is_reported.Goals as goal
 
 pub returns : goal.returns
 returns c = λ names text fault.

@@ -1,5 +1,5 @@
 use Rattle.can_bus.proofs.FateFacts.{frames-waiting, frames-done, frames-lost}
-use Rattle.can_bus.proofs.laws.counts_tell_the_fates.Goals as goal
+use Rattle.can_bus.proofs.laws.counts_are_those_of_the_fates.Goals as goal
 
 pub returns-clause-waiting : goal.returns-clause-waiting
 returns-clause-waiting c past legal i = frames-waiting c.args.config past legal i
