@@ -51,7 +51,7 @@ abbrev pub is_global : Verdict → Bool
 is_global (verdict.Global kind) = true
 is_global _ = false
 
--- a fault that the transmitter alone sees, in the last bit of end of frame
+-- a fault that only the transmitter sees, in the last bit of end of frame
 abbrev pub is_last_bit : Verdict → Bool
 is_last_bit verdict.LastBit = true
 is_last_bit _ = false

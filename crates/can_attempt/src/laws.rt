@@ -10,7 +10,7 @@ pub fn sets_hold_their_interfaces()
     ensures { (is : List ℕ) (i : ℕ) → i < 16 → is_in i (set_of is) ≡ is_among i is }
 {}
 
-/// A local fault that strikes error passive receivers alone destroys nothing: they miss the frame.
+/// A local fault that strikes only error passive receivers destroys nothing: they miss the frame.
 pub fn passive_receivers_destroy_nothing()
     ensures { (t : Transmission) → is_global t.verdict ≡ false →
         ((i : ℕ) → is_among i (hit t) ≡ true → is_passive (state_at t i) ≡ true) →
@@ -23,7 +23,7 @@ pub fn active_receiver_destroys()
         is_among i (hit t) ≡ true → is_passive (state_at t i) ≡ false → class_of t ≡ Destroyed }
 {}
 
-/// An error passive transmitter that nobody acknowledges keeps its counts, so it never goes off alone.
+/// An error passive transmitter that nobody acknowledges keeps its counts, so it never goes off by itself.
 pub fn passive_transmitter_waits()
     ensures { (t : Transmission) →
         class_of t ≡ NoAck → is_passive (state_at t t.winner) ≡ true →
@@ -60,7 +60,7 @@ pub fn winner_alone_goes_off()
         is_off (state_of (counts_after t i)) ≡ is_off (state_at t i) }
 {}
 
-/// What follows from an attempt hangs on the counts of sixteen places alone.
+/// What follows from an attempt depends only on the counts of sixteen places.
 pub fn sixteen_places_decide()
     ensures { (t u : Transmission) → SameToSixteen t u → judged t ≡ judged u }
 {}

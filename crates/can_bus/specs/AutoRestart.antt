@@ -27,7 +27,7 @@ abbrev pub attempts_off : List Entry → ℕ → Option ℕ
 attempts_off [] i = None
 attempts_off (e ∷ past) i = attempts_off_after e.event e.reply i (attempts_off past i)
 
--- the attempt after so many is the n-th
+-- the attempt after this many is the n-th
 abbrev pub is_nth_after : ℕ → Option ℕ → Bool
 is_nth_after n None = false
 is_nth_after n (Some k) = suc k == n

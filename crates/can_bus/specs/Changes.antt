@@ -32,7 +32,7 @@ use Rattle.can_bus.specs.Legal.{lacks_fd}
 
 -- ---- sockets
 
--- socket s stands at place k
+-- socket s is at place k
 pub record StandsAt (sockets : List SocketState) (s k : ℕ) (v : SocketState) : Type 0 where
   pub there : slice_get sockets k ≡ Some v
   pub number : v.number ≡ s

@@ -79,7 +79,7 @@ went_over class.LastBit = true
 went_over _ = false
 
 -- what holds of two attempts in turn that copied frames of one interface to one socket: the numbers never fall,
--- and where the number is the same the earlier attempt failed at the last bit alone
+-- and where the number is the same the earlier attempt failed only at the last bit
 pub record InTurn (earlier later : Tried) : Type 0 where
   pub rising : earlier.number ≤ later.number
   pub again : earlier.number ≡ later.number → earlier.class ≡ class.LastBit

@@ -19,7 +19,7 @@ use Rattle.can_bus.specs.Fates.Fate.{Lost}
 -- looped back once done), that passed its filters and options and found room, each once, and again only for each
 -- attempt whose sole fault was the last bit of end of frame; every lost frame is counted; nothing is queued after close.
 
--- socket s was closed after the entries before, and its close told these counts
+-- socket s was closed after the entries before, and its close reported these counts
 pub record EndsAtClose (c : BusConfig) (before past : List Entry) (s : SocketId) (counts : Closed) : Type 0 where
   -- what was queued was taken, or is counted as unread
   pub unread : length (queued_to c before s.0) ≡ length (taken_from before s.0) + counts.unread
@@ -56,7 +56,7 @@ pub record Headline (c : BusConfig) (past : List Entry) : Type 0 where
   pub dropped : (s : ℕ) → dropped_at c past s ≡ without_room (capacity_of past s) 0 (offers_to c past s)
   -- so what is offered is queued or dropped
   pub counted : (s : ℕ) → length (candidates_for c past s) ≡ length (queued_to c past s) + length (dropped_at c past s)
-  -- "every lost frame is counted", by bus off: the count that an interface tells is how many frames were lost
+  -- "every lost frame is counted", by bus off: the count of an interface is how many frames were lost
   pub lost : (i : ℕ) → frames_with Lost past i ≡ lost_count past i
   -- "every lost frame is counted", unread at close, and "nothing is queued after close", whatever comes later
   pub closed : (later before : List Entry) (s : SocketId) (k : Closed) → past ≡ later ++ closing s k ∷ before → EndsAtClose c before past s k

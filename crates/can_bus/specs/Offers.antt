@@ -11,7 +11,7 @@ pub record Offer : Type 0 where
   pub item : Received
   pub taken : ℕ
 
--- an item that is offered after so many were taken
+-- an item that is offered after this many were taken
 abbrev pub offer_after : ℕ → Received → Offer
 offer_after taken r = record { item = r; taken = taken }
 

@@ -77,11 +77,11 @@ attempt_posts reporting tr t p i =
     ++ (if is_in i reporting then error_posts i t.moment (fault_message_for t.class tr.verdict (role_at tr i)) else [])
     ++ error_posts i t.moment (state_message (tr.counts i) (counts_after tr i))
 
--- a restart is told at the interface that was restarted
+-- a restart is reported at the interface that was restarted
 abbrev pub restart_posts : ℕ → ℕ → ℕ → List Post
 restart_posts k m i = if i == k then error_posts i m (Some restart_message) else []
 
--- an attempt tells its restarts in the same way
+-- an attempt reports its restarts in the same way
 abbrev pub auto_restart_posts : IfaceSet → ℕ → ℕ → List Post
 auto_restart_posts restarted m i = if is_in i restarted then error_posts i m (Some restart_message) else []
 

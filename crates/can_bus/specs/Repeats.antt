@@ -12,10 +12,10 @@ use Rattle.can_bus.specs.Counters.{counts_of}
 use Rattle.can_bus.specs.Queues.{queued_to}
 use Rattle.can_bus.specs.Copies.{numbers_from}
 
--- How often one frame can reach a socket. A fault in the last bit of end of frame reaches the transmitter alone:
+-- How often one frame can reach a socket. A fault in the last bit of end of frame reaches only the transmitter:
 -- it sends again a frame that the receivers have accepted (Bosch CAN Specification 2.0, message validation).
 
--- how often number n stands among the data frames of interface i that socket s got
+-- how often number n is among the data frames of interface i that socket s got
 abbrev pub copies_queued : BusConfig → List Entry → ℕ → ℕ → ℕ → ℕ
 copies_queued c past i s n = count_by (λ m. m == n) (numbers_from i (queued_to c past s))
 
@@ -31,10 +31,10 @@ transmit_count c past i = (counts_of c past i).tec
 abbrev pub RisesAtTheHead : BusConfig → Entry → List Entry → Type 0
 RisesAtTheHead c e past = (i : ℕ) (p : Pending) → head_of past i ≡ Some p → gone_count (e ∷ past) i ≡ gone_count past i → transmit_count c past i ≤ transmit_count c (e ∷ past) i
 
--- an attempt that failed at the last bit alone adds 8 to the transmit error count of its winner
+-- an attempt that failed only at the last bit adds 8 to the transmit error count of its winner
 abbrev pub LastBitAdds8 : BusConfig → Entry → List Entry → Type 0
 LastBitAdds8 c e past = (t : Tried) → e.reply ≡ reply.Tried t → t.class ≡ class.LastBit → transmit_count c (e ∷ past) t.winner ≡ transmit_count c past t.winner + 8
 
--- an attempt that failed at the last bit of end of frame alone had that fault, and no other
+-- an attempt that failed only at the last bit of end of frame had that fault, and no other
 abbrev pub HadThatFaultAlone : Entry → Type 0
 HadThatFaultAlone e = (t : Tried) → e.reply ≡ reply.Tried t → t.class ≡ class.LastBit → e.event ≡ Attempt t.moment verdict.LastBit

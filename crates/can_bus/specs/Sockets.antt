@@ -11,7 +11,7 @@ use Rattle.can_event.specs.declared.entry.Entry.{Entry}
 use Rattle.can_event.specs.Events.{with_option}
 
 -- The sockets of a bus, by its history. A history is the list of a bus's entries so far, the newest
--- first: before an entry stands what came before it.
+-- first: an entry follows what came before it.
 
 -- where a socket was opened, and how many items may wait there
 pub record Place : Type 0 where

@@ -12,7 +12,7 @@ use Rattle.can_bus.specs.Queues.{queued_to, dropped_at, taken_from}
 use Rattle.can_bus.specs.Changes.{StandsAt, IsNowhere}
 use Rattle.can_bus.specs.State.{LineState, SocketState}
 
--- The counts that a bus tells without an event.
+-- The counts that a bus reports without an event.
 
 -- of an open socket: the items that found room, that found none, and that were taken
 abbrev pub socket_stats_of : BusConfig → List Entry → ℕ → Option SocketStats

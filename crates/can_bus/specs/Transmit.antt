@@ -34,7 +34,7 @@ abbrev pub tape : List Entry → List Tried
 tape [] = []
 tape (e ∷ past) = tape_after e.reply (tape past)
 
--- gone_count after one more entry, where so many frames were sent (own choice)
+-- gone_count after one more entry, where this many frames were sent (own choice)
 abbrev pub gone_after : Reply → ℕ → ℕ → ℕ → ℕ
 gone_after (reply.Tried t) i sent before = if is_in i t.off then sent else if (t.winner == i) && is_done t.class then before + 1 else before
 gone_after _ i sent before = before

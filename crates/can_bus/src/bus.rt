@@ -51,10 +51,10 @@ impl From<AllocError> for BusFault {
 
 /// A bus: interfaces that share one wire, and the sockets open on them.
 ///
-/// Each event call is answered from the bus's record alone, and adds one entry to it; a call that is
+/// Each event call is answered only from the bus's record, and adds one entry to it; a call that is
 /// refused for a full record or for want of memory adds none and changes nothing. Contracts see a bus
 /// as its configuration and its history. The queues that frames and items wait in are known by the
-/// laws of `BoundedQueue` alone, and the arbiter by those of `Arbiter`.
+/// laws of `BoundedQueue`, and the arbiter by those of `Arbiter`.
 ///
 /// No event but `open` and `set_filters` takes memory: `new` reserves the record, of 32 bytes an entry and 76 for its FD
 /// frame, the transmit queues and the places of 64 sockets. A call on a socket looks through the open ones, at most 64.
@@ -122,7 +122,7 @@ impl<T: BoundedQueue<Pending>, R: BoundedQueue<Received>, A: Arbiter> Bus<T, R, 
         &self.record
     }
 
-    /// The bus's record alone, at the end of its run.
+    /// Only the bus's record, at the end of its run.
     pub fn into_record(self) -> Record
         ensures config { result.config ≡ self.config }
         ensures history { result.history ≡ self.history }
@@ -143,7 +143,7 @@ impl<T: BoundedQueue<Pending>, R: BoundedQueue<Received>, A: Arbiter> Bus<T, R, 
     /// Carries out an event, and returns its reply. A refusal is a reply as well.
     ///
     /// The event enters the record with its reply, unless that is `RecordFull` or `NoMemory`: then nothing has changed.
-    /// Memory is taken for `Open` and `SetFilters` alone. It costs what the event's own call does.
+    /// Memory is taken only for `Open` and `SetFilters`. It costs what the event's own call does.
     pub fn answer(&mut self, alloc: Global, event: &Event) -> Reply
         ensures { IsAnswered self.old event.now result self.new }
     {

@@ -55,7 +55,7 @@ pub fn copies_are_of_frames_sent(config: BusConfig)
 {}
 
 /// The numbers of one interface's frames never fall on a socket. Each copy comes of an attempt that was done
-/// or failed at the last bit alone; of the attempts that copied one number at most one is done, and it is
+/// or failed only at the last bit; of the attempts that copied one number at most one is done, and it is
 /// the last.
 pub fn copies_come_in_turn(config: BusConfig)
     ensures numbers { (past : List Entry) → IsLegal config past → (i s : ℕ) →
@@ -66,7 +66,7 @@ pub fn copies_come_in_turn(config: BusConfig)
         AllPairs InTurn (copying config past i s) }
 {}
 
-/// An attempt failed at the last bit of end of frame alone only where that was its fault, and the only one.
+/// An attempt that failed only at the last bit of end of frame had that fault, and no other.
 pub fn last_bit_attempts_had_that_fault_alone(config: BusConfig)
     ensures { (past : List Entry) → IsLegal config past → All HadThatFaultAlone past }
 {}
@@ -145,7 +145,7 @@ pub fn items_find_room_in_turn(config: BusConfig)
 {}
 
 /// As counts, what is offered to a socket is queued or dropped, and what is queued is taken or left unread
-/// at its close, which tells both counts.
+/// at its close, which reports both counts.
 pub fn each_item_is_counted(config: BusConfig)
     ensures offered { (past : List Entry) → (s : ℕ) →
         length (candidates_for config past s)

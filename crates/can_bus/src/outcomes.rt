@@ -12,7 +12,7 @@ use std::marker::Model;
 
 /// An attempt that tried a frame, and all that followed: what `judge` answers of it.
 ///
-/// Contracts see the attempt alone, since what followed is fixed by it.
+/// Contracts see only the attempt, since what followed is fixed by it.
 #[derive(Debug, Drop)]
 pub struct Attempted<'a> {
     tried: &'a Tried,

@@ -19,7 +19,7 @@ use can_packed::{Looked, Stored};
 use std::alloc::{AllocError, Global};
 use std::marker::Model;
 
-/// A bus's configuration, and each event on it with its reply. A bus alone adds to one.
+/// A bus's configuration, and each event on it with its reply. Only a bus adds to one.
 ///
 /// The configuration is always within the limits of a bus, and the text of a record has a line for each
 /// entry: its reply fits its event. A bus's record takes 32 bytes for each entry, 76 more for an FD frame, and memory

@@ -31,7 +31,7 @@ abbrev pub SendsFd : Event → Type 0
 SendsFd (Send s frame) = IsTrue (is_fd frame.payload)
 SendsFd _ = ⊥
 
--- a refusal that leaves an entry and may stand with the event: that FD frames are off is said to sends of such alone (own
+-- a refusal that leaves an entry and may go with the event: only a send of an FD frame is refused as FD frames are off (own
 -- choice)
 abbrev pub MayRefuse : Event → Refusal → Type 0
 MayRefuse event refusal.FdOff = SendsFd event

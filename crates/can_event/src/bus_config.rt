@@ -23,7 +23,7 @@ pub struct BusConfig {
     pub ifaces: u8,
     /// Whether every frame is acknowledged, or only where a receiver has it whole.
     pub ack: AckMode,
-    /// The interfaces whose sockets are told of each fault. Bits that name no interface have no effect.
+    /// The interfaces whose sockets get a frame for each fault. Bits that name no interface have no effect.
     pub reporting: IfaceSet,
     /// How many frames wait at most in each transmit queue, 1 to 1,024.
     pub tx_capacity: u32,

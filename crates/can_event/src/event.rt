@@ -10,7 +10,7 @@ use std::alloc::{AllocError, Global};
 /// One call on a bus.
 #[derive(Debug, PartialEq, Eq, Drop)]
 pub enum Event {
-    /// Open a socket on an interface, where so many items may wait, 1 to 65,536.
+    /// Open a socket on an interface, with room for this many items, 1 to 65,536.
     Open(Iface, u32),
     /// Close a socket.
     Close(SocketId),

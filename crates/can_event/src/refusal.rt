@@ -12,7 +12,7 @@ pub enum Refusal {
     /// The bus has no such interface.
     #[error("no such interface")]
     NoInterface,
-    /// No socket holds so many items.
+    /// No socket can have this capacity.
     #[error("bad capacity")]
     BadCapacity,
     /// As many sockets are open as may be.

@@ -5,7 +5,7 @@ use Rattle.can_filter.specs.declared.lookup.Lookup.{Lookup}
 use Rattle.can_filter.specs.declared.lookup.Lookup.TheVariants.{Standard, Extended, Masked, Inverted}
 
 -- Filters parted by how a word is looked up among them. Nothing that a caller has to know: the sets of filters say
--- what passes in terms of Filters alone.
+-- what passes only in terms of Filters.
 
 -- the mask of a filter that singles out one 11-bit data identifier (own choice)
 abbrev pub standard_mask : ℕ
@@ -35,7 +35,7 @@ is_matched filters word = list_any (λ f. matches f word) filters
 abbrev pub is_found : List Bool → List ℕ → List CanFilter → List CanFilter → ℕ → Bool
 is_found marks ids masked inverted word = is_marked marks word || (is_listed ids word || (is_matched masked word || is_matched inverted word))
 
--- the look-up tells which words the filter matches
+-- the look-up says which words the filter matches
 abbrev pub IsLookedUpAs : CanFilter → Lookup → Type 0
 IsLookedUpAs f (Standard id) = (id < 2048) × ((word : ℕ) → matches f word ≡ (bit_and word standard_mask == id))
 IsLookedUpAs f (Extended id) = IsTrue (is_extended id) × ((word : ℕ) → matches f word ≡ (bit_and word extended_mask == id))

@@ -42,7 +42,7 @@ goes_before (x ∷ xs) (y ∷ ys) = if x == y then goes_before xs ys else (x == 
 abbrev pub Outranks : CanFrame → CanFrame → Type 0
 Outranks a b = GoesBefore (arbitration_bits a) (arbitration_bits b)
 
--- bits as a number of k bits: the first bit is the highest, and behind the last stand zeros
+-- bits as a number of k bits: the first bit is the highest, and zeros follow the last
 abbrev pub bits_number : ℕ → List ℕ → ℕ
 bits_number zero bits = 0
 bits_number (suc k) [] = 0

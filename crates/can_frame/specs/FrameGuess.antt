@@ -14,7 +14,7 @@ use Rattle.can_frame.specs.declared.item.Item.TheVariants as item
 unfoldable pub bytes_in : ℕ → List ℕ → Option (List ℕ)
 bytes_in n text = result_ok (decode_sized text n)
 
--- a mark stands at a place
+-- a mark is at a place
 abbrev pub stands_at : ℕ → ℕ → List ℕ → Bool
 stands_at mark k text = nat_lt k (length text) && slice_index text k == mark
 
@@ -30,11 +30,11 @@ data_in text = if nat_le (length text / 2) 8 then bytes_in (length text / 2) tex
 unfoldable pub fd_data_in : List ℕ → Option (List ℕ)
 fd_data_in text = if is_fd_length (length text / 2) then bytes_in (length text / 2) text else None
 
--- what stands behind the second mark of an FD frame: no flags (48), and data
+-- what follows the second mark of an FD frame: no flags (48), and data
 unfoldable pub fd_in : List ℕ → Option (List ℕ)
 fd_in text = if stands_at 48 0 text then fd_data_in (drop 1 text) else None
 
--- what stands behind the mark of a frame: `R` (82) and a length, a second `#` (35) and an FD frame's data, or data
+-- what follows the mark of a frame: `R` (82) and a length, a second `#` (35) and an FD frame's data, or data
 unfoldable pub payload_in : List ℕ → Option Payload
 payload_in text = if stands_at 82 0 text then option_map Remote (request_in (drop 1 text)) else if stands_at 35 0 text then option_map Fd (fd_in (drop 1 text)) else option_map Data (data_in text)
 
@@ -62,6 +62,6 @@ short_item_in text = option_and_then (λ n. standard_in n (drop 4 text)) (number
 unfoldable pub long_item_in : List ℕ → Option Item
 long_item_in text = option_and_then (λ n. long_in n (drop 9 text)) (number_in 16 8 (take 8 text))
 
--- the `#` (35) stands behind 3 digits or behind 8
+-- the `#` (35) is after 3 digits or after 8
 unfoldable pub item_in : List ℕ → Option Item
 item_in text = if stands_at 35 3 text then short_item_in text else if stands_at 35 8 text then long_item_in text else None

@@ -34,7 +34,7 @@ payload_text (Data bytes) = pairs bytes
 payload_text (Remote len) = 82 ∷ (if len == 0 then [] else decimal len)
 payload_text (Fd bytes) = 35 ∷ 48 ∷ pairs bytes
 
--- the written spelling of an item: what stands before the `#` (35) says what it is. An error message frame has
+-- the written spelling of an item: what comes before the `#` (35) says what it is. An error message frame has
 -- its class there, with bit 29 set (CAN_ERR_FLAG of linux/can.h)
 unfoldable pub frame_spelling : Item → List ℕ
 frame_spelling (item.Data f) = id_text f.id ++ 35 ∷ payload_text f.payload
@@ -49,7 +49,7 @@ abbrev pub AsksForNothing : Item → Type 0
 AsksForNothing (item.Data f) = f.payload ≡ Remote 0
 AsksForNothing (item.Error e) = ⊥
 
--- a payload that a frame may carry: at most 8 bytes, a request for so many, or as many bytes as an FD frame may have
+-- a payload that a frame may carry: at most 8 bytes, a request for at most 8, or as many bytes as an FD frame may have
 abbrev pub IsPayload : Payload → Type 0
 IsPayload (Data bytes) = (length bytes ≤ 8) × IsBytes bytes
 IsPayload (Remote len) = len ≤ 8
@@ -60,7 +60,7 @@ abbrev pub IsItem : Item → Type 0
 IsItem (item.Data f) = IsIdentifier f.id × IsPayload f.payload
 IsItem (item.Error e) = (e.class < 2 ^ 29) × (length e.bytes ≡ 8) × IsBytes e.bytes
 
--- an upper-case text is the written spelling, or that of a remote frame of length 0 with this length behind it, `0` (48)
+-- an upper-case text is the written spelling, or that of a remote frame of length 0 with this length after it, `0` (48)
 abbrev pub IsSpelling : List ℕ → Item → Type 0
 IsSpelling text i = (text ≡ frame_spelling i) ⊎ (AsksForNothing i × (text ≡ frame_spelling i ++ 48 ∷ []))
 

@@ -11,7 +11,7 @@ pub record Identifier : Type 0 where
 abbrev pub IsIdentifier : Identifier → Type 0
 IsIdentifier id = id.number < (if id.extended then 2 ^ 29 else 2 ^ 11)
 
--- what a frame carries: bytes, in a remote frame a request for so many, or the bytes of an FD frame (struct canfd_frame
+-- what a frame carries: bytes, in a remote frame how many it asks for, or the bytes of an FD frame (struct canfd_frame
 -- of linux/can.h)
 pub data Payload : Type 0 where
   Data : List ℕ → Payload
@@ -40,7 +40,7 @@ is_fd (Data bytes) = false
 is_fd (Remote len) = false
 is_fd (Fd bytes) = true
 
--- the lengths that the 16 data length codes of FD frames stand for, up to CANFD_MAX_DLEN (ISO 11898-1; linux/can.h)
+-- the lengths of the 16 data length codes of FD frames, up to CANFD_MAX_DLEN (ISO 11898-1; linux/can.h)
 abbrev pub is_fd_length : ℕ → Bool
 is_fd_length n = nat_le n 8 || (n == 12 || (n == 16 || (n == 20 || (n == 24 || (n == 32 || (n == 48 || n == 64))))))
 

@@ -2,7 +2,7 @@ use Rattle.std.specs.Prelude.{ℕ, ◌+◌, ◌*◌, ◌-◌, ◌&&◌, nat_lt, 
 
 -- Numbers in digits of either case (own choice).
 
--- what a hexadecimal digit stands for
+-- the value of a hexadecimal digit
 abbrev pub hex_digit : ℕ → Option ℕ
 hex_digit b = if nat_le 48 b && nat_le b 57 then Some (b - 48) else if nat_le 65 b && nat_le b 70 then Some (b - 55) else if nat_le 97 b && nat_le b 102 then Some (b - 87) else None
 
@@ -11,16 +11,16 @@ abbrev pub in_base : ℕ → Option ℕ → Option ℕ
 in_base base None = None
 in_base base (Some v) = if nat_lt v base then Some v else None
 
--- what a digit of a base stands for
+-- the value of a digit of a base
 abbrev pub digit_in : ℕ → ℕ → Option ℕ
 digit_in base b = in_base base (hex_digit b)
 
--- a digit behind a number
+-- a number with one more digit
 abbrev pub one_more : ℕ → ℕ → Option ℕ → Option ℕ
 one_more base n None = None
 one_more base n (Some v) = Some (n * base + v)
 
--- digits behind a number
+-- a number with more digits
 abbrev pub number_after : ℕ → Option ℕ → List ℕ → Option ℕ
 number_after base None ds = None
 number_after base (Some n) [] = Some n

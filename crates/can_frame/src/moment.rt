@@ -29,7 +29,7 @@ impl Model for Moment {
 }
 
 impl Moment {
-    /// The moment at so many microseconds, below 10^16.
+    /// The moment at a number of microseconds, below 10^16.
     pub fn new(micros: u64) -> Result<Moment, MomentTooLarge>
         ensures { OkIff result (micros < 10 ^ 16) micros }
     {
@@ -48,7 +48,7 @@ impl Moment {
     }
 }
 
-/// The moment that 1 to 10 digits of seconds, a point and 6 digits of microseconds stand for; `None` of other words.
+/// The moment of 1 to 10 digits of seconds, a point and 6 digits of microseconds; `None` for other words.
 #[tactic(auto, unfolding(crate::specs::Moments::moment_in))]
 pub fn read_moment(word: &[u8]) -> Option<Moment>
     ensures { result ≡ moment_in word.now }

@@ -1,7 +1,7 @@
 ghost use Rattle.std.specs.Prelude.{◌≡◌, ◌≤◌, ◌<◌, ◌^◌, length, IfSome};
 ghost use Rattle.can_frame.specs.Numbers.{digit_in, number_in};
 
-/// The number that 1 to `most` decimal digits stand for; `None` of other words. `most` is at most 19.
+/// The value of 1 to `most` decimal digits; `None` for other words. `most` is at most 19.
 pub fn read_decimal(word: &[u8], most: usize) -> Option<u64>
     requires { most ≤ 19 }
     ensures value { result ≡ number_in 10 most word.now }
@@ -10,7 +10,7 @@ pub fn read_decimal(word: &[u8], most: usize) -> Option<u64>
     read_number::<10>(word, most)
 }
 
-/// The number that 1 to `most` hexadecimal digits of either case stand for; `None` of other words.
+/// The value of 1 to `most` hexadecimal digits of either case; `None` for other words.
 /// `most` is at most 8.
 pub fn read_hexadecimal(word: &[u8], most: usize) -> Option<u32>
     requires { most ≤ 8 }
@@ -21,7 +21,7 @@ pub fn read_hexadecimal(word: &[u8], most: usize) -> Option<u32>
     Some(number as u32)
 }
 
-/// The number that 1 to `most` digits of a base stand for.
+/// The value of 1 to `most` digits of a base.
 fn read_number<const BASE: u64>(word: &[u8], most: usize) -> Option<u64>
     requires low { 2 ≤ BASE }
     requires fits { BASE ^ most ≤ 2 ^ 64 }
@@ -38,7 +38,7 @@ fn read_number<const BASE: u64>(word: &[u8], most: usize) -> Option<u64>
     Some(number)
 }
 
-/// What a digit of a base stands for, in either case; `None` of another byte. No digit is above 15.
+/// The value of a digit of a base, in either case; `None` for another byte. No digit is above 15.
 pub fn read_digit(byte: u8, base: u64) -> Option<u64>
     ensures value { result ≡ digit_in base byte }
     ensures below { IfSome result (λ v. v < base) }

@@ -30,7 +30,7 @@ use Rattle.can_packed.specs.Verdicts.{class_in, verdict_in}
 abbrev pub fd_frame_at : List CanFrame → ℕ → CanFrame
 fd_frame_at frames place = get_or frames place no_frame
 
--- the moment, winner, length of the frame and whether the winner went off stand in one number: 54, 4, 4 and 1 bits
+-- the moment, winner, length of the frame and whether the winner went off are one number: 54, 4, 4 and 1 bits
 abbrev pub stamp_moment : ℕ → ℕ
 stamp_moment stamp = moment_in (stamp / 512)
 
@@ -88,7 +88,7 @@ frames_needed (kept.FdReceived from s number place m) = place + 1
 frames_needed (kept.FdTried end winner number named accepted off restarted place m) = place + 1
 frames_needed _ = 0
 
--- the places of all are within a list of so many FD frames
+-- the places of all are within a list with this many FD frames
 abbrev pub AreWithin : ℕ → List Kept → Type 0
 AreWithin count = All (λ k. frames_needed k ≤ count)
 
