@@ -25,12 +25,17 @@ pub fn scripts(alloc: Global) -> Result<(), Stop> {
 
 pub fn filters(alloc: Global) -> Result<(), Stop> {
     let both = [Filter::new(0x123, 0x7FF)?, Filter::new(0x2000_0124, 0x7FF)?];
-    let set = FilterSet::from_slice(alloc, &both)?;
-    let copy = set.try_copy(alloc)?;
-    demand(copy.filters() == both.as_slice())?;
-    demand(copy.passes(0x124, false) == set.passes(0x124, false))?;
+    copies_filters(alloc, &both)?;
     let all = FilterSet::all(alloc)?;
     demand(all.filters().len() == 1 && all.passes(0x124, true))
+}
+
+/// A copy of a set of filters has the same ones, and the same frames pass.
+fn copies_filters(alloc: Global, filters: &[Filter]) -> Result<(), Stop> {
+    let set = FilterSet::from_slice(alloc, filters)?;
+    let copy = set.try_copy(alloc)?;
+    demand(copy.filters() == filters)?;
+    demand(copy.passes(0x124, false) == set.passes(0x124, false))
 }
 
 fn holds_two<Q: BoundedQueue<u32>>(alloc: Global) -> Result<(), Stop> {
@@ -61,28 +66,55 @@ fn message(reader: &mut Reader, alloc: Global, piece: &[u8]) -> Result<Message, 
     }
 }
 
+/// A piece ends no message.
+fn gives_nothing(reader: &mut Reader, alloc: Global, piece: &[u8]) -> Result<(), Stop> {
+    let given = fed(reader, alloc, piece)?;
+    demand(given.is_empty())
+}
+
+/// A piece ends one message, with these bytes inside.
+fn gives_message(
+    reader: &mut Reader,
+    alloc: Global,
+    piece: &[u8],
+    inside: &[u8],
+) -> Result<(), Stop> {
+    let message = message(reader, alloc, piece)?;
+    demand(message.inside() == inside)
+}
+
+/// A piece makes a message too long.
+fn gives_too_long(reader: &mut Reader, alloc: Global, piece: &[u8]) -> Result<(), Stop> {
+    let given = fed(reader, alloc, piece)?;
+    demand(given.len() == 1 && matches!(given.first(), Some(Incoming::TooLong)))
+}
+
 pub fn messages(alloc: Global) -> Result<(), Stop> {
     let mut reader = Reader::new(alloc)?;
-    demand(fed(&mut reader, alloc, b"x< send 123 2")?.is_empty())?;
-    let sent = message(&mut reader, alloc, b" 1 2 >< ec")?;
-    demand(sent.inside() == b" send 123 2 1 2 ".as_slice())?;
-    let echo = message(&mut reader, alloc, b"ho >x")?;
-    demand(echo.inside() == b" echo ".as_slice())?;
-    let given = fed(&mut reader, alloc, &[b'<'; 2000])?;
-    demand(given.is_empty())?;
-    let given = fed(&mut reader, alloc, &[b'y'; 2000])?;
-    demand(given.len() == 1 && matches!(given.first(), Some(Incoming::TooLong)))
+    gives_nothing(&mut reader, alloc, b"x< send 123 2")?;
+    gives_message(&mut reader, alloc, b" 1 2 >< ec", b" send 123 2 1 2 ")?;
+    gives_message(&mut reader, alloc, b"ho >x", b" echo ")?;
+    gives_nothing(&mut reader, alloc, &[b'<'; 2000])?;
+    gives_too_long(&mut reader, alloc, &[b'y'; 2000])
 }
 
 pub fn commands(alloc: Global) -> Result<(), Stop> {
     let mut reader = Reader::new(alloc)?;
     let open = message(&mut reader, alloc, b"< open body-control >")?;
-    match Command::read(alloc, Mode::NoBus, &open)? {
-        Command::Open(name) => demand(name.bytes() == b"body-control".as_slice())?,
-        _ => return Err(Stop::Wrong),
-    }
+    opens_body_control(alloc, &open)?;
     let filter = message(&mut reader, alloc, b"< filter 2 123 7FF 20000124 7FF >")?;
-    match Command::read(alloc, Mode::Raw, &filter)? {
+    sets_two_filters(alloc, &filter)
+}
+
+fn opens_body_control(alloc: Global, message: &Message) -> Result<(), Stop> {
+    match Command::read(alloc, Mode::NoBus, message)? {
+        Command::Open(name) => demand(name.bytes() == b"body-control".as_slice()),
+        _ => Err(Stop::Wrong),
+    }
+}
+
+fn sets_two_filters(alloc: Global, message: &Message) -> Result<(), Stop> {
+    match Command::read(alloc, Mode::Raw, message)? {
         Command::SetFilters(set) => demand(set.filters().len() == 2),
         _ => Err(Stop::Wrong),
     }

@@ -8,10 +8,10 @@ use Rattle.can_meter.specs.declared.status.Status.{Status}
 use Rattle.can_meter.specs.declared.rule.View.{View}
 use Rattle.can_meter.specs.declared.rule.View.TheVariants.{Keeps, Watches, Spent}
 use Rattle.can_meter.specs.Publications.{newest, published, with_list, longer_lists, Ends}
-use Rattle.can_meter.specs.Rule.{AllEnd, Metered, Reads, Tells, Stores, watcher, taken_in, told, lists_of, olds_of, IsSeated}
+use Rattle.can_meter.specs.Rule.{AllEnd, Metered, Reads, Returns, Stores, watcher, taken_in, returned, lists_of, olds_of, IsSeated}
 use Rattle.can_meter.specs.Words.{word_of, meant, Fits}
 use Rattle.can_meter.proofs.Lists.{published-with_list}
-use Rattle.can_meter.proofs.Steps.{reads, stores, tells_keeper, tells_gauge, copies, takes_in}
+use Rattle.can_meter.proofs.Steps.{reads, stores, keeper_returns, gauge_returns, copies, takes_in}
 
 -- a seat at a table that is lent is at the table
 pub seated_in : {S : Type 0} (table : TableId) (key : ℕ) (seat : TableId) (me : Me S View) (meter : TableId) (v : View) (lent : TableId) (lent_key : ℕ)
@@ -64,20 +64,20 @@ module _ {S : Type 0} (table : TableId) (key : ℕ) (seat : TableId) (me : Me S 
   seated_taken v w table2 key2 seat2 me2 meter2 seat3 me3 s t same after =
       record { table_is = s.table_is; key_is = s.key_is; seat_is = same ∙ s.seat_is; not_empty = s.not_empty; me_is = after ∙ (λ k. (taken_in (s.me_is k).0 (t.me_is k).0, (s.me_is k).1)) }
 
-  pub keeper_told_at : (slots id : ℕ) (lists older : List (List Status)) → IsSeated table key seat me meter (Keeps lists (older ∷ []))
-      → (seat ≡ table) × (0 < table.words) × Allows Rule slots id me 0 (λ n. n) (Tells (step slots 0 0 0 none) me)
-  keeper_told_at slots id lists older s = (
+  pub keeper_returns_at : (slots id : ℕ) (lists older : List (List Status)) → IsSeated table key seat me meter (Keeps lists (older ∷ []))
+      → (seat ≡ table) × (0 < table.words) × Allows Rule slots id me 0 (λ n. n) (Returns (step slots 0 0 0 none) me)
+  keeper_returns_at slots id lists older s = (
     s.seat_is ∙ sym s.table_is,
     subst (λ t. 0 < t.words) (sym s.table_is) s.not_empty,
-    subst (λ (m : Me S View). Allows Rule slots id m 0 (λ n. n) (Tells (step slots 0 0 0 none) m)) (sym s.me_is) (tells_keeper key slots id 0 lists older),
+    subst (λ (m : Me S View). Allows Rule slots id m 0 (λ n. n) (Returns (step slots 0 0 0 none) m)) (sym s.me_is) (keeper_returns key slots id 0 lists older),
   )
 
-  pub gauge_told_at : (slots id : ℕ) (a b : List (List Status)) → IsSeated table key seat me meter (Watches (longer_lists a b) (a ∷ b ∷ []))
-      → (seat ≡ table) × (0 < table.words) × Allows Rule slots id me 0 (λ n. n) (Tells (step slots 0 0 0 none) me)
-  gauge_told_at slots id a b s = (
+  pub gauge_returns_at : (slots id : ℕ) (a b : List (List Status)) → IsSeated table key seat me meter (Watches (longer_lists a b) (a ∷ b ∷ []))
+      → (seat ≡ table) × (0 < table.words) × Allows Rule slots id me 0 (λ n. n) (Returns (step slots 0 0 0 none) me)
+  gauge_returns_at slots id a b s = (
     s.seat_is ∙ sym s.table_is,
     subst (λ t. 0 < t.words) (sym s.table_is) s.not_empty,
-    subst (λ (m : Me S View). Allows Rule slots id m 0 (λ n. n) (Tells (step slots 0 0 0 none) m)) (sym s.me_is) (tells_gauge key slots id 0 a b),
+    subst (λ (m : Me S View). Allows Rule slots id m 0 (λ n. n) (Returns (step slots 0 0 0 none) m)) (sym s.me_is) (gauge_returns key slots id 0 a b),
   )
 
 -- what a load showed; it says nothing of the number of slots
@@ -101,10 +101,10 @@ keeper_learns {S} me other taken mine theirs is other_is taken_is all =
 
 -- and a gauge, and what it knows then
 pub gauge_learns : {S : Type 0} (me other taken after : Me S View) (mine theirs : List (List Status)) → me ≡ (Watches mine [], []) → other ≡ (Watches theirs [], [])
-    → taken ≡ (taken_in me.0 other.0, me.1) → after.0 ≡ told taken.0 → AllEnd (olds_of taken.0) (lists_of taken.0)
+    → taken ≡ (taken_in me.0 other.0, me.1) → after.0 ≡ returned taken.0 → AllEnd (olds_of taken.0) (lists_of taken.0)
     → Ends mine (lists_of after.0) × Ends theirs (lists_of after.0)
-gauge_learns {S} me other taken after mine theirs is other_is taken_is told_is all =
+gauge_learns {S} me other taken after mine theirs is other_is taken_is returned_is all =
     let whole : taken ≡ (Watches (longer_lists mine theirs) (mine ∷ theirs ∷ []), []) = taken_is ∙ (λ k. (taken_in (is k).0 (other_is k).0, (is k).1)) in
-    let knows : longer_lists mine theirs ≡ lists_of after.0 = sym (ap lists_of told_is ∙ ap (λ m. lists_of (told m.0)) whole) in
+    let knows : longer_lists mine theirs ≡ lists_of after.0 = sym (ap lists_of returned_is ∙ ap (λ m. lists_of (returned m.0)) whole) in
     let ends = subst (λ (m : Me S View). AllEnd (olds_of m.0) (lists_of m.0)) whole all in
     (subst (Ends mine) knows ends.0, subst (Ends theirs) knows ends.1.0)

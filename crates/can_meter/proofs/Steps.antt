@@ -9,7 +9,7 @@ use Rattle.can_meter.specs.declared.status.Status.{Status}
 use Rattle.can_meter.specs.declared.rule.View.{View}
 use Rattle.can_meter.specs.declared.rule.View.TheVariants.{Keeps, Watches, Spent}
 use Rattle.can_meter.specs.Publications.{newest, published, with_list, longer_lists, Ends}
-use Rattle.can_meter.specs.Rule.{AreRising, Knows, Metered, Reads, Tells, Stores, newcomer, watcher, taken_in, lists_of}
+use Rattle.can_meter.specs.Rule.{AreRising, Knows, Metered, Reads, Returns, Stores, newcomer, watcher, taken_in, lists_of}
 use Rattle.can_meter.specs.Words.{word_of, meant, Fits}
 use Rattle.can_meter.proofs.Lists.{lists_with, ends_self, ends_trans, all_end_trans, ends_newest, longer_ends, meant-word_of}
 
@@ -96,15 +96,15 @@ module _ {S : Type 0} (count : ℕ) where
       λ j u apart e. knows_more h.0 h.1 more j u (λ k. apart (k ∙ sym mine.0)) grows (h.5 j u e) in
       (Keeps more [], keeps, tt, (h.0, more, len, now, rise, knows_set h.0 more s.views id (Keeps more []) others (mine.0, refl, tt)), (refl, refl))
 
-  pub tells_keeper : (slots id word : ℕ) (lists olds : List (List Status))
-      → Allows Holds slots id (Keeps lists (olds ∷ []), []) word (λ n. n) (Tells (step slots word 0 0 none) (Keeps lists (olds ∷ []), []))
-  tells_keeper slots id word lists olds s h homes at fits =
+  pub keeper_returns : (slots id word : ℕ) (lists olds : List (List Status))
+      → Allows Holds slots id (Keeps lists (olds ∷ []), []) word (λ n. n) (Returns (step slots word 0 0 none) (Keeps lists (olds ∷ []), []))
+  keeper_returns slots id word lists olds s h homes at fits =
       let mine : Knows h.0 h.1 id (Keeps lists (olds ∷ [])) = h.5 id (Keeps lists (olds ∷ [])) at in
       (Keeps lists [], keeps, tt, stays s h word id (Keeps lists []) (mine.0, mine.1, tt), (refl, refl, (subst (Ends olds) (sym mine.1) mine.2.0, tt)))
 
-  pub tells_gauge : (slots id word : ℕ) (a b : List (List Status))
-      → Allows Holds slots id (Watches (longer_lists a b) (a ∷ b ∷ []), []) word (λ n. n) (Tells (step slots word 0 0 none) (Watches (longer_lists a b) (a ∷ b ∷ []), []))
-  tells_gauge slots id word a b s h homes at fits =
+  pub gauge_returns : (slots id word : ℕ) (a b : List (List Status))
+      → Allows Holds slots id (Watches (longer_lists a b) (a ∷ b ∷ []), []) word (λ n. n) (Returns (step slots word 0 0 none) (Watches (longer_lists a b) (a ∷ b ∷ []), []))
+  gauge_returns slots id word a b s h homes at fits =
       let ls = longer_lists a b in
       let mine : Knows h.0 h.1 id (Watches ls (a ∷ b ∷ [])) = h.5 id (Watches ls (a ∷ b ∷ [])) at in
       let both = longer_ends a b h.1 mine.1.0 mine.1.1.0 in

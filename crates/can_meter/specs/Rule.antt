@@ -64,11 +64,11 @@ taken_in (Keeps lists olds) w = Keeps lists (lists_of w ∷ olds)
 taken_in (Watches lists olds) w = Watches (longer_lists lists (lists_of w)) (lists ∷ lists_of w ∷ olds)
 taken_in Spent w = Spent
 
--- a seat once it has dropped its old lists
-abbrev pub told : View → View
-told (Keeps lists olds) = Keeps lists []
-told (Watches lists olds) = Watches lists []
-told Spent = Spent
+-- a seat once its old lists are returned: it keeps them no longer
+abbrev pub returned : View → View
+returned (Keeps lists olds) = Keeps lists []
+returned (Watches lists olds) = Watches lists []
+returned Spent = Spent
 
 -- a load: the gauge's list of this interface becomes one that it is an end of, and whose newest was found
 abbrev pub Reads : {S : Type 0} → Step S → Me S View → ℕ → Me S View → Type 0
@@ -77,9 +77,9 @@ Reads s v found w =
     × (w.0 ≡ Watches (with_list (lists_of v.0) s.word seen) []) × (w.1 ≡ v.1)
     × IsSuffix (published (lists_of v.0) s.word) seen × AreRising seen × (meant found ≡ newest seen)
 
--- a load: the old lists are ends of the seat's own, and are dropped
-abbrev pub Tells : {S : Type 0} → Step S → Me S View → ℕ → Me S View → Type 0
-Tells s v found w = (w.0 ≡ told v.0) × (w.1 ≡ v.1) × AllEnd (olds_of v.0) (lists_of v.0)
+-- a load that returns the old lists: they are ends of the seat's own
+abbrev pub Returns : {S : Type 0} → Step S → Me S View → ℕ → Me S View → Type 0
+Returns s v found w = (w.0 ≡ returned v.0) × (w.1 ≡ v.1) × AllEnd (olds_of v.0) (lists_of v.0)
 
 -- a store: the keeper's list of this interface has what the word keeps in front
 abbrev pub Stores : {S : Type 0} → Step S → Me S View → ℕ → Me S View → Type 0

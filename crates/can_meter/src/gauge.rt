@@ -4,7 +4,7 @@ ghost use Rattle.can_meter.specs.Publications.{newest, published, longer_lists, 
 ghost use Rattle.can_meter.specs.Readings.{knowing, knowing_of};
 
 use crate::blank::{MeterName, Place, Words};
-use crate::rule::{Copies, Look, TakesIn, Tell};
+use crate::rule::{Copies, Look, Return, TakesIn};
 use crate::status::Status;
 use crate::word::read_word;
 use std::alloc::{AllocError, Global};
@@ -103,7 +103,7 @@ impl<N: MeterName> Gauge<N> {
             name: _,
         } = other;
         self.table.shared.join_seat::<TakesIn>(&mut self.seat, seat);
-        self.table.shared.load::<Tell>(&mut self.seat, 0);
+        self.table.shared.load::<Return>(&mut self.seat, 0);
         self
     }
 }

@@ -4,7 +4,7 @@ ghost use Rattle.can_meter.specs.Readings.{after_publishing};
 
 use crate::blank::{MeterName, Place, Words};
 use crate::gauge::Gauge;
-use crate::rule::{Publish, TakesIn, Tell};
+use crate::rule::{Publish, Return, TakesIn};
 use crate::status::Status;
 use crate::word::word;
 use can_confine::Counters;
@@ -77,6 +77,6 @@ impl<N: MeterName> Keeper<N> {
             name: _,
         } = gauge;
         self.table.shared.join_seat::<TakesIn>(&mut self.seat, seat);
-        self.table.shared.load::<Tell>(&mut self.seat, 0);
+        self.table.shared.load::<Return>(&mut self.seat, 0);
     }
 }

@@ -37,13 +37,13 @@ impl<S> Play<S, View> for Look {
     ghost then = { Reads };
 }
 
-/// A load that compares the lists that were taken in.
-pub struct Tell;
+/// A load that returns the lists that were taken in: each is an end of the seat's own.
+pub struct Return;
 
-impl<S> Play<S, View> for Tell {
-    ghost use Rattle.can_meter.specs.Rule.{Tells};
+impl<S> Play<S, View> for Return {
+    ghost use Rattle.can_meter.specs.Rule.{Returns};
 
-    ghost then = { Tells };
+    ghost then = { Returns };
 }
 
 /// A store of a new publication.

@@ -220,7 +220,9 @@ fn gauge<N: RollName + MeterName, F: FaultSource + Drop, G: Gate + Drop, R: Wait
 }
 
 /// What a gauge reads of an interface: the record's length, the transmit and the receive count.
-fn reading<N: MeterName, R: Abort>(rt: &R, gauge: &mut Gauge<N>, place: usize) -> (u32, u16, u16) {
+fn reading<N: MeterName, R: Abort>(rt: &R, gauge: &mut Gauge<N>, place: usize) -> (u32, u16, u16)
+    ensures { gauge.new.number ≡ gauge.old.number }
+{
     assert!(rt; place < gauge.ifaces());
     let Status { at, counters } = gauge.status(place);
     (at, counters.tec(), counters.rec())
@@ -232,7 +234,9 @@ fn reads<N: MeterName, R: Abort>(
     gauge: &mut Gauge<N>,
     place: usize,
     wanted: (u32, u16, u16),
-) {
+)
+    ensures { gauge.new.number ≡ gauge.old.number }
+{
     assert!(rt; reading(rt, gauge, place) == wanted);
 }
 

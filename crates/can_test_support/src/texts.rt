@@ -52,20 +52,6 @@ fn put_attempts(text: &mut String, first: u8, last: u8) -> Result<(), AllocError
     Ok(())
 }
 
-/// The script that gives this many attempts the same verdict, at most 99 of them.
-pub fn ever(alloc: Global, verdict: &str, count: u8) -> Result<String, AllocError> {
-    let mut script = String::new(alloc);
-    put_verdicts(&mut script, verdict, count)?;
-    Ok(script)
-}
-
-/// The lines of this many attempts of a bench, a microsecond after one another, from 0.000001 on: at most 99 of them.
-pub fn attempts(alloc: Global, count: u8) -> Result<String, AllocError> {
-    let mut lines = String::new(alloc);
-    put_attempts(&mut lines, 1, count)?;
-    Ok(lines)
-}
-
 /// A part of a text.
 #[derive(Clone, Copy)]
 pub enum Part {

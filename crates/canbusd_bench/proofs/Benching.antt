@@ -10,12 +10,12 @@ use Rattle.can_bus.specs.Legal.{IsLegal}
 use Rattle.can_session.specs.declared.bench_run.BenchFault.{BenchFault}
 use Rattle.can_session.specs.declared.bench_run.BenchFault.TheVariants.{BadConfig, BadLine, TooLong, Read, Write, NoMemory}
 use Rattle.can_session.specs.Benches.{BenchState}
-use Rattle.can_session.specs.Runs.{IsBench, Ran, at_start}
+use Rattle.can_session.specs.Runs.{EndsOver, IsBench, Ran, at_start}
 use Rattle.canbusd_options.specs.declared.bench_options.BenchOptions.{BenchOptions}
 use Rattle.canbusd_faults.specs.declared.fault.Fault.{Fault}
 use Rattle.canbusd_faults.specs.declared.fault.Fault.TheVariants as fault
 use Rattle.canbusd_files.specs.Buses.{AreVerdicts, config_of}
-use Rattle.canbusd_bench.specs.Benched.{EndsOver, FailsBy, IsBenched, IsRun, IsStopped, MeetsRefusal, StopsBy, begun}
+use Rattle.canbusd_bench.specs.Benched.{FailsBy, IsBenched, IsRun, IsStopped, MeetsRefusal, StopsBy, begun}
 use Rattle.canbusd_bench.specs.Refusals.{GrowsByRefusal, GrowsQuietly}
 use Rattle.canbusd_bench.specs.inner.Watched.{told}
 use Rattle.canbusd_bench.proofs.Watching.{Watching, loudly, nothing, quiet_if, seen_whole, unknown_refusal, wrote}

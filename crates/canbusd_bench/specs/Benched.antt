@@ -1,14 +1,12 @@
-use Rattle.std.specs.Prelude.{◌≡◌, ◌⊎◌, ℕ, true, List, length, Option, Result, Ok, Err, IsSomeAnd, MatchOption}
+use Rattle.std.specs.Prelude.{◌≡◌, ◌⊎◌, ℕ, true, List, length, Option, Ok, Err, IsSomeAnd, MatchOption}
 use Rattle.std.specs.Io.KnownBytes.{Keeps}
 use Rattle.can_frame.specs.Names.{AreNames, names_in}
 use Rattle.can_fault.specs.Sources.{VerdictMap}
 use Rattle.can_bus.specs.Journal.{Kept}
 use Rattle.can_bus.specs.Legal.{IsLegal}
-use Rattle.can_session.specs.declared.bench_run.BenchFault.{BenchFault}
 use Rattle.can_session.specs.declared.bench_run.BenchFault.TheVariants.{BadConfig}
-use Rattle.can_session.specs.Lines.{Input}
 use Rattle.can_session.specs.Benches.{BenchState}
-use Rattle.can_session.specs.Runs.{IsBench, IsRecordOf, Ends, at_start}
+use Rattle.can_session.specs.Runs.{EndsOver, IsBench, at_start}
 use Rattle.canbusd_options.specs.declared.bench_options.BenchOptions.{BenchOptions}
 use Rattle.canbusd_files.specs.Buses.{AreVerdicts, config_of}
 use Rattle.canbusd_files.specs.Files.{IsOfLogFile, IsOfNames, IsOfRecordFile, IsOfSource}
@@ -22,10 +20,6 @@ use Rattle.canbusd_faults.specs.declared.fault.Fault.TheVariants as fault
 -- the bench that options describe, with these names, before its first line
 abbrev pub begun : BenchOptions → List (List ℕ) → BenchState
 begun o names = at_start names (config_of o.settings (length names)) o.settings.rx_capacity
-
--- a run over the bytes of a reader ends so, wherever it leaves the reader
-abbrev pub EndsOver : {W : Type 0} → (W → Option (List ℕ)) → VerdictMap → Option (List ℕ) → BenchState → W → Result Kept BenchFault → W → Type 0
-EndsOver contents verdicts input at old r new = (now : Input) × Ends IsRecordOf contents verdicts input at old r now new
 
 -- how a run that options describe ends in a fault: nothing was read or written where a number is outside its limits
 abbrev pub StopsBy : {W : Type 0} → (W → Option (List ℕ)) → BenchOptions → List (List ℕ) → VerdictMap → Option (List ℕ) → W → Fault → W → Type 0

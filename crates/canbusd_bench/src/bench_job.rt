@@ -1,6 +1,7 @@
 ghost use Rattle.std.specs.Prelude.{IfErr, IfOk, Ok, OnOk};
 ghost use Rattle.can_bus.specs.Legal.{IsLegal};
-ghost use Rattle.canbusd_bench.specs.Benched.{EndsOver, FailsAs, FailsBy, HasRun, IsBenched, IsOfFiles, IsRun, IsStopped, StopsBy, begun};
+ghost use Rattle.can_session.specs.Runs.{EndsOver};
+ghost use Rattle.canbusd_bench.specs.Benched.{FailsAs, FailsBy, HasRun, IsBenched, IsOfFiles, IsRun, IsStopped, StopsBy, begun};
 
 use crate::input_notes::input_note;
 use crate::recent::Recent;

@@ -3,8 +3,9 @@
 ghost use Rattle.std.specs.Prelude.{◌≡◌, ◌≤◌, []};
 ghost use Rattle.can_meter.specs.Readings.{readings};
 
+use super::{reading, reads};
 use can_confine::Counters;
-use can_meter::{Gauge, Keeper, MeterBlank, MeterName, Status, meter, meter_blank};
+use can_meter::{Gauge, Keeper, MeterBlank, MeterName, meter, meter_blank};
 use std::alloc::Global;
 use std::marker::Brand;
 use std::process::Abort;
@@ -19,20 +20,6 @@ fn counters(tec: u16, rec: u16) -> Counters
         Some(counters) => counters,
         None => unreachable!(),
     }
-}
-
-/// The length of the record in a status, and both counts.
-fn numbers(status: Status) -> (u32, u16, u16) {
-    let Status { at, counters } = status;
-    (at, counters.tec(), counters.rec())
-}
-
-/// A gauge reads these of an interface.
-fn reads<N: MeterName>(rt: &impl Abort, gauge: &mut Gauge<N>, iface: usize, wanted: (u32, u16, u16))
-    ensures { gauge.new.number ≡ gauge.old.number }
-{
-    assert!(rt; iface < gauge.ifaces());
-    assert!(rt; numbers(gauge.status(iface)) == wanted);
 }
 
 fn a_gauge_reads_what_was_published<N: MeterName>(rt: &impl Abort, alloc: Global, blank: MeterBlank)
@@ -108,8 +95,8 @@ fn a_gauge_never_goes_back<N: MeterName + Send + Sync, R: Threads + Abort + Sync
             requires { gauge ≡ readings 0 1 [] }
             ensures { result.0.number ≡ 0 }
         {
-            let first = numbers(gauge.status(0));
-            let second = numbers(gauge.status(0));
+            let first = reading(rt, &mut gauge, 0);
+            let second = reading(rt, &mut gauge, 0);
             (gauge, first, second)
         },
     );

@@ -1,6 +1,6 @@
 //! Runs at the limits: the longest lists and queues, the most sessions and interfaces, long runs and their records.
 use super::support::{Owned, Sockets, TWO_SESSIONS, TWO_STARTED, carries_out, run, runs};
-use can_test_support::{joined, times};
+use can_test_support::{Part, joined, text_of};
 use std::alloc::Global;
 use std::fs;
 use std::test::Fail;
@@ -53,9 +53,12 @@ fn of_each_session(alloc: Global, line: &str) -> Result<String, Fail> {
 fn a_message_sets_250_filters(rt: HostRuntime) -> Result<(), Fail> {
     let _sockets: Sockets = None;
     let alloc = rt.alloc();
-    let others = times(alloc, " 1 F", 249)?;
-    let sent = "feed 1 < send 123 0 >< send 124 0 >\nattempt\nattempt\ndrain 2\n";
-    let rest = joined(alloc, &["feed 2 < filter 250", &others, " 3 F >\n", sent])?;
+    let rest = [
+        Part::Text("feed 2 < filter 250"),
+        Part::Times(249, " 1 F"),
+        Part::Text(" 3 F >\nfeed 1 < send 123 0 >< send 124 0 >\nattempt\nattempt\ndrain 2\n"),
+    ];
+    let rest = text_of(alloc, &rest)?;
     let wanted =
         "2 < ok >\ntried can0 0 done can1 -\ntried can0 1 done can1 -\n2 < frame 123 0.000000  >\n";
     carries_out(&rt, alloc, "canbusd bench can0,can1", &rest, wanted)
@@ -89,8 +92,11 @@ fn sixty_four_sessions_hear_a_frame(rt: HostRuntime) -> Result<(), Fail> {
 fn a_transmit_queue_holds_1024_frames(rt: HostRuntime) -> Result<(), Fail> {
     let _sockets: Sockets = None;
     let alloc = rt.alloc();
-    let sent = times(alloc, "feed 1 < send 123 0 >\n", 1025)?;
-    let rest = joined(alloc, &[&sent, "feed 1 < stats >\n"])?;
+    let rest = [
+        Part::Times(1025, "feed 1 < send 123 0 >\n"),
+        Part::Text("feed 1 < stats >\n"),
+    ];
+    let rest = text_of(alloc, &rest)?;
     let wanted = "1 < error no buffers >\n1 < stats 0 0 0 1024 0 1024 0 1 >\n";
     let line = "canbusd bench --txqueue 1024 can0,can1";
     carries_out(&rt, alloc, line, &rest, wanted)
@@ -100,8 +106,12 @@ fn a_transmit_queue_holds_1024_frames(rt: HostRuntime) -> Result<(), Fail> {
 fn a_receive_queue_holds_65536_items(rt: HostRuntime) -> Result<(), Fail> {
     let _sockets: Sockets = None;
     let alloc = rt.alloc();
-    let rounds = times(alloc, "feed 1 < send 123 0 >\nattempt\n", 65_537)?;
-    let input = joined(alloc, &[TWO_SESSIONS, &rounds, "feed 2 < stats >\n"])?;
+    let input = [
+        Part::Text(TWO_SESSIONS),
+        Part::Times(65_537, "feed 1 < send 123 0 >\nattempt\n"),
+        Part::Text("feed 2 < stats >\n"),
+    ];
+    let input = text_of(alloc, &input)?;
     let line = "canbusd bench --rxqueue 65536 can0,can1";
     let ended = run(&rt, alloc, line, Owned::new(input, 4096))?;
     let last = b"tried can0 65536 done can1 -\n2 < stats 65536 1 0 0 0 0 0 0 >\n";
@@ -146,14 +156,14 @@ fn a_bus_has_sixteen_interfaces(rt: HostRuntime) -> Result<(), Fail> {
 }
 
 /// What this many rounds of a frame, an attempt and a drain write.
-fn rounds_told(alloc: Global, count: u32) -> Result<String, Fail> {
+fn rounds_written(alloc: Global, count: u32) -> Result<String, Fail> {
     let mut all = String::new(alloc);
     for number in 0..count {
         let text = format!(in alloc; "{number}")?;
-        let told = "tried can0 N done can1 -\n2 < frame 123 0.000000  >\n".replace(
+        let written = "tried can0 N done can1 -\n2 < frame 123 0.000000  >\n".replace(
             alloc, "N", &text,
         )?;
-        all.push_str(&told)?;
+        all.push_str(&written)?;
     }
     Ok(all)
 }
@@ -162,10 +172,13 @@ fn rounds_told(alloc: Global, count: u32) -> Result<String, Fail> {
 fn a_long_run_has_a_long_record(rt: HostRuntime) -> Result<(), Fail> {
     let _sockets: Sockets = None;
     let alloc = rt.alloc();
-    let rounds = times(alloc, "feed 1 < send 123 0 >\nattempt\ndrain 2\n", 4000)?;
-    let input = joined(alloc, &[TWO_SESSIONS, &rounds])?;
-    let told = rounds_told(alloc, 4000)?;
-    let output = joined(alloc, &[TWO_STARTED, &told])?;
+    let input = [
+        Part::Text(TWO_SESSIONS),
+        Part::Times(4000, "feed 1 < send 123 0 >\nattempt\ndrain 2\n"),
+    ];
+    let input = text_of(alloc, &input)?;
+    let rounds = rounds_written(alloc, 4000)?;
+    let output = joined(alloc, &[TWO_STARTED, &rounds])?;
     let wanted = (output.as_str(), "", 0);
     let line = "canbusd bench --record long.rec can0,can1";
     runs(&rt, alloc, line, Owned::new(input, 4096), wanted)?;

@@ -1,7 +1,7 @@
 //! Interfaces that come back by themselves, and the records of such runs.
 use super::serving::{connect, has_shape, hears, say};
 use super::support::{NOTHING, Sockets, carries_out, run, runs, same};
-use can_test_support::{attempts, ever, joined, times};
+use can_test_support::{DESTROYED, Part, text_of};
 use canbusd_serve::ServerRuntime;
 use std::alloc::Global;
 use std::io::Read;
@@ -29,13 +29,18 @@ const LEFT_OUT: &str = "canbusd: entry 37: wrong
 
 /// Writes the record of a run in which can0 goes bus off and comes back by itself.
 fn writes_a_restart(rt: &(impl Abort + ServerRuntime), alloc: Global) -> Result<(), Fail> {
-    let script = ever(alloc, "global bit", 32)?;
-    fs::write(rt, "restarted.script", script.as_bytes())?;
-    let tried = attempts(alloc, 34)?;
-    let then = "drain 1\nfeed 1 < send 123 0 >\nattempt\n";
-    let rest = joined(alloc, &[ONE_SENT, &tried, then])?;
-    let told = times(alloc, "tried can0 0 destroyed - -\n", 31)?;
-    let wanted = joined(alloc, &["1 < ok >\n", &told, BACK_AGAIN])?;
+    fs::write(rt, "restarted.script", DESTROYED.as_bytes())?;
+    let rest = [
+        Part::Text(ONE_SENT),
+        Part::Attempts(1, 34),
+        Part::Text("drain 1\nfeed 1 < send 123 0 >\nattempt\n"),
+    ];
+    let wanted = [
+        Part::Text("1 < ok >\n"),
+        Part::Times(31, "tried can0 0 destroyed - -\n"),
+        Part::Text(BACK_AGAIN),
+    ];
+    let (rest, wanted) = (text_of(alloc, &rest)?, text_of(alloc, &wanted)?);
     let line = "canbusd bench --auto-restart 2 --record restarted.rec can0,can1@restarted.script";
     carries_out(rt, alloc, line, &rest, &wanted)?;
     fs::remove_file(rt, "restarted.script")?;
@@ -78,8 +83,7 @@ fn comes_back<R: Abort + ServerRuntime>(rt: &R, opens: &str) {
 fn each_bus_of_a_server_restarts(rt: HostRuntime) -> Result<(), Fail> {
     let _sockets: Sockets = None;
     let alloc = rt.alloc();
-    let script = ever(alloc, "global bit", 32)?;
-    fs::write(&rt, "back.script", script.as_bytes())?;
+    fs::write(&rt, "back.script", DESTROYED.as_bytes())?;
     let line =
         "canbusd serve --auto-restart 5 --sessions 2 --listen ./back can0@back.script can1@back.script";
     let (ended, ()) = thread::join(

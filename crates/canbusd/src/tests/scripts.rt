@@ -1,6 +1,6 @@
 //! Scripts that are followed, and those that are refused.
 use super::support::{Sockets, carries_out, runs};
-use can_test_support::{ever, joined, times};
+use can_test_support::{Part, joined, text_of};
 use canbusd_serve::ServerRuntime;
 use std::alloc::Global;
 use std::fs;
@@ -9,26 +9,24 @@ use std::test::Fail;
 
 const SCRIPT: &str = "followed.script";
 
-/// A frame of session 1 that goes out under this verdict until can0 is bus off: what each attempt but the
-/// last of them reports, what that one reports, and what session 2 has received then.
+/// A frame of session 1 goes out under this verdict until can0 is bus off, and what session 2 has received is drained.
+/// Session 1 sends once more, which is refused. What is written from the first attempt on.
 fn goes_off(
     rt: &(impl Abort + ServerRuntime),
     alloc: Global,
-    verdict: &str,
-    wanted: (&str, &str, &str),
+    verdict: &'static str,
+    wanted: &[Part],
 ) -> Result<(), Fail> {
-    let (each, last, received) = wanted;
-    let script = ever(alloc, verdict, 32)?;
+    let script = text_of(alloc, &[Part::Ever(32, verdict)])?;
     fs::write(rt, SCRIPT, script.as_bytes())?;
-    let attempts = times(alloc, "attempt\n", 32)?;
-    let sent = "feed 1 < send 123 0 >< send 124 0 >\n";
-    let then = "drain 2\nfeed 1 < send 123 0 >\nattempt\n";
-    let rest = joined(alloc, &[sent, &attempts, then])?;
-    let told = times(alloc, each, 31)?;
-    let refused = "1 < error bus off >\nidle\n";
-    let output = joined(alloc, &[&told, last, received, refused])?;
+    let rest = [
+        Part::Text("feed 1 < send 123 0 >< send 124 0 >\n"),
+        Part::Times(32, "attempt\n"),
+        Part::Text("drain 2\nfeed 1 < send 123 0 >\nattempt\n"),
+    ];
+    let (rest, wanted) = (text_of(alloc, &rest)?, text_of(alloc, wanted)?);
     let line = "canbusd bench can0,can1@followed.script";
-    carries_out(rt, alloc, line, &rest, &output)
+    carries_out(rt, alloc, line, &rest, &wanted)
 }
 
 #[test]
@@ -58,20 +56,18 @@ fn follows_scripts(rt: HostRuntime) -> Result<(), Fail> {
         let line = "canbusd bench can0,can1@followed.script";
         carries_out(&rt, alloc, line, rest, wanted)?;
     }
-    let frames = times(alloc, "< frame 123 0.000000  >", 32)?;
-    let received = joined(alloc, &["2 ", &frames, "\n"])?;
-    let lastbit = (
-        "tried can0 0 lastbit can1 -\n",
-        "tried can0 0 lastbit can1 can0\n",
-        received.as_str(),
-    );
-    goes_off(&rt, alloc, "lastbit", lastbit)?;
-    let destroyed = (
-        "tried can0 0 destroyed - -\n",
-        "tried can0 0 destroyed - can0\n",
-        "",
-    );
-    goes_off(&rt, alloc, "global bit", destroyed)?;
+    let lastbit = [
+        Part::Times(31, "tried can0 0 lastbit can1 -\n"),
+        Part::Text("tried can0 0 lastbit can1 can0\n2 "),
+        Part::Times(32, "< frame 123 0.000000  >"),
+        Part::Text("\n1 < error bus off >\nidle\n"),
+    ];
+    goes_off(&rt, alloc, "lastbit", &lastbit)?;
+    let destroyed = [
+        Part::Times(31, "tried can0 0 destroyed - -\n"),
+        Part::Text("tried can0 0 destroyed - can0\n1 < error bus off >\nidle\n"),
+    ];
+    goes_off(&rt, alloc, "global bit", &destroyed)?;
     fs::remove_file(&rt, SCRIPT)?;
     Ok(())
 }

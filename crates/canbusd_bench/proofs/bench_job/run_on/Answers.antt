@@ -1,5 +1,6 @@
 use Rattle.std.proofs.Common.{Ok, subst}
-use Rattle.canbusd_bench.specs.Benched.{EndsOver, StopsBy, begun}
+use Rattle.can_session.specs.Runs.{EndsOver}
+use Rattle.canbusd_bench.specs.Benched.{StopsBy, begun}
 use Rattle.canbusd_bench.proofs.Benching.{ended, stopped}
 use Rattle.canbusd_bench.proofs.bench_job.run_on.Goals as goal
 

@@ -3,7 +3,7 @@ use Rattle.can_meter.specs.declared.rule.View.TheVariants.{Watches}
 use Rattle.can_meter.specs.Publications.{Ends}
 use Rattle.can_meter.specs.Readings.{Readings}
 use Rattle.can_meter.specs.Rule.{lists_of}
-use Rattle.can_meter.proofs.Seated.{seated_in, takes_in_at, seated_taken, gauge_told_at, gauge_learns}
+use Rattle.can_meter.proofs.Seated.{seated_in, takes_in_at, seated_taken, gauge_returns_at, gauge_learns}
 use Rattle.can_meter.proofs.gauge.Gauge.join.Goals as goal
 
 pub join_seat-requires : goal.join_seat-requires
@@ -23,16 +23,16 @@ load-requires g c =
     let w = Watches (lists_of other.0) [] in
     let taken = seated_taken _ _ _ me _ v w _ _ _ other _ _ after c.self.invariant c.other.invariant c.join_seat.ensures.0 c.join_seat.ensures.2 in
     let seated = seated_in _ _ _ after _ _ _ _ (ap (λ t. t.shared.table_id) c.deref-2.ensures) (ap (λ t. t.shared.key) c.deref-2.ensures) taken in
-    gauge_told_at _ _ _ after _ _ _ (lists_of me.0) (lists_of other.0) seated
+    gauge_returns_at _ _ _ after _ _ _ (lists_of me.0) (lists_of other.0) seated
 
 pub returns-clause-this : goal.returns-clause-this
 returns-clause-this g c =
     let me = c.self.inside.seat.me in
     let other = c.other.inside.seat.me in
     let after = c.load.new.seat.me in
-    let told = c.load.ensures.2 in
+    let returned = c.load.ensures.2 in
     let learned =
-    gauge_learns me other c.join_seat.new.seat.me after (lists_of me.0) (lists_of other.0) c.self.invariant.me_is c.other.invariant.me_is c.join_seat.ensures.2 told.0 told.2 in
+    gauge_learns me other c.join_seat.new.seat.me after (lists_of me.0) (lists_of other.0) c.self.invariant.me_is c.other.invariant.me_is c.join_seat.ensures.2 returned.0 returned.2 in
     subst (λ (v : Readings). Ends v.lists (lists_of after.0)) c.self.view_is learned.0
 
 pub returns-clause-that : goal.returns-clause-that
@@ -40,7 +40,7 @@ returns-clause-that g c =
     let me = c.self.inside.seat.me in
     let other = c.other.inside.seat.me in
     let after = c.load.new.seat.me in
-    let told = c.load.ensures.2 in
+    let returned = c.load.ensures.2 in
     let learned =
-    gauge_learns me other c.join_seat.new.seat.me after (lists_of me.0) (lists_of other.0) c.self.invariant.me_is c.other.invariant.me_is c.join_seat.ensures.2 told.0 told.2 in
+    gauge_learns me other c.join_seat.new.seat.me after (lists_of me.0) (lists_of other.0) c.self.invariant.me_is c.other.invariant.me_is c.join_seat.ensures.2 returned.0 returned.2 in
     subst (λ (v : Readings). Ends v.lists (lists_of after.0)) c.other.view_is learned.1

@@ -3,7 +3,7 @@ use Rattle.can_meter.specs.declared.rule.View.TheVariants.{Keeps, Watches}
 use Rattle.can_meter.specs.Publications.{Ends}
 use Rattle.can_meter.specs.Readings.{Readings}
 use Rattle.can_meter.specs.Rule.{lists_of}
-use Rattle.can_meter.proofs.Seated.{seated_in, takes_in_at, seated_taken, keeper_told_at, keeper_learns}
+use Rattle.can_meter.proofs.Seated.{seated_in, takes_in_at, seated_taken, keeper_returns_at, keeper_learns}
 use Rattle.can_meter.proofs.keeper.Keeper.absorb.Goals as goal
 
 pub join_seat-requires : goal.join_seat-requires
@@ -21,7 +21,7 @@ load-requires g c =
     let after = c.join_seat.new.seat.me in
     let taken = seated_taken _ _ _ me _ (Keeps (lists_of me.0) []) (Watches (lists_of other.0) []) _ _ _ other _ _ after c.self.invariant c.gauge.invariant c.join_seat.ensures.0 c.join_seat.ensures.2 in
     let seated = seated_in _ _ _ after _ _ _ _ (ap (λ t. t.shared.table_id) c.deref-2.ensures) (ap (λ t. t.shared.key) c.deref-2.ensures) taken in
-    keeper_told_at _ _ _ after _ _ _ (lists_of me.0) (lists_of other.0) seated
+    keeper_returns_at _ _ _ after _ _ _ (lists_of me.0) (lists_of other.0) seated
 
 pub returns-clause-seen : goal.returns-clause-seen
 returns-clause-seen g c =
