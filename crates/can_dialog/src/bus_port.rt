@@ -85,16 +85,17 @@ fn pass_on<V>(outcome: Result<V, Refusal>) -> Result<V, PortRefusal>
     }
 }
 
-/// The interface with this name. Names are ASCII, so bytes that are no UTF-8 are none of them.
+/// The interface with this name.
 fn interface_named(names: &Names, name: &[u8]) -> Option<Iface>
     ensures { result ≡ place_of names.now name.now }
 {
-    // The proof learns here that the names are good.
-    let _ = names.count();
-    match str::from_utf8(name) {
-        Ok(name) => names.find(name),
-        Err(_) => None,
+    for number in 0..names.count() {
+        let iface = Iface::new(number)?;
+        if names.name(iface)?.as_bytes() == name {
+            return Some(iface);
+        }
     }
+    None
 }
 
 impl<T: BoundedQueue<Pending>, R: BoundedQueue<Received>, A: Arbiter> Port for BusPort<T, R, A> {
