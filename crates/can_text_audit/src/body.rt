@@ -265,7 +265,8 @@ impl Body {
     // One entry more.
     fn add(&mut self, fd: bool)
         requires { self.old.count < 2 ^ 32 - 1 }
-        ensures { self.new ≡ record self.old { count = self.old.count + 1; fd = self.old.fd || fd } }
+        ensures { self.new
+            ≡ record self.old { count = self.old.count + 1; fd = self.old.fd || fd } }
     {
         self.count += 1;
         self.fd |= fd;
