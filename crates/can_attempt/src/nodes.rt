@@ -2,7 +2,7 @@ use can_confine::Counters;
 use can_frame::Iface;
 
 /// The interfaces of a bus as an attempt finds them: how many there are, 1 to 16, and their error
-/// counters by interface number. What stands from place `count` on belongs to nobody.
+/// counters by interface number. Places from `count` on belong to nobody.
 #[derive(Debug, Clone, Copy, PartialEq, Eq)]
 pub struct Nodes {
     /// How many interfaces the bus has.

@@ -27,7 +27,7 @@ impl Countdown {
         Countdown { left: [0; 16] }
     }
 
-    /// An interface that went bus off is restarted in so many attempts from now on, 0 for never.
+    /// An interface that went bus off is restarted in this many attempts from now on, 0 for never.
     pub fn start(&mut self, iface: Iface, attempts: u32, is_off: bool)
         ensures { self.new ≡ counting_down attempts iface is_off self.old }
     {

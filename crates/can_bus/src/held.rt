@@ -27,7 +27,7 @@ pub enum Held {
 }
 
 impl Held {
-    /// No entries, and memory for so many.
+    /// No entries, and memory for this many.
     pub fn packed(alloc: Global, limit: u32) -> Result<Held, AllocError>
         ensures empty { IfOk result (λ h. entries_in h ≡ []) }
         ensures room { IfOk result (λ h. limit ≤ room_in h) }

@@ -71,15 +71,15 @@ pub fn last_bit_attempts_had_that_fault_alone(config: BusConfig)
     ensures { (past : List Entry) → IsLegal config past → All HadThatFaultAlone past }
 {}
 
-/// A number stands on a socket as often as there are attempts that copied the frame of that number.
+/// A number is queued to a socket as often as there are attempts that copied the frame of that number.
 pub fn each_number_stands_once_for_each_attempt(config: BusConfig)
     ensures { (past : List Entry) → IsLegal config past → (i s n : ℕ) →
         count_by (λ m. m == n) (numbers_from i (queued_to config past s))
         ≡ count_by (λ (t : Tried). t.number == n) (copying config past i s) }
 {}
 
-/// A socket of the sending interface itself gets a frame by loopback alone, once it is done: a number
-/// stands there at most once.
+/// A socket of the sending interface itself gets a frame only by loopback, once it is done: each number
+/// at most once.
 pub fn own_copies_are_single(config: BusConfig)
     ensures done { (past : List Entry) → IsLegal config past → (s : ℕ) →
         All (λ t. t.class ≡ class.Done) (copying config past (iface_of past s) s) }
@@ -110,7 +110,7 @@ pub fn no_frame_is_forgotten(config: BusConfig)
         ≡ done_count past i + (length (sent_by past i) - gone_count past i) + lost_count past i }
 {}
 
-/// Each frame that was accepted for sending has one fate, and the counts that an interface tells are how
+/// Each frame that was accepted for sending has one fate, and the counts that an interface reports are how
 /// many frames have each.
 pub fn counts_tell_the_fates(config: BusConfig)
     ensures waiting { (past : List Entry) → IsLegal config past → (i : ℕ) →
@@ -145,7 +145,7 @@ pub fn items_find_room_in_turn(config: BusConfig)
 {}
 
 /// As counts, what is offered to a socket is queued or dropped, and what is queued is taken or left unread
-/// at its close, which tells both counts.
+/// at its close, which reports both counts.
 pub fn each_item_is_counted(config: BusConfig)
     ensures offered { (past : List Entry) → (s : ℕ) →
         length (candidates_for config past s)

@@ -14,7 +14,7 @@ use can_queue::{BoundedQueue, RingQueue};
 use std::alloc::Global;
 use std::marker::Model;
 
-/// A bus that keeps no record: it answers each event as a bus does that was told the same ones, and is for those who
+/// A bus that keeps no record: it answers each event as a bus does that was given the same ones, and is for those who
 /// have the entries elsewhere, as the text of a record that is audited.
 ///
 /// Contracts name the entries so far, the newest first, as `past`. `new` takes memory for the transmit queues and the

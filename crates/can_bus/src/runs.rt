@@ -59,7 +59,7 @@ pub fn run<T: BoundedQueue<Pending>, R: BoundedQueue<Received>, A: Arbiter>(
     ensures headline { Headline bus.new.config bus.new.history }
     ensures err { OnErr result (bus.new ≡ bus.old) }
 {
-    // Looking at the record tells the proof that it is a legal history, before and after.
+    // From a look at the record the proof learns that it is a legal history, before and after.
     let _before = bus.record().len();
     let Ok(mut replies) = Vec::with_capacity(alloc, events.len()) else {
         return Err(RunFault::NoMemory);

@@ -29,7 +29,7 @@ pub struct BusConfig {
     pub ifaces: u8,
     /// Whether every frame is acknowledged, or only where a receiver has it whole.
     pub ack: AckMode,
-    /// The interfaces whose sockets are told of each fault. Bits that name no interface have no effect.
+    /// The interfaces whose sockets are notified of each fault. Bits that name no interface have no effect.
     pub reporting: IfaceSet,
     /// How many frames wait at most in each transmit queue, 1 to 1,024.
     pub tx_capacity: u32,
@@ -108,7 +108,7 @@ impl Opt {
 /// One call on a bus.
 #[derive(Debug, PartialEq, Eq, Drop)]
 pub enum Event {
-    /// Open a socket on an interface, where so many items may wait, 1 to 65,536.
+    /// Open a socket on an interface, where this many items may wait, 1 to 65,536.
     Open(Iface, u32),
     /// Close a socket.
     Close(SocketId),
@@ -153,7 +153,7 @@ pub enum Refusal {
     /// The bus has no such interface.
     #[error("no such interface")]
     NoInterface,
-    /// No socket holds so many items.
+    /// No socket holds this many items.
     #[error("bad capacity")]
     BadCapacity,
     /// As many sockets are open as may be.

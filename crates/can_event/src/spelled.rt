@@ -27,7 +27,7 @@ fn may_restart(config: BusConfig, reply: &Reply) -> bool
     config.auto_restart != 0 || restarted.is_empty()
 }
 
-/// Whether this reply may stand with this event.
+/// Whether this reply may go with this event.
 fn fits_reply(event: &Event, reply: &Reply) -> bool
     ensures { IsTrue result ↔ FitsReply event.now reply.now }
 {

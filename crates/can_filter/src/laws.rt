@@ -21,14 +21,14 @@ pub fn joined_filters_all_have_to_match()
         ↔ ((filters ≢ []) × All (λ f. IsTrue (matches f received)) filters) }
 {}
 
-/// Only which filters there are counts. A filter that stands there twice, or elsewhere in the order, changes
+/// Only which filters there are counts. A filter that is there twice, or elsewhere in the order, changes
 /// nothing.
 pub fn repeated_filters_change_nothing()
     ensures { (one other : List CanFilter) → All (Contains other) one → All (Contains one) other →
         (join : Bool) (received : ℕ) → passes one join received ≡ passes other join received }
 {}
 
-/// A filter without a bit to compare lets every word pass, whatever filters stand beside it.
+/// A filter without a bit to compare lets every word pass, whatever other filters there are.
 pub fn one_open_filter_passes_every_word()
     ensures { (filters : List CanFilter) (received : ℕ) → Contains filters everything →
         IsTrue (passes filters false received) }

@@ -9,8 +9,8 @@ use thiserror::Error;
 #[error("class too large")]
 pub struct ClassTooLarge;
 
-/// An error message frame: its class of 29 bits and its 8 bytes (linux/can/error.h). It tells sockets of
-/// an error, and never stands on the bus.
+/// An error message frame: its class of 29 bits and its 8 bytes (linux/can/error.h). It reports an
+/// error to sockets, and is never on the bus.
 #[derive(Debug, Clone, Copy, PartialEq, Eq)]
 pub struct ErrorFrame {
     class: u32,

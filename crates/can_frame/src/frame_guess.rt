@@ -26,7 +26,7 @@ pub fn guess_item(text: &[u8]) -> Option<Item>
     by_mark(text)
 }
 
-/// The item of a text with the mark behind 3 digits, or behind 8.
+/// The item of a text with the mark after 3 digits, or after 8.
 #[tactic(auto, unfolding(crate::specs::FrameGuess::item_in))]
 fn by_mark(text: &[u8]) -> Option<Item>
     ensures { result ≡ item_in text.now }

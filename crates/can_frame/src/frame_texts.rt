@@ -90,7 +90,7 @@ fn read_upper(text: &[u8]) -> Option<Item>
 }
 
 /// Whether an upper-case text is the item's written form, or that of a remote frame of length 0 with
-/// this length behind it.
+/// this length after it.
 fn spells(text: &[u8], item: &Item) -> bool
     ensures { IsTrue result ↔ IsSpelling text.now item.now }
 {

@@ -159,14 +159,14 @@ impl Frame {
     }
 }
 
-/// Whether there are FD frames of so many bytes.
+/// Whether there are FD frames of this many bytes.
 pub fn is_fd_length(len: usize) -> bool
     ensures { result ≡ is_fd_length len }
 {
     matches!(len, 0..=8 | 12 | 16 | 20 | 24 | 32 | 48 | 64)
 }
 
-/// At most 64 bytes, and zeros behind them.
+/// At most 64 bytes, followed by zeros.
 fn padded(bytes: &[u8]) -> [u8; 64]
     requires { length bytes.now ≤ 64 }
     ensures front { take (length bytes.now) result ≡ bytes.now }

@@ -29,7 +29,7 @@ impl Model for Moment {
 }
 
 impl Moment {
-    /// The moment at so many microseconds, below 10^16.
+    /// The moment at this many microseconds, below 10^16.
     pub fn new(micros: u64) -> Result<Moment, MomentTooLarge>
         ensures { OkIff result (micros < 10 ^ 16) micros }
     {

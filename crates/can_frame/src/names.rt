@@ -135,7 +135,7 @@ fn are_good(text: &str) -> bool
     text.split(',').all(|name| is_name(name))
 }
 
-// Each piece stands first at its own place.
+// The first place of each piece is its own.
 fn are_distinct(text: &str) -> bool
     ensures { IsTrue result ↔ AllPairs ◌≢◌ (names_in text.now) }
 {

@@ -41,7 +41,7 @@ pub fn frame_words(frame: &Frame) -> (u32, u8, [u8; 8])
     (frame.word(), frame.len(), eight_bytes(frame.bytes()))
 }
 
-/// These bytes, with zeros behind them.
+/// These bytes, followed by zeros.
 #[inline(always)]
 fn eight_bytes(bytes: &[u8]) -> [u8; 8]
     requires { length bytes.now ≤ 8 }
@@ -55,7 +55,7 @@ fn eight_bytes(bytes: &[u8]) -> [u8; 8]
     all
 }
 
-/// The moment of so many microseconds.
+/// The moment of this many microseconds.
 pub fn moment_in(micros: u64) -> Moment
     ensures { result ≡ moment_in micros }
 {

@@ -2,7 +2,7 @@
 //!
 //! What is kept gives back the very entry. An entry that a bus answers fits, but for the filters of a socket, which take
 //! memory of their own, as they do anyhow. `PackedRecord` is a list of them with the memory for all taken at once, so that
-//! none is taken when an entry comes. FD frames stand in a second list, for which memory is taken at once as well.
+//! none is taken when an entry comes. FD frames are in a second list, for which memory is taken at once as well.
 //! `PackedList` is one that grows: its memory is taken before an entry comes. `Looked` is an entry that is read there: made
 //! for the look, or borrowed. `Stored` shows how it is kept, for those who read many.
 #![tactic(auto)]

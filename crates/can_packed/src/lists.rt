@@ -40,7 +40,7 @@ impl PackedList {
         }
     }
 
-    /// Takes memory for so many entries more, where it is not there yet.
+    /// Takes memory for this many more entries, where it is not there yet.
     pub fn reserve(&mut self, more: usize) -> Result<(), AllocError>
         ensures entries { self.new.entries ≡ self.old.entries }
         ensures room { OnOk result (length self.old.entries + more ≤ self.new.room) }
@@ -143,7 +143,7 @@ pub fn receive_reply(outcome: Result<bool, Refusal>, room: &Received) -> Reply
     }
 }
 
-/// What stands in a spare box until an entry comes.
+/// What is in a spare box until an entry comes.
 fn blank() -> Entry {
     Entry {
         event: Event::Close(SocketId(0)),

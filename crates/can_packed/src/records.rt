@@ -20,7 +20,7 @@ use std::marker::Model;
 
 /// A list of entries, the oldest first, of 32 bytes each. Memory is taken before an entry comes.
 ///
-/// FD frames stand in a second list, for which memory is taken as well: one for each entry more. Where there are none, that
+/// FD frames are in a second list, for which memory is taken as well: one for each entry more. Where there are none, that
 /// memory is never touched, and costs nothing but addresses.
 #[derive(Drop)]
 pub struct PackedRecord {
@@ -51,7 +51,7 @@ impl PackedRecord {
         }
     }
 
-    /// No entries, and memory for so many.
+    /// No entries, and memory for this many.
     pub fn with_capacity(alloc: Global, limit: u32) -> Result<PackedRecord, AllocError>
         ensures empty { IfOk result (λ r. r.entries ≡ []) }
         ensures room { IfOk result (λ r. limit ≤ r.room) }
@@ -61,7 +61,7 @@ impl PackedRecord {
         Ok(PackedRecord { entries, frames })
     }
 
-    /// Takes memory for so many entries more, and for as many FD frames, where it is not there yet.
+    /// Takes memory for this many more entries, and for as many FD frames, where it is not there yet.
     pub fn reserve(&mut self, more: usize) -> Result<(), AllocError>
         ensures entries { self.new.entries ≡ self.old.entries }
         ensures room { OnOk result (length self.old.entries + more ≤ self.new.room) }

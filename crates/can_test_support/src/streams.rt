@@ -3,7 +3,7 @@ use std::alloc::Global;
 use std::io;
 use std::io::{ErrorKind, Read, Write};
 
-/// A reader of pieces of so many bytes, which fails at the end where it is broken.
+/// A reader of pieces of `size` bytes, which fails at the end where it is broken.
 #[derive(Drop)]
 pub struct Pieces<'a> {
     pub rest: &'a [u8],
@@ -37,7 +37,7 @@ impl Write for Closed {
     }
 }
 
-/// A writer with room for so many bytes, that counts its calls.
+/// A writer that takes `room` more bytes, and counts its calls.
 #[derive(Drop)]
 pub struct Output {
     pub text: Vec<u8>,
