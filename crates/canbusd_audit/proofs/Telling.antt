@@ -1,5 +1,5 @@
 -- What is told of a text that has ended.
-use Rattle.std.proofs.Common.{◌≡◌, ℕ, Bool, true, false, nat_le, List, Option, Some, None, Result, Ok, Err, IfErr, OnOk, if◌then◌else◌, rules, sym, ◌∙◌, subst}
+use Rattle.std.proofs.Common.{◌≡◌, ℕ, inr, Bool, true, false, nat_le, List, Option, Some, None, Result, Ok, Err, IfErr, OnOk, if◌then◌else◌, rules, sym, ◌∙◌, subst}
 use Rattle.std.specs.Io.KnownBytes.{Appends}
 use Rattle.std.proofs.lemmas.List.Elements.{All-get_or}
 use Rattle.std.proofs.lemmas.Option.{get_or_from_slice_get, slice_get_within}
@@ -18,7 +18,7 @@ use Rattle.can_text_audit.specs.TextAudits.{AreTaken, IsWrongText, Tells}
 use Rattle.can_text_audit.specs.declared.text_audit.TextAudit.{TextAudit}
 use Rattle.canbusd_faults.specs.declared.fault.Failure.{Failure}
 use Rattle.canbusd_faults.specs.declared.fault.Fault.{Fault}
-use Rattle.canbusd_audit.specs.Audited.{Faults, FitsLines, HasNote, IsAudited, IsTextIn, IsTold, IsWritten, entries_line}
+use Rattle.canbusd_audit.specs.Audited.{Faults, FaultsFile, FaultsInput, FitsLines, HasNote, IsAudited, IsInputTaken, IsTextIn, IsTold, IsWritten, entries_line}
 
 -- a reply that is told is the legal one
 told-lawful : (past_limit : Bool) (law r : Reply) → Some r ≡ (if past_limit then None else Some law) → r ≡ law
@@ -55,16 +55,17 @@ told text (Err (found.Wrong w)) why h is = subst (Faults text) (sym is) (record 
 
 -- ---- what is told, of the text that a reader had
 
--- what was taken of it
-abbrev pub Taken : Option (List ℕ) → TextAudit → Type 0
-Taken first audit = (text : List ℕ) × IsTextIn first text × AreTaken text audit
-
-pub all_written : (first old new : Option (List ℕ)) (audit : TextAudit) (found : Result ℕ TextFault) (r : Result (Unit {0}) Failure) → Taken first audit → ((text : List ℕ) → AreTaken text audit → Tells text found)
+pub all_written : (first old new : Option (List ℕ)) (audit : TextAudit) (found : Result ℕ TextFault) (r : Result (Unit {0}) Failure) → IsInputTaken first audit → ((text : List ℕ) → AreTaken text audit → Tells text found)
     → OnOk r (IsWritten found old new) → OnOk r ((text : List ℕ) × IsTextIn first text × IsAudited text old new)
 all_written first old new audit found (Ok u) t tells h = (t.0, t.1, written t.0 found old new (tells t.0 t.2) h)
 all_written first old new audit found (Err why) t tells h = tt
 
-pub all_told : (first : Option (List ℕ)) (audit : TextAudit) (found : Result ℕ TextFault) (r : Result (Unit {0}) Failure) → Taken first audit → ((text : List ℕ) → AreTaken text audit → Tells text found)
-    → IfErr r (λ failure. IsTold found failure.fault) → IfErr r (λ failure. (text : List ℕ) × IsTextIn first text × Faults text failure.fault)
+pub all_told : (first : Option (List ℕ)) (audit : TextAudit) (found : Result ℕ TextFault) (r : Result (Unit {0}) Failure) → IsInputTaken first audit → ((text : List ℕ) → AreTaken text audit → Tells text found)
+    → IfErr r (λ failure. IsTold found failure.fault) → IfErr r (λ failure. FaultsInput first failure.fault)
 all_told first audit found (Ok u) t tells h = tt
 all_told first audit found (Err failure) t tells h = (t.0, t.1, told t.0 found failure.fault (tells t.0 t.2) h)
+
+-- the same of the file with this path
+pub told_of_file : (path : List ℕ) (first : Option (List ℕ)) (r : Result (Unit {0}) Failure) → IfErr r (λ failure. FaultsInput first failure.fault) → IfErr r (λ failure. FaultsFile path failure.fault)
+told_of_file path first (Ok u) h = tt
+told_of_file path first (Err failure) h = inr (h.0, h.2)

@@ -13,7 +13,7 @@ use Rattle.can_text_audit.proofs.LineEnds.{nothing_more}
 use Rattle.canbusd_faults.specs.declared.fault.Fault.{Fault}
 use Rattle.canbusd_faults.specs.declared.fault.Fault.TheVariants as fault
 use Rattle.canbusd_files.specs.Files.{IsOfReading}
-use Rattle.canbusd_audit.specs.Audited.{Faults, IsAtFault, IsBefore, IsOfLine, IsRead, IsTextIn, IsUnderway}
+use Rattle.canbusd_audit.specs.Audited.{Faults, FaultsInput, IsAtFault, IsBefore, IsInputTaken, IsOfLine, IsRead, IsTextIn, IsUnderway}
 
 nothing_read : (o : Option (List ℕ)) → Consumes o o []
 nothing_read None = tt
@@ -43,12 +43,12 @@ text_is (Some all) None text h end = absurd h
 text_is (Some all) (Some rest) text h end = sym (h ∙ ap (λ (x : List ℕ). text ++ x) end ∙ append-nil text)
 
 -- the text has ended
-pub ends : (first now : Option (List ℕ)) (audit : TextAudit) → IsUnderway first now audit → IsAtEnd now → (text : List ℕ) × IsTextIn first text × AreTaken text audit
+pub ends : (first now : Option (List ℕ)) (audit : TextAudit) → IsUnderway first now audit → IsAtEnd now → IsInputTaken first audit
 ends first now audit u end = (u.text, text_is first now u.text u.consumed end, u.taken)
 
 -- a line was at fault
 fails : (first now after : Option (List ℕ)) (line : List ℕ) (audit : TextAudit) (why : ReadFault) → IsUnderway first now audit → IsRead now after line
-    → ((text rest : List ℕ) → AreTaken text audit → IsLine line → MayFollow line rest → Reads (text ++ (line ++ rest)) (Err why)) → (text : List ℕ) × IsTextIn first text × Faults text (fault.Record why)
+    → ((text rest : List ℕ) → AreTaken text audit → IsLine line → MayFollow line rest → Reads (text ++ (line ++ rest)) (Err why)) → FaultsInput first (fault.Record why)
 fails None now after line audit why u read step = (u.text ++ (line ++ []), tt, step u.text [] u.taken read.is_line (nothing_more line read.is_line))
 fails (Some all) None after line audit why u read step = absurd u.consumed
 fails (Some all) (Some xs) None line audit why u read step = absurd read.consumed
@@ -61,19 +61,19 @@ of_reading text fault.NoMemory h = tt
 of_reading text why h = absurd h
 
 -- the reader failed, or memory was refused
-pub stops : (first : Option (List ℕ)) (why : Fault) → IsOfReading why → (text : List ℕ) × IsTextIn first text × Faults text why
+pub stops : (first : Option (List ℕ)) (why : Fault) → IsOfReading why → FaultsInput first why
 stops None why h = ([], tt, of_reading [] why h)
 stops (Some all) why h = (all, refl, of_reading all why h)
 
 -- a line was at fault, or the reader failed behind it
 pub fails_so : (first now after : Option (List ℕ)) (line : List ℕ) (audit : TextAudit) (what : ReadFault) (why : Fault) → IsOfLine what why → IsUnderway first now audit → IsRead now after line
-    → ((text rest : List ℕ) → AreTaken text audit → IsLine line → MayFollow line rest → Reads (text ++ (line ++ rest)) (Err what)) → (text : List ℕ) × IsTextIn first text × Faults text why
-fails_so first now after line audit what why (inl is) u read step = subst (λ (w : Fault). (text : List ℕ) × IsTextIn first text × Faults text w) (sym is) (fails first now after line audit what u read step)
+    → ((text rest : List ℕ) → AreTaken text audit → IsLine line → MayFollow line rest → Reads (text ++ (line ++ rest)) (Err what)) → FaultsInput first why
+fails_so first now after line audit what why (inl is) u read step = subst (FaultsInput first) (sym is) (fails first now after line audit what u read step)
 fails_so first now after line audit what why (inr h) u read step = stops first why h
 
 -- the same of a line that the reader still holds
-pub fails_held : (first now : Option (List ℕ)) (audit : TextAudit) (what : ReadFault) (why : Fault) → IsOfLine what why → IsUnderway first now audit → IsAtFault now audit what → (text : List ℕ) × IsTextIn first text × Faults text why
-fails_held first now audit what why (inl is) u fault = subst (λ (w : Fault). (text : List ℕ) × IsTextIn first text × Faults text w) (sym is) (fault first u)
+pub fails_held : (first now : Option (List ℕ)) (audit : TextAudit) (what : ReadFault) (why : Fault) → IsOfLine what why → IsUnderway first now audit → IsAtFault now audit what → FaultsInput first why
+fails_held first now audit what why (inl is) u fault = subst (FaultsInput first) (sym is) (fault first u)
 fails_held first now audit what why (inr h) u fault = stops first why h
 
 -- ---- one line

@@ -15,7 +15,7 @@ use Rattle.can_text_audit.specs.declared.text_audit.TextAudit.{TextAudit}
 use Rattle.can_text_audit.specs.TextAudits.{AreTaken, IsLine, MayFollow}
 use Rattle.canbusd_faults.specs.declared.fault.Fault.{Fault}
 use Rattle.canbusd_faults.specs.declared.fault.Fault.TheVariants as fault
-use Rattle.canbusd_files.specs.Files.{IsOfReading}
+use Rattle.canbusd_files.specs.Files.{IsOfFile, IsOfReading}
 use Rattle.canbusd_audit.specs.declared.held.Held.{Held}
 use Rattle.canbusd_audit.specs.declared.held.Held.TheVariants as held
 
@@ -32,6 +32,10 @@ pub record IsAudited (text : List ℕ) (old new : Option (List ℕ)) : Type 0 wh
   pub whole : IsTextOf text config entries
   pub legal : IsLegal config (reverse entries)
   pub wrote : Appends old new (entries_line (length entries))
+
+-- a text that a file may hold is that of a legal history, and how many entries it has was written
+abbrev pub AuditsFile : {W : Type 0} → (W → Option (List ℕ)) → W → W → Type 0
+AuditsFile contents old new = (text : List ℕ) × IsAudited text (contents old) (contents new)
 
 -- what a fault says of a record's entries: the first wrong one is told; of the writer and of memory it says nothing
 abbrev pub SaysOf : BusConfig → List Entry → Fault → Type 0
@@ -58,6 +62,30 @@ Faults text why = IsBlamed text why
 abbrev pub IsTextIn : Option (List ℕ) → List ℕ → Type 0
 IsTextIn None text = Unit {0}
 IsTextIn (Some all) text = text ≡ all
+
+-- the text that a reader had is that of a legal history, and how many entries it has was written
+abbrev pub Audits : {W : Type 0} → Option (List ℕ) → (W → Option (List ℕ)) → W → W → Type 0
+Audits input contents old new = (text : List ℕ) × IsTextIn input text × IsAudited text (contents old) (contents new)
+
+-- what a fault says of the text that a reader had
+abbrev pub FaultsInput : Option (List ℕ) → Fault → Type 0
+FaultsInput input why = (text : List ℕ) × IsTextIn input text × Faults text why
+
+-- a fault of the file with this path, or of a text that it may hold
+abbrev pub FaultsFile : List ℕ → Fault → Type 0
+FaultsFile path why = IsOfFile path why ⊎ ((text : List ℕ) × Faults text why)
+
+-- the lines of the text that a reader had were taken
+abbrev pub IsInputTaken : Option (List ℕ) → TextAudit → Type 0
+IsInputTaken input audit = (text : List ℕ) × IsTextIn input text × AreTaken text audit
+
+-- an audit takes these lines too
+abbrev pub TakesMore : TextAudit → List ℕ → TextAudit → Type 0
+TakesMore before lines after = (text : List ℕ) → AreTaken text before → AreTaken (text ++ lines) after
+
+-- whatever follows it, this text is at fault after the lines that were taken
+abbrev pub IsWrongNext : TextAudit → List ℕ → ReadFault → Type 0
+IsWrongNext audit next why = (text after : List ℕ) → AreTaken text audit → Reads (text ++ (next ++ after)) (Err why)
 
 -- the fault of a line, or one of reading or of memory
 abbrev pub IsOfLine : ReadFault → Fault → Type 0

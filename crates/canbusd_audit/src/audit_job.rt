@@ -1,5 +1,5 @@
-ghost use Rattle.std.specs.Prelude.{List, ℕ, IfErr, OnOk};
-ghost use Rattle.canbusd_audit.specs.Audited.{Faults, IsAudited, IsTextIn};
+ghost use Rattle.std.specs.Prelude.{IfErr, OnOk};
+ghost use Rattle.canbusd_audit.specs.Audited.{Audits, AuditsFile, FaultsFile, FaultsInput};
 
 use crate::ends::tell_end;
 use crate::line_taking::take_lines;
@@ -17,7 +17,8 @@ pub fn audit_file<'a, H: Files, W: Write>(
     path: &'a str,
     output: &mut W,
 ) -> Result<(), Failure<'a>>
-    ensures { OnOk result ((text : List ℕ) × IsAudited text (W.contents output.old) (W.contents output.new)) }
+    ensures legal { OnOk result (AuditsFile W.contents output.old output.new) }
+    ensures fault { IfErr result (λ failure. FaultsFile path.now failure.fault) }
 {
     let file = open_file(rt, alloc, path)?;
     let Ok(mut input) = BufReader::new(alloc, file) else {
@@ -36,8 +37,8 @@ pub fn audit_lines<'a, R: BufRead, W: Write>(
     input: &mut R,
     output: &mut W,
 ) -> Result<(), Failure<'a>>
-    ensures legal { OnOk result ((text : List ℕ) × IsTextIn (R.remaining input.old) text × IsAudited text (W.contents output.old) (W.contents output.new)) }
-    ensures fault { IfErr result (λ failure. (text : List ℕ) × IsTextIn (R.remaining input.old) text × Faults text failure.fault) }
+    ensures legal { OnOk result (Audits (R.remaining input.old) W.contents output.old output.new) }
+    ensures fault { IfErr result (λ failure. FaultsInput (R.remaining input.old) failure.fault) }
 {
     let mut audit = TextAudit::new(alloc);
     let lines = take_lines(alloc, path, input, &mut audit)?;

@@ -1,7 +1,5 @@
-ghost use Rattle.std.specs.Prelude.{◌≡◌, ◌≤◌, ◌++◌, Err, IfOk, IfSome, IsNone, List, length, take, ℕ};
-ghost use Rattle.can_record.specs.RecordFaults.{Reads};
-ghost use Rattle.can_text_audit.specs.TextAudits.{AreTaken};
-ghost use Rattle.canbusd_audit.specs.Audited.{BecomesOf};
+ghost use Rattle.std.specs.Prelude.{◌≡◌, ◌≤◌, IfOk, IfSome, IsNone, length, take};
+ghost use Rattle.canbusd_audit.specs.Audited.{BecomesOf, IsWrongNext, TakesMore};
 
 use can_record::ReadFault;
 use can_text_audit::TextAudit;
@@ -65,8 +63,8 @@ fn carry_held(
     lines: &mut u64,
 ) -> (usize, Option<ReadFault>)
     ensures within { result.0 ≤ length held.now }
-    ensures taken { IsNone result.1 → (text : List ℕ) → AreTaken text audit.old → AreTaken (text ++ take result.0 held.now) audit.new }
-    ensures fault { IfSome result.1 (λ why. (text after : List ℕ) → AreTaken text audit.old → Reads (text ++ (held.now ++ after)) (Err why)) }
+    ensures taken { IsNone result.1 → TakesMore audit.old (take result.0 held.now) audit.new }
+    ensures fault { IfSome result.1 (λ why. IsWrongNext audit.old held.now why) }
 {
     let mut len = 0;
     while let Some(place) = memchr(b'\n', &held[len..]) {

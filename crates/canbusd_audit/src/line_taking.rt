@@ -1,6 +1,6 @@
-ghost use Rattle.std.specs.Prelude.{[], List, ℕ, IfErr, IfOk, OnOk};
+ghost use Rattle.std.specs.Prelude.{[], IfErr, IfOk, OnOk};
 ghost use Rattle.can_text_audit.specs.TextAudits.{AreTaken};
-ghost use Rattle.canbusd_audit.specs.Audited.{Faults, IsNextLine, IsOfLine, IsTextIn};
+ghost use Rattle.canbusd_audit.specs.Audited.{FaultsInput, IsInputTaken, IsNextLine, IsOfLine};
 ghost use Rattle.canbusd_files.specs.Files.{IsOfReading};
 
 use crate::held::{Held, take_held};
@@ -24,8 +24,8 @@ pub fn take_lines<'a, R: BufRead>(
     audit: &mut TextAudit,
 ) -> Result<u64, Failure<'a>>
     requires { AreTaken [] audit.old }
-    ensures taken { OnOk result ((text : List ℕ) × IsTextIn (R.remaining input.old) text × AreTaken text audit.new) }
-    ensures fault { IfErr result (λ failure. (text : List ℕ) × IsTextIn (R.remaining input.old) text × Faults text failure.fault) }
+    ensures taken { OnOk result (IsInputTaken (R.remaining input.old) audit.new) }
+    ensures fault { IfErr result (λ failure. FaultsInput (R.remaining input.old) failure.fault) }
 {
     let mut line = Vec::new(alloc);
     let mut lines = 0;
