@@ -30,7 +30,7 @@ fn same_at<T: PartialEq + Debug + Drop, C: Debug + Drop>(
     assert_eq!(rt; got, expected, "at {case:?}");
 }
 
-/// A bus of so many interfaces, made for so many events.
+/// A bus of this many interfaces, made for this many events.
 fn config(ifaces: u8, limit: u32) -> BusConfig {
     BusConfig {
         reporting: IfaceSet(0b101),

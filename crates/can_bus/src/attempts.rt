@@ -72,7 +72,7 @@ pub fn begun_anew(nodes: &Nodes, restarted: IfaceSet) -> [Counters; 16]
 
 impl<T: BoundedQueue<Pending>, R: BoundedQueue<Received>, A: Arbiter> State<T, R, A> {
     /// Tries the frame that wins the bus, if there is one, in an attempt that then restarts these interfaces, and
-    /// tells the sockets.
+    /// notifies the sockets.
     fn try_head(
         &mut self,
         config: BusConfig,
@@ -116,7 +116,7 @@ impl<T: BoundedQueue<Pending>, R: BoundedQueue<Received>, A: Arbiter> State<T, R
         Some(tried)
     }
 
-    /// Restarts these interfaces at the end of an attempt, if any, and tells the sockets.
+    /// Restarts these interfaces at the end of an attempt, if any, and notifies the sockets.
     fn restart_all(&mut self, restarted: IfaceSet, moment: Moment)
         requires sixteen { length self.old.nodes.counters ≡ 16 }
         requires dropped { All (λ v. v.dropped + 1 < 2 ^ 64) self.old.sockets }
@@ -130,7 +130,7 @@ impl<T: BoundedQueue<Pending>, R: BoundedQueue<Received>, A: Arbiter> State<T, R
     }
 
     /// Tries the frame that wins the bus, restarts the interfaces that have been off for long enough, and
-    /// tells the sockets.
+    /// notifies the sockets.
     pub fn attempt(&mut self, config: BusConfig, moment: Moment, verdict: Verdict) -> Attempt
         requires few { self.old.nodes.count ≤ 16 }
         requires sixteen { length self.old.nodes.counters ≡ 16 }
@@ -151,7 +151,7 @@ impl<T: BoundedQueue<Pending>, R: BoundedQueue<Received>, A: Arbiter> State<T, R
         }
     }
 
-    /// Restarts an interface that is bus off, and tells the sockets.
+    /// Restarts an interface that is bus off, and notifies the sockets.
     pub fn restart(&mut self, iface: Iface, moment: Moment) -> Reply
         requires { All (λ v. v.dropped + 1 < 2 ^ 64) self.old.sockets }
         ensures { Restarts self.old iface moment result self.new }

@@ -38,7 +38,11 @@ impl Model for Record {
 
     ghost Value = { Kept };
 
-    ghost view = { λ r. record { config = r.config; history = reverse (entries_in r.held); room = room_in r.held } };
+    ghost view = { λ r. record {
+      config = r.config;
+      history = reverse (entries_in r.held);
+      room = room_in r.held;
+    } };
 
     ghost invariant = { λ r. IsRecord r.config (entries_in r.held) };
 }

@@ -30,7 +30,16 @@ impl<R: BoundedQueue<Received>> Model for Socket<R> {
 
     ghost Value = { SocketState };
 
-    ghost view = { λ s. record { number = s.number; iface = s.iface; capacity = R.capacity_of s.queue; filters = s.filters; options = s.options; waiting = R.contents s.queue; taken = s.taken; dropped = s.dropped } };
+    ghost view = { λ s. record {
+      number = s.number;
+      iface = s.iface;
+      capacity = R.capacity_of s.queue;
+      filters = s.filters;
+      options = s.options;
+      waiting = R.contents s.queue;
+      taken = s.taken;
+      dropped = s.dropped;
+    } };
 }
 
 impl<R: BoundedQueue<Received>> Socket<R> {

@@ -46,7 +46,15 @@ impl<T: BoundedQueue<Pending>, R: BoundedQueue<Received>, A: Arbiter> Model for 
 
     ghost Value = { Parts };
 
-    ghost view = { λ s. record { lines = s.lines.items; keys = A.keys_of s.arbiter; nodes = s.nodes; left = s.countdown; sockets = s.sockets.items; opened = s.opened; tried = s.tried } };
+    ghost view = { λ s. record {
+      lines = s.lines.items;
+      keys = A.keys_of s.arbiter;
+      nodes = s.nodes;
+      left = s.countdown;
+      sockets = s.sockets.items;
+      opened = s.opened;
+      tried = s.tried;
+    } };
 
     ghost invariant = { λ s. 64 ≤ vec_capacity s.sockets };
 }

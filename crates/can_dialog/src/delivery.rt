@@ -32,7 +32,8 @@ impl Delivery {
 
     /// Writes the text of it, if there is one, in one call. Returns whether the writer took it.
     pub fn write<W: Write>(self, room: &Received, out: &mut W) -> bool
-        ensures wrote { IsTrue result → Wrote W.contents out.old (delivery_text self room.now) out.new }
+        ensures wrote { IsTrue result →
+            Wrote W.contents out.old (delivery_text self room.now) out.new }
         ensures some { result ≡ false → delivery_text self room.now ≢ [] }
     {
         match self {

@@ -107,7 +107,8 @@ impl Session {
         requires { IsNotRaw self.old.dialog.stage }
         ensures said { OnOk result (Wrote W.contents out.old greeting out.new × (self.new ≡ self.old)) }
         ensures ended { (result ≡ Err SessionFault.Ended) ↔ IsSessionOver self.old }
-        ensures nothing { result ≡ Err SessionFault.Ended → (self.new ≡ self.old) × (out.new ≡ out.old) }
+        ensures nothing { result ≡ Err SessionFault.Ended →
+            (self.new ≡ self.old) × (out.new ≡ out.old) }
         ensures memory { result ≢ Err SessionFault.NoMemory }
         ensures cut { result ≡ Err SessionFault.Write → self.new ≡ ended_session self.old }
     {
@@ -250,7 +251,8 @@ impl Session {
         ensures done { OnOk result (Finishes P.step self.old.dialog port.old port.new self.new.dialog) }
         ensures keeps { OnOk result (self.new.kept ≡ self.old.kept) }
         ensures ended { (result ≡ Err SessionFault.Ended) ↔ IsSessionOver self.old }
-        ensures nothing { result ≡ Err SessionFault.Ended → (self.new ≡ self.old) × (port.new ≡ port.old) }
+        ensures nothing { result ≡ Err SessionFault.Ended →
+            (self.new ≡ self.old) × (port.new ≡ port.old) }
         ensures faults { OnErr result (result ≡ Err SessionFault.Ended) }
     {
         if let Stage::Ended = self.dialog.stage {

@@ -37,7 +37,12 @@ impl<N: RollName + MeterName, F: FaultSource + Drop, G: Gate + Drop> Model for W
 
     ghost Value = { BusSeen };
 
-    ghost view = { λ w. record { number = w.station; names = w.names; pace_ms = w.pace_ms; rx_capacity = w.rx_capacity } };
+    ghost view = { λ w. record {
+      number = w.station;
+      names = w.names;
+      pace_ms = w.pace_ms;
+      rx_capacity = w.rx_capacity;
+    } };
 }
 
 impl<N: RollName + MeterName, F: FaultSource + Drop, G: Gate + Drop> Wire<N, F, G> {
@@ -84,7 +89,10 @@ impl<N: RollName + MeterName, F: FaultSource + Drop, G: Gate + Drop> Model for H
 
     ghost view = { λ h. h.wires.items };
 
-    ghost invariant = { λ h. NumberedFrom 0 h.wires.items × AllApart (names_of h.wires.items) × All (λ b. AreNames b.names) h.wires.items × (length h.wires.items ≤ 16) × (h.settled.items ≡ []) × (length h.wires.items ≤ vec_capacity h.settled) };
+    ghost invariant = { λ h.
+        NumberedFrom 0 h.wires.items × AllApart (names_of h.wires.items)
+        × All (λ b. AreNames b.names) h.wires.items × (length h.wires.items ≤ 16)
+        × (h.settled.items ≡ []) × (length h.wires.items ≤ vec_capacity h.settled) };
 }
 
 impl<N: RollName + MeterName, F: FaultSource + Drop, G: Gate + Drop> Hub<N, F, G> {
@@ -197,7 +205,8 @@ impl<N: RollName + MeterName, F: FaultSource + Drop, G: Gate + Drop> Hub<N, F, G
     ) -> Result<Vec<Settled>, SettleFault>
         requires { length passes.items ≡ length self }
         ensures settled { IfOk result (λ v. AllSettle passes.items v.items) }
-        ensures refused { MatchResult result (λ _. AllOwn 0 passes.items) (λ f. FirstForeign passes.items f.bus) }
+        ensures refused { MatchResult result (λ _. AllOwn 0 passes.items)
+            (λ f. FirstForeign passes.items f.bus) }
     {
         let Hub { wires, mut settled } = self;
         let mut lists = passes.into_iter();

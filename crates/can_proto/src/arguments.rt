@@ -15,7 +15,8 @@ use std::alloc::Global;
 
 /// The word of a command that takes one.
 fn read_word(rest: &[u8]) -> Result<&[u8], ProtoFault>
-    ensures { Gives (result_map_both (λ word. word.now) (λ e. e) result) (only (words_of rest.now)) }
+    ensures { Gives (result_map_both (λ word. word.now) (λ e. e) result)
+        (only (words_of rest.now)) }
 {
     let Some((word, rest)) = next_word(rest) else {
         return Err(ProtoFault::BadCount);

@@ -26,7 +26,8 @@ impl Model for Reader {
 
     ghost view = { λ r. text_of r.is_open r.inside.items };
 
-    ghost invariant = { λ r. IsKept (text_of r.is_open r.inside.items) × (1024 ≤ vec_capacity r.inside) };
+    ghost invariant = { λ r.
+        IsKept (text_of r.is_open r.inside.items) × (1024 ≤ vec_capacity r.inside) };
 }
 
 impl Reader {

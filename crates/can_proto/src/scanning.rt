@@ -141,7 +141,8 @@ fn push_message(
     held: &[u8],
     more: &[u8],
 ) -> Result<(), AllocError>
-    ensures { IfOk result (λ _. out.new.items ≡ out.old.items ++ Given (held.now ++ more.now) ∷ []) }
+    ensures { IfOk result (λ _.
+        out.new.items ≡ out.old.items ++ Given (held.now ++ more.now) ∷ []) }
 {
     out.push(Incoming::Message(Message::joined(alloc, held, more)?))?;
     Ok(())

@@ -37,7 +37,8 @@ fn letters(text: &[u8]) -> usize
 
 /// The first word, and what follows it.
 pub fn next_word(text: &[u8]) -> Option<(&[u8], &[u8])>
-    ensures { MatchOption result (words_of text.now ≡ []) (λ found. BeginsWith found.0.now found.1.now text.now) }
+    ensures { MatchOption result (words_of text.now ≡ []) (λ found.
+        BeginsWith found.0.now found.1.now text.now) }
 {
     let start = blanks(text);
     if start == text.len() {

@@ -9,7 +9,7 @@ use can_filter::Filter;
 use can_frame::Item;
 use std::alloc::AllocError;
 
-/// The words of an event, a space behind each.
+/// The words of an event, a space after each.
 pub fn put_event(out: &mut Vec<u8>, event: &Event) -> Result<(), AllocError>
     ensures { OnOk result (out.new.items ≡ out.old.items ++ spaced (event_words event.now)) }
 {

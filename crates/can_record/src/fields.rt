@@ -133,7 +133,7 @@ pub fn frame_field(text: &[u8]) -> Option<(Frame, &[u8])>
     }
 }
 
-/// A set of interfaces, behind so many bytes.
+/// A set of interfaces, after this many bytes.
 #[tactic(auto, unfolding(crate::specs::inner::Reading::set_behind))]
 pub fn set_behind(front: usize, text: &[u8]) -> Option<(IfaceSet, &[u8])>
     requires { front ≤ length text.now }

@@ -11,7 +11,7 @@ use can_frame::IfaceSet;
 use can_packed::verdicts::class_in;
 use can_packed::{Kept, stamp_moment, verdict_in};
 
-/// The line of a packed entry, if it is of a usual kind; else what stands in the room means nothing. It is written from
+/// The line of a packed entry, if it is of a usual kind; else what is in the room means nothing. It is written from
 /// the packed fields: no frame, event or reply is made, which would take longer than the line.
 pub(crate) fn push_kept(line: &mut ShortLine, kept: &Kept) -> bool
     requires { line.old ≡ [] }

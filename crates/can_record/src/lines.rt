@@ -139,7 +139,7 @@ pub fn begins(text: &[u8], front: &[u8]) -> bool
     text.starts_with(front)
 }
 
-/// What follows so many bytes.
+/// What follows this many bytes.
 #[tactic(auto, using(crate::proofs::Wording::rest_of))]
 pub(crate) fn behind(text: &[u8], count: usize) -> &[u8]
     requires { count ≤ length text.now }

@@ -14,7 +14,7 @@ use std::alloc::{AllocError, Global};
 /// The record of a text, as `record_text` writes it: no other text is taken.
 ///
 /// `BadVersion` where the text does not begin with the first line of a version, and otherwise `BadLine` with the first
-/// line that is wrong or missing, from 1; where the text goes on behind its end, that is the line behind the end. Last,
+/// line that is wrong or missing, from 1; where the text goes on after its end, that is the line after the end. Last,
 /// `BadVersion` where a text of version 3 has neither an FD frame nor the option for such.
 /// The time is linear in the text, and nothing is allocated for a line but the filters that it sets.
 pub fn read_record(alloc: Global, text: &str) -> Result<Record, ReadFault>
@@ -74,7 +74,7 @@ fn read_front<'a>(
     Ok((version, config, behind(rest, buffer.len())))
 }
 
-/// Whether the text ends here, after so many entries.
+/// Whether the text ends here, after this many entries.
 fn read_end(buffer: &mut Vec<u8>, count: usize, text: &[u8]) -> Result<(), ReadFault>
     requires { count < 2 ^ 63 }
     ensures { Ends count text.now result }
@@ -94,8 +94,8 @@ fn read_end(buffer: &mut Vec<u8>, count: usize, text: &[u8]) -> Result<(), ReadF
     Ok(())
 }
 
-/// The entries of the lines that stand here in the record of this bus in this version, up to the first place where none
-/// does, and what follows there.
+/// The entries of the lines that are here in the record of this bus in this version, up to the first place where there
+/// is none, and what follows there.
 fn read_lines<'a>(
     alloc: Global,
     version: Version,

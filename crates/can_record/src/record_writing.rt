@@ -20,7 +20,7 @@ use std::io::Write;
 
 /// The text of a record: a first line that names its version, a line of the bus, one for each entry, the
 /// oldest first, and one that says how many entries there were. Each ends with LF, and the bytes are ASCII.
-/// The version is 3 where an FD frame or the option for such stands in the record; else 2 where interfaces are restarted
+/// The version is 3 where the record has an FD frame or the option for such; else 2 where interfaces are restarted
 /// automatically, and else 1.
 ///
 /// One record has one text, and one text has one record. The text takes some 40 bytes an entry; it grows in
@@ -102,7 +102,7 @@ fn write_line<W: Write>(line: &mut Vec<u8>, stored: &Stored<'_>, writer: &mut W)
     Ok(())
 }
 
-/// The line of an entry as it is stored, if it is packed and of a usual kind; else what stands in the room means nothing.
+/// The line of an entry as it is stored, if it is packed and of a usual kind; else what is in the room means nothing.
 fn push_stored(line: &mut ShortLine, stored: &Stored<'_>) -> bool
     requires { line.old ≡ [] }
     ensures { IsTrue result → line.new ≡ stored_line stored.now }

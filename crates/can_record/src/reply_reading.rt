@@ -145,7 +145,7 @@ fn tried_field(moment: Moment, text: &[u8]) -> Option<(Reply, &[u8])>
     Some((Reply::Tried(tried), rest))
 }
 
-/// The interfaces that an attempt restarted, behind the first word of a text; none where the line ends there.
+/// The interfaces that an attempt restarted, after the first word of a text; none where the line ends there.
 #[tactic(auto, unfolding(crate::specs::inner::Reading::restarted_at))]
 fn restarted_field(text: &[u8]) -> Option<(IfaceSet, &[u8])>
     ensures { with_rest result ≡ restarted_at text.now }

@@ -14,7 +14,7 @@ use can_bus::{Event, Received, Reply, SocketId, Tried};
 use can_fault::Verdict;
 use can_frame::{Frame, Iface, IfaceSet, Item, Moment};
 
-/// The line of an event with this reply, if it is of a usual kind; else what stands in the room means nothing.
+/// The line of an event with this reply, if it is of a usual kind; else what is in the room means nothing.
 pub(crate) fn push_answered(line: &mut ShortLine, event: &Event, reply: &Reply) -> bool
     requires { line.old ≡ [] }
     ensures { IsTrue result → line.new ≡ answered_line event.now reply.now [] }

@@ -23,7 +23,7 @@ pub enum Version {
 }
 
 impl Version {
-    /// The version of the record of this bus, where an FD frame or the option for such stands in it, or none does.
+    /// The version of the record of this bus, where it has an FD frame or the option for such, or has none.
     pub(crate) fn of(config: BusConfig, fd: bool) -> Version
         ensures { result ≡ version_for config fd }
     {
@@ -70,7 +70,7 @@ impl Version {
     }
 }
 
-/// Whether an FD frame or the option for such stands in a record.
+/// Whether a record has an FD frame or the option for such.
 pub(crate) fn record_has_fd(record: &Record) -> bool
     ensures { result ≡ list_any has_fd (reverse «record».now.history) }
 {
@@ -126,7 +126,7 @@ fn entries_have_fd(entries: &[Entry]) -> bool
         .any(|entry| has_fd(&entry.event, &entry.reply))
 }
 
-/// Whether an FD frame or the option for such stands in the line of an event with this reply: version 3 alone has one.
+/// Whether the line of an event with this reply has an FD frame or the option for such: only version 3 has one.
 pub fn has_fd(event: &Event, reply: &Reply) -> bool
     ensures { result ≡ has_fd (entry_of event.now reply.now) }
 {

@@ -66,7 +66,8 @@ fn note_attempt(config: BusConfig, nodes: &mut Nodes, tried: &Tried, verdict: Ve
 
 /// What a restart does to them.
 fn note_restart(nodes: &mut Nodes, iface: Iface)
-    ensures { nodes.new ≡ record nodes.old { counters = slice_set nodes.old.counters iface at_start } }
+    ensures { nodes.new
+        ≡ record nodes.old { counters = slice_set nodes.old.counters iface at_start } }
 {
     nodes.counters[iface.number() as usize] = Counters::zero();
 }

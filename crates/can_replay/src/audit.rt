@@ -49,7 +49,8 @@ pub fn audit(alloc: Global, record: &Record) -> Result<(), AuditFault>
     ensures wrong { IfErr result (Blames «record».now.config (reverse «record».now.history)) }
 
     // A legal record is never called wrong.
-    ensures spared { HasLegalHistory «record».now → IfErr result (λ why. why ≡ AuditFault.NoMemory) }
+    ensures spared { HasLegalHistory «record».now →
+        IfErr result (λ why. why ≡ AuditFault.NoMemory) }
 {
     let Ok(mut bus) = LeanRingBus::new(alloc, record.config()) else {
         return Err(AuditFault::NoMemory);

@@ -50,7 +50,7 @@ pub record Input : Type 0 where
 abbrev pub unread : Option (List ℕ) → Input
 unread coming = record { line = []; given = 0; held = []; coming = coming; reads = 0; ended = false; fault = None }
 
--- an input after the next line was given: so many bytes of what is held are the line, and so many with its LF
+-- an input after the next line was given: of what is held the line is this many bytes, and with its LF this many
 abbrev pub after_line : ℕ → ℕ → Input → Input
 after_line line width i = record i { line = take line i.held; given = i.given + width; held = drop width i.held }
 

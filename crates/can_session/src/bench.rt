@@ -38,7 +38,13 @@ impl Model for Bench {
 
     ghost Value = { BenchState };
 
-    ghost view = { λ s. record { capacity = s.capacity; bus = s.port; sessions = s.sessions.items; moment = s.moment; unheard = s.unheard } };
+    ghost view = { λ s. record {
+      capacity = s.capacity;
+      bus = s.port;
+      sessions = s.sessions.items;
+      moment = s.moment;
+      unheard = s.unheard;
+    } };
 
     ghost invariant = { λ s. length s.sessions.items ≡ 64 };
 }

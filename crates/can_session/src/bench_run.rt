@@ -66,7 +66,8 @@ pub fn bench<F: FaultSource + Drop, R: Read + Drop, W: Write>(
     input: R,
     out: &mut W,
 ) -> Result<Record, BenchFault>
-    ensures bad { (result ≡ Err BenchFault.BadConfig) ↔ (¬ IsBench config.names config.config config.rx_capacity) }
+    ensures bad { (result ≡ Err BenchFault.BadConfig)
+        ↔ (¬ IsBench config.names config.config config.rx_capacity) }
     ensures untouched { result ≡ Err BenchFault.BadConfig → out.new ≡ out.old }
     ensures runs { result ≢ Err BenchFault.BadConfig →
         EndsOver W.contents (F.verdicts config.script) (R.remaining input)
@@ -85,7 +86,8 @@ pub fn bench_noting<F: FaultSource + Drop, R: Read + Drop, W: Write>(
     out: &mut W,
     unheard: &mut Unheard,
 ) -> Result<Record, BenchFault>
-    ensures bad { (result ≡ Err BenchFault.BadConfig) ↔ (¬ IsBench config.names config.config config.rx_capacity) }
+    ensures bad { (result ≡ Err BenchFault.BadConfig)
+        ↔ (¬ IsBench config.names config.config config.rx_capacity) }
     ensures untouched { result ≡ Err BenchFault.BadConfig → out.new ≡ out.old }
     ensures runs { result ≢ Err BenchFault.BadConfig →
         EndsOver W.contents (F.verdicts config.script) (R.remaining input)
@@ -115,8 +117,10 @@ pub fn bench_lines<F: FaultSource + Drop, R: Read + Drop, W: Write>(
     out: &mut W,
 ) -> Result<Record, BenchFault>
     requires unread { lines.old ≡ unread lines.old.coming }
-    ensures bad { (result ≡ Err BenchFault.BadConfig) ↔ (¬ IsBench config.names config.config config.rx_capacity) }
-    ensures untouched { result ≡ Err BenchFault.BadConfig → (out.new ≡ out.old) × (lines.new ≡ lines.old) }
+    ensures bad { (result ≡ Err BenchFault.BadConfig)
+        ↔ (¬ IsBench config.names config.config config.rx_capacity) }
+    ensures untouched { result ≡ Err BenchFault.BadConfig →
+        (out.new ≡ out.old) × (lines.new ≡ lines.old) }
     ensures runs { result ≢ Err BenchFault.BadConfig →
         Ends IsRecordOf W.contents (F.verdicts config.script) lines.old.coming
         (at_start config.names config.config config.rx_capacity) out.old result lines.new out.new }
@@ -190,8 +194,10 @@ fn next_line<R: Read + Drop, W: Write>(
 ) -> Result<bool, BenchFault>
     requires { lines.old.fault ≡ None }
     ensures on { IfOk result (λ more. ComesNext more lines.old lines.new) }
-    ensures stops { IfErr result (λ fault. (b : BenchState) → EndsAt number fault lines.old lines.new b) }
-    ensures keeps { result ≢ Err BenchFault.Write → Keeps (W.contents out.old) (W.contents out.new) }
+    ensures stops { IfErr result (λ fault.
+        (b : BenchState) → EndsAt number fault lines.old lines.new b) }
+    ensures keeps { result ≢ Err BenchFault.Write →
+        Keeps (W.contents out.old) (W.contents out.new) }
     ensures within { IsWithin lines.new }
 {
     if lines.take_held() {

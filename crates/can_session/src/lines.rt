@@ -50,9 +50,27 @@ impl<R: Read + Drop> Model for Lines<R> {
 
     ghost Value = { Input };
 
-    ghost view = { λ l. record { line = take l.line l.buffer; given = l.given; held = drop l.width l.buffer; coming = R.remaining l.input; reads = l.reads; ended = l.is_over; fault = l.fault } };
+    ghost view = { λ l. record {
+      line = take l.line l.buffer;
+      given = l.given;
+      held = drop l.width l.buffer;
+      coming = R.remaining l.input;
+      reads = l.reads;
+      ended = l.is_over;
+      fault = l.fault;
+    } };
 
-    ghost invariant = { λ l. (l.line ≤ l.width) × (l.width ≤ length l.buffer) × IsWithin (record { line = take l.line l.buffer; given = l.given; held = drop l.width l.buffer; coming = R.remaining l.input; reads = l.reads; ended = l.is_over; fault = l.fault }) };
+    ghost invariant = { λ l.
+        (l.line ≤ l.width) × (l.width ≤ length l.buffer)
+        × IsWithin (record {
+          line = take l.line l.buffer;
+          given = l.given;
+          held = drop l.width l.buffer;
+          coming = R.remaining l.input;
+          reads = l.reads;
+          ended = l.is_over;
+          fault = l.fault;
+        }) };
 }
 
 impl<R: Read + Drop> Lines<R> {
@@ -105,7 +123,8 @@ impl<R: Read + Drop> Lines<R> {
     pub fn next_line(&mut self) -> Result<bool, LineFault>
         ensures ok { IfOk result (λ found. ComesNext found self.old self.new) }
         ensures fine { OnOk result (self.old.fault ≡ None) }
-        ensures err { IfErr result (λ fault. Stops fault self.old self.new ⊎ Repeats fault self.old self.new) }
+        ensures err { IfErr result (λ fault.
+            Stops fault self.old self.new ⊎ Repeats fault self.old self.new) }
         ensures within { IsWithin self.new }
     {
         if let Some(fault) = self.fault() {

@@ -70,7 +70,8 @@ impl ReadBuffer {
     pub fn read_from<R: Read>(&mut self, input: &mut R, most: usize) -> io::Result<usize>
         requires some { 0 < most }
         requires room { length self.old < 8192 }
-        ensures ok { IfOk result (λ n. Gains self.old self.new (R.remaining input.old) (R.remaining input.new) n) }
+        ensures ok { IfOk result (λ n.
+            Gains self.old self.new (R.remaining input.old) (R.remaining input.new) n) }
         ensures most { IfOk result (λ n. n ≤ most) }
         ensures end { IfOk result (λ n. n ≡ 0 → IsAtEnd (R.remaining input.new)) }
         ensures same { OnErr result (self.new ≡ self.old) }

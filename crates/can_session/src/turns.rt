@@ -45,7 +45,8 @@ pub fn begin(
     said: &mut Vec<u8>,
 ) -> Result<Session, NoMemory>
     requires { said.old.items ≡ [] }
-    ensures { IfOk result (λ s. (s ≡ beginning capacity) × (said.new.items ≡ spoken number greeting)) }
+    ensures { IfOk result (λ s.
+        (s ≡ beginning capacity) × (said.new.items ≡ spoken number greeting)) }
 {
     let begun = begin_spoken(said, number)?;
     let session = greeted(alloc, capacity, said)?;
@@ -55,7 +56,8 @@ pub fn begin(
 
 /// A session at its start, and adds its greeting.
 fn greeted(alloc: Global, capacity: u32, said: &mut Vec<u8>) -> Result<Session, NoMemory>
-    ensures { IfOk result (λ s. (s ≡ beginning capacity) × (said.new.items ≡ said.old.items ++ greeting)) }
+    ensures { IfOk result (λ s.
+        (s ≡ beginning capacity) × (said.new.items ≡ said.old.items ++ greeting)) }
 {
     let mut session = Session::new(alloc, capacity)?;
     match session.greet(said) {

@@ -22,7 +22,11 @@ impl<N: RollName> Model for Pass<N> {
 
     ghost Value = { PassSeen };
 
-    ghost view = { λ p. record { number = p.slip.number; pass = p.slip.pass; calls = p.slip.calls } };
+    ghost view = { λ p. record {
+      number = p.slip.number;
+      pass = p.slip.pass;
+      calls = p.slip.calls;
+    } };
 
     ghost invariant = { λ p. reverse p.calls.entries ≡ p.slip.calls };
 }
@@ -58,7 +62,8 @@ impl<N: RollName> Pass<N> {
 
     /// Only its slip.
     fn into_slip(self) -> Slip<N>
-        ensures { record { number = result.number; pass = result.pass; calls = result.calls } ≡ self }
+        ensures { record { number = result.number; pass = result.pass; calls = result.calls }
+            ≡ self }
     {
         let Pass { slip, calls: _ } = self;
         slip

@@ -30,7 +30,8 @@ pub(crate) fn publish_changes<N: MeterName>(
     requires later { enters reply.now ≡ true → AllEarlier keeper.old at }
     ensures number { keeper.new.number ≡ keeper.old.number }
     ensures ifaces { keeper.new.ifaces ≡ keeper.old.ifaces }
-    ensures entered { enters reply.now ≡ true → Publishes keeper.old before.now after.now at keeper.new }
+    ensures entered { enters reply.now ≡ true →
+        Publishes keeper.old before.now after.now at keeper.new }
     ensures still { enters reply.now ≡ false → keeper.new ≡ keeper.old }
 {
     if reply.enters() {
@@ -69,7 +70,8 @@ fn publish_change<N: MeterName>(
     ensures number { keeper.new.number ≡ keeper.old.number }
     ensures ifaces { keeper.new.ifaces ≡ keeper.old.ifaces }
     ensures list { PublishesOf keeper.old place before after at keeper.new }
-    ensures others { (i : ℕ) → i ≢ place → published keeper.new.lists i ≡ published keeper.old.lists i }
+    ensures others { (i : ℕ) → i ≢ place →
+        published keeper.new.lists i ≡ published keeper.old.lists i }
 {
     if before != after {
         keeper.publish(place, at, after);

@@ -87,7 +87,8 @@ impl<N: RollName + MeterName, F: FaultSource + Drop, G: Gate + Drop> Station<N, 
         requires roll { blanks.roll ≡ N.roll number }
         requires meter { blanks.meter ≡ N.meter number }
         ensures made { IfOk result (λ s. s ≡ number) }
-        ensures bad { (result ≡ Err BusFault.BadConfig) ↔ (¬ (IsConfig config × (blanks.meter.words ≡ config.ifaces))) }
+        ensures bad { (result ≡ Err BusFault.BadConfig)
+            ↔ (¬ (IsConfig config × (blanks.meter.words ≡ config.ifaces))) }
     {
         if !config.is_proper() || blanks.meter.ifaces() != usize::from(config.ifaces) {
             return Err(BusFault::BadConfig);

@@ -55,9 +55,16 @@ impl<N: RollName + MeterName, F: FaultSource + Drop> Model for StationState<N, F
 
     ghost Value = { Held F };
 
-    ghost view = { λ s. record { number = s.roll.number; journal = s.bus; lists = s.roll.lists; source = s.source; stopped = s.stopped } };
+    ghost view = { λ s. record {
+      number = s.roll.number;
+      journal = s.bus;
+      lists = s.roll.lists;
+      source = s.source;
+      stopped = s.stopped;
+    } };
 
-    ghost invariant = { λ s. IsBooked s.roll (reverse s.marks.items) (vec_capacity s.marks) s.bus × IsPublished s.keeper s.roll.number s.bus × (s.spare.number ≡ s.roll.number) };
+    ghost invariant = { λ s. IsBooked s.roll (reverse s.marks.items) (vec_capacity s.marks) s.bus
+        × IsPublished s.keeper s.roll.number s.bus × (s.spare.number ≡ s.roll.number) };
 }
 
 impl<N: RollName + MeterName, F: FaultSource + Drop> StationState<N, F> {
@@ -347,7 +354,8 @@ fn book<N: RollName>(
     requires slip { slip.old.number ≡ roll.old.number }
     requires room { enters reply.now ≡ true → vec_len marks.old < vec_capacity marks.old }
     ensures roll { roll.new ≡ roll_after slip.old.pass event.now reply.now roll.old }
-    ensures marks { reverse marks.new.items ≡ marks_after slip.old.pass reply.now (reverse marks.old.items) }
+    ensures marks { reverse marks.new.items
+        ≡ marks_after slip.old.pass reply.now (reverse marks.old.items) }
     ensures places { vec_capacity marks.new ≡ vec_capacity marks.old }
     ensures slip { slip.new ≡ slip_after event.now reply.now slip.old }
     ensures below { enters reply.now ≡ true → slip.old.pass < length roll.old.lists }

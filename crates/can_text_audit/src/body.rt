@@ -15,15 +15,15 @@ use can_record::values::{hold_event, hold_reply};
 use can_record::version::{Version, has_fd};
 use std::alloc::Global;
 
-/// The lines behind the first: what is known of those that were taken.
+/// The lines after the first: what is known of those that were taken.
 #[derive(Drop)]
 pub struct Body {
     version: Version,
     config: BusConfig,
-    /// It was told the entries as long as they were legal.
+    /// It was given the entries as long as they were legal.
     bus: LeanRingBus,
     count: u32,
-    /// Whether an FD frame or the option for such stands in an entry.
+    /// Whether an entry has an FD frame or the option for such.
     fd: bool,
     wrong: Option<WrongLine>,
     is_ended: bool,
@@ -60,7 +60,7 @@ impl Body {
         })
     }
 
-    /// The next line: an entry's, or the end. Nothing may stand behind the end.
+    /// The next line: an entry's, or the end. Nothing may follow the end.
     pub fn carry(
         &mut self,
         alloc: Global,
@@ -250,7 +250,7 @@ impl Body {
         Ok(())
     }
 
-    // An entry's line behind a wrong one.
+    // An entry's line after a wrong one.
     #[inline(never)]
     fn read_on(&mut self, alloc: Global, buffer: &mut Vec<u8>, line: &[u8]) -> Result<(), Unread>
         requires wrong { IsSome self.old.wrong }
@@ -265,7 +265,8 @@ impl Body {
     // One entry more.
     fn add(&mut self, fd: bool)
         requires { self.old.count < 2 ^ 32 - 1 }
-        ensures { self.new ≡ record self.old { count = self.old.count + 1; fd = self.old.fd || fd } }
+        ensures { self.new
+            ≡ record self.old { count = self.old.count + 1; fd = self.old.fd || fd } }
     {
         self.count += 1;
         self.fd |= fd;
@@ -315,7 +316,7 @@ impl Body {
     }
 }
 
-/// Whether a line with an FD frame or the option for such, or one without, may stand in this version.
+/// Whether a line with an FD frame or the option for such, or one without, is allowed in this version.
 fn may_stand(version: Version, fd: bool) -> bool
     ensures yes { IsTrue result → fd ≡ true → version ≡ Version.Three }
     ensures no { result ≡ false → (fd ≡ true) × (version ≢ Version.Three) }

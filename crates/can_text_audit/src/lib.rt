@@ -1,4 +1,4 @@
-//! Whether the text of a record is that of a legal history, told of its lines one by one: neither the text nor the
+//! Whether the text of a record is that of a legal history, from its lines one by one: neither the text nor the
 //! record is held.
 //!
 //! `TextAudit` takes the lines as they come. It answers what `read_record` and then `audit` would of the whole text:

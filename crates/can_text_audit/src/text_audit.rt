@@ -19,15 +19,15 @@ enum Course {
     Start,
     /// The first one, which names the version.
     Front(Version),
-    /// The bus's line too, and those behind it.
+    /// The bus's line too, and those after it.
     Body(Body),
     /// A line was at fault.
     Failed(ReadFault),
 }
 
-/// An audit of a text that is told its lines, one after another, and holds none of them.
+/// An audit of a text that is given the lines, one after another, and holds none of them.
 ///
-/// Contracts name the text so far, as the lines that were taken make it. A line is cut behind its LF, and one without
+/// Contracts name the text so far, as the lines that were taken make it. A line is cut after its LF, and one without
 /// LF is the text's last. After a fault each call answers that fault.
 #[derive(Drop)]
 pub struct TextAudit {
@@ -36,7 +36,7 @@ pub struct TextAudit {
 }
 
 impl TextAudit {
-    /// An audit that was told nothing yet.
+    /// An audit that was given nothing yet.
     pub fn new(alloc: Global) -> TextAudit
         ensures { AreTaken [] result }
     {
@@ -46,8 +46,8 @@ impl TextAudit {
         }
     }
 
-    /// Takes the next line of the text, with its LF if it has one. A fault of the text is told as soon as its line is
-    /// read, but for those of the whole text, which `finish` tells.
+    /// Takes the next line of the text, with its LF if it has one. A fault of the text is reported as soon as its line
+    /// is read, but for those of the whole text, which `finish` reports.
     ///
     /// `NoMemory` comes where memory was refused, and past 4,294,967,295 entries; nothing is known of the text then.
     pub fn carry(&mut self, alloc: Global, line: &[u8]) -> Result<(), ReadFault>

@@ -10,7 +10,7 @@ use canbusd_files::{OUTPUT, write_failure};
 use std::alloc::Global;
 use std::io::Write;
 
-/// Tells what was found of a text with so many lines that has ended: writes how many entries a legal record has.
+/// Reports what was found of a text of this many lines that has ended: writes how many entries a legal record has.
 pub fn tell_end<'a, W: Write>(
     alloc: Global,
     path: &str,
@@ -37,8 +37,8 @@ pub fn tell_end<'a, W: Write>(
     }
 }
 
-// The line of the text that a fault of the whole text is about. No line stands where one is missing; of a text that is
-// right line by line, the first one is told, and it is that of version 3.
+// The line of the text that a fault of the whole text is about. There is none where a line is missing; of a text that
+// is right line by line it is the first, that of version 3.
 fn last_shown(lines: u64, fault: ReadFault) -> &'static [u8] {
     match fault {
         ReadFault::BadVersion if lines > 0 => b"canbus record 3",

@@ -17,7 +17,7 @@ pub enum Held {
     End,
     /// Whole lines, which were taken, and maybe a part of the next one; or nothing, where the read was interrupted.
     Lines,
-    /// A line at fault, which it holds still, behind those that were taken.
+    /// A line at fault, which it still holds, after those that were taken.
     Wrong(ReadFault),
 }
 

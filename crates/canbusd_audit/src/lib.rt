@@ -1,9 +1,9 @@
 //! `canbusd audit`: whether the text of a record is that of a legal history.
 //!
-//! The audit itself is `can_text_audit`, which is told the lines as they are read. What is proved here: `ok N entries` is
-//! written only of the text of a legal record with N entries, and a fault says what the audit says: the first wrong line,
-//! or the first wrong entry. A fault of the reader, of the writer or of memory says nothing of the record, and what a file
-//! holds is not known to any contract.
+//! The audit itself is `can_text_audit`, which is given the lines as they are read. What is proved here: `ok N entries`
+//! is written only of the text of a legal record with N entries, and a fault says what the audit says: the first wrong
+//! line, or the first wrong entry. A fault of the reader, of the writer or of memory says nothing of the record, and
+//! what a file holds is not known to any contract.
 #![tactic(auto)]
 
 mod audit_job;

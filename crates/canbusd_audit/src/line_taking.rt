@@ -15,8 +15,8 @@ use std::str;
 
 /// Takes the lines of an input to its end: how many there were.
 ///
-/// Where a line is at fault, what follows is read all the same: an input that is no UTF-8 text is told as such, wherever
-/// it is not.
+/// Where a line is at fault, what follows is read all the same: an input that is no UTF-8 text is reported as such,
+/// wherever it is not.
 pub fn take_lines<'a, R: BufRead>(
     alloc: Global,
     path: &str,
@@ -54,7 +54,7 @@ pub fn take_lines<'a, R: BufRead>(
     Err(Failure::new(alloc, Fault::Read))
 }
 
-// What is told of a line at fault that the input still holds, and that follows so many others.
+// What is reported of a line at fault that the input still holds, and that follows this many others.
 #[inline(never)]
 fn held_failure<'a, R: BufRead>(
     alloc: Global,
@@ -72,7 +72,7 @@ fn held_failure<'a, R: BufRead>(
     }
 }
 
-// What is told of a line that is at fault.
+// What is reported of a line that is at fault.
 fn line_failure<'a, R: BufRead>(
     alloc: Global,
     path: &str,
@@ -90,7 +90,7 @@ fn line_failure<'a, R: BufRead>(
     }
 }
 
-// Reads on from a line that is at fault: whether this line and all behind it are UTF-8 text.
+// Reads on from a line that is at fault: whether this line and all after it are UTF-8 text.
 fn read_rest<'a, R: BufRead>(
     alloc: Global,
     path: &str,

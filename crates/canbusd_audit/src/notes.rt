@@ -1,9 +1,9 @@
-//! The lines of a text that is no record's, as they are told.
+//! The lines of a text that is no record's, as they are reported.
 use can_record::ReadFault;
 use canbusd_faults::{Line, WITH_CR};
 use std::alloc::{AllocError, Global};
 
-/// A line of a record's text that is wrong, and what stands there in a record.
+/// A line of a record's text that is wrong, and what a record has in its place.
 pub fn record_note(
     alloc: Global,
     path: &str,
@@ -31,7 +31,7 @@ pub fn record_note(
     format!(in alloc; "  {line}\n  {form}\n")
 }
 
-// What stands in a record in place of a line behind the second. A text that has ended there gives none, or one without LF.
+// What a record has in place of a line after the second. A text that has ended there gives none, or one without LF.
 fn entry_form(line: &[u8]) -> &'static str {
     if line.is_empty() {
         "the text ends here, before its line end COUNT"

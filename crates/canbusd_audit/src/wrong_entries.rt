@@ -7,7 +7,7 @@ use can_text_audit::WrongLine;
 use canbusd_faults::{Line, Shown};
 use std::alloc::{AllocError, Global};
 
-/// How many lines of a record's text stand before those of its entries.
+/// How many lines of a record's text come before those of its entries.
 const HEAD: u64 = 2;
 
 /// The line of a wrong entry in the text of a record, and the one that would be legal there.

@@ -43,7 +43,8 @@ pub fn run_bench<'a, H: Files, R: Read + Drop, W: Write>(
     unheard: &mut Unheard,
 ) -> Result<(), Failure<'a>>
     ensures done { OnOk result (IsBenched W.contents options.entry (R.remaining input) output.old output.new) }
-    ensures fault { IfErr result (λ failure. FailsAs W.contents options.entry (R.remaining input) output.old failure.fault output.new) }
+    ensures fault { IfErr result (λ failure.
+        FailsAs W.contents options.entry (R.remaining input) output.old failure.fault output.new) }
 {
     match run_out(rt, alloc, options, input, output, unheard) {
         Ok(Ran { record, refusal }) => {
@@ -70,8 +71,11 @@ fn run_out<'a, H: Files, R: Read + Drop, W: Write>(
     output: &mut W,
     unheard: &mut Unheard,
 ) -> Result<Ran<'a>, Failure<'a>>
-    ensures ran { IfOk result (λ ran. HasRun W.contents options.entry (R.remaining input) output.old ran output.new) }
-    ensures fault { IfErr result (λ failure. IsStopped W.contents options.entry (R.remaining input) output.old failure.fault output.new) }
+    ensures ran { IfOk result (λ ran.
+        HasRun W.contents options.entry (R.remaining input) output.old ran output.new) }
+    ensures fault { IfErr result (λ failure.
+        IsStopped W.contents options.entry (R.remaining input) output.old failure.fault
+        output.new) }
 {
     let names = read_names(alloc, options.bus.names)?;
     let mut watch = Watch::new(alloc, options.is_strict, output);
@@ -132,8 +136,11 @@ fn run_scripted<'a, H: Files, R: Read + Drop, W: Write>(
     output: &mut W,
     unheard: &mut Unheard,
 ) -> Result<Record, Failure<'a>>
-    ensures run { IfOk result (λ r. IsRun W.contents options.entry names (R.remaining input) output.old r output.new) }
-    ensures fault { IfErr result (λ failure. FailsBy W.contents options.entry names (R.remaining input) output.old failure.fault output.new) }
+    ensures run { IfOk result (λ r.
+        IsRun W.contents options.entry names (R.remaining input) output.old r output.new) }
+    ensures fault { IfErr result (λ failure.
+        FailsBy W.contents options.entry names (R.remaining input) output.old failure.fault
+        output.new) }
 {
     let source = read_source(rt, alloc, options.bus, &names)?;
     run_on(alloc, options, names, source, input, output, unheard)
@@ -149,9 +156,13 @@ fn run_on<'a, F: FaultSource + Drop, R: Read + Drop, W: Write>(
     output: &mut W,
     unheard: &mut Unheard,
 ) -> Result<Record, Failure<'a>>
-    ensures ends { IfOk result (λ r. EndsOver W.contents (F.verdicts script) (R.remaining input) (begun options.entry names) output.old (Ok r) output.new) }
+    ensures ends { IfOk result (λ r.
+        EndsOver W.contents (F.verdicts script) (R.remaining input) (begun options.entry names)
+        output.old (Ok r) output.new) }
     ensures legal { IfOk result (λ r. IsLegal r.config r.history) }
-    ensures fault { IfErr result (λ failure. StopsBy W.contents options.entry names (F.verdicts script) (R.remaining input) output.old failure.fault output.new) }
+    ensures fault { IfErr result (λ failure.
+        StopsBy W.contents options.entry names (F.verdicts script) (R.remaining input)
+        output.old failure.fault output.new) }
 {
     let config = BenchConfig {
         config: bus_config(options.settings, &names),

@@ -80,7 +80,8 @@ impl<'w, W> Watch<'w, W> {
         requires { self.old.is_on ≡ true → self.old.written + length piece.now < 2 ^ 64 }
         ensures writer { self.new.writer ≡ self.old.writer }
         ensures on { self.new.is_on ≡ self.old.is_on }
-        ensures written { self.old.is_on ≡ true → self.new.written ≡ self.old.written + length piece.now }
+        ensures written { self.old.is_on ≡ true →
+            self.new.written ≡ self.old.written + length piece.now }
         ensures seen { self.old.is_on ≡ true → self.new.seen ≡ seen_in self.old.seen piece.now }
     {
         if !self.is_on {

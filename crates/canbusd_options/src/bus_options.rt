@@ -138,7 +138,8 @@ pub fn number_within(
     ensures number { IfOk result (λ n. IsNumberOf n (given_in matches.now option.now)) }
     ensures least { IfOk result (λ n. least ≤ n) }
     ensures most { IfOk result (λ n. n ≤ most) }
-    ensures taken { IfErr result (λ e. IsNumberWithin least most (given_in matches.now option.now) → IsNoMemory e) }
+    ensures taken { IfErr result (λ e.
+        IsNumberWithin least most (given_in matches.now option.now) → IsNoMemory e) }
     ensures refused { IfErr result RefusesValue }
 {
     let text = matches.get_str(option).unwrap_or("");

@@ -89,7 +89,7 @@ pub fn audited(rt: &impl AllocGlobal, record: &Record) -> Result<(), AuditFault>
     audit(rt.alloc(), record)
 }
 
-/// The audit of one frame's way, on a bus made for so many events.
+/// The audit of one frame's way, on a bus made for this many events.
 fn one_frame(
     rt: &impl AllocGlobal,
     limit: u32,
@@ -130,7 +130,7 @@ fn carried_out(rt: &impl AllocGlobal, events: &[Event]) -> Result<Record, Fail> 
     Ok(bus.into_record())
 }
 
-/// The text of a legal record tells it again: so many lines, in the same words.
+/// The text of a legal record is read, audited and written again: this many lines, in the same words.
 fn is_told_again(rt: &(impl Abort + AllocGlobal), text: &str, count: usize) -> Result<(), Fail> {
     same(rt, audited(rt, &read(rt, text)?), Ok(()));
     same(rt, legal_lines(rt, text), Some(count));

@@ -6,7 +6,7 @@ use can_fault::{GlobalKind, LocalKind, Verdict};
 use can_filter::{Filter, FilterSet};
 use std::alloc::{AllocGlobal, Global};
 
-/// What an FD frame carries behind its first byte.
+/// What an FD frame carries after its first byte.
 const BYTES: [u8; 64] = [
     0, 1, 2, 3, 4, 5, 6, 7, 8, 9, 10, 11, 12, 13, 14, 15, 16, 17, 18, 19, 20, 21, 22, 23, 24, 25,
     26, 27, 28, 29, 30, 31, 32, 33, 34, 35, 36, 37, 38, 39, 40, 41, 42, 43, 44, 45, 46, 47, 48, 49,
@@ -120,7 +120,7 @@ fn some_event_with_fd(alloc: Global, dice: &mut Dice, micros: u64) -> Result<Eve
     })
 }
 
-/// Six sockets, two on each of three interfaces, that hold few items and are told of errors.
+/// Six sockets, two on each of three interfaces, that hold few items and are notified of errors.
 fn opened(alloc: Global) -> Result<Vec<Event>, Fail> {
     let mut events = Vec::new(alloc);
     for number in 0..6u8 {
@@ -132,7 +132,7 @@ fn opened(alloc: Global) -> Result<Vec<Event>, Fail> {
     Ok(events)
 }
 
-/// Sockets are opened, and then so many events follow at random.
+/// Sockets are opened, and then this many events follow at random.
 pub fn mixed(rt: &impl AllocGlobal, seed: u64, count: u64) -> Result<Vec<Event>, Fail> {
     let mut dice = Dice { state: seed };
     let mut events = opened(rt.alloc())?;

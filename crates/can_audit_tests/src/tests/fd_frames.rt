@@ -39,7 +39,7 @@ receive 1 = data 0 0 123#01FF 0.000001
 end 5
 ";
 
-/// What stands before the entries of a text, and behind one entry.
+/// What comes before the entries of a text, and after one entry.
 const FRONT: &str = "canbus record 3\nbus 3 peers FFFF 1024 16777216 0\n";
 
 const BACK: &str = "\nend 1\n";
@@ -88,7 +88,7 @@ fn the_slow_answer_is_the_same(rt: HostRuntime) -> Result<(), Fail> {
     Ok(())
 }
 
-/// A text is read and written again, and is the record of so many legal entries.
+/// A text is read and written again, and is the record of this many legal entries.
 fn is_legal(rt: &(impl Abort + AllocGlobal), text: &str, count: usize) -> Result<(), Fail> {
     stays(rt, text)?;
     same(rt, legal_lines(rt, text), Some(count));

@@ -12,7 +12,7 @@ use std::test::Fail;
 /// What a reply holds: the checker has to meet these types before a function is handed a reply.
 type Parts = (Reply, Item, Received, Tried);
 
-/// What is told of a text.
+/// What is reported of a text.
 #[derive(Debug, Clone, Copy, PartialEq, Eq)]
 enum Told {
     Legal(usize),

@@ -48,7 +48,7 @@ enum Kind {
     GoesOff,
     Refused(Refusal),
     Data,
-    /// An FD frame of so many bytes.
+    /// An FD frame of this many bytes.
     Fd(u8),
     Error,
     /// A close that counts items without room.
@@ -59,7 +59,7 @@ fn is_error(received: &Received) -> bool {
     matches!(&received.item, Item::Error(_))
 }
 
-/// Whether an FD frame of so many bytes was received.
+/// Whether an FD frame of this many bytes was received.
 fn is_fd(received: &Received, len: u8) -> bool {
     match &received.item {
         Item::Data(frame) => frame.is_fd() && frame.len() == len,
@@ -101,7 +101,7 @@ fn count(replies: &[Reply], kind: Kind) -> usize {
     count
 }
 
-/// At least so many replies are of this kind.
+/// At least this many replies are of this kind.
 fn has(rt: &impl Abort, replies: &[Reply], kind: Kind, at_least: usize) {
     assert!(rt; count(replies, kind) >= at_least);
 }

@@ -58,7 +58,7 @@ attempt 0.000035 good = tried 0 1 123# done 0002 0000
 end 43
 ";
 
-/// What stands before the entries of a text, and behind one entry.
+/// What comes before the entries of a text, and after one entry.
 const FRONT: &str = "canbus record 2\nbus 3 peers FFFF 1024 16777216 1000000\n";
 
 const BACK: &str = "\nend 1\n";
@@ -117,7 +117,7 @@ fn a_restart_that_is_left_out_is_wrong(rt: HostRuntime) -> Result<(), Fail> {
             36,
             0,
         ),
-        // Attempts are counted from the one behind that which took the interface off.
+        // Attempts are counted from the one after that which took the interface off.
         ("10 100 2\n", "10 100 1\n", 36, 0b01),
     ];
     for (from, to, place, restarted) in changes {

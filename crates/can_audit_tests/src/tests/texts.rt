@@ -29,7 +29,7 @@ close 1 = closed 0 0
 end 7
 ";
 
-/// What stands before the entries of a text, and behind one entry.
+/// What comes before the entries of a text, and after one entry.
 const FRONT: &str = "canbus record 1\nbus 3 peers FFFF 1024 16777216\n";
 
 const BACK: &str = "\nend 1\n";
@@ -44,7 +44,7 @@ pub fn read_bytes(rt: &impl AllocGlobal, text: &[u8]) -> Result<Record, ReadFaul
     read_record_bytes(rt.alloc(), text)
 }
 
-/// What is told of a text line by line.
+/// What is reported of a text line by line.
 pub fn audit_by_lines(rt: &impl AllocGlobal, text: &[u8]) -> Result<usize, TextFault> {
     let mut audit = TextAudit::new(rt.alloc());
     for line in text.split_inclusive(|byte| *byte == b'\n') {
@@ -158,7 +158,7 @@ fn a_record_is_read_back_from_its_text(rt: HostRuntime) -> Result<(), Fail> {
     Ok(())
 }
 
-/// A writer that takes so many bytes and then fails.
+/// A writer that takes this many bytes and then fails.
 #[derive(Drop)]
 struct Short {
     left: usize,

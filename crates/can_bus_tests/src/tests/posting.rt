@@ -97,7 +97,7 @@ end 16";
 
 const PASSED: &str = "error 0 20000204#0008000000006000 0.000012";
 
-/// Faults are told where they are reported: at the transmitter, and at a receiver.
+/// Sockets are notified of faults where these are reported: at the transmitter, and at a receiver.
 const FAULTS_ARE_REPORTED: &str = "canbus record 1
 bus 2 always 0003 10 1000
 0..1: open N 100 = socket N | option N errmask 1FFFFFFF = ok

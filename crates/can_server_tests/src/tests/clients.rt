@@ -33,8 +33,8 @@ const PATIENCE: u64 = 20;
 /// How many looks are made before a test gives up.
 const TURNS: u32 = 10_000;
 
-/// The host of a test: its clock stands, until it is a minute later, and it counts how often it was told of a full
-/// record, and of an interface that went bus off or was restarted.
+/// The host of a test: its clock is stopped, until it is a minute later, and it counts how often it was notified of a
+/// full record, and of an interface that went bus off or was restarted.
 #[derive(Drop)]
 pub struct Host {
     moment: Moment,
@@ -46,7 +46,7 @@ pub struct Host {
 }
 
 impl Host {
-    /// A host whose clock stands at 23.424242 seconds.
+    /// A host whose clock shows 23.424242 seconds.
     pub fn new<R: Abort>(rt: &R) -> Host {
         Host {
             moment: moment(rt, 23_424_242),
@@ -126,7 +126,7 @@ pub struct Entrance {
 }
 
 impl Entrance {
-    /// A door for so many sessions on a free port of this machine.
+    /// A door for this many sessions on a free port of this machine.
     pub fn new<R: Machine>(rt: &R, sessions: u32) -> Entrance {
         let Ok(entrance) = Entrance::on_port(rt, sessions) else {
             panic!(rt; "no door");
@@ -142,7 +142,7 @@ impl Entrance {
         })
     }
 
-    /// A door for so many sessions at a path.
+    /// A door for this many sessions at a path.
     pub fn at_path<R: Machine + Files>(rt: &R, path: &str, sessions: u32) -> io::Result<Entrance> {
         let listener = UnixListener::bind(rt, path)?;
         Ok(Entrance {

@@ -1,4 +1,4 @@
-// What a session is told of its counts, and a piece whose calls take the lock by turns.
+// The counts that a session reports, and a piece whose calls take the lock by turns.
 
 ghost use Rattle.std.specs.Prelude.{◌≡◌};
 ghost use Rattle.can_hub.specs.Benches.{NamedFrom};
@@ -61,7 +61,7 @@ impl<'a, N: RollName + MeterName, R: Wait + Abort> Talk<'a, N, R> {
     }
 }
 
-/// Two sessions whose counts are all told: of items that are queued, dropped and taken, and of frames that are sent, done,
+/// Two sessions that report each count: of items that are queued, dropped and taken, and of frames that are sent, done,
 /// waiting, lost and refused.
 fn counts<N: RollName + MeterName, R: Wait + Abort>(
     rt: &R,

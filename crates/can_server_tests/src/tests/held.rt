@@ -30,7 +30,7 @@ impl Signals {
         }
     }
 
-    /// Waits until the count is reached, and tells of it where it is not.
+    /// Waits until the count is reached, and notes where it is not.
     fn wait_for<C: Clock>(&self, clock: &C, count: &AtomicU64, goal: u64) {
         if !reaches(clock, count, goal) {
             self.late.store(true, Ordering::SeqCst);
@@ -75,7 +75,7 @@ impl<'a, R: Machine> Clients<'a, R> {
 }
 
 /// While the first step of can0 is held, a frame goes from far0 to far1. While its second is held, a gauge reads what
-/// the first has left, and can0's session tells it.
+/// the first has left, and can0's session reports it.
 fn go_on<N: MeterName, R: Machine>(
     rt: &R,
     signals: &Signals,

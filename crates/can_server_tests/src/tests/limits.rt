@@ -143,7 +143,7 @@ fn meet_full_record<R: Abort>(mut first: Client<'_, R>, mut second: Client<'_, R
     second.ask("< echo >", "< echo >");
 }
 
-/// A server over a bus whose record holds one entry, and a host that is told of it once.
+/// A server over a bus whose record holds one entry, and a host that is notified of it once.
 fn is_full<N: RollName + MeterName + Send + Sync, R: Machine>(
     rt: &R,
     alloc: Global,

@@ -1,4 +1,4 @@
-// What a host that asks for it is told while a server runs.
+// The notices of a host that asks for them, while a server runs.
 
 ghost use Rattle.std.specs.Prelude.{◌≡◌};
 ghost use Rattle.can_hub.specs.Benches.{NamedFrom};
@@ -11,7 +11,7 @@ use std::marker::Brand;
 use std::sync::atomic::{AtomicU64, Ordering};
 use std::thread::join;
 
-/// A host that counts what it is told of.
+/// A host that counts its notices.
 #[derive(Drop)]
 struct Counting {
     moment: Moment,
@@ -98,7 +98,7 @@ fn talk<R: Abort>(mut first: Client<'_, R>, mut second: Client<'_, R>) {
     second.hear("< frame 123 23.424242  >");
 }
 
-/// A server of two clients, and what its host was told of them.
+/// A server of two clients, and the notices that its host got of them.
 fn told<N: RollName + MeterName + Send + Sync, R: Machine>(
     rt: &R,
     alloc: Global,

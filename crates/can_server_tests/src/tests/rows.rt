@@ -45,7 +45,7 @@ fn record<N: RollName + MeterName + Send + Sync, R: Machine>(
     bus.history
 }
 
-/// The log of a record of can0 and can1, with so many frames.
+/// The log of a record of can0 and can1, with this many frames.
 fn log<R: Abort>(rt: &R, alloc: Global, record: &Record, frames: u64) -> Vec<u8> {
     let mut log = Output::new(alloc, 1_000);
     let lines = write_tape(&names(rt, alloc, "can0,can1"), record, &mut log);

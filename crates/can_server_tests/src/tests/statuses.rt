@@ -1,4 +1,4 @@
-// What a session is told of the error counters of its interface, by a gauge.
+// The error counters of its interface that a session reports, by a gauge.
 
 ghost use Rattle.std.specs.Prelude.{◌≡◌};
 ghost use Rattle.can_hub.specs.Benches.{NamedFrom};
@@ -16,7 +16,7 @@ fn asks_too_early<N: RollName + MeterName, R: Wait + Abort>(
     first.ask("< send 123 0 >< status >", "< status active 0 0 >");
 }
 
-/// A fault in the last bit and the good attempt after it, as two sessions are told of them.
+/// A fault in the last bit and the good attempt after it, by the counters that two sessions report.
 fn last_bit<N: RollName + MeterName, R: Wait + Abort>(
     rt: &R,
     alloc: Global,

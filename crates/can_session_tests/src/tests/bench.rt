@@ -55,7 +55,7 @@ pub fn config_of(alloc: Global, made: Made, script: &str) -> Result<BenchConfig<
     })
 }
 
-/// Runs a bench over an input that comes in pieces of so many bytes.
+/// Runs a bench over an input that comes in pieces of this many bytes.
 fn run(alloc: Global, made: Made, script: &str, input: &str, size: usize) -> Result<Ran, Fail> {
     let config = config_of(alloc, made, script)?;
     let pieces = Pieces {
@@ -343,7 +343,7 @@ fn breaks_off(rt: &(impl Abort + AllocGlobal), input: &str, wanted: &str) -> Res
 fn lines_before_a_read_fault_are_carried_out(rt: HostRuntime) -> Result<(), Fail> {
     let alloc = rt.alloc();
     let wanted = joined(alloc, &[GREETED, "tried can0 0 done can1 -\n"])?;
-    // The reader fails behind the whole line of the attempt, or within the next.
+    // The reader fails after the whole line of the attempt, or within the next.
     for next in ["", "drain"] {
         let input = joined(alloc, &[STARTED, TRIED, next])?;
         breaks_off(&rt, &input, &wanted)?;
@@ -351,7 +351,7 @@ fn lines_before_a_read_fault_are_carried_out(rt: HostRuntime) -> Result<(), Fail
     Ok(())
 }
 
-/// The bench ends at the line behind the two sessions, which is no good line.
+/// The bench ends at the line after the two sessions, which is no good line.
 fn stops_behind_two(rt: &(impl Abort + AllocGlobal), line: &str) -> Result<(), Fail> {
     let input = joined(rt.alloc(), &[STARTED, line])?;
     stops(rt, TWO, &input, GREETED, BenchFault::BadLine(5))

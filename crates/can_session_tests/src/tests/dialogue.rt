@@ -31,7 +31,7 @@ impl Read for Client<'_> {
     }
 }
 
-/// A writer that tells how much of its text was flushed.
+/// A writer that notes how much of its text was flushed.
 #[derive(Drop)]
 struct Answers<'a> {
     text: Vec<u8>,

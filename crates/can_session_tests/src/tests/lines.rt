@@ -4,7 +4,7 @@ use can_test_support::Pieces;
 use std::alloc::{AllocError, Global};
 use std::io::Read;
 
-/// How many lines there are, at most 5,000, and the fault behind them.
+/// How many lines there are, at most 5,000, and the fault after them.
 fn count_lines<R: Read + Drop>(
     alloc: Global,
     input: R,

@@ -1,4 +1,4 @@
-//! Interfaces that come back by themselves, so many attempts after they went bus off.
+//! Interfaces that come back by themselves, a number of attempts after they went bus off.
 use crate::tests::bench::{Made, TWO, two_write_parts};
 use can_test_support::Part;
 use std::alloc::AllocGlobal;
@@ -13,7 +13,7 @@ const DESTROYED: &str = "tried can0 0 destroyed - -\n";
 const WENT_OFF: &str = "tried can0 0 destroyed - can0\n";
 
 /// Runs a bench on which each attempt of the frame is destroyed, until can0 is bus off in the 32nd. What follows the
-/// two sessions begins with the lines of `ONE_SENT`; wanted is what is written behind the 32 attempts.
+/// two sessions begins with the lines of `ONE_SENT`; wanted is what is written after the 32 attempts.
 fn goes_off(
     rt: &(impl Abort + AllocGlobal),
     auto_restart: u32,

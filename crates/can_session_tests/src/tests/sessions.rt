@@ -229,7 +229,7 @@ fn one_byte_at_a_time_is_answered_as_all_at_once(rt: HostRuntime) {
     same(&rt, text.as_slice(), want.as_slice());
 }
 
-/// A message of so many bytes, and another one.
+/// A message of this many bytes, and another one.
 fn long_stream(alloc: Global, len: usize) -> Result<Vec<u8>, AllocError> {
     let mut stream = Vec::new(alloc);
     stream.push(b'<')?;
@@ -357,7 +357,7 @@ fn error_message_frames_are_told_with_their_data(rt: HostRuntime) {
     says(&rt, &mut one, b"< status >", 17, &mut port, status);
 }
 
-/// The error counters that a port tells of the interface of a number, its transmit count first.
+/// The error counters that a port reports of the interface of a number, its transmit count first.
 fn counts<P: Port>(port: &mut P, number: u8) -> Option<(u16, u16)> {
     let counters = port.status(Iface::new(number)?);
     Some((counters.tec(), counters.rec()))
@@ -422,7 +422,7 @@ fn is_over<P: Port>(session: &mut Session, alloc: Global, port: &mut P) -> bool 
         && out.writes == 0
 }
 
-/// A session is over after so many calls, of which the last was a close, and makes no other.
+/// A session is over after this many calls, of which the last was a close, and makes no other.
 fn closed(rt: &(impl Abort + AllocGlobal), session: &mut Session, port: &mut Counting, calls: u32) {
     same(rt, port.calls, calls);
     assert!(rt; port.is_last_close);

@@ -52,7 +52,7 @@ fn fails_17_times<N: RollName + MeterName, R: Wait + Abort>(
     caller.leave()
 }
 
-/// Reads often: each reading is 8 for each attempt behind the open and the send, and none goes back.
+/// Reads often: each reading is 8 for each attempt after the open and the send, and none goes back.
 fn reads_often<N: MeterName, R: Abort>(rt: &R, mut gauge: Gauge<N>) -> Gauge<N> {
     let mut last = 0;
     for _ in 0..1000 {

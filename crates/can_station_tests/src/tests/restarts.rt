@@ -22,7 +22,7 @@ fn restarting() -> BusConfig {
     }
 }
 
-/// Opens a socket on can0 that is told of restarts alone, and sends a frame, which takes can0 off: 35 calls.
+/// Opens a socket on can0 that is notified only of restarts, and sends a frame, which takes can0 off: 35 calls.
 fn goes_off<N: RollName + MeterName, R: Wait + Abort>(caller: &mut Party<'_, N, R>) -> SocketId {
     let rt = caller.rt;
     let sender = caller.open(0, 4);
@@ -72,7 +72,7 @@ fn class_of(item: &Item) -> u32 {
     }
 }
 
-/// The socket is told of a restart, once.
+/// The socket is notified of a restart, once.
 fn is_told<N: RollName + MeterName, R: Wait + Abort>(
     caller: &mut Party<'_, N, R>,
     sender: SocketId,

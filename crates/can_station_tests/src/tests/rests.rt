@@ -12,7 +12,7 @@ use std::thread::{Threads, join};
 /// The seconds of a rest that no test lives to see the end of.
 const MINUTE: u64 = 60;
 
-/// Rests a minute, and tells of it by flags before and after.
+/// Rests a minute, and sets one flag before and one after.
 fn rests_long<N: RollName + MeterName, R: Wait + Clock>(
     rt: &R,
     station: &Station<N, Perfect, Open>,

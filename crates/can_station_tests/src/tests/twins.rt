@@ -1,4 +1,4 @@
-// One list of calls on a station and on a plain bus: what the station tells without an event is what the bus tells.
+// One list of calls on a station and on a plain bus: what the station reports without an event is what the bus reports.
 
 ghost use Rattle.std.specs.Prelude.{◌≡◌};
 
@@ -184,7 +184,7 @@ fn waiting(bus: &RingBus, socket: SocketId) -> u64 {
     }
 }
 
-/// The station tells what the bus tells, of sockets and interfaces that are there and of others.
+/// The station reports what the bus reports, of sockets and interfaces that are there and of others.
 fn agree<N: RollName + MeterName, R: Wait + Abort>(
     rt: &R,
     station: &Station<N, Script, Open>,

@@ -52,7 +52,7 @@ fn make_call<N: RollName + MeterName, R: Wait + Abort>(caller: &mut Party<'_, N,
     assert!(rt; is_done);
 }
 
-/// Waits, and tells of it by flags before and after.
+/// Waits, and sets one flag before and one after.
 fn wait<N: RollName + MeterName, R: Wait>(
     rt: &R,
     station: &Station<N, Script, Open>,
@@ -187,7 +187,7 @@ fn a_frame_wakes_all<
     }
 }
 
-/// The sender is told of restarts alone, and its frame is destroyed until can0 is bus off.
+/// The sender is notified only of restarts, and its frame is destroyed until can0 is bus off.
 fn goes_off<N: RollName + MeterName, R: Wait + Abort>(
     caller: &mut Party<'_, N, R>,
     sender: SocketId,
@@ -199,7 +199,7 @@ fn goes_off<N: RollName + MeterName, R: Wait + Abort>(
     }
 }
 
-/// After a stop a driver still gets the frames that wait, and then is told the end.
+/// After a stop a driver still gets the frames that wait, and then learns of the end.
 fn drives_to_the_end<N: RollName + MeterName, R: Wait + Abort>(mut caller: Party<'_, N, R>) {
     let (rt, station) = (caller.rt, caller.station);
     let socket = caller.open(0, 4);

@@ -42,10 +42,10 @@ fn changes_of_state(rt: HostRuntime) {
     same(&rt, Some(restart_frame()), frame_of(0x100, [0; 8]));
 }
 
-/// The class, the kind and the place that a fault frame tells.
+/// The class, the kind and the place that a fault frame reports.
 type Told = (u32, u8, u8);
 
-/// The faults that are told: to the winner, to a receiver that a local fault names, to another.
+/// The faults that are reported: to the winner, to a receiver that a local fault names, to another.
 fn told_rows() -> [(Class, Verdict, Told, Told, Told); 14] {
     let stuff = Verdict::Local(IfaceSet(2), LocalKind::Stuff);
     let crc = Verdict::Local(IfaceSet(2), LocalKind::Crc);
@@ -109,7 +109,7 @@ fn told_rows() -> [(Class, Verdict, Told, Told, Told); 14] {
     ]
 }
 
-/// What a fault frame tells, where its other bytes are 0. No frame tells 0 of all.
+/// What a fault frame reports, where its other bytes are 0. No frame reports 0 of all.
 fn told(class: Class, verdict: Verdict, role: Role) -> Option<Told> {
     let Some(frame) = fault_frame(class, verdict, role) else {
         return Some((0, 0, 0));
@@ -120,7 +120,7 @@ fn told(class: Class, verdict: Verdict, role: Role) -> Option<Told> {
     }
 }
 
-/// What the rows say of a class and a verdict. Where none does, nothing is told.
+/// What the rows say of a class and a verdict. Where none does, nothing is reported.
 fn wanted(class: Class, verdict: Verdict) -> (Told, Told, Told) {
     for (row_class, row_verdict, winner, named, other) in told_rows() {
         if row_class == class && row_verdict == verdict {
@@ -131,7 +131,7 @@ fn wanted(class: Class, verdict: Verdict) -> (Told, Told, Told) {
     (none, none, none)
 }
 
-/// A fault of this class and verdict is told as the rows say, in each role.
+/// A fault of this class and verdict is reported as the rows say, in each role.
 fn is_told(rt: &impl Abort, class: Class, verdict: Verdict) {
     let (winner, named, other) = wanted(class, verdict);
     same_at(

@@ -12,7 +12,7 @@ const LINE: &[u8] = b"(0000000000.000005) can0 00000123#R3\n";
 
 // The calls, without their clauses: a test runs them, and its proof has nothing to say of them.
 
-/// A bus of so many interfaces, with a socket on each, numbered as the interfaces are.
+/// A bus of this many interfaces, with a socket on each, numbered as the interfaces are.
 fn bus(alloc: Global, ifaces: u8, ack: AckMode) -> Result<ListBus, Fail> {
     let config = BusConfig {
         ifaces,
@@ -86,7 +86,7 @@ fn is_log(
     Ok(())
 }
 
-/// A bus of so many interfaces has this log after these calls.
+/// A bus of this many interfaces has this log after these calls.
 fn logs(
     rt: &(impl Abort + AllocGlobal),
     ifaces: u8,
@@ -123,7 +123,7 @@ fn lines_stand_in_the_order_of_the_attempts(rt: HostRuntime) -> Result<(), Fail>
     logs(&rt, 1, AckMode::Always, &calls, 2, text)
 }
 
-/// What is answered to a writer that has room for so many bytes and then takes none, and that it holds
+/// What is answered to a writer that has room for this many bytes and then takes none, and that it holds
 /// the front of this text.
 fn log_into(
     rt: &(impl Abort + AllocGlobal),

@@ -52,7 +52,7 @@ fn every_cut_gives_both_messages(rt: HostRuntime) {
     }
 }
 
-/// A message of so many bytes, and another one.
+/// A message of this many bytes, and another one.
 fn long_stream(alloc: Global, len: usize) -> Result<Vec<u8>, AllocError> {
     let mut stream = Vec::new(alloc);
     stream.push(b'<')?;

@@ -21,7 +21,7 @@ fn moment(rt: &impl Abort, micros: u64) -> Moment {
 
 const LAST_MOMENT: u64 = 9_999_999_999_999_999;
 
-/// An FD frame of so many bytes, which differ.
+/// An FD frame of this many bytes, which differ.
 fn fd(rt: &impl Abort, len: usize) -> Frame
     requires { len ≤ 64 }
 {
@@ -78,7 +78,7 @@ const VERDICTS: [Verdict; 8] = [
 
 const CLASSES: [Class; 4] = [Class::Done, Class::LastBit, Class::Destroyed, Class::NoAck];
 
-/// Whether this entry stands at this place.
+/// Whether this entry is at this place.
 fn holds(record: &PackedRecord, place: usize, entry: &Entry) -> bool {
     match record.look(place) {
         Some(looked) => looked.entry() == entry,
