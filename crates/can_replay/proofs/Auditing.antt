@@ -13,8 +13,8 @@ use Rattle.can_event.specs.Events.{IsConfig}
 use Rattle.can_event.specs.Spelled.{FitsReply}
 use Rattle.can_bus.specs.Legal.{legal_reply, IsLegal}
 use Rattle.can_bus.specs.Run.{IsAnswer, history_after}
-use Rattle.can_replay.specs.declared.audit.AuditFault.{AuditFault}
-use Rattle.can_replay.specs.declared.audit.AuditFault.TheVariants as fault
+use Rattle.can_replay.specs.declared.audits.AuditFault.{AuditFault}
+use Rattle.can_replay.specs.declared.audits.AuditFault.TheVariants as fault
 use Rattle.can_replay.specs.Audits.{IsFirstWrong, IsToldWrong, Blames, fault_at}
 use Rattle.can_replay.specs.Histories.{before}
 use Rattle.can_replay.proofs.Before.{before_more, history-before}

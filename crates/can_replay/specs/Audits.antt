@@ -6,8 +6,8 @@ use Rattle.can_event.specs.declared.reply.Reply.{Reply}
 use Rattle.can_event.specs.declared.reply.Reply.TheVariants.{Refused}
 use Rattle.can_event.specs.declared.refusal.Refusal.TheVariants.{NoMemory, RecordFull}
 use Rattle.can_bus.specs.Legal.{legal_reply, IsLegal}
-use Rattle.can_replay.specs.declared.audit.AuditFault.{AuditFault}
-use Rattle.can_replay.specs.declared.audit.AuditFault.TheVariants as fault
+use Rattle.can_replay.specs.declared.audits.AuditFault.{AuditFault}
+use Rattle.can_replay.specs.declared.audits.AuditFault.TheVariants as fault
 use Rattle.can_replay.specs.Histories.{before}
 
 -- Whether entries, the oldest first, are a legal history, and if not where they go wrong.

@@ -4,8 +4,8 @@
 //! settled by the record, and which replies a list of events has on a bus that is never refused memory.
 #![tactic(auto)]
 
-pub mod audit;
+pub mod audits;
 pub mod laws;
 mod same;
 
-pub use audit::{AuditFault, audit};
+pub use audits::{AuditFault, audit};

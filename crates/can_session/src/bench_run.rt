@@ -6,7 +6,7 @@ ghost use Rattle.can_session.specs.Lines.{ComesNext, IsWithin, unread};
 ghost use Rattle.can_session.specs.Benches.{BenchState};
 ghost use Rattle.can_session.specs.Runs.{IsBench, IsRecordOf, at_start, Ends, EndsOver, Notes, EndsAt, StepsOn, fault_of};
 
-use crate::bench::Bench;
+use crate::bench_state::Bench;
 use crate::lines::{LineFault, Lines};
 use crate::unheard::Unheard;
 use can_bus::{BusConfig, Record};

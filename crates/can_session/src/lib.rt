@@ -6,8 +6,8 @@
 #![tactic(auto)]
 
 mod attempt_lines;
-mod bench;
 pub mod bench_run;
+mod bench_state;
 mod byte_search;
 pub mod laws;
 mod line_prefix;

@@ -1,7 +1,7 @@
 use Rattle.std.proofs.Common.{length, List, ap, sym, subst, arith}
 use Rattle.can_bus.proofs.Running.{ran_more, ran_none, counted_more, RanSoFar}
 use Rattle.can_event.specs.declared.reply.Reply.{Reply}
-use Rattle.can_bus.proofs.run.run.Goals as goal
+use Rattle.can_bus.proofs.runs.run.Goals as goal
 
 pub loop-event-preserved : goal.loop-event-preserved
 loop-event-preserved g c =

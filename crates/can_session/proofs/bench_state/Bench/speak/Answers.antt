@@ -5,7 +5,7 @@ use Rattle.can_session.specs.Benches.{BenchState, Speaks}
 use Rattle.can_session.specs.declared.unheard.Unheard.{Unheard}
 use Rattle.can_session.specs.inner.Acts.{done_by, noted}
 use Rattle.can_session.proofs.Speaking.{speaks, ends_spoken}
-use Rattle.can_session.proofs.bench.Bench.speak.Goals as goal
+use Rattle.can_session.proofs.bench_state.Bench.speak.Goals as goal
 
 pub returns-in_ok-end_spoken-in-Some : goal.returns-in_ok-end_spoken-in-Some
 returns-in_ok-end_spoken-in-Some c =

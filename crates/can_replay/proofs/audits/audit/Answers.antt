@@ -5,7 +5,7 @@ use Rattle.can_bus.proofs.Headlines.{headline}
 use Rattle.can_event.specs.Events.{IsConfig}
 use Rattle.can_replay.specs.Audits.{Blames}
 use Rattle.can_replay.proofs.Auditing.{Turn, blamed, replayed_more, all_legal, spared}
-use Rattle.can_replay.proofs.audit.audit.Goals as goal
+use Rattle.can_replay.proofs.audits.audit.Goals as goal
 
 pub returns-then-not-same_reply-clause-wrong : goal.returns-then-not-same_reply-clause-wrong
 returns-then-not-same_reply-clause-wrong c =

@@ -5,7 +5,7 @@ use Rattle.can_event.specs.declared.event.Event.TheVariants as event
 use Rattle.can_bus.specs.Answer.{Answers, told_attempt}
 use Rattle.can_session.specs.AttemptLines.{attempt_line}
 use Rattle.can_session.specs.Benches.{BenchState, IsTried}
-use Rattle.can_session.proofs.bench.Bench.attempt.Goals as goal
+use Rattle.can_session.proofs.bench_state.Bench.attempt.Goals as goal
 
 pub returns-clause-tried : goal.returns-clause-tried
 returns-clause-tried g c =
