@@ -2,7 +2,7 @@ use Rattle.std.proofs.Common.{◌≡◌, ◌+◌, ◌<◌, ◌≤◌, ℕ, zero,
 use Rattle.std.specs.Prelude.{slice_get, slice_index_or, All}
 use Rattle.std.specs.Str.{IsUtf8}
 use Rattle.can_frame.specs.Names.{AreNames, place_of}
-use Rattle.can_dialog.proofs.Naming.{unnamed}
+use Rattle.can_hub.proofs.Ascii.{unnamed}
 use Rattle.std.proofs.lemmas.Bool.{cases_lt}
 use Rattle.can_hub.specs.Buses.{BusSeen, items_on, NumberedFrom, NoneNamed, IsFirstNamed}
 
