@@ -22,22 +22,11 @@ end 7
 
 pub fn texts(alloc: Global) -> Result<(), Stop> {
     let record = read_record(alloc, TEXT)?;
-    is_written_again(alloc, &record)?;
+    let text = record_text(alloc, &record)?;
+    demand(text.as_slice() == TEXT.as_bytes())?;
     audit(alloc, &record)?;
     let other = String::from_str(alloc, TEXT)?.replace(alloc, "done 0002", "done 0000")?;
-    is_wrong_at_the_attempt(alloc, &other)
-}
-
-/// The text of a record is the one that it was read from.
-fn is_written_again(alloc: Global, record: &Record) -> Result<(), Stop> {
-    let text = record_text(alloc, record)?;
-    demand(text.as_slice() == TEXT.as_bytes())
-}
-
-/// The entry of the attempt, number 3, is the first wrong one in the record of a text.
-fn is_wrong_at_the_attempt(alloc: Global, text: &str) -> Result<(), Stop> {
-    let record = read_record(alloc, text)?;
-    match audit(alloc, &record) {
+    match audit(alloc, &read_record(alloc, &other)?) {
         Err(AuditFault::Wrong { entry, .. }) => demand(entry == 3),
         Err(AuditFault::NoMemory) => Err(Stop::NoMemory),
         Ok(()) => Err(Stop::Wrong),
