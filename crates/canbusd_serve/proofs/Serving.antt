@@ -1,6 +1,7 @@
-use Rattle.std.proofs.Common.{◌≡◌, ◌+◌, ◌<◌, ℕ, suc, take, get_or, List, [], ◌∷◌, ◌++◌, length, All, Vec, Result, Ok, Err, Bool, false, IfErr, OnOk, IsTrue, refl, ap, ◌∙◌, sym, subst, arith, rules}
+use Rattle.std.proofs.Common.{◌≡◌, ◌+◌, ◌<◌, ℕ, suc, take, get_or, slice_get, List, [], ◌∷◌, ◌++◌, length, All, Vec, Option, IsSomeAnd, Result, Ok, Err, Bool, false, IfErr, IsErrAnd, OnOk, IsTrue, inl, refl, ap, ◌∙◌, sym, subst, arith, rules}
 use Rattle.std.proofs.lemmas.List.{take_more}
 use Rattle.std.proofs.lemmas.List.Elements.{All-cons}
+use Rattle.std.proofs.lemmas.Option.{slice_get-get_or}
 use Rattle.can_frame.specs.Names.{AreNames, names_in}
 use Rattle.can_station.specs.declared.gate.Open.{Open}
 use Rattle.can_station.specs.declared.pass.Settled.{Settled}
@@ -8,10 +9,12 @@ use Rattle.can_station.specs.Passes.{PassSeen}
 use Rattle.can_hub.specs.declared.bench.Bench.{Bench}
 use Rattle.can_hub.specs.Benches.{buses_from}
 use Rattle.can_hub.specs.Settling.{AllSettle}
+use Rattle.canbusd_faults.specs.declared.fault.Failure.{Failure}
+use Rattle.canbusd_faults.specs.declared.fault.Fault.{Fault}
 use Rattle.canbusd_options.specs.declared.bus_word.BusWord.{BusWord}
 use Rattle.canbusd_files.specs.declared.buses.Source.{Source}
 use Rattle.canbusd_options.specs.declared.serve_options.ServeOptions.{ServeOptions}
-use Rattle.canbusd_serve.specs.Served.{AreBenches, IsBenchOf, IsLegalEnd}
+use Rattle.canbusd_serve.specs.Served.{AreBenches, IsBenchOf, IsLegalEnd, IsOfBus, IsOfBuses, IsOfServer, MakeBenches}
 
 -- The buses of a server, one after the other.
 
@@ -26,6 +29,19 @@ benches-push o (x ∷ xs) [] bus b are is = absurd are
 pub benches-more : (o : ServeOptions) (buses : List BusWord) (bs : List (Bench Source Open)) (i : ℕ) (bus : BusWord) (b : Bench Source Open) → i < length buses → bus ≡ get_or buses i bus → AreBenches o (take i buses) bs → IsBenchOf o bus b → AreBenches o (take (i + 1) buses) (bs ++ b ∷ [])
 benches-more o buses bs i bus b below here are is =
     subst (λ l. AreBenches o l (bs ++ b ∷ [])) (ap (λ z. take i buses ++ z ∷ []) here ∙ sym (take_more buses i bus below)) (benches-push o (take i buses) bs bus b are is)
+
+-- the bus of the next word is at fault
+of-next : (o : ServeOptions) (buses : List BusWord) (bs : List (Bench Source Open)) (i : ℕ) (d : BusWord) (why : Fault) → buses ≡ o.buses.items → i < length buses → AreBenches o (take i buses) bs → IsOfBus (get_or buses i d) why → IsOfBuses o why
+of-next o buses bs i d why same below are is =
+    subst (λ (l : List BusWord). (k : ℕ) × MakeBenches o (take k l) × IsSomeAnd (slice_get l k) (λ bus. IsOfBus bus why)) same
+    (i, (bs, are), subst (λ (b : Option BusWord). IsSomeAnd b (λ bus. IsOfBus bus why)) (sym (slice_get-get_or buses i d below)) is)
+
+-- and its fault is passed on
+pub next-fails : {T : Type 0} (o : ServeOptions) (buses : List BusWord) (bs : List (Bench Source Open)) (i : ℕ) (d : BusWord) (failure : Failure) (r : Result T Failure) → buses ≡ o.buses.items → i < length buses → AreBenches o (take i buses) bs
+    → IsOfBus (get_or buses i d) failure.fault → IsErrAnd r (λ x. x ≡ failure) → IfErr r (λ x. IsOfServer o x.fault)
+next-fails o buses bs i d failure (Ok t) same below are is passed = tt
+next-fails o buses bs i d failure (Err x) same below are is passed =
+    inl (of-next o buses bs i d x.fault same below are (subst (λ (f : Failure). IsOfBus (get_or buses i d) f.fault) (sym passed) is))
 
 -- there is one for each word
 pub benches-length : (o : ServeOptions) (buses : List BusWord) (bs : List (Bench Source Open)) → AreBenches o buses bs → length bs ≡ length buses

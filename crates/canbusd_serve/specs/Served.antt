@@ -1,4 +1,4 @@
-use Rattle.std.specs.Prelude.{◌≡◌, ℕ, List, [], ◌∷◌, ◌++◌, length, All, Option, codes, decimal}
+use Rattle.std.specs.Prelude.{◌≡◌, ◌⊎◌, ℕ, List, [], ◌∷◌, ◌++◌, length, All, Option, IsSomeAnd, codes, decimal, slice_get, take}
 use Rattle.std.specs.List.{AllZip}
 use Rattle.std.specs.Io.KnownBytes.{Appends}
 use Rattle.can_frame.specs.Names.{AreNames, names_in}
@@ -10,6 +10,9 @@ use Rattle.canbusd_options.specs.declared.bus_word.BusWord.{BusWord}
 use Rattle.canbusd_files.specs.declared.buses.Source.{Source}
 use Rattle.canbusd_options.specs.declared.serve_options.ServeOptions.{ServeOptions}
 use Rattle.canbusd_files.specs.Buses.{AreVerdicts, config_of, verdicts_of}
+use Rattle.canbusd_files.specs.Files.{IsOfNames, IsOfSource}
+use Rattle.canbusd_faults.specs.declared.fault.Fault.{Fault}
+use Rattle.canbusd_faults.specs.declared.fault.Fault.TheVariants as fault
 use Rattle.canbusd_options.specs.BusWords.{first_name_of}
 
 -- A server's buses, and what it puts out at its end (own choice).
@@ -26,6 +29,35 @@ pub record IsBenchOf (o : ServeOptions) (bus : BusWord) (b : Bench Source Open) 
 -- each bus of a server is what its word describes
 abbrev pub AreBenches : ServeOptions → List BusWord → List (Bench Source Open) → Type 0
 AreBenches o buses benches = AllZip (λ bus b. IsBenchOf o bus b) buses benches
+
+-- each bus of a server is what its options describe
+abbrev pub AreAllBenches : ServeOptions → List (Bench Source Open) → Type 0
+AreAllBenches o benches = AreBenches o o.buses.items benches
+
+-- there can be buses that are what these words describe
+abbrev pub MakeBenches : ServeOptions → List BusWord → Type 0
+MakeBenches o buses = (benches : List (Bench Source Open)) × AreBenches o buses benches
+
+-- a fault of a bus of a server: of its names, or of its script
+abbrev pub IsOfBus : BusWord → Fault → Type 0
+IsOfBus bus why = IsOfNames bus.names.now why ⊎ (AreNames (names_in bus.names.now) × IsOfSource bus.script (names_in bus.names.now) why)
+
+-- a fault of serving: no server can have the buses, it cannot listen or write, a bus got the pass of another, or memory was refused
+abbrev pub IsOfServing : Fault → Type 0
+IsOfServing (fault.Buses why) = Unit {0}
+IsOfServing fault.CannotListen = Unit {0}
+IsOfServing (fault.WrongStation name) = Unit {0}
+IsOfServing fault.Write = Unit {0}
+IsOfServing fault.NoMemory = Unit {0}
+IsOfServing why = ⊥
+
+-- a fault of one of the buses of a server; those before it are what their words describe
+abbrev pub IsOfBuses : ServeOptions → Fault → Type 0
+IsOfBuses o why = (i : ℕ) × MakeBenches o (take i o.buses.items) × IsSomeAnd (slice_get o.buses.items i) (λ bus. IsOfBus bus why)
+
+-- a fault of a server: of one of its buses, or of serving
+abbrev pub IsOfServer : ServeOptions → Fault → Type 0
+IsOfServer o why = IsOfBuses o why ⊎ IsOfServing why
 
 -- the record is of a legal history
 abbrev pub IsLegalEnd : Settled → Type 0

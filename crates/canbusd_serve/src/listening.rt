@@ -1,4 +1,7 @@
 //! Where a server listens: a Unix path, or a host and a port.
+ghost use Rattle.std.specs.Prelude.{◌≡◌, IfErr};
+ghost use Rattle.canbusd_faults.specs.declared.fault.Fault.TheVariants as fault;
+ghost use Rattle.canbusd_serve.specs.Served.{IsOfServing};
 
 use crate::socket_file::SocketFile;
 use can_server::{Door, Listener};
@@ -26,7 +29,9 @@ pub fn listen<'a, H: Files<File = File> + Net<Listener = TcpListener, Stream = T
     alloc: Global,
     address: &str,
     sessions: u32,
-) -> Result<Listening, Failure<'a>> {
+) -> Result<Listening, Failure<'a>>
+    ensures { IfErr result (λ failure. IsOfServing failure.fault) }
+{
     let (listener, file) = match bind(rt, alloc, address) {
         Ok(bound) => bound,
         Err(error) => return Err(listen_failure(alloc, address, &error)),
@@ -49,7 +54,9 @@ fn open<'a>(
     address: &str,
     listener: Listener,
     sessions: u32,
-) -> Result<(Door, String), Failure<'a>> {
+) -> Result<(Door, String), Failure<'a>>
+    ensures { IfErr result (λ failure. IsOfServing failure.fault) }
+{
     let Ok(heard) = heard_at(alloc, address, &listener) else {
         return Err(Failure::new(alloc, Fault::NoMemory));
     };
@@ -60,7 +67,9 @@ fn open<'a>(
 }
 
 /// Why nobody can connect.
-pub fn listen_failure<'a>(alloc: Global, place: &str, error: &Error) -> Failure<'a> {
+pub fn listen_failure<'a>(alloc: Global, place: &str, error: &Error) -> Failure<'a>
+    ensures { result.fault ≡ fault.CannotListen }
+{
     Failure::with(alloc, Fault::CannotListen, reason_note(alloc, place, error))
 }
 

@@ -1,7 +1,8 @@
-ghost use Rattle.std.specs.Prelude.{◌≡◌, length, All, IfOk, IsTrue, OnOk};
-ghost use Rattle.std.specs.Io.KnownBytes.{Appends};
+ghost use Rattle.std.specs.Prelude.{◌≡◌, length, All, IfErr, IfOk, IsTrue, OnOk};
 ghost use Rattle.can_hub.specs.Benches.{NamedFrom};
-ghost use Rattle.canbusd_serve.specs.Served.{AreBenches, IsBenchOf, IsLegalEnd, IsListening, IsServed, end_line, end_lines, listening_line};
+ghost use Rattle.canbusd_faults.specs.declared.fault.Fault.TheVariants as fault;
+ghost use Rattle.canbusd_files.specs.Files.{Took};
+ghost use Rattle.canbusd_serve.specs.Served.{AreAllBenches, IsBenchOf, IsLegalEnd, IsListening, IsOfBus, IsOfServer, IsOfServing, IsServed, end_line, end_lines, listening_line};
 
 use crate::buses_notes::buses_note;
 use crate::host::Host;
@@ -60,7 +61,8 @@ pub fn run_serve<'a, H: ServerRuntime, R: Read + Drop + Send + 'static, W: Write
     output: &mut W,
     errors: &mut E,
 ) -> Result<bool, Failure<'a>>
-    ensures { IfOk result (λ whole. IsTrue whole → IsServed W.contents options.now output.old output.new) }
+    ensures served { IfOk result (λ whole. IsTrue whole → IsServed W.contents options.now output.old output.new) }
+    ensures fault { IfErr result (λ failure. IsOfServer options.now failure.fault) }
 {
     let run = ServerRun {
         rt,
@@ -94,7 +96,8 @@ struct ServerRun<'r, 'a, H: ServerRuntime> {
 impl<'r, 'a, H: ServerRuntime> ServerRun<'r, 'a, H> {
     // What the buses of the options are made of.
     fn read_benches(&self) -> Result<Vec<Bench<Source, Open>>, Failure<'a>>
-        ensures { IfOk result (λ benches. AreBenches self.now.options.now self.now.options.now.buses.items benches.items) }
+        ensures made { IfOk result (λ benches. AreAllBenches self.now.options.now benches.items) }
+        ensures fault { IfErr result (λ failure. IsOfServer self.now.options.now failure.fault) }
     {
         let mut benches = Vec::new(self.alloc);
         for bus in &self.options.buses {
@@ -107,7 +110,8 @@ impl<'r, 'a, H: ServerRuntime> ServerRun<'r, 'a, H> {
     }
 
     fn read_bench(&self, bus: BusWord<'a>) -> Result<Bench<Source, Open>, Failure<'a>>
-        ensures { IfOk result (λ bench. IsBenchOf self.now.options.now bus.entry bench) }
+        ensures made { IfOk result (λ bench. IsBenchOf self.now.options.now bus.entry bench) }
+        ensures fault { IfErr result (λ failure. IsOfBus bus.entry failure.fault) }
     {
         let names = read_names(self.alloc, bus.names)?;
         let source = read_source(self.rt, self.alloc, bus, &names)?;
@@ -142,6 +146,7 @@ impl<'r, 'a, H: ServerRuntime> ServerRun<'r, 'a, H> {
         ensures each { IfOk result (λ settled. length settled.items ≡ length benches.items) }
         ensures legal { IfOk result (λ settled. All (λ s. IsLegalEnd s) settled.items) }
         ensures listening { OnOk result (IsListening W.contents output.old output.new) }
+        ensures fault { IfErr result (λ failure. IsOfServing failure.fault) }
     {
         let hub = match Hub::<N, Source, Open>::new(self.alloc, benches) {
             Ok(hub) => hub,
@@ -154,8 +159,10 @@ impl<'r, 'a, H: ServerRuntime> ServerRun<'r, 'a, H> {
         }
     }
 
-    fn hub_failure(&self, fault: BusFault) -> Failure<'a> {
-        let notes = match fault {
+    fn hub_failure(&self, found: BusFault) -> Failure<'a>
+        ensures { result.fault ≡ fault.Buses found }
+    {
+        let notes = match found {
             BusFault::BadConfig => {
                 buses_note(self.alloc, &self.options.settings, &self.options.buses)
             }
@@ -164,10 +171,12 @@ impl<'r, 'a, H: ServerRuntime> ServerRun<'r, 'a, H> {
                 "each bus reserves 112 bytes of memory for each event of --limit",
             ),
         };
-        Failure::with(self.alloc, Fault::Buses(fault), notes)
+        Failure::with(self.alloc, Fault::Buses(found), notes)
     }
 
-    fn wrong_station(&self, bus: usize) -> Failure<'a> {
+    fn wrong_station(&self, bus: usize) -> Failure<'a>
+        ensures { IsOfServing result.fault }
+    {
         let name = self
             .options
             .buses
@@ -191,6 +200,7 @@ impl<'r, 'a, H: ServerRuntime> ServerRun<'r, 'a, H> {
     ) -> Result<Vec<Vec<Pass<N>>>, Failure<'a>>
         ensures passes { IfOk result (λ passes. length passes.items ≡ length hub.now) }
         ensures listening { OnOk result (IsListening W.contents output.old output.new) }
+        ensures fault { IfErr result (λ failure. IsOfServing failure.fault) }
     {
         let address = self.options.address;
         let sessions = self.options.sessions;
@@ -218,6 +228,7 @@ impl<'r, 'a, H: ServerRuntime> ServerRun<'r, 'a, H> {
     ) -> Result<Vec<Vec<Pass<N>>>, Failure<'a>>
         ensures passes { IfOk result (λ passes. length passes.items ≡ length hub.now) }
         ensures listening { OnOk result (IsListening W.contents output.old output.new) }
+        ensures fault { IfErr result (λ failure. IsOfServing failure.fault) }
     {
         let until = if self.options.is_until_eof {
             Some(self.end_of(input)?)
@@ -238,7 +249,8 @@ impl<'r, 'a, H: ServerRuntime> ServerRun<'r, 'a, H> {
         until: Option<UnixStream>,
         errors: &mut E,
     ) -> Result<Vec<Vec<Pass<N>>>, Failure<'a>>
-        ensures { IfOk result (λ passes. length passes.items ≡ length hub.now) }
+        ensures passes { IfOk result (λ passes. length passes.items ≡ length hub.now) }
+        ensures fault { IfErr result (λ failure. IsOfServing failure.fault) }
     {
         let host = Host {
             rt: self.rt,
@@ -257,7 +269,9 @@ impl<'r, 'a, H: ServerRuntime> ServerRun<'r, 'a, H> {
 
     // A stream that ends where the input does. Its reader is a thread that nobody joins, since a read of the input
     // may wait for longer than the run.
-    fn end_of<R: Read + Drop + Send + 'static>(&self, input: R) -> Result<UnixStream, Failure<'a>> {
+    fn end_of<R: Read + Drop + Send + 'static>(&self, input: R) -> Result<UnixStream, Failure<'a>>
+        ensures { IfErr result (λ failure. IsOfServing failure.fault) }
+    {
         let (ours, theirs) = match UnixStream::pair(self.rt) {
             Ok(pair) => pair,
             Err(error) => return Err(listen_failure(self.alloc, INPUT, &error)),
@@ -289,7 +303,8 @@ fn put_listening<'a, W: Write>(
     heard: &str,
     output: &mut W,
 ) -> Result<(), Failure<'a>>
-    ensures { OnOk result (Appends (W.contents output.old) (W.contents output.new) (listening_line heard.now)) }
+    ensures put { OnOk result (Took W.contents output.old output.new (listening_line heard.now)) }
+    ensures fault { IfErr result (λ failure. failure.fault ≡ fault.Write) }
 {
     if let Err(error) = writeln!(output, "listening {heard}") {
         return Err(write_failure(alloc, OUTPUT, &error));
@@ -306,7 +321,7 @@ fn put_ends<'a, W: Write>(
     settled: &[Settled],
     output: &mut W,
 ) -> Result<(), Failure<'a>>
-    ensures { OnOk result (Appends (W.contents output.old) (W.contents output.new) (end_lines buses.now settled.now)) }
+    ensures { OnOk result (Took W.contents output.old output.new (end_lines buses.now settled.now)) }
 {
     put_each_end(alloc, buses, settled, output)?;
     output
@@ -320,7 +335,7 @@ fn put_each_end<'a, W: Write>(
     settled: &[Settled],
     output: &mut W,
 ) -> Result<(), Failure<'a>>
-    ensures { OnOk result (Appends (W.contents output.old) (W.contents output.new) (end_lines buses.now settled.now)) }
+    ensures { OnOk result (Took W.contents output.old output.new (end_lines buses.now settled.now)) }
 {
     let Some((bus, buses)) = buses.split_first() else {
         return Ok(());
@@ -338,7 +353,7 @@ fn put_end<'a, W: Write>(
     settled: &Settled,
     output: &mut W,
 ) -> Result<(), Failure<'a>>
-    ensures { OnOk result (Appends (W.contents output.old) (W.contents output.new) (end_line bus.now settled.now)) }
+    ensures { OnOk result (Took W.contents output.old output.new (end_line bus.now settled.now)) }
 {
     let name = bus.first_name();
     let count = settled.history.len();

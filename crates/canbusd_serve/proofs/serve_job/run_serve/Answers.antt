@@ -14,8 +14,8 @@ serve_named-requires-after_bounds g c lifetimes met = named c.in_ok-benches.benc
 quiet : (before after result : Bool) → (IsTrue before → IsTrue after) → result ≡ after → IsTrue (not result) → before ≡ false
 quiet before after result kept is whole = grind rules
 
-pub returns : goal.returns
-returns g c = λ whole.
+pub returns-clause-served : goal.returns-clause-served
+returns-clause-served g c = λ whole.
     let kept : IsTrue c.pass_on.new.self.has_told → IsTrue c.match-options.telling.has_told = λ told. elim c.match-options.branch [
       | in-Some w ↦ subst (λ t. IsTrue t.has_told) (sym w.telling-is) (w.save_all.ensures told)
       | in_default w ↦ subst (λ t. IsTrue t.has_told) (sym w.telling-is) told
@@ -24,9 +24,9 @@ returns g c = λ whole.
     let ours = subst (λ buses. Appends (g.W.Write.contents c.serve_named.new.output) (g.W.Write.contents c.put_ends.new.output) (end_lines buses c.deref-2.result.now)) c.deref.ensures.value ends in
     let all = subst (λ settled. Appends (g.W.Write.contents c.serve_named.new.output) (g.W.Write.contents c.put_ends.new.output) (end_lines c.args.options.now.buses.items settled)) c.deref-2.ensures.value ours in
     record {
-      named = benches-named _ _ _ c.in_ok-benches.ensures;
+      named = benches-named _ _ _ c.in_ok-benches.ensures.made;
       settled = c.in_ok-settled.settled.items;
-      each = c.in_ok-settled.ensures.each ∙ benches-length _ _ _ c.in_ok-benches.ensures;
+      each = c.in_ok-settled.ensures.each ∙ benches-length _ _ _ c.in_ok-benches.ensures.made;
       legal = c.in_ok-settled.ensures.legal;
       heard = c.in_ok-settled.ensures.listening.0;
       wrote = Appends-trans _ _ _ _ _ c.in_ok-settled.ensures.listening.1 all;
