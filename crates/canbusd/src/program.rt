@@ -2,7 +2,8 @@ ghost use Rattle.std.specs.Prelude.{◌≡◌, ◌≤◌, [], IfOk, IsOk, IsTrue
 ghost use Rattle.std.specs.Io.Buffered.{writer_buffer, writer_contents};
 ghost use Rattle.std.specs.Io.KnownBytes.{Keeps};
 ghost use Rattle.canbusd.specs.Outcomes.{IsDone, Succeeds};
-ghost use Rattle.canbusd_options.specs.Help.{ShowsHelp};
+ghost use Rattle.canbusd_options.specs.Help.{IsNoMemory, ShowsHelp};
+ghost use Rattle.canbusd_options.specs.Program.{AskJob};
 
 use can_session::Unheard;
 use canbusd_audit::audit_file;
@@ -25,7 +26,7 @@ const BAD_WORDS: u8 = 2;
 /// Carries out a command line, the program's name among its words, and returns its status: 0, 1 with a line
 /// `canbusd: TEXT` among the errors and notes after it, or 2 for a fault of the words with the parser's own text.
 /// All output was written, or the status is 1 and the text `write fault`. Status 0 means that what the words ask for was
-/// done and put out.
+/// done and put out, status 2 that they ask for no job.
 ///
 /// A server may wait for its clients for ever; no other command line waits, but for its input.
 pub fn run_words<
@@ -44,6 +45,7 @@ pub fn run_words<
     ensures status { result ≤ 2 }
     ensures done { result ≡ 0 → Succeeds (writer_contents W.contents) (map string_bytes words.now) (R.remaining input) output.old output.new }
     ensures flushed { result ≡ 0 → writer_buffer output.new ≡ [] }
+    ensures words { result ≡ 2 → ¬ (AskJob (map string_bytes words.now)) }
 {
     match read_options(alloc, words) {
         Ok(job) => carry_out(rt, alloc, job, input, output, errors),
@@ -106,6 +108,7 @@ fn tell_words<W: Write + Drop, E: Write>(
 ) -> u8
     ensures status { result ≤ 2 }
     ensures shown { result ≡ 0 → ShowsHelp error.now }
+    ensures words { result ≡ 2 → ¬ (IsNoMemory error.now) }
     ensures flushed { result ≡ 0 → writer_buffer output.new ≡ [] }
 {
     if error.kind() == ErrorKind::OutOfMemory {
