@@ -1,7 +1,6 @@
 pub mod Faulting
 pub mod Turning
 pub mod Room
-pub mod Counts
 pub mod Cuts
 pub mod Living
 pub mod Naming

@@ -8,7 +8,6 @@
 #![tactic(auto)]
 
 pub mod bus_port;
-mod byte_count;
 mod commands;
 pub mod delivery;
 mod dialog;
@@ -19,7 +18,6 @@ pub mod session;
 pub mod stage;
 
 pub use bus_port::BusPort;
-pub use byte_count::count_of;
 pub use delivery::Delivery;
 pub use port::{Port, PortRefusal};
 pub use session::{Session, SessionFault};

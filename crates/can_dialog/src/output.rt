@@ -2,7 +2,7 @@ ghost use Rattle.std.specs.Prelude.{◌≡◌, ◌≢◌, ◌+◌, ◌*◌, ◌�
 ghost use Rattle.can_proto.specs.Spelling.{reply_text};
 ghost use Rattle.can_dialog.specs.Sessions.{begun, Wrote};
 
-use crate::byte_count::count_of;
+use can_frame::count_of;
 use can_proto::{Answer, reply_text};
 use std::alloc::AllocError;
 use std::io::Write;

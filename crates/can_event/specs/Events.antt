@@ -47,6 +47,20 @@ pub record IsConfig (c : BusConfig) : Type 0 where
   pub few_entries : c.limit ≤ max_limit
   pub few_attempts : c.auto_restart ≤ max_auto_restart
 
+-- how many entries the record of a long run has at most: their numbers fit 32 bits (own choice)
+abbrev pub max_long_limit : ℕ
+max_long_limit = 4294967294
+
+-- the limits of the bus of a long run, which has no whole record in memory; those of a bus are within them
+pub record IsLongConfig (c : BusConfig) : Type 0 where
+  pub some_ifaces : 1 ≤ c.ifaces
+  pub few_ifaces : c.ifaces ≤ 16
+  pub some_frames : 1 ≤ c.tx_capacity
+  pub few_frames : c.tx_capacity ≤ max_tx_capacity
+  pub some_entries : 1 ≤ c.limit
+  pub few_entries : c.limit ≤ max_long_limit
+  pub few_attempts : c.auto_restart ≤ max_auto_restart
+
 -- a frame that was tried, as a socket receives it
 abbrev pub tried_item : Tried → Received
 tried_item t = record { item = item.Data t.frame; from = t.winner; number = t.number; moment = t.moment }

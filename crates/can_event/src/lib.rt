@@ -19,7 +19,9 @@ pub mod spelled;
 pub mod stats;
 
 pub use attempt::{Attempt, Tried};
-pub use bus_config::{BusConfig, MAX_AUTO_RESTART, MAX_LIMIT, MAX_RX_CAPACITY, MAX_TX_CAPACITY};
+pub use bus_config::{
+    BusConfig, MAX_AUTO_RESTART, MAX_LIMIT, MAX_LONG_LIMIT, MAX_RX_CAPACITY, MAX_TX_CAPACITY,
+};
 pub use entry::Entry;
 pub use event::Event;
 pub use opt::Opt;

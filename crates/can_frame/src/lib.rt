@@ -16,6 +16,7 @@
 #![tactic(auto)]
 
 pub mod arbitration;
+pub mod byte_count;
 pub mod can_id;
 mod digit_writing;
 pub mod error_frame;
@@ -30,6 +31,7 @@ pub mod names;
 pub mod numbers;
 pub mod text;
 
+pub use byte_count::count_of;
 pub use can_id::{CanId, IdTooLarge};
 pub use error_frame::{ClassTooLarge, ErrorFrame};
 pub use frame::{BadFdLength, Frame, TooLong, is_fd_length};

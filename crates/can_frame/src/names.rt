@@ -80,6 +80,15 @@ impl Names {
         ensures found { IfSome result (λ iface. slice_get self.now iface ≡ Some name.now) }
         ensures missing { IsNone result ↔ (Contains self.now name.now → ⊥) }
     {
+        self.find_bytes(name.as_bytes())
+    }
+
+    /// The interface with this name, or `None` where no interface has it; bytes that are no UTF-8 are no name.
+    pub fn find_bytes(&self, name: &[u8]) -> Option<Iface>
+        ensures place { result ≡ place_of self.now name.now }
+        ensures found { IfSome result (λ iface. slice_get self.now iface ≡ Some name.now) }
+        ensures missing { IsNone result ↔ (Contains self.now name.now → ⊥) }
+    {
         let place = place_in(&self.text, name)?;
         Iface::new(place as u8)
     }
@@ -139,9 +148,7 @@ fn are_good(text: &str) -> bool
 fn are_distinct(text: &str) -> bool
     ensures { IsTrue result ↔ AllPairs ◌≢◌ (names_in text.now) }
 {
-    text.split(',')
-        .enumerate()
-        .all(|(place, name)| place_in(text, name) == Some(place))
+    text.split(',').enumerate().all(|(place, name)| place_in(text, name.as_bytes()) == Some(place))
 }
 
 fn count_in(text: &str) -> usize
@@ -166,8 +173,8 @@ fn starts_in(text: &str) -> [u16; 17]
 }
 
 // The first place of a name among the pieces between the commas.
-fn place_in(text: &str, name: &str) -> Option<usize>
+fn place_in(text: &str, name: &[u8]) -> Option<usize>
     ensures { result ≡ place_of (names_in text.now) name.now }
 {
-    text.split(',').position(|piece| piece == name)
+    text.split(',').position(|piece| piece.as_bytes() == name)
 }

@@ -21,7 +21,7 @@ pub mod unheard;
 
 pub use bench_run::{BenchConfig, BenchFault, bench, bench_lines, bench_noting};
 pub use can_dialog::{
-    BusPort, Dialog, Port, PortRefusal, RawSocket, Session, SessionFault, Stage, count_of,
+    BusPort, Dialog, Port, PortRefusal, RawSocket, Session, SessionFault, Stage,
 };
 pub use lines::{LineFault, Lines};
 pub use order::{Order, SessionNumber, read_order};

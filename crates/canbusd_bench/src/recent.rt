@@ -1,6 +1,6 @@
 ghost use Rattle.std.specs.Prelude.{◌≡◌};
 
-use can_session::count_of;
+use can_frame::count_of;
 use std::alloc::Global;
 use std::io;
 use std::io::{Error, Read};

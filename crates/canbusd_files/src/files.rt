@@ -4,7 +4,7 @@ ghost use Rattle.canbusd_faults.specs.declared.fault.Fault.TheVariants as fault;
 ghost use Rattle.canbusd_files.specs.Files.{IsOfFile, IsOfReading};
 
 use crate::few_reads::{FewReads, MOST_READS};
-use can_session::count_of;
+use can_frame::count_of;
 use canbusd_faults::{Failure, Fault, Line, reason_note};
 use std::alloc::{AllocError, Global};
 use std::fs;

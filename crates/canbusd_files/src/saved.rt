@@ -10,7 +10,7 @@ use can_bus::Record;
 use can_frame::Names;
 use can_logfile::write_tape;
 use can_record::write_record;
-use can_session::count_of;
+use can_frame::count_of;
 use canbusd_faults::{Failure, Fault, Shown};
 use canbusd_options::BusWord;
 use std::alloc::{AllocError, Global};

@@ -1,7 +1,6 @@
-use Rattle.std.proofs.Common.{◌≡◌, ◌+◌, ◌-◌, ℕ, List, slice_range, slice_index, string_bytes, IsAscii, sym, ap, ◌∙◌, subst, length, arith}
+use Rattle.std.proofs.Common.{◌-◌, ℕ, List, slice_range, slice_index, string_bytes, IsAscii, sym, ap, ◌∙◌, subst, length, arith}
 use Rattle.std.specs.List.{join_with_byte}
 use Rattle.std.proofs.lemmas.Str.{IsCharBoundary-from_ascii}
-use Rattle.can_frame.specs.Names.{names_in}
 use Rattle.can_frame.proofs.Starts.{run}
 use Rattle.can_frame.proofs.names.Names.run.Goals as goal
 

@@ -1,7 +1,7 @@
 use Rattle.std.proofs.Common.{◌≡◌, rules}
 use Rattle.can_frame.specs.Names.{place_of}
 use Rattle.can_frame.proofs.Naming.{found-place_of, missing-place_of}
-use Rattle.can_frame.proofs.names.Names.find.Goals as goal
+use Rattle.can_frame.proofs.names.Names.find_bytes.Goals as goal
 
 pub returns-in_err-place-clause-missing : goal.returns-in_err-place-clause-missing
 returns-in_err-place-clause-missing c =
