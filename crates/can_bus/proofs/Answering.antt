@@ -10,11 +10,12 @@ use Rattle.can_event.specs.declared.refusal.Refusal.TheVariants as refusal
 use Rattle.can_event.specs.declared.socket_id.SocketId.{SocketId}
 use Rattle.can_event.specs.Replies.{Enters}
 use Rattle.can_event.specs.Spelled.{IsSpelled}
-use Rattle.can_bus.specs.Journal.{Journal, Kept}
+use Rattle.can_record.specs.Journal.{Journal, Kept}
 use Rattle.can_bus.specs.Lean.{Carries, IsReady, record_of}
 use Rattle.can_bus.specs.Legal.{legal_reply}
 use Rattle.can_bus.specs.Run.{IsAnswer, IsAnswered, history_after}
-use Rattle.can_bus.specs.State.{Parts, kept_parts, IsKept, IsLonger}
+use Rattle.can_bus.specs.State.{Parts, kept_parts, IsKept}
+use Rattle.can_record.specs.Journal.{IsLonger}
 use Rattle.can_bus.proofs.Fitting.{legal_has_line, answer_suits}
 use Rattle.can_bus.proofs.Keeping.{kept_more, noted}
 use Rattle.can_bus.proofs.Narrow.{SetsFilters}

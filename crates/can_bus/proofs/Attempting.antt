@@ -21,11 +21,12 @@ use Rattle.can_event.specs.declared.pending.Pending.{Pending}
 use Rattle.can_event.specs.declared.received.Received.{Received}
 use Rattle.can_event.specs.declared.reply.Reply.TheVariants as reply
 use Rattle.can_event.specs.declared.attempt.Tried.{Tried}
-use Rattle.can_bus.specs.Answer.{told_attempt}
+use Rattle.can_record.specs.Outcomes.{told_attempt}
 use Rattle.can_bus.specs.AutoRestart.{attempts_off, restarted_next}
-use Rattle.can_bus.specs.Journal.{Kept}
+use Rattle.can_record.specs.Journal.{Kept}
 use Rattle.can_bus.specs.Sockets.{places, open_sockets, is_open, iface_of, capacity_of, filters_of, options_of}
-use Rattle.can_bus.specs.Transmit.{sent_by, gone_count, done_count, head_of, tape}
+use Rattle.can_bus.specs.Transmit.{sent_by, gone_count, done_count, head_of}
+use Rattle.can_record.specs.Tapes.{tape}
 use Rattle.can_bus.specs.Counters.{counts_of, steps_of, state_at, transmission}
 use Rattle.can_bus.specs.Attempts.{winner, tried_with, attempt_reply, tried_head}
 use Rattle.can_bus.specs.Posts.{Post, attempt_posts, auto_restart_posts, posts_of}

@@ -10,9 +10,9 @@ use Rattle.can_event.specs.declared.event.Event.TheVariants.{Open}
 use Rattle.can_event.specs.declared.attempt.Tried.{Tried}
 use Rattle.can_event.specs.declared.reply.Reply.{Reply}
 use Rattle.can_event.specs.declared.reply.Reply.TheVariants as reply
-use Rattle.can_bus.specs.Journal.{Kept}
+use Rattle.can_record.specs.Journal.{Kept}
 use Rattle.can_bus.specs.Sockets.{Place, places, places_after, open_sockets, iface_of}
-use Rattle.can_bus.specs.Transmit.{tape, tape_after}
+use Rattle.can_record.specs.Tapes.{tape, tape_after}
 use Rattle.can_bus.specs.Queues.{queued_to, taken_from}
 use Rattle.can_bus.specs.Legal.{IsLegal}
 use Rattle.can_bus.specs.State.{LineState, SocketState, Parts, kept_line, kept_lines, kept_socket, kept_sockets, IsKept}

@@ -15,7 +15,8 @@ use Rattle.can_event.specs.declared.reply.Reply.TheVariants as reply
 use Rattle.can_event.specs.declared.bus_config.BusConfig.{BusConfig}
 use Rattle.can_event.specs.declared.attempt.Tried.{Tried}
 use Rattle.can_attempt.specs.Attempts.{is_done}
-use Rattle.can_bus.specs.Transmit.{sent_by, gone_count, gone_after, done_count, done_after, lost_count, tape, tape_after}
+use Rattle.can_bus.specs.Transmit.{sent_by, gone_count, gone_after, done_count, done_after, lost_count}
+use Rattle.can_record.specs.Tapes.{tape, tape_after}
 use Rattle.can_bus.specs.Legal.{legal_reply, IsLegal}
 use Rattle.can_bus.specs.Fates.{Fate, is_fate, was_done, fate_of, frames_with}
 use Rattle.can_bus.specs.Fates.Fate.{Waiting, Done, Lost}

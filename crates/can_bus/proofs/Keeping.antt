@@ -10,12 +10,13 @@ use Rattle.can_event.specs.declared.refusal.Refusal.{Refusal}
 use Rattle.can_event.specs.declared.refusal.Refusal.TheVariants as refusal
 use Rattle.can_event.specs.Replies.{told}
 use Rattle.can_bus.specs.Answer.{Noted, Answers, Refuses}
-use Rattle.can_bus.specs.Journal.{Journal, Kept}
+use Rattle.can_record.specs.Journal.{Journal, Kept}
 use Rattle.can_bus.specs.Sockets.{places, open_sockets, iface_of, filters_of, options_of}
 use Rattle.can_bus.specs.Posts.{posts_of}
 use Rattle.can_bus.specs.Queues.{taken_from}
 use Rattle.can_bus.specs.Legal.{legal_reply}
-use Rattle.can_bus.specs.State.{LineState, SocketState, Parts, kept_socket, kept_sockets, kept_lines, kept_keys, kept_nodes, kept_left, kept_parts, IsKept, IsLonger}
+use Rattle.can_bus.specs.State.{LineState, SocketState, Parts, kept_socket, kept_sockets, kept_lines, kept_keys, kept_nodes, kept_left, kept_parts, IsKept}
+use Rattle.can_record.specs.Journal.{IsLonger}
 use Rattle.can_bus.proofs.Quiet.{queued_to-quiet, dropped_at-quiet}
 use Rattle.can_bus.proofs.Refusing.{never_full, never_no_memory}
 

@@ -1,5 +1,4 @@
 pub mod Lists
-pub mod Places
 pub mod Opened
 pub mod Quiet
 pub mod Rising

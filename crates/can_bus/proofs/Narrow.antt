@@ -23,8 +23,8 @@ use Rattle.can_event.specs.declared.socket_id.SocketId.{SocketId}
 use Rattle.can_event.specs.declared.reply.Reply.{Reply}
 use Rattle.can_event.specs.declared.reply.Reply.TheVariants as reply
 use Rattle.can_event.specs.declared.attempt.Tried.{Tried}
-use Rattle.can_packed.specs.Wide.{is_wide, is_large, is_off_alone}
-use Rattle.can_bus.specs.Journal.{Kept}
+use Rattle.can_record.specs.Wide.{is_wide, is_large, is_off_alone}
+use Rattle.can_record.specs.Journal.{Kept}
 use Rattle.can_bus.specs.State.{Parts, IsKept}
 use Rattle.can_bus.specs.Sockets.{open_sockets, is_open, iface_of, capacity_of, filters_of, options_of}
 use Rattle.can_bus.specs.Transmit.{sent_by, gone_count, head_of}

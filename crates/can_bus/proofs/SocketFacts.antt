@@ -9,7 +9,7 @@ use Rattle.can_event.specs.declared.reply.Reply.TheVariants as reply
 use Rattle.can_event.specs.declared.refusal.Refusal.{Refusal}
 use Rattle.can_event.specs.declared.refusal.Refusal.TheVariants as refusal
 use Rattle.can_bus.specs.Sockets.{places, open_sockets, is_open}
-use Rattle.can_bus.specs.Transmit.{tape}
+use Rattle.can_record.specs.Tapes.{tape}
 use Rattle.can_bus.specs.Legal.{legal_reply}
 use Rattle.can_bus.specs.State.{SocketState, Parts, kept_socket, kept_sockets, kept_parts}
 use Rattle.can_bus.specs.Changes.{StandsAt, FindsNone}

@@ -5,7 +5,7 @@ use Rattle.can_confine.specs.Confinement.{ErrorCounts, at_start}
 use Rattle.can_attempt.specs.declared.nodes.Nodes.{Nodes}
 use Rattle.can_event.specs.declared.entry.Entry.{Entry}
 use Rattle.can_event.specs.declared.bus_config.BusConfig.{BusConfig}
-use Rattle.can_bus.specs.Journal.{Kept}
+use Rattle.can_record.specs.Journal.{Kept}
 use Rattle.can_event.specs.Events.{IsConfig}
 use Rattle.can_bus.specs.State.{LineState, SocketState, Parts, fresh_line, kept_line, kept_lines, kept_sockets, kept_keys, kept_nodes, kept_left, kept_parts, IsKept}
 use Rattle.can_bus.proofs.Keeping.{parts-are}

@@ -1,18 +1,12 @@
-use Rattle.std.specs.Prelude.{◌≡◌, ℕ, ◌<◌, ◌≤◌, ◌∷◌, length, Bool, Option, Result, Ok, Err}
-use Rattle.can_fault.specs.declared.verdict.Verdict.{Verdict}
-use Rattle.can_event.specs.declared.attempt.Attempt.{Attempt}
-use Rattle.can_event.specs.declared.attempt.Attempt.TheVariants as attempt
-use Rattle.can_event.specs.declared.entry.Entry.{Entry}
+use Rattle.std.specs.Prelude.{◌≡◌, ◌<◌, ◌≤◌, ◌∷◌, length, Result, Ok, Err}
 use Rattle.can_event.specs.declared.event.Event.{Event}
 use Rattle.can_event.specs.declared.event.Event.TheVariants as event
 use Rattle.can_event.specs.declared.event.Event.TheVariants.{Open, SetFilters}
-use Rattle.can_event.specs.declared.received.Received.{Received}
 use Rattle.can_event.specs.declared.reply.Reply.{Reply}
 use Rattle.can_event.specs.declared.reply.Reply.TheVariants as reply
 use Rattle.can_event.specs.declared.refusal.Refusal.{Refusal}
 use Rattle.can_event.specs.declared.refusal.Refusal.TheVariants as refusal
-use Rattle.can_event.specs.Replies.{entry_of, taken_item}
-use Rattle.can_bus.specs.Journal.{Journal}
+use Rattle.can_record.specs.Journal.{Journal}
 use Rattle.can_bus.specs.Legal.{legal_reply}
 
 -- a call that is answered from the history, and noted there
@@ -38,21 +32,3 @@ Refuses old event why new = Noted old event (reply.Refused why) new
 abbrev pub Answers : {A : Type 0} → (A → Reply) → Journal → Event → Result A Refusal → Journal → Type 0
 Answers told old event (Ok a) new = Noted old event (told a) new
 Answers told old event (Err why) new = Refuses old event why new
-
--- the reply to an attempt that came to this (own choice)
-abbrev pub told_attempt : Attempt → Reply
-told_attempt (attempt.Idle restarted) = reply.Idle restarted
-told_attempt (attempt.Tried t) = reply.Tried t
-
--- the entry of an attempt that came to this (own choice)
-abbrev pub attempt_entry : ℕ → Verdict → Attempt → Entry
-attempt_entry m v a = entry_of (event.Attempt m v) (told_attempt a)
-
--- the reply to a call that only changes something (own choice)
-abbrev pub done_reply : Unit {0} → Reply
-done_reply done = reply.Done
-
--- what a receive into this room came to, with the item (own choice)
-abbrev pub received_into : {E : Type 0} → Received → Result Bool E → Result (Option Received) E
-received_into room (Ok taken) = Ok (taken_item room taken)
-received_into room (Err why) = Err why

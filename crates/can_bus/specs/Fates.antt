@@ -10,7 +10,8 @@ use Rattle.can_event.specs.declared.reply.Closed.{Closed}
 use Rattle.can_event.specs.declared.socket_id.SocketId.{SocketId}
 use Rattle.can_event.specs.declared.attempt.Tried.{Tried}
 use Rattle.can_attempt.specs.Attempts.{is_done}
-use Rattle.can_bus.specs.Transmit.{sent_by, gone_count, tape}
+use Rattle.can_bus.specs.Transmit.{sent_by, gone_count}
+use Rattle.can_record.specs.Tapes.{tape}
 
 -- What becomes of frames and sockets, in the words of the laws.
 

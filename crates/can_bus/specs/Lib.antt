@@ -1,5 +1,3 @@
-pub mod Journal
-pub mod Held
 pub mod Sockets
 pub mod Transmit
 pub mod Counters
@@ -27,3 +25,6 @@ pub use Rattle.can_filter.specs.Passing
 pub use Rattle.can_event.specs.Events
 pub use Rattle.can_event.specs.Spelled
 pub use Rattle.can_event.specs.Replies
+pub use Rattle.can_record.specs.Journal
+pub use Rattle.can_record.specs.Outcomes
+pub use Rattle.can_record.specs.Tapes

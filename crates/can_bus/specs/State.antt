@@ -9,10 +9,11 @@ use Rattle.can_event.specs.declared.entry.Entry.{Entry}
 use Rattle.can_event.specs.declared.received.Received.{Received}
 use Rattle.can_event.specs.declared.pending.Pending.{Pending}
 use Rattle.can_event.specs.declared.bus_config.BusConfig.{BusConfig}
-use Rattle.can_bus.specs.Journal.{Kept}
+use Rattle.can_record.specs.Journal.{Kept}
 use Rattle.can_event.specs.Events.{IsConfig}
 use Rattle.can_bus.specs.Sockets.{places, open_sockets, iface_of, capacity_of, filters_of, options_of}
-use Rattle.can_bus.specs.Transmit.{sent_by, gone_count, done_count, refused_count, head_of, tape}
+use Rattle.can_bus.specs.Transmit.{sent_by, gone_count, done_count, refused_count, head_of}
+use Rattle.can_record.specs.Tapes.{tape}
 use Rattle.can_bus.specs.Counters.{counts_of}
 use Rattle.can_bus.specs.AutoRestart.{attempts_left}
 use Rattle.can_bus.specs.Posts.{Post}
@@ -102,12 +103,6 @@ pub record Parts : Type 0 where
 -- what a history leaves
 abbrev pub kept_parts : BusConfig → List Entry → Parts
 kept_parts c past = record { lines = kept_lines c past; keys = kept_keys past; nodes = kept_nodes c past; left = kept_left c past; sockets = kept_sockets c past; opened = length (places past); tried = length (tape past) }
-
--- a record with one entry more
-pub record IsLonger (j : Kept) (e : Entry) (new : Kept) : Type 0 where
-  pub config : new.config ≡ j.config
-  pub history : new.history ≡ e ∷ j.history
-  pub room : j.room ≤ new.room
 
 -- what is kept is what the history leaves, and there is memory for all the entries that may come
 pub record IsKept (j : Kept) (parts : Parts) : Type 0 where

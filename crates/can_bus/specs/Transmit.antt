@@ -6,7 +6,6 @@ use Rattle.can_event.specs.declared.reply.Reply.{Reply}
 use Rattle.can_event.specs.declared.reply.Reply.TheVariants as reply
 use Rattle.can_event.specs.declared.refusal.Refusal.TheVariants as refusal
 use Rattle.can_event.specs.declared.entry.Entry.{Entry}
-use Rattle.can_event.specs.declared.attempt.Tried.{Tried}
 use Rattle.can_event.specs.declared.pending.Pending.{Pending}
 use Rattle.can_attempt.specs.Attempts.{is_done}
 use Rattle.can_bus.specs.Sockets.{iface_of, options_of}
@@ -23,16 +22,6 @@ sent_after past i _ _ before = before
 abbrev pub sent_by : List Entry → ℕ → List Pending
 sent_by [] i = []
 sent_by (e ∷ past) i = sent_after past i e.event e.reply (sent_by past i)
-
--- tape after one more entry (own choice)
-abbrev pub tape_after : Reply → List Tried → List Tried
-tape_after (reply.Tried t) before = before ++ t ∷ []
-tape_after _ before = before
-
--- the attempts in which a frame was tried: an attempt's number is its place
-abbrev pub tape : List Entry → List Tried
-tape [] = []
-tape (e ∷ past) = tape_after e.reply (tape past)
 
 -- gone_count after one more entry, where this many frames were sent (own choice)
 abbrev pub gone_after : Reply → ℕ → ℕ → ℕ → ℕ

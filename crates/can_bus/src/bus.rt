@@ -1,5 +1,6 @@
 ghost use Rattle.std.specs.Prelude.{◌≡◌, ◌≢◌, ◌<◌, true, [], length, Ok, IfOk, OnOk, ◌↔◌};
-ghost use Rattle.can_bus.specs.Answer.{Answers, done_reply, told_attempt};
+ghost use Rattle.can_bus.specs.Answer.{Answers};
+ghost use Rattle.can_record.specs.Outcomes.{done_reply, told_attempt};
 ghost use Rattle.can_bus.specs.Attempts.{winner};
 ghost use Rattle.can_bus.specs.AutoRestart.{is_counting};
 ghost use Rattle.can_bus.specs.Headline.{Headline};
@@ -8,11 +9,10 @@ ghost use Rattle.can_event.specs.Replies.{entry_of, taken_reply};
 ghost use Rattle.can_bus.specs.Legal.{IsLegal};
 ghost use Rattle.can_bus.specs.Run.{IsAnswered};
 ghost use Rattle.can_bus.specs.Stats.{socket_stats_of, iface_stats_of, all_counts};
-ghost use Rattle.can_bus.specs.Transmit.{tape};
+ghost use Rattle.can_record.specs.Tapes.{tape};
 ghost use Rattle.can_event.specs.declared.event.Event.TheVariants as event;
 ghost use Rattle.can_event.specs.declared.reply.Reply.TheVariants as reply;
 
-use crate::records::Record;
 use crate::state::State;
 use can_arbiter::{Arbiter, IndexArbiter, ScanArbiter};
 use can_confine::Counters;
@@ -24,6 +24,7 @@ use can_fault::Verdict;
 use can_filter::FilterSet;
 use can_frame::{Frame, Iface, Moment};
 use can_queue::{BoundedQueue, ListQueue, RingQueue};
+use can_record::Record;
 use std::alloc::{AllocError, Global};
 use std::marker::Model;
 use thiserror::Error;
@@ -72,7 +73,7 @@ pub type RingBus = Bus<RingQueue<Pending>, RingQueue<Received>, IndexArbiter>;
 pub type ListBus = Bus<ListQueue<Pending>, ListQueue<Received>, ScanArbiter>;
 
 impl<T: BoundedQueue<Pending>, R: BoundedQueue<Received>, A: Arbiter> Model for Bus<T, R, A> {
-    ghost use Rattle.can_bus.specs.Journal.{Journal};
+    ghost use Rattle.can_record.specs.Journal.{Journal};
     ghost use Rattle.can_bus.specs.State.{IsKept};
 
     ghost Value = { Journal };

@@ -9,16 +9,12 @@
 mod attempts;
 pub mod bus;
 mod countdown;
-pub mod entries;
-mod held;
 pub mod laws;
 pub mod lean_bus;
 mod line;
 mod lines;
 pub mod outcomes;
 mod posting;
-pub mod records;
-mod replies;
 pub mod runs;
 mod socket;
 mod sockets;
@@ -30,9 +26,7 @@ pub use can_event::{
     Attempt, BusConfig, Closed, Entry, Event, IfaceStats, Opt, Pending, Received, Refusal, Reply,
     SocketId, SocketStats, Tried, is_spelled,
 };
-pub use can_packed::{Looked, Stored};
-pub use entries::{Entries, EntriesIter};
+pub use can_record::{Entries, EntriesIter, Looked, Record, Stored};
 pub use lean_bus::{LeanBus, LeanRingBus};
 pub use outcomes::Attempted;
-pub use records::Record;
 pub use runs::{RunFault, run};

@@ -11,8 +11,8 @@ use can_arbiter::Arbiter;
 use can_event::{MAX_RX_CAPACITY, Opt, Pending, Received, Refusal, Reply, SocketId, SocketStats};
 use can_filter::FilterSet;
 use can_frame::Iface;
-use can_packed::receive_reply;
 use can_queue::BoundedQueue;
+use can_record::receive_reply;
 use std::alloc::Global;
 
 /// The place of a socket: that of its number, as long as none before it was closed.

@@ -8,7 +8,6 @@ ghost use Rattle.can_event.specs.declared.entry.Entry.{Entry as AnEntry};
 use crate::countdown::Countdown;
 use crate::line::Line;
 use crate::lines;
-use crate::replies::{attempt_reply, sent_reply};
 use crate::socket::Socket;
 use can_arbiter::Arbiter;
 use can_attempt::Nodes;
@@ -16,6 +15,7 @@ use can_confine::Counters;
 use can_event::{BusConfig, Event, Pending, Received, Reply};
 use can_frame::Iface;
 use can_queue::{BoundedQueue, QueueError};
+use can_record::{attempt_reply, sent_reply};
 use std::alloc::Global;
 use std::marker::Model;
 

@@ -6,11 +6,12 @@ use Rattle.can_event.specs.declared.reply.Reply.{Reply}
 use Rattle.can_event.specs.declared.reply.Reply.TheVariants as reply
 use Rattle.can_event.specs.declared.refusal.Refusal.{Refusal}
 use Rattle.can_event.specs.declared.refusal.Refusal.TheVariants as refusal
-use Rattle.can_bus.specs.Journal.{Journal}
+use Rattle.can_record.specs.Journal.{Journal}
 use Rattle.can_event.specs.declared.received.Received.{Received}
 use Rattle.can_event.specs.declared.socket_id.SocketId.{SocketId}
 use Rattle.can_event.specs.Replies.{taken_item, taken_reply}
-use Rattle.can_bus.specs.Answer.{Answers, Noted, Refuses, done_reply, received_into, told_attempt}
+use Rattle.can_bus.specs.Answer.{Answers, Noted, Refuses}
+use Rattle.can_record.specs.Outcomes.{done_reply, received_into, told_attempt}
 use Rattle.can_bus.specs.Run.{IsAnswer, history_after}
 use Rattle.can_bus.proofs.Fitting.{legal_is_spelled}
 use Rattle.can_event.specs.declared.attempt.Attempt.TheVariants as attempt

@@ -7,8 +7,9 @@ use Rattle.can_event.specs.declared.reply.Reply.{Reply}
 use Rattle.can_event.specs.declared.reply.Reply.TheVariants as reply
 use Rattle.can_event.specs.declared.refusal.Refusal.{Refusal}
 use Rattle.can_event.specs.declared.refusal.Refusal.TheVariants as refusal
-use Rattle.can_bus.specs.Journal.{Journal}
-use Rattle.can_bus.specs.Answer.{Answers, done_reply, told_attempt}
+use Rattle.can_record.specs.Journal.{Journal}
+use Rattle.can_bus.specs.Answer.{Answers}
+use Rattle.can_record.specs.Outcomes.{done_reply, told_attempt}
 use Rattle.can_event.specs.declared.stats.IfaceStats.{IfaceStats}
 use Rattle.can_bus.specs.Stats.{socket_stats_of, iface_stats_of}
 use Rattle.can_dialog.specs.declared.port.PortRefusal.{PortRefusal}

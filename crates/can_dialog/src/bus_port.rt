@@ -1,7 +1,8 @@
 ghost use Rattle.std.specs.Prelude.{◌≡◌, length};
 ghost use Rattle.can_frame.specs.Names.{place_of};
-ghost use Rattle.can_bus.specs.Answer.{Answers, told_attempt};
-ghost use Rattle.can_bus.specs.Transmit.{tape};
+ghost use Rattle.can_bus.specs.Answer.{Answers};
+ghost use Rattle.can_record.specs.Outcomes.{told_attempt};
+ghost use Rattle.can_record.specs.Tapes.{tape};
 ghost use Rattle.can_event.specs.declared.event.Event.TheVariants as event;
 ghost use Rattle.can_dialog.specs.BusSteps.{passed_on};
 

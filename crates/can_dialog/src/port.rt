@@ -41,7 +41,7 @@ impl PortRefusal {
 /// together; each call is one such step. A port may take memory. An implementation writes `call`, `attach`, the two
 /// counts and the status; the calls that are named for an event make it by `call`.
 pub trait Port {
-    ghost use Rattle.can_bus.specs.Answer.{received_into};
+    ghost use Rattle.can_record.specs.Outcomes.{received_into};
     ghost use Rattle.can_dialog.specs.Calls.{Call, Reply, Steps};
     ghost use Rattle.can_dialog.specs.Calls.Call.{Attach, Open, Close, SetFilters, SetOption, Send, Receive, Restart, CountsOfSocket, CountsOfIface, CountersOfIface};
 

@@ -8,7 +8,7 @@ use Rattle.can_event.specs.declared.entry.Entry.{Entry}
 use Rattle.can_event.specs.declared.attempt.Tried.{Tried}
 use Rattle.can_event.specs.declared.reply.Reply.{Reply}
 use Rattle.can_event.specs.declared.reply.Reply.TheVariants as reply
-use Rattle.can_bus.specs.Transmit.{tape, tape_after}
+use Rattle.can_record.specs.Tapes.{tape, tape_after}
 use Rattle.can_logfile.specs.Log.{log_line, log_lines, tried_of, tried_in, joined, LineGoesOut, TornAfter}
 use Rattle.std.proofs.KnownBytes.{Appends-trans}
 

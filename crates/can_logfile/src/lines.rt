@@ -3,7 +3,7 @@ ghost use Rattle.can_frame.specs.Names.{AreNames};
 ghost use Rattle.can_logfile.specs.Log.{stamp, winner_name, tried_text, log_line};
 
 use can_attempt::Class;
-use can_bus::Tried;
+use can_event::Tried;
 use can_frame::{Iface, Item, Moment, Names, Text, frame_text};
 
 /// A line of the log. The longest has 176 bytes: 20 to the space after the moment, 15 of a name, a space, 139

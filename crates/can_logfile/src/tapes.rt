@@ -2,8 +2,9 @@ ghost use Rattle.std.specs.Prelude.{◌≡◌, reverse, slice_get};
 ghost use Rattle.can_logfile.specs.Log.{log_lines, tried_in, LineGoesOut, LinesGoOut};
 
 use crate::lines::log_line;
-use can_bus::{Record, Reply, Tried};
+use can_event::{Reply, Tried};
 use can_frame::Names;
+use can_record::Record;
 use std::io::Write;
 use thiserror::Error;
 

@@ -1,28 +1,37 @@
-//! The text of a record, both ways: `record_text` writes a record as text and `read_record` reads it back. A record has
-//! one text, in one version, and a text is of one record at most.
+//! The record of a bus: its configuration, and each event on it with its reply.
 //!
-//! The readers and writers of single lines are public for can_text_audit, which reads a text line by line.
+//! A bus's record takes 32 bytes for each entry, where `Entry` takes 208. What is kept gives back the very entry. An entry that
+//! a bus returns fits, but for the filters of a socket, which take memory of their own, as they do anyhow. FD frames are in a
+//! second list. The memory for all is taken at once, so that none is taken when an entry comes: `PackedRecord` is such a
+//! list, and `PackedList` one that grows, whose memory is taken before an entry comes.
+//!
+//! `Record` is what a bus keeps and what is read back from a text. `Looked` is an entry that is read there: made for the look,
+//! or borrowed. `Stored` shows how it is kept, for those who read many.
 #![tactic(auto)]
 
-pub mod event_reading;
-mod event_writing;
-pub mod fault;
-mod fields;
-mod kept_lines;
-pub mod lines;
-mod numbers;
-pub mod record_reading;
-pub mod record_writing;
-mod reply_reading;
-mod reply_writing;
-mod short_lines;
-mod short_words;
-pub mod text_laws;
-pub mod values;
-pub mod version;
-mod words;
-mod writing;
+pub mod entries;
+pub mod frame_words;
+mod held;
+pub mod kept;
+pub mod looked;
+pub mod packed_list;
+pub mod packed_record;
+mod packing;
+pub mod records;
+pub mod replies;
+pub mod stored;
+pub mod unpacking;
+pub mod verdicts;
+mod wide;
 
-pub use fault::ReadFault;
-pub use record_reading::{read_record, read_record_bytes};
-pub use record_writing::{line_text, record_text, write_record};
+pub use entries::{Entries, EntriesIter};
+pub use frame_words::frame_in;
+pub use kept::Kept;
+pub use looked::Looked;
+pub use packed_list::PackedList;
+pub use packed_record::PackedRecord;
+pub use records::Record;
+pub use replies::{attempt_reply, receive_reply, sent_reply};
+pub use stored::Stored;
+pub use unpacking::{event_in, reply_in, stamp_moment, tried_in};
+pub use verdicts::verdict_in;

@@ -1,7 +1,7 @@
 use Rattle.std.specs.Prelude.{◌≡◌, List, ◌∷◌, reverse, Vec, Result, IfOk}
 use Rattle.can_event.specs.declared.bus_config.BusConfig.{BusConfig}
 use Rattle.can_event.specs.declared.entry.Entry.{Entry}
-use Rattle.can_bus.specs.Journal.{Kept}
+use Rattle.can_record.specs.Journal.{Kept}
 use Rattle.can_replay.specs.Histories.{IsHistory}
 
 -- What a function of the reference returns: a value that can_bus defines on histories, the newest entry first, of a list of

@@ -2,7 +2,7 @@ use Rattle.std.specs.Prelude.{ℕ, List, take, reverse}
 use Rattle.can_event.specs.declared.bus_config.BusConfig.{BusConfig}
 use Rattle.can_event.specs.declared.entry.Entry.{Entry}
 use Rattle.can_event.specs.Events.{IsConfig}
-use Rattle.can_bus.specs.Journal.{Kept}
+use Rattle.can_record.specs.Journal.{Kept}
 use Rattle.can_bus.specs.Legal.{IsLegal}
 
 -- Lists of entries, the oldest first, read as histories, the newest first.

@@ -1,7 +1,7 @@
 ghost use Rattle.std.specs.Prelude.{◌≡◌, ◌↔◌, IsTrue, false};
 ghost use Rattle.can_event.specs.Events.{restarted_in};
 ghost use Rattle.can_frame.specs.Sets.{no_ifaces};
-ghost use Rattle.can_bus.specs.Answer.{told_attempt};
+ghost use Rattle.can_record.specs.Outcomes.{told_attempt};
 ghost use Rattle.can_server.specs.Driving.{IsInVain, off_in};
 
 use crate::notice::Notice;

@@ -4,9 +4,10 @@ use Rattle.can_fault.specs.Sources.{VerdictMap, verdict_in}
 use Rattle.can_event.specs.declared.event.Event.TheVariants as event
 use Rattle.can_event.specs.declared.refusal.Refusal.{Refusal}
 use Rattle.can_event.specs.declared.attempt.Attempt.{Attempt}
-use Rattle.can_bus.specs.Journal.{Journal}
-use Rattle.can_bus.specs.Transmit.{tape}
-use Rattle.can_bus.specs.Answer.{Answers, told_attempt}
+use Rattle.can_record.specs.Journal.{Journal}
+use Rattle.can_record.specs.Tapes.{tape}
+use Rattle.can_bus.specs.Answer.{Answers}
+use Rattle.can_record.specs.Outcomes.{told_attempt}
 use Rattle.can_proto.specs.Messages.{messages_of, kept_of}
 use Rattle.can_dialog.specs.declared.stage.Stage.{Stage}
 use Rattle.can_dialog.specs.declared.stage.Stage.TheVariants.{Ended}

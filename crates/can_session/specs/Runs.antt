@@ -3,7 +3,7 @@ use Rattle.std.specs.List.{All}
 use Rattle.std.specs.Io.KnownBytes.{Appends, Keeps}
 use Rattle.can_fault.specs.Sources.{VerdictMap}
 use Rattle.can_event.specs.declared.bus_config.BusConfig.{BusConfig}
-use Rattle.can_bus.specs.Journal.{Kept}
+use Rattle.can_record.specs.Journal.{Kept}
 use Rattle.can_event.specs.Events.{IsConfig, max_rx_capacity}
 use Rattle.can_session.specs.declared.lines.LineFault.{LineFault}
 use Rattle.can_session.specs.declared.lines.LineFault.TheVariants as line

@@ -10,7 +10,7 @@ use Rattle.can_event.specs.declared.event.Event.{Event}
 use Rattle.can_event.specs.declared.event.Event.TheVariants as event
 use Rattle.can_event.specs.declared.reply.Reply.{Reply}
 use Rattle.can_bus.specs.Counters.{counts_of}
-use Rattle.can_bus.specs.Journal.{Journal, Kept}
+use Rattle.can_record.specs.Journal.{Journal, Kept}
 use Rattle.can_event.specs.Events.{IsConfig}
 use Rattle.can_bus.specs.Legal.{IsLegal}
 use Rattle.can_bus.specs.Run.{history_after}

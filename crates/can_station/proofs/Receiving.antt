@@ -7,7 +7,7 @@ use Rattle.can_event.specs.declared.refusal.Refusal.TheVariants as refusal
 use Rattle.can_event.specs.declared.reply.Reply.{Reply}
 use Rattle.can_event.specs.declared.socket_id.SocketId.{SocketId}
 use Rattle.can_bus.specs.Answer.{Answers}
-use Rattle.can_bus.specs.Journal.{Journal}
+use Rattle.can_record.specs.Journal.{Journal}
 use Rattle.can_bus.specs.Run.{history_after}
 
 -- What a receive into a room leaves of the bus.

@@ -2,7 +2,7 @@ use Rattle.std.proofs.Common.{◌≡◌, ℕ, Result, Ok, Err, subst, ◌∙◌,
 use Rattle.can_event.specs.declared.attempt.Attempt.{Attempt}
 use Rattle.can_event.specs.declared.reply.Reply.{Reply}
 use Rattle.can_event.specs.declared.refusal.Refusal.TheVariants as refusal
-use Rattle.can_bus.specs.Answer.{told_attempt}
+use Rattle.can_record.specs.Outcomes.{told_attempt}
 use Rattle.can_fault.specs.Sources.{VerdictMap}
 use Rattle.can_station.specs.Held.{Held}
 use Rattle.can_station.specs.Passes.{PassSeen, IsAnsweredIn, StepsIn, Stepped, Tells, next_attempt, pass_after}

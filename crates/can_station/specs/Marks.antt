@@ -1,6 +1,6 @@
 use Rattle.std.specs.Prelude.{◌≡◌, ℕ, ◌==◌, ◌≤◌, List, [], ◌∷◌, length, if◌then◌else◌}
 use Rattle.can_event.specs.declared.entry.Entry.{Entry}
-use Rattle.can_bus.specs.Journal.{Journal}
+use Rattle.can_record.specs.Journal.{Journal}
 use Rattle.can_event.specs.Events.{IsConfig}
 use Rattle.can_roll.specs.Lists.{row, AllBelow}
 use Rattle.can_roll.specs.Seen.{RollSeen}

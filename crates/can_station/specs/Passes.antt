@@ -10,13 +10,13 @@ use Rattle.can_event.specs.declared.refusal.Refusal.TheVariants as refusal
 use Rattle.can_event.specs.declared.socket_id.SocketId.{SocketId}
 use Rattle.can_event.specs.declared.attempt.Attempt.{Attempt}
 use Rattle.can_fault.specs.declared.verdict.Verdict.{Verdict}
-use Rattle.can_bus.specs.Answer.{told_attempt}
-use Rattle.can_bus.specs.Journal.{Kept}
+use Rattle.can_record.specs.Outcomes.{told_attempt}
+use Rattle.can_record.specs.Journal.{Kept}
 use Rattle.can_bus.specs.Legal.{IsLegal}
 use Rattle.can_bus.specs.Run.{IsAnswer, history_after}
-use Rattle.can_bus.specs.Transmit.{tape}
+use Rattle.can_record.specs.Tapes.{tape}
 use Rattle.can_fault.specs.Sources.{VerdictMap, verdict_in}
-use Rattle.can_packed.specs.Records.{ListedEntries}
+use Rattle.can_record.specs.Records.{ListedEntries}
 use Rattle.can_event.specs.Replies.{receive_reply}
 pub use Rattle.can_event.specs.Replies.{Suits}
 use Rattle.can_roll.specs.Lists.{row, Distinct, AllBelow}

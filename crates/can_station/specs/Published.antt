@@ -6,7 +6,7 @@ use Rattle.can_event.specs.declared.entry.Entry.{Entry}
 use Rattle.can_event.specs.declared.event.Event.{Event}
 use Rattle.can_event.specs.declared.event.Event.TheVariants as event
 use Rattle.can_bus.specs.Counters.{counts_of}
-use Rattle.can_bus.specs.Journal.{Journal, Kept}
+use Rattle.can_record.specs.Journal.{Journal, Kept}
 use Rattle.can_bus.specs.Stats.{all_counts}
 use Rattle.can_meter.specs.declared.status.Status.{Status}
 use Rattle.can_meter.specs.Publications.{published, newest, Ends}

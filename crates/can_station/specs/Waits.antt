@@ -1,6 +1,6 @@
 use Rattle.std.specs.Prelude.{◌≡◌, ℕ, ◌-◌, ◌||◌, nat_lt, Bool, true, false, Option, Some, None, is_some, if◌then◌else◌}
 use Rattle.can_event.specs.declared.stats.SocketStats.{SocketStats}
-use Rattle.can_bus.specs.Journal.{Journal}
+use Rattle.can_record.specs.Journal.{Journal}
 use Rattle.can_event.specs.declared.stats.IfaceStats.{IfaceStats}
 use Rattle.can_bus.specs.Stats.{socket_stats_of, iface_stats_of}
 use Rattle.can_bus.specs.Attempts.{winner}

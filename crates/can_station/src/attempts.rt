@@ -1,4 +1,4 @@
-ghost use Rattle.can_bus.specs.Answer.{told_attempt};
+ghost use Rattle.can_record.specs.Outcomes.{told_attempt};
 ghost use Rattle.can_station.specs.Passes.{SuitsAttempt, Tells};
 
 use crate::refusals::StationRefusal;

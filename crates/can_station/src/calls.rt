@@ -1,4 +1,4 @@
-ghost use Rattle.can_bus.specs.Answer.{done_reply, told_attempt};
+ghost use Rattle.can_record.specs.Outcomes.{done_reply, told_attempt};
 ghost use Rattle.can_event.specs.declared.event.Event.TheVariants as event;
 ghost use Rattle.can_event.specs.declared.reply.Reply.TheVariants as reply;
 ghost use Rattle.can_station.specs.Passes.{Answered, Called};

@@ -16,7 +16,7 @@ use can_bus::{Attempt, Event, Received, Refusal, Reply, SocketId};
 use can_fault::FaultSource;
 use can_frame::Moment;
 use can_meter::MeterName;
-use can_packed::PackedList;
+use can_record::PackedList;
 use can_roll::{RollName, Slip};
 use std::alloc::Global;
 use std::marker::Model;

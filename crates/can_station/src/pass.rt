@@ -4,7 +4,7 @@ ghost use Rattle.can_roll.specs.Lists.{Distinct, AllBelow};
 ghost use Rattle.can_station.specs.Passes.{AllOf, AllMatch, CanClose, IsReady, IsReadyFor, Keeps, Suits, numbers_of};
 
 use can_bus::{Event, Looked, Record, Reply};
-use can_packed::PackedList;
+use can_record::PackedList;
 use can_roll::{Roll, RollName, Slip};
 use std::alloc::{AllocError, Global};
 use std::marker::Model;

@@ -5,7 +5,7 @@ ghost use Rattle.can_event.specs.declared.received.Received.{Received};
 ghost use Rattle.can_station.specs.Passes.{IsReady, Keeps};
 
 use can_bus::{Received, Refusal, SocketId};
-use can_packed::PackedList;
+use can_record::PackedList;
 
 /// Whether a receive that came to this leaves an entry.
 fn leaves_entry(outcome: Result<bool, Refusal>) -> bool

@@ -16,7 +16,7 @@ use can_bus::{Attempt, BusConfig, BusFault, Event, Refusal, Reply, RingBus};
 use can_fault::FaultSource;
 use can_frame::Moment;
 use can_meter::{Gauge, MeterBlank, MeterName, meter, meter_blank};
-use can_packed::PackedList;
+use can_record::PackedList;
 use can_roll::{RollBlank, RollName, Slip, roll_blank};
 use std::alloc::{AllocError, Global};
 use std::marker::Model;

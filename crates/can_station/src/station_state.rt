@@ -22,7 +22,7 @@ use can_bus::{
 use can_fault::{FaultSource, Verdict};
 use can_frame::{Iface, Moment};
 use can_meter::{Gauge, Keeper, MeterName};
-use can_packed::receive_reply;
+use can_record::receive_reply;
 use can_roll::{Roll, RollBlank, RollName, Slip};
 use std::alloc::{AllocError, Global};
 use std::marker::Model;

@@ -14,14 +14,14 @@ use Rattle.can_bus.specs.Lean.{Lean, Stands}
 use Rattle.can_bus.specs.Legal.{legal_reply}
 use Rattle.can_bus.specs.Run.{IsAnswer, history_after}
 use Rattle.can_bus.proofs.Answering.{entered_is_legal, history-entered}
-use Rattle.can_record.specs.declared.fault.Unread.{Unread}
-use Rattle.can_record.specs.declared.fault.Unread.TheVariants as unread
-use Rattle.can_record.specs.declared.version.Version.{Version}
-use Rattle.can_record.specs.inner.Words.{after}
-use Rattle.can_record.specs.inner.Reading.{Gives, entry_at, event_at, moment_of, reply_at, ◌>>=◌}
-use Rattle.can_record.specs.Spelling.{answered_line, entry_line, has_fd}
-use Rattle.can_record.specs.Values.{HasLine, HoldsEvent, HoldsReply}
-use Rattle.can_record.proofs.Again.{entry_again}
+use Rattle.can_record_text.specs.declared.fault.Unread.{Unread}
+use Rattle.can_record_text.specs.declared.fault.Unread.TheVariants as unread
+use Rattle.can_record_text.specs.declared.version.Version.{Version}
+use Rattle.can_record_text.specs.inner.Words.{after}
+use Rattle.can_record_text.specs.inner.Reading.{Gives, entry_at, event_at, moment_of, reply_at, ◌>>=◌}
+use Rattle.can_record_text.specs.Spelling.{answered_line, entry_line, has_fd}
+use Rattle.can_record_text.specs.Values.{HasLine, HoldsEvent, HoldsReply}
+use Rattle.can_record_text.proofs.Again.{entry_again}
 use Rattle.can_text_audit.specs.inner.Carried.{IsNext, IsOther, IsWrongNext}
 
 -- what spells no event spells no entry

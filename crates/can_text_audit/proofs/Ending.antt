@@ -6,18 +6,18 @@ use Rattle.std.proofs.lemmas.Option.{none-some}
 use Rattle.can_event.specs.declared.bus_config.BusConfig.{BusConfig}
 use Rattle.can_event.specs.declared.entry.Entry.{Entry}
 use Rattle.can_bus.specs.Lean.{Lean, Stands}
-use Rattle.can_record.specs.declared.fault.ReadFault.{ReadFault}
-use Rattle.can_record.specs.declared.fault.ReadFault.TheVariants as fault
-use Rattle.can_record.specs.declared.version.Version.{Version}
-use Rattle.can_record.specs.declared.version.Version.TheVariants as version
-use Rattle.can_record.specs.inner.Reading.{entry_at}
-use Rattle.can_record.specs.Spelling.{bus_words, end_words, entry_lines, first_line, front_lines, spell, text_in}
-use Rattle.can_record.specs.Values.{HasBusLine, HasLine, HasLines}
-use Rattle.can_record.specs.RecordFaults.{IsFirstWrong, IsOfNoVersion, IsTextOf, LacksBus, LacksEnd, LacksEntry, Reads}
-use Rattle.can_record.proofs.Again.{entry_again, nothing_is_none}
-use Rattle.can_record.proofs.LineLists.{lines-rest}
-use Rattle.can_record.proofs.Versioning.{version_is}
-use Rattle.can_record.proofs.Whole.{first_is_wrong, front-then, needs_no_three}
+use Rattle.can_record_text.specs.declared.fault.ReadFault.{ReadFault}
+use Rattle.can_record_text.specs.declared.fault.ReadFault.TheVariants as fault
+use Rattle.can_record_text.specs.declared.version.Version.{Version}
+use Rattle.can_record_text.specs.declared.version.Version.TheVariants as version
+use Rattle.can_record_text.specs.inner.Reading.{entry_at}
+use Rattle.can_record_text.specs.Spelling.{bus_words, end_words, entry_lines, first_line, front_lines, spell, text_in}
+use Rattle.can_record_text.specs.Values.{HasBusLine, HasLine, HasLines}
+use Rattle.can_record_text.specs.RecordFaults.{IsFirstWrong, IsOfNoVersion, IsTextOf, LacksBus, LacksEnd, LacksEntry, Reads}
+use Rattle.can_record_text.proofs.Again.{entry_again, nothing_is_none}
+use Rattle.can_record_text.proofs.LineLists.{lines-rest}
+use Rattle.can_record_text.proofs.Versioning.{version_is}
+use Rattle.can_record_text.proofs.Whole.{first_is_wrong, front-then, needs_no_three}
 use Rattle.can_text_audit.specs.declared.body.Body.{Body}
 use Rattle.can_text_audit.specs.declared.fault.WrongLine.{WrongLine}
 use Rattle.can_text_audit.specs.TextAudits.{IsLegalText, IsLine, IsWrongText, MayFollow}

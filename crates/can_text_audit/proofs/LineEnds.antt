@@ -8,13 +8,13 @@ use Rattle.std.specs.Io.BufRead.{take_through}
 use Rattle.std.proofs.lemmas.List.{append-nil}
 use Rattle.can_event.specs.declared.bus_config.BusConfig.{BusConfig}
 use Rattle.can_event.specs.declared.entry.Entry.{Entry}
-use Rattle.can_record.specs.declared.version.Version.{Version}
-use Rattle.can_record.specs.declared.version.Version.TheVariants as version
-use Rattle.can_record.specs.inner.Words.{is_gap, is_word}
-use Rattle.can_record.specs.RecordFaults.{LacksBus, LacksEnd, LacksEntry, LacksFirst}
-use Rattle.can_record.specs.Spelling.{bus_words, end_words, entry_line, entry_words, event_words, first_line, reply_words, spell}
-use Rattle.can_record.specs.Values.{HasBusLine, HasLine}
-use Rattle.can_record.proofs.Again.{spell-rest}
+use Rattle.can_record_text.specs.declared.version.Version.{Version}
+use Rattle.can_record_text.specs.declared.version.Version.TheVariants as version
+use Rattle.can_record_text.specs.inner.Words.{is_gap, is_word}
+use Rattle.can_record_text.specs.RecordFaults.{LacksBus, LacksEnd, LacksEntry, LacksFirst}
+use Rattle.can_record_text.specs.Spelling.{bus_words, end_words, entry_line, entry_words, event_words, first_line, reply_words, spell}
+use Rattle.can_record_text.specs.Values.{HasBusLine, HasLine}
+use Rattle.can_record_text.proofs.Again.{spell-rest}
 use Rattle.can_text_audit.specs.TextAudits.{IsLine, MayFollow}
 use Rattle.can_text_audit.proofs.PlainWords.{AreWords, bus_are_words, end_are_words, entry_are_words}
 

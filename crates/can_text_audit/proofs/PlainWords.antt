@@ -27,14 +27,14 @@ use Rattle.can_event.specs.declared.refusal.Refusal.TheVariants as refusal
 use Rattle.can_event.specs.declared.reply.Reply.{Reply}
 use Rattle.can_event.specs.declared.reply.Reply.TheVariants as reply
 use Rattle.can_event.specs.declared.attempt.Tried.{Tried}
-use Rattle.can_record.specs.declared.version.Version.{Version}
-use Rattle.can_record.specs.declared.version.Version.TheVariants as version
-use Rattle.can_record.specs.inner.Words.{is_word}
-use Rattle.can_record.specs.Spelling.{flag_word, option_words, verdict_word, filter_words, refusal_words, received_words, event_words, restarted_words, reply_words, entry_words, ack_word, auto_restart_words, bus_words, end_words, set_word}
-use Rattle.can_record.specs.Values.{HoldsEvent, HoldsReply, HoldsTried, HasLine, HasBusLine}
-use Rattle.can_record.proofs.Again.{mask-plain, set-plain}
-use Rattle.can_record.proofs.Digits.{is_word-decimal, is_word-moment}
-use Rattle.can_record.proofs.FrameWords.{is_word-item}
+use Rattle.can_record_text.specs.declared.version.Version.{Version}
+use Rattle.can_record_text.specs.declared.version.Version.TheVariants as version
+use Rattle.can_record_text.specs.inner.Words.{is_word}
+use Rattle.can_record_text.specs.Spelling.{flag_word, option_words, verdict_word, filter_words, refusal_words, received_words, event_words, restarted_words, reply_words, entry_words, ack_word, auto_restart_words, bus_words, end_words, set_word}
+use Rattle.can_record_text.specs.Values.{HoldsEvent, HoldsReply, HoldsTried, HasLine, HasBusLine}
+use Rattle.can_record_text.proofs.Again.{mask-plain, set-plain}
+use Rattle.can_record_text.proofs.Digits.{is_word-decimal, is_word-moment}
+use Rattle.can_record_text.proofs.FrameWords.{is_word-item}
 
 -- each is a word
 abbrev pub AreWords : List (List ℕ) → Type 0

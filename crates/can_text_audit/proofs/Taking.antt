@@ -13,16 +13,16 @@ use Rattle.can_event.specs.declared.entry.Entry.{Entry}
 use Rattle.can_event.specs.declared.reply.Reply.{Reply}
 use Rattle.can_bus.specs.Lean.{Lean, Stands}
 use Rattle.can_bus.specs.Legal.{IsLegal, legal_reply}
-use Rattle.can_record.specs.declared.version.Version.{Version}
-use Rattle.can_record.specs.declared.version.Version.TheVariants as version
-use Rattle.can_record.specs.Spelling.{entry_line, entry_lines, front_lines, has_fd}
-use Rattle.can_record.specs.Values.{HasLine}
-use Rattle.can_record.specs.inner.Reading.{entry_at}
-use Rattle.can_record.specs.RecordFaults.{LacksEntry}
-use Rattle.can_record.proofs.Again.{entry_again}
-use Rattle.can_record.proofs.LineLists.{lines-more}
-use Rattle.can_record.proofs.Versioning.{line_in}
-use Rattle.can_record.proofs.Whole.{front-then}
+use Rattle.can_record_text.specs.declared.version.Version.{Version}
+use Rattle.can_record_text.specs.declared.version.Version.TheVariants as version
+use Rattle.can_record_text.specs.Spelling.{entry_line, entry_lines, front_lines, has_fd}
+use Rattle.can_record_text.specs.Values.{HasLine}
+use Rattle.can_record_text.specs.inner.Reading.{entry_at}
+use Rattle.can_record_text.specs.RecordFaults.{LacksEntry}
+use Rattle.can_record_text.proofs.Again.{entry_again}
+use Rattle.can_record_text.proofs.LineLists.{lines-more}
+use Rattle.can_record_text.proofs.Versioning.{line_in}
+use Rattle.can_record_text.proofs.Whole.{front-then}
 use Rattle.can_replay.specs.Audits.{IsToldWrong}
 use Rattle.can_replay.specs.Histories.{before}
 use Rattle.std.proofs.lemmas.Option.{none-some, same_Some}
@@ -32,8 +32,8 @@ use Rattle.can_text_audit.specs.TextAudits.{IsLine}
 use Rattle.can_text_audit.specs.inner.Bodies.{IsGoing, IsRead, IsSettled, IsWrongIn, so_far}
 use Rattle.can_text_audit.specs.inner.Carried.{IsNext, IsOther, IsWrongNext}
 use Rattle.can_text_audit.specs.inner.Steps.{Blames, Takes}
-use Rattle.can_record.specs.declared.fault.Unread.{Unread}
-use Rattle.can_record.specs.declared.fault.Unread.TheVariants as unread
+use Rattle.can_record_text.specs.declared.fault.Unread.{Unread}
+use Rattle.can_record_text.specs.declared.fault.Unread.TheVariants as unread
 use Rattle.can_text_audit.proofs.LineEnds.{cut_entry}
 
 -- ---- the first wrong entry, and entries behind it

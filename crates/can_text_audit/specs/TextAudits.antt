@@ -4,9 +4,9 @@ use Rattle.std.specs.Io.BufRead.{take_through}
 use Rattle.can_event.specs.declared.bus_config.BusConfig.{BusConfig}
 use Rattle.can_event.specs.declared.entry.Entry.{Entry}
 use Rattle.can_bus.specs.Legal.{IsLegal}
-use Rattle.can_record.specs.declared.fault.ReadFault.{ReadFault}
-use Rattle.can_record.specs.RecordFaults.{IsTextOf, Reads}
-use Rattle.can_record.specs.Spelling.{first_line}
+use Rattle.can_record_text.specs.declared.fault.ReadFault.{ReadFault}
+use Rattle.can_record_text.specs.RecordFaults.{IsTextOf, Reads}
+use Rattle.can_record_text.specs.Spelling.{first_line}
 use Rattle.can_text_audit.specs.declared.fault.TextFault.{TextFault}
 use Rattle.can_text_audit.specs.declared.fault.TextFault.TheVariants as fault
 use Rattle.can_text_audit.specs.declared.fault.WrongLine.{WrongLine}

@@ -1,18 +1,18 @@
 ghost use Rattle.std.specs.Prelude.{◌≡◌, ◌≢◌, ◌↔◌, ◌+◌, ◌-◌, ◌^◌, ◌<◌, ◌||◌, ◌++◌, Err, IfErr, IfOk, IsSome, IsTrue, List, None, OnOk, Some, false, true, ℕ};
-ghost use Rattle.can_record.specs.Spelling.{first_line};
-ghost use Rattle.can_record.specs.inner.Reading.{SeemsToBe};
+ghost use Rattle.can_record_text.specs.Spelling.{first_line};
+ghost use Rattle.can_record_text.specs.inner.Reading.{SeemsToBe};
 ghost use Rattle.can_text_audit.specs.TextAudits.{FailsAfter, FailsNext, IsLine, TakesOn, Tells};
 ghost use Rattle.can_text_audit.specs.inner.Bodies.{IsGoing};
 ghost use Rattle.can_text_audit.specs.inner.Steps.{Blames, IsUnended, StandsEnd, Takes};
 
 use crate::fault::{TextFault, WrongLine};
 use can_bus::{BusConfig, Event, LeanRingBus, Refusal, Reply};
-use can_record::ReadFault;
-use can_record::event_reading::{attempt_front, guess_event, receive_front, send_front};
-use can_record::fault::Unread;
-use can_record::lines::{begins, is_line_of, put_end, read_bus, read_line};
-use can_record::values::{hold_event, hold_reply};
-use can_record::version::{Version, has_fd};
+use can_record_text::ReadFault;
+use can_record_text::event_reading::{attempt_front, guess_event, receive_front, send_front};
+use can_record_text::fault::Unread;
+use can_record_text::lines::{begins, is_line_of, put_end, read_bus, read_line};
+use can_record_text::values::{hold_event, hold_reply};
+use can_record_text::version::{Version, has_fd};
 use std::alloc::Global;
 
 /// The lines after the first: what is known of those that were taken.

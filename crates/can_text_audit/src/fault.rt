@@ -1,5 +1,5 @@
 use can_bus::{Entry, Reply};
-use can_record::ReadFault;
+use can_record_text::ReadFault;
 use std::fmt;
 use thiserror::Error;
 

@@ -1,15 +1,15 @@
 ghost use Rattle.std.specs.Prelude.{◌≡◌, ◌++◌, [], Err, IfErr, IfOk, List, OnOk, ℕ};
-ghost use Rattle.can_record.specs.declared.fault.ReadFault.{ReadFault as AFault};
-ghost use Rattle.can_record.specs.RecordFaults.{LacksFirst};
-ghost use Rattle.can_record.specs.Spelling.{first_line};
-ghost use Rattle.can_record.specs.Texts.{StartsWith};
+ghost use Rattle.can_record_text.specs.declared.fault.ReadFault.{ReadFault as AFault};
+ghost use Rattle.can_record_text.specs.RecordFaults.{LacksFirst};
+ghost use Rattle.can_record_text.specs.Spelling.{first_line};
+ghost use Rattle.can_record_text.specs.Texts.{StartsWith};
 ghost use Rattle.can_text_audit.specs.TextAudits.{AreTaken, FailsAfter, FailsNext, HasFailed, IsLine, TakesOn, Tells};
 
 use crate::body::Body;
 use crate::fault::TextFault;
-use can_record::ReadFault;
-use can_record::lines::read_version;
-use can_record::version::Version;
+use can_record_text::ReadFault;
+use can_record_text::lines::read_version;
+use can_record_text::version::Version;
 use std::alloc::Global;
 
 /// How far the lines of a text have come.

@@ -8,8 +8,8 @@ use Rattle.can_event.specs.declared.reply.Reply.{Reply}
 use Rattle.can_event.specs.Spelled.{FitsReply}
 use Rattle.can_bus.specs.Legal.{legal_reply}
 use Rattle.can_bus.proofs.Fitting.{legal_is_spelled}
-use Rattle.can_record.specs.Spelling.{version_of}
-use Rattle.can_record.specs.Values.{HasLine}
+use Rattle.can_record_text.specs.Spelling.{version_of}
+use Rattle.can_record_text.specs.Values.{HasLine}
 use Rattle.can_replay.specs.Histories.{before}
 use Rattle.can_text_audit.specs.declared.fault.TextFault.{TextFault}
 use Rattle.can_text_audit.specs.declared.fault.TextFault.TheVariants as found

@@ -5,8 +5,8 @@ use Rattle.std.specs.Io.{StopsAt, appended_bytes}
 use Rattle.std.specs.Io.BufRead.{take_through}
 use Rattle.std.specs.Io.KnownBytes.{Consumes, IsAtEnd}
 use Rattle.std.proofs.lemmas.List.{append-nil}
-use Rattle.can_record.specs.declared.fault.ReadFault.{ReadFault}
-use Rattle.can_record.specs.RecordFaults.{Reads}
+use Rattle.can_record_text.specs.declared.fault.ReadFault.{ReadFault}
+use Rattle.can_record_text.specs.RecordFaults.{Reads}
 use Rattle.can_text_audit.specs.declared.text_audit.TextAudit.{TextAudit}
 use Rattle.can_text_audit.specs.TextAudits.{AreTaken, IsLine, MayFollow}
 use Rattle.can_text_audit.proofs.LineEnds.{nothing_more}

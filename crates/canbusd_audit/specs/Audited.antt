@@ -5,8 +5,8 @@ use Rattle.can_event.specs.declared.entry.Entry.{Entry}
 use Rattle.can_event.specs.declared.reply.Reply.{Reply}
 use Rattle.can_event.specs.Spelled.{FitsReply}
 use Rattle.can_bus.specs.Legal.{IsLegal}
-use Rattle.can_record.specs.declared.fault.ReadFault.{ReadFault}
-use Rattle.can_record.specs.RecordFaults.{IsTextOf, Reads}
+use Rattle.can_record_text.specs.declared.fault.ReadFault.{ReadFault}
+use Rattle.can_record_text.specs.RecordFaults.{IsTextOf, Reads}
 use Rattle.can_replay.specs.Audits.{IsFirstWrong}
 use Rattle.can_text_audit.specs.declared.fault.TextFault.{TextFault}
 use Rattle.can_text_audit.specs.declared.fault.TextFault.TheVariants as found

@@ -3,7 +3,7 @@ ghost use Rattle.canbusd_audit.specs.Audited.{HasNote, IsTold, IsWritten};
 
 use crate::notes::record_note;
 use crate::wrong_entries::wrong_note;
-use can_record::ReadFault;
+use can_record_text::ReadFault;
 use can_text_audit::TextFault;
 use canbusd_faults::{Failure, Fault};
 use canbusd_files::{OUTPUT, write_failure};

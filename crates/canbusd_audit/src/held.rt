@@ -1,7 +1,7 @@
 ghost use Rattle.std.specs.Prelude.{◌≡◌, ◌≤◌, IfOk, IfSome, IsNone, length, take};
 ghost use Rattle.canbusd_audit.specs.Audited.{BecomesOf, IsWrongNext, TakesMore};
 
-use can_record::ReadFault;
+use can_record_text::ReadFault;
 use can_text_audit::TextAudit;
 use memchr::memchr;
 use std::alloc::Global;

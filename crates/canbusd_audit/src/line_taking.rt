@@ -5,7 +5,7 @@ ghost use Rattle.canbusd_files.specs.Files.{IsOfReading};
 
 use crate::held::{Held, take_held};
 use crate::notes::record_note;
-use can_record::ReadFault;
+use can_record_text::ReadFault;
 use can_text_audit::TextAudit;
 use canbusd_faults::{Failure, Fault};
 use canbusd_files::{read_failure, utf8_note};

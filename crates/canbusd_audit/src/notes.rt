@@ -1,5 +1,5 @@
 //! The lines of a text that is no record's, as they are reported.
-use can_record::ReadFault;
+use can_record_text::ReadFault;
 use canbusd_faults::{Line, WITH_CR};
 use std::alloc::{AllocError, Global};
 

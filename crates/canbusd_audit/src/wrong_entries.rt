@@ -2,7 +2,7 @@ ghost use Rattle.can_event.specs.Spelled.{FitsReply};
 ghost use Rattle.canbusd_audit.specs.Audited.{FitsLines};
 
 use can_bus::{Event, Reply};
-use can_record::line_text;
+use can_record_text::line_text;
 use can_text_audit::WrongLine;
 use canbusd_faults::{Line, Shown};
 use std::alloc::{AllocError, Global};

@@ -2,7 +2,7 @@ ghost use Rattle.std.specs.Prelude.{◌≡◌, IfErr, IsTrue, OnOk, false};
 
 use can_bus::BusFault;
 use can_fault::ScriptError;
-use can_record::ReadFault;
+use can_record_text::ReadFault;
 use can_session::BenchFault;
 use std::alloc::{AllocError, Global};
 use std::io::Write;

@@ -1,7 +1,7 @@
 use Rattle.std.specs.Prelude.{◌≡◌, ◌⊎◌, ℕ, List, Option, Some, None, Err}
 use denote.Ref.{Bor}
 use Rattle.std.specs.Io.KnownBytes.{Appends}
-use Rattle.can_bus.specs.Journal.{Kept}
+use Rattle.can_record.specs.Journal.{Kept}
 use Rattle.can_logfile.specs.Log.{joined, log_lines}
 use Rattle.can_fault.specs.declared.script.ScriptError.{ScriptError}
 use Rattle.can_fault.specs.declared.script.ScriptError.TheVariants as script

@@ -1,16 +1,15 @@
 //! The files that a run leaves: the record of a bus, and its log. Where it leaves none, a note says so.
 ghost use Rattle.std.specs.Prelude.{◌≡◌, ◌-◌, ◌==◌, count_by, IfErr, OnOk};
-ghost use Rattle.can_record.specs.Texts.{text_of};
+ghost use Rattle.can_record_text.specs.Texts.{text_of};
 ghost use Rattle.canbusd_faults.specs.declared.fault.Fault.TheVariants as fault;
 ghost use Rattle.canbusd_files.specs.Files.{IsOfLogFile, IsOfRecordFile, IsOfWriting, Took, log_text};
 
 use crate::files::{open_failure, write_failure};
 use crate::names::read_names;
 use can_bus::Record;
-use can_frame::Names;
+use can_frame::{Names, count_of};
 use can_logfile::write_tape;
-use can_record::write_record;
-use can_frame::count_of;
+use can_record_text::write_record;
 use canbusd_faults::{Failure, Fault, Shown};
 use canbusd_options::BusWord;
 use std::alloc::{AllocError, Global};

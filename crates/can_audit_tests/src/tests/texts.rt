@@ -8,7 +8,7 @@ use can_audit::{
 use can_bus::{Bus, BusConfig, Event, ListBus, Record, SocketId, run};
 use can_fault::Verdict;
 use can_frame::{CanId, Frame, Iface, IfaceSet, Moment};
-use can_record::text_laws::read_back;
+use can_record_text::text_laws::read_back;
 use can_test_support::iface;
 use std::alloc::AllocGlobal;
 use std::io;

@@ -8,7 +8,7 @@ use can_bus::{
     Reply, RingBus, SocketId, is_spelled, run,
 };
 use can_queue::BoundedQueue;
-use can_record::{read_record, record_text};
+use can_record_text::{read_record, record_text};
 use std::alloc::{AllocGlobal, Global};
 use std::fmt::Debug;
 use std::process::Abort;

@@ -3,7 +3,7 @@
 use super::all_play;
 use super::playing::{entries_of, made_of};
 use can_bus::{Entry, Event, Received, Refusal, Reply};
-use can_record::read_record;
+use can_record_text::read_record;
 use can_test_support::config;
 use std::alloc::AllocGlobal;
 use std::process::Abort;

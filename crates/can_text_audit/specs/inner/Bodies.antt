@@ -4,9 +4,9 @@ use Rattle.can_event.specs.declared.bus_config.BusConfig.{BusConfig}
 use Rattle.can_event.specs.declared.entry.Entry.{Entry}
 use Rattle.can_bus.specs.Lean.{Stands}
 use Rattle.can_bus.specs.Legal.{IsLegal}
-use Rattle.can_record.specs.declared.version.Version.{Version}
-use Rattle.can_record.specs.Spelling.{entry_lines, front_lines, has_fd, text_in}
-use Rattle.can_record.specs.Values.{HasLines}
+use Rattle.can_record_text.specs.declared.version.Version.{Version}
+use Rattle.can_record_text.specs.Spelling.{entry_lines, front_lines, has_fd, text_in}
+use Rattle.can_record_text.specs.Values.{HasLines}
 use Rattle.can_replay.specs.Audits.{IsToldWrong}
 use Rattle.can_text_audit.specs.declared.body.Body.{Body}
 use Rattle.can_text_audit.specs.declared.fault.WrongLine.{WrongLine}

@@ -6,10 +6,10 @@ use Rattle.can_event.specs.declared.reply.Reply.{Reply}
 use Rattle.can_bus.specs.Lean.{Lean, Stands}
 use Rattle.can_bus.specs.Legal.{legal_reply}
 use Rattle.can_replay.specs.Audits.{allowed_after}
-use Rattle.can_record.specs.declared.version.Version.{Version}
-use Rattle.can_record.specs.declared.version.Version.TheVariants as version
-use Rattle.can_record.specs.Spelling.{entry_line, has_fd}
-use Rattle.can_record.specs.Values.{HasLine}
+use Rattle.can_record_text.specs.declared.version.Version.{Version}
+use Rattle.can_record_text.specs.declared.version.Version.TheVariants as version
+use Rattle.can_record_text.specs.Spelling.{entry_line, has_fd}
+use Rattle.can_record_text.specs.Values.{HasLine}
 
 -- One entry's line against what a bus answers.
 

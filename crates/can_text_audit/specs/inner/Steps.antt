@@ -1,12 +1,12 @@
 use Rattle.std.specs.Prelude.{◌≡◌, ℕ, ◌+◌, false, List, [], ◌++◌, reverse, Option, Result, Ok, Err}
 use Rattle.can_event.specs.declared.reply.Reply.{Reply}
-use Rattle.can_record.specs.declared.fault.Unread.{Unread}
-use Rattle.can_record.specs.declared.fault.Unread.TheVariants as unread
-use Rattle.can_record.specs.RecordFaults.{LacksEnd, LacksEntry}
-use Rattle.can_record.specs.declared.fault.ReadFault.{ReadFault}
-use Rattle.can_record.specs.declared.fault.ReadFault.TheVariants as fault
-use Rattle.can_record.specs.Spelling.{end_words, spell}
-use Rattle.can_record.specs.Texts.{StartsWith}
+use Rattle.can_record_text.specs.declared.fault.Unread.{Unread}
+use Rattle.can_record_text.specs.declared.fault.Unread.TheVariants as unread
+use Rattle.can_record_text.specs.RecordFaults.{LacksEnd, LacksEntry}
+use Rattle.can_record_text.specs.declared.fault.ReadFault.{ReadFault}
+use Rattle.can_record_text.specs.declared.fault.ReadFault.TheVariants as fault
+use Rattle.can_record_text.specs.Spelling.{end_words, spell}
+use Rattle.can_record_text.specs.Texts.{StartsWith}
 use Rattle.can_text_audit.specs.declared.body.Body.{Body}
 use Rattle.can_text_audit.specs.inner.Bodies.{IsGoing, IsRead}
 use Rattle.can_text_audit.specs.inner.Carried.{IsOther}

@@ -1,5 +1,5 @@
 ghost use Rattle.std.specs.Prelude.{◌≡◌, ◌≤◌, false};
-ghost use Rattle.can_packed.specs.Wide.{is_wide};
+ghost use Rattle.can_record.specs.Wide.{is_wide};
 
 use super::{same, same_at};
 use can_attempt::Class;
@@ -7,7 +7,7 @@ use can_event::{Closed, Entry, Event, Opt, Received, Refusal, Reply, SocketId, T
 use can_fault::{GlobalKind, LocalKind, Verdict};
 use can_filter::{Filter, FilterSet};
 use can_frame::{CanId, ErrorFrame, Frame, Iface, IfaceSet, Item, Moment};
-use can_packed::PackedRecord;
+use can_record::PackedRecord;
 use std::alloc::{AllocError, AllocGlobal, Global};
 use std::process::Abort;
 

@@ -1,6 +1,6 @@
 use Rattle.std.proofs.Common.{◌≡◌, ◌≤◌, length}
 use Rattle.std.specs.Io.KnownBytes.{Appends}
-use Rattle.can_bus.specs.Transmit.{tape}
+use Rattle.can_record.specs.Tapes.{tape}
 use Rattle.can_logfile.specs.Log.{log_lines, joined}
 use Rattle.can_logfile.proofs.Fronts.{front}
 use Rattle.can_logfile.proofs.tapes.write_tape.Given as goal

@@ -1,5 +1,5 @@
 use Rattle.std.proofs.Common.{◌++◌, Bool, Err, List, ℕ, subst, sym}
-use Rattle.can_record.specs.RecordFaults.{Reads}
+use Rattle.can_record_text.specs.RecordFaults.{Reads}
 use Rattle.can_text_audit.specs.TextAudits.{AreTaken, IsLine, MayFollow}
 use Rattle.canbusd_files.specs.Files.{IsOfReading}
 use Rattle.canbusd_audit.specs.Audited.{BecomesOf, IsNextLine}

@@ -2,8 +2,8 @@ use Rattle.std.proofs.Common.{IsTrue, ◌≡◌, ◌<◌, ◌∙◌, length, ap,
 use Rattle.can_event.specs.declared.entry.Entry.{Entry}
 use Rattle.can_event.specs.declared.event.Event.{Event}
 use Rattle.can_event.specs.declared.event.Event.TheVariants as event
-use Rattle.can_bus.specs.Journal.{Journal}
-use Rattle.can_bus.specs.State.{IsLonger}
+use Rattle.can_record.specs.Journal.{Journal}
+use Rattle.can_record.specs.Journal.{IsLonger}
 use Rattle.can_bus.proofs.Answering.{KeepsAnswer, answer_is_spelled, carries, entered, is_ready}
 use Rattle.can_bus.proofs.bus.Bus.answer_filters.Given as given
 use Rattle.can_bus.proofs.bus.Bus.answer_filters.Goals as goal

@@ -1,5 +1,5 @@
 use Rattle.std.proofs.Common.{Ok, refl, subst}
-use Rattle.can_bus.specs.Answer.{told_attempt}
+use Rattle.can_record.specs.Outcomes.{told_attempt}
 use Rattle.can_bus.specs.Changes.{Attempts}
 use Rattle.can_event.specs.declared.bus_config.BusConfig.{BusConfig}
 use Rattle.can_event.specs.declared.event.Event.TheVariants as event

@@ -1,5 +1,5 @@
 use Rattle.std.proofs.Common.{ap, ◌∙◌}
-use Rattle.can_bus.specs.Journal.{Journal}
+use Rattle.can_record.specs.Journal.{Journal}
 use Rattle.can_bus.specs.State.{Parts}
 use Rattle.can_bus.specs.Stats.{all_counts}
 use Rattle.can_bus.proofs.NodeFacts.{counters-kept}

@@ -1,7 +1,7 @@
 use Rattle.std.proofs.Common.{slice_get, ap, ◌∙◌}
 use Rattle.std.specs.Option.{option_map}
 use Rattle.can_attempt.specs.Attempts.{counts_at}
-use Rattle.can_bus.specs.Journal.{Journal}
+use Rattle.can_record.specs.Journal.{Journal}
 use Rattle.can_bus.specs.State.{Parts}
 use Rattle.can_bus.specs.Stats.{told_line, iface_stats_of}
 use Rattle.can_bus.proofs.Bounds.{done_and_lost}

@@ -1,7 +1,7 @@
 use Rattle.std.proofs.Common.{ℕ, ◌==◌, not, ap, ◌∙◌}
 use Rattle.std.specs.List.{list_any}
 use Rattle.can_bus.specs.AutoRestart.{is_counting}
-use Rattle.can_bus.specs.Journal.{Journal}
+use Rattle.can_record.specs.Journal.{Journal}
 use Rattle.can_bus.specs.State.{Parts}
 use Rattle.can_bus.proofs.LeftFacts.{counting-kept}
 use Rattle.can_bus.proofs.bus.Bus.is_counting.Goals as goal

@@ -1,7 +1,7 @@
 use Rattle.std.proofs.Common.{ℕ, List, Option, IfSome, IsNone, ap, ◌∙◌, subst}
 use Rattle.can_arbiter.specs.Keys.{IsWinner, IsIdle}
 use Rattle.can_bus.specs.Attempts.{winner}
-use Rattle.can_bus.specs.Journal.{Journal}
+use Rattle.can_record.specs.Journal.{Journal}
 use Rattle.can_bus.specs.State.{Parts}
 use Rattle.can_bus.proofs.Winning.{answered-is}
 use Rattle.can_bus.proofs.bus.Bus.next_winner.Goals as goal

@@ -1,6 +1,6 @@
 use Rattle.std.proofs.Common.{subst}
 use Rattle.can_bus.specs.Headline.{Headline}
-use Rattle.can_bus.specs.Journal.{Journal}
+use Rattle.can_record.specs.Journal.{Journal}
 use Rattle.can_bus.proofs.Headlines.{headline}
 use Rattle.can_bus.proofs.bus.Bus.record.Goals as goal
 

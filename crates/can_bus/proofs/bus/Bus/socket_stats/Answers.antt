@@ -1,5 +1,5 @@
 use Rattle.std.proofs.Common.{ap, ◌∙◌, subst}
-use Rattle.can_bus.specs.Journal.{Journal}
+use Rattle.can_record.specs.Journal.{Journal}
 use Rattle.can_bus.specs.State.{Parts}
 use Rattle.can_bus.specs.Stats.{TellsSocket, socket_stats_of}
 use Rattle.can_bus.proofs.Bounds.{small_queued}

@@ -1,5 +1,5 @@
 use Rattle.std.proofs.Common.{Bool, Result, refl, sym, subst}
-use Rattle.can_bus.specs.Answer.{received_into}
+use Rattle.can_record.specs.Outcomes.{received_into}
 use Rattle.can_dialog.specs.BusSteps.{BusStep, NamedBus, passed_on}
 use Rattle.can_dialog.specs.Calls.Call.{Receive}
 use Rattle.can_dialog.specs.declared.port.PortRefusal.{PortRefusal}

@@ -2,7 +2,8 @@ use Rattle.std.proofs.Common.{ℕ, List, ◌++◌, ap, subst, ◌∙◌}
 use Rattle.can_fault.specs.declared.verdict.Verdict.{Verdict}
 use Rattle.can_fault.specs.Sources.{verdict_in}
 use Rattle.can_event.specs.declared.event.Event.TheVariants as event
-use Rattle.can_bus.specs.Answer.{Answers, told_attempt}
+use Rattle.can_bus.specs.Answer.{Answers}
+use Rattle.can_record.specs.Outcomes.{told_attempt}
 use Rattle.can_session.specs.AttemptLines.{attempt_line}
 use Rattle.can_session.specs.Benches.{BenchState, IsTried}
 use Rattle.can_session.proofs.bench_state.Bench.attempt.Goals as goal

@@ -1,4 +1,4 @@
-use Rattle.can_bus.specs.Answer.{told_attempt}
+use Rattle.can_record.specs.Outcomes.{told_attempt}
 use Rattle.can_event.specs.declared.event.Event.TheVariants as event
 use Rattle.can_station.proofs.Answering.{answered}
 use Rattle.can_station.proofs.station.Station.attempt.Goals as goal

@@ -1,5 +1,5 @@
 use Rattle.std.specs.Prelude.{Ok, Err}
-use Rattle.can_bus.specs.Answer.{done_reply}
+use Rattle.can_record.specs.Outcomes.{done_reply}
 use Rattle.can_event.specs.declared.event.Event.TheVariants as event
 use Rattle.can_station.specs.declared.refusals.StationRefusal.TheVariants as station
 use Rattle.can_station.proofs.Answering.{answered}

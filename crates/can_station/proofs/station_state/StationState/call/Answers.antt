@@ -1,5 +1,5 @@
 use Rattle.std.proofs.Common.{◌≡◌, reverse, length, vec_capacity, sym, ap, ◌∙◌, arith}
-use Rattle.can_bus.specs.Journal.{Journal}
+use Rattle.can_record.specs.Journal.{Journal}
 use Rattle.can_station.proofs.Marking.{booked_after}
 use Rattle.can_station.proofs.PublishedFacts.{later, kept_before, published_after_call, published_still, short}
 use Rattle.can_roll.specs.Seen.{RollSeen}

@@ -1,6 +1,6 @@
 use Rattle.std.proofs.Common.{◌∙◌, ◌++◌, [], Some, drop, length, refl, subst, sym}
-use Rattle.can_record.specs.Spelling.{entry_line, entry_words}
-use Rattle.can_record.proofs.Again.{spell-rest}
+use Rattle.can_record_text.specs.Spelling.{entry_line, entry_words}
+use Rattle.can_record_text.proofs.Again.{spell-rest}
 use Rattle.can_text_audit.specs.declared.body.Body.{Body}
 use Rattle.can_text_audit.specs.inner.Bodies.{IsGoing}
 use Rattle.can_text_audit.proofs.Taking.{wrong_here}

@@ -1,6 +1,6 @@
 use Rattle.std.proofs.Common.{◌+◌, ◌++◌, ℕ, Err, subst, sym}
-use Rattle.can_record.specs.declared.fault.Unread.{Unread}
-use Rattle.can_record.specs.RecordFaults.{IsFirstWrong}
+use Rattle.can_record_text.specs.declared.fault.Unread.{Unread}
+use Rattle.can_record_text.specs.RecordFaults.{IsFirstWrong}
 use Rattle.can_text_audit.specs.inner.Steps.{Takes}
 use Rattle.can_text_audit.proofs.Ending.{end_lacks, end_taken, goes_on}
 use Rattle.can_text_audit.proofs.body.Body.carry.Goals as goal

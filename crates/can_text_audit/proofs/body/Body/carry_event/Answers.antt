@@ -3,7 +3,7 @@ use Rattle.can_event.specs.declared.bus_config.BusConfig.{BusConfig}
 use Rattle.can_event.specs.declared.entry.Entry.{Entry}
 use Rattle.can_event.specs.Replies.{Enters}
 use Rattle.can_bus.specs.Lean.{Stands}
-use Rattle.can_record.proofs.Again.{starts-with-line}
+use Rattle.can_record_text.proofs.Again.{starts-with-line}
 use Rattle.can_text_audit.specs.inner.Bodies.{IsGoing}
 use Rattle.can_text_audit.specs.inner.Carried.{IsNext}
 use Rattle.can_text_audit.proofs.Answering.{next_is, other_past, other_reply}

@@ -1,5 +1,5 @@
 use Rattle.std.proofs.Common.{◌+◌, ℕ, subst, sym}
-use Rattle.can_record.specs.RecordFaults.{IsFirstWrong}
+use Rattle.can_record_text.specs.RecordFaults.{IsFirstWrong}
 use Rattle.can_text_audit.proofs.Ending.{all_legal, needless, one_wrong, unfinished}
 use Rattle.can_text_audit.proofs.body.Body.finish.Goals as goal
 

@@ -1,5 +1,5 @@
 use Rattle.std.proofs.Common.{[], drop, length}
-use Rattle.can_record.specs.Spelling.{bus_words, spell}
+use Rattle.can_record_text.specs.Spelling.{bus_words, spell}
 use Rattle.can_text_audit.proofs.Ending.{begun, no_bus}
 use Rattle.can_text_audit.proofs.body.Body.read.Goals as goal
 

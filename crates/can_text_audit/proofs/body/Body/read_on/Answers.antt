@@ -1,7 +1,7 @@
 use Rattle.std.proofs.Common.{◌≡◌, ◌∙◌, ◌++◌, [], Option, Some, None, drop, length, subst, sym}
 use Rattle.std.specs.Prelude.{IsSome}
-use Rattle.can_record.specs.Spelling.{entry_line, entry_words}
-use Rattle.can_record.proofs.Again.{spell-rest}
+use Rattle.can_record_text.specs.Spelling.{entry_line, entry_words}
+use Rattle.can_record_text.proofs.Again.{spell-rest}
 use Rattle.can_text_audit.specs.declared.fault.WrongLine.{WrongLine}
 use Rattle.can_text_audit.specs.inner.Bodies.{IsGoing}
 use Rattle.can_text_audit.proofs.Taking.{behind_more}

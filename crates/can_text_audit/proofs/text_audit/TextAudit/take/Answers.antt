@@ -1,5 +1,5 @@
 use Rattle.std.proofs.Common.{OnOk, Ok, Err, Result, subst}
-use Rattle.can_record.specs.declared.fault.ReadFault.{ReadFault}
+use Rattle.can_record_text.specs.declared.fault.ReadFault.{ReadFault}
 use Rattle.can_text_audit.specs.TextAudits.{HasCome}
 use Rattle.can_text_audit.proofs.text_audit.TextAudit.take.Goals as goal
 

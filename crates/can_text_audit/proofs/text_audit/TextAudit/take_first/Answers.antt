@@ -1,7 +1,7 @@
 use Rattle.std.proofs.Common.{◌≡◌, ◌++◌, List, ℕ, Err, IfErr, Result, drop, inl, length, rules, subst, sym}
-use Rattle.can_record.specs.declared.fault.ReadFault.{ReadFault}
-use Rattle.can_record.specs.RecordFaults.{Reads}
-use Rattle.can_record.specs.Spelling.{first_line}
+use Rattle.can_record_text.specs.declared.fault.ReadFault.{ReadFault}
+use Rattle.can_record_text.specs.RecordFaults.{Reads}
+use Rattle.can_record_text.specs.Spelling.{first_line}
 use Rattle.can_text_audit.specs.TextAudits.{MayFollow}
 use Rattle.can_text_audit.proofs.LineEnds.{cut_first, lacks_first}
 use Rattle.can_text_audit.proofs.text_audit.TextAudit.take_first.Goals as goal

@@ -1,0 +1,5 @@
+use Rattle.std.proofs.Common.{sym, ◌∙◌}
+use Rattle.can_record.proofs.packed_list.PackedList.push_receive.Goals as goal
+
+pub push_receive-requires-clause-fits : goal.push_receive-requires-clause-fits
+push_receive-requires-clause-fits c = sym (c.is_wide_receive.ensures c.args.id) ∙ c.if-is_wide_receive.false

@@ -1,5 +1,0 @@
-use Rattle.can_record.proofs.Whole.{reads_back}
-use Rattle.can_record.proofs.record_reading.read_record_bytes.Goals as goal
-
-pub returns-clause-back : goal.returns-clause-back
-returns-clause-back c = reads_back c.args.text.now c.read_text.result c.read_text.ensures

@@ -1,7 +1,0 @@
-use Rattle.std.proofs.Common.{[], take, reverse}
-use Rattle.std.specs.Io.KnownBytes.{Appends}
-use Rattle.can_record.specs.Spelling.{entry_lines}
-use Rattle.can_record.proofs.record_writing.write_lines.Given as goal
-
-abbrev pub invariant-loop-place : goal.invariant-loop-place
-invariant-loop-place g l = Appends (g.W.Write.contents l.initial.writer) (g.W.Write.contents l.writer) (entry_lines (take l.place (reverse l.record.history)) [])

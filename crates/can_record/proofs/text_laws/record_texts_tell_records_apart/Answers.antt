@@ -1,5 +1,0 @@
-use Rattle.can_record.proofs.Whole.{one_record}
-use Rattle.can_record.proofs.text_laws.record_texts_tell_records_apart.Goals as goal
-
-pub returns : goal.returns
-returns c = one_record

@@ -1,7 +1,0 @@
-use Rattle.std.proofs.Common.{take}
-use Rattle.std.specs.Prelude.{All}
-use Rattle.can_record.specs.Values.{HoldsFilter}
-use Rattle.can_record.proofs.values.hold_filters.Given as goal
-
-abbrev pub invariant-loop-filter : goal.invariant-loop-filter
-invariant-loop-filter l = All HoldsFilter (take l.filter-index l.filters)

@@ -1,0 +1,17 @@
+use Rattle.std.specs.Prelude.{List, [], ◌∷◌, ◌++◌}
+use Rattle.can_event.specs.declared.attempt.Tried.{Tried}
+use Rattle.can_event.specs.declared.entry.Entry.{Entry}
+use Rattle.can_event.specs.declared.reply.Reply.{Reply}
+use Rattle.can_event.specs.declared.reply.Reply.TheVariants as reply
+
+-- The frames that were tried, by a history.
+
+-- tape after one more entry (own choice)
+abbrev pub tape_after : Reply → List Tried → List Tried
+tape_after (reply.Tried t) before = before ++ t ∷ []
+tape_after _ before = before
+
+-- the attempts in which a frame was tried: an attempt's number is its place
+abbrev pub tape : List Entry → List Tried
+tape [] = []
+tape (e ∷ past) = tape_after e.reply (tape past)

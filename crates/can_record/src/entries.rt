@@ -1,0 +1,101 @@
+ghost use Rattle.std.specs.Prelude.{◌≡◌, ◌==◌, length, slice_get};
+ghost use Rattle.std.specs.Iterator.{YieldsFirst, item_count};
+ghost use Rattle.can_record.specs.Held.{entries_in};
+
+use crate::held::Held;
+use crate::looked::Looked;
+use std::marker::Model;
+
+/// The entries of a record, the oldest first, as `Record::entries` lends them. Contracts see the list.
+#[derive(Drop)]
+pub struct Entries<'a> {
+    held: &'a Held,
+}
+
+impl<'a> Model for Entries<'a> {
+    ghost use Rattle.std.specs.Prelude.{List};
+    ghost use Rattle.can_record.specs.Held.{entries_in};
+    ghost use Rattle.can_event.specs.declared.entry.Entry.{Entry};
+
+    ghost Value = { List Entry };
+
+    ghost view = { λ e. entries_in e.held.now };
+}
+
+impl<'a> Entries<'a> {
+    /// The entries that are held here.
+    pub(crate) fn of(held: &'a Held) -> Entries<'a>
+        ensures { result ≡ entries_in held.now }
+    {
+        Entries { held }
+    }
+
+    /// How many entries there are.
+    pub fn len(&self) -> usize
+        ensures { result ≡ length self.now }
+    {
+        let held = self.held;
+        held.len()
+    }
+
+    /// Whether there are none.
+    pub fn is_empty(&self) -> bool
+        ensures { result ≡ (length self.now == 0) }
+    {
+        self.len() == 0
+    }
+
+    /// The entry at a place, from 0 for the oldest, if there is one. No memory is taken.
+    pub fn get(&self, place: usize) -> Option<Looked<'a>>
+        ensures { result ≡ slice_get self.now place }
+    {
+        let held = self.held;
+        held.entry(place)
+    }
+
+    /// Goes over the entries, the oldest first. No memory is taken.
+    pub fn iter(&self) -> EntriesIter<'a>
+        ensures { result ≡ self.now }
+    {
+        EntriesIter {
+            held: self.held,
+            place: 0,
+        }
+    }
+}
+
+/// Goes over the entries of a record, the oldest first. Contracts see the list of those that are left.
+#[derive(Drop)]
+pub struct EntriesIter<'a> {
+    held: &'a Held,
+    place: usize,
+}
+
+impl<'a> Model for EntriesIter<'a> {
+    ghost use Rattle.std.specs.Prelude.{List, drop};
+    ghost use Rattle.can_record.specs.Held.{entries_in};
+    ghost use Rattle.can_event.specs.declared.entry.Entry.{Entry};
+
+    ghost Value = { List Entry };
+
+    ghost view = { λ e. drop e.place (entries_in e.held.now) };
+}
+
+impl<'a> Iterator for EntriesIter<'a> {
+    type Item = Looked<'a>;
+
+    ghost next_gives = { YieldsFirst (λ left. left) };
+
+    ghost remaining = { item_count (λ left. left) };
+
+    #[tactic(auto, using(crate::proofs::Places::from_some, crate::proofs::Places::from_none, crate::proofs::Places::from_past))]
+    fn next(&mut self) -> Option<Looked<'a>> {
+        let held = self.held;
+        if self.place >= held.len() {
+            return None;
+        }
+        let looked = held.entry(self.place)?;
+        self.place += 1;
+        Some(looked)
+    }
+}

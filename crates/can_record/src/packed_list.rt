@@ -1,0 +1,142 @@
+ghost use Rattle.std.specs.Prelude.{◌≡◌, ◌<◌, ◌≤◌, ◌+◌, ◌==◌, true, [], length, slice_get, IsOk, OnOk};
+ghost use Rattle.can_event.specs.Replies.{entry_of};
+ghost use Rattle.can_record.specs.Kept.{receive_entry};
+ghost use Rattle.can_record.specs.Records.{Adds};
+ghost use Rattle.can_record.specs.Wide.{is_wide};
+
+use crate::looked::Looked;
+use crate::packed_record::PackedRecord;
+use crate::replies::receive_reply;
+use crate::wide::{is_wide, is_wide_receive};
+use can_event::{Entry, Event, Received, Refusal, Reply, SocketId};
+use std::alloc::{AllocError, Global};
+use std::marker::Model;
+
+/// A list of entries, the oldest first, of 32 bytes each, that grows.
+///
+/// Its memory is taken before an entry comes: places, and a spare box, which the next wide entry uses up.
+#[derive(Drop)]
+pub struct PackedList {
+    entries: PackedRecord,
+    spare: Option<Box<Entry>>,
+}
+
+impl Model for PackedList {
+    ghost use Rattle.std.specs.Prelude.{is_some};
+    ghost use Rattle.can_record.specs.Records.{ListedEntries};
+
+    ghost Value = { ListedEntries };
+
+    ghost view = { λ l. record { entries = l.entries.entries; room = l.entries.room; spare = is_some l.spare } };
+}
+
+impl PackedList {
+    /// No entries. No memory is taken.
+    pub fn new(alloc: Global) -> PackedList
+        ensures { result.entries ≡ [] }
+    {
+        PackedList {
+            entries: PackedRecord::new(alloc),
+            spare: None,
+        }
+    }
+
+    /// Takes memory for this many more entries, where it is not there yet.
+    pub fn reserve(&mut self, more: usize) -> Result<(), AllocError>
+        ensures entries { self.new.entries ≡ self.old.entries }
+        ensures room { OnOk result (length self.old.entries + more ≤ self.new.room) }
+        ensures spare { self.new.spare ≡ self.old.spare }
+        ensures enough { length self.old.entries + more ≤ self.old.room → IsOk result }
+    {
+        self.entries.reserve(more)
+    }
+
+    /// Takes memory for a wide entry, where it is not there yet.
+    pub fn reserve_spare(&mut self, alloc: Global) -> Result<(), AllocError>
+        ensures entries { self.new.entries ≡ self.old.entries }
+        ensures room { self.new.room ≡ self.old.room }
+        ensures spare { OnOk result (self.new.spare ≡ true) }
+        ensures enough { self.old.spare ≡ true → IsOk result }
+    {
+        if self.spare.is_none() {
+            self.spare = Some(Box::new(alloc, blank())?);
+        }
+        Ok(())
+    }
+
+    /// How many entries there are.
+    pub fn len(&self) -> usize
+        ensures { result ≡ length self.now.entries }
+    {
+        self.entries.len()
+    }
+
+    /// Whether there is no entry.
+    pub fn is_empty(&self) -> bool
+        ensures { result ≡ (length self.now.entries == 0) }
+    {
+        self.entries.len() == 0
+    }
+
+    /// Adds an event with its reply. No memory is taken.
+    pub fn push(&mut self, event: Event, reply: Reply)
+        requires room { length self.old.entries < self.old.room }
+        requires spare { is_wide event reply ≡ true → self.old.spare ≡ true }
+        ensures { Adds self.old.entries (entry_of event reply) self.new.entries }
+    {
+        if is_wide(&event, &reply) {
+            self.push_spare(event, reply);
+        } else {
+            self.entries.push(&event, &reply);
+        }
+    }
+
+    /// Adds a receive: it took an item into the room, or took none, or was refused. No memory is taken.
+    pub fn push_receive(&mut self, id: SocketId, outcome: Result<bool, Refusal>, room: &Received)
+        requires room { length self.old.entries < self.old.room }
+        requires spare { self.old.spare ≡ true }
+        ensures { Adds self.old.entries (receive_entry id room.now outcome) self.new.entries }
+    {
+        if is_wide_receive(outcome, room) {
+            self.push_wide_receive(id, outcome, room);
+        } else {
+            self.entries.push_receive(id, outcome, room);
+        }
+    }
+
+    // Its event and its reply are made only in the rare case.
+    #[inline(never)]
+    fn push_wide_receive(&mut self, id: SocketId, outcome: Result<bool, Refusal>, room: &Received)
+        requires room { length self.old.entries < self.old.room }
+        requires spare { self.old.spare ≡ true }
+        ensures { Adds self.old.entries (receive_entry id room.now outcome) self.new.entries }
+    {
+        self.push_spare(Event::Receive(id), receive_reply(outcome, room));
+    }
+
+    /// Adds an event with its reply in the spare box.
+    fn push_spare(&mut self, event: Event, reply: Reply)
+        requires room { length self.old.entries < self.old.room }
+        requires spare { self.old.spare ≡ true }
+        ensures { Adds self.old.entries (entry_of event reply) self.new.entries }
+    {
+        let mut entry = self.spare.take().unwrap();
+        *entry = Entry { event, reply };
+        self.entries.push_boxed(entry);
+    }
+
+    /// The entry at a place, if there is one. No memory is taken.
+    pub fn look(&self, place: usize) -> Option<Looked<'_>>
+        ensures { result ≡ slice_get self.now.entries place }
+    {
+        self.entries.look(place)
+    }
+}
+
+/// What a spare box holds until an entry comes.
+fn blank() -> Entry {
+    Entry {
+        event: Event::Close(SocketId(0)),
+        reply: Reply::Done,
+    }
+}

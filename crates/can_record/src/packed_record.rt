@@ -1,0 +1,199 @@
+ghost use Rattle.std.specs.Prelude.{◌≡◌, ◌<◌, ◌≤◌, ◌+◌, false, [], length, slice_get, IfOk, IfSome, IsOk, OnOk};
+ghost use Rattle.std.specs.Option.{option_map};
+ghost use Rattle.can_event.specs.Replies.{entry_of, receive_reply, told};
+ghost use Rattle.can_event.specs.declared.attempt.Attempt.TheVariants.{Idle};
+ghost use Rattle.can_event.specs.declared.event.Event.TheVariants as asked;
+ghost use Rattle.can_event.specs.declared.reply.Reply.TheVariants as answer;
+ghost use Rattle.can_record.specs.Kept.{entry_in, frames_needed, receive_entry, send_entry, tried_entry};
+ghost use Rattle.can_record.specs.Outcomes.{attempt_entry, told_attempt};
+ghost use Rattle.can_record.specs.Records.{Adds};
+ghost use Rattle.can_record.specs.Stored.{entry_stored, IsStored};
+ghost use Rattle.can_record.specs.Wide.{is_wide};
+
+use crate::kept::Kept;
+use crate::looked::Looked;
+use crate::packing::{packed, packed_receive, packed_send, tried_at};
+use crate::stored::Stored;
+use can_event::{Attempt, Entry, Event, Received, Refusal, Reply, SocketId, Tried};
+use can_fault::Verdict;
+use can_frame::{Frame, IfaceSet, Moment};
+use std::alloc::{AllocError, Global};
+use std::marker::Model;
+
+/// A list of entries, the oldest first, of 32 bytes each. Memory is taken before an entry comes.
+///
+/// FD frames are in a second list, for which memory is taken as well: one for each entry more. Where there are none, that
+/// memory is never touched, and costs nothing but addresses.
+#[derive(Drop)]
+pub struct PackedRecord {
+    entries: Vec<Kept>,
+    frames: Vec<Frame>,
+}
+
+impl Model for PackedRecord {
+    ghost use Rattle.can_record.specs.Records.{PackedEntries};
+
+    ghost Value = { PackedEntries };
+
+    ghost use Rattle.can_record.specs.Packing.{packed_entries, IsPacked};
+
+    ghost view = { packed_entries };
+
+    ghost invariant = { IsPacked };
+}
+
+impl PackedRecord {
+    /// No entries, and no memory.
+    pub fn new(alloc: Global) -> PackedRecord
+        ensures { result.entries ≡ [] }
+    {
+        PackedRecord {
+            entries: Vec::new(alloc),
+            frames: Vec::new(alloc),
+        }
+    }
+
+    /// No entries, and memory for this many.
+    pub fn with_capacity(alloc: Global, limit: u32) -> Result<PackedRecord, AllocError>
+        ensures empty { IfOk result (λ r. r.entries ≡ []) }
+        ensures room { IfOk result (λ r. limit ≤ r.room) }
+    {
+        let entries = Vec::with_capacity(alloc, limit as usize)?;
+        let frames = Vec::with_capacity(alloc, limit as usize)?;
+        Ok(PackedRecord { entries, frames })
+    }
+
+    /// Takes memory for this many more entries, and for as many FD frames, where it is not there yet.
+    pub fn reserve(&mut self, more: usize) -> Result<(), AllocError>
+        ensures entries { self.new.entries ≡ self.old.entries }
+        ensures room { OnOk result (length self.old.entries + more ≤ self.new.room) }
+        ensures enough { length self.old.entries + more ≤ self.old.room → IsOk result }
+    {
+        self.entries.reserve(more)?;
+        self.frames.reserve(more)
+    }
+
+    /// How many entries there are.
+    pub fn len(&self) -> usize
+        ensures { result ≡ length self.now.entries }
+    {
+        self.entries.len()
+    }
+
+    /// Adds an event with its reply that is not wide. No memory is taken.
+    #[inline(always)]
+    pub fn push(&mut self, event: &Event, reply: &Reply)
+        requires room { length self.old.entries < self.old.room }
+        requires fits { is_wide event.now reply.now ≡ false }
+        ensures more { Adds self.old.entries (entry_of event.now reply.now) self.new.entries }
+        ensures room { self.old.room ≤ self.new.room }
+    {
+        let kept = packed(&mut self.frames, event, reply);
+        let _ = self.entries.push(kept);
+    }
+
+    /// Adds a receive that is not wide: it took an item into the room, or took none, or was refused. No memory is taken.
+    #[inline(always)]
+    pub fn push_receive(&mut self, id: SocketId, outcome: Result<bool, Refusal>, room: &Received)
+        requires room { length self.old.entries < self.old.room }
+        requires fits { is_wide (asked.Receive id) (receive_reply room.now outcome) ≡ false }
+        ensures more { Adds self.old.entries (receive_entry id room.now outcome) self.new.entries }
+        ensures room { self.old.room ≤ self.new.room }
+    {
+        let kept = packed_receive(&mut self.frames, id, outcome, room);
+        let _ = self.entries.push(kept);
+    }
+
+    /// Adds a send that is not wide: it gave the frame this number, or was refused. No memory is taken.
+    #[inline(always)]
+    pub fn push_send(&mut self, id: SocketId, frame: &Frame, outcome: Result<u64, Refusal>)
+        requires room { length self.old.entries < self.old.room }
+        requires fits { is_wide (asked.Send id frame.now) (told answer.Sent outcome) ≡ false }
+        ensures more { Adds self.old.entries (send_entry id frame.now outcome) self.new.entries }
+        ensures room { self.old.room ≤ self.new.room }
+    {
+        let kept = packed_send(&mut self.frames, id, frame, outcome);
+        let _ = self.entries.push(kept);
+    }
+
+    /// Adds an attempt that is not wide. No memory is taken.
+    #[inline(always)]
+    pub fn push_attempt(&mut self, moment: Moment, verdict: Verdict, attempt: &Attempt)
+        requires room { length self.old.entries < self.old.room }
+        requires fits { is_wide (asked.Attempt moment verdict) (told_attempt attempt.now) ≡ false }
+        ensures more { Adds self.old.entries (attempt_entry moment verdict attempt.now)
+            self.new.entries }
+        ensures room { self.old.room ≤ self.new.room }
+    {
+        match attempt {
+            Attempt::Tried(tried) => self.push_tried(moment, verdict, tried),
+            Attempt::Idle { restarted } => self.push_idle(moment, verdict, *restarted),
+        }
+    }
+
+    /// Adds an attempt that tried no frame, and restarted these interfaces.
+    #[inline(never)]
+    fn push_idle(&mut self, moment: Moment, verdict: Verdict, restarted: IfaceSet)
+        requires { length self.old.entries < self.old.room }
+        ensures more { Adds self.old.entries (attempt_entry moment verdict (Idle restarted))
+            self.new.entries }
+        ensures room { self.old.room ≤ self.new.room }
+    {
+        self.push(&Event::Attempt(moment, verdict), &Reply::Idle { restarted });
+    }
+
+    /// Adds an attempt that tried a frame.
+    #[inline(always)]
+    fn push_tried(&mut self, moment: Moment, verdict: Verdict, tried: &Tried)
+        requires room { length self.old.entries < self.old.room }
+        requires fits { is_wide (asked.Attempt moment verdict) (answer.Tried tried.now) ≡ false }
+        ensures more { Adds self.old.entries (tried_entry moment verdict tried.now)
+            self.new.entries }
+        ensures room { self.old.room ≤ self.new.room }
+    {
+        let kept = tried_at(&mut self.frames, moment, verdict, tried);
+        let _ = self.entries.push(kept);
+    }
+
+    /// Adds an entry that has memory of its own, and stays in it. No other is taken.
+    pub fn push_boxed(&mut self, entry: Box<Entry>)
+        requires room { length self.old.entries < self.old.room }
+        ensures more { Adds self.old.entries entry.value self.new.entries }
+        ensures room { self.old.room ≤ self.new.room }
+    {
+        let _ = self.entries.push(Kept::Wide(entry));
+    }
+
+    /// The entry at a place as it is stored, if there is one. No memory is taken.
+    pub fn stored(&self, place: usize) -> Option<Stored<'_>>
+        ensures entry { option_map entry_stored result ≡ slice_get self.now.entries place }
+        ensures stored { IfSome result IsStored }
+    {
+        match self.entries.get(place) {
+            Some(kept) => Some(stored(&self.frames, kept)),
+            None => None,
+        }
+    }
+
+    /// The entry at a place, if there is one: made anew, or borrowed where it has memory of its own. No memory is taken.
+    pub fn look(&self, place: usize) -> Option<Looked<'_>>
+        ensures { result ≡ slice_get self.now.entries place }
+    {
+        match self.stored(place) {
+            Some(stored) => Some(Looked::of(&stored)),
+            None => None,
+        }
+    }
+}
+
+/// How an entry is kept beside these FD frames.
+fn stored<'a>(frames: &'a [Frame], kept: &'a Kept) -> Stored<'a>
+    requires { frames_needed kept.now ≤ length frames.now }
+    ensures entry { entry_stored result ≡ entry_in frames.now kept.now }
+    ensures stored { IsStored result }
+{
+    match kept {
+        Kept::Wide(entry) => Stored::Whole(entry),
+        kept => Stored::Packed(frames, kept),
+    }
+}

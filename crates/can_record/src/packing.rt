@@ -1,0 +1,389 @@
+ghost use Rattle.std.specs.Prelude.{◌≡◌, ◌<◌, ◌≤◌, ◌/◌, ◌%◌, ◌++◌, List, length, vec_capacity, false, IsTrue, Some};
+ghost use Rattle.can_event.specs.declared.event.Event.TheVariants as asked;
+ghost use Rattle.can_event.specs.declared.reply.Reply.TheVariants as answer;
+ghost use Rattle.can_event.specs.Replies.{entry_of, receive_reply, told};
+ghost use Rattle.can_frame.specs.Frames.{CanFrame};
+ghost use Rattle.can_record.specs.Kept.{entry_in, frames_needed, frame_kept, frames_needed_for, fd_frames, fd_frames_of, fd_frames_of_item, receive_entry, receive_frames, send_entry, tried_entry, IsShort, stamp_moment, stamp_winner, stamp_len, stamp_off};
+ghost use Rattle.can_record.specs.Verdicts.{class_in, verdict_in, verdict_set};
+ghost use Rattle.can_record.specs.Wide.{is_wide, is_large, is_off_alone};
+
+use crate::frame_words::frame_words;
+use crate::kept::{Kept, KeptFrame};
+use crate::verdicts::{class_number, verdict_number, verdict_set};
+use can_attempt::Class;
+use can_event::{Event, Opt, Received, Refusal, Reply, SocketId, Tried};
+use can_fault::Verdict;
+use can_frame::{Frame, Iface, IfaceSet, Item, Moment};
+
+/// An entry that is not wide, in 32 bytes. Its FD frame, if it has one, goes to the end of the list, where there is room.
+#[inline(always)]
+pub fn packed(frames: &mut Vec<Frame>, event: &Event, reply: &Reply) -> Kept
+    requires fits { is_wide event.now reply.now ≡ false }
+    requires room { length frames.old.items < vec_capacity frames.old }
+    ensures entry { entry_in frames.new.items result ≡ entry_of event.now reply.now }
+    ensures within { frames_needed result ≤ length frames.new.items }
+    ensures frames { frames.new.items ≡ frames.old.items ++ fd_frames event.now reply.now }
+    ensures memory { vec_capacity frames.old ≤ vec_capacity frames.new }
+{
+    match event {
+        Event::Open(iface, capacity) => opened(*iface, *capacity, reply),
+        Event::Close(id) => closed(*id, reply),
+        // The filters of a socket are wide.
+        Event::SetFilters(_, _) => unreachable!(),
+        Event::SetOption(id, option) => option_set(*id, *option, reply),
+        Event::Send(id, frame) => sent(frames, *id, frame, reply),
+        Event::Receive(id) => received(frames, *id, reply),
+        Event::Attempt(moment, verdict) => attempted(frames, *moment, *verdict, reply),
+        Event::Restart(iface, moment) => restarted(*iface, *moment, reply),
+    }
+}
+
+#[inline(always)]
+fn opened(iface: Iface, capacity: u32, reply: &Reply) -> Kept
+    requires fits { is_wide (asked.Open iface capacity) reply.now ≡ false }
+    ensures entry { (fs : List CanFrame) →
+        entry_in fs result ≡ entry_of (asked.Open iface capacity) reply.now }
+    ensures within { frames_needed result ≡ 0 }
+{
+    match reply {
+        Reply::Opened(id) => Kept::Opened {
+            iface,
+            capacity,
+            socket: *id,
+        },
+        Reply::Refused(why) => Kept::OpenRefused {
+            iface,
+            capacity,
+            why: *why,
+        },
+        _ => unreachable!(),
+    }
+}
+
+#[inline(always)]
+fn closed(id: SocketId, reply: &Reply) -> Kept
+    requires fits { is_wide (asked.Close id) reply.now ≡ false }
+    ensures entry { (fs : List CanFrame) →
+        entry_in fs result ≡ entry_of (asked.Close id) reply.now }
+    ensures within { frames_needed result ≡ 0 }
+{
+    match reply {
+        Reply::Closed(counts) => Kept::Closed {
+            socket: id,
+            counts: *counts,
+        },
+        Reply::Refused(why) => Kept::CloseRefused {
+            socket: id,
+            why: *why,
+        },
+        _ => unreachable!(),
+    }
+}
+
+#[inline(always)]
+fn option_set(id: SocketId, option: Opt, reply: &Reply) -> Kept
+    requires fits { is_wide (asked.SetOption id option) reply.now ≡ false }
+    ensures entry { (fs : List CanFrame) →
+        entry_in fs result ≡ entry_of (asked.SetOption id option) reply.now }
+    ensures within { frames_needed result ≡ 0 }
+{
+    match reply {
+        Reply::Done => Kept::OptionSet { socket: id, option },
+        Reply::Refused(why) => Kept::OptionRefused {
+            socket: id,
+            option,
+            why: *why,
+        },
+        _ => unreachable!(),
+    }
+}
+
+#[inline(always)]
+fn restarted(iface: Iface, moment: Moment, reply: &Reply) -> Kept
+    requires fits { is_wide (asked.Restart iface moment) reply.now ≡ false }
+    ensures entry { (fs : List CanFrame) →
+        entry_in fs result ≡ entry_of (asked.Restart iface moment) reply.now }
+    ensures within { frames_needed result ≡ 0 }
+{
+    match reply {
+        Reply::Done => Kept::Restarted { iface, moment },
+        Reply::Refused(why) => Kept::RestartRefused {
+            iface,
+            moment,
+            why: *why,
+        },
+        _ => unreachable!(),
+    }
+}
+
+#[inline(always)]
+fn sent(frames: &mut Vec<Frame>, id: SocketId, frame: &Frame, reply: &Reply) -> Kept
+    requires fits { is_wide (asked.Send id frame.now) reply.now ≡ false }
+    requires room { length frames.old.items < vec_capacity frames.old }
+    ensures entry { entry_in frames.new.items result
+        ≡ entry_of (asked.Send id frame.now) reply.now }
+    ensures within { frames_needed result ≤ length frames.new.items }
+    ensures frames { frames.new.items ≡ frames.old.items ++ fd_frames_of frame.now }
+    ensures memory { vec_capacity frames.old ≤ vec_capacity frames.new }
+{
+    match reply {
+        Reply::Sent(number) => packed_send(frames, id, frame, Ok(*number)),
+        Reply::Refused(why) => packed_send(frames, id, frame, Err(*why)),
+        _ => unreachable!(),
+    }
+}
+
+/// The entry of a send, which gave the frame this number, or was refused.
+#[inline(always)]
+pub fn packed_send(
+    frames: &mut Vec<Frame>,
+    id: SocketId,
+    frame: &Frame,
+    outcome: Result<u64, Refusal>,
+) -> Kept
+    requires fits { is_wide (asked.Send id frame.now) (told answer.Sent outcome) ≡ false }
+    requires room { length frames.old.items < vec_capacity frames.old }
+    ensures entry { entry_in frames.new.items result ≡ send_entry id frame.now outcome }
+    ensures within { frames_needed result ≤ length frames.new.items }
+    ensures frames { frames.new.items ≡ frames.old.items ++ fd_frames_of frame.now }
+    ensures memory { vec_capacity frames.old ≤ vec_capacity frames.new }
+{
+    match (outcome, kept_frame(frames, frame)) {
+        (Ok(number), KeptFrame::Words { word, len, bytes }) => {
+            Kept::Sent {
+                len,
+                socket: id,
+                word,
+                number: number as u32,
+                bytes,
+            }
+        }
+        (Ok(number), KeptFrame::Place(place)) => Kept::FdSent {
+            socket: id,
+            number: number as u32,
+            place,
+        },
+        (Err(why), KeptFrame::Words { word, len, bytes }) => {
+            Kept::SendRefused {
+                why,
+                len,
+                socket: id,
+                word,
+                bytes,
+            }
+        }
+        (Err(why), KeptFrame::Place(place)) => Kept::FdSendRefused {
+            why,
+            socket: id,
+            place,
+        },
+    }
+}
+
+#[inline(always)]
+fn received(frames: &mut Vec<Frame>, id: SocketId, reply: &Reply) -> Kept
+    requires fits { is_wide (asked.Receive id) reply.now ≡ false }
+    requires room { length frames.old.items < vec_capacity frames.old }
+    ensures entry { entry_in frames.new.items result ≡ entry_of (asked.Receive id) reply.now }
+    ensures within { frames_needed result ≤ length frames.new.items }
+    ensures frames { frames.new.items ≡ frames.old.items ++ fd_frames (asked.Receive id) reply.now }
+    ensures memory { vec_capacity frames.old ≤ vec_capacity frames.new }
+{
+    match reply {
+        Reply::Received(Some(received)) => item_received(frames, id, received),
+        Reply::Received(None) => Kept::NothingReceived { socket: id },
+        Reply::Refused(why) => Kept::ReceiveRefused {
+            socket: id,
+            why: *why,
+        },
+        _ => unreachable!(),
+    }
+}
+
+/// The entry of a receive, which took an item into the room, or took none, or was refused.
+#[inline(always)]
+pub fn packed_receive(
+    frames: &mut Vec<Frame>,
+    id: SocketId,
+    outcome: Result<bool, Refusal>,
+    room: &Received,
+) -> Kept
+    requires fits { is_wide (asked.Receive id) (receive_reply room.now outcome) ≡ false }
+    requires room { length frames.old.items < vec_capacity frames.old }
+    ensures entry { entry_in frames.new.items result ≡ receive_entry id room.now outcome }
+    ensures within { frames_needed result ≤ length frames.new.items }
+    ensures frames { frames.new.items ≡ frames.old.items ++ receive_frames id room.now outcome }
+    ensures memory { vec_capacity frames.old ≤ vec_capacity frames.new }
+{
+    match outcome {
+        Ok(true) => item_received(frames, id, room),
+        Ok(false) => Kept::NothingReceived { socket: id },
+        Err(why) => Kept::ReceiveRefused { socket: id, why },
+    }
+}
+
+#[inline(always)]
+fn item_received(frames: &mut Vec<Frame>, id: SocketId, received: &Received) -> Kept
+    requires fits { is_large received.now.number ≡ false }
+    requires room { length frames.old.items < vec_capacity frames.old }
+    ensures entry { entry_in frames.new.items result
+        ≡ entry_of (asked.Receive id) (answer.Received (Some received.now)) }
+    ensures within { frames_needed result ≤ length frames.new.items }
+    ensures frames { frames.new.items ≡ frames.old.items ++ fd_frames_of_item received.now.item }
+    ensures memory { vec_capacity frames.old ≤ vec_capacity frames.new }
+{
+    let Received {
+        from,
+        number,
+        moment,
+        ..
+    } = *received;
+    let number = number as u32;
+    match &received.item {
+        Item::Data(frame) => match kept_frame(frames, frame) {
+            KeptFrame::Words { word, len, bytes } => {
+                Kept::FrameReceived {
+                    from,
+                    len,
+                    socket: id,
+                    word,
+                    number,
+                    bytes,
+                    moment,
+                }
+            }
+            KeptFrame::Place(place) => Kept::FdReceived {
+                from,
+                socket: id,
+                number,
+                place,
+                moment,
+            },
+        },
+        Item::Error(error) => Kept::ErrorReceived {
+            from,
+            socket: id,
+            number,
+            error: *error,
+            moment,
+        },
+    }
+}
+
+#[inline(always)]
+fn attempted(frames: &mut Vec<Frame>, moment: Moment, verdict: Verdict, reply: &Reply) -> Kept
+    requires fits { is_wide (asked.Attempt moment verdict) reply.now ≡ false }
+    requires room { length frames.old.items < vec_capacity frames.old }
+    ensures entry { entry_in frames.new.items result
+        ≡ entry_of (asked.Attempt moment verdict) reply.now }
+    ensures within { frames_needed result ≤ length frames.new.items }
+    ensures frames { frames.new.items
+        ≡ frames.old.items ++ fd_frames (asked.Attempt moment verdict) reply.now }
+    ensures memory { vec_capacity frames.old ≤ vec_capacity frames.new }
+{
+    match reply {
+        Reply::Idle { restarted } => Kept::Idle {
+            restarted: *restarted,
+            verdict,
+            moment,
+        },
+        Reply::Tried(tried) => tried_at(frames, moment, verdict, tried),
+        Reply::Refused(why) => Kept::AttemptRefused {
+            verdict,
+            moment,
+            why: *why,
+        },
+        _ => unreachable!(),
+    }
+}
+
+/// The entry of an attempt that tried this frame.
+#[inline(always)]
+pub fn tried_at(frames: &mut Vec<Frame>, moment: Moment, verdict: Verdict, tried: &Tried) -> Kept
+    requires fits { is_wide (asked.Attempt moment verdict) (answer.Tried tried.now) ≡ false }
+    requires room { length frames.old.items < vec_capacity frames.old }
+    ensures entry { entry_in frames.new.items result ≡ tried_entry moment verdict tried.now }
+    ensures within { frames_needed result ≤ length frames.new.items }
+    ensures frames { frames.new.items ≡ frames.old.items ++ fd_frames_of tried.now.frame }
+    ensures memory { vec_capacity frames.old ≤ vec_capacity frames.new }
+{
+    let end = end_of(tried.class, verdict);
+    let named = verdict_set(verdict);
+    let number = tried.number as u32;
+    let Tried {
+        winner,
+        accepted,
+        off,
+        restarted,
+        ..
+    } = *tried;
+    match kept_frame(frames, &tried.frame) {
+        KeptFrame::Words { word, len, bytes } => {
+            let stamp = stamp_of(moment, winner, len, off);
+            Kept::Tried {
+                end,
+                named,
+                word,
+                number,
+                accepted,
+                restarted,
+                bytes,
+                stamp,
+            }
+        }
+        KeptFrame::Place(place) => Kept::FdTried {
+            end,
+            winner,
+            number,
+            named,
+            accepted,
+            off,
+            restarted,
+            place,
+            moment,
+        },
+    }
+}
+
+/// How a frame is kept. An FD frame goes to the end of the list.
+#[inline(always)]
+fn kept_frame(frames: &mut Vec<Frame>, frame: &Frame) -> KeptFrame
+    requires room { length frames.old.items < vec_capacity frames.old }
+    ensures frame { frame_kept frames.new.items result ≡ frame.now }
+    ensures short { IsShort result }
+    ensures within { frames_needed_for result ≤ length frames.new.items }
+    ensures frames { frames.new.items ≡ frames.old.items ++ fd_frames_of frame.now }
+    ensures memory { vec_capacity frames.old ≤ vec_capacity frames.new }
+{
+    if frame.is_fd() {
+        let place = frames.len();
+        let _ = frames.push(*frame);
+        KeptFrame::Place(place)
+    } else {
+        let (word, len, bytes) = frame_words(frame);
+        KeptFrame::Words { word, len, bytes }
+    }
+}
+
+/// The class of an attempt and its verdict as one number.
+#[inline(always)]
+fn end_of(class: Class, verdict: Verdict) -> u8
+    ensures class { class_in (result % 4) ≡ class }
+    ensures verdict { verdict_in (result / 4) (verdict_set verdict) ≡ verdict }
+{
+    verdict_number(verdict) * 4 + class_number(class)
+}
+
+/// The moment, the winner, the length and whether the winner went off as one number.
+#[inline(always)]
+fn stamp_of(moment: Moment, winner: Iface, len: u8, off: IfaceSet) -> u64
+    requires short { len ≤ 8 }
+    requires alone { IsTrue (is_off_alone winner off) }
+    ensures moment { stamp_moment result ≡ moment }
+    ensures winner { stamp_winner result ≡ winner }
+    ensures len { stamp_len result ≡ len }
+    ensures off { stamp_off result ≡ off }
+{
+    let went_off = if off.is_empty() { 0 } else { 1 };
+    moment.micros() * 512 + u64::from(winner.number()) * 32 + u64::from(len) * 2 + went_off
+}

@@ -1,0 +1,239 @@
+ghost use Rattle.std.specs.Prelude.{◌≡◌, ◌<◌, ◌≤◌, ◌==◌, false, [], length, slice_get, All, IfOk, IsSome, IfSome, IsTrue, ◌↔◌};
+ghost use Rattle.std.specs.Option.{option_map};
+ghost use Rattle.can_event.specs.Events.{IsConfig};
+ghost use Rattle.can_event.specs.Spelled.{IsSpelled, IsRecord};
+ghost use Rattle.can_event.specs.Replies.{entry_of, receive_reply, told};
+ghost use Rattle.can_event.specs.declared.event.Event.TheVariants as asked;
+ghost use Rattle.can_event.specs.declared.reply.Reply.TheVariants as answer;
+ghost use Rattle.can_record.specs.Outcomes.{attempt_entry, told_attempt};
+ghost use Rattle.can_record.specs.Kept.{receive_entry, send_entry};
+ghost use Rattle.can_record.specs.Stored.{entry_stored, IsStored};
+ghost use Rattle.can_record.specs.Wide.{is_wide};
+
+use crate::entries::Entries;
+use crate::held::Held;
+use crate::looked::Looked;
+use crate::stored::Stored;
+use can_event::{Attempt, BusConfig, Entry, Event, Received, Refusal, Reply, SocketId, is_spelled};
+use can_fault::Verdict;
+use can_frame::{Frame, Moment};
+use std::alloc::{AllocError, Global};
+use std::marker::Model;
+
+/// A bus's configuration, and each event on it with its reply.
+///
+/// The configuration is always within the limits of a bus, and the text of a record has a line for each
+/// entry: its reply fits its event. A bus's record takes 32 bytes for each entry, 76 more for an FD frame, and memory
+/// beside for the filters of `set_filters`. Contracts see the entries newest first.
+#[derive(Drop)]
+pub struct Record {
+    config: BusConfig,
+    held: Held,
+}
+
+impl Model for Record {
+    ghost use Rattle.std.specs.Prelude.{reverse};
+    ghost use Rattle.can_record.specs.Held.{entries_in, room_in};
+    ghost use Rattle.can_record.specs.Journal.{Kept};
+    ghost use Rattle.can_event.specs.Spelled.{IsRecord};
+
+    ghost Value = { Kept };
+
+    ghost view = { λ r. record {
+      config = r.config;
+      history = reverse (entries_in r.held);
+      room = room_in r.held;
+    } };
+
+    ghost invariant = { λ r. IsRecord r.config (entries_in r.held) };
+}
+
+impl Record {
+    ghost use Rattle.std.specs.Prelude.{reverse};
+    ghost use Rattle.can_record.specs.Journal.{IsLonger};
+
+    /// An empty record, with memory for all the entries that its limit allows.
+    pub fn new(alloc: Global, config: BusConfig) -> Result<Record, AllocError>
+        requires { IsConfig config }
+        ensures config { IfOk result (λ r. r.config ≡ config) }
+        ensures empty { IfOk result (λ r. r.history ≡ []) }
+        ensures room { IfOk result (λ r. config.limit ≤ r.room) }
+    {
+        let held = Held::packed(alloc, config.limit)?;
+        Ok(Record { config, held })
+    }
+
+    /// The record of these parts, the oldest entry first: `None` exactly where the configuration is outside
+    /// the limits of a bus, or some entry has no line in the text of a record (`is_spelled`).
+    ///
+    /// There may be more entries than the limit, and their replies need not be what a bus would answer.
+    /// It looks at each entry once, and takes no memory.
+    pub fn from_entries(config: BusConfig, entries: Vec<Entry>) -> Option<Record>
+        ensures config { IfSome result (λ r. r.config ≡ config) }
+        ensures history { IfSome result (λ r. r.history ≡ reverse entries.items) }
+        ensures fits { IsSome result ↔ IsRecord config entries.items }
+    {
+        if !config.is_proper() {
+            return None;
+        }
+        if !are_spelled(config, &entries) {
+            return None;
+        }
+        Some(Record::from_spelled(config, entries))
+    }
+
+    /// The same of parts that are known to make a record: nothing is looked at.
+    pub fn from_spelled(config: BusConfig, entries: Vec<Entry>) -> Record
+        requires { IsRecord config entries.items }
+        ensures config { result.config ≡ config }
+        ensures history { result.history ≡ reverse entries.items }
+    {
+        Record {
+            config,
+            held: Held::Given(entries),
+        }
+    }
+
+    /// What the bus was made with.
+    pub fn config(&self) -> BusConfig
+        ensures config { result ≡ self.now.config }
+        ensures proper { IsConfig result }
+    {
+        self.config
+    }
+
+    /// The entries, the oldest first. No memory is taken.
+    pub fn entries(&self) -> Entries<'_>
+        ensures entries { result ≡ reverse self.now.history }
+        ensures spelled { All (IsSpelled self.now.config) result }
+    {
+        Entries::of(&self.held)
+    }
+
+    /// The entry at a place, from 0 for the oldest, if there is one. No memory is taken.
+    pub fn entry(&self, place: usize) -> Option<Looked<'_>>
+        ensures entry { result ≡ slice_get (reverse self.now.history) place }
+        ensures spelled { IfSome result (IsSpelled self.now.config) }
+    {
+        self.held.entry(place)
+    }
+
+    /// The entry at a place as it is stored, if there is one, for those who read many. No memory is taken.
+    pub fn stored(&self, place: usize) -> Option<Stored<'_>>
+        ensures entry { option_map entry_stored result
+            ≡ slice_get (reverse self.now.history) place }
+        ensures stored { IfSome result IsStored }
+        ensures spelled { IfSome result (λ s. IsSpelled self.now.config (entry_stored s)) }
+    {
+        self.held.stored(place)
+    }
+
+    /// A copy of all entries, the oldest first, of 208 bytes each.
+    pub fn to_entries(&self, alloc: Global) -> Result<Vec<Entry>, AllocError>
+        ensures entries { IfOk result (λ es. es.items ≡ reverse self.now.history) }
+        ensures spelled { IfOk result (λ es. All (IsSpelled self.now.config) es.items) }
+    {
+        self.held.to_entries(alloc)
+    }
+
+    /// How many entries there are.
+    pub fn len(&self) -> usize
+        ensures { result ≡ length self.now.history }
+    {
+        self.held.len()
+    }
+
+    /// Whether nothing was done yet.
+    pub fn is_empty(&self) -> bool
+        ensures { result ≡ (length self.now.history == 0) }
+    {
+        self.held.len() == 0
+    }
+
+    /// Whether the record has as many entries as its limit.
+    pub fn is_full(&self) -> bool
+        ensures { IsTrue result ↔ (self.now.config.limit ≤ length self.now.history) }
+    {
+        self.held.len() >= self.config.limit as usize
+    }
+
+    /// Adds an entry that is not wide. No memory is taken.
+    #[inline(always)]
+    pub fn push(&mut self, event: &Event, reply: &Reply)
+        requires room { length self.old.history < self.old.room }
+        requires spelled { IsSpelled self.old.config (entry_of event.now reply.now) }
+        requires fits { is_wide event.now reply.now ≡ false }
+        ensures { IsLonger self.old (entry_of event.now reply.now) self.new }
+    {
+        // There is no room in a list that was handed in.
+        let Held::Packed(entries) = &mut self.held else {
+            unreachable!()
+        };
+        entries.push(event, reply);
+    }
+
+    /// Adds a receive that is not wide: it took an item into the room, or took none, or was refused. No memory is taken.
+    #[inline(always)]
+    pub fn push_receive(&mut self, id: SocketId, outcome: Result<bool, Refusal>, room: &Received)
+        requires room { length self.old.history < self.old.room }
+        requires spelled { IsSpelled self.old.config (receive_entry id room.now outcome) }
+        requires fits { is_wide (asked.Receive id) (receive_reply room.now outcome) ≡ false }
+        ensures { IsLonger self.old (receive_entry id room.now outcome) self.new }
+    {
+        // There is no room in a list that was handed in.
+        let Held::Packed(entries) = &mut self.held else {
+            unreachable!()
+        };
+        entries.push_receive(id, outcome, room);
+    }
+
+    /// Adds a send that is not wide: it gave the frame this number, or was refused. No memory is taken.
+    #[inline(always)]
+    pub fn push_send(&mut self, id: SocketId, frame: &Frame, outcome: Result<u64, Refusal>)
+        requires room { length self.old.history < self.old.room }
+        requires spelled { IsSpelled self.old.config (send_entry id frame.now outcome) }
+        requires fits { is_wide (asked.Send id frame.now) (told answer.Sent outcome) ≡ false }
+        ensures { IsLonger self.old (send_entry id frame.now outcome) self.new }
+    {
+        // There is no room in a list that was handed in.
+        let Held::Packed(entries) = &mut self.held else {
+            unreachable!()
+        };
+        entries.push_send(id, frame, outcome);
+    }
+
+    /// Adds an attempt that is not wide. No memory is taken.
+    #[inline(always)]
+    pub fn push_attempt(&mut self, moment: Moment, verdict: Verdict, attempt: &Attempt)
+        requires room { length self.old.history < self.old.room }
+        requires spelled { IsSpelled self.old.config (attempt_entry moment verdict attempt.now) }
+        requires fits { is_wide (asked.Attempt moment verdict) (told_attempt attempt.now) ≡ false }
+        ensures { IsLonger self.old (attempt_entry moment verdict attempt.now) self.new }
+    {
+        // There is no room in a list that was handed in.
+        let Held::Packed(entries) = &mut self.held else {
+            unreachable!()
+        };
+        entries.push_attempt(moment, verdict, attempt);
+    }
+
+    /// Adds an entry, which keeps its memory. No other is taken.
+    pub fn push_boxed(&mut self, entry: Box<Entry>)
+        requires room { length self.old.history < self.old.room }
+        requires spelled { IsSpelled self.old.config entry.value }
+        ensures { IsLonger self.old entry.value self.new }
+    {
+        // There is no room in a list that was handed in.
+        let Held::Packed(entries) = &mut self.held else {
+            unreachable!()
+        };
+        entries.push_boxed(entry);
+    }
+}
+
+/// Whether the text of a record has a line for each of these entries.
+fn are_spelled(config: BusConfig, entries: &[Entry]) -> bool
+    ensures { IsTrue result ↔ All (IsSpelled config) entries.now }
+{
+    entries.iter().all(|entry| is_spelled(config, entry))
+}

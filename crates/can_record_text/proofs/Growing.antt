@@ -1,0 +1,17 @@
+-- What a writer holds, line after line.
+use Rattle.std.proofs.Common.{◌≡◌, ℕ, ◌+◌, ◌<◌, List, [], ◌∷◌, ◌++◌, length, take, get_or, Option, sym, ap, subst, ◌∙◌}
+use Rattle.std.specs.Io.KnownBytes.{Appends}
+use Rattle.std.proofs.KnownBytes.{Appends-nil, Appends-trans}
+use Rattle.std.proofs.lemmas.List.{take_more}
+use Rattle.can_event.specs.declared.entry.Entry.{Entry}
+use Rattle.can_record_text.specs.Spelling.{entry_line, entry_lines}
+use Rattle.can_record_text.proofs.LineLists.{lines-more}
+
+pub no_lines_yet : (a : Option (List ℕ)) → Appends a a (entry_lines [] [])
+unfolding entry_lines
+no_lines_yet a = Appends-nil a
+
+pub line_more : (a b c : Option (List ℕ)) (es : List Entry) (i : ℕ) (e : Entry) → Appends a b (entry_lines (take i es) []) → Appends b c (entry_line e []) → i < length es → e ≡ get_or es i e → Appends a c (entry_lines (take (i + 1) es) [])
+line_more a b c es i e so_far next lt at =
+    let more : take i es ++ e ∷ [] ≡ take (i + 1) es = ap (λ (x : Entry). take i es ++ x ∷ []) at ∙ sym (take_more es i e lt) in
+    subst (Appends a c) (lines-more (take i es) e ∙ ap (λ (xs : List Entry). entry_lines xs []) more) (Appends-trans a b c (entry_lines (take i es) []) (entry_line e []) so_far next)

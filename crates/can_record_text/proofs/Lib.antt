@@ -1,0 +1,13 @@
+pub mod Wording
+pub mod Digits
+pub mod FrameWords
+pub mod FilterLists
+pub mod Again
+pub mod Written
+pub mod LineLists
+pub mod Versioning
+pub mod Whole
+pub mod Growing
+pub mod Short
+pub mod TriedLines
+pub mod Fronts

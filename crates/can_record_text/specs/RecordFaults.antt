@@ -1,0 +1,107 @@
+use Rattle.std.specs.Prelude.{◌≡◌, ◌≢◌, false, ℕ, ◌+◌, ◌⊎◌, List, [], ◌++◌, length, reverse, Result, Ok, Err}
+use Rattle.std.specs.List.{list_any}
+use Rattle.can_event.specs.declared.bus_config.BusConfig.{BusConfig}
+use Rattle.can_event.specs.declared.entry.Entry.{Entry}
+use Rattle.can_record.specs.Journal.{Kept}
+use Rattle.can_record_text.specs.declared.fault.ReadFault.{ReadFault}
+use Rattle.can_record_text.specs.declared.fault.ReadFault.TheVariants as fault
+use Rattle.can_record_text.specs.declared.version.Version.{Version}
+use Rattle.can_record_text.specs.declared.version.Version.TheVariants as version
+use Rattle.can_record_text.specs.Spelling.{spell, first_line, bus_words, end_words, entry_line, entry_lines, front_lines, text_in, has_fd, record_spelling}
+use Rattle.can_record_text.specs.Values.{HasLine, HasBusLine, HasLines, HasText}
+
+-- What is wrong with a text that is no record's (own choice).
+
+-- the text is the record's
+abbrev pub IsTextOf : List ℕ → BusConfig → List Entry → Type 0
+IsTextOf text c entries = HasText c entries × (text ≡ record_spelling c entries)
+
+-- the text is that of some record
+abbrev pub IsRecordText : List ℕ → Type 0
+IsRecordText text = (c : BusConfig) × (entries : List Entry) × IsTextOf text c entries
+
+-- the text begins with the first line of no version
+abbrev pub LacksFirst : List ℕ → Type 0
+LacksFirst text = (v : Version) (rest : List ℕ) → text ≢ first_line v ++ rest
+
+-- the text is right line by line in version 3, and has nothing that takes this version
+pub record NeedsNoThree (text : List ℕ) : Type 0 where
+  pub config : BusConfig
+  pub entries : List Entry
+  pub whole : HasLines version.Three config entries
+  pub none : list_any has_fd entries ≡ false
+  pub is_text : text ≡ text_in version.Three config entries
+
+-- the text is of no version
+abbrev pub IsOfNoVersion : List ℕ → Type 0
+IsOfNoVersion text = LacksFirst text ⊎ NeedsNoThree text
+
+-- no line of a bus stands here, in this version
+abbrev pub LacksBus : Version → List ℕ → Type 0
+LacksBus v rest = (c : BusConfig) (more : List ℕ) → HasBusLine v c → rest ≢ spell (bus_words v c) more
+
+-- no line of an entry of this bus stands here, in this version
+abbrev pub LacksEntry : Version → BusConfig → List ℕ → Type 0
+LacksEntry v c rest = (e : Entry) (more : List ℕ) → HasLine v c e → rest ≢ entry_line e more
+
+-- no end after so many entries stands here
+abbrev pub LacksEnd : ℕ → List ℕ → Type 0
+LacksEnd count rest = (more : List ℕ) → rest ≢ spell (end_words count) more
+
+-- behind the first line of a version no line of a bus stands
+pub record BusIsWrong (text : List ℕ) (n : ℕ) : Type 0 where
+  pub version : Version
+  pub rest : List ℕ
+  pub second : n ≡ 2
+  pub begins : text ≡ first_line version ++ rest
+  pub wrong : LacksBus version rest
+
+-- behind the lines of a bus and of entries stands neither an entry's line nor the end
+pub record LineIsWrong (text : List ℕ) (n : ℕ) : Type 0 where
+  pub version : Version
+  pub config : BusConfig
+  pub entries : List Entry
+  pub rest : List ℕ
+  pub whole : HasLines version config entries
+  pub begins : text ≡ front_lines version config (entry_lines entries rest)
+  pub next : n ≡ length entries + 3
+  pub wrong : LacksEntry version config rest
+  pub open_end : LacksEnd (length entries) rest
+
+-- the text is right line by line up to its end, and goes on
+pub record GoesOn (text : List ℕ) (n : ℕ) : Type 0 where
+  pub version : Version
+  pub config : BusConfig
+  pub entries : List Entry
+  pub rest : List ℕ
+  pub whole : HasLines version config entries
+  pub begins : text ≡ text_in version config entries ++ rest
+  pub behind : n ≡ length entries + 4
+  pub more : rest ≢ []
+
+-- the first line that is wrong or missing, from 1
+abbrev pub IsFirstWrong : List ℕ → ℕ → Type 0
+IsFirstWrong text n = BusIsWrong text n ⊎ LineIsWrong text n ⊎ GoesOn text n
+
+-- what reading the end of a text answers, after so many entries
+abbrev pub Ends : {A : Type 0} → ℕ → List ℕ → Result A ReadFault → Type 0
+Ends count rest (Ok u) = rest ≡ spell (end_words count) []
+Ends count rest (Err (fault.BadLine n)) = ((n ≡ count + 3) × LacksEnd count rest) ⊎ ((n ≡ count + 4) × ((more : List ℕ) × (rest ≡ spell (end_words count) more) × (more ≢ [])))
+Ends count rest (Err fault.NoMemory) = Unit {0}
+Ends count rest (Err fault.BadVersion) = ⊥
+
+-- what reading a text answers
+abbrev pub Reads : List ℕ → Result Kept ReadFault → Type 0
+Reads text (Ok r) = IsTextOf text r.config (reverse r.history)
+Reads text (Err fault.BadVersion) = IsOfNoVersion text
+Reads text (Err (fault.BadLine n)) = IsFirstWrong text n
+Reads text (Err fault.NoMemory) = Unit {0}
+
+-- the record of this configuration and these entries, unless memory was refused
+abbrev pub IsRecordOf : BusConfig → List Entry → Result Kept ReadFault → Type 0
+IsRecordOf c entries (Ok r) = (r.config ≡ c) × (reverse r.history ≡ entries)
+IsRecordOf c entries (Err why) = why ≡ fault.NoMemory
+
+-- of the text of a record: reading gives that record, unless memory is refused
+abbrev pub ReadsBack : List ℕ → Result Kept ReadFault → Type 0
+ReadsBack text result = (c : BusConfig) (entries : List Entry) → IsTextOf text c entries → IsRecordOf c entries result

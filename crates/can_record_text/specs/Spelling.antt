@@ -1,0 +1,233 @@
+use Rattle.std.specs.Prelude.{ℕ, ◌==◌, ◌||◌, Bool, true, false, List, [], ◌∷◌, ◌++◌, length, codes, decimal, Some, None, if◌then◌else◌}
+use Rattle.std.specs.List.{list_any}
+use Rattle.can_frame.specs.Frames.{is_fd}
+use Rattle.can_frame.specs.declared.iface.IfaceSet.{IfaceSet}
+use Rattle.can_frame.specs.declared.item.Item.{Item}
+use Rattle.can_frame.specs.declared.item.Item.TheVariants as item
+use Rattle.can_frame.specs.FrameText.{digits, frame_spelling}
+use Rattle.can_frame.specs.Moments.{moment_text}
+use Rattle.can_filter.specs.Filters.{CanFilter}
+use Rattle.can_fault.specs.declared.verdict.GlobalKind.TheVariants as global
+use Rattle.can_fault.specs.declared.verdict.LocalKind.{LocalKind}
+use Rattle.can_fault.specs.declared.verdict.LocalKind.TheVariants as local
+use Rattle.can_fault.specs.declared.verdict.Verdict.{Verdict}
+use Rattle.can_fault.specs.declared.verdict.Verdict.TheVariants as verdict
+use Rattle.can_attempt.specs.declared.ack_mode.AckMode.{AckMode}
+use Rattle.can_attempt.specs.declared.ack_mode.AckMode.TheVariants as ack
+use Rattle.can_attempt.specs.Words.{class_word}
+use Rattle.can_event.specs.declared.bus_config.BusConfig.{BusConfig}
+use Rattle.can_event.specs.declared.opt.Opt.{Opt}
+use Rattle.can_event.specs.declared.opt.Opt.TheVariants as opt
+use Rattle.can_event.specs.declared.event.Event.{Event}
+use Rattle.can_event.specs.declared.event.Event.TheVariants.{Open, Close, SetFilters, SetOption, Send, Receive, Attempt, Restart}
+use Rattle.can_event.specs.declared.refusal.Refusal.{Refusal}
+use Rattle.can_event.specs.declared.refusal.Refusal.TheVariants as refusal
+use Rattle.can_event.specs.declared.received.Received.{Received}
+use Rattle.can_event.specs.declared.reply.Reply.{Reply}
+use Rattle.can_event.specs.declared.reply.Reply.TheVariants as reply
+use Rattle.can_event.specs.declared.entry.Entry.{Entry}
+use Rattle.can_event.specs.declared.socket_id.SocketId.{SocketId}
+use Rattle.can_event.specs.Replies.{entry_of}
+use Rattle.can_record_text.specs.declared.version.Version.{Version}
+use Rattle.can_record_text.specs.declared.version.Version.TheVariants as version
+
+-- How the lines of a record are written (own choice).
+
+-- what ends a word: a space, or the line's end (LF) where no word follows
+abbrev pub gap_before : List (List ℕ) → ℕ
+gap_before [] = 10
+gap_before (w ∷ ws) = 32
+
+-- a line of these words, one space between two of them and LF behind the last; and what follows the line
+abbrev pub spell : List (List ℕ) → List ℕ → List ℕ
+spell [] rest = rest
+spell (w ∷ ws) rest = w ++ gap_before ws ∷ spell ws rest
+
+-- a set of interfaces: 4 hexadecimal digits
+unfoldable pub set_word : IfaceSet → List ℕ
+set_word set = digits 16 4 set.0
+
+-- a word of 32 bits: 8 hexadecimal digits
+unfoldable pub mask_word : ℕ → List ℕ
+mask_word n = digits 16 8 n
+
+-- a moment: seconds, a point and six digits of microseconds
+unfoldable pub moment_word : ℕ → List ℕ
+moment_word micros = moment_text micros
+
+-- a switch: 0 or 1
+abbrev pub flag_word : Bool → List ℕ
+flag_word false = codes "0"
+flag_word true = codes "1"
+
+-- filters: the identifier word and the mask of each, in 8 hexadecimal digits
+abbrev pub filter_words : List CanFilter → List (List ℕ)
+filter_words [] = []
+filter_words (f ∷ fs) = mask_word f.id ∷ mask_word f.mask ∷ filter_words fs
+
+-- how many filters there are, and the words of each
+abbrev pub counted_filters : List CanFilter → List (List ℕ)
+counted_filters filters = decimal (length filters) ∷ filter_words filters
+
+-- an option of a socket and its value; an error mask has 8 hexadecimal digits
+abbrev pub option_words : Opt → List (List ℕ)
+option_words (opt.Loopback on) = codes "loopback" ∷ flag_word on ∷ []
+option_words (opt.RecvOwn on) = codes "recvown" ∷ flag_word on ∷ []
+option_words (opt.Join on) = codes "join" ∷ flag_word on ∷ []
+option_words (opt.ErrMask mask) = codes "errmask" ∷ mask_word mask ∷ []
+option_words (opt.FdFrames on) = codes "fd" ∷ flag_word on ∷ []
+
+-- a local fault and a colon
+abbrev pub local_front : LocalKind → List ℕ
+local_front local.Stuff = codes "local-stuff:"
+local_front local.Crc = codes "local-crc:"
+local_front local.Form = codes "local-form:"
+
+-- a verdict, with the interfaces that see a local fault
+abbrev pub verdict_word : Verdict → List ℕ
+verdict_word verdict.Good = codes "good"
+verdict_word (verdict.Global global.Bit) = codes "global-bit"
+verdict_word (verdict.Global global.Form) = codes "global-form"
+verdict_word verdict.LastBit = codes "lastbit"
+verdict_word (verdict.Local set kind) = local_front kind ++ set_word set
+
+-- who acknowledges
+abbrev pub ack_word : AckMode → List ℕ
+ack_word ack.Always = codes "always"
+ack_word ack.Peers = codes "peers"
+
+-- the name of a refusal; a call that found the record full, or no memory, has no line
+abbrev pub refusal_words : Refusal → List (List ℕ)
+refusal_words refusal.NoInterface = codes "no-interface" ∷ []
+refusal_words refusal.BadCapacity = codes "bad-capacity" ∷ []
+refusal_words refusal.TooManySockets = codes "too-many-sockets" ∷ []
+refusal_words refusal.NoSocket = codes "no-socket" ∷ []
+refusal_words refusal.FdOff = codes "fd-off" ∷ []
+refusal_words refusal.BusOff = codes "bus-off" ∷ []
+refusal_words refusal.NoBuffers = codes "no-buffers" ∷ []
+refusal_words refusal.NotBusOff = codes "not-bus-off" ∷ []
+refusal_words refusal.RecordFull = []
+refusal_words refusal.NoMemory = []
+
+-- an event: what was called, and with what
+abbrev pub event_words : Event → List (List ℕ)
+event_words (Open i capacity) = codes "open" ∷ decimal i ∷ decimal capacity ∷ []
+event_words (Close s) = codes "close" ∷ decimal s.0 ∷ []
+event_words (SetFilters s filters) = codes "filters" ∷ decimal s.0 ∷ counted_filters filters
+event_words (SetOption s option) = codes "option" ∷ decimal s.0 ∷ option_words option
+event_words (Send s frame) = codes "send" ∷ decimal s.0 ∷ frame_spelling (item.Data frame) ∷ []
+event_words (Receive s) = codes "receive" ∷ decimal s.0 ∷ []
+event_words (Attempt m verdict) = codes "attempt" ∷ moment_word m ∷ verdict_word verdict ∷ []
+event_words (Restart i m) = codes "restart" ∷ decimal i ∷ moment_word m ∷ []
+
+-- an item that was received: where it comes from, its number if it is a frame, the item, and when it was put to the socket
+abbrev pub received_words : Item → Received → List (List ℕ)
+received_words (item.Data f) r = codes "data" ∷ decimal r.from ∷ decimal r.number ∷ frame_spelling r.item ∷ moment_word r.moment ∷ []
+received_words (item.Error e) r = codes "error" ∷ decimal r.from ∷ frame_spelling r.item ∷ moment_word r.moment ∷ []
+
+-- the interfaces that an attempt restarted, where there are any
+abbrev pub restarted_words : IfaceSet → List (List ℕ)
+restarted_words set = if set.0 == 0 then [] else codes "restarted" ∷ set_word set ∷ []
+
+-- a reply; a frame was tried at the moment of its attempt, which is not repeated
+abbrev pub reply_words : Reply → List (List ℕ)
+reply_words (reply.Opened s) = codes "socket" ∷ decimal s.0 ∷ []
+reply_words (reply.Closed c) = codes "closed" ∷ decimal c.unread ∷ decimal c.dropped ∷ []
+reply_words reply.Done = codes "ok" ∷ []
+reply_words (reply.Sent n) = codes "number" ∷ decimal n ∷ []
+reply_words (reply.Received None) = codes "none" ∷ []
+reply_words (reply.Received (Some r)) = received_words r.item r
+reply_words (reply.Idle restarted) = codes "idle" ∷ restarted_words restarted
+reply_words (reply.Tried t) = codes "tried" ∷ decimal t.winner ∷ decimal t.number ∷ frame_spelling (item.Data t.frame) ∷ class_word t.class ∷ set_word t.accepted ∷ set_word t.off ∷ restarted_words t.restarted
+reply_words (reply.Refused why) = refusal_words why
+
+-- a reply, up to the end of its line
+abbrev pub reply_text : Reply → List ℕ
+reply_text r = spell (reply_words r) []
+
+-- an entry: its event, `=`, and its reply
+abbrev pub entry_words : Entry → List (List ℕ)
+entry_words e = event_words e.event ++ codes "=" ∷ reply_words e.reply
+
+-- the line of an entry, and what follows it
+abbrev pub entry_line : Entry → List ℕ → List ℕ
+entry_line e rest = spell (entry_words e) rest
+
+-- the line of an event with this reply, and what follows it
+abbrev pub answered_line : Event → Reply → List ℕ → List ℕ
+answered_line e r rest = entry_line (entry_of e r) rest
+
+-- the line of a receive with this reply
+abbrev pub receive_line : SocketId → Reply → List ℕ
+receive_line id r = answered_line (Receive id) r []
+
+-- the line of an attempt with this reply
+abbrev pub attempt_line : ℕ → Verdict → Reply → List ℕ
+attempt_line moment verdict r = answered_line (Attempt moment verdict) r []
+
+-- an FD frame that was received
+abbrev pub is_fd_item : Item → Bool
+is_fd_item (item.Data f) = is_fd f.payload
+is_fd_item (item.Error e) = false
+
+-- an event that asks to send an FD frame, or sets the option for such
+abbrev pub asks_for_fd : Event → Bool
+asks_for_fd (SetOption s (opt.FdFrames on)) = true
+asks_for_fd (Send s frame) = is_fd frame.payload
+asks_for_fd _ = false
+
+-- a reply with an FD frame
+abbrev pub answers_with_fd : Reply → Bool
+answers_with_fd (reply.Received (Some r)) = is_fd_item r.item
+answers_with_fd (reply.Tried t) = is_fd t.frame.payload
+answers_with_fd _ = false
+
+-- an entry that version 3 alone has a line for
+abbrev pub has_fd : Entry → Bool
+has_fd e = asks_for_fd e.event || answers_with_fd e.reply
+
+-- the version for a bus: 3 where an FD frame or the option for such stands in its record, and else 2 exactly where interfaces
+-- are restarted automatically
+abbrev pub version_for : BusConfig → Bool → Version
+version_for c fd = if fd then version.Three else if c.auto_restart == 0 then version.One else version.Two
+
+-- the version of a record's text
+abbrev pub version_of : BusConfig → List Entry → Version
+version_of c entries = version_for c (list_any has_fd entries)
+
+-- the first line: the version
+abbrev pub first_line : Version → List ℕ
+first_line version.One = codes "canbus record 1" ++ 10 ∷ []
+first_line version.Two = codes "canbus record 2" ++ 10 ∷ []
+first_line version.Three = codes "canbus record 3" ++ 10 ∷ []
+
+-- from version 2 on: how many attempts after it went off an interface is restarted; in version 3 this may be 0
+abbrev pub auto_restart_words : Version → BusConfig → List (List ℕ)
+auto_restart_words version.One c = []
+auto_restart_words version.Two c = decimal c.auto_restart ∷ []
+auto_restart_words version.Three c = decimal c.auto_restart ∷ []
+
+-- the bus: how many interfaces, who acknowledges, the interfaces with reporting on, the room of a transmit queue, the limit
+abbrev pub bus_words : Version → BusConfig → List (List ℕ)
+bus_words v c = codes "bus" ∷ decimal c.ifaces ∷ ack_word c.ack ∷ set_word c.reporting ∷ decimal c.tx_capacity ∷ decimal c.limit ∷ auto_restart_words v c
+
+-- the first two lines of a version, and what follows them
+abbrev pub front_lines : Version → BusConfig → List ℕ → List ℕ
+front_lines v c rest = first_line v ++ spell (bus_words v c) rest
+
+-- the end: how many entries there were
+abbrev pub end_words : ℕ → List (List ℕ)
+end_words count = codes "end" ∷ decimal count ∷ []
+
+-- lines of entries, and what follows them
+unfoldable pub entry_lines : List Entry → List ℕ → List ℕ
+entry_lines [] rest = rest
+entry_lines (e ∷ es) rest = entry_line e (entry_lines es rest)
+
+-- the text of a record in a version: the line of the bus, one for each entry, the oldest first, and that of the end
+abbrev pub text_in : Version → BusConfig → List Entry → List ℕ
+text_in v c entries = front_lines v c (entry_lines entries (spell (end_words (length entries)) []))
+
+-- the text of a record, in its version
+abbrev pub record_spelling : BusConfig → List Entry → List ℕ
+record_spelling c entries = text_in (version_of c entries) c entries

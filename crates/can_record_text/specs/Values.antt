@@ -1,0 +1,109 @@
+use Rattle.std.specs.Prelude.{◌≡◌, ◌≢◌, ◌^◌, ◌<◌, ◌≤◌, true, List, length, Some, None, All, bit_and}
+use Rattle.can_frame.specs.declared.item.Item.TheVariants as item
+use Rattle.can_filter.specs.Filters.{CanFilter}
+use Rattle.can_fault.specs.declared.verdict.Verdict.{Verdict}
+use Rattle.can_fault.specs.declared.verdict.Verdict.TheVariants as verdict
+use Rattle.can_event.specs.declared.bus_config.BusConfig.{BusConfig}
+use Rattle.can_event.specs.declared.opt.Opt.{Opt}
+use Rattle.can_event.specs.declared.opt.Opt.TheVariants as opt
+use Rattle.can_event.specs.declared.event.Event.{Event}
+use Rattle.can_event.specs.declared.event.Event.TheVariants.{Open, Close, SetFilters, SetOption, Send, Receive, Attempt, Restart}
+use Rattle.can_event.specs.declared.received.Received.{Received}
+use Rattle.can_event.specs.declared.attempt.Tried.{Tried}
+use Rattle.can_event.specs.declared.reply.Reply.{Reply}
+use Rattle.can_event.specs.declared.reply.Reply.TheVariants as reply
+use Rattle.can_event.specs.declared.entry.Entry.{Entry}
+use Rattle.can_frame.specs.FrameText.{IsItem}
+use Rattle.can_event.specs.Events.{IsConfig}
+use Rattle.can_event.specs.Spelled.{IsSpelled}
+use Rattle.can_record_text.specs.declared.version.Version.{Version}
+use Rattle.can_record_text.specs.declared.version.Version.TheVariants as version
+use Rattle.can_record_text.specs.Spelling.{has_fd, version_of}
+
+-- The values that the types of an entry hold: a clause that ranges over all entries has to say so.
+
+-- an identifier word, and a mask without bit 29
+pub record HoldsFilter (f : CanFilter) : Type 0 where
+  pub id : f.id < 2 ^ 32
+  pub mask : f.mask < 2 ^ 32
+  pub unmarked : bit_and f.mask (2 ^ 29) ≡ 0
+
+-- an error mask of 32 bits
+abbrev pub HoldsOption : Opt → Type 0
+HoldsOption (opt.Loopback on) = Unit {0}
+HoldsOption (opt.RecvOwn on) = Unit {0}
+HoldsOption (opt.Join on) = Unit {0}
+HoldsOption (opt.ErrMask mask) = mask < 2 ^ 32
+HoldsOption (opt.FdFrames on) = Unit {0}
+
+-- a set of 16 interfaces
+abbrev pub HoldsVerdict : Verdict → Type 0
+HoldsVerdict verdict.Good = Unit {0}
+HoldsVerdict (verdict.Global kind) = Unit {0}
+HoldsVerdict verdict.LastBit = Unit {0}
+HoldsVerdict (verdict.Local set kind) = set.0 < 2 ^ 16
+
+-- the arguments of an event
+abbrev pub HoldsEvent : Event → Type 0
+HoldsEvent (Open i capacity) = (i < 16) × (capacity < 2 ^ 32)
+HoldsEvent (Close s) = s.0 < 2 ^ 32
+HoldsEvent (SetFilters s filters) = (s.0 < 2 ^ 32) × (length filters ≤ 512) × All HoldsFilter filters
+HoldsEvent (SetOption s option) = (s.0 < 2 ^ 32) × HoldsOption option
+HoldsEvent (Send s frame) = (s.0 < 2 ^ 32) × IsItem (item.Data frame)
+HoldsEvent (Receive s) = s.0 < 2 ^ 32
+HoldsEvent (Attempt m v) = (m < 10 ^ 16) × HoldsVerdict v
+HoldsEvent (Restart i m) = (i < 16) × (m < 10 ^ 16)
+
+-- the parts of a frame that was tried
+pub record HoldsTried (t : Tried) : Type 0 where
+  pub moment : t.moment < 10 ^ 16
+  pub winner : t.winner < 16
+  pub number : t.number < 2 ^ 64
+  pub frame : IsItem (item.Data t.frame)
+  pub accepted : t.accepted.0 < 2 ^ 16
+  pub off : t.off.0 < 2 ^ 16
+  pub restarted : t.restarted.0 < 2 ^ 16
+
+-- the parts of an item that was received
+abbrev pub HoldsReceived : Received → Type 0
+HoldsReceived r = IsItem r.item × (r.from < 16) × (r.number < 2 ^ 64) × (r.moment < 10 ^ 16)
+
+-- the parts of a reply
+abbrev pub HoldsReply : Reply → Type 0
+HoldsReply (reply.Opened s) = s.0 < 2 ^ 32
+HoldsReply (reply.Closed c) = (c.unread < 2 ^ 64) × (c.dropped < 2 ^ 64)
+HoldsReply reply.Done = Unit {0}
+HoldsReply (reply.Sent n) = n < 2 ^ 64
+HoldsReply (reply.Received None) = Unit {0}
+HoldsReply (reply.Received (Some r)) = HoldsReceived r
+HoldsReply (reply.Idle restarted) = restarted.0 < 2 ^ 16
+HoldsReply (reply.Tried t) = HoldsTried t
+HoldsReply (reply.Refused why) = Unit {0}
+
+-- an entry that has a line in the record of this bus in this version, of such values
+pub record HasLine (v : Version) (c : BusConfig) (e : Entry) : Type 0 where
+  pub spelled : IsSpelled c e
+  pub version : has_fd e ≡ true → v ≡ version.Three
+  pub event : HoldsEvent e.event
+  pub reply : HoldsReply e.reply
+
+-- interfaces are restarted automatically in version 2, in version 1 by a call alone, and in version 3 either way
+abbrev pub Restarts : Version → BusConfig → Type 0
+Restarts version.One c = c.auto_restart ≡ 0
+Restarts version.Two c = c.auto_restart ≢ 0
+Restarts version.Three c = Unit {0}
+
+-- a configuration that has a line in this version
+pub record HasBusLine (v : Version) (c : BusConfig) : Type 0 where
+  pub proper : IsConfig c
+  pub reporting : c.reporting.0 < 2 ^ 16
+  pub restarts : Restarts v c
+
+-- a configuration and entries that have lines in this version
+pub record HasLines (v : Version) (c : BusConfig) (entries : List Entry) : Type 0 where
+  pub bus : HasBusLine v c
+  pub lines : All (HasLine v c) entries
+
+-- a configuration and entries that a text can spell
+abbrev pub HasText : BusConfig → List Entry → Type 0
+HasText c entries = HasLines (version_of c entries) c entries

@@ -1,0 +1,309 @@
+ghost use Rattle.std.specs.Prelude.{◌≡◌, ◌≤◌, ◌++◌, ◌∷◌, [], IfOk, IfErr, IfSome, IsNone, IsTrue, OnOk, drop, length, List, ℕ};
+ghost use Rattle.can_event.specs.Spelled.{FitsReply};
+ghost use Rattle.can_record_text.specs.declared.fault.Unread.TheVariants as unread;
+ghost use Rattle.can_record_text.specs.Spelling.{spell, ack_word, answered_line, bus_words, end_words, entry_line, first_line};
+ghost use Rattle.can_record_text.specs.Texts.{DecidesLine, StartsWith, StartsWithBus, StartsWithEntry};
+ghost use Rattle.can_record_text.specs.Values.{HasLine, HasBusLine};
+ghost use Rattle.can_record_text.specs.RecordFaults.{LacksBus, LacksEntry, LacksFirst};
+ghost use Rattle.can_record_text.specs.inner.Stored.{HasFittingReply};
+ghost use Rattle.can_record_text.specs.inner.Reading.{Gives, with_rest, ack_at, auto_restart_at, config_at, entry_at, moment_of};
+
+use crate::event_reading::guess_event;
+use crate::event_writing::put_event;
+use crate::fault::Unread;
+use crate::fields::{byte_field, set_field, short_field};
+use crate::reply_reading::reply_field;
+use crate::reply_writing::put_reply;
+use crate::short_lines::push_answered;
+use crate::values::{hold_event, hold_reply};
+use crate::version::{Version, has_fd};
+use crate::words::{next_word, same_word};
+use crate::writing::{put_count, put_set, put_word};
+use can_attempt::AckMode;
+use can_event::{BusConfig, Entry, Event, Reply, is_spelled};
+use can_frame::{Moment, Text};
+use std::alloc::{AllocError, Global};
+
+/// The line of an entry.
+pub(crate) fn put_line(out: &mut Vec<u8>, entry: &Entry) -> Result<(), AllocError>
+    requires { HasFittingReply entry.now }
+    ensures { OnOk result (out.new.items ≡ out.old.items ++ entry_line entry.now []) }
+{
+    put_answered(out, &entry.event, &entry.reply)
+}
+
+/// The line of an event with this reply.
+pub fn put_answered(out: &mut Vec<u8>, event: &Event, reply: &Reply) -> Result<(), AllocError>
+    requires { FitsReply event.now reply.now }
+    ensures { OnOk result (out.new.items ≡ out.old.items ++ answered_line event.now reply.now []) }
+{
+    let mut line = Text::new();
+    if push_answered(&mut line, event, reply) {
+        return out.extend_from_slice(line.as_bytes());
+    }
+    put_words(out, event, reply)
+}
+
+/// The same, word by word.
+#[inline(never)]
+#[tactic(auto, using(crate::proofs::Written::line_of))]
+fn put_words(out: &mut Vec<u8>, event: &Event, reply: &Reply) -> Result<(), AllocError>
+    requires { FitsReply event.now reply.now }
+    ensures { OnOk result (out.new.items ≡ out.old.items ++ answered_line event.now reply.now []) }
+{
+    put_event(out, event)?;
+    put_word(out, b"=", b' ')?;
+    put_reply(out, reply)
+}
+
+/// Whether a text begins with the line of an event with this reply.
+pub fn is_line_of(
+    buffer: &mut Vec<u8>,
+    event: &Event,
+    reply: &Reply,
+    text: &[u8],
+) -> Result<bool, AllocError>
+    requires { FitsReply event.now reply.now }
+    ensures { DecidesLine event.now reply.now text.now result }
+{
+    let mut line = Text::new();
+    if push_answered(&mut line, event, reply) {
+        return Ok(begins(text, line.as_bytes()));
+    }
+    has_words_of(buffer, event, reply, text)
+}
+
+/// The same of a line that is written word by word.
+#[inline(never)]
+fn has_words_of(
+    buffer: &mut Vec<u8>,
+    event: &Event,
+    reply: &Reply,
+    text: &[u8],
+) -> Result<bool, AllocError>
+    requires { FitsReply event.now reply.now }
+    ensures { DecidesLine event.now reply.now text.now result }
+{
+    buffer.clear();
+    put_words(buffer, event, reply)?;
+    Ok(begins(text, buffer))
+}
+
+/// The line of a bus.
+pub(crate) fn put_bus(
+    out: &mut Vec<u8>,
+    version: Version,
+    config: BusConfig,
+) -> Result<(), AllocError>
+    ensures { OnOk result (out.new.items ≡ out.old.items ++ spell (bus_words version config) []) }
+{
+    put_word(out, b"bus", b' ')?;
+    put_count(out, u64::from(config.ifaces), b' ')?;
+    put_ack(out, config.ack)?;
+    put_set(out, config.reporting, b' ')?;
+    put_count(out, u64::from(config.tx_capacity), b' ')?;
+    match version {
+        Version::One => put_count(out, u64::from(config.limit), b'\n')?,
+        Version::Two | Version::Three => {
+            put_count(out, u64::from(config.limit), b' ')?;
+            put_count(out, u64::from(config.auto_restart), b'\n')?;
+        }
+    }
+    Ok(())
+}
+
+/// Who acknowledges, and a space.
+fn put_ack(out: &mut Vec<u8>, ack: AckMode) -> Result<(), AllocError>
+    ensures { OnOk result (out.new.items ≡ out.old.items ++ (ack_word ack ++ 32 ∷ [])) }
+{
+    match ack {
+        AckMode::Always => put_word(out, b"always", b' '),
+        AckMode::Peers => put_word(out, b"peers", b' '),
+    }
+}
+
+/// The last line.
+pub fn put_end(out: &mut Vec<u8>, count: u64) -> Result<(), AllocError>
+    ensures { OnOk result (out.new.items ≡ out.old.items ++ spell (end_words count) []) }
+{
+    put_word(out, b"end", b' ')?;
+    put_count(out, count, b'\n')?;
+    Ok(())
+}
+
+/// Whether a text begins with another.
+pub fn begins(text: &[u8], front: &[u8]) -> bool
+    ensures yes { IsTrue result → StartsWith front.now text.now }
+    ensures no { (rest : List ℕ) → text.now ≡ front.now ++ rest → IsTrue result }
+{
+    text.starts_with(front)
+}
+
+/// What follows this many bytes.
+#[tactic(auto, using(crate::proofs::Wording::rest_of))]
+pub(crate) fn behind(text: &[u8], count: usize) -> &[u8]
+    requires { count ≤ length text.now }
+    ensures { result.now ≡ drop count text.now }
+{
+    &text[count..]
+}
+
+/// Whether an entry has a line in the record of this bus in this version.
+fn has_line(version: Version, config: BusConfig, entry: &Entry) -> bool
+    ensures yes { IsTrue result → HasLine version config entry.now }
+    ensures no { HasLine version config entry.now → IsTrue result }
+{
+    hold_event(&entry.event);
+    hold_reply(&entry.reply);
+    is_spelled(config, entry) && (version == Version::Three || !has_fd(&entry.event, &entry.reply))
+}
+
+/// The version whose first line the text begins with.
+pub fn read_version(text: &[u8]) -> Option<Version>
+    ensures found { IfSome result (λ v. StartsWith (first_line v) text.now) }
+    ensures only { IsNone result → LacksFirst text.now }
+{
+    if begins(text, Version::One.first_line()) {
+        return Some(Version::One);
+    }
+    if begins(text, Version::Two.first_line()) {
+        return Some(Version::Two);
+    }
+    if begins(text, Version::Three.first_line()) {
+        return Some(Version::Three);
+    }
+    None
+}
+
+/// The entry of this bus's record whose line in this version the text begins with. The line is left in the buffer.
+pub fn read_line(
+    buffer: &mut Vec<u8>,
+    alloc: Global,
+    version: Version,
+    config: BusConfig,
+    text: &[u8],
+) -> Result<Entry, Unread>
+    ensures found { IfOk result (StartsWithEntry version config text.now buffer.new.items) }
+    ensures bad { IfErr result (λ why. why ≡ unread.Bad → LacksEntry version config text.now) }
+{
+    let read = match guess_entry(alloc, text) {
+        Ok(read) => read,
+        Err(why) => return Err(why),
+    };
+    if !has_line(version, config, &read) {
+        return Err(Unread::Bad);
+    }
+    buffer.clear();
+    match put_line(buffer, &read) {
+        Ok(()) => {}
+        Err(_) => return Err(Unread::NoMemory),
+    }
+    if !begins(text, buffer) {
+        return Err(Unread::Bad);
+    }
+    Ok(read)
+}
+
+/// An entry as its line seems to spell it.
+#[tactic(auto, unfolding(crate::specs::inner::Reading::entry_at))]
+fn guess_entry(alloc: Global, text: &[u8]) -> Result<Entry, Unread>
+    ensures { Gives result (entry_at text.now) }
+{
+    let (event, rest) = match guess_event(alloc, text) {
+        Ok(found) => found,
+        Err(why) => return Err(why),
+    };
+    let (_, rest) = next_word(rest);
+    match reply_field(moment_of(&event), rest) {
+        Some((reply, _)) => Ok(Entry { event, reply }),
+        None => Err(Unread::Bad),
+    }
+}
+
+/// The moment of an attempt.
+fn moment_of(event: &Event) -> Option<Moment>
+    ensures { result ≡ moment_of event.now }
+{
+    match event {
+        Event::Attempt(moment, _) => Some(*moment),
+        _ => None,
+    }
+}
+
+/// The configuration whose line in this version the text begins with. The line is left in the buffer.
+pub fn read_bus(buffer: &mut Vec<u8>, version: Version, text: &[u8]) -> Result<BusConfig, Unread>
+    ensures found { IfOk result (StartsWithBus version text.now buffer.new.items) }
+    ensures bad { IfErr result (λ why. why ≡ unread.Bad → LacksBus version text.now) }
+{
+    let Some(config) = guess_config(version, text) else {
+        return Err(Unread::Bad);
+    };
+    if !has_bus_line(version, config) {
+        return Err(Unread::Bad);
+    }
+    buffer.clear();
+    match put_bus(buffer, version, config) {
+        Ok(()) => {}
+        Err(_) => return Err(Unread::NoMemory),
+    }
+    if !begins(text, buffer) {
+        return Err(Unread::Bad);
+    }
+    Ok(config)
+}
+
+/// Whether a configuration has a line in this version.
+fn has_bus_line(version: Version, config: BusConfig) -> bool
+    ensures yes { IsTrue result → HasBusLine version config }
+    ensures no { HasBusLine version config → IsTrue result }
+{
+    config.is_proper() && version.restarts(config)
+}
+
+/// A configuration as its line seems to spell it in this version.
+#[tactic(auto, unfolding(crate::specs::inner::Reading::config_at))]
+fn guess_config(version: Version, text: &[u8]) -> Option<BusConfig>
+    ensures { result ≡ config_at version text.now }
+{
+    let (_, rest) = next_word(text);
+    let (ifaces, rest) = byte_field(rest)?;
+    let (ack, rest) = ack_field(rest)?;
+    let (reporting, rest) = set_field(rest)?;
+    let (tx_capacity, rest) = short_field(rest)?;
+    let (limit, rest) = short_field(rest)?;
+    let (auto_restart, _) = auto_restart_field(version, rest)?;
+    Some(BusConfig {
+        ifaces,
+        ack,
+        reporting,
+        tx_capacity,
+        limit,
+        auto_restart,
+    })
+}
+
+/// After how many attempts an interface is restarted: never in version 1.
+#[tactic(auto, unfolding(crate::specs::inner::Reading::auto_restart_at))]
+fn auto_restart_field(version: Version, text: &[u8]) -> Option<(u32, &[u8])>
+    ensures { with_rest result ≡ auto_restart_at version text.now }
+{
+    match version {
+        Version::One => Some((0, text)),
+        Version::Two | Version::Three => short_field(text),
+    }
+}
+
+/// Who acknowledges.
+#[tactic(auto, unfolding(crate::specs::inner::Reading::ack_at))]
+fn ack_field(text: &[u8]) -> Option<(AckMode, &[u8])>
+    ensures { with_rest result ≡ ack_at text.now }
+{
+    let (word, rest) = next_word(text);
+    if same_word(word, b"always") {
+        return Some((AckMode::Always, rest));
+    }
+    if same_word(word, b"peers") {
+        return Some((AckMode::Peers, rest));
+    }
+    None
+}

@@ -1,0 +1,124 @@
+ghost use Rattle.std.specs.Prelude.{◌≡◌, [], All, Err, IfErr, IfOk, ◌<◌, ◌^◌};
+ghost use Rattle.can_record_text.specs.Values.{HasLine};
+ghost use Rattle.can_record_text.specs.Spelling.{entry_lines};
+ghost use Rattle.can_record_text.specs.RecordFaults.{LacksEntry, Ends, Reads, ReadsBack};
+ghost use Rattle.can_record_text.specs.inner.Fronts.{HasFront};
+
+use crate::fault::{ReadFault, Unread};
+use crate::lines::{begins, behind, put_end, read_bus, read_line, read_version};
+use crate::version::Version;
+use can_event::{BusConfig, Entry, Received};
+use can_frame::Item;
+use can_record::Record;
+use std::alloc::{AllocError, Global};
+
+/// The record of a text, as `record_text` writes it: no other text is taken.
+///
+/// `BadVersion` where the text does not begin with the first line of a version, and otherwise `BadLine` with the first
+/// line that is wrong or missing, from 1; where the text goes on after its end, that is the line after the end. Last,
+/// `BadVersion` where a text of version 3 has neither an FD frame nor the option for such.
+/// The time is linear in the text, and nothing is allocated for a line but the filters that it sets.
+pub fn read_record(alloc: Global, text: &str) -> Result<Record, ReadFault>
+    ensures reads { Reads text.now result }
+    ensures back { ReadsBack text.now result }
+{
+    read_record_bytes(alloc, text.as_bytes())
+}
+
+/// The same of the bytes of a text, which need not be UTF-8.
+pub fn read_record_bytes(alloc: Global, text: &[u8]) -> Result<Record, ReadFault>
+    ensures reads { Reads text.now result }
+    ensures back { ReadsBack text.now result }
+{
+    read_text(alloc, text)
+}
+
+fn read_text(alloc: Global, text: &[u8]) -> Result<Record, ReadFault>
+    ensures { Reads text.now result }
+{
+    let mut buffer = Vec::new(alloc);
+    let (version, config, rest) = match read_front(&mut buffer, text) {
+        Ok(front) => front,
+        Err(why) => return Err(why),
+    };
+    let mut entries = Vec::new(alloc);
+    let Ok(rest) = read_lines(alloc, version, config, &mut buffer, &mut entries, rest) else {
+        return Err(ReadFault::NoMemory);
+    };
+    match read_end(&mut buffer, entries.len(), rest) {
+        Ok(()) => {}
+        Err(why) => return Err(why),
+    }
+    if !version.is_needed(&entries) {
+        return Err(ReadFault::BadVersion);
+    }
+    Ok(Record::from_spelled(config, entries))
+}
+
+/// The version and the bus of the first two lines, and what follows them.
+fn read_front<'a>(
+    buffer: &mut Vec<u8>,
+    text: &'a [u8],
+) -> Result<(Version, BusConfig, &'a [u8]), ReadFault>
+    ensures front { IfOk result (λ x. HasFront text.now x.0 x.1 x.2.now) }
+    ensures fault { IfErr result (λ why. Reads text.now (Err why)) }
+{
+    let Some(version) = read_version(text) else {
+        return Err(ReadFault::BadVersion);
+    };
+    let rest = behind(text, version.first_line().len());
+    let config = match read_bus(buffer, version, rest) {
+        Ok(config) => config,
+        Err(Unread::Bad) => return Err(ReadFault::BadLine(2)),
+        Err(Unread::NoMemory) => return Err(ReadFault::NoMemory),
+    };
+    Ok((version, config, behind(rest, buffer.len())))
+}
+
+/// Whether the text ends here, after this many entries.
+fn read_end(buffer: &mut Vec<u8>, count: usize, text: &[u8]) -> Result<(), ReadFault>
+    requires { count < 2 ^ 63 }
+    ensures { Ends count text.now result }
+{
+    let count = count as u64;
+    buffer.clear();
+    match put_end(buffer, count) {
+        Ok(()) => {}
+        Err(_) => return Err(ReadFault::NoMemory),
+    }
+    if !begins(text, buffer) {
+        return Err(ReadFault::BadLine(count + 3));
+    }
+    if text.len() > buffer.len() {
+        return Err(ReadFault::BadLine(count + 4));
+    }
+    Ok(())
+}
+
+/// The entries of the lines that are here in the record of this bus in this version, up to the first place where there
+/// is none, and what follows there.
+fn read_lines<'a>(
+    alloc: Global,
+    version: Version,
+    config: BusConfig,
+    buffer: &mut Vec<u8>,
+    entries: &mut Vec<Entry>,
+    text: &'a [u8],
+) -> Result<&'a [u8], AllocError>
+    requires { entries.old.items ≡ [] }
+    ensures lines { IfOk result (λ rest. text.now ≡ entry_lines entries.new.items rest.now) }
+    ensures have { IfOk result (λ rest. All (HasLine version config) entries.new.items) }
+    ensures stops { IfOk result (λ rest. LacksEntry version config rest.now) }
+{
+    // The checker has to meet the types inside an entry before a vector takes one.
+    let _types: Option<(Item, Received)> = None;
+    let mut rest = text;
+    loop {
+        match read_line(buffer, alloc, version, config, rest) {
+            Ok(entry) => entries.push(entry)?,
+            Err(Unread::Bad) => return Ok(rest),
+            Err(Unread::NoMemory) => return Err(AllocError),
+        }
+        rest = behind(rest, buffer.len());
+    }
+}

@@ -1,0 +1,170 @@
+ghost use Rattle.std.specs.Prelude.{◌≡◌, ◌≤◌, ◌+◌, ◌%◌, ◌^◌, ◌++◌, ◌∷◌, [], false, length, decimal, nat_le};
+ghost use Rattle.can_frame.specs.Frames.{is_remote, is_fd, payload_len};
+ghost use Rattle.can_frame.specs.FrameText.{frame_spelling, id_text, pairs};
+ghost use Rattle.can_frame.specs.declared.item.Item.TheVariants as item;
+ghost use Rattle.can_attempt.specs.Words.{class_word};
+ghost use Rattle.can_record.specs.FrameWords.{frame_in, identifier_in};
+ghost use Rattle.can_record_text.specs.Spelling.{local_front, moment_word, set_word, verdict_word};
+
+use can_attempt::Class;
+use can_fault::{GlobalKind, LocalKind, Verdict};
+use can_frame::{CanId, ErrorFrame, Frame, IfaceSet, Moment, Text};
+
+/// Room for the line of a usual entry: no filters, and no frame but a data frame of at most 8 bytes. The longest has at
+/// most 139 bytes.
+pub(crate) type ShortLine = Text<192>;
+
+/// A decimal number, and the byte that ends it.
+pub(crate) fn push_number(line: &mut ShortLine, n: u64, gap: u8)
+    requires { length line.old + 21 ≤ 192 }
+    ensures text { line.new ≡ line.old ++ (decimal n ++ gap ∷ []) }
+    ensures len { length line.new ≤ length line.old + 21 }
+{
+    push_decimal(line, n);
+    line.push(gap);
+}
+
+/// A decimal number. Most have one digit.
+#[tactic(auto, using(std::proofs::lemmas::Fmt::decimal_digit))]
+fn push_decimal(line: &mut ShortLine, n: u64)
+    requires { length line.old + 20 ≤ 192 }
+    ensures text { line.new ≡ line.old ++ decimal n }
+    ensures len { length line.new ≤ length line.old + 20 }
+{
+    if n < 10 {
+        line.push(b'0' + n as u8);
+    } else {
+        line.push_count(n);
+    }
+}
+
+/// A set of interfaces, and the byte that ends it.
+#[tactic(auto, unfolding(crate::specs::Spelling::set_word))]
+pub(crate) fn push_set(line: &mut ShortLine, set: IfaceSet, gap: u8)
+    requires { length line.old + 5 ≤ 192 }
+    ensures text { line.new ≡ line.old ++ (set_word set ++ gap ∷ []) }
+    ensures len { length line.new ≡ length line.old + 5 }
+{
+    line.push_hex(4, u64::from(set.0));
+    line.push(gap);
+}
+
+/// Seconds, a point and six digits of microseconds, and the byte that ends it.
+#[tactic(auto, unfolding(crate::specs::Spelling::moment_word))]
+pub(crate) fn push_moment(line: &mut ShortLine, moment: Moment, gap: u8)
+    requires { length line.old + 18 ≤ 192 }
+    ensures text { line.new ≡ line.old ++ (moment_word moment ++ gap ∷ []) }
+    ensures len { length line.new ≤ length line.old + 18 }
+{
+    line.push_moment(moment);
+    line.push(gap);
+}
+
+/// A data frame of at most 8 bytes, and a space.
+#[tactic(auto, unfolding(can_frame::specs::FrameText::frame_spelling), using(crate::proofs::Short::data_text, crate::proofs::Short::data_short))]
+pub(crate) fn push_frame(line: &mut ShortLine, frame: &Frame)
+    requires room { length line.old + 26 ≤ 192 }
+    requires remote { is_remote frame.now.payload ≡ false }
+    requires fd { is_fd frame.now.payload ≡ false }
+    requires short { payload_len frame.now.payload ≤ 8 }
+    ensures text { line.new ≡ line.old ++ (frame_spelling (item.Data frame.now) ++ 32 ∷ []) }
+    ensures len { length line.new ≤ length line.old + 26 }
+{
+    line.push_id(frame.id());
+    push_bytes(line, frame.bytes());
+}
+
+/// A packed data frame of at most 8 bytes, and a space.
+#[tactic(auto, unfolding(can_frame::specs::FrameText::frame_spelling))]
+pub(crate) fn push_packed(line: &mut ShortLine, word: u32, len: u8, bytes: &[u8; 8])
+    requires room { length line.old + 26 ≤ 192 }
+    requires data { nat_le (2 ^ 30) (word % 2 ^ 31) ≡ false }
+    ensures text { line.new ≡ line.old ++
+        (frame_spelling (item.Data (frame_in word len bytes.now)) ++ 32 ∷ []) }
+    ensures len { length line.new ≤ length line.old + 26 }
+{
+    push_id(line, word);
+    let len = if len <= 8 { len } else { 8 };
+    push_bytes(line, &bytes[..len as usize]);
+}
+
+/// The identifier of a word.
+fn push_id(line: &mut ShortLine, word: u32)
+    requires { length line.old + 8 ≤ 192 }
+    ensures text { line.new ≡ line.old ++ id_text (identifier_in word) }
+    ensures len { length line.new ≤ length line.old + 8 }
+{
+    if word >= 0x8000_0000 {
+        line.push_hex(8, u64::from(word % 0x2000_0000));
+    } else {
+        line.push_hex(3, u64::from(word % 0x800));
+    }
+}
+
+/// An error message frame, and a space.
+#[tactic(auto, unfolding(can_frame::specs::FrameText::frame_spelling))]
+pub(crate) fn push_error(line: &mut ShortLine, error: ErrorFrame)
+    requires { length line.old + 26 ≤ 192 }
+    ensures text { line.new ≡ line.old ++ (frame_spelling (item.Error error) ++ 32 ∷ []) }
+    ensures len { length line.new ≤ length line.old + 26 }
+{
+    line.push_hex(8, 0x2000_0000 + u64::from(error.class()));
+    push_bytes(line, &error.data());
+}
+
+/// A `#`, bytes as hexadecimal digits, and a space.
+fn push_bytes(line: &mut ShortLine, bytes: &[u8])
+    requires room { length line.old + 18 ≤ 192 }
+    requires short { length bytes.now ≤ 8 }
+    ensures text { line.new ≡ line.old ++ 35 ∷ (pairs bytes.now ++ 32 ∷ []) }
+    ensures len { length line.new ≤ length line.old + 18 }
+{
+    line.push(b'#');
+    line.push_pairs(bytes);
+    line.push(b' ');
+}
+
+/// The word for how an attempt ended, and a space.
+pub(crate) fn push_class(line: &mut ShortLine, class: Class)
+    requires { length line.old + 10 ≤ 192 }
+    ensures text { line.new ≡ line.old ++ (class_word class ++ 32 ∷ []) }
+    ensures len { length line.new ≤ length line.old + 10 }
+{
+    match class {
+        Class::Done => line.push_all(b"done "),
+        Class::LastBit => line.push_all(b"lastbit "),
+        Class::Destroyed => line.push_all(b"destroyed "),
+        Class::NoAck => line.push_all(b"noack "),
+    }
+}
+
+/// A verdict, and a space.
+pub(crate) fn push_verdict(line: &mut ShortLine, verdict: Verdict)
+    requires { length line.old + 17 ≤ 192 }
+    ensures text { line.new ≡ line.old ++ (verdict_word verdict ++ 32 ∷ []) }
+    ensures len { length line.new ≤ length line.old + 17 }
+{
+    match verdict {
+        Verdict::Good => line.push_all(b"good "),
+        Verdict::Global(GlobalKind::Bit) => line.push_all(b"global-bit "),
+        Verdict::Global(GlobalKind::Form) => line.push_all(b"global-form "),
+        Verdict::LastBit => line.push_all(b"lastbit "),
+        Verdict::Local(set, kind) => {
+            push_local(line, kind);
+            push_set(line, set, b' ');
+        }
+    }
+}
+
+/// A local fault and a colon.
+fn push_local(line: &mut ShortLine, kind: LocalKind)
+    requires { length line.old + 12 ≤ 192 }
+    ensures text { line.new ≡ line.old ++ local_front kind }
+    ensures len { length line.new ≤ length line.old + 12 }
+{
+    match kind {
+        LocalKind::Stuff => line.push_all(b"local-stuff:"),
+        LocalKind::Crc => line.push_all(b"local-crc:"),
+        LocalKind::Form => line.push_all(b"local-form:"),
+    }
+}
