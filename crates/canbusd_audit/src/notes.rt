@@ -17,7 +17,7 @@ pub fn record_note(
         ),
         ReadFault::BadLine(2) => (
             2,
-            "the second line is bus IFACES ACK REPORTING TXCAPACITY LIMIT, with RESTART behind it in versions 2 and 3",
+            "the second line is bus IFACES ACK REPORTING TXCAPACITY LIMIT, followed by RESTART in versions 2 and 3",
         ),
         ReadFault::BadLine(number) => (number, entry_form(line)),
         ReadFault::NoMemory => return Ok(String::new(alloc)),

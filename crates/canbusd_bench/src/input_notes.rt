@@ -49,9 +49,9 @@ fn form_of(line: &[u8]) -> &'static str {
     match word {
         b"at" => "at SECONDS.MICROS: 1 to 10 digits, a point, 6 digits, as at 1.500000",
         b"session" | b"drain" | b"end" =>
-            "a session is 1 to 64 without leading zeros, behind one space",
+            "a session is 1 to 64 without leading zeros, after one space",
         b"feed" =>
-            "feed S BYTES: S is 1 to 64 without leading zeros, and one space stands before BYTES",
+            "feed S BYTES: S is 1 to 64 without leading zeros, and one space comes before BYTES",
         b"attempt" => "nothing may follow attempt: each line makes one attempt",
         _ => "a line begins with at, session, feed, drain, end or attempt; see canbusd help bench",
     }

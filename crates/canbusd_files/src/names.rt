@@ -29,7 +29,7 @@ fn names_note(alloc: Global, names: &str) -> Result<String, AllocError> {
         return name_note(alloc, name);
     }
     match names.split(',').find(|name| is_repeated(names, name)) {
-        Some(name) => format!(in alloc; "  {name}: this name stands twice\n"),
+        Some(name) => format!(in alloc; "  {name}: this name is given twice\n"),
         None => Ok(String::new(alloc)),
     }
 }
@@ -40,12 +40,12 @@ fn name_note(alloc: Global, name: &str) -> Result<String, AllocError> {
     if len == 0 {
         fixed_note(
             alloc,
-            "a name is empty: names of 1 to 15 bytes are joined by commas",
+            "a name is empty: names of 1 to 15 bytes are joined by commas, without spaces",
         )
     } else if len > 15 {
         format!(in alloc; "  {shown}: {len} bytes, a name has 1 to 15\n")
     } else {
-        format!(in alloc; "  {shown}: a name has ASCII letters, digits, _, - and . alone\n")
+        format!(in alloc; "  {shown}: a name has only ASCII letters, digits, _, - and .\n")
     }
 }
 

@@ -29,9 +29,9 @@ pub fn read_script<'a, H: Files>(
 // What may be wrong with the path of a script.
 fn path_note(path: &str) -> &'static str {
     if path.is_empty() {
-        "  the path of a script stands behind @\n"
+        "  the path of a script comes after @\n"
     } else if path.contains('@') {
-        "  one script stands behind all names: its path begins behind the first @\n"
+        "  one script serves all names of a bus: its path begins after the first @\n"
     } else {
         ""
     }
@@ -86,7 +86,7 @@ fn bad_verdict_note(alloc: Global, line: &str) -> Result<String, AllocError> {
     if !has_number(line) {
         return fixed_note(
             alloc,
-            "a line is NUMBER VERDICT, as 0 lastbit: NUMBER has 1 to 8 digits, and one space stands behind it",
+            "a line is NUMBER VERDICT, as 0 lastbit: NUMBER has 1 to 8 digits, and one space follows it",
         );
     }
     let verdict = line.split_once(' ').map_or("", |(_, verdict)| verdict);
@@ -96,7 +96,7 @@ fn bad_verdict_note(alloc: Global, line: &str) -> Result<String, AllocError> {
 // What is wrong with what follows the number of a line and a space.
 fn verdict_note(verdict: &str) -> &'static str {
     if verdict.starts_with(' ') || verdict.contains("  ") {
-        return "one space stands between two words";
+        return "words are parted by one space";
     }
     let alone = ["good ", "lastbit ", "global bit ", "global form "];
     if alone.iter().any(|word| verdict.starts_with(*word)) {

@@ -243,6 +243,6 @@ pub fn bus_argument<'a>(alloc: Global) -> Arg<'a>
     ensures local { result.global ≡ false }
 {
     Arg::new(alloc, BUS).required(true).help(
-        "Names of 1 to 16 interfaces, joined by commas; @FILE behind them is a script of faults",
+        "Names of 1 to 16 interfaces, joined by commas; @FILE after them is a script of faults",
     )
 }

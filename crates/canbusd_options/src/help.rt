@@ -4,7 +4,7 @@ pub const PROGRAM_HELP: &str =
     "`canbusd help bench` has the options of bench, the lines that it reads, and an example to copy; `canbusd help serve`
 the options of serve, and how clients connect. `man canbusd` has all of it, the statuses and the texts of faults.
 
-Statuses: 0 done; 1 a fault, told as `canbusd: TEXT`; 2 a fault of the command line. A line `note: ..` is no fault.
+Statuses: 0 done; 1 a fault, reported as `canbusd: TEXT`; 2 a fault of the command line. A line `note: ..` is no fault.
 
 Example, with what it writes:
   $ printf '%s\\n' 'session 1' 'feed 1 < open can0 >< rawmode >< send 123 2 AB CD >' attempt | canbusd bench can0,can1
@@ -38,7 +38,7 @@ Messages of a session (socketcand's raw mode), in the order of a first run:
   < status >                 Write < status STATE TEC REC >, from the error counters of the interface
   < restart >                Bring the interface back that is bus off, before --auto-restart does
   < close >                  Close the socket, and write < closed UNREAD DROPPED >
-What is done is answered < ok >, a send nothing, what is refused < error TEXT >. < echo > is answered at any time.
+A command that was carried out gets < ok >, an accepted send nothing, a refusal < error TEXT >. < echo > always gets < echo >.
 
 What is received: < frame ID MOMENT DATA >, < remote ID MOMENT LEN >, < fdframe ID MOMENT DATA >,
 < error CLASS MOMENT > or with DATA.
@@ -73,20 +73,20 @@ With --verbose standard error has a line for each client that comes, opens an in
 --limit is for each bus, and it is how long a run can be. Each send, each attempt and each receive of a session is an
 entry. It takes 32 bytes in the record, and up to 64 in the list of the session that made it; with an FD frame 76 more
 in the record, and up to 152 more in the list. 1000 frames a second to 4 sessions fill 1000000 entries in less than
-3 minutes. When a bus is full each of its calls answers `record full`, and standard error says so once. With
+3 minutes. Once a bus is full each of its calls returns `record full`, and standard error says so once. With
 --auto-restart attempts go on, MS milliseconds apart, while an interface waits for its restart, and each is an entry.
 
-Example, with a client in Python (package python3-can):
+Example, with a client in Python (the package canbusd, and python3-can):
   $ canbusd serve --out . can0,can1@faults.script &
   listening 127.0.0.1:29536
   $ python3
   >>> import can
-  >>> bus = can.Bus(interface=\"socketcand\", host=\"127.0.0.1\", port=29536, channel=\"can0\")
+  >>> bus = can.Bus(interface=\"canbusd\", channel=\"can0\")
   >>> bus.send(can.Message(arbitration_id=0x123, data=[1, 2], is_extended_id=False))";
 
 pub const AUDIT_HELP: &str =
     "Prints `ok N entries` where each reply in the record is the one that the entries before it allow.
-Else it tells the first line that no record may have, or the first entry (from 0) whose reply is wrong,
+Else it reports the first line that no record may have, or the first entry (from 0) whose reply is wrong,
 with the reply that would be legal.
 
 Example, with what it writes:

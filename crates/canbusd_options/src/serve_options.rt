@@ -158,5 +158,5 @@ fn verbose_option<'a>(alloc: Global) -> Arg<'a>
     Arg::new(alloc, VERBOSE)
         .long(VERBOSE)
         .action(ArgAction::SetTrue)
-        .help("Tell of clients and of bus off on standard error, a line each")
+        .help("Report each client and each bus off in a line on standard error")
 }

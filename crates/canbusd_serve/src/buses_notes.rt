@@ -13,7 +13,7 @@ pub fn buses_note(
         return format!(in alloc; "  {count} buses: a server has 1 to 16\n");
     }
     match shared_name(buses) {
-        Some(name) => format!(in alloc; "  {name}: this name stands on two buses\n"),
+        Some(name) => format!(in alloc; "  {name}: two buses have this name\n"),
         None => limits_note(alloc, settings),
     }
 }

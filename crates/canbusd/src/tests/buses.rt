@@ -10,19 +10,19 @@ fn refuses_buses(rt: HostRuntime) -> Result<(), Fail> {
     let table = [
         (
             "canbusd bench can0,can0",
-            "canbusd: bad bus\n  can0: this name stands twice\n",
+            "canbusd: bad bus\n  can0: this name is given twice\n",
         ),
         (
             "canbusd bench a,b,can1,b@none",
-            "canbusd: bad bus\n  b: this name stands twice\n",
+            "canbusd: bad bus\n  b: this name is given twice\n",
         ),
         (
             "canbusd bench @none",
-            "canbusd: bad bus\n  a name is empty: names of 1 to 15 bytes are joined by commas\n",
+            "canbusd: bad bus\n  a name is empty: names of 1 to 15 bytes are joined by commas, without spaces\n",
         ),
         (
             "canbusd bench can0,",
-            "canbusd: bad bus\n  a name is empty: names of 1 to 15 bytes are joined by commas\n",
+            "canbusd: bad bus\n  a name is empty: names of 1 to 15 bytes are joined by commas, without spaces\n",
         ),
         (
             "canbusd bench can0,abcdefghijklmnop",
@@ -30,7 +30,7 @@ fn refuses_buses(rt: HostRuntime) -> Result<(), Fail> {
         ),
         (
             "canbusd bench can0,\u{1b}[2Jz\u{e9}",
-            "canbusd: bad bus\n  ?[2Jz??: a name has ASCII letters, digits, _, - and . alone\n",
+            "canbusd: bad bus\n  ?[2Jz??: a name has only ASCII letters, digits, _, - and .\n",
         ),
         (
             "canbusd bench a,b,c,d,e,f,g,h,i,j,k,l,m,n,o,p,q",

@@ -109,7 +109,7 @@ fn reads_command_lines(rt: HostRuntime) -> Result<(), Fail> {
         tells(&rt, alloc, line, ("", text, 2))?;
     }
     let shown = [
-        ("canbusd --version", "canbusd 0.1.0\n"),
+        ("canbusd --version", "canbusd 0.2.0\n"),
         ("canbusd --help", "Simulated CAN buses\n"),
         ("canbusd bench -h", "Carry out the lines"),
         ("canbusd help bench", "Carry out the lines"),

@@ -200,7 +200,7 @@ const AT: &str = "  at SECONDS.MICROS: 1 to 10 digits, a point, 6 digits, as at 
 
 const ATTEMPT: &str = "  nothing may follow attempt: each line makes one attempt\n";
 
-const NUMBER: &str = "  a session is 1 to 64 without leading zeros, behind one space\n";
+const NUMBER: &str = "  a session is 1 to 64 without leading zeros, after one space\n";
 
 const MISSING: &str = "  no line before it starts session 3\n";
 
@@ -239,7 +239,7 @@ fn refuses_lines(rt: HostRuntime) -> Result<(), Fail> {
         (
             "feed 1",
             "feed 1",
-            "  feed S BYTES: S is 1 to 64 without leading zeros, and one space stands before BYTES\n",
+            "  feed S BYTES: S is 1 to 64 without leading zeros, and one space comes before BYTES\n",
         ),
         ("end 3", "end 3", MISSING),
     ];

@@ -142,7 +142,7 @@ fn tells_what_is_wrong_with_records(rt: HostRuntime) -> Result<(), Fail> {
         (
             "bus 2",
             "bus 17",
-            "canbusd: line 2: bad line\n  damaged.rec:2: bus 17 always 0000 10 100\n  the second line is bus IFACES ACK REPORTING TXCAPACITY LIMIT, with RESTART behind it in versions 2 and 3\n",
+            "canbusd: line 2: bad line\n  damaged.rec:2: bus 17 always 0000 10 100\n  the second line is bus IFACES ACK REPORTING TXCAPACITY LIMIT, followed by RESTART in versions 2 and 3\n",
         ),
         (
             "send 0 123#01FF",

@@ -126,7 +126,7 @@ fn tells_faults_of_scripts(rt: HostRuntime) -> Result<(), Fail> {
         (
             b"0  lastbit",
             "canbusd bench can0,can1@faulty.script",
-            "canbusd: script line 1: bad line\n  faulty.script:1: 0  lastbit\n  one space stands between two words\n",
+            "canbusd: script line 1: bad line\n  faulty.script:1: 0  lastbit\n  words are parted by one space\n",
         ),
         (
             b"0 local bit can0",
@@ -169,11 +169,11 @@ fn tells_why_scripts_are_not_opened(rt: HostRuntime) -> Result<(), Fail> {
         ),
         (
             "canbusd bench can0@",
-            "canbusd: cannot open \n  : No such file or directory (os error 2)\n  the path of a script stands behind @\n",
+            "canbusd: cannot open \n  : No such file or directory (os error 2)\n  the path of a script comes after @\n",
         ),
         (
             "canbusd bench can0@a@b",
-            "canbusd: cannot open a@b\n  a@b: No such file or directory (os error 2)\n  one script stands behind all names: its path begins behind the first @\n",
+            "canbusd: cannot open a@b\n  a@b: No such file or directory (os error 2)\n  one script serves all names of a bus: its path begins after the first @\n",
         ),
         (
             "canbusd bench can0@.",

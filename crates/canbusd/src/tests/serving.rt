@@ -26,7 +26,7 @@ fn refuses_buses_and_addresses(rt: HostRuntime) -> Result<(), Fail> {
         ),
         (
             "canbusd serve can0,can0 can1@none",
-            "canbusd: bad bus\n  can0: this name stands twice\n",
+            "canbusd: bad bus\n  can0: this name is given twice\n",
         ),
         (
             "canbusd serve --limit 0 --listen ./none/socket can0",
@@ -38,7 +38,7 @@ fn refuses_buses_and_addresses(rt: HostRuntime) -> Result<(), Fail> {
         ),
         (
             "canbusd serve --listen ./none/socket can0,can1 can2 can3,can1",
-            "canbusd: bad bus\n  can1: this name stands on two buses\n",
+            "canbusd: bad bus\n  can1: two buses have this name\n",
         ),
         (
             "canbusd serve a b c d e f g h i j k l m n o p q",
@@ -92,7 +92,7 @@ fn ends_with_its_input(rt: HostRuntime) -> Result<(), Fail> {
     let alloc = rt.alloc();
     let line = "canbusd serve --until-eof --listen ./short can0,can1 can2 can3@";
     let told =
-        "canbusd: cannot open \n  : No such file or directory (os error 2)\n  the path of a script stands behind @\n";
+        "canbusd: cannot open \n  : No such file or directory (os error 2)\n  the path of a script comes after @\n";
     runs(&rt, alloc, line, NOTHING, ("", told, 1))?;
     let line = "canbusd serve --until-eof --listen ./short can0,can1 can2";
     let wanted = (
