@@ -1,5 +1,5 @@
 -- The limits of a bus are within those of a long run.
-use Rattle.std.proofs.Common.{omega, arith}
+use Rattle.std.proofs.Common.{arith}
 use Rattle.can_event.specs.declared.bus_config.BusConfig.{BusConfig}
 use Rattle.can_event.specs.Events.{IsConfig, IsLongConfig}
 
