@@ -31,6 +31,7 @@ pub mod Attempting
 pub mod Between
 pub mod Restarting
 pub mod Telling
+pub mod HeadFacts
 pub mod LifeFacts
 pub mod OwnFacts
 pub mod FateFacts

@@ -21,6 +21,7 @@ pub mod Answer
 pub mod Run
 pub mod Lean
 pub mod Stats
+pub mod Heads
 pub use Rattle.can_frame.specs.Frames
 pub use Rattle.can_frame.specs.Sets
 pub use Rattle.can_filter.specs.Passing

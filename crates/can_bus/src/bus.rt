@@ -3,6 +3,7 @@ ghost use Rattle.can_bus.specs.Answer.{Answers, done_reply, told_attempt};
 ghost use Rattle.can_bus.specs.Attempts.{winner};
 ghost use Rattle.can_bus.specs.AutoRestart.{is_counting};
 ghost use Rattle.can_bus.specs.Headline.{Headline};
+ghost use Rattle.can_bus.specs.Heads.{next_head};
 ghost use Rattle.can_event.specs.Events.{IsConfig};
 ghost use Rattle.can_event.specs.Replies.{entry_of, taken_reply};
 ghost use Rattle.can_bus.specs.Legal.{IsLegal};
@@ -332,6 +333,14 @@ impl<T: BoundedQueue<Pending>, R: BoundedQueue<Received>, A: Arbiter> Bus<T, R, 
         ensures { result ≡ winner self.now.config self.now.history }
     {
         self.state.winner()
+    }
+
+    /// The interface and the frame that the next attempt tries: `None` where no live interface has one to send.
+    /// No event.
+    pub fn next_head(&self) -> Option<(Iface, Frame)>
+        ensures { result ≡ next_head self.now.config self.now.history }
+    {
+        self.state.next_head()
     }
 
     /// Whether an interface that is bus off counts the attempts until it is restarted. No event.

@@ -11,7 +11,9 @@ ghost use Rattle.can_bus.specs.Counters.{state_at, counts_of};
 ghost use Rattle.can_bus.specs.Copies.{received_from, copying, copy_of, numbers_from, NeverFall, went_over, InTurn, IsOfSent};
 ghost use Rattle.can_bus.specs.Repeats.{AtMost32Copies, RisesAtTheHead, LastBitAdds8, HadThatFaultAlone};
 ghost use Rattle.can_bus.specs.Queues.{queued_to, dropped_at, taken_from, candidates_for};
+ghost use Rattle.can_bus.specs.AutoRestart.{restarted_next};
 ghost use Rattle.can_bus.specs.Headline.{Headline};
+ghost use Rattle.can_bus.specs.Heads.{next_head};
 ghost use Rattle.can_bus.specs.Offers.{Offer, offers_to, with_room, without_room};
 ghost use Rattle.can_bus.specs.Sockets.{places, open_sockets, is_open, iface_of, capacity_of, options_of};
 ghost use Rattle.can_bus.specs.Fates.{numbers_given, opening, closing, is_restart_of, frames_with, goes_off};
@@ -225,6 +227,16 @@ pub fn off_interfaces_take_no_part(config: BusConfig)
     ensures counts { (past : List Entry) → (e : Entry) → IsLegal config (e ∷ past) → (i : ℕ) →
         is_off (state_at config past i) ≡ true → is_restart_of i e.event e.reply ≡ false →
         counts_of config (e ∷ past) i ≡ counts_of config past i }
+{}
+
+/// An attempt tries the frame that was next, of the interface that had it, and is idle where there was none.
+pub fn attempts_try_what_is_next(config: BusConfig)
+    ensures tried { (past : List Entry) → (m : ℕ) → (v : Verdict) → (t : Tried) →
+        reply.Tried t ≡ legal_reply config past (event.Attempt m v) →
+        next_head config past ≡ Some (t.winner, t.frame) }
+    ensures idle { (past : List Entry) → (m : ℕ) → (v : Verdict) →
+        next_head config past ≡ None →
+        legal_reply config past (event.Attempt m v) ≡ reply.Idle (restarted_next config past) }
 {}
 
 /// Nothing is sent on an interface that is not there, and its error counts stay 0/0.
