@@ -4,7 +4,7 @@ ghost use Rattle.can_bus.specs.Attempts.{winner};
 ghost use Rattle.can_bus.specs.AutoRestart.{is_counting};
 ghost use Rattle.can_bus.specs.Headline.{Headline};
 ghost use Rattle.can_bus.specs.Heads.{next_head};
-ghost use Rattle.can_event.specs.Events.{IsConfig};
+ghost use Rattle.can_event.specs.Events.{IsConfig, IsLongConfig};
 ghost use Rattle.can_event.specs.Replies.{entry_of, taken_reply};
 ghost use Rattle.can_bus.specs.Legal.{IsLegal};
 ghost use Rattle.can_bus.specs.Run.{IsAnswered};
@@ -132,6 +132,15 @@ impl<T: BoundedQueue<Pending>, R: BoundedQueue<Received>, A: Arbiter> Bus<T, R, 
     {
         let Bus { record, .. } = self;
         record
+    }
+
+    /// How many entries its record has.
+    pub fn len(&self) -> u64
+        ensures len { result ≡ length self.now.history }
+        ensures proper { IsLongConfig self.now.config }
+        ensures legal { IsLegal self.now.config self.now.history }
+    {
+        self.record.len() as u64
     }
 
     /// The number of the next attempt that tries a frame: how many there were.

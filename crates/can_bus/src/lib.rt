@@ -11,6 +11,7 @@ pub mod bus;
 mod countdown;
 pub mod entries;
 mod held;
+pub mod journaled;
 pub mod laws;
 pub mod lean_bus;
 mod line;
@@ -32,6 +33,7 @@ pub use can_event::{
 };
 pub use can_packed::{Looked, Stored};
 pub use entries::{Entries, EntriesIter};
+pub use journaled::Journaled;
 pub use lean_bus::{LeanBus, LeanRingBus};
 pub use outcomes::Attempted;
 pub use records::Record;
