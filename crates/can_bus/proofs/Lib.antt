@@ -45,3 +45,4 @@ pub mod OfferFacts
 pub mod Headlines
 pub mod Carrying
 pub mod Answering
+pub mod Tails

@@ -20,6 +20,8 @@ pub mod Changes
 pub mod Answer
 pub mod Run
 pub mod Lean
+pub mod Chains
+pub mod Long
 pub mod Stats
 pub mod Heads
 pub use Rattle.can_frame.specs.Frames

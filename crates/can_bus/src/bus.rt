@@ -84,7 +84,11 @@ impl<T: BoundedQueue<Pending>, R: BoundedQueue<Received>, A: Arbiter> Model for 
 }
 
 /// The entry of a socket's filters that are set to a copy of these, in memory of its own.
-fn filters_entry(alloc: Global, id: SocketId, filters: &FilterSet) -> Result<Box<Entry>, AllocError>
+pub(crate) fn filters_entry(
+    alloc: Global,
+    id: SocketId,
+    filters: &FilterSet,
+) -> Result<Box<Entry>, AllocError>
     ensures { IfOk result (λ entry.
         entry.value ≡ entry_of (event.SetFilters id filters.now) reply.Done) }
 {

@@ -5,6 +5,7 @@ ghost use Rattle.can_bus.specs.AutoRestart.{is_counting};
 ghost use Rattle.can_bus.specs.Heads.{next_head};
 ghost use Rattle.can_bus.specs.Journal.{Journal};
 ghost use Rattle.can_bus.specs.Legal.{IsLegal};
+ghost use Rattle.can_bus.specs.Long.{journal_of, places_left};
 ghost use Rattle.can_bus.specs.Run.{IsAnswered};
 ghost use Rattle.can_bus.specs.Stats.{socket_stats_of, iface_stats_of, all_counts};
 ghost use Rattle.can_bus.specs.Transmit.{tape};
@@ -13,6 +14,7 @@ ghost use Rattle.can_event.specs.Replies.{taken_reply};
 ghost use Rattle.can_event.specs.declared.event.Event.TheVariants as event;
 
 use crate::bus::RingBus;
+use crate::long_bus::{LongEnd, LongRingBus};
 use crate::records::Record;
 use can_confine::Counters;
 use can_event::{Event, IfaceStats, Received, Refusal, Reply, SocketId, SocketStats};
@@ -148,5 +150,63 @@ impl Journaled for RingBus {
 
     fn iface_stats(&self, iface: Iface) -> Option<IfaceStats> {
         RingBus::iface_stats(self, iface)
+    }
+}
+
+impl Journaled for LongRingBus {
+    ghost journal = { journal_of };
+
+    ghost places_in = { places_left };
+
+    type Left = LongEnd;
+
+    ghost left = { journal_of };
+
+    fn places(&self) -> usize {
+        LongRingBus::places(self)
+    }
+
+    fn len(&self) -> u64 {
+        LongRingBus::len(self)
+    }
+
+    fn answer(&mut self, alloc: Global, event: &Event) -> Reply {
+        LongRingBus::answer(self, alloc, event)
+    }
+
+    fn receive_into(&mut self, id: SocketId, room: &mut Received) -> Result<bool, Refusal> {
+        LongRingBus::receive_into(self, id, room)
+    }
+
+    fn into_left(self) -> LongEnd {
+        LongRingBus::into_left(self)
+    }
+
+    fn next_attempt(&self) -> u64 {
+        LongRingBus::next_attempt(self)
+    }
+
+    fn next_winner(&self) -> Option<Iface> {
+        LongRingBus::next_winner(self)
+    }
+
+    fn next_head(&self) -> Option<(Iface, Frame)> {
+        LongRingBus::next_head(self)
+    }
+
+    fn is_counting(&self) -> bool {
+        LongRingBus::is_counting(self)
+    }
+
+    fn counters(&self) -> [Counters; 16] {
+        LongRingBus::counters(self)
+    }
+
+    fn socket_stats(&self, id: SocketId) -> Option<SocketStats> {
+        LongRingBus::socket_stats(self, id)
+    }
+
+    fn iface_stats(&self, iface: Iface) -> Option<IfaceStats> {
+        LongRingBus::iface_stats(self, iface)
     }
 }
