@@ -9,10 +9,13 @@
 mod attempts;
 pub mod bus;
 mod countdown;
+mod history;
+pub mod journaled;
 pub mod laws;
 pub mod lean_bus;
 mod line;
 mod lines;
+pub mod long_bus;
 pub mod outcomes;
 mod posting;
 pub mod runs;
@@ -26,7 +29,9 @@ pub use can_event::{
     Attempt, BusConfig, Closed, Entry, Event, IfaceStats, Opt, Pending, Received, Refusal, Reply,
     SocketId, SocketStats, Tried, is_spelled,
 };
-pub use can_record::{Entries, EntriesIter, Looked, Record, Stored};
+pub use can_record::{Entries, EntriesIter, Looked, PackedRecord, Record, Stored};
+pub use journaled::Journaled;
 pub use lean_bus::{LeanBus, LeanRingBus};
+pub use long_bus::{LongBus, LongEnd, LongRingBus, TAIL_SIZE};
 pub use outcomes::Attempted;
 pub use runs::{RunFault, run};
