@@ -34,10 +34,6 @@ lists_after p e r lists = if enters r then added lists p (entry_of e r) else lis
 abbrev pub roll_after : ℕ → Event → Reply → RollSeen → RollSeen
 roll_after p e r roll = roll_seen roll.number (lists_after p e r roll.lists) roll.called
 
--- the marks of the record's entries, the newest first, after a call of pass p
-abbrev pub marks_after : ℕ → Reply → List ℕ → List ℕ
-marks_after p r marks = if enters r then p ∷ marks else marks
-
 -- what is kept after a call of pass p: one event of the bus, which is that pass's
 abbrev pub held_after : {F : Type 0} → ℕ → Event → Reply → Held F → Held F
 held_after p e r h = record {

@@ -19,11 +19,11 @@ pub record IsMarked (lists : List (List Entry)) (marks : List ℕ) (past : List 
   pub below : AllBelow (length lists) marks
   pub each : (p : ℕ) → row lists p ≡ marked p marks past
 
--- what lies under the lock agrees: the marks and the roll are those of the bus's history, no pass is called in, and there
--- is room for the marks of all entries
-pub record IsBooked (roll : RollSeen) (marks : List ℕ) (places : ℕ) (journal : Journal) : Type 0 where
+-- what lies under the lock agrees: the roll is that of the bus's history, whose entries can be marked so, and no pass is
+-- called in
+pub record IsBooked (roll : RollSeen) (journal : Journal) : Type 0 where
   pub proper : IsConfig journal.config
-  pub room : journal.config.limit ≤ places
   pub none_in : roll.called ≡ []
   pub few : length roll.lists ≤ 4096
+  pub marks : List ℕ
   pub marked : IsMarked roll.lists marks journal.history

@@ -1,7 +1,7 @@
 ghost use Rattle.std.specs.Prelude.{◌≡◌, ◌<◌, ◌≤◌, IfOk, OnErr, ◌↔◌};
 ghost use Rattle.std.specs.Sync.Mutex.{mutex_guard_value};
 ghost use Rattle.can_event.specs.Events.{IsConfig};
-ghost use Rattle.can_station.specs.Passes.{HadNoPassLeft, IsNewPass, Settles, Suits, Answered, Called, Stepped, same};
+ghost use Rattle.can_station.specs.Passes.{HadNoPassLeft, IsNewLightPass, IsNewPass, Settles, Suits, Answered, Called, Stepped, same};
 ghost use Rattle.can_station.specs.Published.{AllTrue, TakesBack};
 
 use crate::attempts::attempt_in;
@@ -71,8 +71,7 @@ impl<N: RollName + MeterName, F: FaultSource + Drop, G: Gate + Drop> Model for S
 }
 
 impl<N: RollName + MeterName, F: FaultSource + Drop, G: Gate + Drop> Station<N, F, G> {
-    /// A station with an empty record, named by `N` under this number. It takes memory for all of `limit` entries
-    /// and their marks.
+    /// A station with an empty record, named by `N` under this number. It takes memory for all of `limit` entries.
     ///
     /// `BadConfig` exactly where the configuration is outside the limits of a bus, or has another number of
     /// interfaces than the blanks; else `NoMemory` where memory was refused.
@@ -94,12 +93,11 @@ impl<N: RollName + MeterName, F: FaultSource + Drop, G: Gate + Drop> Station<N, 
             return Err(BusFault::BadConfig);
         }
         let bus = RingBus::new(alloc, config)?;
-        let marks = Vec::with_capacity(alloc, config.limit as usize)?;
         let Blanks { roll, meter: blank } = blanks;
         let Ok((keeper, spare)) = meter::<N>(alloc, blank, number) else {
             return Err(BusFault::NoMemory);
         };
-        let state = StationState::new(roll, number, bus, source, marks, keeper, spare);
+        let state = StationState::new(roll, number, bus, source, keeper, spare);
         Ok(Station {
             state: Mutex::new(state),
             work: Condvar::new(),
@@ -162,8 +160,17 @@ impl<N: RollName + MeterName, F: FaultSource + Drop, G: Gate + Drop> Station<N, 
         let slip = self.hold(rt).enter()?;
         Ok(Pass {
             slip,
-            calls: PackedList::new(alloc),
+            calls: Some(PackedList::new(alloc)),
         })
+    }
+
+    /// The next pass, as `enter` gives it, but for its list: it keeps none, so that its calls take no memory.
+    pub fn enter_light<R: Wait>(&self, rt: &R) -> Result<Pass<N>, TooManyPasses>
+        ensures ok { IfOk result (λ pass. IsNewLightPass F self.now pass) }
+        ensures err { OnErr result (HadNoPassLeft F self.now) }
+    {
+        let slip = self.hold(rt).enter()?;
+        Ok(Pass { slip, calls: None })
     }
 
     /// Another gauge of the station's meter, which reads the error counters without the lock. `AllocError` where

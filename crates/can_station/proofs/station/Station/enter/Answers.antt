@@ -1,4 +1,4 @@
-use Rattle.std.proofs.Common.{◌≡◌, Result, Ok, Err, OnErr, length, ap, ◌∙◌}
+use Rattle.std.proofs.Common.{◌≡◌, true, Result, Ok, Err, OnErr, length, ap, ◌∙◌}
 use Rattle.can_station.specs.Held.{Held}
 use Rattle.can_station.specs.Passes.{PassSeen, new_pass}
 use Rattle.can_roll.specs.Seen.{SlipSeen}
@@ -10,7 +10,7 @@ on_err (Ok a) p = tt
 on_err (Err e) p = p
 
 abbrev seen : SlipSeen → PassSeen
-seen s = record { number = s.number; pass = s.pass; calls = s.calls }
+seen s = record { number = s.number; pass = s.pass; calls = s.calls; keeps = true }
 
 pub returns-in_err-slip-clause-err : goal.returns-in_err-slip-clause-err
 returns-in_err-slip-clause-err g c =
