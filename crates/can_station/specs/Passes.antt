@@ -1,4 +1,4 @@
-use Rattle.std.specs.Prelude.{◌≡◌, ℕ, ◌+◌, ◌<◌, ◌⊎◌, Bool, true, false, List, [], length, reverse, map, All, Option, Some, None, is_some, Result, Ok, Err, if◌then◌else◌}
+use Rattle.std.specs.Prelude.{◌≡◌, ℕ, ◌+◌, ◌<◌, ◌≤◌, ◌⊎◌, Bool, true, false, List, [], length, reverse, map, All, Option, Some, None, is_some, Result, Ok, Err, if◌then◌else◌}
 use Rattle.can_event.specs.declared.entry.Entry.{Entry}
 use Rattle.can_event.specs.declared.event.Event.{Event}
 use Rattle.can_event.specs.declared.event.Event.TheVariants as event
@@ -17,12 +17,13 @@ use Rattle.can_bus.specs.Run.{IsAnswer, history_after}
 use Rattle.can_bus.specs.Transmit.{tape}
 use Rattle.can_fault.specs.Sources.{VerdictMap, verdict_in}
 use Rattle.can_packed.specs.Records.{ListedEntries}
+use Rattle.can_event.specs.Events.{IsConfig}
 use Rattle.can_event.specs.Replies.{receive_reply}
 pub use Rattle.can_event.specs.Replies.{Suits}
 use Rattle.can_roll.specs.Lists.{row, Distinct, AllBelow}
 use Rattle.can_roll.specs.Seen.{SlipSeen}
-use Rattle.can_station.specs.Held.{Held, NoPassLeft, held_after, slip_after, with_source}
-use Rattle.can_station.specs.Marks.{marked}
+use Rattle.can_station.specs.Held.{Held, StationSeen, NoPassLeft, held_after, slip_after, with_source}
+use Rattle.can_station.specs.Marks.{IsMarked, marked}
 use Rattle.can_station.specs.declared.refusals.StationRefusal.{StationRefusal}
 use Rattle.can_station.specs.declared.refusals.StationRefusal.TheVariants as station
 
@@ -160,39 +161,50 @@ IsStepped verdicts old slip moment r new slip' = IsCarriedOut (with_source new.s
 abbrev pub MadeStep : {F : Type 0} → (F → VerdictMap) → Held F → PassSeen → ℕ → Result Attempt StationRefusal → Held F → PassSeen → Type 0
 MadeStep verdicts old pass moment outcome new pass' = Made told_attempt (with_source new.source old) pass (next_attempt verdicts old moment) outcome new pass'
 
--- some state of the station with this number
-abbrev pub InSome : (F : Type 0) → ℕ → (Held F → Type 0) → Type 0
-InSome F number P = (held : Held F) × (held.number ≡ number) × P held
+-- a state that this station can be in: it has its number and its configuration, which is within the limits; the history is
+-- legal, and its entries can be marked with passes so that the calls of each are the entries marked with it
+pub record IsStateOf {F : Type 0} (station : StationSeen) (held : Held F) : Type 0 where
+  pub number : held.number ≡ station.number
+  pub config : held.journal.config ≡ station.config
+  pub proper : IsConfig station.config
+  pub legal : IsLegal held.journal.config held.journal.history
+  pub few : length held.lists ≤ 4096
+  pub marks : List ℕ
+  pub marked : IsMarked held.lists marks held.journal.history
+
+-- some state of the station
+abbrev pub InSome : (F : Type 0) → StationSeen → (Held F → Type 0) → Type 0
+InSome F station P = (held : Held F) × IsStateOf station held × P held
 
 -- the pass that enters next in some state of the station
-abbrev pub IsNewPass : (F : Type 0) → ℕ → PassSeen → Type 0
-IsNewPass F number p = InSome F number (λ held. (length held.lists < 4096) × (p ≡ new_pass number (length held.lists)))
+abbrev pub IsNewPass : (F : Type 0) → StationSeen → PassSeen → Type 0
+IsNewPass F station p = InSome F station (λ held. (length held.lists < 4096) × (p ≡ new_pass station.number (length held.lists)))
 
 -- the same, of a pass that keeps no list
-abbrev pub IsNewLightPass : (F : Type 0) → ℕ → PassSeen → Type 0
-IsNewLightPass F number p = InSome F number (λ held. (length held.lists < 4096) × (p ≡ new_light_pass number (length held.lists)))
+abbrev pub IsNewLightPass : (F : Type 0) → StationSeen → PassSeen → Type 0
+IsNewLightPass F station p = InSome F station (λ held. (length held.lists < 4096) × (p ≡ new_light_pass station.number (length held.lists)))
 
 -- in some state of the station no pass is left
-abbrev pub HadNoPassLeft : (F : Type 0) → ℕ → Type 0
-HadNoPassLeft F number = InSome F number (λ held. NoPassLeft held)
+abbrev pub HadNoPassLeft : (F : Type 0) → StationSeen → Type 0
+HadNoPassLeft F station = InSome F station (λ held. NoPassLeft held)
 
 -- what a call returns is the result in some state of the station, unless memory is refused or the pass is another's
-abbrev pub Answered : (F : Type 0) {A : Type 0} → (A → Reply) → ℕ → Event → Result A StationRefusal → Type 0
-Answered F told number e (Ok a) = InSome F number (λ held. IsAnsweredIn held e (told a))
-Answered F told number e (Err (station.Bus refusal.NoMemory)) = Unit {0}
-Answered F told number e (Err (station.Bus why)) = InSome F number (λ held. IsAnsweredIn held e (reply.Refused why))
-Answered F told number e (Err station.WrongStation) = Unit {0}
+abbrev pub Answered : (F : Type 0) {A : Type 0} → (A → Reply) → StationSeen → Event → Result A StationRefusal → Type 0
+Answered F told seen e (Ok a) = InSome F seen (λ held. IsAnsweredIn held e (told a))
+Answered F told seen e (Err (station.Bus refusal.NoMemory)) = Unit {0}
+Answered F told seen e (Err (station.Bus why)) = InSome F seen (λ held. IsAnsweredIn held e (reply.Refused why))
+Answered F told seen e (Err station.WrongStation) = Unit {0}
 
 -- a step that is carried out in some state of the station: an attempt with the source's verdict
-abbrev pub StepsIn : {F : Type 0} → (F → VerdictMap) → ℕ → PassSeen → ℕ → Reply → PassSeen → Type 0
-StepsIn {F} verdicts number old moment r new = (old.number ≡ number) × InSome F number (λ held. IsAnsweredIn held (next_attempt verdicts held moment) r × (new ≡ pass_after (next_attempt verdicts held moment) r old))
+abbrev pub StepsIn : {F : Type 0} → (F → VerdictMap) → StationSeen → PassSeen → ℕ → Reply → PassSeen → Type 0
+StepsIn {F} verdicts seen old moment r new = (old.number ≡ seen.number) × InSome F seen (λ held. IsAnsweredIn held (next_attempt verdicts held moment) r × (new ≡ pass_after (next_attempt verdicts held moment) r old))
 
 -- a step: it is carried out, or nothing changes, since the pass's list can't grow, or the pass is another station's
-abbrev pub Stepped : {F : Type 0} → (F → VerdictMap) → ℕ → PassSeen → ℕ → Result Attempt StationRefusal → PassSeen → Type 0
-Stepped verdicts number old moment (Ok a) new = StepsIn verdicts number old moment (told_attempt a) new
-Stepped verdicts number old moment (Err (station.Bus refusal.NoMemory)) new = new ≡ old
-Stepped verdicts number old moment (Err (station.Bus why)) new = StepsIn verdicts number old moment (reply.Refused why) new
-Stepped verdicts number old moment (Err station.WrongStation) new = ¬ (old.number ≡ number) × (new ≡ old)
+abbrev pub Stepped : {F : Type 0} → (F → VerdictMap) → StationSeen → PassSeen → ℕ → Result Attempt StationRefusal → PassSeen → Type 0
+Stepped verdicts seen old moment (Ok a) new = StepsIn verdicts seen old moment (told_attempt a) new
+Stepped verdicts seen old moment (Err (station.Bus refusal.NoMemory)) new = new ≡ old
+Stepped verdicts seen old moment (Err (station.Bus why)) new = StepsIn verdicts seen old moment (reply.Refused why) new
+Stepped verdicts seen old moment (Err station.WrongStation) new = ¬ (old.number ≡ seen.number) × (new ≡ old)
 
 -- the reply itself, for a call that returns the bus's reply
 abbrev pub same : Reply → Reply

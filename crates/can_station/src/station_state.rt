@@ -4,9 +4,9 @@ ghost use Rattle.can_event.specs.Replies.{enters};
 ghost use Rattle.can_bus.specs.Legal.{IsLegal};
 ghost use Rattle.can_event.specs.declared.event.Event.TheVariants as event;
 ghost use Rattle.can_meter.specs.Readings.{readings};
-ghost use Rattle.can_station.specs.Held.{HasEntered, NoPassLeft, new_held, roll_after, slip_after};
+ghost use Rattle.can_station.specs.Held.{HasEntered, NoPassLeft, new_held, roll_after, slip_after, station_seen};
 ghost use Rattle.can_station.specs.Marks.{IsMarked};
-ghost use Rattle.can_station.specs.Passes.{IsCarriedOut, IsReceived, IsStepped, Settles, Suits, next_verdict};
+ghost use Rattle.can_station.specs.Passes.{IsCarriedOut, IsReceived, IsStateOf, IsStepped, Settles, Suits, next_verdict};
 ghost use Rattle.can_station.specs.Published.{AllTrue, IsPublished, TakesBack};
 ghost use Rattle.can_station.specs.Waits.{AreCounts, frame_wake, has_work, work_wake, stopped_wake, waiting_at};
 
@@ -17,7 +17,7 @@ use crate::refusals::{TooManyPasses, WrongStation};
 use crate::rooms::{ROOMS, RoomSet, Sleeper, Sleepers};
 use crate::waits::Wake;
 use can_bus::{
-    Event, IfaceStats, Received, Record, Refusal, Reply, RingBus, SocketId, SocketStats,
+    BusConfig, Event, IfaceStats, Received, Record, Refusal, Reply, RingBus, SocketId, SocketStats,
 };
 use can_fault::{FaultSource, Verdict};
 use can_frame::{Iface, Moment};
@@ -38,6 +38,7 @@ const MAX_PASSES: u32 = 4096;
 #[derive(Drop)]
 pub struct StationState<N: RollName + MeterName, F: FaultSource + Drop> {
     bus: RingBus,
+    config: BusConfig,
     source: F,
     roll: Roll<N>,
     keeper: Keeper<N>,
@@ -63,7 +64,7 @@ impl<N: RollName + MeterName, F: FaultSource + Drop> Model for StationState<N, F
     } };
 
     ghost invariant = { λ s. IsBooked s.roll s.bus × IsPublished s.keeper s.roll.number s.bus
-        × (s.spare.number ≡ s.roll.number) };
+        × (s.spare.number ≡ s.roll.number) × (s.bus.config ≡ s.config) };
 }
 
 impl<N: RollName + MeterName, F: FaultSource + Drop> StationState<N, F> {
@@ -72,12 +73,14 @@ impl<N: RollName + MeterName, F: FaultSource + Drop> StationState<N, F> {
         blank: RollBlank,
         number: u8,
         bus: RingBus,
+        config: BusConfig,
         source: F,
         keeper: Keeper<N>,
         spare: Gauge<N>,
     ) -> StationState<N, F>
         requires name { blank ≡ N.roll number }
-        requires proper { IsConfig bus.config }
+        requires config { bus.config ≡ config }
+        requires proper { IsConfig config }
         requires empty { bus.history ≡ [] }
         requires keeper { keeper ≡ readings number bus.config.ifaces [] }
         requires spare { spare.number ≡ number }
@@ -85,6 +88,7 @@ impl<N: RollName + MeterName, F: FaultSource + Drop> StationState<N, F> {
     {
         StationState {
             bus,
+            config,
             source,
             roll: Roll::new(blank, number),
             keeper,
@@ -99,6 +103,13 @@ impl<N: RollName + MeterName, F: FaultSource + Drop> StationState<N, F> {
         ensures { result ≡ self.now.number }
     {
         self.roll.number()
+    }
+
+    /// Whether it is a state of the station with this number and this configuration.
+    pub(crate) fn is_of(&self, number: u8, config: &BusConfig) -> bool
+        ensures { result ≡ true → IsStateOf (station_seen number config.now) self.now }
+    {
+        self.roll.number() == number && self.config == *config
     }
 
     /// The record: a legal history, whose entries can be marked with the passes that made them.
@@ -315,6 +326,7 @@ impl<N: RollName + MeterName, F: FaultSource + Drop> StationState<N, F> {
     {
         let StationState {
             bus,
+            config: _,
             source: _,
             mut roll,
             mut keeper,

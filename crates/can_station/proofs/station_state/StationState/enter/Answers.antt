@@ -11,4 +11,5 @@ invariant_of-self g c =
       booked_enter c.self.inside.roll c.enter.new.self c.self.inside.bus c.self.invariant.0 few c.enter.ensures.roll,
       subst (λ (n : ℕ). IsPublished c.self.inside.keeper n c.self.inside.bus) (sym number) c.self.invariant.1,
       c.self.invariant.2 ∙ sym number,
+      c.self.invariant.3,
     )
