@@ -4,3 +4,4 @@ pub mod Stepping
 pub mod Answering
 pub mod PublishedFacts
 pub mod Receiving
+pub mod Listing

@@ -7,13 +7,18 @@ use Rattle.can_event.specs.declared.entry.Entry.{Entry}
 use Rattle.can_event.specs.declared.event.Event.{Event}
 use Rattle.can_event.specs.declared.reply.Reply.{Reply}
 use Rattle.can_record.specs.Journal.{Journal}
-use Rattle.can_bus.specs.Run.{history_after}
+use Rattle.can_event.specs.Events.{IsConfig}
+use Rattle.can_event.specs.declared.bus_config.BusConfig.{BusConfig}
+use Rattle.can_event.specs.declared.reply.Reply.TheVariants as reply
+use Rattle.can_event.specs.declared.refusal.Refusal.TheVariants as refusal
+use Rattle.can_bus.specs.Legal.{IsLegal}
+use Rattle.can_bus.specs.Run.{IsAnswer, history_after}
 use Rattle.can_roll.specs.Lists.{row, added, AllBelow}
 use Rattle.can_roll.specs.Seen.{RollSeen, roll_seen, with_pass}
 use Rattle.can_roll.proofs.Rows.{row_added, row_added_else, length-added, row_front}
 use Rattle.can_roll.proofs.Passes.{below_more}
 use Rattle.can_event.specs.Replies.{enters, entry_of}
-use Rattle.can_station.specs.Held.{roll_after, marks_after}
+use Rattle.can_station.specs.Held.{roll_after}
 use Rattle.can_station.specs.Marks.{marked, IsMarked, IsBooked}
 use Rattle.can_station.specs.Passes.{PassSeen, AllMatch, AllMarked}
 use Rattle.std.proofs.lemmas.List.Elements.{All-weaker}
@@ -45,28 +50,46 @@ marked-more lists ms past p e h lt =
           (λ (n : q ≢ p). row_added_else lists p q e n ∙ (h.each q ∙ sym (if_other p q (e ∷ marked q ms past) (marked q ms past) (λ is. n (sym is)))));
     }
 
-booked_more : (roll : RollSeen) (ms : List ℕ) (places : ℕ) (j : Journal) (p : ℕ) (e : Entry) → IsBooked roll ms places j → p < length roll.lists
-    → IsBooked (roll_seen roll.number (added roll.lists p e) roll.called) (p ∷ ms) places (record { config = j.config; history = e ∷ j.history })
-booked_more roll ms places j p e h below = record {
+-- nothing is booked at first
+pub booked_first : (number : ℕ) (j : Journal) → IsConfig j.config → j.history ≡ [] → IsBooked (roll_seen number [] []) j
+booked_first number j proper empty = subst (λ (past : List Entry). IsBooked (roll_seen number [] []) (record { config = j.config; history = past })) (sym empty) (record {
+  proper = proper;
+  legal = tt;
+  none_in = refl;
+  few = omega arith;
+  marks = [];
+  marked = record { long = refl; below = tt; each = λ p. refl };
+})
+
+-- a history with a legal reply more is legal
+pub legal-after : (c : BusConfig) (past : List Entry) (e : Event) (r : Reply) → IsLegal c past → IsAnswer c past e r → IsLegal c (history_after e r past)
+legal-after c past e (reply.Refused refusal.RecordFull) legal answer = legal
+legal-after c past e (reply.Refused refusal.NoMemory) legal answer = legal
+legal-after c past e _ legal answer = (answer.0, answer.1, legal)
+
+booked_more : (roll : RollSeen) (j : Journal) (p : ℕ) (e : Entry) → IsBooked roll j → IsLegal j.config (e ∷ j.history) → p < length roll.lists
+    → IsBooked (roll_seen roll.number (added roll.lists p e) roll.called) (record { config = j.config; history = e ∷ j.history })
+booked_more roll j p e h legal below = record {
   proper = h.proper;
-  room = h.room;
+  legal = legal;
   none_in = h.none_in;
   few = omega (arith, length-added roll.lists p e, h.few);
-  marked = marked-more roll.lists ms j.history p e h.marked below;
+  marks = p ∷ h.marks;
+  marked = marked-more roll.lists h.marks j.history p e h.marked below;
 }
 
-booked_as : (b : Bool) (roll : RollSeen) (ms : List ℕ) (places : ℕ) (j : Journal) (p : ℕ) (e : Event) (r : Reply) → enters r ≡ b → IsBooked roll ms places j → (enters r ≡ true → p < length roll.lists)
-    → IsBooked (roll_seen roll.number (if b then added roll.lists p (entry_of e r) else roll.lists) roll.called) (if b then p ∷ ms else ms) places (record { config = j.config; history = history_after e r j.history })
-booked_as true roll ms places j p e r is h below =
-    subst (λ (past : List Entry). IsBooked (roll_seen roll.number (added roll.lists p (entry_of e r)) roll.called) (p ∷ ms) places (record { config = j.config; history = past }))
-    (sym (after-entered e r j.history is)) (booked_more roll ms places j p (entry_of e r) h (below is))
-booked_as false roll ms places j p e r is h below = subst (λ (past : List Entry). IsBooked (roll_seen roll.number roll.lists roll.called) ms places (record { config = j.config; history = past })) (sym (after-kept e r j.history is)) h
+booked_as : (b : Bool) (roll : RollSeen) (j : Journal) (p : ℕ) (e : Event) (r : Reply) → enters r ≡ b → IsBooked roll j → IsLegal j.config (history_after e r j.history) → (enters r ≡ true → p < length roll.lists)
+    → IsBooked (roll_seen roll.number (if b then added roll.lists p (entry_of e r) else roll.lists) roll.called) (record { config = j.config; history = history_after e r j.history })
+booked_as true roll j p e r is h legal below =
+    subst (λ (past : List Entry). IsBooked (roll_seen roll.number (added roll.lists p (entry_of e r)) roll.called) (record { config = j.config; history = past }))
+    (sym (after-entered e r j.history is)) (booked_more roll j p (entry_of e r) h (subst (IsLegal j.config) (after-entered e r j.history is) legal) (below is))
+booked_as false roll j p e r is h legal below = subst (λ (past : List Entry). IsBooked (roll_seen roll.number roll.lists roll.called) (record { config = j.config; history = past })) (sym (after-kept e r j.history is)) h
 
 -- what lies under the lock, one call later
-pub booked_after : (roll roll' : RollSeen) (ms ms' : List ℕ) (places places' : ℕ) (j j' : Journal) (p : ℕ) (e : Event) (r : Reply) → IsBooked roll ms places j → (enters r ≡ true → p < length roll.lists)
-    → roll' ≡ roll_after p e r roll → ms' ≡ marks_after p r ms → places' ≡ places → j' ≡ record j { history = history_after e r j.history } → IsBooked roll' ms' places' j'
-booked_after roll roll' ms ms' places places' j j' p e r h below er em ep ej =
-    subst (λ (x : RollSeen × List ℕ × ℕ × Journal). IsBooked x.0 x.1 x.2 x.3) (λ k. (sym er k, sym em k, sym ep k, sym ej k)) (booked_as (enters r) roll ms places j p e r refl h below)
+pub booked_after : (roll roll' : RollSeen) (j j' : Journal) (p : ℕ) (e : Event) (r : Reply) → IsBooked roll j → IsAnswer j.config j.history e r → (enters r ≡ true → p < length roll.lists)
+    → roll' ≡ roll_after p e r roll → j' ≡ record j { history = history_after e r j.history } → IsBooked roll' j'
+booked_after roll roll' j j' p e r h answer below er ej =
+    subst (λ (x : RollSeen × Journal). IsBooked x.0 x.1) (λ k. (sym er k, sym ej k)) (booked_as (enters r) roll j p e r refl h (legal-after j.config j.history e r h.legal answer) below)
 
 -- a pass more
 pub marked-enter : (lists : List (List Entry)) (ms : List ℕ) (past : List Entry) → IsMarked lists ms past → IsMarked (lists ++ [] ∷ []) ms past
@@ -76,13 +99,14 @@ marked-enter lists ms past h = record {
   each = λ p. row_front lists p ∙ h.each p;
 }
 
-pub booked_enter : (roll roll' : RollSeen) (ms : List ℕ) (places : ℕ) (j : Journal) → IsBooked roll ms places j → length roll.lists < 4096 → roll' ≡ with_pass roll → IsBooked roll' ms places j
-booked_enter roll roll' ms places j h few er = subst (λ (x : RollSeen). IsBooked x ms places j) (sym er) (record {
+pub booked_enter : (roll roll' : RollSeen) (j : Journal) → IsBooked roll j → length roll.lists < 4096 → roll' ≡ with_pass roll → IsBooked roll' j
+booked_enter roll roll' j h few er = subst (λ (x : RollSeen). IsBooked x j) (sym er) (record {
   proper = h.proper;
-  room = h.room;
+  legal = h.legal;
   none_in = h.none_in;
   few = omega (arith, few, length-append roll.lists ([] ∷ []));
-  marked = marked-enter roll.lists ms j.history h.marked;
+  marks = h.marks;
+  marked = marked-enter roll.lists h.marks j.history h.marked;
 })
 
 -- passes whose calls are the roll's lists of them are marked so

@@ -1,4 +1,4 @@
-use Rattle.std.proofs.Common.{◌≡◌, Bool, Result, Ok, Err, ap, sym, ◌∙◌}
+use Rattle.std.proofs.Common.{◌≡◌, Bool, Result, Ok, Err, ap, sym, ◌∙◌, subst}
 use Rattle.can_event.specs.Replies.{receive_reply, taken_reply}
 use Rattle.can_event.specs.declared.event.Event.TheVariants as event
 use Rattle.can_event.specs.declared.received.Received.{Received}
@@ -8,7 +8,7 @@ use Rattle.can_event.specs.declared.reply.Reply.{Reply}
 use Rattle.can_event.specs.declared.socket_id.SocketId.{SocketId}
 use Rattle.can_bus.specs.Answer.{Answers}
 use Rattle.can_record.specs.Journal.{Journal}
-use Rattle.can_bus.specs.Run.{history_after}
+use Rattle.can_bus.specs.Run.{IsAnswer, history_after}
 
 -- What a receive into a room leaves of the bus.
 
@@ -21,3 +21,12 @@ module _ (room : Received) (s : SocketId) (old new : Journal) where
 
   pub bus_after : (outcome : Result Bool Refusal) (r : Reply) → Answers (taken_reply room) old (event.Receive s) outcome new → r ≡ receive_reply room outcome → new ≡ record old { history = history_after (event.Receive s) r old.history }
   bus_after outcome r answers is = leaves outcome answers ∙ ap (λ (x : Reply). record old { history = history_after (event.Receive s) x old.history }) (sym is)
+
+  answers_so : (outcome : Result Bool Refusal) → Answers (taken_reply room) old (event.Receive s) outcome new → IsAnswer old.config old.history (event.Receive s) (receive_reply room outcome)
+  answers_so (Ok taken) noted = (noted.room, noted.lawful)
+  answers_so (Err refusal.RecordFull) full = full.0
+  answers_so (Err refusal.NoMemory) refused = (refused.0, refused.1)
+  answers_so (Err why) noted = (noted.room, noted.lawful)
+
+  pub answer_of : (outcome : Result Bool Refusal) (r : Reply) → Answers (taken_reply room) old (event.Receive s) outcome new → r ≡ receive_reply room outcome → IsAnswer old.config old.history (event.Receive s) r
+  answer_of outcome r answers is = subst (IsAnswer old.config old.history (event.Receive s)) (sym is) (answers_so outcome answers)

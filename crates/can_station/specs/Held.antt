@@ -1,4 +1,5 @@
 use Rattle.std.specs.Prelude.{◌≡◌, ◌<◌, ◌≤◌, ℕ, Bool, false, List, [], ◌∷◌, ◌++◌, length, if◌then◌else◌}
+use Rattle.can_event.specs.declared.bus_config.BusConfig.{BusConfig}
 use Rattle.can_event.specs.declared.entry.Entry.{Entry}
 use Rattle.can_event.specs.declared.event.Event.{Event}
 use Rattle.can_event.specs.declared.reply.Reply.{Reply}
@@ -8,7 +9,16 @@ use Rattle.can_bus.specs.Run.{history_after}
 use Rattle.can_roll.specs.Lists.{added}
 use Rattle.can_roll.specs.Seen.{RollSeen, SlipSeen, roll_seen, slip_seen}
 
--- What a station keeps under its lock (own).
+-- A station, and what it keeps under its lock (own).
+
+-- a station: its number, and the configuration of its bus
+pub record StationSeen : Type 0 where
+  pub number : ℕ
+  pub config : BusConfig
+
+-- the station with this number and this configuration
+abbrev pub station_seen : ℕ → BusConfig → StationSeen
+station_seen number config = record { number = number; config = config }
 
 -- the station's number, its bus, the calls of each pass, the source of verdicts, and whether waits end
 pub record Held (F : Type 0) : Type 0 where
@@ -33,10 +43,6 @@ lists_after p e r lists = if enters r then added lists p (entry_of e r) else lis
 -- the roll after a call of pass p
 abbrev pub roll_after : ℕ → Event → Reply → RollSeen → RollSeen
 roll_after p e r roll = roll_seen roll.number (lists_after p e r roll.lists) roll.called
-
--- the marks of the record's entries, the newest first, after a call of pass p
-abbrev pub marks_after : ℕ → Reply → List ℕ → List ℕ
-marks_after p r marks = if enters r then p ∷ marks else marks
 
 -- what is kept after a call of pass p: one event of the bus, which is that pass's
 abbrev pub held_after : {F : Type 0} → ℕ → Event → Reply → Held F → Held F

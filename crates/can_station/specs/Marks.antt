@@ -1,6 +1,7 @@
 use Rattle.std.specs.Prelude.{◌≡◌, ℕ, ◌==◌, ◌≤◌, List, [], ◌∷◌, length, if◌then◌else◌}
 use Rattle.can_event.specs.declared.entry.Entry.{Entry}
 use Rattle.can_record.specs.Journal.{Journal}
+use Rattle.can_bus.specs.Legal.{IsLegal}
 use Rattle.can_event.specs.Events.{IsConfig}
 use Rattle.can_roll.specs.Lists.{row, AllBelow}
 use Rattle.can_roll.specs.Seen.{RollSeen}
@@ -19,11 +20,12 @@ pub record IsMarked (lists : List (List Entry)) (marks : List ℕ) (past : List 
   pub below : AllBelow (length lists) marks
   pub each : (p : ℕ) → row lists p ≡ marked p marks past
 
--- what lies under the lock agrees: the marks and the roll are those of the bus's history, no pass is called in, and there
--- is room for the marks of all entries
-pub record IsBooked (roll : RollSeen) (marks : List ℕ) (places : ℕ) (journal : Journal) : Type 0 where
+-- what lies under the lock agrees: the bus's history is legal, its entries can be marked so that the roll is theirs, and no
+-- pass is called in
+pub record IsBooked (roll : RollSeen) (journal : Journal) : Type 0 where
   pub proper : IsConfig journal.config
-  pub room : journal.config.limit ≤ places
+  pub legal : IsLegal journal.config journal.history
   pub none_in : roll.called ≡ []
   pub few : length roll.lists ≤ 4096
+  pub marks : List ℕ
   pub marked : IsMarked roll.lists marks journal.history

@@ -1,4 +1,4 @@
-use Rattle.std.specs.Prelude.{◌≡◌, ℕ, ◌+◌, ◌<◌, ◌⊎◌, Bool, true, List, [], length, reverse, map, All, Result, Ok, Err}
+use Rattle.std.specs.Prelude.{◌≡◌, ℕ, ◌+◌, ◌<◌, ◌≤◌, ◌⊎◌, Bool, true, false, List, [], length, reverse, map, All, Option, Some, None, is_some, Result, Ok, Err, if◌then◌else◌}
 use Rattle.can_event.specs.declared.entry.Entry.{Entry}
 use Rattle.can_event.specs.declared.event.Event.{Event}
 use Rattle.can_event.specs.declared.event.Event.TheVariants as event
@@ -17,26 +17,41 @@ use Rattle.can_bus.specs.Run.{IsAnswer, history_after}
 use Rattle.can_record.specs.Tapes.{tape}
 use Rattle.can_fault.specs.Sources.{VerdictMap, verdict_in}
 use Rattle.can_record.specs.Records.{ListedEntries}
+use Rattle.can_event.specs.Events.{IsConfig}
 use Rattle.can_event.specs.Replies.{receive_reply}
 pub use Rattle.can_event.specs.Replies.{Suits}
 use Rattle.can_roll.specs.Lists.{row, Distinct, AllBelow}
 use Rattle.can_roll.specs.Seen.{SlipSeen}
-use Rattle.can_station.specs.Held.{Held, NoPassLeft, held_after, slip_after, with_source}
-use Rattle.can_station.specs.Marks.{marked}
+use Rattle.can_station.specs.Held.{Held, StationSeen, NoPassLeft, held_after, slip_after, with_source}
+use Rattle.can_station.specs.Marks.{IsMarked, marked}
 use Rattle.can_station.specs.declared.refusals.StationRefusal.{StationRefusal}
 use Rattle.can_station.specs.declared.refusals.StationRefusal.TheVariants as station
 
 -- What callers see of their passes, and what a station's calls do to them (own).
 
--- a pass: its station's number, its own number, and the calls made with it, the newest first
+-- a pass: its station's number, its own number, the calls made with it, the newest first, and whether it keeps a list of
+-- them, which a program can read
 pub record PassSeen : Type 0 where
   pub number : ℕ
   pub pass : ℕ
   pub calls : List Entry
+  pub keeps : Bool
 
 -- a pass with which no call was made
 abbrev pub new_pass : ℕ → ℕ → PassSeen
-new_pass number pass = record { number = number; pass = pass; calls = [] }
+new_pass number pass = record { number = number; pass = pass; calls = []; keeps = true }
+
+-- the same, of a light pass, which keeps no list
+abbrev pub new_light_pass : ℕ → ℕ → PassSeen
+new_light_pass number pass = record { number = number; pass = pass; calls = []; keeps = false }
+
+-- a pass with this slip and this list, if it keeps one
+abbrev pub pass_seen : SlipSeen → Option (List Entry) → PassSeen
+pass_seen slip listed = record { number = slip.number; pass = slip.pass; calls = slip.calls; keeps = is_some listed }
+
+-- the calls that a pass keeps, the newest first: all of them, or none
+abbrev pub kept_calls : PassSeen → List Entry
+kept_calls p = if p.keeps then p.calls else []
 
 -- after a call: it is noted with its reply, unless the record was full or memory was refused
 abbrev pub pass_after : Event → Reply → PassSeen → PassSeen
@@ -52,18 +67,35 @@ Tells told (Ok a) r = r ≡ told a
 Tells told (Err (station.Bus why)) r = r ≡ reply.Refused why
 Tells told (Err station.WrongStation) r = ⊥
 
--- the memory for a call that is no close: a place, one that is left for a close, and what a wide entry takes
-abbrev pub IsReady : ListedEntries → Type 0
-IsReady calls = (length calls.entries + 1 < calls.room) × (calls.spare ≡ true)
+-- what is in a pass's list, the newest first, if it keeps one
+abbrev pub calls_listed : Option ListedEntries → Option (List Entry)
+calls_listed None = None
+calls_listed (Some calls) = Some (reverse calls.entries)
+
+-- what is in the list are these calls, where there is one
+abbrev pub AreKept : Option (List Entry) → List Entry → Type 0
+AreKept None calls = Unit {0}
+AreKept (Some listed) calls = listed ≡ calls
+
+-- the memory for a call that is no close: a place, one that is left for a close, and what a wide entry takes; a pass without
+-- a list needs none
+abbrev pub IsReady : Option ListedEntries → Type 0
+IsReady None = Unit {0}
+IsReady (Some calls) = (length calls.entries + 1 < calls.room) × (calls.spare ≡ true)
+
+-- there is a place for one call more, where there is a list
+abbrev pub HasPlace : Option ListedEntries → Type 0
+HasPlace None = Unit {0}
+HasPlace (Some calls) = length calls.entries < calls.room
 
 -- the memory for a call: a close takes one place, and is never wide
-abbrev pub IsReadyFor : Event → ListedEntries → Type 0
-IsReadyFor (event.Close s) calls = length calls.entries < calls.room
+abbrev pub IsReadyFor : Event → Option ListedEntries → Type 0
+IsReadyFor (event.Close s) calls = HasPlace calls
 IsReadyFor e calls = IsReady calls
 
 -- there is a place left for a close
-abbrev pub CanClose : Event → ListedEntries → Type 0
-CanClose (event.Close s) calls = length calls.entries < calls.room
+abbrev pub CanClose : Event → Option ListedEntries → Type 0
+CanClose (event.Close s) calls = HasPlace calls
 CanClose e calls = ⊥
 
 -- what a call of the station with this number returns, and what it leaves of the caller's pass
@@ -86,9 +118,14 @@ pub record IsCarriedOut {F : Type 0} (old : Held F) (slip : SlipSeen) (e : Event
 abbrev pub IsReceived : {F : Type 0} → Held F → SlipSeen → SocketId → Received → Result Bool Refusal → Held F → SlipSeen → Type 0
 IsReceived old slip socket room outcome new slip' = IsCarriedOut old slip (event.Receive socket) (receive_reply room outcome) new slip'
 
--- the calls of a pass, after this one: it is kept with its reply, unless the record was full or memory was refused
-abbrev pub Keeps : ListedEntries → Event → Reply → ListedEntries → Type 0
-Keeps old e r new = reverse new.entries ≡ history_after e r (reverse old.entries)
+-- what is in a pass's list after a call: it is kept with its reply, unless the record was full or memory was refused
+abbrev pub listed_after : Event → Reply → Option (List Entry) → Option (List Entry)
+listed_after e r None = None
+listed_after e r (Some listed) = Some (history_after e r listed)
+
+-- a pass's list, if it keeps one, has this call more
+abbrev pub Keeps : Option ListedEntries → Event → Reply → Option ListedEntries → Type 0
+Keeps old e r new = calls_listed new ≡ listed_after e r (calls_listed old)
 
 -- a call that is carried out: its reply comes from the record, it is noted there, and in the caller's pass
 pub record IsMade {F : Type 0} (old : Held F) (pass : PassSeen) (e : Event) (r : Reply) (new : Held F) (pass' : PassSeen) : Type 0 where
@@ -124,35 +161,50 @@ IsStepped verdicts old slip moment r new slip' = IsCarriedOut (with_source new.s
 abbrev pub MadeStep : {F : Type 0} → (F → VerdictMap) → Held F → PassSeen → ℕ → Result Attempt StationRefusal → Held F → PassSeen → Type 0
 MadeStep verdicts old pass moment outcome new pass' = Made told_attempt (with_source new.source old) pass (next_attempt verdicts old moment) outcome new pass'
 
--- some state of the station with this number
-abbrev pub InSome : (F : Type 0) → ℕ → (Held F → Type 0) → Type 0
-InSome F number P = (held : Held F) × (held.number ≡ number) × P held
+-- a state that this station can be in: it has its number and its configuration, which is within the limits; the history is
+-- legal, and its entries can be marked with passes so that the calls of each are the entries marked with it
+pub record IsStateOf {F : Type 0} (station : StationSeen) (held : Held F) : Type 0 where
+  pub number : held.number ≡ station.number
+  pub config : held.journal.config ≡ station.config
+  pub proper : IsConfig station.config
+  pub legal : IsLegal held.journal.config held.journal.history
+  pub few : length held.lists ≤ 4096
+  pub marks : List ℕ
+  pub marked : IsMarked held.lists marks held.journal.history
+
+-- some state of the station
+abbrev pub InSome : (F : Type 0) → StationSeen → (Held F → Type 0) → Type 0
+InSome F station P = (held : Held F) × IsStateOf station held × P held
 
 -- the pass that enters next in some state of the station
-abbrev pub IsNewPass : (F : Type 0) → ℕ → PassSeen → Type 0
-IsNewPass F number p = InSome F number (λ held. (length held.lists < 4096) × (p ≡ new_pass number (length held.lists)))
+abbrev pub IsNewPass : (F : Type 0) → StationSeen → PassSeen → Type 0
+IsNewPass F station p = InSome F station (λ held. (length held.lists < 4096) × (p ≡ new_pass station.number (length held.lists)))
+
+-- the same, of a pass that keeps no list
+abbrev pub IsNewLightPass : (F : Type 0) → StationSeen → PassSeen → Type 0
+IsNewLightPass F station p = InSome F station (λ held. (length held.lists < 4096) × (p ≡ new_light_pass station.number (length held.lists)))
 
 -- in some state of the station no pass is left
-abbrev pub HadNoPassLeft : (F : Type 0) → ℕ → Type 0
-HadNoPassLeft F number = InSome F number (λ held. NoPassLeft held)
+abbrev pub HadNoPassLeft : (F : Type 0) → StationSeen → Type 0
+HadNoPassLeft F station = InSome F station (λ held. NoPassLeft held)
 
 -- what a call returns is the result in some state of the station, unless memory is refused or the pass is another's
-abbrev pub Answered : (F : Type 0) {A : Type 0} → (A → Reply) → ℕ → Event → Result A StationRefusal → Type 0
-Answered F told number e (Ok a) = InSome F number (λ held. IsAnsweredIn held e (told a))
-Answered F told number e (Err (station.Bus refusal.NoMemory)) = Unit {0}
-Answered F told number e (Err (station.Bus why)) = InSome F number (λ held. IsAnsweredIn held e (reply.Refused why))
-Answered F told number e (Err station.WrongStation) = Unit {0}
+abbrev pub Answered : (F : Type 0) {A : Type 0} → (A → Reply) → StationSeen → Event → Result A StationRefusal → Type 0
+Answered F told seen e (Ok a) = InSome F seen (λ held. IsAnsweredIn held e (told a))
+Answered F told seen e (Err (station.Bus refusal.NoMemory)) = Unit {0}
+Answered F told seen e (Err (station.Bus why)) = InSome F seen (λ held. IsAnsweredIn held e (reply.Refused why))
+Answered F told seen e (Err station.WrongStation) = Unit {0}
 
 -- a step that is carried out in some state of the station: an attempt with the source's verdict
-abbrev pub StepsIn : {F : Type 0} → (F → VerdictMap) → ℕ → PassSeen → ℕ → Reply → PassSeen → Type 0
-StepsIn {F} verdicts number old moment r new = (old.number ≡ number) × InSome F number (λ held. IsAnsweredIn held (next_attempt verdicts held moment) r × (new ≡ pass_after (next_attempt verdicts held moment) r old))
+abbrev pub StepsIn : {F : Type 0} → (F → VerdictMap) → StationSeen → PassSeen → ℕ → Reply → PassSeen → Type 0
+StepsIn {F} verdicts seen old moment r new = (old.number ≡ seen.number) × InSome F seen (λ held. IsAnsweredIn held (next_attempt verdicts held moment) r × (new ≡ pass_after (next_attempt verdicts held moment) r old))
 
 -- a step: it is carried out, or nothing changes, since the pass's list can't grow, or the pass is another station's
-abbrev pub Stepped : {F : Type 0} → (F → VerdictMap) → ℕ → PassSeen → ℕ → Result Attempt StationRefusal → PassSeen → Type 0
-Stepped verdicts number old moment (Ok a) new = StepsIn verdicts number old moment (told_attempt a) new
-Stepped verdicts number old moment (Err (station.Bus refusal.NoMemory)) new = new ≡ old
-Stepped verdicts number old moment (Err (station.Bus why)) new = StepsIn verdicts number old moment (reply.Refused why) new
-Stepped verdicts number old moment (Err station.WrongStation) new = ¬ (old.number ≡ number) × (new ≡ old)
+abbrev pub Stepped : {F : Type 0} → (F → VerdictMap) → StationSeen → PassSeen → ℕ → Result Attempt StationRefusal → PassSeen → Type 0
+Stepped verdicts seen old moment (Ok a) new = StepsIn verdicts seen old moment (told_attempt a) new
+Stepped verdicts seen old moment (Err (station.Bus refusal.NoMemory)) new = new ≡ old
+Stepped verdicts seen old moment (Err (station.Bus why)) new = StepsIn verdicts seen old moment (reply.Refused why) new
+Stepped verdicts seen old moment (Err station.WrongStation) new = ¬ (old.number ≡ seen.number) × (new ≡ old)
 
 -- the reply itself, for a call that returns the bus's reply
 abbrev pub same : Reply → Reply

@@ -82,7 +82,7 @@ impl<'s, N: RollName + MeterName, F: FaultSource + Drop, G: Gate + Drop> Hold<'s
         &mut self,
         alloc: Global,
         slip: &mut Slip<N>,
-        calls: &mut PackedList,
+        calls: &mut Option<PackedList>,
         event: Event,
     ) -> Reply
         requires own { slip.old.number ≡ self.old.number }
@@ -126,7 +126,7 @@ impl<'s, N: RollName + MeterName, F: FaultSource + Drop, G: Gate + Drop> Hold<'s
     fn carry_out_receive(
         &mut self,
         slip: &mut Slip<N>,
-        calls: &mut PackedList,
+        calls: &mut Option<PackedList>,
         socket: SocketId,
         room: &mut Received,
     ) -> Result<bool, Refusal>
@@ -169,7 +169,7 @@ impl<'s, N: RollName + MeterName, F: FaultSource + Drop, G: Gate + Drop> Hold<'s
         &mut self,
         alloc: Global,
         slip: &mut Slip<N>,
-        calls: &mut PackedList,
+        calls: &mut Option<PackedList>,
         moment: Moment,
     ) -> Reply
         requires own { slip.old.number ≡ self.old.number }

@@ -1,7 +1,7 @@
 ghost use Rattle.std.specs.Prelude.{◌≡◌, ◌<◌, ◌≤◌, [], length, reverse, ◌==◌, slice_get, IsTrue, IsOk, OnOk, ◌↔◌};
 ghost use Rattle.can_roll.specs.Seen.{roll_seen};
 ghost use Rattle.can_roll.specs.Lists.{Distinct, AllBelow};
-ghost use Rattle.can_station.specs.Passes.{AllOf, AllMatch, CanClose, IsReady, IsReadyFor, Keeps, Suits, numbers_of};
+ghost use Rattle.can_station.specs.Passes.{AllOf, AllMatch, CanClose, IsReady, IsReadyFor, HasPlace, Keeps, Suits, calls_listed, kept_calls, numbers_of};
 
 use can_bus::{Event, Looked, Record, Reply};
 use can_record::PackedList;
@@ -9,26 +9,22 @@ use can_roll::{Roll, RollName, Slip};
 use std::alloc::{AllocError, Global};
 use std::marker::Model;
 
-/// A caller's pass, with the calls that were made with it, in 32 bytes each.
+/// A caller's pass, with the calls that were made with it, in 32 bytes each. A light pass keeps no list: contracts
+/// know its calls all the same.
 #[derive(Drop)]
 pub struct Pass<N: RollName> {
     pub(crate) slip: Slip<N>,
-    pub(crate) calls: PackedList,
+    pub(crate) calls: Option<PackedList>,
 }
 
 impl<N: RollName> Model for Pass<N> {
-    ghost use Rattle.std.specs.Prelude.{◌≡◌, reverse};
-    ghost use Rattle.can_station.specs.Passes.{PassSeen};
+    ghost use Rattle.can_station.specs.Passes.{AreKept, PassSeen, calls_listed, pass_seen};
 
     ghost Value = { PassSeen };
 
-    ghost view = { λ p. record {
-      number = p.slip.number;
-      pass = p.slip.pass;
-      calls = p.slip.calls;
-    } };
+    ghost view = { λ p. pass_seen p.slip (calls_listed p.calls) };
 
-    ghost invariant = { λ p. reverse p.calls.entries ≡ p.slip.calls };
+    ghost invariant = { λ p. AreKept (calls_listed p.calls) p.slip.calls };
 }
 
 impl<N: RollName> Pass<N> {
@@ -39,31 +35,38 @@ impl<N: RollName> Pass<N> {
         self.slip.number()
     }
 
-    /// How many calls were made with it.
+    /// How many calls it keeps: all that were made with it, none where it is light.
     pub fn len(&self) -> usize
-        ensures { result ≡ length self.now.calls }
+        ensures { result ≡ length (kept_calls self.now) }
     {
-        self.calls.len()
+        match &self.calls {
+            Some(list) => list.len(),
+            None => 0,
+        }
     }
 
-    /// Whether no call was made with it.
+    /// Whether it keeps no call.
     pub fn is_empty(&self) -> bool
-        ensures { result ≡ (length self.now.calls == 0) }
+        ensures { result ≡ (length (kept_calls self.now) == 0) }
     {
-        self.calls.is_empty()
+        self.len() == 0
     }
 
-    /// The call at a place with its reply, from 0 for the oldest, if there is one. No memory is taken.
+    /// The call at a place with its reply, from 0 for the oldest, if it keeps one there. No memory is taken.
     pub fn call(&self, place: usize) -> Option<Looked<'_>>
-        ensures { result ≡ slice_get (reverse self.now.calls) place }
+        ensures { result ≡ slice_get (reverse (kept_calls self.now)) place }
     {
-        self.calls.look(place)
+        match &self.calls {
+            Some(list) => list.look(place),
+            None => None,
+        }
     }
 
     /// Only its slip.
     fn into_slip(self) -> Slip<N>
-        ensures { record { number = result.number; pass = result.pass; calls = result.calls }
-            ≡ self }
+        ensures number { result.number ≡ self.number }
+        ensures pass { result.pass ≡ self.pass }
+        ensures calls { result.calls ≡ self.calls }
     {
         let Pass { slip, calls: _ } = self;
         slip
@@ -78,39 +81,57 @@ pub struct Settled {
 }
 
 /// Takes the memory for a call that is no close. A place is left for a close, so the close of a socket that the pass
-/// opened is never refused for memory.
-pub(crate) fn make_ready(calls: &mut PackedList, alloc: Global) -> Result<(), AllocError>
-    ensures same { calls.new.entries ≡ calls.old.entries }
+/// opened is never refused for memory. A light pass takes none.
+pub(crate) fn make_ready(calls: &mut Option<PackedList>, alloc: Global) -> Result<(), AllocError>
+    ensures same { calls_listed calls.new ≡ calls_listed calls.old }
     ensures ready { OnOk result (IsReady calls.new) }
 {
-    calls.reserve(2)?;
-    calls.reserve_spare(alloc)
+    let Some(list) = calls else {
+        return Ok(());
+    };
+    list.reserve(2)?;
+    list.reserve_spare(alloc)
+}
+
+/// Takes the memory for a close: what is left for it.
+fn make_ready_for_close(calls: &mut Option<PackedList>) -> Result<(), AllocError>
+    ensures same { calls_listed calls.new ≡ calls_listed calls.old }
+    ensures ready { OnOk result (HasPlace calls.new) }
+    ensures close { HasPlace calls.old → IsOk result }
+{
+    match calls {
+        Some(list) => list.reserve(1),
+        None => Ok(()),
+    }
 }
 
 /// Takes the memory for a call. A close takes what is left for it.
 pub(crate) fn make_ready_for(
-    calls: &mut PackedList,
+    calls: &mut Option<PackedList>,
     alloc: Global,
     event: &Event,
 ) -> Result<(), AllocError>
-    ensures same { calls.new.entries ≡ calls.old.entries }
+    ensures same { calls_listed calls.new ≡ calls_listed calls.old }
     ensures ready { OnOk result (IsReadyFor event.now calls.new) }
     ensures close { CanClose event.now calls.old → IsOk result }
 {
     match event {
-        Event::Close(_) => calls.reserve(1),
+        Event::Close(_) => make_ready_for_close(calls),
         _ => make_ready(calls, alloc),
     }
 }
 
-/// Keeps a call with its reply, if it is an entry. No memory is taken.
-pub(crate) fn keep(calls: &mut PackedList, event: Event, reply: &Reply)
+/// Keeps a call with its reply, if the pass keeps a list and it is an entry. No memory is taken.
+pub(crate) fn keep(calls: &mut Option<PackedList>, event: Event, reply: &Reply)
     requires ready { IsReadyFor event calls.old }
     requires suits { Suits event reply.now }
     ensures { Keeps calls.old event reply.now calls.new }
 {
+    let Some(list) = calls else {
+        return;
+    };
     if reply.enters() {
-        calls.push(event, *reply);
+        list.push(event, *reply);
     }
 }
 

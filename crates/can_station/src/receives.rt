@@ -17,9 +17,9 @@ fn leaves_entry(outcome: Result<bool, Refusal>) -> bool
     }
 }
 
-/// Keeps a receive that came to this with the room, if it is an entry. No memory is taken.
+/// Keeps a receive that came to this with the room, if the pass keeps a list and it is an entry. No memory is taken.
 pub(crate) fn keep_receive(
-    calls: &mut PackedList,
+    calls: &mut Option<PackedList>,
     socket: SocketId,
     outcome: Result<bool, Refusal>,
     room: &Received,
@@ -27,7 +27,10 @@ pub(crate) fn keep_receive(
     requires { IsReady calls.old }
     ensures { Keeps calls.old (event.Receive socket) (receive_reply room.now outcome) calls.new }
 {
+    let Some(list) = calls else {
+        return;
+    };
     if leaves_entry(outcome) {
-        calls.push_receive(socket, outcome, room);
+        list.push_receive(socket, outcome, room);
     }
 }

@@ -1,7 +1,8 @@
 ghost use Rattle.std.specs.Prelude.{◌≡◌, ◌<◌, ◌≤◌, IfOk, OnErr, ◌↔◌};
 ghost use Rattle.std.specs.Sync.Mutex.{mutex_guard_value};
 ghost use Rattle.can_event.specs.Events.{IsConfig};
-ghost use Rattle.can_station.specs.Passes.{HadNoPassLeft, IsNewPass, Settles, Suits, Answered, Called, Stepped, same};
+ghost use Rattle.can_station.specs.Held.{station_seen};
+ghost use Rattle.can_station.specs.Passes.{HadNoPassLeft, IsNewLightPass, IsNewPass, IsStateOf, Settles, Suits, Answered, Called, Stepped, same};
 ghost use Rattle.can_station.specs.Published.{AllTrue, TakesBack};
 
 use crate::attempts::attempt_in;
@@ -43,7 +44,7 @@ impl Blanks {
     }
 }
 
-/// A bus that threads share. Contracts see it as its number.
+/// A bus that threads share. Contracts see it as its number with its configuration.
 ///
 /// Each of the eight calls of a pass, and `step`, is one event of the bus in one hold of the lock. What the lock
 /// keeps is a [`StationState`].
@@ -58,21 +59,21 @@ pub struct Station<N: RollName + MeterName, F: FaultSource + Drop, G: Gate + Dro
     pub(crate) ends: Condvar,
     pub(crate) gate: G,
     pub(crate) number: u8,
+    config: BusConfig,
     /// Whether a call met a full record, and whether that was reported.
     pub(crate) fullness: AtomicU8,
 }
 
 impl<N: RollName + MeterName, F: FaultSource + Drop, G: Gate + Drop> Model for Station<N, F, G> {
-    ghost use Rattle.std.specs.Prelude.{ℕ};
+    ghost use Rattle.can_station.specs.Held.{StationSeen, station_seen};
 
-    ghost Value = { ℕ };
+    ghost Value = { StationSeen };
 
-    ghost view = { λ s. s.number };
+    ghost view = { λ s. station_seen s.number s.config };
 }
 
 impl<N: RollName + MeterName, F: FaultSource + Drop, G: Gate + Drop> Station<N, F, G> {
-    /// A station with an empty record, named by `N` under this number. It takes memory for all of `limit` entries
-    /// and their marks.
+    /// A station with an empty record, named by `N` under this number. It takes memory for all of `limit` entries.
     ///
     /// `BadConfig` exactly where the configuration is outside the limits of a bus, or has another number of
     /// interfaces than the blanks; else `NoMemory` where memory was refused.
@@ -86,7 +87,7 @@ impl<N: RollName + MeterName, F: FaultSource + Drop, G: Gate + Drop> Station<N, 
     ) -> Result<Station<N, F, G>, BusFault>
         requires roll { blanks.roll ≡ N.roll number }
         requires meter { blanks.meter ≡ N.meter number }
-        ensures made { IfOk result (λ s. s ≡ number) }
+        ensures made { IfOk result (λ s. s ≡ station_seen number config) }
         ensures bad { (result ≡ Err BusFault.BadConfig)
             ↔ (¬ (IsConfig config × (blanks.meter.words ≡ config.ifaces))) }
     {
@@ -94,12 +95,11 @@ impl<N: RollName + MeterName, F: FaultSource + Drop, G: Gate + Drop> Station<N, 
             return Err(BusFault::BadConfig);
         }
         let bus = RingBus::new(alloc, config)?;
-        let marks = Vec::with_capacity(alloc, config.limit as usize)?;
         let Blanks { roll, meter: blank } = blanks;
         let Ok((keeper, spare)) = meter::<N>(alloc, blank, number) else {
             return Err(BusFault::NoMemory);
         };
-        let state = StationState::new(roll, number, bus, source, marks, keeper, spare);
+        let state = StationState::new(roll, number, bus, config, source, keeper, spare);
         Ok(Station {
             state: Mutex::new(state),
             work: Condvar::new(),
@@ -107,35 +107,43 @@ impl<N: RollName + MeterName, F: FaultSource + Drop, G: Gate + Drop> Station<N, 
             ends: Condvar::new(),
             gate,
             number,
+            config,
             fullness: AtomicU8::new(ROOM),
         })
     }
 
     /// The number of the station.
     pub fn number(&self) -> u8
-        ensures { result ≡ self.now }
+        ensures { result ≡ self.now.number }
     {
         self.number
     }
 
-    /// The state under the lock. It has the station's number since `new`. No type says so: for another number this
-    /// would wait for ever.
+    /// The configuration of its bus.
+    pub fn config(&self) -> BusConfig
+        ensures { result ≡ self.now.config }
+    {
+        self.config
+    }
+
+    /// The state under the lock. It has the station's number and configuration since `new`. No type says so: for others
+    /// this would wait for ever.
     pub(crate) fn hold<R: Wait>(&self, rt: &R) -> MutexGuard<'_, StationState<N, F>>
-        ensures { (mutex_guard_value result).number ≡ self.now }
+        ensures { IsStateOf self.now (mutex_guard_value result) }
     {
         self.own(rt, self.state.lock(rt))
     }
 
-    /// The state under the lock, which has the station's number.
+    /// The state under the lock, which is the station's.
     pub(crate) fn own<'s, R: Wait>(
         &'s self,
         rt: &R,
         state: MutexGuard<'s, StationState<N, F>>,
     ) -> MutexGuard<'s, StationState<N, F>>
-        ensures number { (mutex_guard_value result).number ≡ self.now }
+        ensures state { IsStateOf self.now (mutex_guard_value result) }
         ensures same { mutex_guard_value result ≡ mutex_guard_value state.entry }
     {
-        if state.number() == self.number {
+        if state.is_of(self.number, &self.config) {
             return state;
         }
         for _ in rt.forever() {}
@@ -144,7 +152,7 @@ impl<N: RollName + MeterName, F: FaultSource + Drop, G: Gate + Drop> Station<N, 
 
     /// Takes the lock for several calls. Until the hold is dropped, all other calls of the station wait.
     pub fn lock<R: Wait>(&self, rt: &R) -> Hold<'_, N, F, G>
-        ensures { result.number ≡ self.now }
+        ensures { IsStateOf self.now result }
     {
         Hold {
             station: self,
@@ -153,8 +161,7 @@ impl<N: RollName + MeterName, F: FaultSource + Drop, G: Gate + Drop> Station<N, 
         }
     }
 
-    /// The next pass, with which no call was made. Passes are numbered from 0; `TooManyPasses` exactly from the 4,097th
-    /// on.
+    /// The next pass, with which no call was made. Passes are numbered from 0; the 4,097th is `TooManyPasses`.
     pub fn enter<R: Wait>(&self, rt: &R, alloc: Global) -> Result<Pass<N>, TooManyPasses>
         ensures ok { IfOk result (λ pass. IsNewPass F self.now pass) }
         ensures err { OnErr result (HadNoPassLeft F self.now) }
@@ -162,14 +169,23 @@ impl<N: RollName + MeterName, F: FaultSource + Drop, G: Gate + Drop> Station<N, 
         let slip = self.hold(rt).enter()?;
         Ok(Pass {
             slip,
-            calls: PackedList::new(alloc),
+            calls: Some(PackedList::new(alloc)),
         })
+    }
+
+    /// The next pass, as `enter` gives it, but for its list: it keeps none, so that its calls take no memory.
+    pub fn enter_light<R: Wait>(&self, rt: &R) -> Result<Pass<N>, TooManyPasses>
+        ensures ok { IfOk result (λ pass. IsNewLightPass F self.now pass) }
+        ensures err { OnErr result (HadNoPassLeft F self.now) }
+    {
+        let slip = self.hold(rt).enter()?;
+        Ok(Pass { slip, calls: None })
     }
 
     /// Another gauge of the station's meter, which reads the error counters without the lock. `AllocError` where
     /// there is no memory.
     pub fn gauge<R: Wait>(&self, rt: &R) -> Result<Gauge<N>, AllocError>
-        ensures { IfOk result (λ g. g.number ≡ self.now) }
+        ensures { IfOk result (λ g. g.number ≡ self.now.number) }
     {
         self.hold(rt).gauge()
     }
@@ -184,7 +200,7 @@ impl<N: RollName + MeterName, F: FaultSource + Drop, G: Gate + Drop> Station<N, 
         pass: &mut Pass<N>,
         event: Event,
     ) -> Result<Reply, StationRefusal>
-        ensures called { Called same self.now pass.old event result pass.new }
+        ensures called { Called same self.now.number pass.old event result pass.new }
         ensures answered { Answered F same self.now event result }
         ensures suits { IfOk result (λ r. Suits event r) }
     {
@@ -239,7 +255,7 @@ impl<N: RollName + MeterName, F: FaultSource + Drop, G: Gate + Drop> Station<N, 
     ) -> Result<Settled, WrongStation>
         ensures settled { IfOk result (λ s. Settles s.history s.passes passes.items) }
         ensures gauges { IfOk result (λ s. AllTrue s.history gauges.items) }
-        ensures refused { TakesBack self passes.items gauges.items result }
+        ensures refused { TakesBack self.number passes.items gauges.items result }
     {
         let Station {
             state,
@@ -248,6 +264,7 @@ impl<N: RollName + MeterName, F: FaultSource + Drop, G: Gate + Drop> Station<N, 
             ends: _,
             gate: _,
             number,
+            config: _,
             fullness: _,
         } = self;
         let state = state.into_inner();

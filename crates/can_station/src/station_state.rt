@@ -1,12 +1,12 @@
-ghost use Rattle.std.specs.Prelude.{◌≡◌, ◌≢◌, ◌<◌, ◌≤◌, ℕ, [], true, List, length, reverse, IfOk, OnErr, vec_len, vec_capacity};
+ghost use Rattle.std.specs.Prelude.{◌≡◌, ◌≢◌, ◌<◌, ◌≤◌, ℕ, [], true, List, length, IfOk, OnErr};
 ghost use Rattle.can_event.specs.Events.{IsConfig};
 ghost use Rattle.can_event.specs.Replies.{enters};
 ghost use Rattle.can_bus.specs.Legal.{IsLegal};
 ghost use Rattle.can_event.specs.declared.event.Event.TheVariants as event;
 ghost use Rattle.can_meter.specs.Readings.{readings};
-ghost use Rattle.can_station.specs.Held.{HasEntered, NoPassLeft, marks_after, new_held, roll_after, slip_after};
+ghost use Rattle.can_station.specs.Held.{HasEntered, NoPassLeft, new_held, roll_after, slip_after, station_seen};
 ghost use Rattle.can_station.specs.Marks.{IsMarked};
-ghost use Rattle.can_station.specs.Passes.{IsCarriedOut, IsReceived, IsStepped, Settles, Suits, next_verdict};
+ghost use Rattle.can_station.specs.Passes.{IsCarriedOut, IsReceived, IsStateOf, IsStepped, Settles, Suits, next_verdict};
 ghost use Rattle.can_station.specs.Published.{AllTrue, IsPublished, TakesBack};
 ghost use Rattle.can_station.specs.Waits.{AreCounts, frame_wake, has_work, work_wake, stopped_wake, waiting_at};
 
@@ -17,7 +17,7 @@ use crate::refusals::{TooManyPasses, WrongStation};
 use crate::rooms::{ROOMS, RoomSet, Sleeper, Sleepers};
 use crate::waits::Wake;
 use can_bus::{
-    Event, IfaceStats, Received, Record, Refusal, Reply, RingBus, SocketId, SocketStats,
+    BusConfig, Event, IfaceStats, Received, Record, Refusal, Reply, RingBus, SocketId, SocketStats,
 };
 use can_fault::{FaultSource, Verdict};
 use can_frame::{Iface, Moment};
@@ -30,17 +30,17 @@ use std::marker::Model;
 /// The most passes of a station.
 const MAX_PASSES: u32 = 4096;
 
-/// What a station keeps under its lock: the bus with the source of its verdicts, the roll with a mark for each
-/// entry, and the keeper of its meter.
+/// What a station keeps under its lock: the bus with the source of its verdicts, the roll, and the keeper of its meter.
 ///
-/// Whenever the lock is free the record is a legal history, the roll's list of each pass is the entries marked with
-/// it, and the keeper has published each change of an interface's error counters.
+/// Whenever the lock is free the record is a legal history, its entries can be marked with passes so that the roll's
+/// list of each pass is the entries marked with it, and the keeper has published each change of an interface's error
+/// counters.
 #[derive(Drop)]
 pub struct StationState<N: RollName + MeterName, F: FaultSource + Drop> {
     bus: RingBus,
+    config: BusConfig,
     source: F,
     roll: Roll<N>,
-    marks: Vec<u32>,
     keeper: Keeper<N>,
     spare: Gauge<N>,
     stopped: bool,
@@ -48,7 +48,7 @@ pub struct StationState<N: RollName + MeterName, F: FaultSource + Drop> {
 }
 
 impl<N: RollName + MeterName, F: FaultSource + Drop> Model for StationState<N, F> {
-    ghost use Rattle.std.specs.Prelude.{◌≡◌, reverse, vec_capacity};
+    ghost use Rattle.std.specs.Prelude.{◌≡◌};
     ghost use Rattle.can_station.specs.Held.{Held};
     ghost use Rattle.can_station.specs.Marks.{IsBooked};
     ghost use Rattle.can_station.specs.Published.{IsPublished};
@@ -63,8 +63,8 @@ impl<N: RollName + MeterName, F: FaultSource + Drop> Model for StationState<N, F
       stopped = s.stopped;
     } };
 
-    ghost invariant = { λ s. IsBooked s.roll (reverse s.marks.items) (vec_capacity s.marks) s.bus
-        × IsPublished s.keeper s.roll.number s.bus × (s.spare.number ≡ s.roll.number) };
+    ghost invariant = { λ s. IsBooked s.roll s.bus × IsPublished s.keeper s.roll.number s.bus
+        × (s.spare.number ≡ s.roll.number) × (s.bus.config ≡ s.config) };
 }
 
 impl<N: RollName + MeterName, F: FaultSource + Drop> StationState<N, F> {
@@ -73,24 +73,24 @@ impl<N: RollName + MeterName, F: FaultSource + Drop> StationState<N, F> {
         blank: RollBlank,
         number: u8,
         bus: RingBus,
+        config: BusConfig,
         source: F,
-        marks: Vec<u32>,
         keeper: Keeper<N>,
         spare: Gauge<N>,
     ) -> StationState<N, F>
         requires name { blank ≡ N.roll number }
-        requires proper { IsConfig bus.config }
-        requires empty { (bus.history ≡ []) × (marks.items ≡ []) }
-        requires room { bus.config.limit ≤ vec_capacity marks }
+        requires config { bus.config ≡ config }
+        requires proper { IsConfig config }
+        requires empty { bus.history ≡ [] }
         requires keeper { keeper ≡ readings number bus.config.ifaces [] }
         requires spare { spare.number ≡ number }
         ensures { result ≡ new_held number bus source }
     {
         StationState {
             bus,
+            config,
             source,
             roll: Roll::new(blank, number),
-            marks,
             keeper,
             spare,
             stopped: false,
@@ -105,7 +105,14 @@ impl<N: RollName + MeterName, F: FaultSource + Drop> StationState<N, F> {
         self.roll.number()
     }
 
-    /// The record: a legal history, whose entries are marked with the passes that made them.
+    /// Whether it is a state of the station with this number and this configuration.
+    pub(crate) fn is_of(&self, number: u8, config: &BusConfig) -> bool
+        ensures { result ≡ true → IsStateOf (station_seen number config.now) self.now }
+    {
+        self.roll.number() == number && self.config == *config
+    }
+
+    /// The record: a legal history, whose entries can be marked with the passes that made them.
     pub fn record(&self) -> &Record
         ensures config { result.now.config ≡ self.now.journal.config }
         ensures history { result.now.history ≡ self.now.journal.history }
@@ -150,7 +157,7 @@ impl<N: RollName + MeterName, F: FaultSource + Drop> StationState<N, F> {
     {
         let before = counters_before(&self.bus, event);
         let reply = self.bus.answer(alloc, event);
-        book(&mut self.roll, &mut self.marks, slip, event, &reply);
+        book(&mut self.roll, slip, event, &reply);
         let Some(before) = before else {
             return reply;
         };
@@ -175,7 +182,7 @@ impl<N: RollName + MeterName, F: FaultSource + Drop> StationState<N, F> {
         let outcome = self.bus.receive_into(socket, room);
         let event = Event::Receive(socket);
         let reply = receive_reply(outcome, room);
-        book(&mut self.roll, &mut self.marks, slip, &event, &reply);
+        book(&mut self.roll, slip, &event, &reply);
         outcome
     }
 
@@ -319,9 +326,9 @@ impl<N: RollName + MeterName, F: FaultSource + Drop> StationState<N, F> {
     {
         let StationState {
             bus,
+            config: _,
             source: _,
             mut roll,
-            marks: _,
             mut keeper,
             spare: _,
             stopped: _,
@@ -342,26 +349,15 @@ impl<N: RollName + MeterName, F: FaultSource + Drop> StationState<N, F> {
     }
 }
 
-/// Notes a call of a slip's pass, and marks the entry with it, where it left one.
+/// Notes a call of a slip's pass, where it left an entry.
 #[inline(always)]
-fn book<N: RollName>(
-    roll: &mut Roll<N>,
-    marks: &mut Vec<u32>,
-    slip: &mut Slip<N>,
-    event: &Event,
-    reply: &Reply,
-)
-    requires slip { slip.old.number ≡ roll.old.number }
-    requires room { enters reply.now ≡ true → vec_len marks.old < vec_capacity marks.old }
+fn book<N: RollName>(roll: &mut Roll<N>, slip: &mut Slip<N>, event: &Event, reply: &Reply)
+    requires { slip.old.number ≡ roll.old.number }
     ensures roll { roll.new ≡ roll_after slip.old.pass event.now reply.now roll.old }
-    ensures marks { reverse marks.new.items
-        ≡ marks_after slip.old.pass reply.now (reverse marks.old.items) }
-    ensures places { vec_capacity marks.new ≡ vec_capacity marks.old }
     ensures slip { slip.new ≡ slip_after event.now reply.now slip.old }
     ensures below { enters reply.now ≡ true → slip.old.pass < length roll.old.lists }
 {
     if reply.enters() {
         roll.note(slip, event, reply);
-        marks.push_reserved(slip.pass());
     }
 }

@@ -1,5 +1,5 @@
 ghost use Rattle.std.specs.Prelude.{◌≡◌, true, Some, IfSome, IfNone, is_none};
-ghost use Rattle.can_station.specs.Passes.{InSome};
+ghost use Rattle.can_station.specs.Passes.{InSome, IsStateOf};
 ghost use Rattle.can_station.specs.Waits.{AreCounts, EndsItemWait, IsIdleAndStopped, frame_wake, has_work, work_wake};
 
 use crate::gate::{Gate, Point};
@@ -159,7 +159,7 @@ impl<N: RollName + MeterName, F: FaultSource + Drop, G: Gate + Drop> Station<N, 
 
     /// Waits as `wait_work` does, and keeps the lock for the driver's steps: `None` after `stop`, where there is no work.
     pub fn hold_work<R: Wait>(&self, rt: &R) -> Option<Hold<'_, N, F, G>>
-        ensures number { IfSome result (λ h. h.number ≡ self.now) }
+        ensures state { IfSome result (λ h. IsStateOf self.now h) }
         ensures work { IfSome result (λ h. has_work h.journal ≡ true) }
         ensures none { IfNone result (InSome F self.now (λ held. IsIdleAndStopped held)) }
     {

@@ -97,6 +97,23 @@ fn entered<'s, N: RollName + MeterName, F: FaultSource + Drop, G: Gate + Drop, R
     }
 }
 
+/// A caller with a light pass.
+fn entered_light<'s, N: RollName + MeterName, F: FaultSource + Drop, G: Gate + Drop, R: Wait + Abort>(
+    rt: &'s R,
+    alloc: Global,
+    station: &'s Station<N, F, G>,
+) -> Caller<'s, N, F, G, R> {
+    let Ok(pass) = station.enter_light(rt) else {
+        panic!(rt; "no pass");
+    };
+    Caller {
+        rt,
+        alloc,
+        station,
+        pass,
+    }
+}
+
 /// A caller of a station, with its pass.
 #[derive(Drop)]
 struct Caller<'s, N: RollName + MeterName, F: FaultSource + Drop, G: Gate + Drop, R: Wait + Abort> {

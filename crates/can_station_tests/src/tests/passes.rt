@@ -1,8 +1,9 @@
-// How many passes a station has.
+// How many passes a station has, and what they keep.
 
 ghost use Rattle.std.specs.Prelude.{◌≡◌};
 
 use super::*;
+use can_bus::{Event, Reply};
 use can_fault::Perfect;
 use can_station::{Open, TooManyPasses};
 use std::marker::Brand;
@@ -22,6 +23,58 @@ fn enter_often<N: RollName + MeterName, R: Wait + Abort>(rt: &R, alloc: Global, 
     }
     let settled = settled(rt, station, Vec::new(alloc), Vec::new(alloc));
     assert!(rt; settled.passes == 4096 && settled.history.is_empty());
+}
+
+/// A call of a caller that opens two sockets, sends a frame, receives it and closes.
+fn event_at<R: Abort>(rt: &R, turn: u32) -> Event {
+    match turn {
+        0 => Event::Open(iface(rt, 0), 4),
+        1 => Event::Open(iface(rt, 1), 4),
+        2 => Event::Send(SocketId(0), frame(rt, 0x123)),
+        3 => Event::Attempt(moment(rt, 1), Verdict::Good),
+        4 => Event::Receive(SocketId(1)),
+        _ => Event::Close(SocketId(1)),
+    }
+}
+
+/// The replies to these calls. After them an attempt and a receive find nothing. A light pass keeps none of them, and
+/// settles as another does.
+fn replies<N: RollName + MeterName, R: Wait + Abort>(
+    rt: &R,
+    alloc: Global,
+    blanks: Blanks,
+    is_light: bool,
+) -> Vec<Reply>
+    requires { (blanks.roll ≡ N.roll 0) × (blanks.meter ≡ N.meter 0) }
+{
+    let station = made::<N, _, _, _>(rt, alloc, blanks, 0, config(2), Perfect, Open);
+    let mut caller = if is_light {
+        entered_light(rt, alloc, &station)
+    } else {
+        entered(rt, alloc, &station)
+    };
+    let mut replies = Vec::new(alloc);
+    for turn in 0..6 {
+        let reply = station.call(rt, alloc, &mut caller.pass, event_at(rt, turn));
+        assert!(rt; matches!(reply, Ok(reply) if replies.push(reply).is_ok()));
+    }
+    assert!(rt; matches!(caller.step(9), Ok(Attempt::Idle { .. })));
+    assert!(rt; matches!(caller.receive_held(SocketId(0)), Ok(None)));
+    assert!(rt; caller.calls() == if is_light { 0 } else { 8 });
+    assert!(rt; caller.pass.call(7).is_none() == is_light);
+    let passes = one(rt, alloc, caller.leave());
+    let settled = settled(rt, station, passes, Vec::new(alloc));
+    assert!(rt; settled.history.len() == 8);
+    replies
+}
+
+#[test]
+fn a_light_pass_has_the_replies_of_another(rt: HostRuntime) -> Result<(), Fail> {
+    let (listed, light) = (Blanks::new(rt.alloc(), 2)?, Blanks::new(rt.alloc(), 2)?);
+    let listed = replies::<Brand, _>(&rt, rt.alloc(), listed, false);
+    let light = replies::<Brand, _>(&rt, rt.alloc(), light, true);
+    assert!(rt; listed.len() == 6 && light == listed);
+    Ok(())
 }
 
 #[test]

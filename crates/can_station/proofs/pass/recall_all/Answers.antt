@@ -16,13 +16,11 @@ loop-pass-preserved g c =
     let pass = c.in-Some.pass in
     let steps : into_iter_items at.pass-iterator ≡ pass ∷ into_iter_items c.next.new.self = c.in-Some.ensures.steps.0 in
     let slip = c.into_slip.result in
-    let seen : ◌≡◌ {A = PassSeen} (record { number = slip.number; pass = slip.pass; calls = slip.calls }) pass = c.into_slip.ensures in
     let called : at.roll.called ≡ numbers_of at.yielded = ap (λ (r : RollSeen). r.called) was.2 in
     let same_lists : at.roll.lists ≡ lists = ap (λ (r : RollSeen). r.lists) was.2 in
-    let number : slip.pass ≡ pass.pass = ap (λ (v : PassSeen). v.pass) seen in
+    let number : slip.pass ≡ pass.pass = c.into_slip.ensures.pass in
     let longer : numbers_of at.yielded ++ pass.pass ∷ [] ≡ numbers_of (at.yielded ++ pass ∷ []) = sym (map-append (λ (v : PassSeen). v.pass) at.yielded (pass ∷ [])) in
-    let mine : row lists pass.pass ≡ pass.calls =
-    subst (λ (ls : List _). row ls pass.pass ≡ pass.calls) same_lists (subst (λ (v : PassSeen). row at.roll.lists v.pass ≡ v.calls) seen c.recall.ensures.calls) in
+    let mine : row lists pass.pass ≡ pass.calls = sym (λ k. row (same_lists k) (number k)) ∙ c.recall.ensures.calls ∙ c.into_slip.ensures.calls in
     let new : NotIn pass.pass (numbers_of at.yielded) = subst (λ (ps : List ℕ). NotIn pass.pass ps) called (subst (λ (p : ℕ). NotIn p at.roll.called) number c.recall.ensures.once) in
     let below = subst (λ (p : ℕ). p < length lists) number (subst (λ (ls : List _). slip.pass < length ls) same_lists c.recall.ensures.below) in (
       append_assoc at.yielded (pass ∷ []) _ ∙ rw (← steps) was.0,

@@ -18,4 +18,4 @@ returns-then-not-has_work-clause-none g c =
     let woken : is_none (work_wake (mutex_guard_value c.wait_while-state.result)) ≡ false = search of_calls in
     let some : is_none (work_wake held) ≡ false = ap (λ (h : Held g.row.F.Denot). is_none (work_wake h)) c.own-state.ensures.same ∙ woken in
     let idle : has_work held.journal ≡ false = ap (λ (h : Held g.row.F.Denot). has_work h.journal) (sym c.deref.ensures) ∙ sym c.if-not-has_work.ensures in
-    (held, c.own-state.ensures.number, (idle, ended (has_work held.journal) held.stopped some idle))
+    (held, c.own-state.ensures.state, (idle, ended (has_work held.journal) held.stopped some idle))

@@ -8,4 +8,4 @@ pub returns : goal.returns
 returns g c =
     let woken = ap (λ (h : Held g.row.F.Denot). frame_wake h c.args.socket.0) (sym c.deref.ensures) ∙ sym c.frame_wake.ensures ∙ c.in-Some.is in
     let waiting = c.waiting.ensures ∙ ap (λ (h : Held g.row.F.Denot). waiting_at h.journal c.args.socket.0) c.deref-2.ensures in
-    (mutex_guard_value c.own-state.result, c.own-state.ensures.number, (woken, waiting))
+    (mutex_guard_value c.own-state.result, c.own-state.ensures.state, (woken, waiting))

@@ -7,6 +7,6 @@ use Rattle.can_station.proofs.station.Station.wait_work.Goals as goal
 pub returns : goal.returns
 returns g c = (
   mutex_guard_value c.own-state.result,
-  c.own-state.ensures.number,
+  c.own-state.ensures.state,
   ap (λ (h : Held g.row.F.Denot). work_wake h) (sym c.deref.ensures) ∙ sym c.work_wake.ensures ∙ c.in-Some.is,
 )

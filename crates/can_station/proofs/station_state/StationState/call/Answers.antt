@@ -1,4 +1,4 @@
-use Rattle.std.proofs.Common.{◌≡◌, reverse, length, vec_capacity, sym, ap, ◌∙◌, arith}
+use Rattle.std.proofs.Common.{◌≡◌, length, sym, ap, ◌∙◌, arith}
 use Rattle.can_record.specs.Journal.{Journal}
 use Rattle.can_station.proofs.Marking.{booked_after}
 use Rattle.can_station.proofs.PublishedFacts.{later, kept_before, published_after_call, published_still, short}
@@ -21,20 +21,20 @@ publish_changes-requires-clause-later g c =
 pub invariant_of-self : goal.invariant_of-self
 invariant_of-self g c =
     let number : c.book.new.roll.number ≡ c.self.inside.roll.number = ap (λ (r : RollSeen). r.number) c.book.ensures.roll in (
-      booked_after c.self.inside.roll c.book.new.roll (reverse c.self.inside.marks.items) (reverse c.book.new.marks.items) (vec_capacity c.self.inside.marks) (vec_capacity c.book.new.marks)
-          c.self.inside.bus c.answer-reply.new.self c.args.slip.now.pass c.args.event.now c.answer-reply.result c.self.invariant.0 c.book.ensures.below c.book.ensures.roll c.book.ensures.marks c.book.ensures.places c.answer-reply.ensures.after,
+      booked_after c.self.inside.roll c.book.new.roll c.self.inside.bus c.answer-reply.new.self c.args.slip.now.pass c.args.event.now c.answer-reply.result c.self.invariant.0 c.answer-reply.ensures.answer c.book.ensures.below c.book.ensures.roll c.answer-reply.ensures.after,
       published_still c.self.inside.keeper c.self.inside.roll.number c.book.new.roll.number c.self.inside.bus c.answer-reply.new.self c.args.event.now c.answer-reply.result
           c.counters_before-before.result c.counters_before-before.ensures c.in_default.is c.self.invariant.1 number c.answer-reply.ensures.after,
       c.self.invariant.2 ∙ sym number,
+      ap (λ (j : Journal). j.config) c.answer-reply.ensures.after ∙ c.self.invariant.3,
     )
 
 pub invariant_of-self-2 : goal.invariant_of-self-2
 invariant_of-self-2 g c =
     let number : c.book.new.roll.number ≡ c.self.inside.roll.number = ap (λ (r : RollSeen). r.number) c.book.ensures.roll in (
-      booked_after c.self.inside.roll c.book.new.roll (reverse c.self.inside.marks.items) (reverse c.book.new.marks.items) (vec_capacity c.self.inside.marks) (vec_capacity c.book.new.marks)
-          c.self.inside.bus c.answer-reply.new.self c.args.slip.now.pass c.args.event.now c.answer-reply.result c.self.invariant.0 c.book.ensures.below c.book.ensures.roll c.book.ensures.marks c.book.ensures.places c.answer-reply.ensures.after,
+      booked_after c.self.inside.roll c.book.new.roll c.self.inside.bus c.answer-reply.new.self c.args.slip.now.pass c.args.event.now c.answer-reply.result c.self.invariant.0 c.answer-reply.ensures.answer c.book.ensures.below c.book.ensures.roll c.answer-reply.ensures.after,
       published_after_call c.self.inside.keeper c.publish_changes.new.keeper c.self.inside.roll.number c.book.new.roll.number c.self.inside.bus c.answer-reply.new.self c.args.event.now c.answer-reply.result c.in-Some.before c.counters-after.result c.len-at.result
           c.self.invariant.0.proper c.self.invariant.1 number c.answer-reply.ensures.after c.publish_changes.ensures.number c.publish_changes.ensures.ifaces (c.len-at.ensures ∙ ap length c.record.ensures.history)
           (kept_before c.self.inside.bus c.args.event.now c.counters_before-before.result c.in-Some.before c.counters_before-before.ensures c.in-Some.is) c.counters-after.ensures c.publish_changes.ensures.entered c.publish_changes.ensures.still,
       c.self.invariant.2 ∙ sym number,
+      ap (λ (j : Journal). j.config) c.answer-reply.ensures.after ∙ c.self.invariant.3,
     )

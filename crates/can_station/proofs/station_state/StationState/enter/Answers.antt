@@ -1,4 +1,4 @@
-use Rattle.std.proofs.Common.{◌≡◌, ◌<◌, ℕ, length, reverse, vec_capacity, sym, ap, ◌∙◌, subst, arith}
+use Rattle.std.proofs.Common.{◌≡◌, ◌<◌, ℕ, length, sym, ap, ◌∙◌, subst, arith}
 use Rattle.can_roll.specs.Seen.{RollSeen}
 use Rattle.can_station.specs.Published.{IsPublished}
 use Rattle.can_station.proofs.Marking.{booked_enter}
@@ -8,7 +8,8 @@ pub invariant_of-self : goal.invariant_of-self
 invariant_of-self g c =
     let few : length c.self.inside.roll.lists < 4096 = omega (arith, c.if-passes-ge-MAX_PASSES.false, c.passes.ensures) in
     let number : c.enter.new.self.number ≡ c.self.inside.roll.number = ap (λ (r : RollSeen). r.number) c.enter.ensures.roll in (
-      booked_enter c.self.inside.roll c.enter.new.self (reverse c.self.inside.marks.items) (vec_capacity c.self.inside.marks) c.self.inside.bus c.self.invariant.0 few c.enter.ensures.roll,
+      booked_enter c.self.inside.roll c.enter.new.self c.self.inside.bus c.self.invariant.0 few c.enter.ensures.roll,
       subst (λ (n : ℕ). IsPublished c.self.inside.keeper n c.self.inside.bus) (sym number) c.self.invariant.1,
       c.self.invariant.2 ∙ sym number,
+      c.self.invariant.3,
     )

@@ -1,20 +1,22 @@
-use Rattle.std.proofs.Common.{◌≡◌, reverse, vec_capacity, sym, ap, ◌∙◌, refl}
+use Rattle.std.proofs.Common.{◌≡◌, sym, ap, ◌∙◌, refl}
 use Rattle.std.specs.Prelude.{None}
 use Rattle.can_event.specs.declared.event.Event.{Event}
 use Rattle.can_event.specs.declared.event.Event.TheVariants as event
+use Rattle.can_record.specs.Journal.{Journal}
 use Rattle.can_roll.specs.Seen.{RollSeen}
 use Rattle.can_station.proofs.Marking.{booked_after}
 use Rattle.can_station.proofs.PublishedFacts.{published_still}
-use Rattle.can_station.proofs.Receiving.{bus_after}
+use Rattle.can_station.proofs.Receiving.{answer_of, bus_after}
 use Rattle.can_station.proofs.station_state.StationState.receive_into.Goals as goal
 
 pub invariant_of-self : goal.invariant_of-self
 invariant_of-self g c =
     let e : Event = event.Receive c.args.socket in
     let number : c.book.new.roll.number ≡ c.self.inside.roll.number = ap (λ (r : RollSeen). r.number) c.book.ensures.roll in
-    let after = bus_after c.receive_into-outcome.new.room c.args.socket c.self.inside.bus c.receive_into-outcome.new.self c.receive_into-outcome.result c.receive_reply-reply.result c.receive_into-outcome.ensures.answer c.receive_reply-reply.ensures in (
-      booked_after c.self.inside.roll c.book.new.roll (reverse c.self.inside.marks.items) (reverse c.book.new.marks.items) (vec_capacity c.self.inside.marks) (vec_capacity c.book.new.marks)
-          c.self.inside.bus c.receive_into-outcome.new.self c.args.slip.now.pass e c.receive_reply-reply.result c.self.invariant.0 c.book.ensures.below c.book.ensures.roll c.book.ensures.marks c.book.ensures.places after,
+    let after = bus_after c.receive_into-outcome.new.room c.args.socket c.self.inside.bus c.receive_into-outcome.new.self c.receive_into-outcome.result c.receive_reply-reply.result c.receive_into-outcome.ensures.answer c.receive_reply-reply.ensures in
+    let answer = answer_of c.receive_into-outcome.new.room c.args.socket c.self.inside.bus c.receive_into-outcome.new.self c.receive_into-outcome.result c.receive_reply-reply.result c.receive_into-outcome.ensures.answer c.receive_reply-reply.ensures in (
+      booked_after c.self.inside.roll c.book.new.roll c.self.inside.bus c.receive_into-outcome.new.self c.args.slip.now.pass e c.receive_reply-reply.result c.self.invariant.0 answer c.book.ensures.below c.book.ensures.roll after,
       published_still c.self.inside.keeper c.self.inside.roll.number c.book.new.roll.number c.self.inside.bus c.receive_into-outcome.new.self e c.receive_reply-reply.result None refl refl c.self.invariant.1 number after,
       c.self.invariant.2 ∙ sym number,
+      ap (λ (j : Journal). j.config) after ∙ c.self.invariant.3,
     )

@@ -1,4 +1,4 @@
-use Rattle.std.proofs.Common.{◌≡◌, List, length, reverse, sym, ap, ◌∙◌, subst}
+use Rattle.std.proofs.Common.{◌≡◌, List, length, sym, ap, ◌∙◌, subst}
 use Rattle.can_event.specs.declared.bus_config.BusConfig.{BusConfig}
 use Rattle.can_event.specs.declared.entry.Entry.{Entry}
 use Rattle.can_bus.specs.Legal.{IsLegal}
@@ -11,9 +11,10 @@ use Rattle.can_station.proofs.station_state.StationState.settle.Goals as goal
 
 pub returns-clause-settled : goal.returns-clause-settled
 returns-clause-settled g c =
-    let m = c.self.invariant.0.marked in
+    let b = c.self.invariant.0 in
+    let m = b.marked in
     let r = c.recall_all.ensures in
-    let marks = reverse c.self.inside.marks.items in
+    let marks = b.marks in
     let count : c.passes.result ≡ length c.self.inside.roll.lists = c.passes.ensures ∙ ap (λ (s : RollSeen). length s.lists) r.roll in
     let config : c.into_record.result.config ≡ c.self.inside.bus.config = c.into_record.ensures.config in
     let past : c.into_record.result.history ≡ c.self.inside.bus.history = c.into_record.ensures.history in
