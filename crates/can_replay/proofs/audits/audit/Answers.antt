@@ -3,6 +3,7 @@ use Rattle.std.proofs.lemmas.Option.{slice_get_within, get_or_from_slice_get}
 use Rattle.std.proofs.lemmas.Bool.{iff_false}
 use Rattle.can_bus.proofs.Headlines.{headline}
 use Rattle.can_event.specs.Events.{IsConfig}
+use Rattle.can_event.proofs.Limits.{long-config}
 use Rattle.can_replay.specs.Audits.{Blames}
 use Rattle.can_replay.proofs.Auditing.{Turn, blamed, replayed_more, all_legal, spared}
 use Rattle.can_replay.proofs.audits.audit.Goals as goal
@@ -40,4 +41,4 @@ returns-clause-legal c =
     all_legal c.args.record.now.config c.args.record.now.history c.loop-i.i c.loop-i.bus (omega (arith, c.loop-i-test.false, c.len-i-end.ensures)) c.loop-i.invariant.1 c.loop-i.invariant.0
 
 pub returns-clause-headline : goal.returns-clause-headline
-returns-clause-headline c = headline c.args.record.now.config c.args.record.now.history (subst IsConfig c.config.ensures.config c.config.ensures.proper) (returns-clause-legal c)
+returns-clause-headline c = headline c.args.record.now.config c.args.record.now.history (long-config _ (subst IsConfig c.config.ensures.config c.config.ensures.proper)) (returns-clause-legal c)
