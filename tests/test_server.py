@@ -364,19 +364,13 @@ def test_own_socket_file(tmp_path):
 
 
 def test_folder_of_a_server(tmp_path):
-    """one that takes no files is noted before clients connect; files of an earlier run stay until new ones are whole"""
+    """one that takes no files is refused before the server listens; files of an earlier run stay until new ones are whole"""
     none = os.path.join(tmp_path, "none")
     words = [program(), "serve", "--listen", "127.0.0.1:0", "--until-eof", "--out"]
-    with subprocess.Popen(
-        [*words, none, "can0"], stdin=subprocess.PIPE, stdout=subprocess.PIPE, stderr=subprocess.PIPE, text=True
-    ) as server:
-        note = line_of(server.stderr)
-        assert note.startswith(f"note: {none}/can0.rec can't be written now: "), note
-        assert line_of(server.stdout).startswith("listening "), "it listens"
-        os.mkdir(none)
-        server.stdin.close()
-        assert (server.wait(WAIT), server.stderr.read()) == (0, ""), "a folder that was made meanwhile"
-        assert sorted(os.listdir(none)) == ["can0.log", "can0.rec"], f"{os.listdir(none)}"
+    refused = subprocess.run([*words, none, "can0"], input="", capture_output=True, text=True, timeout=WAIT, check=False)
+    said = f"canbusd: cannot open {none}\n  {none}/can0.rec: No such file or directory (os error 2)\n"
+    assert (refused.returncode, refused.stdout, refused.stderr) == (1, "", said), f"{refused}"
+    os.mkdir(none)
     for name in ("can0.log", "can0.rec"):
         with open(os.path.join(none, name), "w", encoding="utf-8") as file:
             file.write(f"old {name}\n")
@@ -398,4 +392,17 @@ def test_folder_of_a_server(tmp_path):
     assert (full.returncode, faults) == (1, ["canbusd: write fault"]), f"{full}"
     with open(os.path.join(none, "can0.rec"), encoding="utf-8") as file:
         assert file.read() == "old can0.rec\n"
+
+
+def test_links_of_a_folder(tmp_path):
+    """a link at a name that a server writes to first, made by somebody else, is removed and not followed"""
+    words = [program(), "serve", "--listen", "127.0.0.1:0", "--until-eof", "--out", str(tmp_path), "can0"]
+    others = tmp_path / "others"
+    others.write_text("of others\n")
+    for name in ("can0.rec.new", "can0.log.new"):
+        (tmp_path / name).symlink_to(others)
+    run = subprocess.run(words, input="", capture_output=True, text=True, timeout=WAIT, check=False)
+    assert (run.returncode, run.stderr) == (0, ""), f"{run}"
+    assert others.read_text() == "of others\n", "it was written through a link"
+    assert sorted(os.listdir(tmp_path)) == ["can0.log", "can0.rec", "others"]
     assert sorted(os.listdir(none)) == ["can0.log", "can0.rec"], f"{os.listdir(none)}"

@@ -42,10 +42,11 @@ MakeBenches o buses = (benches : List (Bench Source Open)) × AreBenches o buses
 abbrev pub IsOfBus : BusWord → Fault → Type 0
 IsOfBus bus why = IsOfNames bus.names.now why ⊎ (AreNames (names_in bus.names.now) × IsOfSource bus.script (names_in bus.names.now) why)
 
--- a fault of serving: no server can have the buses, it cannot listen or write, a bus got the pass of another, or memory was refused
+-- a fault of serving: no server can have the buses, it cannot listen or write, its folder takes no files, a bus got the pass of another, or memory was refused
 abbrev pub IsOfServing : Fault → Type 0
 IsOfServing (fault.Buses why) = Unit {0}
 IsOfServing fault.CannotListen = Unit {0}
+IsOfServing (fault.CannotOpen folder) = Unit {0}
 IsOfServing (fault.WrongStation name) = Unit {0}
 IsOfServing fault.Write = Unit {0}
 IsOfServing fault.NoMemory = Unit {0}

@@ -2,6 +2,7 @@
 //! as it was until then.
 use canbusd_faults::{Failure, Fault, Shown, reason_note};
 use std::alloc::{AllocError, Global};
+use std::fs::File;
 use std::io::Error;
 use std::rt::Files;
 use std::{fs, io};
@@ -43,10 +44,19 @@ impl Draft {
         &self.draft
     }
 
+    /// Removes what an earlier run or somebody else has left where the file is to be written, unless it is written in
+    /// place. A link there is removed and not followed.
+    pub fn clear<H: Files>(&self, rt: &H) {
+        if self.is_apart() {
+            let _ = fs::remove_file(rt, &self.draft);
+        }
+    }
+
     /// Makes the file where it is to be written, and removes it again, unless it is written in place.
     pub fn look<H: Files>(&self, rt: &H) -> io::Result<()> {
+        self.clear(rt);
         if self.is_apart() {
-            let _ = fs::create(rt, &self.draft)?;
+            let _ = File::create_new(rt, &self.draft)?;
             fs::remove_file(rt, &self.draft)?;
         }
         Ok(())

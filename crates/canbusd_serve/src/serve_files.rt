@@ -1,33 +1,39 @@
 //! The records and logs that a server leaves.
-ghost use Rattle.std.specs.Prelude.{IsTrue};
+ghost use Rattle.std.specs.Prelude.{IfErr, IsTrue};
+ghost use Rattle.canbusd_serve.specs.Served.{IsOfServing};
 
 use crate::draft::Draft;
 use can_bus::Record;
 use can_station::Settled;
-use canbusd_faults::{Failure, Fault, Shown, Telling};
+use canbusd_faults::{Failure, Fault, Telling, reason_note};
 use canbusd_files::{save_log_at, save_record_at};
 use canbusd_options::BusWord;
 use std::alloc::Global;
 use std::io::Write;
 use std::rt::Files;
 
-/// Looks whether the folder takes the record of the first bus, and notes it where it does not. It may do so at the end.
-pub fn look_at_folder<H: Files, E: Write>(
+/// Looks whether the folder takes the record of the first bus. `CannotOpen`, with the folder, where it does not.
+pub fn look_at_folder<'a, H: Files>(
     rt: &H,
     alloc: Global,
-    folder: &str,
+    folder: &'a str,
     buses: &[BusWord<'_>],
-    errors: &mut E,
-) {
+) -> Result<(), Failure<'a>>
+    ensures { IfErr result (λ failure. IsOfServing failure.fault) }
+{
     let Some(bus) = buses.first() else {
-        return;
+        return Ok(());
     };
     let Ok(draft) = Draft::new(rt, alloc, folder, bus.first_name(), "rec") else {
-        return;
+        return Err(Failure::new(alloc, Fault::NoMemory));
     };
-    if let Err(error) = draft.look(rt) {
-        let path = Shown::whole(draft.path());
-        let _ = writeln!(errors, "note: {path} can't be written now: {error}");
+    match draft.look(rt) {
+        Ok(()) => Ok(()),
+        Err(error) => Err(Failure::with(
+            alloc,
+            Fault::CannotOpen(folder),
+            reason_note(alloc, draft.path(), &error),
+        )),
     }
 }
 
@@ -63,8 +69,10 @@ fn save_bus<H: Files, E: Write>(
         Draft::new(rt, alloc, folder, name, "log"),
     ) {
         (Ok(rec), Ok(log)) => {
+            rec.clear(rt);
             let saved = save_record_at(rt, alloc, rec.path(), rec.draft(), record);
             telling.pass_on(rec.keep(rt, alloc, saved));
+            log.clear(rt);
             let saved = save_log_at(rt, alloc, log.path(), log.draft(), *bus, record);
             telling.pass_on(log.keep_part(rt, alloc, saved));
         }

@@ -52,7 +52,7 @@ impl<
 /// fault is reported among the errors, as is a bus whose record is full.
 ///
 /// Bus by bus the names are looked at first, then the script; then the limits of the buses, and then it listens. A
-/// folder that takes no files is noted before anybody can connect. The input is read only where its end is asked for.
+/// folder that takes no files is a fault before anybody can connect. The input is read only where its end is asked for.
 pub fn run_serve<'a, H: ServerRuntime, R: Read + Drop + Send + 'static, W: Write, E: Write + Send>(
     rt: &H,
     alloc: Global,
@@ -236,7 +236,7 @@ impl<'r, 'a, H: ServerRuntime> ServerRun<'r, 'a, H> {
             None
         };
         if let Some(folder) = self.options.folder {
-            look_at_folder(self.rt, self.alloc, folder, &self.options.buses, errors);
+            look_at_folder(self.rt, self.alloc, folder, &self.options.buses)?;
         }
         put_listening(self.alloc, heard, output)?;
         self.serve_until(hub, doors, until, errors)

@@ -122,18 +122,9 @@ fn tells_files_that_are_not_written(rt: HostRuntime) -> Result<(), Fail> {
     let _sockets: Sockets = None;
     let alloc = rt.alloc();
     let line = "canbusd serve --until-eof --out none --listen ./lost can0 can1";
-    let told = "note: none/can0.rec can't be written now: No such file or directory (os error 2)
-canbusd: cannot open none/can0.rec
-  none/can0.rec: No such file or directory (os error 2)
-canbusd: cannot open none/can0.log
-  none/can0.log: No such file or directory (os error 2)
-canbusd: cannot open none/can1.rec
-  none/can1.rec: No such file or directory (os error 2)
-canbusd: cannot open none/can1.log
-  none/can1.log: No such file or directory (os error 2)
-";
-    let output = "listening ./lost\nbus can0 entries 0\nbus can1 entries 0\n";
-    runs(&rt, alloc, line, NOTHING, (output, told, 1))?;
+    let told =
+        "canbusd: cannot open none\n  none/can0.rec: No such file or directory (os error 2)\n";
+    runs(&rt, alloc, line, NOTHING, ("", told, 1))?;
     // Only the log of can0 can't be opened: it is a folder.
     fs::create_dir(&rt, "logs")?;
     fs::create_dir(&rt, "logs/can0.log")?;
