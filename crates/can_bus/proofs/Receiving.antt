@@ -11,7 +11,7 @@ use Rattle.can_event.specs.declared.reply.Reply.{Reply}
 use Rattle.can_event.specs.declared.reply.Reply.TheVariants as reply
 use Rattle.can_event.specs.Replies.{entry_of, taken_reply}
 use Rattle.can_bus.specs.Answer.{Answers}
-use Rattle.can_record.specs.Outcomes.{received_into}
+use Rattle.can_event.specs.Replies.{received_into}
 use Rattle.can_record.specs.Journal.{Journal}
 use Rattle.can_bus.specs.Sockets.{is_open}
 use Rattle.can_bus.specs.Queues.{taken_from, queued_to, dropped_at}

@@ -36,6 +36,11 @@ told f (Err why) = reply.Refused why
 abbrev pub taken_item : Received → Bool → Option Received
 taken_item room taken = if taken then Some room else None
 
+-- what a receive into this room came to, with the item (own choice)
+abbrev pub received_into : {E : Type 0} → Received → Result Bool E → Result (Option Received) E
+received_into room (Ok taken) = Ok (taken_item room taken)
+received_into room (Err why) = Err why
+
 -- the reply to a receive that took an item into this room, or none (own choice)
 abbrev pub taken_reply : Received → Bool → Reply
 taken_reply room taken = reply.Received (taken_item room taken)

@@ -7,9 +7,9 @@ use Rattle.can_event.specs.declared.reply.Reply.{Reply}
 use Rattle.can_event.specs.declared.attempt.Attempt.TheVariants as attempt
 use Rattle.can_event.specs.declared.received.Received.{Received}
 use Rattle.can_event.specs.declared.socket_id.SocketId.{SocketId}
-use Rattle.can_event.specs.Replies.{taken_item, taken_reply}
+use Rattle.can_event.specs.Replies.{received_into, taken_item, taken_reply}
 use Rattle.can_dialog.specs.Calls.Call.{Receive}
-use Rattle.can_record.specs.Outcomes.{done_reply, received_into, told_attempt}
+use Rattle.can_record.specs.Outcomes.{done_reply, told_attempt}
 use Rattle.can_event.specs.declared.reply.Reply.TheVariants as reply
 use Rattle.std.specs.Prelude.{slice_get, IfOk}
 use Rattle.can_dialog.specs.declared.port.PortRefusal.{PortRefusal}

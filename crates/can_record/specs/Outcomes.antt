@@ -1,13 +1,12 @@
-use Rattle.std.specs.Prelude.{ℕ, Bool, Option, Result, Ok, Err}
+use Rattle.std.specs.Prelude.{ℕ}
 use Rattle.can_fault.specs.declared.verdict.Verdict.{Verdict}
 use Rattle.can_event.specs.declared.attempt.Attempt.{Attempt}
 use Rattle.can_event.specs.declared.attempt.Attempt.TheVariants as attempt
 use Rattle.can_event.specs.declared.entry.Entry.{Entry}
 use Rattle.can_event.specs.declared.event.Event.TheVariants as event
-use Rattle.can_event.specs.declared.received.Received.{Received}
 use Rattle.can_event.specs.declared.reply.Reply.{Reply}
 use Rattle.can_event.specs.declared.reply.Reply.TheVariants as reply
-use Rattle.can_event.specs.Replies.{entry_of, taken_item}
+use Rattle.can_event.specs.Replies.{entry_of}
 
 -- What a call came to, as the reply that a record has.
 
@@ -23,8 +22,3 @@ attempt_entry m v a = entry_of (event.Attempt m v) (told_attempt a)
 -- the reply to a call that only changes something (own choice)
 abbrev pub done_reply : Unit {0} → Reply
 done_reply done = reply.Done
-
--- what a receive into this room came to, with the item (own choice)
-abbrev pub received_into : {E : Type 0} → Received → Result Bool E → Result (Option Received) E
-received_into room (Ok taken) = Ok (taken_item room taken)
-received_into room (Err why) = Err why

@@ -14,7 +14,7 @@ use Rattle.can_dialog.specs.declared.stage.Stage.TheVariants.{Ended}
 use Rattle.can_dialog.specs.Plans.{Plays}
 use Rattle.can_dialog.specs.Turns.{ending, delivery, greeting}
 use Rattle.can_dialog.specs.Sessions.{SessionState, Turns, beginning}
-use Rattle.can_dialog.specs.BusSteps.{NamedBus, BusStep}
+use Rattle.can_session.specs.BusSteps.{NamedBus, BusStep}
 use Rattle.can_session.specs.declared.unheard.Unheard.{Unheard}
 use Rattle.can_session.specs.Unheard.{unheard_then}
 use Rattle.can_session.specs.Orders.{Effect, order_of}

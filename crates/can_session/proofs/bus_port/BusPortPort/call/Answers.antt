@@ -1,8 +1,8 @@
 use Rattle.std.proofs.Common.{Ok, refl, subst}
 use Rattle.can_dialog.specs.Calls.{Steps}
-use Rattle.can_dialog.specs.BusSteps.{NamedBus, BusStep}
-use Rattle.can_dialog.proofs.BusCalls.{gives}
-use Rattle.can_dialog.proofs.bus_port.BusPortPort.call.Goals as goal
+use Rattle.can_session.specs.BusSteps.{NamedBus, BusStep}
+use Rattle.can_session.proofs.BusCalls.{gives}
+use Rattle.can_session.proofs.bus_port.BusPortPort.call.Goals as goal
 
 pub returns : goal.returns
 returns g c =

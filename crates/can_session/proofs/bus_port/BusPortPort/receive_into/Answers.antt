@@ -1,10 +1,10 @@
 use Rattle.std.proofs.Common.{Bool, Result, refl, sym, subst}
-use Rattle.can_record.specs.Outcomes.{received_into}
-use Rattle.can_dialog.specs.BusSteps.{BusStep, NamedBus, passed_on}
+use Rattle.can_event.specs.Replies.{received_into}
+use Rattle.can_session.specs.BusSteps.{BusStep, NamedBus, passed_on}
 use Rattle.can_dialog.specs.Calls.Call.{Receive}
 use Rattle.can_dialog.specs.declared.port.PortRefusal.{PortRefusal}
-use Rattle.can_dialog.proofs.BusCalls.{receives_into}
-use Rattle.can_dialog.proofs.bus_port.BusPortPort.receive_into.Goals as goal
+use Rattle.can_session.proofs.BusCalls.{receives_into}
+use Rattle.can_session.proofs.bus_port.BusPortPort.receive_into.Goals as goal
 
 pub returns : goal.returns
 returns g c =

@@ -9,14 +9,14 @@ use Rattle.can_event.specs.declared.refusal.Refusal.TheVariants as refusal
 use Rattle.can_record.specs.Journal.{Journal}
 use Rattle.can_event.specs.declared.received.Received.{Received}
 use Rattle.can_event.specs.declared.socket_id.SocketId.{SocketId}
-use Rattle.can_event.specs.Replies.{taken_item, taken_reply}
+use Rattle.can_event.specs.Replies.{received_into, taken_item, taken_reply}
 use Rattle.can_bus.specs.Answer.{Answers, Noted, Refuses}
-use Rattle.can_record.specs.Outcomes.{done_reply, received_into, told_attempt}
+use Rattle.can_record.specs.Outcomes.{done_reply, told_attempt}
 use Rattle.can_bus.specs.Run.{IsAnswer, history_after}
 use Rattle.can_bus.proofs.Fitting.{legal_is_spelled}
 use Rattle.can_event.specs.declared.attempt.Attempt.TheVariants as attempt
 use Rattle.can_dialog.specs.declared.port.PortRefusal.TheVariants as port
-use Rattle.can_dialog.specs.BusSteps.{NamedBus, BusStep, IsEvent, passed_on}
+use Rattle.can_session.specs.BusSteps.{NamedBus, BusStep, IsEvent, passed_on}
 use Rattle.can_dialog.specs.Calls.{Gives}
 use Rattle.can_dialog.specs.Calls.Call.{Receive}
 

@@ -1,17 +1,16 @@
 ghost use Rattle.std.specs.Prelude.{◌≡◌, length};
-ghost use Rattle.can_frame.specs.Names.{place_of};
 ghost use Rattle.can_bus.specs.Answer.{Answers};
 ghost use Rattle.can_record.specs.Outcomes.{told_attempt};
 ghost use Rattle.can_record.specs.Tapes.{tape};
 ghost use Rattle.can_event.specs.declared.event.Event.TheVariants as event;
-ghost use Rattle.can_dialog.specs.BusSteps.{passed_on};
+ghost use Rattle.can_session.specs.BusSteps.{passed_on};
 
-use crate::port::{Port, PortRefusal};
 use can_arbiter::Arbiter;
 use can_bus::{
     Attempt, Bus, Event, IfaceStats, Pending, Received, Refusal, Reply, SocketId, SocketStats,
 };
 use can_confine::Counters;
+use can_dialog::{Port, PortRefusal};
 use can_fault::Verdict;
 use can_frame::{Frame, Iface, Moment, Names};
 use can_queue::BoundedQueue;
@@ -28,7 +27,7 @@ pub struct BusPort<T: BoundedQueue<Pending>, R: BoundedQueue<Received>, A: Arbit
 }
 
 impl<T: BoundedQueue<Pending>, R: BoundedQueue<Received>, A: Arbiter> Model for BusPort<T, R, A> {
-    ghost use Rattle.can_dialog.specs.BusSteps.{NamedBus};
+    ghost use Rattle.can_session.specs.BusSteps.{NamedBus};
 
     ghost Value = { NamedBus };
 
@@ -86,21 +85,8 @@ fn pass_on<V>(outcome: Result<V, Refusal>) -> Result<V, PortRefusal>
     }
 }
 
-/// The interface with this name.
-fn interface_named(names: &Names, name: &[u8]) -> Option<Iface>
-    ensures { result ≡ place_of names.now name.now }
-{
-    for number in 0..names.count() {
-        let iface = Iface::new(number)?;
-        if names.name(iface)?.as_bytes() == name {
-            return Some(iface);
-        }
-    }
-    None
-}
-
 impl<T: BoundedQueue<Pending>, R: BoundedQueue<Received>, A: Arbiter> Port for BusPort<T, R, A> {
-    ghost use Rattle.can_dialog.specs.BusSteps.{BusStep};
+    ghost use Rattle.can_session.specs.BusSteps.{BusStep};
 
     ghost step = { BusStep };
 
@@ -109,7 +95,7 @@ impl<T: BoundedQueue<Pending>, R: BoundedQueue<Received>, A: Arbiter> Port for B
     }
 
     fn attach(&mut self, name: &[u8]) -> Result<Iface, PortRefusal> {
-        match interface_named(&self.names, name) {
+        match self.names.find_bytes(name) {
             Some(iface) => Ok(iface),
             None => Err(PortRefusal::Bus(Refusal::NoInterface)),
         }
