@@ -1,8 +1,8 @@
 ghost use Rattle.std.specs.Prelude.{◌≡◌};
 ghost use Rattle.can_dialog.specs.Calls.{cause_of_port};
 
-use can_event::{Closed, Event, IfaceStats, Opt, Received, Refusal, Reply, SocketId, SocketStats};
 use can_confine::Counters;
+use can_event::{Closed, Event, IfaceStats, Opt, Received, Refusal, Reply, SocketId, SocketStats};
 use can_filter::FilterSet;
 use can_frame::{Frame, Iface, Moment};
 use can_proto::Cause;

@@ -19,10 +19,11 @@ use Rattle.can_dialog.specs.Calls.Call.{Attach, Open, Close, SetFilters, SetOpti
 use Rattle.can_dialog.specs.Plans.{Plan, Plays}
 use Rattle.can_dialog.specs.Plans.Plan.{Tell, Ask}
 use Rattle.can_dialog.specs.Sessions.{SessionState, Turns}
+use Rattle.can_dialog.specs.Deliveries.{AreGiven}
 use Rattle.can_session.specs.BusSteps.{NamedBus, BusStep, IsEvent}
 use Rattle.can_session.specs.Orders.{Effect}
 use Rattle.can_session.specs.Orders.Effect.{Does_nothing, Sets, Starts, Feeds, Drains, Ends, Attempts}
-use Rattle.can_session.specs.Benches.{BenchState, IsFed, IsFedAt, AreGiven, Does, AreCarriedOut}
+use Rattle.can_session.specs.Benches.{BenchState, IsFedAt, Does, AreCarriedOut}
 
 -- the configuration of a bus with names, and of a bench
 abbrev of_bus : NamedBus → BusConfig
@@ -71,7 +72,7 @@ fed NoBus moment bytes old p text new q h = turned moment old.dialog h.forgotten
 fed (Opened iface) moment bytes old p text new q h = turned moment old.dialog h.forgotten _ p q text new.dialog h.turns
 fed (Raw raw) moment bytes old p text new q h = turned moment old.dialog h.forgotten _ p q text new.dialog h.turns
 
-given : (n : ℕ) (stage : Stage) (p : NamedBus) (text : List ℕ) (q : NamedBus) → AreGiven n stage p text q → of_bus q ≡ of_bus p
+given : (n : ℕ) (stage : Stage) (p : NamedBus) (text : List ℕ) (q : NamedBus) → AreGiven BusStep n stage p text q → of_bus q ≡ of_bus p
 given zero stage p text q h = ap of_bus h.1
 given (suc n) stage p text q (before, mid, last, first, plays, is) = played _ mid q last _ plays ∙ given n stage p before mid first
 
