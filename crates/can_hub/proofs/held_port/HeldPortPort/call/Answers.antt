@@ -9,7 +9,7 @@ use Rattle.can_hub.proofs.held_port.HeldPortPort.call.Goals as goal
 
 pub returns : goal.returns
 returns g c =
-    let now : EnteredSeen = record { number = c.entered.inside.station.now; gauge = c.entered.inside.gauge; pass = c.entered.inside.pass } in
+    let now : EnteredSeen = record { station = c.entered.inside.station.now; gauge = c.entered.inside.gauge; pass = c.entered.inside.pass } in
     let room : ℕ = items_on (slice_get c.port.inside.hub.now now.number) in
     let alike = sym (shared c.args.event room (sym c.if-not-is_shared.false ∙ c.is_shared.ensures)) in
     on_pass g.row.F.Denot c.args.self.now c.port.inside.hub.now c.port.inside.entered now c.call-2.new.pass c.args.event room c.call-2.result c.pass_on.result
