@@ -99,6 +99,6 @@ deb:
 	./scripts/deb
 
 clean:
-	rm -rf crates/*/out
+	rm -rf crates/*/out python/build python/src/canbusd.egg-info
 
 .PHONY: all test quick python-test check dist verify-dist install install-extras uninstall uninstall-extras deb clean

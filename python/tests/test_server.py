@@ -16,7 +16,7 @@ from conftest import WAIT, message, shape
 
 import canbusd
 from canbusd._program import find_program
-from canbusd._run import NUMBERS
+from canbusd._process import NUMBERS
 from canbusd.faults import Faults
 from canbusd.server import Server, ServerError
 

@@ -3,17 +3,18 @@
 import argparse
 import importlib
 import sys
-from typing import Callable, List, Optional
+from collections.abc import Callable
+from typing import Optional
 
 from canbusd import __version__
-from canbusd._command import carry_out
+from canbusd._command import run_command
 
 # Each command is a module, which is imported only where it is called: reports need no python-can.
 COMMANDS = {
     "dump": ("canbusd.commands.dump", "print frames as they come"),
     "send": ("canbusd.commands.send", "send frames"),
     "status": ("canbusd.commands.status", "print the state and the counts of interfaces"),
-    "watch": ("canbusd.watch", "show a running server in the browser"),
+    "watch": ("canbusd.commands.watch", "show a running server in the browser"),
     "report": ("canbusd.commands.report", "show the run of a record as a page, or as text"),
     "replay": ("canbusd.commands.replay", "replay a record, and list what happened in it"),
 }
@@ -28,11 +29,11 @@ def parser_of(name: str) -> argparse.ArgumentParser:
         epilog=getattr(module, "EPILOG", None),
         formatter_class=argparse.RawDescriptionHelpFormatter,
     )
-    module.words(parser)
+    module.add_arguments(parser)
     return parser
 
 
-def main(given: Optional[List[str]] = None) -> None:
+def main(given: Optional[list[str]] = None) -> None:
     """Carries out a command."""
     arguments = sys.argv[1:] if given is None else given
     commands = "\n".join(f"  {name:<8}{help_text}" for name, (_, help_text) in COMMANDS.items())
@@ -47,7 +48,7 @@ def main(given: Optional[List[str]] = None) -> None:
     name = parser.parse_args(arguments[:1]).command
     options = parser_of(name).parse_args(arguments[1:])
     run: Callable[[argparse.Namespace], Optional[int]] = importlib.import_module(COMMANDS[name][0]).run
-    carry_out(lambda: run(options), f"canbusd {name}")
+    run_command(lambda: run(options), f"canbusd {name}")
 
 
 if __name__ == "__main__":

@@ -4,9 +4,10 @@ import json
 import os
 import shutil
 import subprocess
+from collections.abc import Iterator
 from importlib import metadata
 from pathlib import Path
-from typing import Iterator, Optional, Union
+from typing import Optional, Union
 from urllib.parse import urlsplit
 from urllib.request import url2pathname
 

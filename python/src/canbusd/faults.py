@@ -6,9 +6,10 @@ Attempts are counted from 0, and only those in which a frame was tried. An attem
 """
 
 import os
-from typing import Dict, Iterable, List, Optional, Sequence, Union
+from collections.abc import Iterable, Sequence
+from typing import Optional, Union
 
-from canbusd._words import NAME
+from canbusd._text import NAME
 
 MOST = 99999999
 
@@ -19,7 +20,7 @@ class Faults:
     """The lines of a fault script; each method adds the faults of some attempts and returns the script itself."""
 
     def __init__(self) -> None:
-        self._verdicts: Dict[int, str] = {}
+        self._verdicts: dict[int, str] = {}
 
     def good(self, attempts: Attempts) -> "Faults":
         """No fault, as without a line."""
@@ -48,7 +49,7 @@ class Faults:
         return self._add(f"local {kind} {','.join(listed)}", attempts)
 
     def _add(self, verdict: str, attempts: Attempts) -> "Faults":
-        added: Dict[int, str] = {}
+        added: dict[int, str] = {}
         for number in [attempts] if isinstance(attempts, int) else attempts:
             if isinstance(number, bool) or not isinstance(number, int) or not 0 <= number <= MOST:
                 raise ValueError(f"attempts are numbers from 0 to {MOST}, not {number!r}")
@@ -87,7 +88,7 @@ def script_text(script: Optional[Script]) -> str:
         return file.read()
 
 
-def verdicts_of(text: str) -> Dict[int, str]:
+def verdicts_of(text: str) -> dict[int, str]:
     """Returns the verdicts of a script that the program accepts, by the numbers of their attempts."""
-    lines: List[str] = [line for line in text.split("\n") if line and not line.startswith("#")]
+    lines: list[str] = [line for line in text.split("\n") if line and not line.startswith("#")]
     return {int(number): verdict for number, _, verdict in (line.partition(" ") for line in lines)}

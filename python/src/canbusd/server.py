@@ -11,13 +11,15 @@ import re
 import select
 import subprocess
 import time
+from collections.abc import Mapping
 from pathlib import Path
-from typing import TYPE_CHECKING, Any, Dict, List, Mapping, NamedTuple, Optional, Tuple, Union
+from typing import TYPE_CHECKING, Any, NamedTuple, Optional, Union
 
 from canbusd._program import audited
-from canbusd._run import RUNNING, Run, option_words
+from canbusd._process import RUNNING, ProgramRun, option_words
 from canbusd.faults import Script, script_text
-from canbusd.record import Record, read_log, read_record
+from canbusd.log import read_log
+from canbusd.record import Record, read_record
 
 if TYPE_CHECKING:
     from can.message import Message
@@ -39,17 +41,17 @@ class Result(NamedTuple):
     #: The status of the program: 0, or that of a program killed by a signal, below 0, after :meth:`Server.kill`.
     status: int
     #: How many entries the record of each bus has, by the name of its first interface.
-    entries: Dict[str, int]
+    entries: dict[str, int]
 
 
 def bus_words(
-    buses: Tuple[str, ...], faults: Union[Script, Mapping[str, Script], None], folder: Path
-) -> Dict[str, List[str]]:
+    buses: tuple[str, ...], faults: Union[Script, Mapping[str, Script], None], folder: Path
+) -> dict[str, list[str]]:
     """Returns the interfaces of each bus by the first of them, after the fault scripts were written into this folder.
 
     The last word of each list is what the program is given: `can0,can1@FILE`.
     """
-    by_bus: Dict[str, List[str]] = {}
+    by_bus: dict[str, list[str]] = {}
     for bus in buses:
         names = bus.partition("@")[0].split(",")
         if names[0] in by_bus:
@@ -73,7 +75,7 @@ def bus_words(
     return by_bus
 
 
-class Server(Run):
+class Server(ProgramRun):
     """`canbusd serve` with these buses, each the names of its interfaces: ``Server("can0,can1", "car0")``.
 
     The options are those of the program. ``faults`` is a script for the one bus there is (:class:`canbusd.Faults`, a
@@ -147,7 +149,7 @@ class Server(Run):
             self._result = Result(self._ended()[0], {})
         return self._result
 
-    def log(self, name: Optional[str] = None) -> List["Message"]:
+    def log(self, name: Optional[str] = None) -> list["Message"]:
         """Ends the server, and returns the frames that were put on the bus of this interface, oldest first.
 
         The channel of each is the interface that sent it. A frame that was destroyed or not acknowledged is an error
@@ -159,7 +161,7 @@ class Server(Run):
         """Ends the server, and returns the record of the bus of this interface."""
         return read_record(self._file(name, "rec"), self._by_bus[self._first(name)][:-1])
 
-    def audit(self) -> Dict[str, str]:
+    def audit(self) -> dict[str, str]:
         """Ends the server, and returns what `canbusd audit` says of each bus's record: `ok 7 entries` or a fault."""
         return {name: audited(self._file(name, "rec")) for name in self._by_bus}
 
@@ -210,7 +212,7 @@ class Server(Run):
             line += piece
         return line.decode()
 
-    def _ended(self) -> Tuple[int, str]:
+    def _ended(self) -> tuple[int, str]:
         """Waits for the end of the server; its status, and what it wrote."""
         try:
             written, _ = self._child.communicate(timeout=END)

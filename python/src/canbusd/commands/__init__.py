@@ -1,9 +1,9 @@
-"""The commands of `python3 -m canbusd`: each module has `words`, which adds its arguments, and `run`."""
+"""The commands of `python3 -m canbusd`: each module has `add_arguments`, which adds its arguments, and `run`."""
 
 import argparse
 
 
-def address_words(parser: argparse.ArgumentParser) -> None:
+def add_address(parser: argparse.ArgumentParser) -> None:
     """Adds the words that name a server."""
     parser.add_argument(
         "-a",

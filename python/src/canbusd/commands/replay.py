@@ -1,11 +1,10 @@
 """Replays a record by the rules of the bus, and lists its attempts and restarts."""
 
 import argparse
-from typing import Iterator, Sequence
+from collections.abc import Iterator, Sequence
 
-from canbusd._command import record_words, replayed
-from canbusd.record import Attempt
-from canbusd.replay import Run, Step
+from canbusd._command import add_record, replayed
+from canbusd.record import Attempt, Record
 
 EPILOG = """\
 The program is not asked: this is an audit by a second implementation of the rules. The last line is that of
@@ -15,30 +14,31 @@ The program is not asked: this is an audit by a second implementation of the rul
 """
 
 
-def words(parser: argparse.ArgumentParser) -> None:
+def add_arguments(parser: argparse.ArgumentParser) -> None:
     """Adds the words of the command."""
-    record_words(parser)
+    add_record(parser)
     parser.add_argument("--quiet", action="store_true", help="write only the last line")
 
 
 def run(options: argparse.Namespace) -> None:
     """Writes a line for each attempt and restart, and the verdict."""
-    replay, names = replayed(options.record, options.names)
+    record = replayed(options.record, options.names)
     if not options.quiet:
-        for line in lines_of(replay, names):
+        for line in lines_of(record):
             print(line)
-    print(f"ok {len(replay.record.lines)} entries")
+    print(f"ok {len(record.lines)} entries")
 
 
-def lines_of(replay: Run, names: Sequence[str]) -> Iterator[str]:
+def lines_of(record: Record) -> Iterator[str]:
     """Yields a line for each step, with the state of who sent or came back where that changed."""
-    for step in replay.steps:
+    names = record.names
+    for step in record.replay.steps:
         counts = step.counts[step.iface]
         after = f"counts {counts[0]}/{counts[1]}"
         if step.kind == "restart":
             yield f"({step.moment}) {names[step.iface]} restarted, {after}"
         else:
-            yield f"({step.moment}) {names[step.iface]} {step.text} {words_of(replay.attempt_of(step))}, {after}"
+            yield f"({step.moment}) {names[step.iface]} {step.text} {words_of(record.attempt_of(step))}, {after}"
 
 
 def words_of(attempt: Attempt) -> str:

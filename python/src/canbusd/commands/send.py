@@ -7,7 +7,7 @@ import sys
 from can.message import Message
 
 from canbusd.bus import CanbusdBus
-from canbusd.commands import NOTHING, address_words
+from canbusd.commands import NOTHING, add_address
 from canbusd.frames import BadFrame, Frame
 
 EPILOG = """\
@@ -23,14 +23,14 @@ The command ends once the bus has accepted the frames. What becomes of them is i
 """
 
 
-def words(parser: argparse.ArgumentParser) -> None:
+def add_arguments(parser: argparse.ArgumentParser) -> None:
     """Adds the words of the command."""
     parser.add_argument("interface", metavar="INTERFACE", help="an interface of the server")
     parser.add_argument("frames", nargs="+", metavar="FRAME", help="frames to send, in their order")
     parser.add_argument(
         "--timeout", type=float, default=1.0, metavar="S", help="seconds to wait for room in the queue (default 1)"
     )
-    address_words(parser)
+    add_address(parser)
 
 
 def frame_of_word(text: str) -> Frame:

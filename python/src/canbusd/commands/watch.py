@@ -6,14 +6,15 @@ import select
 import threading
 import time
 from collections import deque
+from collections.abc import Iterator, Sequence
 from http import HTTPStatus
 from http.server import BaseHTTPRequestHandler, ThreadingHTTPServer
-from typing import Any, Deque, Dict, Iterator, List, Optional, Sequence, Tuple
+from typing import Any, Optional
 
 from can.exceptions import CanOperationError
 
 from canbusd.bus import CanbusdBus, seconds
-from canbusd.commands import address_words
+from canbusd.commands import add_address
 from canbusd.frames import SENDING, Frame, frame_like
 from canbusd.report import filled
 
@@ -29,11 +30,11 @@ an entry of the record.
 # How much a page gets that is opened later: ticks, and frames.
 MOST_TICKS, MOST_FRAMES = 2400, 4000
 # Seconds in which pages are sent that the server has ended.
-PARTING = 2.0
+CLOSE_TIMEOUT = 2.0
 BUS_ERROR, NOT_ACKNOWLEDGED, END_OF_FRAME, FORM = 0x080, 0x020, 0x1A, 0x02
 
-Json = Dict[str, Any]
-Row = List[Any]
+Json = dict[str, Any]
+Row = list[Any]
 
 
 class Board:
@@ -41,13 +42,13 @@ class Board:
 
     def __init__(self) -> None:
         self._changed = threading.Condition()
-        self._ticks: Deque[Json] = deque(maxlen=MOST_TICKS)
-        self._frames: Deque[Row] = deque(maxlen=MOST_FRAMES)
-        self._last: Tuple[int, Json] = (0, {})
+        self._ticks: deque[Json] = deque(maxlen=MOST_TICKS)
+        self._frames: deque[Row] = deque(maxlen=MOST_FRAMES)
+        self._last: tuple[int, Json] = (0, {})
         self._end: Optional[str] = None
         self._readers = 0
 
-    def add(self, tick: Json, frames: List[Row]) -> None:
+    def add(self, tick: Json, frames: list[Row]) -> None:
         """Adds a tick."""
         with self._changed:
             self._ticks.append(tick)
@@ -60,7 +61,7 @@ class Board:
         with self._changed:
             self._end = reason
             self._changed.notify_all()
-            self._changed.wait_for(lambda: not self._readers, PARTING)
+            self._changed.wait_for(lambda: not self._readers, CLOSE_TIMEOUT)
 
     def news(self) -> Iterator[Json]:
         """Yields what a page gets: first all that is kept, then each tick, at the end why there are no more."""
@@ -160,9 +161,9 @@ class Watcher:
     def __init__(self, names: Sequence[str], address: Optional[str]) -> None:
         self.buses = [CanbusdBus(name, address=address, fd=True) for name in names]
 
-    def tick(self, seconds: float) -> Tuple[Json, List[Row]]:
+    def tick(self, seconds: float) -> tuple[Json, list[Row]]:
         """Collects frames for so long; then how the interfaces are, and the frames."""
-        frames: List[Row] = []
+        frames: list[Row] = []
         faults = [[0, 0, 0] for _ in self.buses]
         deadline = time.monotonic() + seconds
         while True:
@@ -177,7 +178,7 @@ class Watcher:
         missed = sum(one.dropped for one in stats)
         return {"time": time.time(), "ifaces": ifaces, "faults": faults, "missed": missed}, frames
 
-    def take(self, number: int, frames: List[Row], faults: List[int]) -> None:
+    def take(self, number: int, frames: list[Row], faults: list[int]) -> None:
         """Takes what an interface has received: the moment, the frame, the interface, and what an error frame says."""
         for _ in range(MOST_FRAMES):
             message = self.buses[number].recv(0)
@@ -199,7 +200,7 @@ def fault_of(frame: Frame) -> Optional[int]:
     return 0 if frame.data[3] == END_OF_FRAME and frame.data[2] & FORM else 1
 
 
-def words(parser: argparse.ArgumentParser) -> None:
+def add_arguments(parser: argparse.ArgumentParser) -> None:
     """Adds the words of the command."""
     parser.add_argument("interfaces", nargs="+", metavar="INTERFACE", help="an interface of the server")
     parser.add_argument(
@@ -212,7 +213,7 @@ def words(parser: argparse.ArgumentParser) -> None:
         metavar="S",
         help="seconds between two looks at the counts (default 0.25)",
     )
-    address_words(parser)
+    add_address(parser)
 
 
 def run(options: argparse.Namespace) -> None:
@@ -220,7 +221,7 @@ def run(options: argparse.Namespace) -> None:
     interval = seconds("--interval", options.interval)
     if not 0 <= options.port <= 65535:
         raise ValueError(f"--port is a number from 0 to 65535, not {options.port}")
-    names: List[str] = options.interfaces
+    names: list[str] = options.interfaces
     watcher, board = Watcher(names, options.address), Board()
     with opened(options.port, board, names, watcher.buses[0].address) as pages:
         threading.Thread(target=pages.serve_forever, daemon=True).start()
