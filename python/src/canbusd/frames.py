@@ -112,6 +112,16 @@ class Frame:
         return meaning(str(self))
 
 
+def log_line(name: str, frame: Frame) -> str:
+    """Returns the line of a log, as `candump -L` writes it: `(0000000001.000000) can0 123#1122`."""
+    return f"({frame.timestamp:017.6f}) {name} {frame}"
+
+
+def described_line(name: str, frame: Frame) -> str:
+    """Returns the line of a log, in which an error message frame is followed by what it says in words."""
+    return f"{log_line(name, frame)}  {frame.meaning}".rstrip()
+
+
 class MessageLike(Protocol):
     """What a frame and python-can's Message have in common."""
 

@@ -11,7 +11,7 @@ from typing import Any, Optional
 from canbusd._protocol import ALL_CLASSES
 from canbusd.bus import CanbusdBus
 from canbusd.commands import add_address
-from canbusd.frames import ERROR, EXTENDED, INVERTED, Frame, frame_like
+from canbusd.frames import ERROR, EXTENDED, INVERTED, Frame, frame_like, log_line
 
 EPILOG = """\
 An interface is a name, followed by filters as candump has them: ID:MASK, ID~MASK for all others, #MASK for classes of
@@ -38,7 +38,7 @@ class View:
     def lines(self, name: str, frame: Frame) -> list[str]:
         """Returns the lines of a frame."""
         if self.is_log:
-            return [f"({frame.timestamp:017.6f}) {name} {frame}"]
+            return [log_line(name, frame)]
         lines = [f" {self.stamp(frame.timestamp)} {name:>{self.width}}  {self.long(frame)}"]
         if self.explains and frame.is_error_frame:
             lines.append(f"\t{frame.meaning or 'no class that canbusd knows'}")
