@@ -51,7 +51,9 @@ def test_a_state_comes(tmp_path):
 
 
 def test_frames_are_found_in_their_order(observed, can0):
-    can0.send_many([message(0x123, [n]) for n in range(3)] + [message(0x123, extended=True), message(0x18DAF110, extended=True)])
+    can0.send_many(
+        [message(0x123, [n]) for n in range(3)] + [message(0x123, extended=True), message(0x18DAF110, extended=True)]
+    )
     assert observed.expect(id=0x123, within=WAIT).data[0] == 0
     assert observed.expect(0x123, b"\x02", within=WAIT).channel == "can1"
     # The first two are past, and the next of this identifier has 29 bits.

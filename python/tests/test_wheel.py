@@ -59,7 +59,9 @@ def test_what_is_in_the_wheel(wheel):
             entry = opened.getinfo(f"canbusd/program/{file.name}")
             assert opened.read(entry) == file.read_bytes()
             assert entry.external_attr >> 16 & 0o777 == (0o755 if os.access(file, os.X_OK) else 0o644)
-    modules = [f"canbusd/{path.relative_to(PYTHON / 'src' / 'canbusd')}" for path in PYTHON.rglob("src/canbusd/**/*.py")]
+    modules = [
+        f"canbusd/{path.relative_to(PYTHON / 'src' / 'canbusd')}" for path in PYTHON.rglob("src/canbusd/**/*.py")
+    ]
     assert set(modules) == {name for name in names if name.endswith(".py")}
     assert {"canbusd/py.typed", "canbusd/page/page.js"} <= set(names)
 
@@ -130,5 +132,7 @@ def test_a_source_distribution_says_where_the_program_is(environment, tmp_path):
     environment("-m", "pip", "wheel", "--wheel-dir", tmp_path, *words)
     assert (tmp_path / f"canbusd-{canbusd.__version__}-py3-none-any.whl").exists()
     environment("-m", "pip", "install", *words)
-    said = environment("-c", "import canbusd\ntry: canbusd.Server('can0')\nexcept canbusd.ProgramNotFound as e: print(e)")
+    said = environment(
+        "-c", "import canbusd\ntry: canbusd.Server('can0')\nexcept canbusd.ProgramNotFound as e: print(e)"
+    )
     assert "install the wheel" in said.stdout

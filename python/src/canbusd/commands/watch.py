@@ -14,9 +14,10 @@ from typing import Any, Optional
 from can.exceptions import CanOperationError
 
 from canbusd.bus import CanbusdBus, seconds
-from canbusd.commands import add_address
+from canbusd.commands import add_address, add_database, database_of
 from canbusd.frames import SENDING, Frame, frame_like
 from canbusd.report import filled
+from canbusd.signals import Database
 
 EPILOG = """\
 The page is served on 127.0.0.1 only. It shows how many frames each interface sent, their error counts with the limits,
@@ -158,7 +159,8 @@ class Request(BaseHTTPRequestHandler):
 class Watcher:
     """The sessions on the interfaces."""
 
-    def __init__(self, names: Sequence[str], address: Optional[str]) -> None:
+    def __init__(self, names: Sequence[str], address: Optional[str], database: Optional[Database] = None) -> None:
+        self.database = database
         self.buses = [CanbusdBus(name, address=address, fd=True) for name in names]
 
     def tick(self, seconds: float) -> tuple[Json, list[Row]]:
@@ -179,7 +181,7 @@ class Watcher:
         return {"time": time.time(), "ifaces": ifaces, "faults": faults, "missed": missed}, frames
 
     def take(self, number: int, frames: list[Row], faults: list[int]) -> None:
-        """Takes what an interface has received: the moment, the frame, the interface, and what an error frame says."""
+        """Takes what an interface has received: the moment, the frame, the interface, and what the frame says."""
         for _ in range(MOST_FRAMES):
             message = self.buses[number].recv(0)
             if message is None:
@@ -188,7 +190,12 @@ class Watcher:
             kind = fault_of(frame)
             if kind is not None:
                 faults[kind] += 1
-            frames.append([frame.timestamp, str(frame), number, frame.meaning])
+            frames.append([frame.timestamp, str(frame), number, self.meaning(frame)])
+
+    def meaning(self, frame: Frame) -> str:
+        """What an error message frame says, or one that a file knows."""
+        decoded = self.database.decode(frame) if self.database is not None else None
+        return str(decoded) if decoded is not None else frame.meaning
 
 
 def fault_of(frame: Frame) -> Optional[int]:
@@ -213,6 +220,7 @@ def add_arguments(parser: argparse.ArgumentParser) -> None:
         metavar="S",
         help="seconds between two looks at the counts (default 0.25)",
     )
+    add_database(parser)
     add_address(parser)
 
 
@@ -222,7 +230,7 @@ def run(options: argparse.Namespace) -> None:
     if not 0 <= options.port <= 65535:
         raise ValueError(f"--port is a number from 0 to 65535, not {options.port}")
     names: list[str] = options.interfaces
-    watcher, board = Watcher(names, options.address), Board()
+    watcher, board = Watcher(names, options.address, database_of(options)), Board()
     with opened(options.port, board, names, watcher.buses[0].address) as pages:
         threading.Thread(target=pages.serve_forever, daemon=True).start()
         print(f"watching {', '.join(names)} on {pages.url}", flush=True)
