@@ -66,8 +66,27 @@ class Faults:
     def __str__(self) -> str:
         return "".join(f"{number} {verdict}\n" for number, verdict in sorted(self._verdicts.items()))
 
+    def __eq__(self, other: object) -> bool:
+        return isinstance(other, Faults) and self._verdicts == other._verdicts
+
     def __repr__(self) -> str:
-        return f"<{type(self).__name__} of {len(self._verdicts)} attempts>"
+        attempts: dict[str, list[int]] = {}
+        for number, verdict in sorted(self._verdicts.items()):
+            attempts.setdefault(verdict, []).append(number)
+        return "Faults()" + "".join(f".{call_of(verdict, numbers)}" for verdict, numbers in attempts.items())
+
+
+def call_of(verdict: str, numbers: list[int]) -> str:
+    """The call that adds a fault to these attempts, which rise."""
+    kind, *words = verdict.split()
+    first, last = numbers[0], numbers[-1]
+    is_range = len(numbers) > 2 and last - first == len(numbers) - 1
+    attempts = f"range({first}, {last + 1})" if is_range else str(numbers if len(numbers) > 1 else first)
+    if kind == "global":
+        return f"destroyed({attempts})" if words == ["bit"] else f"destroyed({attempts}, {words[0]!r})"
+    if kind == "local":
+        return f"local({words[0]!r}, {words[1].split(',')!r}, {attempts})"
+    return f"{'last_bit' if kind == 'lastbit' else kind}({attempts})"
 
 
 #: What names a fault script: the path of one, its text, or Faults.
