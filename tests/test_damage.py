@@ -14,7 +14,8 @@ import subprocess
 
 import pytest
 
-from canbusd.record import REFUSALS, audit
+from canbusd._record_text import REFUSALS
+from canbusd.record import audit
 from serving import ROOT, WAIT
 
 SEEN = b"0123459AFRfr#= .-:\n\r\t\0x\x7f\x80\xff"

@@ -1,5 +1,6 @@
 """The Python code of the documents: it runs as it is written there."""
 
+import importlib.util
 import re
 import subprocess
 import sys
@@ -35,10 +36,11 @@ def test_the_tests_of_the_documents_need_their_faults(installed, tmp_path):
 
 def test_the_code_of_the_package(installed):
     code = blocks("docs/PYTHON.md")
-    program = "\n".join(["from canbusd import Bench, Faults, Server", *code])
+    runs = [block for block in code if "hypothesis" not in block or importlib.util.find_spec("hypothesis")]
+    program = "\n".join(["from canbusd import Bench, Faults, Server", *runs])
     with Server("can0,can1") as server:
         env = {**installed, "CANBUSD_ADDRESS": server.address}
         done = subprocess.run([sys.executable, "-c", program], env=env, capture_output=True, text=True, check=False)
     assert done.returncode == 0, done.stderr
     assert re.match("Timestamp: .* ID: +0?123 .* 01 02 03 ", done.stdout)
-    assert len(code) == 6
+    assert len(code) == 8

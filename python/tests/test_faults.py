@@ -69,3 +69,14 @@ def test_a_script_is_faults_a_text_or_a_path(tmp_path):
         script_text("no such file")
     with pytest.raises(ValueError, match="faults"):
         script_text(range(32))
+
+
+def test_it_shows_itself_as_code():
+    text = (
+        "Faults().destroyed(range(0, 32)).good(33).last_bit([40, 42]).local('crc', ['can1', 'can2'], 41)"
+        ".destroyed([50, 51], 'form')"
+    )
+    faults = eval(text)
+    assert repr(faults) == text
+    assert repr(Faults()) == "Faults()"
+    assert faults == eval(text) and faults != Faults() and Faults() != 0

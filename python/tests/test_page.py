@@ -146,7 +146,7 @@ def test_sixteen_nodes_of_which_one_sends(opened):
         ]
     names = [f"can{number}" for number in range(16)]
     record = parse_record("\n".join([*lines, f"end {len(lines) - 2}", ""]).encode(), names=names)
-    shown = opened(record.run, names)
+    shown = opened(record.replay, names)
     # There is room for the identifier of a frame, and for the whole of it once fewer are in view.
     written = shown.run(WRITTEN)
     assert written.count("101") == 10 and "101#0102030405060700" not in written

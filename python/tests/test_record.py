@@ -162,5 +162,5 @@ def test_idle_attempts_are_counted():
             session.send(0x123)
             bench.attempt()
         bench.attempt()
-    run = bench.record().run
+    run = bench.record().replay
     assert ([step.idle for step in run.steps], run.idle_since, run.idle) == ([2, 0, 1], 1, 4)

@@ -17,7 +17,7 @@ NAMES = ("can0", "can1")
 def record_of(*entries, bus="2 always 0000 10 10000", version=1):
     """The replay of these entries."""
     text = "\n".join([f"canbus record {version}", f"bus {bus}", *entries, f"end {len(entries)}", ""])
-    return parse_record(text.encode(), names=NAMES).run
+    return parse_record(text.encode(), names=NAMES).replay
 
 
 def bus_off():

@@ -17,7 +17,7 @@ import canbusd
 from canbusd.faults import Faults
 from canbusd.frames import Frame
 from canbusd.server import Server
-from canbusd.watch import MOST_TICKS, Board, fault_of
+from canbusd.commands.watch import MOST_TICKS, Board, fault_of
 
 WAIT = 30
 

@@ -5,13 +5,13 @@ import gc
 import os
 import signal
 import sys
-from typing import Callable, Optional, Sequence, Tuple
+from collections.abc import Callable, Sequence
+from typing import Optional
 
-from canbusd.record import BadRecord, read_record
-from canbusd.replay import Run
+from canbusd.record import BadRecord, Record, read_record
 
 
-def carry_out(work: Callable[[], Optional[int]], name: str) -> None:
+def run_command(work: Callable[[], Optional[int]], name: str) -> None:
     """Calls a command's work, and exits. A fault is reported in one line on standard error, with status 1.
 
     Where the reader of standard output goes, as `head` does, and at Ctrl-C the command ends silently, as others do.
@@ -48,7 +48,7 @@ def is_can_error(fault: Exception) -> bool:
     return can is not None and isinstance(fault, can.CanError)
 
 
-def record_words(parser: argparse.ArgumentParser) -> None:
+def add_record(parser: argparse.ArgumentParser) -> None:
     """Adds the words that name a record and its interfaces."""
     parser.add_argument("record", metavar="RECORD", help="what `canbusd bench --record` or `canbusd serve --out` wrote")
     parser.add_argument(
@@ -59,10 +59,11 @@ def record_words(parser: argparse.ArgumentParser) -> None:
     )
 
 
-def replayed(path: str, names: Optional[str]) -> Tuple[Run, Sequence[str]]:
-    """The replay of the record in this file, and the names of its interfaces."""
+def replayed(path: str, names: Optional[str]) -> Record:
+    """The record in this file, which was replayed."""
     try:
         record = read_record(path, names)
-        return record.run, record.names
+        assert record.replay
+        return record
     except BadRecord as fault:
         raise BadRecord(f"{path}: {fault}") from None

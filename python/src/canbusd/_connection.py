@@ -12,7 +12,8 @@ import socket
 import threading
 import time
 from collections import deque
-from typing import Callable, Deque, List, NoReturn, Optional, Sequence, Tuple, TypeVar
+from collections.abc import Callable, Sequence
+from typing import NoReturn, Optional, TypeVar
 
 from canbusd._protocol import LONGEST_MESSAGE
 from canbusd.frames import MESSAGE
@@ -23,7 +24,9 @@ HOST_PORT = re.compile(r"(?:\[([^][]+)\]|([^][:]+)):([0-9]{1,5})")
 # The most bytes that are read at once.
 PIECE = 65536
 # Seconds that a server is given to end a session.
-PARTING = 1.0
+CLOSE_TIMEOUT = 1.0
+# Seconds between two looks at what a server has no news of, such as a full transmit queue: at first, and at most.
+POLL, LONGEST_POLL = 0.0002, 0.01
 # What no limit of the system's calls is below.
 LONGEST_WAIT = 3600.0
 
@@ -38,7 +41,7 @@ class SessionRefused(Exception):
     """The server refused the session; the text is its own."""
 
 
-def parse_address(text: str) -> Tuple[Optional[str], Optional[Tuple[str, int]]]:
+def parse_address(text: str) -> tuple[Optional[str], Optional[tuple[str, int]]]:
     """Returns the Unix path, or the host and the port, that an address names; ValueError where it names neither."""
     if text.startswith(("/", ".")):
         return text, None
@@ -116,8 +119,8 @@ class Connection:
         self._reading = False
         self._piece = memoryview(bytearray(PIECE))
         self._rest = ""
-        self._frames: Deque[str] = deque()
-        self._answers: List[str] = []
+        self._frames: deque[str] = deque()
+        self._answers: list[str] = []
         # Answers that are waited for: echoes of the question at hand, and of questions that were given up.
         self._wanted = 1
         self._owed = 0
@@ -132,7 +135,7 @@ class Connection:
             self._socket.close()
             raise
 
-    def ask(self, messages: Sequence[str]) -> List[str]:
+    def ask(self, messages: Sequence[str]) -> list[str]:
         """Writes these messages at once, and returns the answer to each; the empty text where it had none."""
         text = "".join(f"< {message} >< echo >" for message in messages)
         with self._asking:
@@ -194,10 +197,10 @@ class Connection:
             self._is_closing = True
         # The end of what it reads ends the session of a server, which then closes the connection. It may be gone, or
         # busy.
-        if self._asking.acquire(timeout=PARTING):
+        if self._asking.acquire(timeout=CLOSE_TIMEOUT):
             try:
                 self._socket.shutdown(socket.SHUT_WR)
-                self._wait(self._never, time.monotonic() + PARTING)
+                self._wait(self._never, time.monotonic() + CLOSE_TIMEOUT)
             except OSError:
                 pass
             finally:
@@ -209,7 +212,7 @@ class Connection:
                 self._socket.shutdown(socket.SHUT_RDWR)
             except OSError:
                 pass
-            self._changed.wait_for(lambda: not self._reading, PARTING)
+            self._changed.wait_for(lambda: not self._reading, CLOSE_TIMEOUT)
             self._socket.close()
             if self._readiness is not None:
                 self._readiness.close()
@@ -238,7 +241,7 @@ class Connection:
     def _never(self) -> None:
         return None
 
-    def _answers_by_question(self) -> List[str]:
+    def _answers_by_question(self) -> list[str]:
         """The answers at hand, each that comes before the echo of its question."""
         answers, last = [], ""
         for answer in self._answers:

@@ -3,12 +3,16 @@
 Frames are in canbusd.frames: `command_of` and `frame_of`. Nothing here needs python-can.
 """
 
-from typing import Any, List, Mapping, NamedTuple, Optional, Sequence, Tuple, Union
+from collections.abc import Mapping, Sequence
+from typing import Any, NamedTuple, Optional, Union
+
+from canbusd.frames import EXTENDED, INVERTED
 
 # What may be between `<` and `>`.
 LONGEST_MESSAGE = 1024
 ALL_CLASSES = 0x1FFFFFFF
-EXTENDED, INVERTED = 0x80000000, 0x20000000
+# The states of an interface, by how bad they are.
+STATES = ("active", "warning", "passive", "off")
 
 Filters = Sequence[Mapping[str, Any]]
 
@@ -68,7 +72,7 @@ def options(
     local_loopback: bool = True,
     error_frames: Union[bool, int] = True,
     join_filters: bool = False,
-) -> List[str]:
+) -> list[str]:
     """Returns the messages that give a new session these options.
 
     `error_frames` is whether error message frames are received, or the mask of their classes; 0 and 1 are truth values.
@@ -86,7 +90,7 @@ def options(
     return messages
 
 
-def filter_words(one: Mapping[str, Any]) -> Tuple[int, int]:
+def filter_words(one: Mapping[str, Any]) -> tuple[int, int]:
     """Returns the identifier word and the mask of a filter of python-can, in the words of linux/can.h.
 
     Where the filter says `extended`, only frames of that kind pass; data and remote frames pass alike.

@@ -2,45 +2,44 @@
 
 import os
 from collections import deque
+from collections.abc import Iterable, Sequence
 from pathlib import Path
-from typing import Iterable, List, Sequence, Tuple
 
+from canbusd._protocol import STATES
 from canbusd.record import Record
-from canbusd.replay import Run
 from canbusd.story import events_of, heading_of
 
-STATES = ("active", "warning", "passive", "off")
 HEADINGS = ("interface", "state", "TEC", "REC", "sent", "done", "waiting", "lost", "refused")
 LAST_LINES = 10
 MOST_EVENTS = 10
 
 #: A line of the table: name, state, transmit and receive error count, and the counts of frames.
-Row = Tuple[object, ...]
+Row = tuple[object, ...]
 
 
-def interfaces(run: Run) -> List[Row]:
+def interfaces(record: Record) -> list[Row]:
     """Returns the rows of the interfaces as they are at the end of a run."""
-    rows: List[Row] = []
-    for name, one in zip(run.record.names, run.ifaces):
+    rows: list[Row] = []
+    for name, one in zip(record.names, record.replay.ifaces):
         counts = (one.sent, one.done, len(one.waiting), one.lost, one.refused)
         rows.append((name, STATES[one.state()], one.tec, one.rec, *counts))
     return rows
 
 
-def story(run: Run, most: int = MOST_EVENTS) -> List[str]:
+def story(record: Record, most: int = MOST_EVENTS) -> list[str]:
     """Returns the run in one line, and its last events."""
-    names = run.record.names
-    events = events_of(run, names)
-    lines = [heading_of(run, names, events)[0]]
+    replay, names = record.replay, record.names
+    events = events_of(replay, names)
+    lines = [heading_of(replay, names, events)[0]]
     if len(events) > most:
         lines.append(f"  .. {len(events) - most} events before")
     for event in events[-most:]:
-        attempt = f"attempt {run.steps[event.step].attempt}" if event.step >= 0 else "start"
+        attempt = f"attempt {replay.steps[event.step].attempt}" if event.step >= 0 else "start"
         lines.append(f"  {attempt}: {event.words}")
     return lines
 
 
-def table(rows: Iterable[Row], headings: Sequence[str] = HEADINGS) -> List[str]:
+def table(rows: Iterable[Row], headings: Sequence[str] = HEADINGS) -> list[str]:
     """Returns the lines of a table: texts at the left, numbers at the right of their columns."""
     cells = [list(headings), *([str(cell) for cell in row] for row in rows)]
     widths = [max(len(row[place]) for row in cells) for place in range(len(headings))]
@@ -53,7 +52,7 @@ def table(rows: Iterable[Row], headings: Sequence[str] = HEADINGS) -> List[str]:
     ]
 
 
-def end_of_log(path: Path) -> List[str]:
+def end_of_log(path: Path) -> list[str]:
     """Returns the last lines of a log, after its path."""
     try:
         with open(path, encoding="ascii", errors="replace") as file:
@@ -68,5 +67,5 @@ def write_page(record: Record, path: "os.PathLike[str]") -> Path:
     from canbusd.report import page
 
     target = Path(path)
-    target.write_text(page(record.run, record.names, target.with_suffix(".rec").name, 1000000), encoding="utf-8")
+    target.write_text(page(record.replay, record.names, target.with_suffix(".rec").name, 1000000), encoding="utf-8")
     return target

@@ -13,25 +13,27 @@ Nothing happens on the bus but in `attempt`. python-can is not needed.
 import os
 import re
 import select
+from collections.abc import Sequence
 from pathlib import Path
-from typing import TYPE_CHECKING, Dict, List, Optional, Sequence, Tuple, Union
+from typing import TYPE_CHECKING, Optional, Union
 
 from canbusd._program import audited
 from canbusd._protocol import ErrorCounters, Filters, Stats, counters_of, filter_message, options, stats_of
-from canbusd._run import RUNNING, Run, option_words
+from canbusd._process import RUNNING, ProgramRun, option_words
 from canbusd._summary import write_page
 from canbusd.faults import Script, script_text, verdicts_of
 from canbusd.frames import Frame, MessageLike, command_of, frame_of, frame_like
-from canbusd.record import Attempt, Record, read_log, read_record
+from canbusd.log import read_log
+from canbusd.record import Attempt, Record, read_record
 
 if TYPE_CHECKING:
     from can.message import Message
 
 #: Seconds after which a bench that says nothing is given up.
-PATIENCE = 30.0
+TIMEOUT = 30.0
 MOST_SESSIONS = 64
 MESSAGES = re.compile(r"< (.*?) >")
-MOMENT = re.compile(r"[0-9]{1,10}\.[0-9]{6}")
+AT = re.compile(r"[0-9]{1,10}\.[0-9]{6}")
 TRIED = re.compile(
     r"(?:idle|tried (?P<winner>\S+) (?P<number>\d+) (?P<outcome>\w+) (?P<accepted>\S+) (?P<off>\S+))"
     r"(?: restarted (?P<restarted>\S+))?"
@@ -49,12 +51,12 @@ class Refused(RuntimeError):
 def moment_text(at: Union[str, float]) -> str:
     """Returns a moment as the bench reads it: seconds with six digits after the point."""
     text = at if isinstance(at, str) else f"{at:.6f}"
-    if not MOMENT.fullmatch(text):
+    if not AT.fullmatch(text):
         raise ValueError(f"at is a number of seconds from 0 to 9999999999.999999, not {at!r}")
     return text
 
 
-def set_of(names: Optional[str]) -> Tuple[str, ...]:
+def set_of(names: Optional[str]) -> tuple[str, ...]:
     """The interfaces that the bench names; `-` is none."""
     return tuple(names.split(",")) if names and names != "-" else ()
 
@@ -95,7 +97,7 @@ class Session:
         self.call(command_of(sent))
         self._bench._accepted(self.channel, sent)
 
-    def receive(self) -> List[Frame]:
+    def receive(self) -> list[Frame]:
         """Takes what the socket has received, oldest first; error message frames too, if they were asked for."""
         frames = (frame_of(message) for message in self._bench._ask(f"drain {self._live()}", self._number))
         return [frame for frame in frames if frame is not None]
@@ -124,13 +126,13 @@ class Session:
         self._bench._set_moment(at)
         self.call("restart")
 
-    def call(self, message: str) -> List[str]:
+    def call(self, message: str) -> list[str]:
         """Feeds a message of the protocol, such as `recvown 1`, and returns the answers to it; a refusal is raised."""
         if re.search(r"[<>\n]|^\s*close\b", message):
             raise ValueError(f"message is one message without < and >, and not close: {message!r}")
         return self._bench._ask(f"feed {self._live()} < {message} >", self._number)
 
-    def close(self) -> Tuple[int, int]:
+    def close(self) -> tuple[int, int]:
         """Closes the socket; returns how many frames it had not read, and how many it dropped."""
         number = self._live()
         self._closed = True
@@ -143,7 +145,7 @@ class Session:
         return self._number
 
 
-class Bench(Run):
+class Bench(ProgramRun):
     """A bus with these interfaces, as `"can0,can1"` or a list, and the options of `canbusd bench`.
 
     `faults` is a script: Faults, a path, or a text. `out` is a folder for the log and the record, which are written at
@@ -171,7 +173,7 @@ class Bench(Run):
         script = script_text(faults)
         self._verdicts = verdicts_of(script)
         self._attempts = self._sessions = 0
-        self._sent: Dict[str, List[Frame]] = {name: [] for name in self.names}
+        self._sent: dict[str, list[Frame]] = {name: [] for name in self.names}
         self._moment = "0.000000"
         self._rest = b""
         words += ["--record", str(self._path("rec")), "--log", str(self._path("log")), "--"]
@@ -245,9 +247,9 @@ class Bench(Run):
             restarted,
         )
 
-    def run(self, most: int = 100_000) -> List[Attempt]:
+    def run(self, most: int = 100_000) -> list[Attempt]:
         """Makes attempts until none has a frame, and returns them; RuntimeError if after `most` frames still wait."""
-        attempts: List[Attempt] = []
+        attempts: list[Attempt] = []
         for _ in range(most):
             attempt = self.attempt()
             if attempt is None:
@@ -269,7 +271,7 @@ class Bench(Run):
         self.stop()
         return read_record(self._path("rec"), self.names)
 
-    def log(self) -> "List[Message]":
+    def log(self) -> "list[Message]":
         """Ends the run and returns what was on the bus, as messages of python-can; what failed is an error frame."""
         self.stop()
         return read_log(self._path("log"))
@@ -300,10 +302,10 @@ class Bench(Run):
             self._moment = moment_text(at)
             self._write(f"at {self._moment}\n")
 
-    def _ask(self, line: str, session: int) -> List[str]:
+    def _ask(self, line: str, session: int) -> list[str]:
         """Carries out a line, and returns what the session writes; a refusal is raised."""
         self._write(f"{line}\nfeed {session} < echo >\n")
-        messages: List[str] = []
+        messages: list[str] = []
         while not messages or messages[-1] != "echo":
             messages += MESSAGES.findall(self._line())
         for message in messages:
@@ -335,9 +337,9 @@ class Bench(Run):
         """Reads what the bench wrote; False at its end."""
         assert self._child.stdout is not None
         output = self._child.stdout.fileno()
-        if not select.select([output], [], [], PATIENCE)[0]:
+        if not select.select([output], [], [], TIMEOUT)[0]:
             self._signal()
-            self._finish(f"the bench said nothing for {PATIENCE:.0f} seconds")
+            self._finish(f"the bench said nothing for {TIMEOUT:.0f} seconds")
         piece = os.read(output, 65536)
         self._rest += piece
         return bool(piece)
@@ -345,7 +347,7 @@ class Bench(Run):
     def _finish(self, fault: str = "") -> None:
         """Waits for the end of the program, and raises this fault, or what the program said if it ended with one."""
         self._close_input()
-        status = self._child.wait(PATIENCE)
+        status = self._child.wait(TIMEOUT)
         assert self._child.stdout is not None
         self._child.stdout.close()
         RUNNING.discard(self)

@@ -10,7 +10,8 @@ import logging
 import os
 import threading
 import time
-from typing import Any, Iterable, List, Mapping, Optional, Sequence, Tuple, TypeVar, Union, cast
+from collections.abc import Iterable, Mapping, Sequence
+from typing import Any, Optional, TypeVar, Union, cast
 
 import can
 from can.broadcastmanager import CyclicSendTaskABC, ThreadBasedCyclicSendTask
@@ -18,10 +19,16 @@ from can.bus import BusABC, BusState
 from can.exceptions import CanInitializationError, CanOperationError, CanTimeoutError
 from can.message import Message
 
-from canbusd._connection import DEFAULT_ADDRESS, Connection, NoAnswer, SessionRefused, parse_address
+from canbusd._connection import (
+    DEFAULT_ADDRESS,
+    LONGEST_POLL,
+    POLL,
+    Connection,
+    NoAnswer,
+    SessionRefused,
+    parse_address,
+)
 from canbusd._protocol import (
-    EXTENDED,
-    INVERTED,
     ErrorCounters,
     Filters,
     Stats,
@@ -31,8 +38,8 @@ from canbusd._protocol import (
     options,
     stats_of,
 )
-from canbusd._words import NAME
-from canbusd.frames import REMOTE, command_of, received
+from canbusd._text import NAME
+from canbusd.frames import EXTENDED, REMOTE, command_of, passes_filters, received
 
 Self = TypeVar("Self", bound="CanbusdBus")
 
@@ -40,7 +47,7 @@ LOG = logging.getLogger("can.canbusd")
 NO_BUFFERS, BUS_OFF, NOT_BUS_OFF = "no buffers", "bus off", "not bus off"
 # What the system's own CAN sockets report.
 ERROR_CODES = {NO_BUFFERS: errno.ENOBUFS, BUS_OFF: errno.ENETDOWN}
-STATES = {
+BUS_STATES = {
     "active": BusState.ACTIVE,
     "warning": BusState.ACTIVE,
     "passive": BusState.PASSIVE,
@@ -49,8 +56,6 @@ STATES = {
 TRUTHS = {"1": True, "true": True, "yes": True, "on": True, "0": False, "false": False, "no": False, "off": False}
 # What an address is where nobody listens: of TCP, and a Unix path that is not there.
 NO_SERVER = (ConnectionRefusedError, FileNotFoundError)
-# Seconds between two looks at a full transmit queue: at first, and at most.
-LOOK, LONGEST_LOOK = 0.0002, 0.01
 
 
 def truth(name: str, value: object) -> bool:
@@ -160,7 +165,7 @@ class CanbusdBus(BusABC):
         if protocols is not None:
             self._can_protocol = protocols.CAN_FD if self._fd else protocols.CAN_20
         self._make = functools.partial(Message, channel=self.channel)
-        self._pairs: List[Tuple[int, int]] = []
+        self._pairs: list[tuple[int, int]] = []
         self._filters_here = False
         self._unfiltered = 0
         self._warned_of_flags = False
@@ -246,7 +251,7 @@ class CanbusdBus(BusABC):
 
         Setting ACTIVE brings it back from bus off; no other state can be set.
         """
-        return STATES[self.error_counters().state]
+        return BUS_STATES[self.error_counters().state]
 
     @state.setter
     def state(self, new_state: BusState) -> None:
@@ -293,7 +298,7 @@ class CanbusdBus(BusABC):
         super().shutdown()
         self._connection.close()
 
-    def _recv_internal(self, timeout: Optional[float]) -> Tuple[Optional[Message], bool]:
+    def _recv_internal(self, timeout: Optional[float]) -> tuple[Optional[Message], bool]:
         deadline = None if timeout is None else time.monotonic() + timeout
         while True:
             message = self._next(timeout)
@@ -338,8 +343,7 @@ class CanbusdBus(BusABC):
             return True
         word = message.arbitration_id
         word |= EXTENDED * message.is_extended_id | REMOTE * message.is_remote_frame
-        matches = ((word & mask == wanted & mask) != bool(wanted & INVERTED) for wanted, mask in self._pairs)
-        return all(matches) if self._join else any(matches)
+        return passes_filters(word, self._pairs, self._join)
 
     def _command(self, msg: Message) -> str:
         """The command that sends this message; ValueError where none does."""
@@ -367,7 +371,7 @@ class CanbusdBus(BusABC):
             raise CanInitializationError(f"{self.channel_info}: {reason}{hint}") from None
         return connection
 
-    def _calls(self, commands: Sequence[str]) -> List[str]:
+    def _calls(self, commands: Sequence[str]) -> list[str]:
         """Gives these commands, and returns the answer to each: the text of a refusal, and nothing for `ok`."""
         try:
             answers = self._connection.ask(commands)
@@ -391,12 +395,12 @@ class CanbusdBus(BusABC):
 
         A refused send is an entry of the record; looking at the counts is none.
         """
-        look = LOOK
+        pause = POLL
         while True:
             now = self.stats()
             if time.monotonic() >= deadline:
                 raise CanTimeoutError(f"{NO_BUFFERS}{after}: the transmit queue stayed full", errno.ENOBUFS)
             if before is None or now.done + now.lost != before.done + before.lost:
                 return now
-            time.sleep(min(look, max(0.0, deadline - time.monotonic())))
-            look = min(2 * look, LONGEST_LOOK)
+            time.sleep(min(pause, max(0.0, deadline - time.monotonic())))
+            pause = min(2 * pause, LONGEST_POLL)

@@ -1,8 +1,9 @@
 """Draws what happened in a record as plain text of at most 120 columns: error counters, and arbitration bit by bit."""
 
-from typing import Iterator, List, Sequence, Tuple
+from collections.abc import Iterator, Sequence
 
-from canbusd.replay import OFF, PASSIVE, WARNING, Run, Spelled, Step
+from canbusd.record import Record
+from canbusd.replay import OFF, PASSIVE, WARNING, WireFrame, Step
 
 # With what is at the left and the right of them, 120 columns.
 MOST_COLUMNS = 96
@@ -10,14 +11,15 @@ HEIGHT = 16
 LIMITS = [(OFF, "bus off"), (PASSIVE, "error passive"), (WARNING, "error warning")]
 
 
-def counters(run: Run, first: int, last: int) -> Iterator[str]:
+def counters(record: Record, first: int, last: int) -> Iterator[str]:
     """Yields the lines that draw both error counters of each interface, over the attempts from `first` to `last`."""
+    run = record.replay
     steps = [step for step in run.steps if first <= step.attempt <= last]
     before = run.steps.index(steps[0]) if steps else 0
     rows = [run.steps[before - 1].counts if before else [(0, 0)] * len(run.ifaces), *(step.counts for step in steps)]
     each = -(-len(rows) // MOST_COLUMNS)
     shared = f"; a column is the highest of {each}" if each > 1 else ""
-    for number, name in enumerate(run.record.names):
+    for number, name in enumerate(record.names):
         columns = [
             (max(row[number][0] for row in rows[k : k + each]), max(row[number][1] for row in rows[k : k + each]))
             for k in range(0, len(rows), each)
@@ -30,7 +32,7 @@ def counters(run: Run, first: int, last: int) -> Iterator[str]:
         yield "     +" + "-" * len(columns)
 
 
-def row_of(columns: List[Tuple[int, int]], floor: int, scale: int) -> str:
+def row_of(columns: list[tuple[int, int]], floor: int, scale: int) -> str:
     """One row of a drawing: the counts from `floor` on, and the limit that is in it."""
     least = max(floor, 1)
     cells = "".join("#" if transmit >= least else "o" if receive >= least else " " for transmit, receive in columns)
@@ -38,10 +40,10 @@ def row_of(columns: List[Tuple[int, int]], floor: int, scale: int) -> str:
     return f"{floor:4} |{cells}{limit}".rstrip()
 
 
-def arbitration(run: Run, first: int, last: int) -> Iterator[str]:
+def arbitration(record: Record, first: int, last: int) -> Iterator[str]:
     """Yields the lines that draw the bits of each attempt in which more than one interface took part."""
-    names = run.record.names
-    for step in run.steps:
+    names = record.names
+    for step in record.replay.steps:
         if len(step.contenders) > 1 and first <= step.attempt <= last:
             yield f"attempt {step.attempt}: {names[step.iface]} wins with {step.text}, {step.kind}"
             yield from contenders_of(step, names)
@@ -50,7 +52,7 @@ def arbitration(run: Run, first: int, last: int) -> Iterator[str]:
 def contenders_of(step: Step, names: Sequence[str]) -> Iterator[str]:
     """The bits of each interface that took part, up to where it lost."""
     width = max(map(len, names))
-    best: Spelled = dict(step.contenders)[step.iface]
+    best: WireFrame = dict(step.contenders)[step.iface]
     for number, frame in step.contenders:
         lost = next((k for k, (one, other) in enumerate(zip(frame.bits, best.bits)) if one != other), None)
         if number == step.iface:

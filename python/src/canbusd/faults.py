@@ -6,9 +6,10 @@ Attempts are counted from 0, and only those in which a frame was tried. An attem
 """
 
 import os
-from typing import Dict, Iterable, List, Optional, Sequence, Union
+from collections.abc import Iterable, Sequence
+from typing import Optional, Union
 
-from canbusd._words import NAME
+from canbusd._text import NAME
 
 MOST = 99999999
 
@@ -19,7 +20,7 @@ class Faults:
     """The lines of a fault script; each method adds the faults of some attempts and returns the script itself."""
 
     def __init__(self) -> None:
-        self._verdicts: Dict[int, str] = {}
+        self._verdicts: dict[int, str] = {}
 
     def good(self, attempts: Attempts) -> "Faults":
         """No fault, as without a line."""
@@ -48,7 +49,7 @@ class Faults:
         return self._add(f"local {kind} {','.join(listed)}", attempts)
 
     def _add(self, verdict: str, attempts: Attempts) -> "Faults":
-        added: Dict[int, str] = {}
+        added: dict[int, str] = {}
         for number in [attempts] if isinstance(attempts, int) else attempts:
             if isinstance(number, bool) or not isinstance(number, int) or not 0 <= number <= MOST:
                 raise ValueError(f"attempts are numbers from 0 to {MOST}, not {number!r}")
@@ -65,8 +66,27 @@ class Faults:
     def __str__(self) -> str:
         return "".join(f"{number} {verdict}\n" for number, verdict in sorted(self._verdicts.items()))
 
+    def __eq__(self, other: object) -> bool:
+        return isinstance(other, Faults) and self._verdicts == other._verdicts
+
     def __repr__(self) -> str:
-        return f"<{type(self).__name__} of {len(self._verdicts)} attempts>"
+        attempts: dict[str, list[int]] = {}
+        for number, verdict in sorted(self._verdicts.items()):
+            attempts.setdefault(verdict, []).append(number)
+        return "Faults()" + "".join(f".{call_of(verdict, numbers)}" for verdict, numbers in attempts.items())
+
+
+def call_of(verdict: str, numbers: list[int]) -> str:
+    """The call that adds a fault to these attempts, which rise."""
+    kind, *words = verdict.split()
+    first, last = numbers[0], numbers[-1]
+    is_range = len(numbers) > 2 and last - first == len(numbers) - 1
+    attempts = f"range({first}, {last + 1})" if is_range else str(numbers if len(numbers) > 1 else first)
+    if kind == "global":
+        return f"destroyed({attempts})" if words == ["bit"] else f"destroyed({attempts}, {words[0]!r})"
+    if kind == "local":
+        return f"local({words[0]!r}, {words[1].split(',')!r}, {attempts})"
+    return f"{'last_bit' if kind == 'lastbit' else kind}({attempts})"
 
 
 #: What names a fault script: the path of one, its text, or Faults.
@@ -87,7 +107,7 @@ def script_text(script: Optional[Script]) -> str:
         return file.read()
 
 
-def verdicts_of(text: str) -> Dict[int, str]:
+def verdicts_of(text: str) -> dict[int, str]:
     """Returns the verdicts of a script that the program accepts, by the numbers of their attempts."""
-    lines: List[str] = [line for line in text.split("\n") if line and not line.startswith("#")]
+    lines: list[str] = [line for line in text.split("\n") if line and not line.startswith("#")]
     return {int(number): verdict for number, _, verdict in (line.partition(" ") for line in lines)}

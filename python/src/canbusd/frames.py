@@ -1,14 +1,20 @@
 """Frames: their fields, candump's spelling of them, and error message frames in words."""
 
 import re
+from collections.abc import Callable, Sequence
 from dataclasses import dataclass, field
-from typing import Callable, List, Optional, Protocol, Sequence, TypeVar, Union
+from typing import TYPE_CHECKING, Optional, Protocol, TypeVar, Union
+
+if TYPE_CHECKING:
+    from can.message import Message
 
 EXTENDED, REMOTE, ERROR = 0x80000000, 0x40000000, 0x20000000
+# The same bit in the identifier word of a filter.
+INVERTED = 0x20000000
 # What a class of an error message frame says (linux/can/error.h), as far as a bus of canbusd makes it.
 CLASSES = [(0x040, "bus off"), (0x100, "restarted"), (0x080, "bus error"), (0x020, "no acknowledgement")]
 # The states in byte 1, with class 004.
-STATES = [(0x40, "error active"), (0x0C, "error warning"), (0x30, "error passive")]
+STATE_BITS = [(0x40, "error active"), (0x0C, "error warning"), (0x30, "error passive")]
 # The kinds of bus errors in byte 2, and their places in byte 3.
 FAULTS = [(0x01, "bit error"), (0x02, "form error"), (0x04, "stuff error")]
 SENDING = 0x80
@@ -107,6 +113,22 @@ class Frame:
     def meaning(self) -> str:
         """What an error message frame says, in words; the empty text for another frame."""
         return meaning(str(self))
+
+    def message(self, channel: Optional[str] = None) -> "Message":
+        """Returns the message of python-can, such as a bus sends."""
+        from can.message import Message
+
+        return Message(channel=channel, **vars(self))
+
+
+def log_line(name: str, frame: Frame) -> str:
+    """Returns the line of a log, as `candump -L` writes it: `(0000000001.000000) can0 123#1122`."""
+    return f"({frame.timestamp:017.6f}) {name} {frame}"
+
+
+def described_line(name: str, frame: Frame) -> str:
+    """Returns the line of a log, in which an error message frame is followed by what it says in words."""
+    return f"{log_line(name, frame)}  {frame.meaning}".rstrip()
 
 
 class MessageLike(Protocol):
@@ -235,13 +257,13 @@ def meaning(text: str) -> str:
     if number & 0x080:
         words += fault_words(data)
     if number & 0x004:
-        words += [name for bits, name in STATES if data[1] & bits]
+        words += [name for bits, name in STATE_BITS if data[1] & bits]
     if number & 0x200:
         words.append(f"transmit count {data[6]}, receive count {data[7]}")
     return ", ".join(words)
 
 
-def fault_words(data: bytes) -> List[str]:
+def fault_words(data: bytes) -> list[str]:
     """The kind and the place of a bus error."""
     words = [name for bit, name in FAULTS if data[2] & bit]
     if data[2] & SENDING:
@@ -249,3 +271,12 @@ def fault_words(data: bytes) -> List[str]:
     if data[3] in PLACES:
         words.append(f"in the {PLACES[data[3]]}")
     return [" ".join(words)] if words else []
+
+
+def passes_filters(word: int, filters: Sequence[tuple[int, int]], join: bool) -> bool:
+    """Whether a frame with this identifier word passes filters, as pairs of identifier word and mask (linux/can/raw.h).
+
+    It has to match one of them, with `join` all. Without any, nothing passes.
+    """
+    matches = [((word ^ identifier) & mask == 0) != bool(identifier & INVERTED) for identifier, mask in filters]
+    return bool(matches) and (all(matches) if join else any(matches))

@@ -9,8 +9,9 @@
 import os
 import re
 import shutil
+from collections.abc import Iterator
 from pathlib import Path
-from typing import TYPE_CHECKING, Any, Dict, Iterator, List, Protocol, Tuple, Union
+from typing import TYPE_CHECKING, Any, Protocol, Union
 
 import pytest
 
@@ -80,9 +81,9 @@ class Runs:
         self._keep = str(request.config.getoption("--canbusd-keep"))
         name = re.sub(r"\W+", "-", self._item.name)[:40]
         self._folder = factory.mktemp(f"canbusd-{name}")
-        self._runs: List[Union["Server", Bench]] = []
+        self._runs: list[Union["Server", Bench]] = []
         #: By the path of each record its run, and the names of its interfaces.
-        self._records: Dict[Path, Tuple[Union["Server", Bench], List[str]]] = {}
+        self._records: dict[Path, tuple[Union["Server", Bench], list[str]]] = {}
 
     def server(self, *buses: str, **options: Any) -> "Server":
         """Starts a server whose logs and records are in a folder of the test."""
@@ -100,13 +101,13 @@ class Runs:
         self._add(bench, out, [list(bench.names)])
         return bench
 
-    def _folder_of(self, options: Dict[str, Any]) -> Path:
+    def _folder_of(self, options: dict[str, Any]) -> Path:
         if options.get("out") is None:
             options["out"] = self._folder / str(len(self._runs))
             options["out"].mkdir()
         return Path(options["out"])
 
-    def _add(self, run: Union["Server", Bench], out: Path, buses: List[List[str]]) -> None:
+    def _add(self, run: Union["Server", Bench], out: Path, buses: list[list[str]]) -> None:
         self._runs.append(run)
         for names in buses:
             self._records[out / f"{names[0]}.rec"] = run, names
@@ -149,13 +150,13 @@ class Runs:
             if not re.fullmatch(r"ok \d+ entries", said):
                 yield f"the record {path}: {said}"
 
-    def _section(self, path: Path, names: List[str]) -> str:
+    def _section(self, path: Path, names: list[str]) -> str:
         """What a failed test shows of a bus: the end of its log, states and counts, and the path of the page."""
         lines = _summary.end_of_log(path.with_suffix(".log"))
         try:
             record = read_record(path, names)
-            lines[:0] = _summary.story(record.run)
-            lines += _summary.table(_summary.interfaces(record.run))
+            lines[:0] = _summary.story(record)
+            lines += _summary.table(_summary.interfaces(record))
             if self._keep != "none":
                 page = _summary.write_page(record, path.with_suffix(".html"))
                 lines.append(f"page: {page}")
@@ -171,7 +172,7 @@ def _canbusd_runs(request: pytest.FixtureRequest, tmp_path_factory: pytest.TempP
     runs.end()
 
 
-def marked(request: pytest.FixtureRequest) -> Tuple[Tuple[str, ...], Dict[str, Any]]:
+def marked(request: pytest.FixtureRequest) -> tuple[tuple[str, ...], dict[str, Any]]:
     """The buses and the options of the test's marker."""
     marker = request.node.get_closest_marker("canbusd")
     if marker is None:

@@ -1,15 +1,17 @@
 """Replays the events of a record by the rules of docs/DEFINITIONS.md, and keeps what happened.
 
-The program is not asked, and nothing of it is used: each reply in the record is compared with the one that the rules
-give. So a replay that comes to its end is an audit of the record by a second implementation.
+This is the independent oracle: a second implementation of the rules, to which the tests hold the proved program. The
+program is not asked, and nothing of it is used: each reply in the record is compared with the one that the rules give,
+so a replay that comes to its end is an audit. What only shows a run, such as names and attempts, is in canbusd.record.
 """
 
 from collections import deque
+from collections.abc import Sequence
 from dataclasses import dataclass
-from typing import Deque, Dict, List, Optional, Sequence, Set, Tuple
+from typing import Optional
 
-from canbusd.frames import EXTENDED, REMOTE, Frame, error_frame, is_fd
-from canbusd.record import Attempt, BadRecord, Item, Record
+from canbusd._record_text import BadRecord, RecordText
+from canbusd.frames import EXTENDED, REMOTE, error_frame, is_fd, passes_filters
 
 OFF, PASSIVE, WARNING = 256, 128, 96
 MOST_SOCKETS = 64
@@ -20,7 +22,7 @@ AT_THE_HIT = {"stuff": (0x04, 0x0A), "crc": (0x00, 0x08), "form": (0x02, 0x1B)}
 # A change of state's byte 1, by the severity of a side: active, warning, passive.
 TRANSMIT_CODES, RECEIVE_CODES = (0x40, 0x08, 0x20), (0x40, 0x04, 0x10)
 
-Counts = Tuple[int, int]
+Counts = tuple[int, int]
 
 
 def severity(count: int) -> int:
@@ -28,7 +30,7 @@ def severity(count: int) -> int:
     return (count >= WARNING) + (count >= PASSIVE) + (count >= OFF)
 
 
-class Spelled:
+class WireFrame:
     """A data, remote or FD frame as the record spells it, with what arbitration and filters look at."""
 
     __slots__ = ("text", "word", "bits", "is_fd")
@@ -78,18 +80,14 @@ class Socket:
         self.closed_after: Optional[int] = None
         self.filters = [(0, 0)]
         self.options = {"loopback": 1, "recvown": 0, "join": 0, "errmask": 0, "fd": 0}
-        self.queue: Deque[Delivery] = deque()
+        self.queue: deque[Delivery] = deque()
         self.queued = self.dropped = self.taken = 0
 
-    def passes(self, frame: Spelled) -> bool:
+    def passes(self, frame: WireFrame) -> bool:
         """Whether a frame passes the filters, and an FD frame the option for such."""
         if frame.is_fd and not self.options["fd"]:
             return False
-        matches = [
-            ((frame.word ^ identifier) & mask == 0) != bool(identifier & 0x20000000)
-            for identifier, mask in self.filters
-        ]
-        return bool(matches) and (all(matches) if self.options["join"] else any(matches))
+        return passes_filters(frame.word, self.filters, bool(self.options["join"]))
 
     def put(self, item: Delivery) -> None:
         """Queues an item, or drops it where there is no room."""
@@ -101,12 +99,12 @@ class Socket:
             self.queued += 1
 
 
-class Sent:
+class Pending:
     """A frame in a transmit queue."""
 
     __slots__ = ("number", "frame", "socket", "loops_back")
 
-    def __init__(self, number: int, frame: Spelled, socket: Socket, loops_back: int) -> None:
+    def __init__(self, number: int, frame: WireFrame, socket: Socket, loops_back: int) -> None:
         self.number, self.frame, self.socket, self.loops_back = number, frame, socket, loops_back
 
 
@@ -115,7 +113,7 @@ class Interface:
 
     def __init__(self) -> None:
         self.tec = self.rec = 0
-        self.waiting: Deque[Sent] = deque()
+        self.waiting: deque[Pending] = deque()
         self.sent = self.done = self.lost = self.refused = 0
         # How many attempts there were since it went bus off; None where it is not off.
         self.attempts_off: Optional[int] = None
@@ -181,30 +179,31 @@ class Step:
     number: int
     text: str
     verdict: str
-    accepted: List[int]
-    off: List[int]
-    hit: List[int]
+    accepted: Sequence[int]
+    off: Sequence[int]
+    hit: Sequence[int]
     #: The frame of each interface that takes part.
-    contenders: List[Tuple[int, Spelled]]
+    contenders: list[tuple[int, WireFrame]]
     #: After the step: transmit and receive count of each interface.
-    counts: List[Counts]
+    counts: list[Counts]
     #: Before the step: how many frames wait at each interface.
-    waiting: List[int]
+    waiting: list[int]
     #: How many attempts were idle since the step before. One that restarts interfaces counts for the first of them.
     idle: int
 
 
-class Run:
+class Replay:
     """The replay of a record: its steps, its items, and its interfaces and sockets as they are in the end."""
 
-    def __init__(self, record: Record) -> None:
+    def __init__(self, record: RecordText) -> None:
         self.record = record
         self.ifaces = [Interface() for _ in range(record.ifaces)]
-        self.sockets: List[Socket] = []
-        self.steps: List[Step] = []
-        self.items: List[Delivery] = []
-        self.open_sockets: List[List[Socket]] = [[] for _ in self.ifaces]
-        self.frames: Dict[str, Spelled] = {}
+        self.sockets: list[Socket] = []
+        self.steps: list[Step] = []
+        self.items: list[Delivery] = []
+        self.open_sockets: list[list[Socket]] = [[] for _ in self.ifaces]
+        self.frames: dict[str, WireFrame] = {}
+        self.counts: list[Counts] = [(0, 0)] * record.ifaces
         self.attempts = self.idle = 0
         # How many attempts were idle since the last step.
         self.idle_since = 0
@@ -212,20 +211,21 @@ class Run:
         for number, (event, reply) in enumerate(record.entries()):
             if number >= record.limit:
                 raise wrong(number, f"past the limit of {record.limit} entries")
-            legal: List[str] = getattr(self, "on_" + event[0])(number, *event[1:])
+            legal: list[str] = getattr(self, "on_" + event[0])(number, *event[1:])
             if legal != reply:
                 raise wrong(number, f"wrong: `{' '.join(reply)}`; legal is `{' '.join(legal)}`")
 
-    def frame(self, text: str) -> Spelled:
+    def frame(self, text: str) -> WireFrame:
         """The frame of this text, one for all places where it is."""
         if text not in self.frames:
-            self.frames[text] = Spelled(text)
+            self.frames[text] = WireFrame(text)
         return self.frames[text]
 
     def open_socket(self, number: str) -> Optional[Socket]:
         """The socket of this number, if it is open."""
-        if int(number) < len(self.sockets):
-            socket = self.sockets[int(number)]
+        place = int(number)
+        if place < len(self.sockets):
+            socket = self.sockets[place]
             return socket if socket.closed_after is None else None
         return None
 
@@ -235,7 +235,7 @@ class Run:
 
     # Calls of sockets: each returns the words of its reply.
 
-    def on_open(self, _entry: int, iface: str, capacity: str) -> List[str]:
+    def on_open(self, _entry: int, iface: str, capacity: str) -> list[str]:
         """A socket is opened."""
         if int(iface) >= len(self.ifaces):
             return ["no-interface"]
@@ -248,7 +248,7 @@ class Run:
         self.open_sockets[int(iface)].append(socket)
         return ["socket", str(socket.number)]
 
-    def on_close(self, _entry: int, number: str) -> List[str]:
+    def on_close(self, _entry: int, number: str) -> list[str]:
         """A socket is closed; what waits in it stays unread."""
         socket = self.open_socket(number)
         if socket is None:
@@ -261,7 +261,7 @@ class Run:
         self.open_sockets[socket.iface].remove(socket)
         return ["closed", str(unread), str(socket.dropped)]
 
-    def on_filters(self, _entry: int, number: str, _count: str, *words: str) -> List[str]:
+    def on_filters(self, _entry: int, number: str, _count: str, *words: str) -> list[str]:
         """A socket gets other filters."""
         socket = self.open_socket(number)
         if socket is None:
@@ -270,7 +270,7 @@ class Run:
         socket.filters = list(zip(numbers[::2], numbers[1::2]))
         return ["ok"]
 
-    def on_option(self, _entry: int, number: str, kind: str, value: str) -> List[str]:
+    def on_option(self, _entry: int, number: str, kind: str, value: str) -> list[str]:
         """An option of a socket is set."""
         socket = self.open_socket(number)
         if socket is None:
@@ -278,7 +278,7 @@ class Run:
         socket.options[kind] = int(value, 16)
         return ["ok"]
 
-    def on_send(self, _entry: int, number: str, text: str) -> List[str]:
+    def on_send(self, _entry: int, number: str, text: str) -> list[str]:
         """A frame goes into a transmit queue."""
         socket = self.open_socket(number)
         if socket is None:
@@ -291,11 +291,11 @@ class Run:
         if len(iface.waiting) == self.record.tx_capacity:
             iface.refused += 1
             return ["no-buffers"]
-        iface.waiting.append(Sent(iface.sent, frame, socket, socket.options["loopback"]))
+        iface.waiting.append(Pending(iface.sent, frame, socket, socket.options["loopback"]))
         iface.sent += 1
         return ["number", str(iface.sent - 1)]
 
-    def on_receive(self, _entry: int, number: str) -> List[str]:
+    def on_receive(self, _entry: int, number: str) -> list[str]:
         """A socket takes its oldest item."""
         socket = self.open_socket(number)
         if socket is None:
@@ -309,7 +309,7 @@ class Run:
             return ["error", str(item.sender), item.text, item.moment]
         return ["data", str(item.sender), str(item.number), item.text, item.moment]
 
-    def on_restart(self, entry: int, number: str, moment: str) -> List[str]:
+    def on_restart(self, entry: int, number: str, moment: str) -> list[str]:
         """An interface is restarted by hand."""
         if int(number) >= len(self.ifaces):
             return ["no-interface"]
@@ -322,20 +322,21 @@ class Run:
         """Restarts an interface."""
         step = self.begin("restart", entry, moment, number)
         self.ifaces[number].restart()
+        self.count_errors()
         self.post_error(number, 0x100, bytes(8))
         self.end(step)
 
     # Attempts.
 
-    def on_attempt(self, entry: int, moment: str, verdict: str) -> List[str]:
+    def on_attempt(self, entry: int, moment: str, verdict: str) -> list[str]:
         """An attempt, and the restarts in its end."""
         due = self.count_attempt()
         reply = self.attempt(entry, moment, verdict)
         for number in due:
             self.restart(entry, number, moment)
-        return [*reply, "restarted", shown(due)] if due else reply
+        return [*reply, "restarted", spelled_set(due)] if due else reply
 
-    def count_attempt(self) -> List[int]:
+    def count_attempt(self) -> list[int]:
         """One attempt more for each interface that is off; those that it restarts in the end."""
         due = []
         for number, iface in enumerate(self.ifaces):
@@ -345,7 +346,7 @@ class Run:
                     due.append(number)
         return due
 
-    def attempt(self, entry: int, moment: str, verdict: str) -> List[str]:
+    def attempt(self, entry: int, moment: str, verdict: str) -> list[str]:
         """The frame that wins arbitration is tried."""
         contenders = [
             (number, iface.waiting[0].frame)
@@ -361,18 +362,27 @@ class Run:
         sent = self.ifaces[winner].waiting[0]
         step = self.begin("", entry, moment, winner)
         step.number, step.text, step.verdict, step.contenders = sent.number, sent.frame.text, verdict, contenders
-        before = [(iface.tec, iface.rec) for iface in self.ifaces]
+        before = self.counts
         receivers = [i for i, iface in enumerate(self.ifaces) if i != winner and not iface.is_off()]
         self.judge(step, receivers)
         self.leave_queue(step)
         self.post_frame(step, sent)
-        for number in range(len(self.ifaces)):
-            self.post_fault(step, number, number in receivers)
-            self.post_state(number, before[number])
+        if self.count_errors() or self.record.reporting:
+            for number in range(len(self.ifaces)):
+                self.post_fault(step, number, number in receivers)
+                self.post_state(number, before[number])
         self.end(step)
-        return ["tried", str(winner), str(step.number), step.text, step.kind, shown(step.accepted), shown(step.off)]
+        return [
+            "tried",
+            str(winner),
+            str(step.number),
+            step.text,
+            step.kind,
+            spelled_set(step.accepted),
+            spelled_set(step.off),
+        ]
 
-    def judge(self, step: Step, receivers: List[int]) -> None:
+    def judge(self, step: Step, receivers: list[int]) -> None:
         """What becomes of an attempt, and of the error counters."""
         winner, verdict = self.ifaces[step.iface], step.verdict.split(":")
         if len(verdict) > 1:
@@ -394,7 +404,7 @@ class Run:
             self.ifaces[i].receive_error()
         for i in good_ones:
             self.ifaces[i].good_reception()
-        step.off = [step.iface] if winner.is_off() else []
+        step.off = (step.iface,) if winner.is_off() else ()
 
     def leave_queue(self, step: Step) -> None:
         """A frame that is done leaves its queue; a winner that goes off loses all of its frames."""
@@ -407,10 +417,10 @@ class Run:
             winner.waiting.clear()
             winner.attempts_off = 0
 
-    def post_frame(self, step: Step, sent: Sent) -> None:
+    def post_frame(self, step: Step, sent: Pending) -> None:
         """Puts the frame to the sockets where it was accepted, and looped back."""
         looped = [step.iface] if step.kind == "done" and sent.loops_back else []
-        for number in sorted(step.accepted + looped):
+        for number in sorted([*step.accepted, *looped]):
             for socket in self.open_sockets[number]:
                 if socket.passes(sent.frame) and (socket is not sent.socket or socket.options["recvown"]):
                     self.put(Delivery(socket, len(self.steps), step.text, step.iface, step.number, step.moment))
@@ -466,71 +476,21 @@ class Run:
         self.moment = moment
         waiting = [len(one.waiting) for one in self.ifaces]
         idle, self.idle_since = self.idle_since, 0
-        return Step(kind, entry, moment, iface, self.attempts, 0, "", "", [], [], [], [], [], waiting, idle)
+        return Step(kind, entry, moment, iface, self.attempts, 0, "", "", (), (), (), [], [], waiting, idle)
+
+    def count_errors(self) -> bool:
+        """Takes the error counts of the interfaces; whether one has changed. Steps that change none share a list."""
+        counts = [(iface.tec, iface.rec) for iface in self.ifaces]
+        if counts == self.counts:
+            return False
+        self.counts = counts
+        return True
 
     def end(self, step: Step) -> None:
         """Keeps a step that has happened."""
-        step.counts = [(iface.tec, iface.rec) for iface in self.ifaces]
+        step.counts = self.counts
         self.steps.append(step)
         self.attempts += step.kind != "restart"
-
-    # What happened, with the names of interfaces.
-
-    def named(self, numbers: Sequence[int]) -> Tuple[str, ...]:
-        """The names of these interfaces."""
-        return tuple(self.record.names[number] for number in numbers)
-
-    def fault_named(self, verdict: str) -> str:
-        """A verdict of the record in the words of a fault script: `local crc can1` for `local-crc:0002`."""
-        kind, _, digits = verdict.partition(":")
-        members = [name for i, name in enumerate(self.record.names) if digits and int(digits, 16) >> i & 1]
-        return " ".join([*kind.split("-"), *([",".join(members)] if digits else [])])
-
-    def attempts_made(self) -> List[Attempt]:
-        """The attempts of the run, with the restarts in the end of each."""
-        restarts: Dict[int, List[int]] = {}
-        for step in self.steps:
-            if step.kind == "restart":
-                restarts.setdefault(step.entry, []).append(step.iface)
-        attempts: List[Attempt] = []
-        seen: Set[int] = set()
-        for step in self.steps:
-            again = restarts.get(step.entry, [])
-            if step.kind != "restart":
-                attempts.append(self.attempt_of(step, again))
-            elif step.entry not in seen and self.record.lines[step.entry].startswith("attempt "):
-                fault = self.fault_named(self.record.lines[step.entry].split(" ")[2])
-                attempts.append(Attempt(float(step.moment), "", 0, "", "idle", fault, (), (), self.named(again)))
-            seen.add(step.entry)
-        return attempts
-
-    def attempt_of(self, step: Step, restarted: Sequence[int] = ()) -> Attempt:
-        """A step that is an attempt."""
-        return Attempt(
-            float(step.moment),
-            self.record.names[step.iface],
-            step.number,
-            step.text,
-            step.kind,
-            self.fault_named(step.verdict),
-            self.named(step.accepted),
-            self.named(step.off),
-            self.named(restarted),
-        )
-
-    def items_handed_out(self) -> List[Item]:
-        """What each socket received or lost."""
-        names = self.record.names
-        return [
-            Item(
-                names[item.socket.iface],
-                item.socket.number,
-                names[item.sender],
-                Frame.parse(item.text, float(item.moment)),
-                item.fate,
-            )
-            for item in self.items
-        ]
 
 
 def wrong(entry: int, message: str) -> BadRecord:
@@ -538,6 +498,6 @@ def wrong(entry: int, message: str) -> BadRecord:
     return BadRecord(f"entry {entry}: {message}", f"entry {entry}: wrong")
 
 
-def shown(numbers: Sequence[int]) -> str:
+def spelled_set(numbers: Sequence[int]) -> str:
     """A set of interfaces as a record spells it."""
     return f"{sum(1 << number for number in numbers):04X}"

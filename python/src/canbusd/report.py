@@ -1,4 +1,11 @@
-"""Makes a page that shows a run: what its replay gives as columns of numbers, in one file with its style and script."""
+"""Makes a page that shows a run: what its replay gives as columns of numbers, in one file with its style and script.
+
+With a file of messages, as `--dbc` names one, the header of the data has two objects more, by the places of frames in
+`texts` as `meanings` is: `messages`, the name of the message of each frame that the file knows, and `signals`, for each
+of these a list of [signal, value, unit]. A value is a number, or a text where the file has names for numbers; a unit is
+a text, empty where there is none. A frame that is shorter than its message has the empty list. Without a file both
+objects are empty.
+"""
 
 import base64
 import functools
@@ -9,29 +16,31 @@ import struct
 import sys
 import zlib
 from array import array
-from typing import Any, Dict, Iterable, List, Sequence, Tuple
+from collections.abc import Iterable, Sequence
+from typing import Any, Optional
 
-from canbusd.frames import meaning
-from canbusd.replay import OFF, Delivery, Run, Socket, Step
+from canbusd.frames import Frame, meaning
+from canbusd._protocol import STATES
+from canbusd.replay import OFF, Delivery, Replay, Socket, Step
+from canbusd.signals import Database
 from canbusd.story import Event, events_of, facts_of, heading_of, verdict_words
 
 # By their numbers on the page.
 KINDS = ["done", "lastbit", "destroyed", "noack", "restart", "idle"]
 FATES = ["taken", "waiting", "unread", "dropped"]
-STATES = ["active", "warning", "passive", "off"]
 # Where there are more steps than pixels the page draws from sums over this many steps. Short runs need none.
 CELL = 256
 FEWEST_FOR_CELLS = 4096
 
-Json = Dict[str, Any]
-Column = List[Any]
+Json = dict[str, Any]
+Column = list[Any]
 
 
 class Block:
     """The columns of the page, each at a multiple of 8 bytes, lowest byte first."""
 
     def __init__(self) -> None:
-        self.parts: List[bytes] = []
+        self.parts: list[bytes] = []
         self.size = 0
 
     def column(self, code: str, numbers: Iterable[float]) -> Column:
@@ -61,13 +70,13 @@ class Texts:
     """Each text once, by its place."""
 
     def __init__(self) -> None:
-        self.places: Dict[str, int] = {}
+        self.places: dict[str, int] = {}
 
     def place(self, text: str) -> int:
         """Returns the place of a text."""
         return self.places.setdefault(text, len(self.places))
 
-    def all(self) -> List[str]:
+    def all(self) -> list[str]:
         """Returns the texts by their places."""
         return list(self.places)
 
@@ -80,13 +89,13 @@ def members(numbers: Iterable[int]) -> int:
 class Timeline:
     """The steps of a run with its idle attempts between them, in columns."""
 
-    def __init__(self, run: Run) -> None:
+    def __init__(self, run: Replay) -> None:
         self.ifaces = len(run.ifaces)
         # How many idle attempts in a row it is, shown as one step; for 0 the step itself. Those go with the step after
         # them.
-        self.rows: List[Tuple[int, Step]] = []
+        self.rows: list[tuple[int, Step]] = []
         # Where each step of the run is among the rows.
-        self.places: List[int] = []
+        self.places: list[int] = []
         for step in run.steps:
             if step.idle:
                 self.rows.append((step.idle, step))
@@ -98,7 +107,7 @@ class Timeline:
         self.counts = self.counts_of()
         self.waiting = [[0 if idle else step.waiting[i] for idle, step in self.rows] for i in range(self.ifaces)]
 
-    def counts_of(self) -> List[Tuple[List[int], List[int]]]:
+    def counts_of(self) -> list[tuple[list[int], list[int]]]:
         """Transmit and receive counts of each interface after each row."""
         now = [(0, 0)] * self.ifaces
         whole = []
@@ -208,7 +217,7 @@ def items_of(items: Sequence[Delivery], places: Sequence[int], block: Block, tex
     }
 
 
-def bits_of(run: Run) -> Dict[str, str]:
+def bits_of(run: Replay) -> dict[str, str]:
     """The arbitration bits of frames that met others, by the part of their text that says which."""
     met = {frame.text: frame.bits for step in run.steps if taking_part(step) for _, frame in step.contenders}
     return {arbitrating(text): bits for text, bits in met.items()}
@@ -220,7 +229,7 @@ def arbitrating(text: str) -> str:
     return f"{identifier}#{'R' if payload.startswith('R') else ''}"
 
 
-def ifaces_of(run: Run) -> List[Json]:
+def ifaces_of(run: Replay) -> list[Json]:
     """The interfaces at the end of the run."""
     return [
         {
@@ -253,12 +262,23 @@ def socket_of(socket: Socket) -> Json:
     }
 
 
+def decoded_of(texts: Iterable[str], database: Optional[Database]) -> Json:
+    """The messages and the signals of the frames that the file knows, by the places of the frames."""
+    messages: Json = {}
+    signals: Json = {}
+    for place, text in enumerate(texts):
+        decoded = database.decode(Frame.parse(text)) if database is not None and text else None
+        if decoded is not None:
+            messages[str(place)], signals[str(place)] = decoded.message, decoded.signals
+    return {"messages": messages, "signals": signals}
+
+
 def event_of(event: Event, places: Sequence[int]) -> Column:
     """An event: its place, its kind and its words."""
     return [places[event.step] if event.step >= 0 and places else 0, event.kind, event.words]
 
 
-def data_of(run: Run, names: Sequence[str], title: str, most_items: int) -> str:
+def data_of(run: Replay, names: Sequence[str], title: str, most_items: int, database: Optional[Database] = None) -> str:
     """The data of a page, as its script reads it."""
     block, texts, verdicts = Block(), Texts(), Texts()
     # Place 0 is no error message frame.
@@ -286,14 +306,18 @@ def data_of(run: Run, names: Sequence[str], title: str, most_items: int) -> str:
         "bits": bits_of(run),
         "texts": texts.all(),
         "meanings": {place: meaning(text) for place, text in enumerate(texts.all()) if text and meaning(text)},
+        **decoded_of(texts.all(), database),
         "verdicts": [verdict_words(verdict, names) for verdict in verdicts.all()],
     }
     return block.packed(header)
 
 
-def page(run: Run, names: Sequence[str], title: str, most_items: int = 1000000) -> str:
+def page(
+    run: Replay, names: Sequence[str], title: str, most_items: int = 1000000, database: Optional[Database] = None
+) -> str:
     """Returns the page of a run, with its first items."""
-    return filled("page.html", ["draw.js", "page.js"]).replace("/*RUN*/", data_of(run, names, title, most_items))
+    data = data_of(run, names, title, most_items, database)
+    return filled("page.html", ["draw.js", "page.js"]).replace("/*RUN*/", data)
 
 
 def filled(name: str, scripts: Sequence[str]) -> str:

@@ -2,12 +2,14 @@
 
 import bisect
 import re
-from typing import Dict, Iterable, Iterator, List, NamedTuple, Sequence, Tuple
+from collections.abc import Iterable, Iterator, Sequence
+from typing import NamedTuple
 
-from canbusd.replay import Run, Step, severity
+from canbusd._protocol import STATES
+from canbusd.record import members_of
+from canbusd.replay import Replay, Step, severity
 
 OUTCOMES = {"done": "done", "lastbit": "failed in the last bit", "destroyed": "destroyed", "noack": "not acknowledged"}
-STATES = ["active", "warning", "passive"]
 # Refusals and drops of one place are one event where no more steps than these are between them.
 GAP = 8
 REFUSED = re.compile("send ([0-9]+) .* = (no-buffers|bus-off)")
@@ -33,13 +35,13 @@ def joined(words: Sequence[str]) -> str:
     return " and ".join([", ".join(words[:-1]), words[-1]] if len(words) > 1 else words)
 
 
-def events_of(run: Run, names: Sequence[str]) -> List[Event]:
+def events_of(run: Replay, names: Sequence[str]) -> list[Event]:
     """The events of a run, by their steps."""
     found = [*changes_of(run, names), *second_copies(run, names), *refusals_of(run, names), *drops_of(run, names)]
     return sorted(found, key=lambda event: event.step)
 
 
-def changes_of(run: Run, names: Sequence[str]) -> Iterator[Event]:
+def changes_of(run: Replay, names: Sequence[str]) -> Iterator[Event]:
     """Changes of state, frames lost by bus off, and restarts."""
     before = [(0, 0)] * len(names)
     for number, step in enumerate(run.steps):
@@ -66,9 +68,9 @@ def change_of(number: int, step: Step, i: int, name: str) -> Iterator[Event]:
         yield Event(number, STATES[state], i, f"{name} is error {STATES[state]}: {reason}")
 
 
-def second_copies(run: Run, names: Sequence[str]) -> Iterator[Event]:
+def second_copies(run: Replay, names: Sequence[str]) -> Iterator[Event]:
     """Attempts by which a receiver accepted a frame that it had already: after a fault in the last bit."""
-    had: Dict[int, Tuple[int, Dict[int, int]]] = {}
+    had: dict[int, tuple[int, dict[int, int]]] = {}
     for number, step in enumerate(run.steps):
         frame, copies = had.get(step.iface, (-1, {}))
         if step.kind not in ("done", "lastbit") or not step.accepted:
@@ -85,10 +87,10 @@ def second_copies(run: Run, names: Sequence[str]) -> Iterator[Event]:
         had[step.iface] = (step.number, copies)
 
 
-def refusals_of(run: Run, names: Sequence[str]) -> Iterator[Event]:
+def refusals_of(run: Replay, names: Sequence[str]) -> Iterator[Event]:
     """Sends that were refused because a queue was full or an interface off."""
     entries = [step.entry for step in run.steps]
-    places: Dict[Tuple[int, str], List[int]] = {}
+    places: dict[tuple[int, str], list[int]] = {}
     for number, line in enumerate(run.record.lines):
         if line.endswith((" = no-buffers", " = bus-off")):
             words = REFUSED.fullmatch(line)
@@ -100,9 +102,9 @@ def refusals_of(run: Run, names: Sequence[str]) -> Iterator[Event]:
             yield Event(first, "refused", iface, f"{names[iface]} refused {times(count, 'send')}: {REASONS[reason]}")
 
 
-def drops_of(run: Run, names: Sequence[str]) -> Iterator[Event]:
+def drops_of(run: Replay, names: Sequence[str]) -> Iterator[Event]:
     """Items that found no room in the receive queue of a socket."""
-    places: Dict[int, List[int]] = {}
+    places: dict[int, list[int]] = {}
     for item in run.items:
         if item.fate == "dropped":
             places.setdefault(item.socket.number, []).append(item.step)
@@ -115,7 +117,7 @@ def drops_of(run: Run, names: Sequence[str]) -> Iterator[Event]:
             yield Event(first, "dropped", socket.iface, words)
 
 
-def groups(steps: Iterable[int]) -> Iterator[Tuple[int, int]]:
+def groups(steps: Iterable[int]) -> Iterator[tuple[int, int]]:
     """The first of each run of steps that are close together, and how many there are."""
     first = last = count = 0
     for step in steps:
@@ -130,14 +132,13 @@ def groups(steps: Iterable[int]) -> Iterator[Tuple[int, int]]:
 
 def verdict_words(verdict: str, names: Sequence[str]) -> str:
     """A verdict of the record in words: `local crc at can1` for `local-crc:0002`."""
-    kind, _, hit = verdict.partition(":")
-    if not hit:
+    kind, colon, _ = verdict.partition(":")
+    if not colon:
         return {"good": "none", "lastbit": "last bit, at the sender only"}.get(kind, kind.replace("-", " "))
-    named = [name for number, name in enumerate(names) if int(hit, 16) >> number & 1]
-    return f"{kind.replace('-', ' ')} at {', '.join(named) or 'nobody'}"
+    return f"{kind.replace('-', ' ')} at {', '.join(members_of(verdict, names)) or 'nobody'}"
 
 
-def counts_by_kind(run: Run) -> Dict[str, int]:
+def counts_by_kind(run: Replay) -> dict[str, int]:
     """How many steps of each kind there are."""
     counts = dict.fromkeys([*OUTCOMES, "restart"], 0)
     for step in run.steps:
@@ -145,7 +146,7 @@ def counts_by_kind(run: Run) -> Dict[str, int]:
     return counts
 
 
-def facts_of(run: Run) -> str:
+def facts_of(run: Replay) -> str:
     """What there is in the run, in numbers."""
     counts = counts_by_kind(run)
     outcomes = [f"{counts[kind]:,} {words}" for kind, words in OUTCOMES.items() if counts[kind]]
@@ -155,7 +156,7 @@ def facts_of(run: Run) -> str:
     return ". ".join([*facts, f"{times(len(run.record.lines), 'entry', 'entries')} in the record."])
 
 
-def heading_of(run: Run, names: Sequence[str], events: Sequence[Event]) -> Tuple[str, int]:
+def heading_of(run: Replay, names: Sequence[str], events: Sequence[Event]) -> tuple[str, int]:
     """The run in one line: how large it is, and the worst that happened; and the step in which it did."""
     size = f"{times(len(names), 'node')}, {times(run.attempts, 'attempt')}"
     if not run.attempts:
@@ -164,7 +165,7 @@ def heading_of(run: Run, names: Sequence[str], events: Sequence[Event]) -> Tuple
     return f"{size}: {words}", step
 
 
-def worst_of(run: Run, names: Sequence[str], events: Sequence[Event]) -> Tuple[str, int]:
+def worst_of(run: Replay, names: Sequence[str], events: Sequence[Event]) -> tuple[str, int]:
     """The worst that happened, and the first step in which it did."""
     firsts = {event.kind: event for event in reversed(events)}
     if "bus off" in firsts:

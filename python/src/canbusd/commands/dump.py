@@ -5,12 +5,14 @@ import re
 import select
 import sys
 import time
-from typing import Any, Callable, Dict, List, Optional, Tuple
+from collections.abc import Callable
+from typing import Any, Optional
 
 from canbusd._protocol import ALL_CLASSES
 from canbusd.bus import CanbusdBus
-from canbusd.commands import address_words
-from canbusd.frames import ERROR, Frame, frame_like
+from canbusd.commands import add_address, add_database, database_of
+from canbusd.frames import ERROR, EXTENDED, INVERTED, Frame, frame_like, log_line
+from canbusd.signals import Database
 
 EPILOG = """\
 An interface is a name, followed by filters as candump has them: ID:MASK, ID~MASK for all others, #MASK for classes of
@@ -20,9 +22,9 @@ words.
   python3 -m canbusd dump -e can0
   python3 -m canbusd dump can0,123:7FF can1,#FFFFFFFF
   python3 -m canbusd dump -L can0 can1 > run.log
+  python3 -m canbusd dump --dbc car.dbc can0
 """
 FILTER = re.compile("([0-9A-Fa-f]{1,8})([:~])([0-9A-Fa-f]{1,8})")
-EXTENDED, INVERTED = 0x80000000, 0x20000000
 # How many frames of an interface are printed before the others have their turn.
 BATCH = 1000
 
@@ -30,18 +32,22 @@ BATCH = 1000
 class View:
     """How frames are written."""
 
-    def __init__(self, options: argparse.Namespace, width: int) -> None:
+    def __init__(self, options: argparse.Namespace, width: int, database: Optional[Database] = None) -> None:
         self.is_log, self.explains = options.log, options.explain
+        self.database = database
         self.width, self.has_seen_extended = width, False
         self.stamp: Callable[[float], str] = STAMPS[options.timestamps](options.timestamps)
 
-    def lines(self, name: str, frame: Frame) -> List[str]:
+    def lines(self, name: str, frame: Frame) -> list[str]:
         """Returns the lines of a frame."""
         if self.is_log:
-            return [f"({frame.timestamp:017.6f}) {name} {frame}"]
+            return [log_line(name, frame)]
         lines = [f" {self.stamp(frame.timestamp)} {name:>{self.width}}  {self.long(frame)}"]
         if self.explains and frame.is_error_frame:
             lines.append(f"\t{frame.meaning or 'no class that canbusd knows'}")
+        decoded = self.database.decode(frame) if self.database is not None else None
+        if decoded is not None:
+            lines.append(f"\t{decoded}")
         return lines
 
     def long(self, frame: Frame) -> str:
@@ -83,7 +89,7 @@ def dated(_: str) -> Callable[[float], str]:
 
 def since(kind: str) -> Callable[[float], str]:
     """Seconds since the last frame, or since the first."""
-    start: List[float] = []
+    start: list[float] = []
 
     def stamp(moment: float) -> str:
         start[:] = start or [moment]
@@ -95,7 +101,7 @@ def since(kind: str) -> Callable[[float], str]:
     return stamp
 
 
-STAMPS: Dict[Optional[str], Callable[[str], Callable[[float], str]]] = {
+STAMPS: dict[Optional[str], Callable[[str], Callable[[float], str]]] = {
     None: no_stamp,
     "a": absolute,
     "A": dated,
@@ -104,7 +110,7 @@ STAMPS: Dict[Optional[str], Callable[[str], Callable[[float], str]]] = {
 }
 
 
-def words(parser: argparse.ArgumentParser) -> None:
+def add_arguments(parser: argparse.ArgumentParser) -> None:
     """Adds the words of the command."""
     parser.add_argument("interfaces", nargs="+", metavar="INTERFACE[,FILTER..]", help="an interface of the server")
     parser.add_argument("-e", dest="explain", action="store_true", help="error message frames too, explained in words")
@@ -117,15 +123,16 @@ def words(parser: argparse.ArgumentParser) -> None:
     )
     parser.add_argument("-n", dest="count", type=int, metavar="COUNT", help="end after so many frames")
     parser.add_argument(
-        "-T", dest="patience", type=float, metavar="MS", help="end after so many milliseconds without a frame"
+        "-T", dest="timeout", type=float, metavar="MS", help="end after so many milliseconds without a frame"
     )
-    address_words(parser)
+    add_database(parser)
+    add_address(parser)
 
 
-def opened(text: str, options: argparse.Namespace) -> Tuple[str, CanbusdBus]:
+def opened(text: str, options: argparse.Namespace) -> tuple[str, CanbusdBus]:
     """Opens an interface with its filters; its name, and the bus."""
     name, *parts = text.split(",")
-    filters: List[Dict[str, Any]] = []
+    filters: list[dict[str, Any]] = []
     errors, join = (ALL_CLASSES if options.explain else 0), False
     for part in parts:
         pair = FILTER.fullmatch(part)
@@ -148,7 +155,7 @@ class Drops:
 
     INTERVAL = 1.0
 
-    def __init__(self, buses: List[Tuple[str, CanbusdBus]]) -> None:
+    def __init__(self, buses: list[tuple[str, CanbusdBus]]) -> None:
         self.buses, self.dropped = buses, [0] * len(buses)
         self.next_look, self.has_received = time.monotonic() + self.INTERVAL, False
 
@@ -171,14 +178,16 @@ class Drops:
 
 def run(options: argparse.Namespace) -> None:
     """Prints frames as they come."""
+    if options.log and options.dbc:
+        raise ValueError("--dbc does not go with -L: a log has frames only")
+    view = View(options, max(len(text.split(",")[0]) for text in options.interfaces), database_of(options))
     buses = [opened(text, options) for text in options.interfaces]
-    view = View(options, max(len(name) for name, _ in buses))
     drops = Drops(buses)
     left = sys.maxsize if options.count is None else options.count
-    patience = float("inf") if options.patience is None else options.patience / 1000
+    timeout = float("inf") if options.timeout is None else options.timeout / 1000
     last = time.monotonic()
     while left > 0:
-        wait = max(0.0, min(drops.INTERVAL, last + patience - time.monotonic()))
+        wait = max(0.0, min(drops.INTERVAL, last + timeout - time.monotonic()))
         ready = select.select([bus for _, bus in buses], [], [], wait)[0]
         for name, bus in buses:
             if bus in ready:
@@ -187,7 +196,7 @@ def run(options: argparse.Namespace) -> None:
         drops.look(bool(ready))
         if ready:
             last = time.monotonic()
-        elif time.monotonic() >= last + patience:
+        elif time.monotonic() >= last + timeout:
             return
 
 

@@ -4,10 +4,11 @@ import argparse
 import io
 import os
 import sys
-from typing import Iterable
+from collections.abc import Iterable
 
 from canbusd import _summary, drawings
-from canbusd._command import record_words, replayed
+from canbusd._command import add_record, replayed
+from canbusd.commands import add_database, database_of
 
 EPILOG = """\
 The page is one file, which needs no network. It shows the attempts by interface, with winner, outcome and faults;
@@ -21,9 +22,10 @@ that a socket received or lost. The record is replayed by the rules of the bus, 
 MOST_EVENTS = 1000
 
 
-def words(parser: argparse.ArgumentParser) -> None:
+def add_arguments(parser: argparse.ArgumentParser) -> None:
     """Adds the words of the command."""
-    record_words(parser)
+    add_record(parser)
+    add_database(parser)
     parser.add_argument(
         "--items", type=int, default=1000000, metavar="N", help="items on the page at most (default 1000000)"
     )
@@ -40,20 +42,22 @@ def words(parser: argparse.ArgumentParser) -> None:
 
 def run(options: argparse.Namespace) -> None:
     """Writes the page, or the drawings, on standard output."""
-    replay, names = replayed(options.record, options.names)
+    record = replayed(options.record, options.names)
     if options.text or options.counters or options.arbitration:
         if options.text:
-            write(_summary.story(replay, MOST_EVENTS))
+            write(_summary.story(record, MOST_EVENTS))
         if options.text or options.arbitration:
-            write(drawings.arbitration(replay, options.first, options.last))
+            write(drawings.arbitration(record, options.first, options.last))
         if options.text or options.counters:
-            write(drawings.counters(replay, options.first, options.last))
+            write(drawings.counters(record, options.first, options.last))
         return
     from canbusd.report import page
 
     if isinstance(sys.stdout, io.TextIOWrapper):
         sys.stdout.reconfigure(encoding="utf-8")
-    sys.stdout.write(page(replay, names, os.path.basename(options.record), max(options.items, 0)))
+    sys.stdout.write(
+        page(record.replay, record.names, os.path.basename(options.record), max(options.items, 0), database_of(options))
+    )
 
 
 def write(lines: Iterable[str]) -> None:

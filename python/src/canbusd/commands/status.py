@@ -3,11 +3,10 @@
 import argparse
 import sys
 import time
-from typing import List
 
 from canbusd._summary import Row, table
 from canbusd.bus import CanbusdBus, seconds
-from canbusd.commands import NOTHING, address_words
+from canbusd.commands import NOTHING, add_address
 
 EPILOG = """\
 TEC and REC are the transmit and the receive error count: error warning from 96, error passive from 128, bus off from
@@ -20,14 +19,14 @@ full.
 HOME, CLEAR_LINE, CLEAR_BELOW = "\x1b[H", "\x1b[K", "\x1b[J"
 
 
-def words(parser: argparse.ArgumentParser) -> None:
+def add_arguments(parser: argparse.ArgumentParser) -> None:
     """Adds the words of the command."""
     parser.add_argument("interfaces", nargs="+", metavar="INTERFACE", help="an interface of the server")
     parser.add_argument("--watch", action="store_true", help="keep the table on the screen until Ctrl-C")
     parser.add_argument(
         "--interval", type=float, default=0.5, metavar="S", help="seconds between two looks with --watch (default 0.5)"
     )
-    address_words(parser)
+    add_address(parser)
 
 
 def run(options: argparse.Namespace) -> None:
@@ -55,5 +54,5 @@ def run(options: argparse.Namespace) -> None:
 def row_of(name: str, bus: CanbusdBus) -> Row:
     """The row of an interface."""
     counters, stats = bus.error_counters(), bus.stats()
-    counts: List[int] = [stats.sent, stats.done, stats.waiting, stats.lost, stats.refused]
+    counts: list[int] = [stats.sent, stats.done, stats.waiting, stats.lost, stats.refused]
     return (name, counters.state, counters.tec, counters.rec, *counts)

@@ -6,16 +6,18 @@ import select
 import threading
 import time
 from collections import deque
+from collections.abc import Iterator, Sequence
 from http import HTTPStatus
 from http.server import BaseHTTPRequestHandler, ThreadingHTTPServer
-from typing import Any, Deque, Dict, Iterator, List, Optional, Sequence, Tuple
+from typing import Any, Optional
 
 from can.exceptions import CanOperationError
 
 from canbusd.bus import CanbusdBus, seconds
-from canbusd.commands import address_words
+from canbusd.commands import add_address, add_database, database_of
 from canbusd.frames import SENDING, Frame, frame_like
 from canbusd.report import filled
+from canbusd.signals import Database
 
 EPILOG = """\
 The page is served on 127.0.0.1 only. It shows how many frames each interface sent, their error counts with the limits,
@@ -29,11 +31,11 @@ an entry of the record.
 # How much a page gets that is opened later: ticks, and frames.
 MOST_TICKS, MOST_FRAMES = 2400, 4000
 # Seconds in which pages are sent that the server has ended.
-PARTING = 2.0
+CLOSE_TIMEOUT = 2.0
 BUS_ERROR, NOT_ACKNOWLEDGED, END_OF_FRAME, FORM = 0x080, 0x020, 0x1A, 0x02
 
-Json = Dict[str, Any]
-Row = List[Any]
+Json = dict[str, Any]
+Row = list[Any]
 
 
 class Board:
@@ -41,13 +43,13 @@ class Board:
 
     def __init__(self) -> None:
         self._changed = threading.Condition()
-        self._ticks: Deque[Json] = deque(maxlen=MOST_TICKS)
-        self._frames: Deque[Row] = deque(maxlen=MOST_FRAMES)
-        self._last: Tuple[int, Json] = (0, {})
+        self._ticks: deque[Json] = deque(maxlen=MOST_TICKS)
+        self._frames: deque[Row] = deque(maxlen=MOST_FRAMES)
+        self._last: tuple[int, Json] = (0, {})
         self._end: Optional[str] = None
         self._readers = 0
 
-    def add(self, tick: Json, frames: List[Row]) -> None:
+    def add(self, tick: Json, frames: list[Row]) -> None:
         """Adds a tick."""
         with self._changed:
             self._ticks.append(tick)
@@ -60,7 +62,7 @@ class Board:
         with self._changed:
             self._end = reason
             self._changed.notify_all()
-            self._changed.wait_for(lambda: not self._readers, PARTING)
+            self._changed.wait_for(lambda: not self._readers, CLOSE_TIMEOUT)
 
     def news(self) -> Iterator[Json]:
         """Yields what a page gets: first all that is kept, then each tick, at the end why there are no more."""
@@ -157,12 +159,13 @@ class Request(BaseHTTPRequestHandler):
 class Watcher:
     """The sessions on the interfaces."""
 
-    def __init__(self, names: Sequence[str], address: Optional[str]) -> None:
+    def __init__(self, names: Sequence[str], address: Optional[str], database: Optional[Database] = None) -> None:
+        self.database = database
         self.buses = [CanbusdBus(name, address=address, fd=True) for name in names]
 
-    def tick(self, seconds: float) -> Tuple[Json, List[Row]]:
+    def tick(self, seconds: float) -> tuple[Json, list[Row]]:
         """Collects frames for so long; then how the interfaces are, and the frames."""
-        frames: List[Row] = []
+        frames: list[Row] = []
         faults = [[0, 0, 0] for _ in self.buses]
         deadline = time.monotonic() + seconds
         while True:
@@ -177,8 +180,8 @@ class Watcher:
         missed = sum(one.dropped for one in stats)
         return {"time": time.time(), "ifaces": ifaces, "faults": faults, "missed": missed}, frames
 
-    def take(self, number: int, frames: List[Row], faults: List[int]) -> None:
-        """Takes what an interface has received: the moment, the frame, the interface, and what an error frame says."""
+    def take(self, number: int, frames: list[Row], faults: list[int]) -> None:
+        """Takes what an interface has received: the moment, the frame, the interface, and what the frame says."""
         for _ in range(MOST_FRAMES):
             message = self.buses[number].recv(0)
             if message is None:
@@ -187,7 +190,12 @@ class Watcher:
             kind = fault_of(frame)
             if kind is not None:
                 faults[kind] += 1
-            frames.append([frame.timestamp, str(frame), number, frame.meaning])
+            frames.append([frame.timestamp, str(frame), number, self.meaning(frame)])
+
+    def meaning(self, frame: Frame) -> str:
+        """What an error message frame says, or one that a file knows."""
+        decoded = self.database.decode(frame) if self.database is not None else None
+        return str(decoded) if decoded is not None else frame.meaning
 
 
 def fault_of(frame: Frame) -> Optional[int]:
@@ -199,7 +207,7 @@ def fault_of(frame: Frame) -> Optional[int]:
     return 0 if frame.data[3] == END_OF_FRAME and frame.data[2] & FORM else 1
 
 
-def words(parser: argparse.ArgumentParser) -> None:
+def add_arguments(parser: argparse.ArgumentParser) -> None:
     """Adds the words of the command."""
     parser.add_argument("interfaces", nargs="+", metavar="INTERFACE", help="an interface of the server")
     parser.add_argument(
@@ -212,7 +220,8 @@ def words(parser: argparse.ArgumentParser) -> None:
         metavar="S",
         help="seconds between two looks at the counts (default 0.25)",
     )
-    address_words(parser)
+    add_database(parser)
+    add_address(parser)
 
 
 def run(options: argparse.Namespace) -> None:
@@ -220,8 +229,8 @@ def run(options: argparse.Namespace) -> None:
     interval = seconds("--interval", options.interval)
     if not 0 <= options.port <= 65535:
         raise ValueError(f"--port is a number from 0 to 65535, not {options.port}")
-    names: List[str] = options.interfaces
-    watcher, board = Watcher(names, options.address), Board()
+    names: list[str] = options.interfaces
+    watcher, board = Watcher(names, options.address, database_of(options)), Board()
     with opened(options.port, board, names, watcher.buses[0].address) as pages:
         threading.Thread(target=pages.serve_forever, daemon=True).start()
         print(f"watching {', '.join(names)} on {pages.url}", flush=True)

@@ -8,14 +8,14 @@ import tempfile
 import weakref
 from pathlib import Path
 from types import TracebackType
-from typing import Dict, List, Optional, Tuple, Type, TypeVar, Union
+from typing import Optional, TypeVar, Union
 
 from canbusd._program import find_program
 
-Self = TypeVar("Self", bound="Run")
+Self = TypeVar("Self", bound="ProgramRun")
 
 #: The options of the program that are numbers, by the names of their arguments: the least and the most of each.
-NUMBERS: Dict[str, Tuple[str, int, int]] = {
+NUMBERS: dict[str, tuple[str, int, int]] = {
     "auto_restart": ("--auto-restart", 0, 1_000_000),
     "pace_ms": ("--pace", 0, 60_000),
     "write_bytes": ("--write", 256, 65_536),
@@ -25,7 +25,7 @@ NUMBERS: Dict[str, Tuple[str, int, int]] = {
 }
 
 
-def option_words(ack: str, report: bool, **numbers: int) -> List[str]:
+def option_words(ack: str, report: bool, **numbers: int) -> list[str]:
     """Returns the words of the command line that give these options; ValueError names one that is wrong."""
     if ack not in ("always", "peers"):
         raise ValueError(f"ack is 'always' or 'peers', not {ack!r}")
@@ -38,7 +38,7 @@ def option_words(ack: str, report: bool, **numbers: int) -> List[str]:
     return words
 
 
-class Run:
+class ProgramRun:
     """A run of the program. Its logs and records are in `out`, else in a folder that is kept as long as it is."""
 
     _child: "subprocess.Popen[bytes]"
@@ -90,7 +90,7 @@ class Run:
         return self
 
     def __exit__(
-        self, kind: Optional[Type[BaseException]], fault: Optional[BaseException], _: Optional[TracebackType]
+        self, kind: Optional[type[BaseException]], fault: Optional[BaseException], _: Optional[TracebackType]
     ) -> None:
         try:
             self.stop()
@@ -100,7 +100,7 @@ class Run:
                 raise
 
 
-RUNNING: "weakref.WeakSet[Run]" = weakref.WeakSet()
+RUNNING: "weakref.WeakSet[ProgramRun]" = weakref.WeakSet()
 
 
 def forget_runs() -> None:

@@ -1,0 +1,46 @@
+"""Hypothesis looks for the fault plan that breaks a node, and shrinks it; what it finds is kept as an ordinary test.
+
+Debian has it as python3-hypothesis. A bench gives the same run for the same plan, so the search can be repeated.
+"""
+
+import pytest
+from lamp import TOGGLE, Lamp
+
+from canbusd import Bench, Faults
+
+hypothesis = pytest.importorskip("hypothesis", reason="Hypothesis is not installed: apt-get install python3-hypothesis")
+strategies = pytest.importorskip("canbusd.strategies")
+
+BUS = "switch,lamp"
+# The plan that `test_a_search` found.
+FOUND = Faults().last_bit(0)
+search = hypothesis.settings(deadline=None, derandomize=True, database=None, max_examples=50)
+
+
+def ends_on(lamp, plan):
+    """Whether the lamp is on after it was switched once."""
+    with Bench(BUS, faults=plan) as bench:
+        switch, node = bench.open("switch"), bench.open("lamp", error_frames=False)
+        switch.send(TOGGLE, b"\x07")
+        bench.run()
+        for frame in node.receive():
+            lamp.receive(frame)
+        return lamp.is_on
+
+
+def test_a_search():
+    plans = strategies.fault_plans(BUS, attempts=4)
+    plan = hypothesis.find(plans, lambda plan: not ends_on(Lamp(), plan), settings=search)
+    assert plan == FOUND
+
+
+def test_what_the_search_found():
+    assert not ends_on(Lamp(), FOUND)
+    assert ends_on(Lamp(counts=True), FOUND)
+
+
+# Without faults that put the switch bus off, 32 of which there would have to be.
+@search
+@hypothesis.given(plan=strategies.fault_plans(BUS, attempts=8))
+def test_a_lamp_that_counts(plan):
+    assert ends_on(Lamp(counts=True), plan)

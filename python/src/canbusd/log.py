@@ -1,0 +1,52 @@
+"""Logs in candump's format, as a server and a bench write them beside their records."""
+
+import os
+import re
+from typing import TYPE_CHECKING, Optional, Union
+
+from canbusd._record_text import RecordText
+from canbusd._text import shown
+from canbusd.frames import Frame
+
+if TYPE_CHECKING:
+    from can.message import Message
+
+Path = Union[str, "os.PathLike[str]"]
+
+LOG_LINE = re.compile(r"\(([0-9]+\.[0-9]{6})\) (\S+) (\S+)")
+
+
+def read_log(path: Path) -> "list[Message]":
+    """Returns the messages of a log in candump's format; the channel of each is the interface that sent it.
+
+    Unlike python-can's reader it keeps the classes of error message frames.
+    """
+    messages = []
+    with open(path, encoding="ascii") as file:
+        for number, line in enumerate(file, 1):
+            words = LOG_LINE.fullmatch(line.rstrip("\n"))
+            if not words:
+                raise ValueError(f"{os.fspath(path)}: line {number} is no frame: {shown(line)}")
+            messages.append(Frame.parse(words[3], float(words[1])).message(words[2]))
+    return messages
+
+
+def log_beside(path: Path) -> Optional[str]:
+    """The log that `canbusd serve` writes beside this record, or None."""
+    log = os.path.splitext(path)[0] + ".log"
+    return log if log != os.fspath(path) and os.path.isfile(log) else None
+
+
+def names_in_log(record: RecordText, log: Path) -> dict[int, str]:
+    """The names of the interfaces that won an attempt; none where the log is of another run.
+
+    A log has a line for each tried attempt: `(MOMENT) NAME FRAME`, with the winner's name.
+    """
+    tried = ((event[1], int(reply[1])) for event, reply in record.entries() if reply[0] == "tried")
+    names: dict[int, str] = {}
+    with open(log, encoding="ascii", errors="replace") as file:
+        for line, (moment, winner) in zip(file, tried):
+            words = line.split()
+            if len(words) != 3 or words[0] != f"({moment:0>17})" or names.setdefault(winner, words[1]) != words[1]:
+                return {}
+    return names

@@ -1,0 +1,107 @@
+"""Strategies of Hypothesis: frames, fault plans, and the messages of a bus.
+
+    @given(fault_plans("can0,can1"))
+    def test_my_node(plan):
+        with Bench("can0,can1", faults=plan) as bench:
+            ...
+
+A bench gives the same run for the same plan, so what Hypothesis finds and shrinks can be kept as an ordinary test: the
+plan that it prints is code.
+"""
+
+from collections.abc import Sequence
+from typing import Optional, Union
+
+from hypothesis import strategies as st
+from hypothesis.strategies import SearchStrategy
+
+from canbusd.faults import Faults
+from canbusd.frames import FD_LENGTHS, Frame
+
+Names = Union[str, Sequence[str]]
+
+
+def frames(*, extended: Optional[bool] = None, remote: bool = True, fd: bool = False) -> SearchStrategy[Frame]:
+    """Frames that can be sent: of 11 or 29 bits, with data or, unless `remote` is false, remote; with `fd` FD ones too.
+
+    Simple ones are data frames with a low identifier of 11 bits and no data.
+    """
+    kinds = [data_frames(extended)]
+    kinds += [remote_frames(extended)] if remote else []
+    kinds += [fd_frames(extended)] if fd else []
+    return st.one_of(kinds)
+
+
+def identifiers(extended: Optional[bool] = None) -> SearchStrategy[tuple[int, bool]]:
+    """Identifiers, each with whether it has 29 bits."""
+    short, long = (st.tuples(st.integers(0, most), st.just(most > 0x7FF)) for most in (0x7FF, 0x1FFFFFFF))
+    return st.one_of(short, long) if extended is None else long if extended else short
+
+
+def data_frames(extended: Optional[bool] = None) -> SearchStrategy[Frame]:
+    """Classic data frames."""
+    return st.builds(lambda one, data: Frame(one[0], data, one[1]), identifiers(extended), bytes_of(range(9)))
+
+
+def remote_frames(extended: Optional[bool] = None) -> SearchStrategy[Frame]:
+    """Remote frames."""
+    return st.builds(
+        lambda one, dlc: Frame(one[0], b"", one[1], is_remote_frame=True, dlc=dlc),
+        identifiers(extended),
+        st.integers(0, 8),
+    )
+
+
+def fd_frames(extended: Optional[bool] = None) -> SearchStrategy[Frame]:
+    """FD frames, of each length that there is."""
+    return st.builds(
+        lambda one, data: Frame(one[0], data, one[1], is_fd=True), identifiers(extended), bytes_of(FD_LENGTHS)
+    )
+
+
+def bytes_of(lengths: Sequence[int]) -> SearchStrategy[bytes]:
+    """So many bytes, each length as often."""
+    return st.sampled_from(lengths).flatmap(lambda length: st.binary(min_size=length, max_size=length))
+
+
+def listed(names: Names) -> list[str]:
+    """The names of interfaces."""
+    return names.split(",") if isinstance(names, str) else list(names)
+
+
+def faults_of_one(names: Names) -> SearchStrategy[str]:
+    """The faults that an attempt may have, in the words of a fault script."""
+    known = listed(names)
+    hit = st.sets(st.sampled_from(known), min_size=1).map(lambda some: ",".join(sorted(some, key=known.index)))
+    local = st.builds("local {} {}".format, st.sampled_from(["crc", "stuff", "form"]), hit)
+    return st.one_of(st.sampled_from(["lastbit", "global bit", "global form"]), local)
+
+
+def fault_plans(names: Names, attempts: int = 32, most: int = 8) -> SearchStrategy[Faults]:
+    """Fault plans of a bus with these interfaces: at most so many faults, in the first attempts.
+
+    They shrink to few faults in early attempts, of which one in the last bit is the simplest.
+    """
+    numbers = st.integers(0, attempts - 1)
+    return st.dictionaries(numbers, faults_of_one(names), max_size=most).map(plan_of)
+
+
+def plan_of(verdicts: dict[int, str]) -> Faults:
+    """The plan with these faults, by the numbers of attempts."""
+    plan = Faults()
+    for attempt, verdict in sorted(verdicts.items()):
+        plan._add(verdict, attempt)
+    return plan
+
+
+def message_sets(
+    names: Names, *, most: int = 4, extended: Optional[bool] = None
+) -> SearchStrategy[dict[str, list[Frame]]]:
+    """The messages that each interface of a bus sends, by its name: no identifier is sent by two, as on a real bus."""
+    known = listed(names)
+    senders = st.lists(
+        st.tuples(data_frames(extended), st.sampled_from(known)),
+        max_size=most * len(known),
+        unique_by=lambda one: (one[0].arbitration_id, one[0].is_extended_id),
+    )
+    return senders.map(lambda pairs: {name: [frame for frame, by in pairs if by == name] for name in known})
