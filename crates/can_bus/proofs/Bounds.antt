@@ -10,6 +10,7 @@ use Rattle.can_event.specs.declared.event.Event.TheVariants.{Open}
 use Rattle.can_event.specs.declared.attempt.Tried.{Tried}
 use Rattle.can_event.specs.declared.reply.Reply.{Reply}
 use Rattle.can_event.specs.declared.reply.Reply.TheVariants as reply
+use Rattle.can_event.specs.Events.{max_long_limit}
 use Rattle.can_bus.specs.Journal.{Kept}
 use Rattle.can_bus.specs.Sockets.{Place, places, places_after, open_sockets, iface_of}
 use Rattle.can_bus.specs.Transmit.{tape, tape_after}
@@ -25,7 +26,7 @@ pub legal-short : (c : BusConfig) (past : List Entry) → IsLegal c past → len
 legal-short c [] legal = omega arith
 legal-short c (e ∷ past) legal = omega (arith, legal.0)
 
-pub short : (j : Kept) (parts : Parts) → IsKept j parts → length j.history ≤ 16777216
+pub short : (j : Kept) (parts : Parts) → IsKept j parts → length j.history ≤ max_long_limit
 short j parts kept = omega (arith, legal-short j.config j.history kept.legal, kept.proper.few_entries)
 
 all_lines : (P : LineState → Type 0) (j : Kept) (parts : Parts) → IsKept j parts → ((i : ℕ) → P (kept_line j.config j.history i)) → All P parts.lines

@@ -12,7 +12,7 @@ use Rattle.can_event.specs.declared.event.Event.TheVariants.{Attempt}
 use Rattle.can_event.specs.declared.reply.Reply.TheVariants as reply
 use Rattle.can_event.specs.declared.socket_id.SocketId.{SocketId}
 use Rattle.can_event.specs.declared.attempt.Tried.{Tried}
-use Rattle.can_event.specs.Events.{IsConfig}
+use Rattle.can_event.specs.Events.{IsLongConfig}
 use Rattle.can_bus.specs.Sockets.{iface_of}
 use Rattle.can_bus.specs.Counters.{transmission}
 use Rattle.can_bus.specs.Legal.{legal_reply, IsLegal}
@@ -67,7 +67,7 @@ at-close c later before s k legal =
 -- ---- the headline
 
 -- what holds of every legal history
-pub headline : (c : BusConfig) (past : List Entry) → IsConfig c → IsLegal c past → Headline c past
+pub headline : (c : BusConfig) (past : List Entry) → IsLongConfig c → IsLegal c past → Headline c past
 headline c past proper legal = record {
   exact = received-copies c past legal;
   sent = copying-sent c past legal;

@@ -31,6 +31,7 @@ pub mod Attempting
 pub mod Between
 pub mod Restarting
 pub mod Telling
+pub mod HeadFacts
 pub mod LifeFacts
 pub mod OwnFacts
 pub mod FateFacts
@@ -44,3 +45,4 @@ pub mod OfferFacts
 pub mod Headlines
 pub mod Carrying
 pub mod Answering
+pub mod Tails

@@ -23,6 +23,7 @@ use Rattle.can_event.specs.declared.socket_id.SocketId.{SocketId}
 use Rattle.can_event.specs.declared.reply.Reply.{Reply}
 use Rattle.can_event.specs.declared.reply.Reply.TheVariants as reply
 use Rattle.can_event.specs.declared.attempt.Tried.{Tried}
+use Rattle.can_event.specs.Events.{max_long_limit}
 use Rattle.can_packed.specs.Wide.{is_wide, is_large, is_off_alone}
 use Rattle.can_bus.specs.Journal.{Kept}
 use Rattle.can_bus.specs.State.{Parts, IsKept}
@@ -80,16 +81,16 @@ auto_restart-posts : (restarted : IfaceSet) (m i : ℕ) → AreShort (auto_resta
 auto_restart-posts restarted m i = if-holds AreShort (is_in i restarted) _ _ (error-posts i m (Some restart_message)) no-posts
 
 -- as many frames are gone as there are entries at most
-gone-short : (c : BusConfig) (past : List Entry) → IsLegal c past → length past ≤ 16777216 → (i : ℕ) → gone_count past i < 2 ^ 32
+gone-short : (c : BusConfig) (past : List Entry) → IsLegal c past → length past ≤ max_long_limit → (i : ℕ) → gone_count past i < 2 ^ 32
 gone-short c past legal few i = omega (arith, gone-le-sent c past legal i, sent_by-le past i)
 
-tried-short : (c : BusConfig) (past : List Entry) (m : ℕ) (v : Verdict) (t : Tried) → IsLegal c past → length past ≤ 16777216 → reply.Tried t ≡ legal_reply c past (Attempt m v) → t.number < 2 ^ 32
+tried-short : (c : BusConfig) (past : List Entry) (m : ℕ) (v : Verdict) (t : Tried) → IsLegal c past → length past ≤ max_long_limit → reply.Tried t ≡ legal_reply c past (Attempt m v) → t.number < 2 ^ 32
 tried-short c past m v t legal few law =
     let was = was_tried c past m v t law in
     let is : t.number ≡ gone_count past was.place = ap (λ (u : Tried). u.number) was.is in
     omega (arith, is, gone-short c past legal few was.place)
 
-posts-short : (c : BusConfig) (past : List Entry) (i : ℕ) (e : Event) (r : Reply) → IsLegal c past → length past ≤ 16777216 → r ≡ legal_reply c past e → AreShort (posts_of c past i e r)
+posts-short : (c : BusConfig) (past : List Entry) (i : ℕ) (e : Event) (r : Reply) → IsLegal c past → length past ≤ max_long_limit → r ≡ legal_reply c past e → AreShort (posts_of c past i e r)
 posts-short c past i (Attempt m v) (reply.Tried t) legal few law =
     let p = slice_get (sent_by past t.winner) t.number in
     let tr = transmission c past t.winner v in
@@ -104,10 +105,10 @@ passing-short filters options s (p ∷ ps) h =
     let rest = passing-short filters options s ps (All-tail IsShortPost p ps h) in
     if-holds (All IsShort) (wants filters options p.received.item (is_own p.sender s)) _ _ (All-cons IsShort p.received (passing filters options s ps) (All-head IsShortPost p ps h) rest) rest
 
-queued-short : (c : BusConfig) (past : List Entry) (s : ℕ) → IsLegal c past → length past ≤ 16777216 → All IsShort (queued_to c past s)
+queued-short : (c : BusConfig) (past : List Entry) (s : ℕ) → IsLegal c past → length past ≤ max_long_limit → All IsShort (queued_to c past s)
 queued-short c [] s legal few = All-nil IsShort
 queued-short c (e ∷ past) s legal few =
-    let fewer : length past ≤ 16777216 = omega arith in
+    let fewer : length past ≤ max_long_limit = omega arith in
     All-append IsShort (queued_to c past s) _ (queued-short c past s legal.2 fewer)
     (All-take IsShort (capacity_of past s + length (taken_from past s) - length (queued_to c past s)) (candidates_of c past s e.event e.reply)
     (if-holds (All IsShort) (is_open past s) _ _ (passing-short (filters_of past s) (options_of past s) s (posts_of c past (iface_of past s) e.event e.reply) (posts-short c past (iface_of past s) e.event e.reply legal.2 fewer legal.1)) (All-nil IsShort)))
@@ -160,7 +161,7 @@ head-narrow c past m v w (Some p) small below =
     let alone : is_off_alone w (set_of (off_after (transmission c past w v))) ≡ true = off-alone (transmission c past w v) below in
     rw (number, moment, alone) refl
 
-attempt-narrow : (c : BusConfig) (past : List Entry) (m : ℕ) (v : Verdict) (w : Option ℕ) → winner c past ≡ w → IsLegal c past → length past ≤ 16777216 → c.ifaces ≤ 16 → is_wide (Attempt m v) (attempt_reply c past m v w) ≡ false
+attempt-narrow : (c : BusConfig) (past : List Entry) (m : ℕ) (v : Verdict) (w : Option ℕ) → winner c past ≡ w → IsLegal c past → length past ≤ max_long_limit → c.ifaces ≤ 16 → is_wide (Attempt m v) (attempt_reply c past m v w) ≡ false
 attempt-narrow c past m v None who legal few most = refl
 attempt-narrow c past m v (Some w) who legal few most =
     let b = (winner-contends c past w who).below in
@@ -171,7 +172,7 @@ abbrev pub SetsFilters : Event → Type 0
 SetsFilters (SetFilters s f) = Unit {0}
 SetsFilters _ = ⊥
 
-legal-narrow : (c : BusConfig) (past : List Entry) (e : Event) → IsLegal c past → length past ≤ 16777216 → c.ifaces ≤ 16 → ¬ SetsFilters e → is_wide e (legal_reply c past e) ≡ false
+legal-narrow : (c : BusConfig) (past : List Entry) (e : Event) → IsLegal c past → length past ≤ max_long_limit → c.ifaces ≤ 16 → ¬ SetsFilters e → is_wide e (legal_reply c past e) ≡ false
 legal-narrow c past (Open i n) legal few most other = narrow-if (Open i n) (nat_le c.ifaces i) _ _ refl (narrow-if (Open i n) (not (nat_le 1 n && nat_le n 65536)) _ _ refl (narrow-if (Open i n) (nat_le 64 (length (open_sockets past))) _ _ refl refl))
 legal-narrow c past (Close s) legal few most other = narrow-if (Close s) (is_open past s.0) _ _ refl refl
 legal-narrow c past (SetFilters s f) legal few most other = absurd (other tt)

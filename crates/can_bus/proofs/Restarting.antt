@@ -33,7 +33,8 @@ counts-restarted c past i m = ap (λ (ss : List Step). all_stepped at_start ss) 
 counts-other : (c : BusConfig) (past : List Entry) (i m j : ℕ) → j ≢ i → counts_of c (entry i m reply.Done ∷ past) j ≡ counts_of c past j
 counts-other c past i m j ne = ap (λ (ss : List Step). all_stepped at_start ss) (cond-false (i == j) [] (steps_of c past j) (ne_eqb i j (λ e. ne (sym e))))
 
-nodes-restarted : (c : BusConfig) (past : List Entry) (i m : ℕ) (old new : Nodes) → i < 16 → old ≡ kept_nodes c past → new ≡ record old { counters = slice_set old.counters i at_start } → new ≡ kept_nodes c (entry i m reply.Done ∷ past)
+-- the nodes that are kept, after an interface began anew
+pub nodes-restarted : (c : BusConfig) (past : List Entry) (i m : ℕ) (old new : Nodes) → i < 16 → old ≡ kept_nodes c past → new ≡ record old { counters = slice_set old.counters i at_start } → new ≡ kept_nodes c (entry i m reply.Done ∷ past)
 unfolding kept_nodes
 nodes-restarted c past i m old new lt are after =
     after

@@ -13,7 +13,7 @@ use Rattle.can_event.specs.declared.event.Event.TheVariants.{Send}
 use Rattle.can_event.specs.declared.reply.Reply.TheVariants as reply
 use Rattle.can_event.specs.Replies.{told}
 use Rattle.can_bus.specs.Counters.{state_at}
-use Rattle.can_event.specs.Events.{IsConfig}
+use Rattle.can_event.specs.Events.{IsLongConfig}
 use Rattle.can_bus.specs.Legal.{lacks_fd, legal_reply, IsLegal}
 use Rattle.can_bus.specs.Sockets.{iface_of, is_open, options_of}
 use Rattle.can_bus.specs.Transmit.{sent_by, gone_count, head_of}
@@ -150,7 +150,7 @@ left-sent : (c : BusConfig) (past : List Entry) (s : SocketId) (f : CanFrame) (n
 unfolding kept_left
 left-sent c past s f n = refl
 
-taken_follows : (c : BusConfig) (past : List Entry) (s : SocketId) (f : CanFrame) (n : ℕ) (new : Parts) → IsConfig c → IsLegal c past → Takes (kept_parts c past) s.0 n (pending_of f s) new → Follows c past (entry s f (Ok n)) new
+taken_follows : (c : BusConfig) (past : List Entry) (s : SocketId) (f : CanFrame) (n : ℕ) (new : Parts) → IsLongConfig c → IsLegal c past → Takes (kept_parts c past) s.0 n (pending_of f s) new → Follows c past (entry s f (Ok n)) new
 taken_follows c past s f n new proper legal takes =
     let e = entry s f (Ok n) in
     let v = takes.socket in
@@ -198,7 +198,7 @@ keys-full : (past : List Entry) (s : SocketId) (f : CanFrame) → kept_keys (ful
 unfolding kept_keys
 keys-full past s f = refl
 
-full_follows : (c : BusConfig) (past : List Entry) (s : SocketId) (f : CanFrame) (new : Parts) → IsConfig c → FindsFull (kept_parts c past) s.0 (pending_of f s) new → Follows c past (full_entry s f) new
+full_follows : (c : BusConfig) (past : List Entry) (s : SocketId) (f : CanFrame) (new : Parts) → IsLongConfig c → FindsFull (kept_parts c past) s.0 (pending_of f s) new → Follows c past (full_entry s f) new
 full_follows c past s f new proper full =
     let e = full_entry s f in
     let v = full.socket in
@@ -219,7 +219,7 @@ full_follows c past s f new proper full =
 
 -- ---- refusals that count nothing
 
-reply-off : (c : BusConfig) (past : List Entry) (s : SocketId) (f : CanFrame) → IsConfig c → IsLegal c past → IsOffFor (kept_parts c past) s.0 (pending_of f s) → reply.Refused refusal.BusOff ≡ legal_reply c past (Send s f)
+reply-off : (c : BusConfig) (past : List Entry) (s : SocketId) (f : CanFrame) → IsLongConfig c → IsLegal c past → IsOffFor (kept_parts c past) s.0 (pending_of f s) → reply.Refused refusal.BusOff ≡ legal_reply c past (Send s f)
 reply-off c past s f proper legal off =
     let at = IsThere-stands c past (kept_sockets c past) s.0 off.place off.socket refl off.stands in
     let below = open-iface c past legal off.place s.0 at.listed in
@@ -235,7 +235,7 @@ reply-fd-off c past s f off =
     sym (cond-true (lacks_fd f (options_of past s.0)) _ _ (may-send c past s.0 f off.socket true at.left off.lacks)) ∙ sym (cond-true (is_open past s.0) _ _ at.is_there)
 
 -- a frame that was sent, or a refusal, leaves what its entry leaves
-pub sent_follows : (c : BusConfig) (past : List Entry) (s : SocketId) (f : CanFrame) (r : Result ℕ Refusal) (new : Parts) → IsConfig c → IsLegal c past → Sends (kept_parts c past) s.0 (pending_of f s) r new → Follows c past (entry s f r) new
+pub sent_follows : (c : BusConfig) (past : List Entry) (s : SocketId) (f : CanFrame) (r : Result ℕ Refusal) (new : Parts) → IsLongConfig c → IsLegal c past → Sends (kept_parts c past) s.0 (pending_of f s) r new → Follows c past (entry s f r) new
 sent_follows c past s f (Ok n) new proper legal takes = taken_follows c past s f n new proper legal takes
 sent_follows c past s f (Err refusal.NoSocket) new proper legal refuses =
     let shut = closed-nowhere c past (kept_sockets c past) s.0 refl refuses.0 in

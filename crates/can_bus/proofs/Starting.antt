@@ -6,7 +6,7 @@ use Rattle.can_attempt.specs.declared.nodes.Nodes.{Nodes}
 use Rattle.can_event.specs.declared.entry.Entry.{Entry}
 use Rattle.can_event.specs.declared.bus_config.BusConfig.{BusConfig}
 use Rattle.can_bus.specs.Journal.{Kept}
-use Rattle.can_event.specs.Events.{IsConfig}
+use Rattle.can_event.specs.Events.{IsLongConfig}
 use Rattle.can_bus.specs.State.{LineState, SocketState, Parts, fresh_line, kept_line, kept_lines, kept_sockets, kept_keys, kept_nodes, kept_left, kept_parts, IsKept}
 use Rattle.can_bus.proofs.Keeping.{parts-are}
 
@@ -45,7 +45,7 @@ started c lines keys z left sockets lines_are keys_are zero_is left_is sockets_a
     parts-are (record { lines = lines; keys = keys; nodes = all_at c z; left = left; sockets = sockets; opened = 0; tried = 0 }) (kept_parts c []) (lines_are ∙ first_lines c) (keys_are ∙ first_keys) (ap (all_at c) zero_is ∙ first_nodes c) (left_is ∙ first_left c) (sockets_are ∙ none_open c) refl refl
 
 -- an empty record, and what it leaves
-pub made : (j : Kept) (parts : Parts) (c : BusConfig) → j.config ≡ c → j.history ≡ [] → c.limit ≤ j.room → IsConfig c → parts ≡ kept_parts c [] → IsKept j parts
+pub made : (j : Kept) (parts : Parts) (c : BusConfig) → j.config ≡ c → j.history ≡ [] → c.limit ≤ j.room → IsLongConfig c → parts ≡ kept_parts c [] → IsKept j parts
 made j parts c config history room proper parts_are =
     let is : ◌≡◌ {A = Kept} (record { config = c; history = []; room = j.room }) j = ap (λ (k : BusConfig). record { config = k; history = []; room = j.room }) (sym config) ∙ ap (λ (h : List Entry). record { config = j.config; history = h; room = j.room }) (sym history) in
     subst (λ k. IsKept k parts) is (record { of_parts = parts_are; legal = tt; proper = proper; room = room })

@@ -11,7 +11,7 @@ use Rattle.can_event.specs.declared.entry.Entry.{Entry}
 use Rattle.can_event.specs.declared.stats.SocketStats.{SocketStats}
 use Rattle.can_event.specs.declared.stats.IfaceStats.{IfaceStats}
 use Rattle.can_bus.specs.Counters.{counts_of}
-use Rattle.can_event.specs.Events.{IsConfig}
+use Rattle.can_event.specs.Events.{IsLongConfig}
 use Rattle.can_bus.specs.Legal.{IsLegal}
 use Rattle.can_bus.specs.Queues.{queued_to, taken_from, dropped_at}
 use Rattle.can_bus.specs.Sockets.{is_open}
@@ -54,7 +54,7 @@ counted-line c past i few =
     ap (λ (k : ErrorCounts). told_line k (kept_line c past i)) (counts_at-kept c past i few)
     ∙ ap (λ (n : ℕ). record (told_line (counts_of c past i) (kept_line c past i)) { waiting = n }) (length-drop (gone_count past i) (sent_by past i))
 
-kept_iface : (c : BusConfig) (past : List Entry) (i : ℕ) (there : Bool) → IsConfig c → nat_lt i c.ifaces ≡ there → option_map (told_line (counts_at (kept_nodes c past) i)) (slice_get (kept_lines c past) i) ≡ iface_stats_of c past i
+kept_iface : (c : BusConfig) (past : List Entry) (i : ℕ) (there : Bool) → IsLongConfig c → nat_lt i c.ifaces ≡ there → option_map (told_line (counts_at (kept_nodes c past) i)) (slice_get (kept_lines c past) i) ≡ iface_stats_of c past i
 kept_iface c past i true proper is =
     let below : i < c.ifaces = ltb-true i c.ifaces is in
     let few : i < 16 = omega (arith, below, proper.few_ifaces) in
@@ -67,5 +67,5 @@ kept_iface c past i false proper is =
     ap (option_map (told_line (counts_at (kept_nodes c past) i))) (slice_get_past (kept_lines c past) i past_end)
     ∙ sym (cond-false (nat_lt i c.ifaces) _ _ is)
 
-pub told_iface : (c : BusConfig) (past : List Entry) (i : ℕ) → IsConfig c → option_map (told_line (counts_at (kept_nodes c past) i)) (slice_get (kept_lines c past) i) ≡ iface_stats_of c past i
+pub told_iface : (c : BusConfig) (past : List Entry) (i : ℕ) → IsLongConfig c → option_map (told_line (counts_at (kept_nodes c past) i)) (slice_get (kept_lines c past) i) ≡ iface_stats_of c past i
 told_iface c past i proper = kept_iface c past i (nat_lt i c.ifaces) proper refl

@@ -20,7 +20,10 @@ pub mod Changes
 pub mod Answer
 pub mod Run
 pub mod Lean
+pub mod Chains
+pub mod Long
 pub mod Stats
+pub mod Heads
 pub use Rattle.can_frame.specs.Frames
 pub use Rattle.can_frame.specs.Sets
 pub use Rattle.can_filter.specs.Passing

@@ -10,7 +10,7 @@ use Rattle.can_event.specs.declared.received.Received.{Received}
 use Rattle.can_event.specs.declared.pending.Pending.{Pending}
 use Rattle.can_event.specs.declared.bus_config.BusConfig.{BusConfig}
 use Rattle.can_bus.specs.Journal.{Kept}
-use Rattle.can_event.specs.Events.{IsConfig}
+use Rattle.can_event.specs.Events.{IsLongConfig}
 use Rattle.can_bus.specs.Sockets.{places, open_sockets, iface_of, capacity_of, filters_of, options_of}
 use Rattle.can_bus.specs.Transmit.{sent_by, gone_count, done_count, refused_count, head_of, tape}
 use Rattle.can_bus.specs.Counters.{counts_of}
@@ -113,5 +113,5 @@ pub record IsLonger (j : Kept) (e : Entry) (new : Kept) : Type 0 where
 pub record IsKept (j : Kept) (parts : Parts) : Type 0 where
   pub of_parts : parts ≡ kept_parts j.config j.history
   pub legal : IsLegal j.config j.history
-  pub proper : IsConfig j.config
+  pub proper : IsLongConfig j.config
   pub room : j.config.limit ≤ j.room

@@ -3,7 +3,8 @@ ghost use Rattle.can_bus.specs.Answer.{Answers, done_reply, told_attempt};
 ghost use Rattle.can_bus.specs.Attempts.{winner};
 ghost use Rattle.can_bus.specs.AutoRestart.{is_counting};
 ghost use Rattle.can_bus.specs.Headline.{Headline};
-ghost use Rattle.can_event.specs.Events.{IsConfig};
+ghost use Rattle.can_bus.specs.Heads.{next_head};
+ghost use Rattle.can_event.specs.Events.{IsConfig, IsLongConfig};
 ghost use Rattle.can_event.specs.Replies.{entry_of, taken_reply};
 ghost use Rattle.can_bus.specs.Legal.{IsLegal};
 ghost use Rattle.can_bus.specs.Run.{IsAnswered};
@@ -83,7 +84,11 @@ impl<T: BoundedQueue<Pending>, R: BoundedQueue<Received>, A: Arbiter> Model for 
 }
 
 /// The entry of a socket's filters that are set to a copy of these, in memory of its own.
-fn filters_entry(alloc: Global, id: SocketId, filters: &FilterSet) -> Result<Box<Entry>, AllocError>
+pub(crate) fn filters_entry(
+    alloc: Global,
+    id: SocketId,
+    filters: &FilterSet,
+) -> Result<Box<Entry>, AllocError>
     ensures { IfOk result (λ entry.
         entry.value ≡ entry_of (event.SetFilters id filters.now) reply.Done) }
 {
@@ -131,6 +136,15 @@ impl<T: BoundedQueue<Pending>, R: BoundedQueue<Received>, A: Arbiter> Bus<T, R, 
     {
         let Bus { record, .. } = self;
         record
+    }
+
+    /// How many entries its record has.
+    pub fn len(&self) -> u64
+        ensures len { result ≡ length self.now.history }
+        ensures proper { IsLongConfig self.now.config }
+        ensures legal { IsLegal self.now.config self.now.history }
+    {
+        self.record.len() as u64
     }
 
     /// The number of the next attempt that tries a frame: how many there were.
@@ -332,6 +346,14 @@ impl<T: BoundedQueue<Pending>, R: BoundedQueue<Received>, A: Arbiter> Bus<T, R, 
         ensures { result ≡ winner self.now.config self.now.history }
     {
         self.state.winner()
+    }
+
+    /// The interface and the frame that the next attempt tries: `None` where no live interface has one to send.
+    /// No event.
+    pub fn next_head(&self) -> Option<(Iface, Frame)>
+        ensures { result ≡ next_head self.now.config self.now.history }
+    {
+        self.state.next_head()
     }
 
     /// Whether an interface that is bus off counts the attempts until it is restarted. No event.

@@ -5,13 +5,15 @@ ghost use Rattle.can_frame.specs.Sets.{is_in};
 ghost use Rattle.can_confine.specs.Confinement.{is_off, at_start};
 ghost use Rattle.can_fault.specs.declared.verdict.Verdict.{Verdict};
 ghost use Rattle.can_attempt.specs.declared.class.Class.TheVariants as class;
-ghost use Rattle.can_event.specs.Events.{IsConfig};
+ghost use Rattle.can_event.specs.Events.{IsLongConfig};
 ghost use Rattle.can_bus.specs.Transmit.{sent_by, gone_count, done_count, lost_count, head_of};
 ghost use Rattle.can_bus.specs.Counters.{state_at, counts_of};
 ghost use Rattle.can_bus.specs.Copies.{received_from, copying, copy_of, numbers_from, NeverFall, went_over, InTurn, IsOfSent};
 ghost use Rattle.can_bus.specs.Repeats.{AtMost32Copies, RisesAtTheHead, LastBitAdds8, HadThatFaultAlone};
 ghost use Rattle.can_bus.specs.Queues.{queued_to, dropped_at, taken_from, candidates_for};
+ghost use Rattle.can_bus.specs.AutoRestart.{restarted_next};
 ghost use Rattle.can_bus.specs.Headline.{Headline};
+ghost use Rattle.can_bus.specs.Heads.{next_head};
 ghost use Rattle.can_bus.specs.Offers.{Offer, offers_to, with_room, without_room};
 ghost use Rattle.can_bus.specs.Sockets.{places, open_sockets, is_open, iface_of, capacity_of, options_of};
 ghost use Rattle.can_bus.specs.Fates.{numbers_given, opening, closing, is_restart_of, frames_with, goes_off};
@@ -35,7 +37,8 @@ use can_event::BusConfig;
 /// Every accepted frame, exactly: the headline holds of every legal history of a proper configuration. The
 /// laws below say its parts, and more.
 pub fn every_accepted_frame_exactly(config: BusConfig)
-    ensures { IsConfig config → (past : List Entry) → IsLegal config past → Headline config past }
+    ensures { IsLongConfig config → (past : List Entry) → IsLegal config past →
+        Headline config past }
 {}
 
 // ---- copies
@@ -93,9 +96,9 @@ pub fn own_copies_are_single(config: BusConfig)
 /// alone adds 8: by the 32nd the interface is bus off, and the frame lost. Restarts leave the bound as it is: an interface
 /// that is restarted was bus off, so it had no frame at the head.
 pub fn at_most_32_copies(config: BusConfig)
-    ensures copies { IsConfig config → (past : List Entry) → IsLegal config past →
+    ensures copies { IsLongConfig config → (past : List Entry) → IsLegal config past →
         AtMost32Copies config past }
-    ensures rising { IsConfig config → (past : List Entry) → (e : Entry) →
+    ensures rising { IsLongConfig config → (past : List Entry) → (e : Entry) →
         IsLegal config (e ∷ past) → RisesAtTheHead config e past }
     ensures last_bit { (past : List Entry) → (e : Entry) → IsLegal config (e ∷ past) →
         LastBitAdds8 config e past }
@@ -198,10 +201,10 @@ pub fn socket_numbers_are_never_used_again(config: BusConfig)
 
 /// An interface that is bus off has no frame waiting: all that was accepted there is gone.
 pub fn off_interfaces_have_nothing_to_send(config: BusConfig)
-    ensures gone { IsConfig config → (past : List Entry) → IsLegal config past → (i : ℕ) →
+    ensures gone { IsLongConfig config → (past : List Entry) → IsLegal config past → (i : ℕ) →
         is_off (state_at config past i) ≡ true →
         gone_count past i ≡ length (sent_by past i) }
-    ensures idle { IsConfig config → (past : List Entry) → IsLegal config past → (i : ℕ) →
+    ensures idle { IsLongConfig config → (past : List Entry) → IsLegal config past → (i : ℕ) →
         is_off (state_at config past i) ≡ true → head_of past i ≡ None }
 {}
 
@@ -225,6 +228,16 @@ pub fn off_interfaces_take_no_part(config: BusConfig)
     ensures counts { (past : List Entry) → (e : Entry) → IsLegal config (e ∷ past) → (i : ℕ) →
         is_off (state_at config past i) ≡ true → is_restart_of i e.event e.reply ≡ false →
         counts_of config (e ∷ past) i ≡ counts_of config past i }
+{}
+
+/// An attempt tries the frame that was next, of the interface that had it, and is idle where there was none.
+pub fn attempts_try_what_is_next(config: BusConfig)
+    ensures tried { (past : List Entry) → (m : ℕ) → (v : Verdict) → (t : Tried) →
+        reply.Tried t ≡ legal_reply config past (event.Attempt m v) →
+        next_head config past ≡ Some (t.winner, t.frame) }
+    ensures idle { (past : List Entry) → (m : ℕ) → (v : Verdict) →
+        next_head config past ≡ None →
+        legal_reply config past (event.Attempt m v) ≡ reply.Idle (restarted_next config past) }
 {}
 
 /// Nothing is sent on an interface that is not there, and its error counts stay 0/0.

@@ -1,7 +1,7 @@
 ghost use Rattle.std.specs.Prelude.{◌≡◌, [], Err, List, IfOk, OnOk, ◌↔◌};
 ghost use Rattle.can_bus.specs.Lean.{Stands};
 ghost use Rattle.can_bus.specs.Run.{IsAnswer, history_after};
-ghost use Rattle.can_event.specs.Events.{IsConfig};
+ghost use Rattle.can_event.specs.Events.{IsLongConfig};
 ghost use Rattle.can_event.specs.Replies.{Enters, entry_of};
 ghost use Rattle.can_event.specs.Spelled.{IsSpelled};
 ghost use Rattle.can_event.specs.declared.entry.Entry.{Entry as AnEntry};
@@ -45,10 +45,10 @@ impl<T: BoundedQueue<Pending>, R: BoundedQueue<Received>, A: Arbiter> LeanBus<T,
     pub fn new(alloc: Global, config: BusConfig) -> Result<LeanBus<T, R, A>, BusFault>
         ensures made { IfOk result (λ b. Stands b []) }
         ensures config { IfOk result (λ b. b.config ≡ config) }
-        ensures proper { OnOk result (IsConfig config) }
-        ensures bad { (result ≡ Err BusFault.BadConfig) ↔ (¬ IsConfig config) }
+        ensures proper { OnOk result (IsLongConfig config) }
+        ensures bad { (result ≡ Err BusFault.BadConfig) ↔ (¬ IsLongConfig config) }
     {
-        if !config.is_proper() {
+        if !config.is_long_proper() {
             return Err(BusFault::BadConfig);
         }
         let Ok(state) = State::new(alloc, config) else {

@@ -11,10 +11,13 @@ pub mod bus;
 mod countdown;
 pub mod entries;
 mod held;
+mod history;
+pub mod journaled;
 pub mod laws;
 pub mod lean_bus;
 mod line;
 mod lines;
+pub mod long_bus;
 pub mod outcomes;
 mod posting;
 pub mod records;
@@ -30,9 +33,11 @@ pub use can_event::{
     Attempt, BusConfig, Closed, Entry, Event, IfaceStats, Opt, Pending, Received, Refusal, Reply,
     SocketId, SocketStats, Tried, is_spelled,
 };
-pub use can_packed::{Looked, Stored};
+pub use can_packed::{Looked, PackedRecord, Stored};
 pub use entries::{Entries, EntriesIter};
+pub use journaled::Journaled;
 pub use lean_bus::{LeanBus, LeanRingBus};
+pub use long_bus::{LongBus, LongEnd, LongRingBus, TAIL_SIZE};
 pub use outcomes::Attempted;
 pub use records::Record;
 pub use runs::{RunFault, run};

@@ -1,6 +1,8 @@
 ghost use Rattle.std.specs.Prelude.{◌≡◌, ◌<◌, [], List, length, IfOk, IfSome, IsNone, ◌↔◌, ◌==◌, not};
 ghost use Rattle.can_arbiter.specs.Keys.{IsWinner, IsIdle};
 ghost use Rattle.std.specs.List.{list_any};
+ghost use Rattle.can_bus.specs.Changes.{AreReady};
+ghost use Rattle.can_bus.specs.Heads.{TellsNext};
 ghost use Rattle.can_bus.specs.Lean.{Carries, IsReady, record_of};
 ghost use Rattle.can_bus.specs.State.{IsKept, kept_parts};
 ghost use Rattle.can_event.specs.declared.entry.Entry.{Entry as AnEntry};
@@ -14,7 +16,7 @@ use can_arbiter::Arbiter;
 use can_attempt::Nodes;
 use can_confine::Counters;
 use can_event::{BusConfig, Event, Pending, Received, Reply};
-use can_frame::Iface;
+use can_frame::{Frame, Iface};
 use can_queue::{BoundedQueue, QueueError};
 use std::alloc::Global;
 use std::marker::Model;
@@ -116,6 +118,17 @@ impl<T: BoundedQueue<Pending>, R: BoundedQueue<Received>, A: Arbiter> State<T, R
         ensures none { IsNone result ↔ IsIdle self.now.keys }
     {
         self.arbiter.winner()
+    }
+
+    /// The interface that wins the bus, with the frame at the head of its queue, if any competes.
+    pub fn next_head(&self) -> Option<(Iface, Frame)>
+        requires { AreReady self.now }
+        ensures { TellsNext self.now result }
+    {
+        let winner = self.arbiter.winner()?;
+        let line = &self.lines[winner.number() as usize];
+        let pending = line.head()?;
+        Some((winner, pending.frame))
     }
 
     /// Whether an interface counts the attempts until it is restarted.

@@ -78,6 +78,23 @@ impl PackedRecord {
         self.entries.len()
     }
 
+    /// How many entries there is memory for, those that are there included.
+    pub fn room(&self) -> usize
+        ensures { result ≡ self.now.room }
+    {
+        let entries = self.entries.capacity() - self.entries.len();
+        let frames = self.frames.capacity() - self.frames.len();
+        self.entries.len() + entries.min(frames)
+    }
+
+    /// Lets all entries go. Their memory stays.
+    pub fn clear(&mut self)
+        ensures { self.new.entries ≡ [] }
+    {
+        self.entries.clear();
+        self.frames.clear();
+    }
+
     /// Adds an event with its reply that is not wide. No memory is taken.
     #[inline(always)]
     pub fn push(&mut self, event: &Event, reply: &Reply)

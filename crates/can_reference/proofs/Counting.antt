@@ -1,8 +1,8 @@
-use Rattle.std.proofs.Common.{◌≡◌, ◌≢◌, ℕ, ◌+◌, ◌<◌, ◌≤◌, ◌==◌, nat_le, Bool, true, false, if◌then◌else◌, List, [], ◌∷◌, ◌++◌, length, map, get_or, slice_set, refl, sym, ap, ◌∙◌, subst, arith}
+use Rattle.std.proofs.Common.{◌≡◌, ℕ, ◌+◌, ◌<◌, ◌≤◌, nat_le, Bool, true, false, if◌then◌else◌, List, [], ◌∷◌, ◌++◌, length, map, get_or, refl, sym, ap, ◌∙◌, subst, arith}
 use mathlib.Core.Path.{fun_ext}
 use Rattle.std.specs.List.{range_with_len}
-use Rattle.std.proofs.lemmas.Bool.{eq-eqb, ne_eqb, cond-true, cond-false, leb-false}
-use Rattle.can_confine.specs.Confinement.{ErrorCounts, Step, all_stepped, at_start, state_of, is_off}
+use Rattle.std.proofs.lemmas.Bool.{leb-false}
+use Rattle.can_confine.specs.Confinement.{ErrorCounts, all_stepped, at_start, state_of, is_off}
 use Rattle.can_fault.specs.declared.verdict.Verdict.{Verdict}
 use Rattle.can_attempt.specs.declared.nodes.Nodes.{Nodes}
 use Rattle.can_attempt.specs.Attempts.{Transmission, attempt_between, counts_at, counts_after, judged, steps_at}
@@ -21,10 +21,10 @@ use Rattle.can_bus.specs.Counters.{counts_of, steps_of, state_at, transmission}
 use Rattle.can_bus.specs.Legal.{legal_reply}
 use Rattle.can_bus.specs.State.{kept_nodes}
 use Rattle.can_bus.proofs.Attempting.{between-is, count-kept, counts_at-all}
-use Rattle.can_bus.proofs.KeyFacts.{sixteen-one}
 use Rattle.can_bus.proofs.Lawful.{WasTried, by_attempt}
 use Rattle.can_bus.proofs.NodeFacts.{counts_at-kept}
 use Rattle.can_bus.proofs.OffFacts.{all_stepped-append, winner-contends}
+use Rattle.can_bus.proofs.Restarting.{nodes-restarted}
 use Rattle.can_replay.proofs.Before.{before_more}
 use Rattle.can_reference.specs.inner.Counted.{Counts, IsLive, judged_nodes}
 use Rattle.can_event.specs.Replies.{entry_of}
@@ -100,20 +100,6 @@ nodes-idle c past m v set old new are after =
     ∙ ap (λ (cs : List ErrorCounts). record { count = c.ifaces; counters = cs })
     (map_all (λ i. if is_in i set then at_start else counts_of c past i) (counts_of c (entry_of (Attempt m v) (reply.Idle set) ∷ past)) (range_with_len 0 16)
     (λ i. sym (counts-idle c past m v set i)))
-
-counts-restarted : (c : BusConfig) (past : List Entry) (i m : ℕ) → counts_of c (entry_of (Restart i m) reply.Done ∷ past) i ≡ at_start
-counts-restarted c past i m = ap (λ (ss : List Step). all_stepped at_start ss) (cond-true (i == i) [] (steps_of c past i) (eq-eqb i i refl))
-
-counts-other : (c : BusConfig) (past : List Entry) (i m j : ℕ) → j ≢ i → counts_of c (entry_of (Restart i m) reply.Done ∷ past) j ≡ counts_of c past j
-counts-other c past i m j ne = ap (λ (ss : List Step). all_stepped at_start ss) (cond-false (i == j) [] (steps_of c past j) (ne_eqb i j (λ e. ne (sym e))))
-
-nodes-restarted : (c : BusConfig) (past : List Entry) (i m : ℕ) (old new : Nodes) → i < 16 → old ≡ kept_nodes c past → new ≡ record old { counters = slice_set old.counters i at_start } → new ≡ kept_nodes c (entry_of (Restart i m) reply.Done ∷ past)
-unfolding kept_nodes
-nodes-restarted c past i m old new lt are after =
-    after
-    ∙ ap (λ (n : Nodes). record n { counters = slice_set n.counters i at_start }) are
-    ∙ ap (λ (k : ErrorCounts). record { count = c.ifaces; counters = slice_set (map (counts_of c past) (range_with_len 0 16)) i k }) (sym (counts-restarted c past i m))
-    ∙ ap (λ (ks : List ErrorCounts). record { count = c.ifaces; counters = ks }) (sym (sixteen-one (counts_of c past) (counts_of c (entry_of (Restart i m) reply.Done ∷ past)) i 16 lt (counts-other c past i m)))
 
 tried-law : (c : BusConfig) (past : List Entry) (e : Event) (t : Tried) (old new : Nodes) → IsHistory c past → reply.Tried t ≡ legal_reply c past e → old ≡ kept_nodes c past → Counts c e (reply.Tried t) old new → new ≡ kept_nodes c (entry_of e (reply.Tried t) ∷ past)
 tried-law c past e t old new h law are =

@@ -1,5 +1,6 @@
 // Dialogues on both pairs of types: the scan arbiter with list queues, and the index arbiter with rings.
 
+use super::long_runs::goes_as_a_long_run;
 use super::readings::Readings;
 use super::writing_out::{record_lines, written_out};
 use can_arbiter::Arbiter;
@@ -327,11 +328,12 @@ fn is_made_again(rt: &(impl Abort + AllocGlobal), dialogue: &Dialogue) -> Result
     keeps(rt, &record, dialogue)
 }
 
-/// Plays a dialogue on a bus of either pair of types, event by event and as one list. Both give the replies that it
-/// says, and keep its record.
+/// Plays a dialogue on a bus of either pair of types, event by event and as one list, and on the bus of a long run. All
+/// give the replies that it says, and keep its record or hand out its entries.
 pub fn plays(rt: &(impl Abort + AllocGlobal), dialogue: &str) -> Result<(), Fail> {
     let dialogue = Dialogue::read(rt.alloc(), dialogue)?;
     goes_by_events(rt, &dialogue)?;
     goes_as_one_list(rt, &dialogue)?;
+    goes_as_a_long_run(rt, dialogue.config, &dialogue.entries)?;
     is_made_again(rt, &dialogue)
 }

@@ -1,0 +1,57 @@
+use Rattle.std.proofs.Common.{◌≡◌, ◌↔◌, ℕ, ◌+◌, ◌<◌, ◌≤◌, Bool, IsTrue, List, [], ◌∷◌, ◌++◌, length, drop, reverse, refl, sym, ap, ◌∙◌, subst, arith}
+use Rattle.std.proofs.Math.Seq.{drop-length}
+use Rattle.std.proofs.lemmas.List.{length_push, length-reverse, reverse-append, drop-append-le}
+use Rattle.can_event.specs.declared.bus_config.BusConfig.{BusConfig}
+use Rattle.can_event.specs.declared.entry.Entry.{Entry}
+use Rattle.can_packed.specs.Records.{Adds}
+use Rattle.can_bus.specs.Lean.{record_of}
+use Rattle.can_bus.specs.Long.{LongJournal, HasPlace, HasTail, IsLong}
+use Rattle.can_bus.specs.State.{Parts, IsLonger}
+use Rattle.can_bus.proofs.Bounds.{short}
+
+-- The tail of a long run's bus.
+
+-- ---- the tail
+
+-- an entry more in the tail
+pub tail_more : {past longer tail tail' : List Entry} {handed : ℕ} (e : Entry) → HasTail past tail handed → longer ≡ e ∷ past → Adds tail e tail' → HasTail longer tail' handed
+tail_more {past} {longer} {tail} {tail'} {handed} e has is adds =
+    let more : length tail' ≡ length tail + 1 = ap length adds ∙ length_push tail e in
+    let within : handed ≤ length (reverse past) = omega (arith, has.counted, length-reverse past) in
+    subst (λ (h : List Entry). HasTail h tail' handed) (sym is) (record {
+      counted = omega (arith, has.counted, more);
+      rest = adds ∙ ap (λ (es : List Entry). es ++ e ∷ []) has.rest ∙ sym (drop-append-le handed (reverse past) (e ∷ []) within) ∙ ap (drop handed) (sym (reverse-append (e ∷ []) past));
+    })
+
+-- an empty block is the tail, where all is handed out
+pub tail_taken : (past block : List Entry) (handed : ℕ) → block ≡ [] → handed ≡ length past → HasTail past block handed
+tail_taken past block handed empty all =
+    let none : length block ≡ 0 = ap length empty in
+    record {
+      counted = omega (arith, none, all);
+      rest = empty ∙ sym (drop-length (reverse past)) ∙ ap (λ (n : ℕ). drop n (reverse past)) (length-reverse past ∙ sym all);
+    }
+
+-- ---- what its readers return
+
+-- how many entries there are fits 64 bits
+pub counted_short : {c : BusConfig} {past : List Entry} {parts : Parts} {tail : List Entry} {handed : ℕ} → IsLong c past parts tail handed → length past ≤ 4294967294
+counted_short {c} {past} {parts} long = short (record_of c past) parts long.kept
+
+-- ---- what is known of a bus, of what it keeps
+
+-- there is memory in the tail for an entry more
+pub place_in : {j k : LongJournal} {tail : List Entry} → j ≡ k → HasPlace k → HasTail j.history tail j.handed → length tail < j.room
+place_in {j} {k} {tail} view place has =
+    let here : HasPlace j = subst HasPlace (sym view) place in
+    omega (arith, here, has.counted)
+
+pub full_in : {j k : LongJournal} {full : Bool} → j ≡ k → IsTrue full ↔ (k.config.limit ≤ length k.history) → IsTrue full ↔ (j.config.limit ≤ length j.history)
+full_in {j} {k} {full} view test = subst (λ (x : LongJournal). IsTrue full ↔ (x.config.limit ≤ length x.history)) (sym view) test
+
+pub room_in : {j k : LongJournal} → j ≡ k → length k.history < k.config.limit → length j.history < j.config.limit
+room_in view room = subst (λ (x : LongJournal). length x.history < x.config.limit) (sym view) room
+
+-- its history with one entry more
+pub longer_by : (c : BusConfig) (past new : List Entry) (e : Entry) → new ≡ e ∷ past → IsLonger (record_of c past) e (record_of c new)
+longer_by c past new e is = record { config = refl; history = is; room = omega arith }

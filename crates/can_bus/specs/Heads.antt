@@ -1,0 +1,39 @@
+use Rattle.std.specs.Prelude.{◌≡◌, ℕ, List, slice_get, Option, Some, None}
+use Rattle.can_frame.specs.Frames.{CanFrame}
+use Rattle.can_arbiter.specs.Keys.{IsWinner, IsIdle}
+use Rattle.can_event.specs.declared.bus_config.BusConfig.{BusConfig}
+use Rattle.can_event.specs.declared.entry.Entry.{Entry}
+use Rattle.can_event.specs.declared.pending.Pending.{Pending}
+use Rattle.can_bus.specs.Attempts.{winner}
+use Rattle.can_bus.specs.State.{LineState, Parts}
+use Rattle.can_bus.specs.Transmit.{head_of}
+
+-- What the next attempt tries.
+
+-- interface w with its oldest frame, if it has one (own choice)
+abbrev pub with_frame : ℕ → Option Pending → Option (ℕ × CanFrame)
+with_frame w None = None
+with_frame w (Some p) = Some (w, p.frame)
+
+-- the interface that wins, with its oldest frame (own choice)
+abbrev pub head_at : List Entry → Option ℕ → Option (ℕ × CanFrame)
+head_at past None = None
+head_at past (Some w) = with_frame w (head_of past w)
+
+-- the interface that wins the next attempt, and the frame that it sends: none where no live interface has one
+abbrev pub next_head : BusConfig → List Entry → Option (ℕ × CanFrame)
+next_head c past = head_at past (winner c past)
+
+-- the same, from what is kept: the winner's line, and its oldest frame
+pub record IsNext (parts : Parts) (head : ℕ × CanFrame) : Type 0 where
+  pub line : LineState
+  pub pending : Pending
+  pub wins : IsWinner parts.keys head.0
+  pub there : slice_get parts.lines head.0 ≡ Some line
+  pub oldest : slice_get line.waiting 0 ≡ Some pending
+  pub frame : head.1 ≡ pending.frame
+
+-- what the next attempt tries, from what is kept: nothing where no interface competes
+abbrev pub TellsNext : Parts → Option (ℕ × CanFrame) → Type 0
+TellsNext parts None = IsIdle parts.keys
+TellsNext parts (Some head) = IsNext parts head

@@ -1,0 +1,212 @@
+ghost use Rattle.std.specs.Prelude.{◌≡◌, ◌≢◌, ◌<◌, ℕ, true, Ok, length};
+ghost use Rattle.can_bus.specs.Answer.{Answers};
+ghost use Rattle.can_bus.specs.Attempts.{winner};
+ghost use Rattle.can_bus.specs.AutoRestart.{is_counting};
+ghost use Rattle.can_bus.specs.Heads.{next_head};
+ghost use Rattle.can_bus.specs.Journal.{Journal};
+ghost use Rattle.can_bus.specs.Legal.{IsLegal};
+ghost use Rattle.can_bus.specs.Long.{journal_of, places_left};
+ghost use Rattle.can_bus.specs.Run.{IsAnswered};
+ghost use Rattle.can_bus.specs.Stats.{socket_stats_of, iface_stats_of, all_counts};
+ghost use Rattle.can_bus.specs.Transmit.{tape};
+ghost use Rattle.can_event.specs.Events.{IsLongConfig};
+ghost use Rattle.can_event.specs.Replies.{taken_reply};
+ghost use Rattle.can_event.specs.declared.event.Event.TheVariants as event;
+
+use crate::bus::RingBus;
+use crate::long_bus::{LongEnd, LongRingBus};
+use crate::records::Record;
+use can_confine::Counters;
+use can_event::{Event, IfaceStats, Received, Refusal, Reply, SocketId, SocketStats};
+use can_frame::{Frame, Iface};
+use std::alloc::Global;
+
+/// A bus that others share. Contracts see its journal, and how many entries more it takes.
+///
+/// Each call is what the method of the same name of `Bus` is.
+pub trait Journaled: Drop {
+    /// Its configuration and its entries so far.
+    ghost journal: { Self → Journal };
+
+    /// How many entries more it takes before some are handed out.
+    ghost places_in: { Self → ℕ };
+
+    /// What it leaves at its end.
+    type Left: Drop;
+
+    /// The configuration and the entries of the bus that left it.
+    ghost left: { Self.Left → Journal };
+
+    /// How many entries more it takes before some are handed out. Where there is always a place it is `usize::MAX`.
+    fn places(&self) -> usize
+        ensures { result ≡ places_in self.now };
+
+    /// How many entries there are.
+    fn len(&self) -> u64
+        ensures len { result ≡ length (journal self.now).history }
+        ensures proper { IsLongConfig (journal self.now).config }
+        ensures legal { IsLegal (journal self.now).config (journal self.now).history };
+
+    /// Carries out an event, and returns its reply.
+    fn answer(&mut self, alloc: Global, event: &Event) -> Reply
+        requires { 0 < places_in self.old }
+        ensures { IsAnswered (journal self.old) event.now result (journal self.new) };
+
+    /// Takes the oldest item of a socket into the room, and returns whether there was one.
+    fn receive_into(&mut self, id: SocketId, room: &mut Received) -> Result<bool, Refusal>
+        requires { 0 < places_in self.old }
+        ensures answer { Answers (taken_reply room.new) (journal self.old) (event.Receive id) result
+            (journal self.new) }
+        ensures stays { result ≢ Ok true → room.new ≡ room.old };
+
+    /// What it leaves.
+    fn into_left(self) -> Self::Left
+        ensures { left result ≡ journal self };
+
+    /// The number of the next attempt that tries a frame.
+    fn next_attempt(&self) -> u64
+        ensures { result ≡ length (tape (journal self.now).history) };
+
+    /// The interface whose frame the next attempt tries.
+    fn next_winner(&self) -> Option<Iface>
+        ensures { result ≡ winner (journal self.now).config (journal self.now).history };
+
+    /// The interface and the frame that the next attempt tries.
+    fn next_head(&self) -> Option<(Iface, Frame)>
+        ensures { result ≡ next_head (journal self.now).config (journal self.now).history };
+
+    /// Whether an interface that is bus off counts the attempts until it is restarted.
+    fn is_counting(&self) -> bool
+        ensures { result ≡ is_counting (journal self.now).config (journal self.now).history };
+
+    /// The error counters of all 16 places, by interface.
+    fn counters(&self) -> [Counters; 16]
+        ensures { result ≡ all_counts (journal self.now).config (journal self.now).history };
+
+    /// How many items found room on an open socket, found none, and were taken.
+    fn socket_stats(&self, id: SocketId) -> Option<SocketStats>
+        ensures { result
+            ≡ socket_stats_of (journal self.now).config (journal self.now).history id.0 };
+
+    /// What became of the frames of an interface, and its error counters.
+    fn iface_stats(&self, iface: Iface) -> Option<IfaceStats>
+        ensures { result
+            ≡ iface_stats_of (journal self.now).config (journal self.now).history iface };
+}
+
+impl Journaled for RingBus {
+    ghost journal = { λ b. b };
+
+    // The greatest usize.
+    ghost places_in = { λ b. 18446744073709551615 };
+
+    type Left = Record;
+
+    ghost left = { λ r. record { config = r.config; history = r.history } };
+
+    fn places(&self) -> usize {
+        usize::MAX
+    }
+
+    fn len(&self) -> u64 {
+        RingBus::len(self)
+    }
+
+    fn answer(&mut self, alloc: Global, event: &Event) -> Reply {
+        RingBus::answer(self, alloc, event)
+    }
+
+    fn receive_into(&mut self, id: SocketId, room: &mut Received) -> Result<bool, Refusal> {
+        RingBus::receive_into(self, id, room)
+    }
+
+    fn into_left(self) -> Record {
+        self.into_record()
+    }
+
+    fn next_attempt(&self) -> u64 {
+        RingBus::next_attempt(self)
+    }
+
+    fn next_winner(&self) -> Option<Iface> {
+        RingBus::next_winner(self)
+    }
+
+    fn next_head(&self) -> Option<(Iface, Frame)> {
+        RingBus::next_head(self)
+    }
+
+    fn is_counting(&self) -> bool {
+        RingBus::is_counting(self)
+    }
+
+    fn counters(&self) -> [Counters; 16] {
+        RingBus::counters(self)
+    }
+
+    fn socket_stats(&self, id: SocketId) -> Option<SocketStats> {
+        RingBus::socket_stats(self, id)
+    }
+
+    fn iface_stats(&self, iface: Iface) -> Option<IfaceStats> {
+        RingBus::iface_stats(self, iface)
+    }
+}
+
+impl Journaled for LongRingBus {
+    ghost journal = { journal_of };
+
+    ghost places_in = { places_left };
+
+    type Left = LongEnd;
+
+    ghost left = { journal_of };
+
+    fn places(&self) -> usize {
+        LongRingBus::places(self)
+    }
+
+    fn len(&self) -> u64 {
+        LongRingBus::len(self)
+    }
+
+    fn answer(&mut self, alloc: Global, event: &Event) -> Reply {
+        LongRingBus::answer(self, alloc, event)
+    }
+
+    fn receive_into(&mut self, id: SocketId, room: &mut Received) -> Result<bool, Refusal> {
+        LongRingBus::receive_into(self, id, room)
+    }
+
+    fn into_left(self) -> LongEnd {
+        LongRingBus::into_left(self)
+    }
+
+    fn next_attempt(&self) -> u64 {
+        LongRingBus::next_attempt(self)
+    }
+
+    fn next_winner(&self) -> Option<Iface> {
+        LongRingBus::next_winner(self)
+    }
+
+    fn next_head(&self) -> Option<(Iface, Frame)> {
+        LongRingBus::next_head(self)
+    }
+
+    fn is_counting(&self) -> bool {
+        LongRingBus::is_counting(self)
+    }
+
+    fn counters(&self) -> [Counters; 16] {
+        LongRingBus::counters(self)
+    }
+
+    fn socket_stats(&self, id: SocketId) -> Option<SocketStats> {
+        LongRingBus::socket_stats(self, id)
+    }
+
+    fn iface_stats(&self, iface: Iface) -> Option<IfaceStats> {
+        LongRingBus::iface_stats(self, iface)
+    }
+}

@@ -1,0 +1,316 @@
+ghost use Rattle.std.specs.Prelude.{◌≡◌, ◌≢◌, ◌<◌, ◌≤◌, [], length, true, Ok, Err, IfOk, OnOk, IsTrue, ◌↔◌};
+ghost use Rattle.can_bus.specs.Answer.{Answers};
+ghost use Rattle.can_bus.specs.Attempts.{winner};
+ghost use Rattle.can_bus.specs.AutoRestart.{is_counting};
+ghost use Rattle.can_bus.specs.Headline.{Headline};
+ghost use Rattle.can_bus.specs.Heads.{next_head};
+ghost use Rattle.can_bus.specs.Legal.{IsLegal};
+ghost use Rattle.can_bus.specs.Long.{HandsOut, HasPlace, KeepsTail, held_back, journal_of, places_left};
+ghost use Rattle.can_bus.specs.Run.{IsAnswered};
+ghost use Rattle.can_bus.specs.Stats.{socket_stats_of, iface_stats_of, all_counts};
+ghost use Rattle.can_bus.specs.Transmit.{tape};
+ghost use Rattle.can_event.specs.Events.{IsLongConfig};
+ghost use Rattle.can_event.specs.Replies.{taken_reply};
+ghost use Rattle.can_event.specs.declared.event.Event.TheVariants as event;
+
+use crate::bus::{BusFault, filters_entry};
+use crate::history::History;
+use crate::state::State;
+use can_arbiter::{Arbiter, IndexArbiter};
+use can_confine::Counters;
+use can_event::{
+    BusConfig, Event, IfaceStats, Pending, Received, Refusal, Reply, SocketId, SocketStats,
+};
+use can_filter::FilterSet;
+use can_frame::{Frame, Iface};
+use can_packed::PackedRecord;
+use can_queue::{BoundedQueue, RingQueue};
+use std::alloc::Global;
+use std::marker::Model;
+use std::mem;
+
+/// How many entries the tail of a long run's bus holds.
+pub const TAIL_SIZE: u32 = 262_144;
+
+/// The bus of a long run: it answers each event as a `Bus` does that had the same ones, and keeps in memory only the
+/// entries that were not handed out yet, its tail.
+///
+/// Who takes entries lends an empty block for those that it gets, and the block is the tail from then on. A call needs a
+/// place in the tail (`places`): that it is full is never a refusal. Contracts see the configuration, the whole history,
+/// how many of its entries were handed out, and how many the tail has memory for.
+///
+/// `new` reserves the tail, of 32 bytes an entry and 76 for its FD frame, the transmit queues and the places of 64 sockets.
+#[derive(Drop)]
+pub struct LongBus<T: BoundedQueue<Pending>, R: BoundedQueue<Received>, A: Arbiter> {
+    alloc: Global,
+    config: BusConfig,
+    state: State<T, R, A>,
+    history: History,
+    tail: PackedRecord,
+    handed: u64,
+}
+
+/// The long run's bus of the program: rings for its queues.
+pub type LongRingBus = LongBus<RingQueue<Pending>, RingQueue<Received>, IndexArbiter>;
+
+impl<T: BoundedQueue<Pending>, R: BoundedQueue<Received>, A: Arbiter> Model for LongBus<T, R, A> {
+    ghost use Rattle.can_bus.specs.Long.{IsLong, LongJournal};
+
+    ghost Value = { LongJournal };
+
+    ghost view = { λ b. record {
+      config = b.config;
+      history = b.history;
+      handed = b.handed;
+      room = b.tail.room;
+    } };
+
+    ghost invariant = { λ b. IsLong b.config b.history b.state b.tail.entries b.handed };
+}
+
+impl<T: BoundedQueue<Pending>, R: BoundedQueue<Received>, A: Arbiter> LongBus<T, R, A> {
+    /// A bus on which nothing was done, whose tail holds this many entries: `TAIL_SIZE`, but for tests.
+    pub fn new(alloc: Global, config: BusConfig, size: u32) -> Result<LongBus<T, R, A>, BusFault>
+        ensures made { IfOk result (λ b. journal_of b ≡ record { config = config; history = [] }) }
+        ensures tail { IfOk result (λ b. (b.handed ≡ 0) × (size ≤ b.room)) }
+        ensures proper { OnOk result (IsLongConfig config) }
+        ensures bad { (result ≡ Err BusFault.BadConfig) ↔ (¬ IsLongConfig config) }
+    {
+        if !config.is_long_proper() {
+            return Err(BusFault::BadConfig);
+        }
+        let Ok(state) = State::new(alloc, config) else {
+            return Err(BusFault::NoMemory);
+        };
+        Ok(LongBus {
+            alloc,
+            config,
+            state,
+            history: History::new(),
+            tail: PackedRecord::with_capacity(alloc, size)?,
+            handed: 0,
+        })
+    }
+
+    /// What the bus was made with.
+    pub fn config(&self) -> BusConfig
+        ensures { result ≡ self.now.config }
+    {
+        self.config
+    }
+
+    /// How many entries there are, those that were handed out included.
+    pub fn len(&self) -> u64
+        ensures len { result ≡ length self.now.history }
+        ensures proper { IsLongConfig self.now.config }
+        ensures legal { IsLegal self.now.config self.now.history }
+        ensures headline { Headline self.now.config self.now.history }
+    {
+        self.handed + self.tail.len() as u64
+    }
+
+    /// How many entries more the tail takes.
+    pub fn places(&self) -> usize
+        ensures { result ≡ places_left self.now }
+    {
+        self.tail.room().saturating_sub(self.tail.len())
+    }
+
+    // Whether there are as many entries as the limit allows.
+    fn is_full(&self) -> bool
+        ensures { IsTrue result ↔ (self.now.config.limit ≤ length self.now.history) }
+    {
+        self.len() >= u64::from(self.config.limit)
+    }
+
+    /// Carries out an event, and returns its reply, as `Bus::answer` does.
+    pub fn answer(&mut self, alloc: Global, event: &Event) -> Reply
+        requires { HasPlace self.old }
+        ensures answered { IsAnswered (journal_of self.old) event.now result (journal_of self.new) }
+        ensures tail { KeepsTail self.old self.new }
+    {
+        if self.is_full() {
+            return Reply::Refused(Refusal::RecordFull);
+        }
+        if let Event::SetFilters(id, filters) = event {
+            return self.answer_filters(alloc, *id, filters);
+        }
+        let reply = self.state.answer(alloc, self.config, event);
+        if !reply.enters() {
+            return reply;
+        }
+        self.tail.push(event, &reply);
+        self.history.note(event, &reply);
+        reply
+    }
+
+    // Sets the filters of a socket where there is room: all memory is taken before anything changes.
+    #[inline(never)]
+    fn answer_filters(&mut self, alloc: Global, id: SocketId, filters: &FilterSet) -> Reply
+        requires place { HasPlace self.old }
+        requires room { length self.old.history < self.old.config.limit }
+        ensures answered { IsAnswered (journal_of self.old) (event.SetFilters id filters.now) result
+            (journal_of self.new) }
+        ensures tail { KeepsTail self.old self.new }
+    {
+        let Ok(mut entry) = filters_entry(alloc, id, filters) else {
+            return Reply::Refused(Refusal::NoMemory);
+        };
+        let reply = self.state.answer(alloc, self.config, &entry.event);
+        if !reply.enters() {
+            return reply;
+        }
+        entry.reply = reply;
+        self.history.note(&entry.event, &entry.reply);
+        self.tail.push_boxed(entry);
+        reply
+    }
+
+    /// Takes the oldest item of a socket into the room, as `Bus::receive_into` does.
+    pub fn receive_into(&mut self, id: SocketId, room: &mut Received) -> Result<bool, Refusal>
+        requires { HasPlace self.old }
+        ensures answer { Answers (taken_reply room.new) (journal_of self.old) (event.Receive id)
+            result (journal_of self.new) }
+        ensures stays { result ≢ Ok true → room.new ≡ room.old }
+        ensures tail { KeepsTail self.old self.new }
+    {
+        if self.is_full() {
+            return Err(Refusal::RecordFull);
+        }
+        let outcome = self.state.receive_into(id, room);
+        self.tail.push_receive(id, outcome, room);
+        self.history.note_receive(&id, &outcome, room);
+        outcome
+    }
+
+    /// Hands out the entries that were not handed out yet, in order, for an empty block, which is the tail from then on.
+    ///
+    /// It costs nothing but two pointers. No memory is taken.
+    pub fn take_entries(&mut self, block: &mut PackedRecord)
+        requires { block.old.entries ≡ [] }
+        ensures handed { HandsOut self.old block.old.room block.new.entries self.new }
+        ensures room { block.new.room ≡ self.old.room }
+    {
+        let handed = self.len();
+        mem::swap(&mut self.tail, block);
+        self.handed = handed;
+    }
+
+    /// What is left at the end of a run: the entries that were not handed out.
+    pub fn into_left(self) -> LongEnd
+        ensures { result ≡ self }
+    {
+        let LongBus {
+            alloc: _,
+            config,
+            state: _,
+            history,
+            tail,
+            handed,
+        } = self;
+        LongEnd {
+            config,
+            history,
+            tail,
+            handed,
+        }
+    }
+
+    /// The number of the next attempt that tries a frame: how many there were.
+    pub fn next_attempt(&self) -> u64
+        ensures { result ≡ length (tape self.now.history) }
+    {
+        self.state.tried()
+    }
+
+    /// The interface whose frame the next attempt tries: `None` where no live interface has one to send.
+    pub fn next_winner(&self) -> Option<Iface>
+        ensures { result ≡ winner self.now.config self.now.history }
+    {
+        self.state.winner()
+    }
+
+    /// The interface and the frame that the next attempt tries: `None` where no live interface has one to send.
+    pub fn next_head(&self) -> Option<(Iface, Frame)>
+        ensures { result ≡ next_head self.now.config self.now.history }
+    {
+        self.state.next_head()
+    }
+
+    /// Whether an interface that is bus off counts the attempts until it is restarted.
+    pub fn is_counting(&self) -> bool
+        ensures { result ≡ is_counting self.now.config self.now.history }
+    {
+        self.state.is_counting()
+    }
+
+    /// The error counters of all 16 places, by interface; where there is no interface they are 0.
+    pub fn counters(&self) -> [Counters; 16]
+        ensures { result ≡ all_counts self.now.config self.now.history }
+    {
+        self.state.counters()
+    }
+
+    /// How many items found room on an open socket, found none, and were taken.
+    pub fn socket_stats(&self, id: SocketId) -> Option<SocketStats>
+        ensures { result ≡ socket_stats_of self.now.config self.now.history id.0 }
+    {
+        self.state.socket_stats(id)
+    }
+
+    /// What became of the frames of an interface, and its error counters.
+    pub fn iface_stats(&self, iface: Iface) -> Option<IfaceStats>
+        ensures { result ≡ iface_stats_of self.now.config self.now.history iface }
+    {
+        self.state.iface_stats(iface)
+    }
+}
+
+/// What is left of a long run's bus: its last entries, those that were not handed out. Contracts see it as the bus.
+#[derive(Drop)]
+pub struct LongEnd {
+    config: BusConfig,
+    history: History,
+    tail: PackedRecord,
+    handed: u64,
+}
+
+impl Model for LongEnd {
+    ghost use Rattle.can_bus.specs.Long.{IsEnd, LongJournal};
+
+    ghost Value = { LongJournal };
+
+    ghost view = { λ e. record {
+      config = e.config;
+      history = e.history;
+      handed = e.handed;
+      room = e.tail.room;
+    } };
+
+    ghost invariant = { λ e. IsEnd e.config e.history e.tail.entries e.handed };
+}
+
+impl LongEnd {
+    /// What the bus was made with.
+    pub fn config(&self) -> BusConfig
+        ensures config { result ≡ self.now.config }
+        ensures proper { IsLongConfig result }
+    {
+        self.config
+    }
+
+    /// How many entries were handed out before the end.
+    pub fn handed(&self) -> u64
+        ensures { result ≡ self.now.handed }
+    {
+        self.handed
+    }
+
+    /// The entries that were not handed out, in order: they are the last of a legal history.
+    pub fn entries(&self) -> &PackedRecord
+        ensures entries { result.now.entries ≡ held_back self.now }
+        ensures legal { IsLegal self.now.config self.now.history }
+    {
+        &self.tail
+    }
+}
