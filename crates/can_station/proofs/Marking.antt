@@ -7,7 +7,7 @@ use Rattle.can_event.specs.declared.entry.Entry.{Entry}
 use Rattle.can_event.specs.declared.event.Event.{Event}
 use Rattle.can_event.specs.declared.reply.Reply.{Reply}
 use Rattle.can_record.specs.Journal.{Journal}
-use Rattle.can_event.specs.Events.{IsConfig}
+use Rattle.can_event.specs.Events.{IsLongConfig}
 use Rattle.can_event.specs.declared.bus_config.BusConfig.{BusConfig}
 use Rattle.can_event.specs.declared.reply.Reply.TheVariants as reply
 use Rattle.can_event.specs.declared.refusal.Refusal.TheVariants as refusal
@@ -51,7 +51,7 @@ marked-more lists ms past p e h lt =
     }
 
 -- nothing is booked at first
-pub booked_first : (number : ℕ) (j : Journal) → IsConfig j.config → j.history ≡ [] → IsBooked (roll_seen number [] []) j
+pub booked_first : (number : ℕ) (j : Journal) → IsLongConfig j.config → j.history ≡ [] → IsBooked (roll_seen number [] []) j
 booked_first number j proper empty = subst (λ (past : List Entry). IsBooked (roll_seen number [] []) (record { config = j.config; history = past })) (sym empty) (record {
   proper = proper;
   legal = tt;

@@ -10,8 +10,8 @@ use Rattle.can_event.specs.declared.event.Event.{Event}
 use Rattle.can_event.specs.declared.event.Event.TheVariants as event
 use Rattle.can_event.specs.declared.reply.Reply.{Reply}
 use Rattle.can_bus.specs.Counters.{counts_of}
-use Rattle.can_record.specs.Journal.{Journal, Kept}
-use Rattle.can_event.specs.Events.{IsConfig}
+use Rattle.can_record.specs.Journal.{Journal}
+use Rattle.can_event.specs.Events.{IsLongConfig}
 use Rattle.can_bus.specs.Legal.{IsLegal}
 use Rattle.can_bus.specs.Run.{history_after}
 use Rattle.can_bus.specs.Stats.{all_counts}
@@ -21,7 +21,7 @@ use Rattle.can_meter.specs.declared.status.Status.{Status}
 use Rattle.can_meter.specs.Publications.{published, newest, Ends}
 use Rattle.can_meter.specs.Readings.{Readings, readings}
 use Rattle.can_event.specs.Replies.{enters, entry_of}
-use Rattle.can_station.specs.Published.{published_after, publications_of, counts_before, counts_in, IsPublished, AllEarlier, Publishes, AllSeen, AllTrue}
+use Rattle.can_station.specs.Published.{published_after, publications_of, counts_before, counts_in, IsPublished, AllEarlier, Publishes, AllSeen, AreTrue}
 use Rattle.can_station.proofs.Replies.{after-entered, after-kept}
 
 -- Publications of a history that is one entry longer.
@@ -46,7 +46,7 @@ later keeper number j e r at is at_is enters_is i below =
     subst (λ (ps : List Status). (newest ps).at < at) (sym (is.each i there)) (omega (arith, newest-within j.config j.history i, at_is ∙ ap length (after-entered e r j.history enters_is)))
 
 -- an entry more
-entered : (keeper keeper' : Readings) (number : ℕ) (j : Journal) (e : Entry) (before after : List ErrorCounts) (at : ℕ) → IsConfig j.config → IsPublished keeper number j
+entered : (keeper keeper' : Readings) (number : ℕ) (j : Journal) (e : Entry) (before after : List ErrorCounts) (at : ℕ) → IsLongConfig j.config → IsPublished keeper number j
     → keeper'.number ≡ keeper.number → keeper'.ifaces ≡ keeper.ifaces → at ≡ suc (length j.history)
     → before ≡ all_counts j.config j.history → after ≡ all_counts j.config (e ∷ j.history)
     → Publishes keeper before after at keeper'
@@ -63,7 +63,7 @@ entered keeper keeper' number j e before after at proper is number_same ifaces_s
 }
 
 -- what was published is that of the history after a call
-published_as : (b : Bool) (keeper keeper' : Readings) (number : ℕ) (j : Journal) (e : Event) (r : Reply) (before after : List ErrorCounts) (at : ℕ) → enters r ≡ b → IsConfig j.config → IsPublished keeper number j
+published_as : (b : Bool) (keeper keeper' : Readings) (number : ℕ) (j : Journal) (e : Event) (r : Reply) (before after : List ErrorCounts) (at : ℕ) → enters r ≡ b → IsLongConfig j.config → IsPublished keeper number j
     → keeper'.number ≡ keeper.number → keeper'.ifaces ≡ keeper.ifaces → at ≡ length (history_after e r j.history)
     → before ≡ all_counts j.config j.history → after ≡ all_counts j.config (history_after e r j.history)
     → (b ≡ true → Publishes keeper before after at keeper') → (b ≡ false → keeper' ≡ keeper)
@@ -76,7 +76,7 @@ published_as false keeper keeper' number j e r before after at enters_is proper 
     subst (λ (past : List Entry). IsPublished keeper' number (record { config = j.config; history = past })) (sym (after-kept e r j.history enters_is))
     (subst (λ (k : Readings). IsPublished k number j) (sym (still refl)) is)
 
-pub published_after_call : (keeper keeper' : Readings) (number number' : ℕ) (j j' : Journal) (e : Event) (r : Reply) (before after : List ErrorCounts) (at : ℕ) → IsConfig j.config → IsPublished keeper number j
+pub published_after_call : (keeper keeper' : Readings) (number number' : ℕ) (j j' : Journal) (e : Event) (r : Reply) (before after : List ErrorCounts) (at : ℕ) → IsLongConfig j.config → IsPublished keeper number j
     → number' ≡ number → j' ≡ record j { history = history_after e r j.history }
     → keeper'.number ≡ keeper.number → keeper'.ifaces ≡ keeper.ifaces → at ≡ length j'.history
     → before ≡ all_counts j.config j.history → after ≡ all_counts j'.config j'.history
@@ -135,14 +135,13 @@ pub nothing_published : (number : ℕ) (c : BusConfig) → IsPublished (readings
 nothing_published number c = record { number_is = refl; ifaces_are = refl; each = λ i below. refl }
 
 -- what gauges saw of a keeper are publications of the history
-pub all_true : (keeper : Readings) (number : ℕ) (j : Journal) (left : Kept) (gauges : List Readings) → IsPublished keeper number j → left.config ≡ j.config → left.history ≡ j.history → AllSeen gauges keeper → AllTrue left gauges
-all_true keeper number j left gauges is config_is past_is seen =
-    subst (λ (x : BusConfig × List Entry). AllTrue (record left { config = x.0; history = x.1 }) gauges) (λ k. (sym config_is k, sym past_is k))
-    (All-weaker (λ (g : Readings). Ends g.lists keeper.lists) (λ (g : Readings). (i : ℕ) → i < j.config.ifaces → IsSuffix (published g.lists i) (publications_of j.config j.history i))
-    (λ g ends i below. subst (IsSuffix (published g.lists i)) (is.each i below) (ends i)) gauges seen)
+pub all_true : (keeper : Readings) (number : ℕ) (j : Journal) (gauges : List Readings) → IsPublished keeper number j → AllSeen gauges keeper → AreTrue j gauges
+all_true keeper number j gauges is seen =
+    All-weaker (λ (g : Readings). Ends g.lists keeper.lists) (λ (g : Readings). (i : ℕ) → i < j.config.ifaces → IsSuffix (published g.lists i) (publications_of j.config j.history i))
+    (λ g ends i below. subst (IsSuffix (published g.lists i)) (is.each i below) (ends i)) gauges seen
 
--- the length of a record of a bus fits a word
-pub short : (c c' : BusConfig) (past : List Entry) (n : ℕ) → IsConfig c → c' ≡ c → IsLegal c' past → n ≡ length past → n < 4294967296
-short c c' past n proper same legal is =
-    let few : length past ≤ c'.limit = legal-short c' past legal in
-    omega (arith, proper.few_entries, ap (λ (k : BusConfig). k.limit) same)
+-- the length of a legal history fits a word
+pub short : (c : BusConfig) (past : List Entry) (n : ℕ) → IsLongConfig c → IsLegal c past → n ≡ length past → n < 4294967296
+short c past n proper legal is =
+    let few : length past ≤ c.limit = legal-short c past legal in
+    omega (arith, proper.few_entries)

@@ -28,6 +28,10 @@ pub record Held (F : Type 0) : Type 0 where
   pub source : F
   pub stopped : Bool
 
+-- a bus with this journal has no place for an entry until some are taken
+abbrev pub HasNoPlace : {B : Type 0} → (B → Journal) → (B → ℕ) → Journal → Type 0
+HasNoPlace {B} journal places j = (bus : B) × (journal bus ≡ j) × (places bus ≡ 0)
+
 -- a station that nobody has entered, and whose waits do not end
 abbrev pub new_held : {F : Type 0} → ℕ → Journal → F → Held F
 new_held number journal source = record { number = number; journal = journal; lists = []; source = source; stopped = false }

@@ -2,7 +2,7 @@ use Rattle.std.specs.Prelude.{◌≡◌, ℕ, ◌==◌, ◌≤◌, List, [], ◌
 use Rattle.can_event.specs.declared.entry.Entry.{Entry}
 use Rattle.can_record.specs.Journal.{Journal}
 use Rattle.can_bus.specs.Legal.{IsLegal}
-use Rattle.can_event.specs.Events.{IsConfig}
+use Rattle.can_event.specs.Events.{IsLongConfig}
 use Rattle.can_roll.specs.Lists.{row, AllBelow}
 use Rattle.can_roll.specs.Seen.{RollSeen}
 
@@ -23,7 +23,7 @@ pub record IsMarked (lists : List (List Entry)) (marks : List ℕ) (past : List 
 -- what lies under the lock agrees: the bus's history is legal, its entries can be marked so that the roll is theirs, and no
 -- pass is called in
 pub record IsBooked (roll : RollSeen) (journal : Journal) : Type 0 where
-  pub proper : IsConfig journal.config
+  pub proper : IsLongConfig journal.config
   pub legal : IsLegal journal.config journal.history
   pub none_in : roll.called ≡ []
   pub few : length roll.lists ≤ 4096

@@ -11,13 +11,13 @@ use Rattle.can_event.specs.declared.socket_id.SocketId.{SocketId}
 use Rattle.can_event.specs.declared.attempt.Attempt.{Attempt}
 use Rattle.can_fault.specs.declared.verdict.Verdict.{Verdict}
 use Rattle.can_record.specs.Outcomes.{told_attempt}
-use Rattle.can_record.specs.Journal.{Kept}
+use Rattle.can_record.specs.Journal.{Journal, Kept}
 use Rattle.can_bus.specs.Legal.{IsLegal}
 use Rattle.can_bus.specs.Run.{IsAnswer, history_after}
 use Rattle.can_record.specs.Tapes.{tape}
 use Rattle.can_fault.specs.Sources.{VerdictMap, verdict_in}
 use Rattle.can_record.specs.Records.{ListedEntries}
-use Rattle.can_event.specs.Events.{IsConfig}
+use Rattle.can_event.specs.Events.{IsLongConfig}
 use Rattle.can_event.specs.Replies.{receive_reply}
 pub use Rattle.can_event.specs.Replies.{Suits}
 use Rattle.can_roll.specs.Lists.{row, Distinct, AllBelow}
@@ -166,7 +166,7 @@ MadeStep verdicts old pass moment outcome new pass' = Made told_attempt (with_so
 pub record IsStateOf {F : Type 0} (station : StationSeen) (held : Held F) : Type 0 where
   pub number : held.number ≡ station.number
   pub config : held.journal.config ≡ station.config
-  pub proper : IsConfig station.config
+  pub proper : IsLongConfig station.config
   pub legal : IsLegal held.journal.config held.journal.history
   pub few : length held.lists ≤ 4096
   pub marks : List ℕ
@@ -232,9 +232,9 @@ AllMarked marks past own = All (λ v. marked v.pass marks past ≡ v.calls) own
 abbrev pub AllMatch : List (List Entry) → List PassSeen → Type 0
 AllMatch lists own = All (λ v. row lists v.pass ≡ v.calls) own
 
--- the record is legal, and its entries can be marked with passes so that, for each of these passes, its calls are the
+-- the history is legal, and its entries can be marked with passes so that, for each of these passes, its calls are the
 -- entries marked with it; there were this many passes, and these are different ones
-pub record Settles (left : Kept) (passes : ℕ) (own : List PassSeen) : Type 0 where
+pub record SettlesIn (left : Journal) (passes : ℕ) (own : List PassSeen) : Type 0 where
   pub legal : IsLegal left.config left.history
   pub marks : List ℕ
   pub long : length marks ≡ length left.history
@@ -242,3 +242,7 @@ pub record Settles (left : Kept) (passes : ℕ) (own : List PassSeen) : Type 0 w
   pub each : AllMarked marks left.history own
   pub different : Distinct (numbers_of own)
   pub entered : AllBelow passes (numbers_of own)
+
+-- the same of a record
+abbrev pub Settles : Kept → ℕ → List PassSeen → Type 0
+Settles left passes own = SettlesIn (record { config = left.config; history = left.history }) passes own

@@ -70,6 +70,10 @@ TakesBack number passes gauges (Err refused) = SomeOther number passes ⊎ SomeO
 abbrev pub AllSeen : List Readings → Readings → Type 0
 AllSeen gauges keeper = All (λ g. Ends g.lists keeper.lists) gauges
 
--- what each gauge has seen of an interface are publications of the record, all but the newest if it missed some
+-- what each gauge has seen of an interface are publications of the history, all but the newest if it missed some
+abbrev pub AreTrue : Journal → List Readings → Type 0
+AreTrue left gauges = All (λ g. (i : ℕ) → i < left.config.ifaces → IsSuffix (published g.lists i) (publications_of left.config left.history i)) gauges
+
+-- the same of a record
 abbrev pub AllTrue : Kept → List Readings → Type 0
-AllTrue left gauges = All (λ g. (i : ℕ) → i < left.config.ifaces → IsSuffix (published g.lists i) (publications_of left.config left.history i)) gauges
+AllTrue left gauges = AreTrue (record { config = left.config; history = left.history }) gauges

@@ -8,7 +8,7 @@ use crate::gate::Gate;
 use crate::pass::Pass;
 use crate::refusals::StationRefusal;
 use crate::station::Station;
-use can_bus::{Attempt, Closed, Event, Opt, Received, Refusal, Reply, SocketId};
+use can_bus::{Attempt, Closed, Event, Journaled, Opt, Received, Refusal, Reply, SocketId};
 use can_fault::{FaultSource, Verdict};
 use can_filter::FilterSet;
 use can_frame::{Frame, Iface, Moment};
@@ -19,7 +19,12 @@ use std::sync::Wait;
 
 // The eight calls of a pass: each is one event of the bus. Before the bus's own refusals come `NoMemory`, where the pass's
 // list of calls can't grow, and `WrongStation`, where the pass is another station's; neither changes anything.
-impl<N: RollName + MeterName, F: FaultSource + Drop, G: Gate + Drop> Station<N, F, G> {
+impl<N: RollName + MeterName, F: FaultSource + Drop, G: Gate + Drop, B: Journaled> Station<
+    N,
+    F,
+    G,
+    B,
+> {
     /// Opens a socket on an interface, where `capacity` items may wait. Refusals of the bus: `RecordFull`,
     /// `NoInterface`, `BadCapacity`, `TooManySockets`, `NoMemory`.
     pub fn open<R: Wait>(

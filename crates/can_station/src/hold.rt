@@ -1,6 +1,8 @@
-ghost use Rattle.std.specs.Prelude.{◌≡◌, ◌≢◌, Ok, true, IfOk};
+ghost use Rattle.std.specs.Prelude.{◌≡◌, ◌≢◌, Ok, Some, true, IfOk, IfSome, IfNone};
+ghost use Rattle.can_bus.specs.Heads.{next_head};
 ghost use Rattle.can_event.specs.Replies.{receive_reply, taken_reply};
 ghost use Rattle.can_event.specs.declared.event.Event.TheVariants as event;
+ghost use Rattle.can_station.specs.Held.{with_source};
 ghost use Rattle.can_station.specs.Passes.{IsCarriedOut, IsReady, IsReadyFor, IsReceived, IsStepped, Keeps, Suits, Called, Made, MadeStep, next_attempt, same};
 ghost use Rattle.can_station.specs.Waits.{has_work};
 
@@ -12,9 +14,9 @@ use crate::refusals::StationRefusal;
 use crate::station::Station;
 use crate::station_state::StationState;
 use crate::waits::News;
-use can_bus::{Attempt, Event, Received, Refusal, Reply, SocketId};
+use can_bus::{Attempt, Event, Journaled, Received, Refusal, Reply, RingBus, SocketId};
 use can_fault::FaultSource;
-use can_frame::Moment;
+use can_frame::{Frame, Iface, Moment};
 use can_meter::MeterName;
 use can_record::PackedList;
 use can_roll::{RollName, Slip};
@@ -26,14 +28,20 @@ use std::sync::MutexGuard;
 ///
 /// Contracts see it as the state under the lock. Whoever the calls have given something to do is woken once the lock is
 /// free again.
-pub struct Hold<'s, N: RollName + MeterName, F: FaultSource + Drop, G: Gate + Drop> {
-    pub(crate) station: &'s Station<N, F, G>,
-    pub(crate) state: MutexGuard<'s, StationState<N, F>>,
+pub struct Hold<
+    's,
+    N: RollName + MeterName,
+    F: FaultSource + Drop,
+    G: Gate + Drop,
+    B: Journaled = RingBus,
+> {
+    pub(crate) station: &'s Station<N, F, G, B>,
+    pub(crate) state: MutexGuard<'s, StationState<N, F, B>>,
     pub(crate) news: News,
 }
 
-impl<'s, N: RollName + MeterName, F: FaultSource + Drop, G: Gate + Drop> Model
-    for Hold<'s, N, F, G> {
+impl<'s, N: RollName + MeterName, F: FaultSource + Drop, G: Gate + Drop, B: Journaled> Model
+    for Hold<'s, N, F, G, B> {
     ghost use Rattle.std.specs.Sync.Mutex.{mutex_guard_value};
     ghost use Rattle.can_station.specs.Held.{Held};
 
@@ -42,7 +50,13 @@ impl<'s, N: RollName + MeterName, F: FaultSource + Drop, G: Gate + Drop> Model
     ghost view = { λ h. mutex_guard_value h.state };
 }
 
-impl<'s, N: RollName + MeterName, F: FaultSource + Drop, G: Gate + Drop> Hold<'s, N, F, G> {
+impl<'s, N: RollName + MeterName, F: FaultSource + Drop, G: Gate + Drop, B: Journaled> Hold<
+    's,
+    N,
+    F,
+    G,
+    B,
+> {
     /// The number of the station.
     pub fn number(&self) -> u8
         ensures { result ≡ self.now.number }
@@ -55,6 +69,13 @@ impl<'s, N: RollName + MeterName, F: FaultSource + Drop, G: Gate + Drop> Hold<'s
         ensures { result ≡ has_work self.now.journal }
     {
         self.state.has_work()
+    }
+
+    /// The interface and the frame that the next attempt tries: `None` where no live interface has one to send.
+    pub fn next_head(&self) -> Option<(Iface, Frame)>
+        ensures { result ≡ next_head self.now.journal.config self.now.journal.history }
+    {
+        self.state.next_head()
     }
 
     /// Makes an event with a pass, as the station's `call` does.
@@ -74,27 +95,30 @@ impl<'s, N: RollName + MeterName, F: FaultSource + Drop, G: Gate + Drop> Hold<'s
         if pass.slip.number() != self.state.number() {
             return Err(StationRefusal::WrongStation);
         }
-        Ok(self.carry_out(alloc, &mut pass.slip, &mut pass.calls, event))
+        self.carry_out(alloc, &mut pass.slip, &mut pass.calls, event)
+            .ok_or(StationRefusal::Bus(Refusal::NoMemory))
     }
 
-    /// Carries out an event for the pass of this slip, and keeps it among its calls.
+    /// Carries out an event for the pass of this slip, and keeps it among its calls. `None` where the bus has no place for
+    /// an entry: then nothing changes.
     pub(crate) fn carry_out(
         &mut self,
         alloc: Global,
         slip: &mut Slip<N>,
         calls: &mut Option<PackedList>,
         event: Event,
-    ) -> Reply
+    ) -> Option<Reply>
         requires own { slip.old.number ≡ self.old.number }
         requires ready { IsReadyFor event calls.old }
-        ensures carried { IsCarriedOut self.old slip.old event result self.new slip.new }
-        ensures calls { Keeps calls.old event result calls.new }
-        ensures suits { Suits event result }
+        ensures carried { IfSome result (λ r. IsCarriedOut self.old slip.old event r self.new slip.new) }
+        ensures calls { IfSome result (λ r. Keeps calls.old event r calls.new) }
+        ensures suits { IfSome result (λ r. Suits event r) }
+        ensures none { IfNone result ((self.new ≡ self.old) × (slip.new ≡ slip.old) × (calls.new ≡ calls.old)) }
     {
-        let reply = self.state.call(alloc, slip, &event);
+        let reply = self.state.call(alloc, slip, &event)?;
         self.news.add(&event, &reply);
         keep(calls, event, &reply);
-        reply
+        Some(reply)
     }
 
     /// Receives into the caller's room, as the station's `receive` does: whether there was an item. The room stays where
@@ -117,8 +141,9 @@ impl<'s, N: RollName + MeterName, F: FaultSource + Drop, G: Gate + Drop> Hold<'s
             return Err(StationRefusal::WrongStation);
         }
         match self.carry_out_receive(&mut pass.slip, &mut pass.calls, socket, room) {
-            Ok(is_item) => Ok(is_item),
-            Err(why) => Err(StationRefusal::Bus(why)),
+            Some(Ok(is_item)) => Ok(is_item),
+            Some(Err(why)) => Err(StationRefusal::Bus(why)),
+            None => Err(StationRefusal::Bus(Refusal::NoMemory)),
         }
     }
 
@@ -129,19 +154,20 @@ impl<'s, N: RollName + MeterName, F: FaultSource + Drop, G: Gate + Drop> Hold<'s
         calls: &mut Option<PackedList>,
         socket: SocketId,
         room: &mut Received,
-    ) -> Result<bool, Refusal>
+    ) -> Option<Result<bool, Refusal>>
         requires own { slip.old.number ≡ self.old.number }
         requires ready { IsReady calls.old }
-        ensures carried { IsReceived self.old slip.old socket room.new result self.new slip.new }
-        ensures calls { Keeps calls.old (event.Receive socket) (receive_reply room.new result) calls.new }
-        ensures stays { result ≢ Ok true → room.new ≡ room.old }
+        ensures carried { IfSome result (λ r. IsReceived self.old slip.old socket room.new r self.new slip.new) }
+        ensures calls { IfSome result (λ r. Keeps calls.old (event.Receive socket) (receive_reply room.new r) calls.new) }
+        ensures stays { result ≢ Some (Ok true) → room.new ≡ room.old }
+        ensures none { IfNone result ((self.new ≡ self.old) × (slip.new ≡ slip.old) × (calls.new ≡ calls.old)) }
     {
-        let outcome = self.state.receive_into(slip, socket, room);
+        let outcome = self.state.receive_into(slip, socket, room)?;
         if let Err(why) = outcome {
             self.news.add_refusal(why);
         }
         keep_receive(calls, socket, outcome, room);
-        outcome
+        Some(outcome)
     }
 
     /// Tries the frame that wins the bus, as the station's `step` does.
@@ -160,7 +186,9 @@ impl<'s, N: RollName + MeterName, F: FaultSource + Drop, G: Gate + Drop> Hold<'s
         if pass.slip.number() != self.state.number() {
             return Err(StationRefusal::WrongStation);
         }
-        let reply = self.carry_out_step(alloc, &mut pass.slip, &mut pass.calls, moment);
+        let Some(reply) = self.carry_out_step(alloc, &mut pass.slip, &mut pass.calls, moment) else {
+            return Err(StationRefusal::Bus(Refusal::NoMemory));
+        };
         attempt_in(reply)
     }
 
@@ -171,25 +199,27 @@ impl<'s, N: RollName + MeterName, F: FaultSource + Drop, G: Gate + Drop> Hold<'s
         slip: &mut Slip<N>,
         calls: &mut Option<PackedList>,
         moment: Moment,
-    ) -> Reply
+    ) -> Option<Reply>
         requires own { slip.old.number ≡ self.old.number }
         requires ready { IsReady calls.old }
-        ensures carried { IsStepped F.verdicts self.old slip.old moment result self.new slip.new }
+        ensures carried { IfSome result (λ r. IsStepped F.verdicts self.old slip.old moment r self.new slip.new) }
         ensures source { F.verdicts self.new.source ≡ F.verdicts self.old.source }
-        ensures calls { Keeps calls.old (next_attempt F.verdicts self.old moment) result calls.new }
-        ensures suits { Suits (next_attempt F.verdicts self.old moment) result }
+        ensures calls { IfSome result (λ r. Keeps calls.old (next_attempt F.verdicts self.old moment) r calls.new) }
+        ensures suits { IfSome result (λ r. Suits (next_attempt F.verdicts self.old moment) r) }
+        ensures none { IfNone result ((self.new ≡ with_source self.new.source self.old) × (slip.new ≡ slip.old) × (calls.new ≡ calls.old)) }
     {
         let station = self.station;
         station.gate.at(Point::InStep);
-        let (verdict, reply) = self.state.step(alloc, slip, moment);
+        let (verdict, reply) = self.state.step(alloc, slip, moment)?;
         let event = Event::Attempt(moment, verdict);
         self.news.add(&event, &reply);
         keep(calls, event, &reply);
-        reply
+        Some(reply)
     }
 }
 
-impl<N: RollName + MeterName, F: FaultSource + Drop, G: Gate + Drop> Drop for Hold<'_, N, F, G> {
+impl<N: RollName + MeterName, F: FaultSource + Drop, G: Gate + Drop, B: Journaled> Drop
+    for Hold<'_, N, F, G, B> {
     fn drop(self) {
         let Hold {
             station,

@@ -1,9 +1,12 @@
 //! A bus that threads share.
 //!
 //! A caller enters the station and gets a pass. Each call with a pass is one event of the bus, made under the
-//! station's lock, and the pass keeps it with its reply. A [`Hold`] of the lock makes several calls. At the end
-//! `settle` takes the passes back and hands out the record: a legal history in which each pass's calls are in the
-//! order that it made them.
+//! station's lock, and the pass keeps it with its reply; a light pass keeps no list, and has its calls in contracts only.
+//! A [`Hold`] of the lock makes several calls. At the end `settle` takes the passes back and hands out the record: a
+//! legal history in which each pass's calls are in the order that it made them.
+//!
+//! A station is over any bus that is [`Journaled`](can_bus::Journaled), and if none is named over one with its whole
+//! record.
 //!
 //! What the lock keeps is a [`StationState`]. Its calls carry the proofs; a [`Station`] adds the lock and the
 //! waiting. Who waits sleeps, and is woken only by a call that can matter to it.

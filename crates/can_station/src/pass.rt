@@ -73,10 +73,10 @@ impl<N: RollName> Pass<N> {
     }
 }
 
-/// What a station leaves: the record of its bus, and how many passes there were.
+/// What a station leaves: what its bus left, a record where it had one, and how many passes there were.
 #[derive(Drop)]
-pub struct Settled {
-    pub history: Record,
+pub struct Settled<L: Drop = Record> {
+    pub history: L,
     pub passes: u32,
 }
 

@@ -3,13 +3,13 @@ ghost use Rattle.can_meter.specs.Publications.{published, newest};
 ghost use Rattle.can_event.specs.Replies.{enters};
 ghost use Rattle.can_station.specs.Published.{AllEarlier, Publishes, PublishesOf, counts_before};
 
-use can_bus::{Event, Reply, RingBus};
+use can_bus::{Event, Journaled, Reply};
 use can_confine::Counters;
 use can_meter::{Keeper, MeterName};
 
 /// The error counters of a bus before an event that can change them: an attempt or a restart.
-pub(crate) fn counters_before(bus: &RingBus, event: &Event) -> Option<[Counters; 16]>
-    ensures { result ≡ counts_before bus.now event.now }
+pub(crate) fn counters_before<B: Journaled>(bus: &B, event: &Event) -> Option<[Counters; 16]>
+    ensures { result ≡ counts_before (B.journal bus.now) event.now }
 {
     match event {
         Event::Attempt(_, _) | Event::Restart(_, _) => Some(bus.counters()),

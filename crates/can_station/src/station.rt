@@ -2,8 +2,8 @@ ghost use Rattle.std.specs.Prelude.{◌≡◌, ◌<◌, ◌≤◌, IfOk, OnErr, 
 ghost use Rattle.std.specs.Sync.Mutex.{mutex_guard_value};
 ghost use Rattle.can_event.specs.Events.{IsConfig};
 ghost use Rattle.can_station.specs.Held.{station_seen};
-ghost use Rattle.can_station.specs.Passes.{HadNoPassLeft, IsNewLightPass, IsNewPass, IsStateOf, Settles, Suits, Answered, Called, Stepped, same};
-ghost use Rattle.can_station.specs.Published.{AllTrue, TakesBack};
+ghost use Rattle.can_station.specs.Passes.{HadNoPassLeft, IsNewLightPass, IsNewPass, IsStateOf, SettlesIn, Suits, Answered, Called, Stepped, same};
+ghost use Rattle.can_station.specs.Published.{AreTrue, TakesBack};
 
 use crate::attempts::attempt_in;
 use crate::gate::{Gate, Point};
@@ -13,7 +13,7 @@ use crate::refusals::{StationRefusal, TooManyPasses, WrongStation};
 use crate::rooms::Rooms;
 use crate::station_state::StationState;
 use crate::waits::{News, ROOM};
-use can_bus::{Attempt, BusConfig, BusFault, Event, Refusal, Reply, RingBus};
+use can_bus::{Attempt, BusConfig, BusFault, Event, Journaled, Refusal, Reply, RingBus};
 use can_fault::FaultSource;
 use can_frame::Moment;
 use can_meter::{Gauge, MeterBlank, MeterName, meter, meter_blank};
@@ -49,8 +49,13 @@ impl Blanks {
 /// Each of the eight calls of a pass, and `step`, is one event of the bus in one hold of the lock. What the lock
 /// keeps is a [`StationState`].
 #[derive(Drop)]
-pub struct Station<N: RollName + MeterName, F: FaultSource + Drop, G: Gate + Drop> {
-    pub(crate) state: Mutex<StationState<N, F>>,
+pub struct Station<
+    N: RollName + MeterName,
+    F: FaultSource + Drop,
+    G: Gate + Drop,
+    B: Journaled = RingBus,
+> {
+    pub(crate) state: Mutex<StationState<N, F, B>>,
     /// Where drivers wait for frames to send and interfaces to restart.
     pub(crate) work: Condvar,
     /// Where receivers wait for items.
@@ -64,7 +69,8 @@ pub struct Station<N: RollName + MeterName, F: FaultSource + Drop, G: Gate + Dro
     pub(crate) fullness: AtomicU8,
 }
 
-impl<N: RollName + MeterName, F: FaultSource + Drop, G: Gate + Drop> Model for Station<N, F, G> {
+impl<N: RollName + MeterName, F: FaultSource + Drop, G: Gate + Drop, B: Journaled> Model
+    for Station<N, F, G, B> {
     ghost use Rattle.can_station.specs.Held.{StationSeen, station_seen};
 
     ghost Value = { StationSeen };
@@ -111,7 +117,14 @@ impl<N: RollName + MeterName, F: FaultSource + Drop, G: Gate + Drop> Station<N, 
             fullness: AtomicU8::new(ROOM),
         })
     }
+}
 
+impl<N: RollName + MeterName, F: FaultSource + Drop, G: Gate + Drop, B: Journaled> Station<
+    N,
+    F,
+    G,
+    B,
+> {
     /// The number of the station.
     pub fn number(&self) -> u8
         ensures { result ≡ self.now.number }
@@ -128,7 +141,7 @@ impl<N: RollName + MeterName, F: FaultSource + Drop, G: Gate + Drop> Station<N, 
 
     /// The state under the lock. It has the station's number and configuration since `new`. No type says so: for others
     /// this would wait for ever.
-    pub(crate) fn hold<R: Wait>(&self, rt: &R) -> MutexGuard<'_, StationState<N, F>>
+    pub(crate) fn hold<R: Wait>(&self, rt: &R) -> MutexGuard<'_, StationState<N, F, B>>
         ensures { IsStateOf self.now (mutex_guard_value result) }
     {
         self.own(rt, self.state.lock(rt))
@@ -138,8 +151,8 @@ impl<N: RollName + MeterName, F: FaultSource + Drop, G: Gate + Drop> Station<N, 
     pub(crate) fn own<'s, R: Wait>(
         &'s self,
         rt: &R,
-        state: MutexGuard<'s, StationState<N, F>>,
-    ) -> MutexGuard<'s, StationState<N, F>>
+        state: MutexGuard<'s, StationState<N, F, B>>,
+    ) -> MutexGuard<'s, StationState<N, F, B>>
         ensures state { IsStateOf self.now (mutex_guard_value result) }
         ensures same { mutex_guard_value result ≡ mutex_guard_value state.entry }
     {
@@ -151,7 +164,7 @@ impl<N: RollName + MeterName, F: FaultSource + Drop, G: Gate + Drop> Station<N, 
     }
 
     /// Takes the lock for several calls. Until the hold is dropped, all other calls of the station wait.
-    pub fn lock<R: Wait>(&self, rt: &R) -> Hold<'_, N, F, G>
+    pub fn lock<R: Wait>(&self, rt: &R) -> Hold<'_, N, F, G, B>
         ensures { IsStateOf self.now result }
     {
         Hold {
@@ -214,6 +227,9 @@ impl<N: RollName + MeterName, F: FaultSource + Drop, G: Gate + Drop> Station<N, 
         let reply = hold.carry_out(alloc, &mut pass.slip, &mut pass.calls, event);
         drop(hold);
         self.gate.at(Point::AfterReply);
+        let Some(reply) = reply else {
+            return Err(StationRefusal::Bus(Refusal::NoMemory));
+        };
         Ok(reply)
     }
 
@@ -238,11 +254,13 @@ impl<N: RollName + MeterName, F: FaultSource + Drop, G: Gate + Drop> Station<N, 
         }
         self.gate.at(Point::BeforeStep);
         let mut hold = self.lock(rt);
-        let reply = hold.carry_out_step(alloc, &mut pass.slip, &mut pass.calls, moment);
+        let Some(reply) = hold.carry_out_step(alloc, &mut pass.slip, &mut pass.calls, moment) else {
+            return Err(StationRefusal::Bus(Refusal::NoMemory));
+        };
         attempt_in(reply)
     }
 
-    /// Takes passes and gauges back, and hands out the record: a legal history whose entries can be marked with
+    /// Takes passes and gauges back, and hands out the record, or what else the bus leaves: a legal history whose entries can be marked with
     /// passes so that the calls of each of these passes are its entries, in order. What the gauges have seen are
     /// publications of that history.
     ///
@@ -252,9 +270,9 @@ impl<N: RollName + MeterName, F: FaultSource + Drop, G: Gate + Drop> Station<N, 
         rt: &R,
         passes: Vec<Pass<N>>,
         gauges: Vec<Gauge<N>>,
-    ) -> Result<Settled, WrongStation>
-        ensures settled { IfOk result (λ s. Settles s.history s.passes passes.items) }
-        ensures gauges { IfOk result (λ s. AllTrue s.history gauges.items) }
+    ) -> Result<Settled<B::Left>, WrongStation>
+        ensures settled { IfOk result (λ s. SettlesIn (B.left s.history) s.passes passes.items) }
+        ensures gauges { IfOk result (λ s. AreTrue (B.left s.history) gauges.items) }
         ensures refused { TakesBack self.number passes.items gauges.items result }
     {
         let Station {

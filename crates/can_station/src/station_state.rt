@@ -1,13 +1,14 @@
-ghost use Rattle.std.specs.Prelude.{◌≡◌, ◌≢◌, ◌<◌, ◌≤◌, ℕ, [], true, List, length, IfOk, OnErr};
-ghost use Rattle.can_event.specs.Events.{IsConfig};
+ghost use Rattle.std.specs.Prelude.{◌≡◌, ◌≢◌, ◌<◌, ◌≤◌, ℕ, [], true, List, length, Some, Ok, IfSome, IfNone, IfOk, OnErr};
+ghost use Rattle.can_event.specs.Events.{IsLongConfig};
 ghost use Rattle.can_event.specs.Replies.{enters};
+ghost use Rattle.can_bus.specs.Heads.{next_head};
 ghost use Rattle.can_bus.specs.Legal.{IsLegal};
 ghost use Rattle.can_event.specs.declared.event.Event.TheVariants as event;
 ghost use Rattle.can_meter.specs.Readings.{readings};
-ghost use Rattle.can_station.specs.Held.{HasEntered, NoPassLeft, new_held, roll_after, slip_after, station_seen};
+ghost use Rattle.can_station.specs.Held.{HasEntered, HasNoPlace, NoPassLeft, new_held, roll_after, slip_after, station_seen, with_source};
 ghost use Rattle.can_station.specs.Marks.{IsMarked};
-ghost use Rattle.can_station.specs.Passes.{IsCarriedOut, IsReceived, IsStateOf, IsStepped, Settles, Suits, next_verdict};
-ghost use Rattle.can_station.specs.Published.{AllTrue, IsPublished, TakesBack};
+ghost use Rattle.can_station.specs.Passes.{IsCarriedOut, IsReceived, IsStateOf, IsStepped, SettlesIn, Suits, next_verdict};
+ghost use Rattle.can_station.specs.Published.{AreTrue, IsPublished, TakesBack};
 ghost use Rattle.can_station.specs.Waits.{AreCounts, frame_wake, has_work, work_wake, stopped_wake, waiting_at};
 
 use crate::gauges::{absorb_all, are_gauges_of};
@@ -17,10 +18,11 @@ use crate::refusals::{TooManyPasses, WrongStation};
 use crate::rooms::{ROOMS, RoomSet, Sleeper, Sleepers};
 use crate::waits::Wake;
 use can_bus::{
-    BusConfig, Event, IfaceStats, Received, Record, Refusal, Reply, RingBus, SocketId, SocketStats,
+    BusConfig, Event, IfaceStats, Journaled, Received, Record, Refusal, Reply, RingBus, SocketId,
+    SocketStats,
 };
 use can_fault::{FaultSource, Verdict};
-use can_frame::{Iface, Moment};
+use can_frame::{Frame, Iface, Moment};
 use can_meter::{Gauge, Keeper, MeterName};
 use can_record::receive_reply;
 use can_roll::{Roll, RollBlank, RollName, Slip};
@@ -36,8 +38,8 @@ const MAX_PASSES: u32 = 4096;
 /// list of each pass is the entries marked with it, and the keeper has published each change of an interface's error
 /// counters.
 #[derive(Drop)]
-pub struct StationState<N: RollName + MeterName, F: FaultSource + Drop> {
-    bus: RingBus,
+pub struct StationState<N: RollName + MeterName, F: FaultSource + Drop, B: Journaled = RingBus> {
+    bus: B,
     config: BusConfig,
     source: F,
     roll: Roll<N>,
@@ -47,7 +49,7 @@ pub struct StationState<N: RollName + MeterName, F: FaultSource + Drop> {
     sleepers: Sleepers,
 }
 
-impl<N: RollName + MeterName, F: FaultSource + Drop> Model for StationState<N, F> {
+impl<N: RollName + MeterName, F: FaultSource + Drop, B: Journaled> Model for StationState<N, F, B> {
     ghost use Rattle.std.specs.Prelude.{◌≡◌};
     ghost use Rattle.can_station.specs.Held.{Held};
     ghost use Rattle.can_station.specs.Marks.{IsBooked};
@@ -57,34 +59,46 @@ impl<N: RollName + MeterName, F: FaultSource + Drop> Model for StationState<N, F
 
     ghost view = { λ s. record {
       number = s.roll.number;
-      journal = s.bus;
+      journal = B.journal s.bus;
       lists = s.roll.lists;
       source = s.source;
       stopped = s.stopped;
     } };
 
-    ghost invariant = { λ s. IsBooked s.roll s.bus × IsPublished s.keeper s.roll.number s.bus
-        × (s.spare.number ≡ s.roll.number) × (s.bus.config ≡ s.config) };
+    ghost invariant = { λ s. IsBooked s.roll (B.journal s.bus)
+        × IsPublished s.keeper s.roll.number (B.journal s.bus)
+        × (s.spare.number ≡ s.roll.number) × ((B.journal s.bus).config ≡ s.config) };
 }
 
 impl<N: RollName + MeterName, F: FaultSource + Drop> StationState<N, F> {
-    /// The state of a station whose bus has an empty record.
+    /// The record: a legal history, whose entries can be marked with the passes that made them.
+    pub fn record(&self) -> &Record
+        ensures config { result.now.config ≡ self.now.journal.config }
+        ensures history { result.now.history ≡ self.now.journal.history }
+        ensures legal { IsLegal self.now.journal.config self.now.journal.history }
+        ensures marked { (marks : List ℕ) × IsMarked self.now.lists marks self.now.journal.history }
+    {
+        self.bus.record()
+    }
+}
+
+impl<N: RollName + MeterName, F: FaultSource + Drop, B: Journaled> StationState<N, F, B> {
+    /// The state of a station whose bus has no entry.
     pub(crate) fn new(
         blank: RollBlank,
         number: u8,
-        bus: RingBus,
+        bus: B,
         config: BusConfig,
         source: F,
         keeper: Keeper<N>,
         spare: Gauge<N>,
-    ) -> StationState<N, F>
+    ) -> StationState<N, F, B>
         requires name { blank ≡ N.roll number }
-        requires config { bus.config ≡ config }
-        requires proper { IsConfig config }
-        requires empty { bus.history ≡ [] }
-        requires keeper { keeper ≡ readings number bus.config.ifaces [] }
+        requires bus { B.journal bus ≡ record { config = config; history = [] } }
+        requires proper { IsLongConfig config }
+        requires keeper { keeper ≡ readings number config.ifaces [] }
         requires spare { spare.number ≡ number }
-        ensures { result ≡ new_held number bus source }
+        ensures { result ≡ new_held number (B.journal bus) source }
     {
         StationState {
             bus,
@@ -112,14 +126,13 @@ impl<N: RollName + MeterName, F: FaultSource + Drop> StationState<N, F> {
         self.roll.number() == number && self.config == *config
     }
 
-    /// The record: a legal history, whose entries can be marked with the passes that made them.
-    pub fn record(&self) -> &Record
-        ensures config { result.now.config ≡ self.now.journal.config }
-        ensures history { result.now.history ≡ self.now.journal.history }
+    /// How many entries there are: those of a legal history, which can be marked with the passes that made them.
+    pub fn count(&self) -> u64
+        ensures count { result ≡ length self.now.journal.history }
         ensures legal { IsLegal self.now.journal.config self.now.journal.history }
         ensures marked { (marks : List ℕ) × IsMarked self.now.lists marks self.now.journal.history }
     {
-        self.bus.record()
+        self.bus.len()
     }
 
     /// The keeper of the station's meter: it has published each change of an interface's error counters.
@@ -149,54 +162,73 @@ impl<N: RollName + MeterName, F: FaultSource + Drop> StationState<N, F> {
     }
 
     /// Carries out an event for the pass of this slip: its reply comes from the record, it is noted there and in
-    /// the pass's list, and what it changed of the error counters is published.
-    pub fn call(&mut self, alloc: Global, slip: &mut Slip<N>, event: &Event) -> Reply
+    /// the pass's list, and what it changed of the error counters is published. `None` where the bus has no place for an
+    /// entry until some are taken: then nothing changes.
+    pub fn call(&mut self, alloc: Global, slip: &mut Slip<N>, event: &Event) -> Option<Reply>
         requires { slip.old.number ≡ self.old.number }
-        ensures carried { IsCarriedOut self.old slip.old event.now result self.new slip.new }
-        ensures suits { Suits event.now result }
+        ensures carried { IfSome result (λ r. IsCarriedOut self.old slip.old event.now r self.new slip.new) }
+        ensures suits { IfSome result (λ r. Suits event.now r) }
+        ensures place { IfNone result (HasNoPlace B.journal B.places_in self.old.journal) }
+        ensures none { IfNone result ((self.new ≡ self.old) × (slip.new ≡ slip.old)) }
     {
+        if self.bus.places() == 0 {
+            return None;
+        }
         let before = counters_before(&self.bus, event);
         let reply = self.bus.answer(alloc, event);
         book(&mut self.roll, slip, event, &reply);
         let Some(before) = before else {
-            return reply;
+            return Some(reply);
         };
         let after = self.bus.counters();
-        let at = self.bus.record().len() as u32;
+        let at = self.bus.len() as u32;
         publish_changes(&mut self.keeper, &reply, at, &before, &after);
-        reply
+        Some(reply)
     }
 
     /// Carries out a receive into the caller's room for the pass of this slip, as `call` does: whether there was an item.
-    /// The room stays where there was none. No error counter changes.
+    /// The room stays where there was none. No error counter changes. `None` as in `call`.
     pub fn receive_into(
         &mut self,
         slip: &mut Slip<N>,
         socket: SocketId,
         room: &mut Received,
-    ) -> Result<bool, Refusal>
+    ) -> Option<Result<bool, Refusal>>
         requires { slip.old.number ≡ self.old.number }
-        ensures carried { IsReceived self.old slip.old socket room.new result self.new slip.new }
-        ensures stays { result ≢ Ok true → room.new ≡ room.old }
+        ensures carried { IfSome result (λ r. IsReceived self.old slip.old socket room.new r self.new slip.new) }
+        ensures stays { result ≢ Some (Ok true) → room.new ≡ room.old }
+        ensures place { IfNone result (HasNoPlace B.journal B.places_in self.old.journal) }
+        ensures none { IfNone result ((self.new ≡ self.old) × (slip.new ≡ slip.old)) }
     {
+        if self.bus.places() == 0 {
+            return None;
+        }
         let outcome = self.bus.receive_into(socket, room);
         let event = Event::Receive(socket);
         let reply = receive_reply(outcome, room);
         book(&mut self.roll, slip, &event, &reply);
-        outcome
+        Some(outcome)
     }
 
-    /// Carries out an attempt at a moment, with the verdict that the source has for its number.
-    pub fn step(&mut self, alloc: Global, slip: &mut Slip<N>, moment: Moment) -> (Verdict, Reply)
+    /// Carries out an attempt at a moment, with the verdict that the source has for its number, and returns that verdict
+    /// and the reply. `None` as in `call`; the source was asked.
+    pub fn step(
+        &mut self,
+        alloc: Global,
+        slip: &mut Slip<N>,
+        moment: Moment,
+    ) -> Option<(Verdict, Reply)>
         requires { slip.old.number ≡ self.old.number }
-        ensures verdict { result.0 ≡ next_verdict F.verdicts self.old }
-        ensures carried { IsStepped F.verdicts self.old slip.old moment result.1 self.new slip.new }
+        ensures verdict { IfSome result (λ r. r.0 ≡ next_verdict F.verdicts self.old) }
+        ensures carried { IfSome result (λ r. IsStepped F.verdicts self.old slip.old moment r.1 self.new slip.new) }
         ensures source { F.verdicts self.new.source ≡ F.verdicts self.old.source }
-        ensures suits { Suits (event.Attempt moment result.0) result.1 }
+        ensures suits { IfSome result (λ r. Suits (event.Attempt moment r.0) r.1) }
+        ensures place { IfNone result (HasNoPlace B.journal B.places_in self.old.journal) }
+        ensures none { IfNone result ((self.new ≡ with_source self.new.source self.old) × (slip.new ≡ slip.old)) }
     {
         let verdict = self.source.verdict(self.bus.next_attempt());
-        let reply = self.call(alloc, slip, &Event::Attempt(moment, verdict));
-        (verdict, reply)
+        let reply = self.call(alloc, slip, &Event::Attempt(moment, verdict))?;
+        Some((verdict, reply))
     }
 
     /// The counts of a socket and of an interface.
@@ -267,6 +299,13 @@ impl<N: RollName + MeterName, F: FaultSource + Drop> StationState<N, F> {
         }
     }
 
+    /// The interface and the frame that the next attempt tries, if there is one.
+    pub(crate) fn next_head(&self) -> Option<(Iface, Frame)>
+        ensures { result ≡ next_head self.now.journal.config self.now.journal.history }
+    {
+        self.bus.next_head()
+    }
+
     /// Whether a live interface has a frame to send, or an interface counts towards its restart.
     pub(crate) fn has_work(&self) -> bool
         ensures { result ≡ has_work self.now.journal }
@@ -310,18 +349,17 @@ impl<N: RollName + MeterName, F: FaultSource + Drop> StationState<N, F> {
         self.stopped = true;
     }
 
-    /// The record, with all these passes and gauges taken in. `WrongStation` exactly where some of them is
+    /// What the bus leaves, with all these passes and gauges taken in. `WrongStation` exactly where some of them is
     /// another station's.
     pub fn settle(
         self,
         passes: Vec<Pass<N>>,
         gauges: Vec<Gauge<N>>,
-    ) -> Result<Settled, WrongStation>
-        ensures config { IfOk result (λ s. s.history.config ≡ self.journal.config) }
-        ensures history { IfOk result (λ s. s.history.history ≡ self.journal.history) }
+    ) -> Result<Settled<B::Left>, WrongStation>
+        ensures left { IfOk result (λ s. B.left s.history ≡ self.journal) }
         ensures passes { IfOk result (λ s. s.passes ≡ length self.lists) }
-        ensures settled { IfOk result (λ s. Settles s.history s.passes passes.items) }
-        ensures gauges { IfOk result (λ s. AllTrue s.history gauges.items) }
+        ensures settled { IfOk result (λ s. SettlesIn (B.left s.history) s.passes passes.items) }
+        ensures gauges { IfOk result (λ s. AreTrue (B.left s.history) gauges.items) }
         ensures refused { TakesBack self.number passes.items gauges.items result }
     {
         let StationState {
@@ -343,7 +381,7 @@ impl<N: RollName + MeterName, F: FaultSource + Drop> StationState<N, F> {
         recall_all(&mut roll, passes);
         absorb_all(&mut keeper, gauges);
         Ok(Settled {
-            history: bus.into_record(),
+            history: bus.into_left(),
             passes: roll.passes(),
         })
     }

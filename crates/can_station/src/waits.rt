@@ -7,7 +7,7 @@ use crate::hold::Hold;
 use crate::rooms::RoomSet;
 use crate::station::Station;
 use crate::station_state::StationState;
-use can_bus::{Event, IfaceStats, Refusal, Reply, SocketId, SocketStats};
+use can_bus::{Event, IfaceStats, Journaled, Refusal, Reply, SocketId, SocketStats};
 use can_fault::FaultSource;
 use can_frame::Iface;
 use can_meter::MeterName;
@@ -82,9 +82,9 @@ impl News {
 
 impl News {
     /// The rooms of those for whom there is an item, or whose socket is closed.
-    pub(crate) fn woken<N: RollName + MeterName, F: FaultSource + Drop>(
+    pub(crate) fn woken<N: RollName + MeterName, F: FaultSource + Drop, B: Journaled>(
         self,
-        state: &mut StationState<N, F>,
+        state: &mut StationState<N, F, B>,
     ) -> RoomSet
         ensures { state.new ≡ state.old }
     {
@@ -97,7 +97,12 @@ impl News {
 }
 
 // What a station signals without an event. All of these may wait for the lock.
-impl<N: RollName + MeterName, F: FaultSource + Drop, G: Gate + Drop> Station<N, F, G> {
+impl<N: RollName + MeterName, F: FaultSource + Drop, G: Gate + Drop, B: Journaled> Station<
+    N,
+    F,
+    G,
+    B,
+> {
     /// The counts of a socket and of an interface, both of one moment: `None` exactly where the socket is not
     /// open, and where there is no such interface.
     pub fn stats<R: Wait>(
@@ -158,7 +163,7 @@ impl<N: RollName + MeterName, F: FaultSource + Drop, G: Gate + Drop> Station<N, 
     }
 
     /// Waits as `wait_work` does, and keeps the lock for the driver's steps: `None` after `stop`, where there is no work.
-    pub fn hold_work<R: Wait>(&self, rt: &R) -> Option<Hold<'_, N, F, G>>
+    pub fn hold_work<R: Wait>(&self, rt: &R) -> Option<Hold<'_, N, F, G, B>>
         ensures state { IfSome result (λ h. IsStateOf self.now h) }
         ensures work { IfSome result (λ h. has_work h.journal ≡ true) }
         ensures none { IfNone result (InSome F self.now (λ held. IsIdleAndStopped held)) }

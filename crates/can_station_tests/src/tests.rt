@@ -15,7 +15,7 @@ mod twins;
 mod waits;
 
 use can_attempt::AckMode;
-use can_bus::{Attempt, BusConfig, Closed, Opt, Received, SocketId};
+use can_bus::{Attempt, BusConfig, Closed, Event, Opt, Received, Reply, SocketId};
 use can_fault::{FaultSource, Script, Verdict};
 use can_frame::{CanId, Frame, Iface, IfaceSet, Moment, Names};
 use can_meter::{Gauge, MeterName, Status};
@@ -97,23 +97,6 @@ fn entered<'s, N: RollName + MeterName, F: FaultSource + Drop, G: Gate + Drop, R
     }
 }
 
-/// A caller with a light pass.
-fn entered_light<'s, N: RollName + MeterName, F: FaultSource + Drop, G: Gate + Drop, R: Wait + Abort>(
-    rt: &'s R,
-    alloc: Global,
-    station: &'s Station<N, F, G>,
-) -> Caller<'s, N, F, G, R> {
-    let Ok(pass) = station.enter_light(rt) else {
-        panic!(rt; "no pass");
-    };
-    Caller {
-        rt,
-        alloc,
-        station,
-        pass,
-    }
-}
-
 /// A caller of a station, with its pass.
 #[derive(Drop)]
 struct Caller<'s, N: RollName + MeterName, F: FaultSource + Drop, G: Gate + Drop, R: Wait + Abort> {
@@ -139,6 +122,17 @@ impl<N: RollName + MeterName, F: FaultSource + Drop, G: Gate + Drop, R: Wait + A
             panic!(self.rt; "no socket");
         };
         socket
+    }
+
+    /// The reply to an event that comes to the bus.
+    fn call(&mut self, event: Event) -> Reply {
+        let reply = self
+            .station
+            .call(self.rt, self.alloc, &mut self.pass, event);
+        let Ok(reply) = reply else {
+            panic!(self.rt; "no reply");
+        };
+        reply
     }
 
     fn send(&mut self, socket: SocketId, id: u16) -> Result<u64, StationRefusal> {

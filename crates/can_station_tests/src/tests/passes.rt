@@ -3,7 +3,6 @@
 ghost use Rattle.std.specs.Prelude.{◌≡◌};
 
 use super::*;
-use can_bus::{Event, Reply};
 use can_fault::Perfect;
 use can_station::{Open, TooManyPasses};
 use std::marker::Brand;
@@ -37,6 +36,18 @@ fn event_at<R: Abort>(rt: &R, turn: u32) -> Event {
     }
 }
 
+/// The replies to these calls.
+fn make_calls<N: RollName + MeterName, R: Wait + Abort>(
+    caller: &mut Caller<'_, N, Perfect, Open, R>,
+) -> Vec<Reply> {
+    let mut replies = Vec::new(caller.alloc);
+    for turn in 0..6 {
+        let event = event_at(caller.rt, turn);
+        assert!(caller.rt; replies.push(caller.call(event)).is_ok());
+    }
+    replies
+}
+
 /// The replies to these calls. After them an attempt and a receive find nothing. A light pass keeps none of them, and
 /// settles as another does.
 fn replies<N: RollName + MeterName, R: Wait + Abort>(
@@ -48,16 +59,21 @@ fn replies<N: RollName + MeterName, R: Wait + Abort>(
     requires { (blanks.roll ≡ N.roll 0) × (blanks.meter ≡ N.meter 0) }
 {
     let station = made::<N, _, _, _>(rt, alloc, blanks, 0, config(2), Perfect, Open);
-    let mut caller = if is_light {
-        entered_light(rt, alloc, &station)
+    let entered = if is_light {
+        station.enter_light(rt)
     } else {
-        entered(rt, alloc, &station)
+        station.enter(rt, alloc)
     };
-    let mut replies = Vec::new(alloc);
-    for turn in 0..6 {
-        let reply = station.call(rt, alloc, &mut caller.pass, event_at(rt, turn));
-        assert!(rt; matches!(reply, Ok(reply) if replies.push(reply).is_ok()));
-    }
+    let Ok(pass) = entered else {
+        panic!(rt; "no pass");
+    };
+    let mut caller = Caller {
+        rt,
+        alloc,
+        station: &station,
+        pass,
+    };
+    let replies = make_calls(&mut caller);
     assert!(rt; matches!(caller.step(9), Ok(Attempt::Idle { .. })));
     assert!(rt; matches!(caller.receive_held(SocketId(0)), Ok(None)));
     assert!(rt; caller.calls() == if is_light { 0 } else { 8 });

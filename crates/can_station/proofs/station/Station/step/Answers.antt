@@ -6,12 +6,12 @@ use Rattle.can_station.proofs.Stepping.{stepped}
 use Rattle.can_station.proofs.station.Station.step.Goals as goal
 
 pub attempt_in-requires : goal.attempt_in-requires
-attempt_in-requires g c = (c.args.moment, next_verdict g.F.FaultSource.verdicts c.lock-hold.result, c.carry_out_step-reply.ensures.suits)
+attempt_in-requires g c = (c.args.moment, next_verdict g.F.FaultSource.verdicts c.lock-hold.result, c.in-Some.ensures.suits)
 
 pub returns : goal.returns
 returns g c =
     stepped g.F.FaultSource.verdicts c.lock-hold.result _ _ c.args.moment _ c.lock-hold.ensures
     (sym (ap (λ (p : PassSeen). p.number) c.pass.view_is) ∙ cc (c.number.ensures, c.if-self-number.false, ap (λ (s : StationSeen). s.number) c.self.view_is))
-    c.attempt_in.result c.carry_out_step-reply.result c.attempt_in.ensures c.carry_out_step-reply.ensures.carried.answer
-    (seen_after _ _ (calls_listed c.make_ready.new.calls) _ (next_attempt g.F.FaultSource.verdicts c.lock-hold.result c.args.moment) c.carry_out_step-reply.result c.carry_out_step-reply.ensures.carried.noted c.carry_out_step-reply.ensures.calls
-    ∙ ap (pass_after (next_attempt g.F.FaultSource.verdicts c.lock-hold.result c.args.moment) c.carry_out_step-reply.result) (ap (pass_seen c.pass.inside.slip) c.make_ready.ensures.same ∙ c.pass.view_is))
+    c.attempt_in.result c.in-Some.reply c.attempt_in.ensures c.in-Some.ensures.carried.answer
+    (seen_after _ _ (calls_listed c.make_ready.new.calls) _ (next_attempt g.F.FaultSource.verdicts c.lock-hold.result c.args.moment) c.in-Some.reply c.in-Some.ensures.carried.noted c.in-Some.ensures.calls
+    ∙ ap (pass_after (next_attempt g.F.FaultSource.verdicts c.lock-hold.result c.args.moment) c.in-Some.reply) (ap (pass_seen c.pass.inside.slip) c.make_ready.ensures.same ∙ c.pass.view_is))

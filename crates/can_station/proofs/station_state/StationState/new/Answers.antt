@@ -1,6 +1,5 @@
-use Rattle.std.proofs.Common.{◌≡◌, ℕ, List, ap, sym, ◌∙◌, subst}
-use Rattle.can_event.specs.declared.entry.Entry.{Entry}
-use Rattle.can_event.specs.Events.{IsConfig}
+use Rattle.std.proofs.Common.{◌≡◌, ℕ, [], refl, ap, sym, ◌∙◌, subst}
+use Rattle.can_record.specs.Journal.{Journal}
 use Rattle.can_meter.specs.Readings.{Readings}
 use Rattle.can_roll.specs.Seen.{RollSeen}
 use Rattle.can_station.specs.Marks.{IsBooked}
@@ -11,10 +10,10 @@ use Rattle.can_station.proofs.station_state.StationState.new.Goals as goal
 
 pub invariant_of-result : goal.invariant_of-result
 invariant_of-result g c =
-    let bus = c.args.bus in
+    let empty : Journal = record { config = c.args.config; history = [] } in
     let number : c.new.result.number ≡ c.args.number = ap (λ (r : RollSeen). r.number) c.new.ensures in (
-      subst (λ (r : RollSeen). IsBooked r bus) (sym c.new.ensures) (booked_first c.args.number bus (subst IsConfig (sym c.requires.config) c.requires.proper) c.requires.empty),
-      subst (λ (x : Readings × ℕ × List Entry). IsPublished x.0 x.1 (record { config = bus.config; history = x.2 })) (λ k. (sym c.requires.keeper k, sym number k, sym c.requires.empty k)) (nothing_published c.args.number bus.config),
+      subst (λ (x : RollSeen × Journal). IsBooked x.0 x.1) (λ k. (sym c.new.ensures k, sym c.requires.bus k)) (booked_first c.args.number empty c.requires.proper refl),
+      subst (λ (x : Readings × ℕ × Journal). IsPublished x.0 x.1 x.2) (λ k. (sym c.requires.keeper k, sym number k, sym c.requires.bus k)) (nothing_published c.args.number c.args.config),
       c.requires.spare ∙ sym number,
-      c.requires.config,
+      ap (λ (j : Journal). j.config) c.requires.bus,
     )

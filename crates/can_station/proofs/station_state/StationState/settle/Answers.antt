@@ -1,10 +1,9 @@
-use Rattle.std.proofs.Common.{◌≡◌, List, length, sym, ap, ◌∙◌, subst}
-use Rattle.can_event.specs.declared.bus_config.BusConfig.{BusConfig}
-use Rattle.can_event.specs.declared.entry.Entry.{Entry}
-use Rattle.can_bus.specs.Legal.{IsLegal}
+use Rattle.std.proofs.Common.{◌≡◌, length, sym, ap, ◌∙◌, subst}
+use Rattle.can_record.specs.Journal.{Journal}
 use Rattle.can_roll.specs.Lists.{AllBelow}
 use Rattle.can_roll.specs.Seen.{RollSeen}
-use Rattle.can_station.specs.Passes.{AllMarked, numbers_of}
+use Rattle.can_station.specs.Passes.{SettlesIn, numbers_of}
+use Rattle.can_station.specs.Published.{AreTrue}
 use Rattle.can_station.proofs.Marking.{marked-all}
 use Rattle.can_station.proofs.PublishedFacts.{all_true}
 use Rattle.can_station.proofs.station_state.StationState.settle.Goals as goal
@@ -15,19 +14,20 @@ returns-clause-settled g c =
     let m = b.marked in
     let r = c.recall_all.ensures in
     let marks = b.marks in
+    let j : Journal = g.B.Journaled.journal c.self.inside.bus in
     let count : c.passes.result ≡ length c.self.inside.roll.lists = c.passes.ensures ∙ ap (λ (s : RollSeen). length s.lists) r.roll in
-    let config : c.into_record.result.config ≡ c.self.inside.bus.config = c.into_record.ensures.config in
-    let past : c.into_record.result.history ≡ c.self.inside.bus.history = c.into_record.ensures.history in
-    record {
-      legal = subst (λ (x : BusConfig × List Entry). IsLegal x.0 x.1) (λ k. (sym config k, sym past k)) c.into_record.ensures.legal;
+    subst (λ (left : Journal). SettlesIn left c.passes.result c.args.passes.items) (sym c.into_left.ensures)
+    (record {
+      legal = b.legal;
       marks = marks;
-      long = m.long ∙ ap length (sym past);
+      long = m.long;
       below = subst (λ n. AllBelow n marks) (sym count) m.below;
-      each = subst (λ (entries : List Entry). AllMarked marks entries c.args.passes.items) (sym past) (marked-all c.self.inside.roll.lists marks c.self.inside.bus.history c.args.passes.items m r.each);
+      each = marked-all c.self.inside.roll.lists marks j.history c.args.passes.items m r.each;
       different = r.once;
       entered = subst (λ n. AllBelow n (numbers_of c.args.passes.items)) (sym count) r.below;
-    }
+    })
 
 pub returns-clause-gauges : goal.returns-clause-gauges
 returns-clause-gauges g c =
-    all_true c.self.inside.keeper c.self.inside.roll.number c.self.inside.bus c.into_record.result c.args.gauges.items c.self.invariant.1 c.into_record.ensures.config c.into_record.ensures.history c.absorb_all.ensures.seen
+    subst (λ (left : Journal). AreTrue left c.args.gauges.items) (sym c.into_left.ensures)
+    (all_true c.self.inside.keeper c.self.inside.roll.number (g.B.Journaled.journal c.self.inside.bus) c.args.gauges.items c.self.invariant.1 c.absorb_all.ensures.seen)

@@ -9,10 +9,10 @@ use Rattle.can_station.proofs.station_state.StationState.step.Goals as goal
 pub returns-clause-carried : goal.returns-clause-carried
 returns-clause-carried g c =
     let verdicts = g.F.FaultSource.verdicts in
-    let carried = c.call-reply.ensures.carried in
+    let carried = c.in_ok-reply.ensures.carried in
     let verdict : c.verdict-verdict.result ≡ next_verdict verdicts c.args.self.now =
     c.verdict-verdict.ensures.answer ∙ ap (λ (n : ℕ). verdict_in (verdicts c.self.inside.source) n) c.next_attempt.ensures
     ∙ ap (λ (h : Held g.row.F.Denot). next_verdict verdicts h) c.self.view_is in
-    let source : c.call-reply.new.self.source ≡ c.verdict-verdict.new.self = ap (λ (h : Held g.row.F.Denot). h.source) carried.after in
-    subst (λ (x : Held g.row.F.Denot × Event). IsCarriedOut x.0 c.args.slip.now x.1 c.call-reply.result c.call-reply.new.self c.call-reply.new.slip)
+    let source : c.call.new.self.source ≡ c.verdict-verdict.new.self = ap (λ (h : Held g.row.F.Denot). h.source) carried.after in
+    subst (λ (x : Held g.row.F.Denot × Event). IsCarriedOut x.0 c.args.slip.now x.1 c.in_ok-reply.reply c.call.new.self c.call.new.slip)
     (λ k. (with_source (sym source k) (c.self.view_is k), event.Attempt c.args.moment (verdict k))) carried
