@@ -17,7 +17,7 @@ use Rattle.can_dialog.specs.Calls.{Gives, Refuses, Steps}
 use Rattle.can_event.specs.declared.stats.SocketStats.{SocketStats}
 use Rattle.can_event.specs.declared.stats.IfaceStats.{IfaceStats}
 use Rattle.can_station.specs.Held.{StationSeen}
-use Rattle.can_station.specs.Passes.{PassSeen, Called, HadNoPassLeft, InSome, IsNewPass, Suits, same}
+use Rattle.can_station.specs.Passes.{PassSeen, Called, HadNoPassLeft, InSome, IsNewLightPass, Suits, same}
 use Rattle.can_station.specs.Waits.{AreCounts}
 use Rattle.can_station.specs.declared.refusals.StationRefusal.{StationRefusal}
 use Rattle.can_station.specs.declared.refusals.StationRefusal.TheVariants as station
@@ -133,7 +133,7 @@ module _ (old : PortSeen) (buses : List BusSeen) (inside : Option EnteredSeen) (
   some_named_full F here is full = subst (λ (o : PortSeen). SomeNamedFull F o.buses name) seen (here, at.1, subst (λ (n : ℕ). IsFirstNamed buses name (Some (n, at.1))) (sym is) first, full)
 
   -- and its station was entered
-  pub attached : (F : Type 0) (here : StationSeen) (gauge : Readings) (pass : PassSeen) → here.number ≡ at.0 → gauge.number ≡ here.number → IsNewPass F here pass → Attaches F old name (Ok at.1) (over buses (entered_with here gauge pass))
+  pub attached : (F : Type 0) (here : StationSeen) (gauge : Readings) (pass : PassSeen) → here.number ≡ at.0 → gauge.number ≡ here.number → IsNewLightPass F here pass → Attaches F old name (Ok at.1) (over buses (entered_with here gauge pass))
   attached F here gauge pass is metered new =
       subst (λ (o : PortSeen). Attaches F o name (Ok at.1) (over buses (entered_with here gauge pass))) seen
       (here, gauge, pass, subst (λ (n : ℕ). IsFirstNamed buses name (Some (n, at.1))) (sym is) first, metered, new, refl)

@@ -18,7 +18,7 @@ use Rattle.can_dialog.specs.Calls.{Call}
 use Rattle.can_dialog.specs.Calls.{Reply as CallReply}
 use Rattle.can_dialog.specs.Calls.Call.{Attach, Open, Close, SetFilters, SetOption, Send, Receive, Restart, Attempt, CountsOfSocket, CountsOfIface, CountersOfIface}
 use Rattle.can_station.specs.Held.{StationSeen}
-use Rattle.can_station.specs.Passes.{PassSeen, Called, HadNoPassLeft, InSome, IsNewPass}
+use Rattle.can_station.specs.Passes.{PassSeen, Called, HadNoPassLeft, InSome, IsNewLightPass}
 use Rattle.can_station.specs.declared.refusals.StationRefusal.{StationRefusal}
 use Rattle.can_station.specs.declared.refusals.StationRefusal.TheVariants as station
 use Rattle.can_hub.specs.Buses.{BusSeen, IsFirstNamed, items_on}
@@ -90,7 +90,7 @@ SomeNamedFull F buses name = (at : StationSeen) × (iface : ℕ) × IsFirstNamed
 abbrev pub Attaches : Type 0 → PortSeen → List ℕ → Result ℕ PortRefusal → PortSeen → Type 0
 Attaches F old name (Ok iface) new =
     (at : StationSeen) × (gauge : Readings) × (pass : PassSeen) × IsFirstNamed old.buses name (Some (at.number, iface)) × (gauge.number ≡ at.number)
-    × IsNewPass F at pass × (new ≡ record { buses = old.buses; entered = Some (entered_with at gauge pass) })
+    × IsNewLightPass F at pass × (new ≡ record { buses = old.buses; entered = Some (entered_with at gauge pass) })
 Attaches F old name (Err (port.Bus refusal.NoInterface)) new = IsFirstNamed old.buses name None × (new ≡ old)
 Attaches F old name (Err (port.Bus refusal.NoMemory)) new = SomeNamed old.buses name × (new ≡ old)
 Attaches F old name (Err port.TooManyPasses) new = SomeNamedFull F old.buses name × (new ≡ old)

@@ -2,6 +2,7 @@ ghost use Rattle.std.specs.Prelude.{◌≡◌};
 ghost use Rattle.can_hub.specs.PassSteps.{is_shared};
 
 use crate::pass_port::{PassPort, pass_on};
+use crate::tally::Counted;
 use can_bus::{Event, IfaceStats, Received, Refusal, Reply, SocketId, SocketStats};
 use can_confine::Counters;
 use can_dialog::{Port, PortRefusal};
@@ -94,8 +95,11 @@ impl<'p, 'a, N: RollName + MeterName, F: FaultSource + Drop, G: Gate + Drop, R: 
         let Some(entered) = &mut port.entered else {
             return Err(PortRefusal::Bus(Refusal::NoSocket));
         };
+        let counted = Counted::of(&event);
         let hold = hold_of(port.rt, entered.station, &mut self.hold);
-        pass_on(hold.call(port.alloc, &mut entered.pass, event))
+        let outcome = hold.call(port.alloc, &mut entered.pass, event);
+        port.tally.add(counted, &outcome);
+        pass_on(outcome)
     }
 
     // The call that a session makes most, without an event and a reply between.

@@ -10,8 +10,10 @@ pub mod bench;
 pub mod held_port;
 pub mod hub;
 pub mod pass_port;
+mod tally;
 
 pub use bench::Bench;
 pub use held_port::HeldPort;
 pub use hub::{Hub, SettleFault};
 pub use pass_port::PassPort;
+pub use tally::Tally;

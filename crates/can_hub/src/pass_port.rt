@@ -3,6 +3,7 @@ ghost use Rattle.can_hub.specs.Buses.{IsFirstNamed};
 ghost use Rattle.can_hub.specs.PassSteps.{GaugeTells, passed_on, with_room};
 
 use crate::hub::Hub;
+use crate::tally::{Counted, Tally};
 use can_bus::{Event, IfaceStats, Refusal, Reply, SocketId, SocketStats};
 use can_confine::Counters;
 use can_dialog::{Port, PortRefusal};
@@ -48,6 +49,7 @@ pub struct PassPort<'a, N: RollName + MeterName, F: FaultSource + Drop, G: Gate 
     pub(crate) alloc: Global,
     hub: &'a Hub<N, F, G>,
     pub(crate) entered: Option<Entered<'a, N, F, G>>,
+    pub(crate) tally: Tally,
 }
 
 impl<'a, N: RollName + MeterName, F: FaultSource + Drop, G: Gate + Drop, R: Wait> Model
@@ -77,6 +79,7 @@ impl<'a, N: RollName + MeterName, F: FaultSource + Drop, G: Gate + Drop, R: Wait
             alloc,
             hub,
             entered: None,
+            tally: Tally::none(),
         }
     }
 
@@ -90,14 +93,16 @@ impl<'a, N: RollName + MeterName, F: FaultSource + Drop, G: Gate + Drop, R: Wait
         }
     }
 
-    /// The pass, where a station was entered.
-    pub fn pass(&self) -> Option<&Pass<N>>
-        ensures { option_map (λ p. p.now) result ≡ option_map (λ e. e.pass) self.now.entered }
+    /// What its calls came to.
+    pub fn tally(&self) -> Tally {
+        self.tally
+    }
+
+    /// The interface that a call restarted last, if one did since this was asked before.
+    pub fn take_restarted(&mut self) -> Option<Iface>
+        ensures { self.new ≡ self.old }
     {
-        match &self.entered {
-            Some(entered) => Some(&entered.pass),
-            None => None,
-        }
+        self.tally.take_restarted()
     }
 
     /// Gives the pass away, where a station was entered.
@@ -155,11 +160,13 @@ impl<'a, N: RollName + MeterName, F: FaultSource + Drop, G: Gate + Drop, R: Wait
             return Err(PortRefusal::Bus(Refusal::NoSocket));
         };
         let room = self.hub.rx_capacity(usize::from(entered.station.number()));
-        pass_on(
+        let counted = Counted::of(&event);
+        let outcome =
             entered
                 .station
-                .call(self.rt, self.alloc, &mut entered.pass, sized(event, room)),
-        )
+                .call(self.rt, self.alloc, &mut entered.pass, sized(event, room));
+        self.tally.add(counted, &outcome);
+        pass_on(outcome)
     }
 
     fn attach(&mut self, name: &[u8]) -> Result<Iface, PortRefusal> {
@@ -170,7 +177,7 @@ impl<'a, N: RollName + MeterName, F: FaultSource + Drop, G: Gate + Drop, R: Wait
         let Ok(gauge) = station.gauge(self.rt) else {
             return Err(PortRefusal::Bus(Refusal::NoMemory));
         };
-        let Ok(pass) = station.enter(self.rt, self.alloc) else {
+        let Ok(pass) = station.enter_light(self.rt) else {
             return Err(PortRefusal::TooManyPasses);
         };
         self.entered = Some(Entered {

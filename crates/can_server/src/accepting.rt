@@ -4,9 +4,9 @@ use crate::guests::NotAdmitted;
 use crate::notice::Notice;
 use crate::server::Server;
 use crate::serving::Clock;
-use crate::sums::Sums;
 use can_fault::FaultSource;
 use can_frame::Moment;
+use can_hub::Tally;
 use can_meter::MeterName;
 use can_proto::{Cause, refusal_text};
 use can_roll::RollName;
@@ -68,7 +68,7 @@ impl<
                             .is_err()
                         {
                             self.let_go(place);
-                            self.tell_end(session, Sums::none());
+                            self.tell_end(session, Tally::none());
                         }
                     }
                     Next::Nobody => {}
@@ -108,11 +108,11 @@ impl<
     }
 
     /// Reports to the host that a session is over.
-    pub fn tell_end(&self, session: u32, sums: Sums) {
+    pub fn tell_end(&self, session: u32, tally: Tally) {
         self.host.tell(Notice::Went {
             session,
-            refused: sums.refused,
-            dropped: sums.dropped,
+            refused: tally.refused,
+            dropped: tally.dropped,
         });
     }
 

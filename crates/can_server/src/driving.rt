@@ -49,7 +49,7 @@ impl<
             return;
         }
         let station = self.hub.station(bus);
-        let was_refused = match station.enter(self.rt, self.alloc) {
+        let was_refused = match station.enter_light(self.rt) {
             Ok(mut pass) => {
                 let was_refused = self.step_all(bus, &mut pass);
                 self.returned.lock(self.rt).take(pass);

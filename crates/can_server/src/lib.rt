@@ -24,7 +24,6 @@ mod returned;
 mod server;
 pub mod serving;
 mod sessions;
-mod sums;
 mod talk;
 
 pub use batch::{Batch, Handed};

@@ -3,13 +3,13 @@ use crate::conn::Conn;
 use crate::notice::Notice;
 use crate::server::Server;
 use crate::serving::Clock;
-use crate::sums::Sums;
 use crate::talk::{Place, Talk};
 use can_fault::FaultSource;
 use can_frame::Iface;
+use can_hub::Tally;
 use can_meter::MeterName;
 use can_roll::RollName;
-use can_station::{Gate, Pass, Station, Wake};
+use can_station::{Gate, Station, Wake};
 use std::sync::{Mutex, Wait};
 use std::thread::Threads;
 use std::time::Duration;
@@ -51,28 +51,29 @@ impl<
             place,
             session,
         };
-        let mut sums = Sums::none();
-        if let Some(pass) = self.converse(&admitted) {
-            if self.host.is_curious() {
-                sums = Sums::of(&pass);
-            }
-            self.returned.lock(self.rt).take(pass);
-        }
+        let tally = self.converse(&admitted);
         self.let_go(admitted.place);
         admitted.conn.shutdown();
-        self.tell_end(admitted.session, sums);
+        self.tell_end(admitted.session, tally);
     }
 
-    /// Talks with a client to the end: the pass, where it opened a bus.
-    fn converse(&self, admitted: &Admitted) -> Option<Pass<N>> {
+    /// Talks with a client to the end, and hands its pass back: what its calls came to.
+    fn converse(&self, admitted: &Admitted) -> Tally {
         let most = self.host.write_bytes();
-        let mut talk = Talk::new(self.rt, self.alloc, self.hub, most).ok()?;
+        let Ok(mut talk) = Talk::new(self.rt, self.alloc, self.hub, most) else {
+            return Tally::none();
+        };
         if !talk.greet(&admitted.conn) {
-            return None;
+            return Tally::none();
         }
         let talk = Mutex::new(talk);
         self.hear_all(&talk, admitted);
-        talk.into_inner().into_pass()
+        let talk = talk.into_inner();
+        let tally = talk.tally();
+        if let Some(pass) = talk.into_pass() {
+            self.returned.lock(self.rt).take(pass);
+        }
+        tally
     }
 
     /// Reads what the client says. Once the session is raw, its guest keeps its place, and a thread delivers its items

@@ -1,14 +1,13 @@
 ghost use Rattle.std.specs.Prelude.{◌≡◌};
-ghost use Rattle.can_server.specs.Driving.{restarted_by};
 
 use crate::batch::{Batch, Handed};
 use crate::conn::{Conn, Out};
 use crate::opening::{FirstBytes, Opening};
-use can_bus::{Entry, Event, Reply, SocketId};
+use can_bus::SocketId;
 use can_dialog::{Session, SessionFault, Stage};
 use can_fault::FaultSource;
 use can_frame::{Iface, Moment};
-use can_hub::{HeldPort, Hub, PassPort};
+use can_hub::{HeldPort, Hub, PassPort, Tally};
 use can_meter::MeterName;
 use can_roll::RollName;
 use can_station::{Gate, Pass, Station};
@@ -32,8 +31,6 @@ pub struct Talk<'a, N: RollName + MeterName, F: FaultSource + Drop, G: Gate + Dr
     /// How the connection begins, and the bytes that decide it.
     opening: Opening,
     first: FirstBytes,
-    /// How many calls were looked at for a restart.
-    looked: usize,
 }
 
 impl<'a, N: RollName + MeterName, F: FaultSource + Drop, G: Gate + Drop, R: Wait> Talk<
@@ -56,7 +53,6 @@ impl<'a, N: RollName + MeterName, F: FaultSource + Drop, G: Gate + Drop, R: Wait
             batch: Batch::new(alloc, most_bytes)?,
             opening: Opening::Undecided,
             first: FirstBytes::new(),
-            looked: 0,
         })
     }
 
@@ -159,30 +155,17 @@ impl<'a, N: RollName + MeterName, F: FaultSource + Drop, G: Gate + Drop, R: Wait
 
     /// The interface that the session has restarted since the last look, if it has.
     pub fn look_for_restart(&mut self) -> Option<Iface> {
-        let pass = self.port.pass()?;
-        let mut restarted = None;
-        for place in self.looked..pass.len() {
-            if let Some(call) = pass.call(place) {
-                restarted = restart_in(call.entry()).or(restarted);
-            }
-        }
-        self.looked = pass.len();
-        restarted
+        self.port.take_restarted()
+    }
+
+    /// What the calls of the session came to.
+    pub fn tally(&self) -> Tally {
+        self.port.tally()
     }
 
     /// The pass, where a station was entered.
     pub fn into_pass(self) -> Option<Pass<N>> {
         let Talk { port, .. } = self;
         port.into_pass()
-    }
-}
-
-/// The interface that a call restarted, if it did.
-fn restart_in(call: &Entry) -> Option<Iface>
-    ensures { result ≡ restarted_by call.now.event call.now.reply }
-{
-    match (&call.event, &call.reply) {
-        (Event::Restart(iface, _), Reply::Done) => Some(*iface),
-        _ => None,
     }
 }

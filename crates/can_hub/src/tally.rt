@@ -1,0 +1,65 @@
+use can_bus::{Event, Reply};
+use can_frame::Iface;
+use can_station::StationRefusal;
+
+/// What a host may want to know of the calls of a session, as they are made. No contract speaks of it.
+#[derive(Debug, Clone, Copy)]
+pub struct Tally {
+    /// How many frames were refused, as the record says.
+    pub refused: u64,
+    /// How many items found no room at its socket, as the close says.
+    pub dropped: u64,
+    restarted: Option<Iface>,
+}
+
+/// A call, as far as a tally looks at it.
+#[derive(Debug, Clone, Copy)]
+pub(crate) enum Counted {
+    Send,
+    Restart(Iface),
+    Other,
+}
+
+impl Counted {
+    /// The call that makes this event.
+    pub(crate) fn of(event: &Event) -> Counted {
+        match event {
+            Event::Send(..) => Counted::Send,
+            Event::Restart(iface, _) => Counted::Restart(*iface),
+            _ => Counted::Other,
+        }
+    }
+}
+
+impl Tally {
+    /// Of no call.
+    pub fn none() -> Tally {
+        Tally {
+            refused: 0,
+            dropped: 0,
+            restarted: None,
+        }
+    }
+
+    /// Adds a call with what it came to. A call that left no entry does not count.
+    pub(crate) fn add(&mut self, call: Counted, outcome: &Result<Reply, StationRefusal>) {
+        let Ok(reply) = outcome else {
+            return;
+        };
+        match (call, reply) {
+            (Counted::Send, Reply::Refused(_)) if reply.enters() => {
+                self.refused = self.refused.saturating_add(1);
+            }
+            (Counted::Restart(iface), Reply::Done) => self.restarted = Some(iface),
+            (_, Reply::Closed(closed)) => {
+                self.dropped = self.dropped.saturating_add(closed.dropped);
+            }
+            _ => {}
+        }
+    }
+
+    /// The interface that was restarted last, if one was since this was asked before.
+    pub fn take_restarted(&mut self) -> Option<Iface> {
+        self.restarted.take()
+    }
+}
