@@ -59,6 +59,124 @@ def test_verbose():
         ], server.said()
 
 
+def test_record_that_a_delivery_finds_full():
+    """where the first call that the record has no room for takes an item, it is reported, and both sessions go on"""
+    with serving("--limit", "4", "--pace", "0", "can0,can1") as server:
+        can0, can1 = plain(server, "can0"), plain(server, "can1")
+        can0.tell("< send 123 1 5 >")
+        told_by = can1.text()
+        assert told_by == "< error record full >", told_by
+        assert come_true(lambda: "can0: record full" in server.said()), server.said()
+        others = can0.answer("< echo >"), can1.answer("< echo >")
+        assert others == ("< echo >", "< echo >"), f"{others}"
+        written = server.end("note: bus can0: record full")
+        assert written == "bus can0 entries 4\n", written
+
+
+def test_each_of_64_sessions():
+    """a frame reaches the sockets of all, whatever their numbers"""
+    with serving("--pace", "0", "can0,can1") as server:
+        sender, *others = [plain(server, "can0")] + [plain(server, "can1") for _ in range(63)]
+        for number in range(3):
+            sender.tell(f"< send 123 1 {number} >")
+            for place, one in enumerate(others):
+                got = one.frame()
+                assert got == ("123", bytes([number])), f"socket {place + 1}: {got}"
+        server.end()
+
+
+def test_counts_of_verbose():
+    """what a session has lost, and the restart that comes after many calls of its session"""
+    words = ("--verbose", "--pace", "0", "--txqueue", "1024", "--rxqueue", "1")
+    with serving(*words, f"can0,can1@{ROOT}/examples/bus_off_attack.script", "can2,can3") as server:
+        off = plain(server, "can0")
+        off.tell("< send 123 0 >")
+        assert come_true(lambda: "can0: bus off" in server.said()), server.said()
+        refused = [off.answer("< send 123 0 >") for _ in range(100)]
+        assert refused == ["< error bus off >"] * 100, refused[0]
+        assert off.answer("< restart >") == "< ok >", "restart"
+        assert come_true(lambda: "can0: restarted" in server.said()), server.said()
+        sender, asleep = plain(server, "can2"), plain(server, "can3")
+        for _ in range(40):
+            sender.tell("< send 7FF 8 1 2 3 4 5 6 7 8 >" * 1000 + "< echo >")
+            while sender.text() != "< echo >":
+                pass
+        asleep.tell("< close >")
+        closed = next(text for text in iter(asleep.text, "") if text.startswith("< closed "))
+        dropped = int(closed.split()[3])
+        assert dropped > 0, closed
+        off.close()
+        gone = ["session 1: gone, 100 frames refused, 0 dropped", f"session 3: gone, 0 frames refused, {dropped} dropped"]
+        assert come_true(lambda: all(line in server.said() for line in gone)), f"{gone} in {server.said()}"
+        status, _ = server.finish()
+        assert status == 0, server.said()
+
+
+@pytest.mark.slow
+def test_raw_sessions_keep_their_places():
+    """a minute later, when somebody finds no place, a silent client gives way, and no session in raw mode"""
+    with serving("can0,can1") as server:
+        raw = [plain(server, "can0") for _ in range(63)]
+        silent = Plain(server)
+        assert silent.text() == "< hi >"
+        time.sleep(61)
+        newcomer = Plain(server)
+        assert (newcomer.text(), silent.text()) == ("< hi >", ""), "the silent client has its place"
+        answers = [one.answer("< echo >") for one in raw]
+        assert answers == ["< echo >"] * 63, f"{answers}"
+        server.end()
+
+
+def has_ended(client):
+    """Whether the server has closed a connection, which may have had more to read."""
+    try:
+        return client.text() == ""
+    except ConnectionError:
+        return True
+
+
+@pytest.mark.parametrize("pieces", ["whole", "byte by byte"])
+@pytest.mark.parametrize("method", ["GET", "HEAD", "POST", "PUT", "DELETE", "CONNECT", "OPTIONS", "TRACE", "PATCH"])
+def test_web_page(method, pieces):
+    """a request of HTTP puts no frame on a bus: its connection is closed, and that is reported"""
+    body = "< open can0 >< rawmode >< send 123 0 >"
+    request = f"{method} / HTTP/1.1\r\nHost: 127.0.0.1\r\nContent-Length: {len(body)}\r\n\r\n{body}"
+    with serving("--verbose", "can0,can1") as server:
+        page = Plain(server)
+        page.socket.setsockopt(socket.IPPROTO_TCP, socket.TCP_NODELAY, 1)
+        port = page.socket.getsockname()[1]
+        assert page.text() == "< hi >"
+        with contextlib.suppress(ConnectionError):
+            for piece in [request] if pieces == "whole" else request:
+                page.tell(piece)
+        assert has_ended(page), "the connection goes on"
+        assert come_true(lambda: "session 1: gone" in server.said()), server.said()
+        status, written = server.finish()
+        lines = [line.split(" ", 1)[1] for line in server.said().splitlines()]
+        assert (status, lines) == (0, [
+            f"session 1: came from 127.0.0.1:{port}",
+            "session 1: closed, a request of HTTP",
+            "session 1: gone, 0 frames refused, 0 dropped",
+        ]), server.said()
+        assert written == "bus can0 entries 0\n", written
+        assert server.audited("can0.rec") == 0, "the audit"
+
+
+@pytest.mark.parametrize("first", ["G", "GET", "GETS ", "POST", "OPTIONS", "get ", " GET ", "PUTS"])
+def test_no_web_page(first):
+    """a client that begins as a request may, or nearly so, goes on"""
+    with serving("can0,can1") as server:
+        near, other = Plain(server), plain(server, "can1")
+        assert near.text() == "< hi >"
+        near.tell(first)
+        assert other.answer("< echo >") == "< echo >"
+        answers = near.answer("< open can0 >"), near.answer("< rawmode >")
+        assert answers == ("< ok >", "< ok >"), f"{answers}"
+        near.tell("< send 123 0 >")
+        assert other.frame() == ("123", b""), "not the frame"
+        server.end()
+
+
 def test_slow_reader():
     """what it does not take is dropped and counted, and nobody else waits for it"""
     with serving(

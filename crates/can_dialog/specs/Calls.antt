@@ -1,4 +1,4 @@
-use Rattle.std.specs.Prelude.{ℕ, List, Option, Result, Ok, Err}
+use Rattle.std.specs.Prelude.{ℕ, Bool, List, Option, Result, Ok, Err}
 use Rattle.can_frame.specs.Frames.{CanFrame}
 use Rattle.can_filter.specs.Filters.{CanFilter}
 use Rattle.can_fault.specs.declared.verdict.Verdict.{Verdict}
@@ -13,6 +13,7 @@ use Rattle.can_event.specs.declared.event.Event.TheVariants as event
 use Rattle.can_event.specs.declared.received.Received.{Received}
 use Rattle.can_event.specs.declared.reply.Reply.{Reply as EventReply}
 use Rattle.can_event.specs.declared.reply.Reply.TheVariants as reply
+use Rattle.can_event.specs.Replies.{taken_item}
 use Rattle.can_event.specs.declared.stats.SocketStats.{SocketStats}
 use Rattle.can_event.specs.declared.stats.IfaceStats.{IfaceStats}
 use Rattle.can_proto.specs.declared.answer.Cause.{Cause}
@@ -52,6 +53,11 @@ Reply (Attempt moment verdict) = Result AnAttempt PortRefusal
 Reply (CountsOfSocket socket) = Option SocketStats
 Reply (CountsOfIface iface) = Option IfaceStats
 Reply (CountersOfIface iface) = ErrorCounts
+
+-- what a receive into this room came to, with the item
+abbrev pub received_into : {E : Type 0} → Received → Result Bool E → Result (Option Received) E
+received_into room (Ok taken) = Ok (taken_item room taken)
+received_into room (Err why) = Err why
 
 -- how a port's refusal is reported to a client
 abbrev pub cause_of_port : PortRefusal → Cause

@@ -1,4 +1,4 @@
-use Rattle.std.specs.Prelude.{ℕ, Bool, true, false, List, []}
+use Rattle.std.specs.Prelude.{◌≡◌, ◌<◌, ℕ, zero, suc, Bool, true, false, List, [], ◌++◌}
 use Rattle.can_event.specs.declared.received.Received.{Received}
 use Rattle.can_proto.specs.declared.answer.Answer.TheVariants as answer
 use Rattle.can_proto.specs.Spelling.{reply_text, item_text}
@@ -9,7 +9,7 @@ use Rattle.can_dialog.specs.Calls.{Call, Reply}
 use Rattle.can_dialog.specs.Plans.{Plays}
 use Rattle.can_dialog.specs.Turns.{delivery}
 
--- What one receive gives a client (own choice).
+-- What receives give a client (own choice).
 
 -- its text, where an item is in this room
 abbrev pub delivery_text : Delivery → Received → List ℕ
@@ -25,3 +25,16 @@ is_item _ = false
 -- the port goes through a delivery, which gives this, where an item is in this room
 abbrev pub Receives : {P : Type 0} → (P → (call : Call) → Reply call → P → Type 0) → Stage → P → P → Delivery → Received → Type 0
 Receives {P} step stage p q given room = Plays step (delivery stage) p q (delivery_text given room) (is_item given)
+
+-- this many items are given to a client, one after another
+abbrev pub AreGiven : {P : Type 0} → (P → (call : Call) → Reply call → P → Type 0) → ℕ → Stage → P → List ℕ → P → Type 0
+AreGiven {P} step zero stage p text q = (text ≡ []) × (q ≡ p)
+AreGiven {P} step (suc n) stage p text q =
+    (before : List ℕ) × (mid : P) × (last : List ℕ) × AreGiven step n stage p before mid × Plays step (delivery stage) mid q last true × (text ≡ before ++ last)
+
+-- as many receives as these give an item; or fewer do, and the one after them gives none
+abbrev pub Gives : {P : Type 0} → (P → (call : Call) → Reply call → P → Type 0) → ℕ → Stage → P → List ℕ → P → Bool → Type 0
+Gives {P} step most stage p text q true = AreGiven step most stage p text q
+Gives {P} step most stage p text q false =
+    (n : ℕ) × (before : List ℕ) × (mid : P) × (last : List ℕ) × (n < most)
+    × AreGiven step n stage p before mid × Plays step (delivery stage) mid q last false × (text ≡ before ++ last)

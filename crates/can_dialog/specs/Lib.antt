@@ -2,6 +2,5 @@ pub mod Calls
 pub mod Plans
 pub mod Turns
 pub mod Sessions
-pub mod BusSteps
 pub mod Lives
 pub mod Deliveries

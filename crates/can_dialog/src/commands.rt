@@ -5,7 +5,7 @@ ghost use Rattle.can_dialog.specs.Turns.{told as told_of, sending, looking_up, c
 
 use crate::port::{Port, PortRefusal};
 use crate::stage::{Dialog, RawSocket, Stage};
-use can_bus::Refusal;
+use can_event::Refusal;
 use can_frame::{Frame, Iface, Moment};
 use can_proto::{Answer, Cause, Command};
 

@@ -7,7 +7,7 @@ ghost use Rattle.can_dialog.specs.Deliveries.{Receives, delivery_text, is_item};
 use crate::output::put;
 use crate::port::Port;
 use crate::stage::Stage;
-use can_bus::Received;
+use can_event::Received;
 use can_proto::{Cause, ItemText, push_item, refusal_text};
 use std::io::Write;
 

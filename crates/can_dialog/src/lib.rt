@@ -1,4 +1,4 @@
-//! Sessions of the protocol over any port, and a bus as a port.
+//! Sessions of the protocol over any port.
 //!
 //! `Port` is what a session calls: its law is one relation of the port's state before, a call, its reply and
 //! the state after. `Session` reads pieces of a client's stream, makes the calls that the commands ask for,
@@ -7,7 +7,6 @@
 //! make no difference, and that all that a session writes is the text of its turns.
 #![tactic(auto)]
 
-pub mod bus_port;
 mod commands;
 pub mod delivery;
 mod dialog;
@@ -17,7 +16,6 @@ pub mod port;
 pub mod session;
 pub mod stage;
 
-pub use bus_port::BusPort;
 pub use delivery::Delivery;
 pub use port::{Port, PortRefusal};
 pub use session::{Session, SessionFault};

@@ -1,8 +1,8 @@
 ghost use Rattle.std.specs.Prelude.{◌≡◌};
 ghost use Rattle.can_dialog.specs.Calls.{cause_of_port};
 
-use can_bus::{Closed, Event, IfaceStats, Opt, Received, Refusal, Reply, SocketId, SocketStats};
 use can_confine::Counters;
+use can_event::{Closed, Event, IfaceStats, Opt, Received, Refusal, Reply, SocketId, SocketStats};
 use can_filter::FilterSet;
 use can_frame::{Frame, Iface, Moment};
 use can_proto::Cause;
@@ -41,8 +41,7 @@ impl PortRefusal {
 /// together; each call is one such step. A port may take memory. An implementation writes `call`, `attach`, the two
 /// counts and the status; the calls that are named for an event make it by `call`.
 pub trait Port {
-    ghost use Rattle.can_bus.specs.Answer.{received_into};
-    ghost use Rattle.can_dialog.specs.Calls.{Call, Reply, Steps};
+    ghost use Rattle.can_dialog.specs.Calls.{Call, Reply, Steps, received_into};
     ghost use Rattle.can_dialog.specs.Calls.Call.{Attach, Open, Close, SetFilters, SetOption, Send, Receive, Restart, CountsOfSocket, CountsOfIface, CountersOfIface};
 
     /// The state before, a call, its reply and the state after.

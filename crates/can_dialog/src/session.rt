@@ -10,7 +10,7 @@ use crate::dialog::{finish, take_turn};
 use crate::output::{make_room, put, say};
 use crate::port::Port;
 use crate::stage::{Dialog, RawSocket, Stage};
-use can_bus::Received;
+use can_event::Received;
 use can_frame::{Frame, Moment};
 use can_proto::{Answer, Incoming, Reader, reply_text};
 use std::alloc::{AllocError, Global};

@@ -1,7 +1,7 @@
 ghost use Rattle.std.specs.Prelude.{◌≡◌};
 ghost use Rattle.can_dialog.specs.Turns.{mode_of};
 
-use can_bus::SocketId;
+use can_event::SocketId;
 use can_frame::Iface;
 use can_proto::Mode;
 

@@ -3,4 +3,3 @@ pub mod Places
 pub mod Making
 pub mod Ending
 pub mod Naming
-mod Ascii

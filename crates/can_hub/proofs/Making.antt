@@ -1,8 +1,7 @@
 use Rattle.std.proofs.Common.{◌≡◌, ◌-◌, ◌≤◌, ℕ, suc, List, [], ◌∷◌, ◌++◌, length, get_or, take, drop, take_all, append_assoc, append-nil, length-append, refl, ap, sym, subst, ◌∙◌, arith}
 use Rattle.std.specs.Prelude.{All}
-use Rattle.std.proofs.lemmas.List.Elements.{All-head, All-tail, All-cons}
+use Rattle.std.proofs.lemmas.List.Elements.{All-head, All-tail}
 use Rattle.atomic_table.specs.Seated.{TableId}
-use Rattle.can_frame.specs.Names.{AreNames}
 use Rattle.can_hub.specs.Buses.{BusSeen, NumberedFrom, names_of}
 use Rattle.can_hub.specs.Benches.{IsProper, NamedFrom, bench_names, bus_of, buses_from}
 use Rattle.can_hub.specs.declared.bench.Bench.{Bench}
@@ -63,12 +62,6 @@ module _ {F G : Type 0} where
   pub same_names : (n : ℕ) (bs : List (Bench F G)) → names_of (buses_from n bs) ≡ bench_names bs
   same_names n [] = refl
   same_names n (b ∷ more) = ap (λ ns. b.names ∷ ns) (same_names (suc n) more)
-
-  pub good_names : (n : ℕ) (bs : List (Bench F G)) → All (λ x. IsProper x) bs → All (λ x. AreNames x.names) (buses_from n bs)
-  good_names n [] h = λ k d lt. absurd (omega (arith, lt))
-  good_names n (b ∷ more) h =
-      All-cons (λ (x : BusSeen). AreNames x.names) (bus_of n b) (buses_from (suc n) more) (All-head (λ (x : Bench F G). IsProper x) b more h).good
-      (good_names (suc n) more (All-tail (λ (x : Bench F G). IsProper x) b more h))
 
   pub same_length : (n : ℕ) (bs : List (Bench F G)) → length (buses_from n bs) ≡ length bs
   same_length n [] = refl

@@ -9,11 +9,11 @@ use Rattle.can_event.specs.declared.received.Received.{Received}
 use Rattle.can_event.specs.declared.socket_id.SocketId.{SocketId}
 use Rattle.can_event.specs.Replies.{taken_item, taken_reply}
 use Rattle.can_dialog.specs.Calls.Call.{Receive}
-use Rattle.can_bus.specs.Answer.{done_reply, received_into, told_attempt}
+use Rattle.can_bus.specs.Answer.{done_reply, told_attempt}
 use Rattle.can_event.specs.declared.reply.Reply.TheVariants as reply
 use Rattle.std.specs.Prelude.{slice_get, IfOk}
 use Rattle.can_dialog.specs.declared.port.PortRefusal.{PortRefusal}
-use Rattle.can_dialog.specs.Calls.{Gives, Refuses, Steps}
+use Rattle.can_dialog.specs.Calls.{Gives, Refuses, Steps, received_into}
 use Rattle.can_event.specs.declared.stats.SocketStats.{SocketStats}
 use Rattle.can_event.specs.declared.stats.IfaceStats.{IfaceStats}
 use Rattle.can_station.specs.Passes.{PassSeen, Called, HadNoPassLeft, InSome, IsNewPass, Suits, same}

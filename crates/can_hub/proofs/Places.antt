@@ -1,8 +1,6 @@
 use Rattle.std.proofs.Common.{◌≡◌, ◌+◌, ◌<◌, ◌≤◌, ℕ, zero, suc, List, [], ◌∷◌, length, Option, Some, None, refl, ap, sym, subst, inl, inr, ◌∙◌, arith}
-use Rattle.std.specs.Prelude.{slice_get, slice_index_or, All}
-use Rattle.std.specs.Str.{IsUtf8}
-use Rattle.can_frame.specs.Names.{AreNames, place_of}
-use Rattle.can_hub.proofs.Ascii.{unnamed}
+use Rattle.std.specs.Prelude.{slice_get, slice_index_or}
+use Rattle.can_frame.specs.Names.{place_of}
 use Rattle.std.proofs.lemmas.Bool.{cases_lt}
 use Rattle.can_hub.specs.Buses.{BusSeen, items_on, NumberedFrom, NoneNamed, IsFirstNamed}
 
@@ -48,10 +46,6 @@ items_past [] zero le = refl
 items_past [] (suc k) le = refl
 items_past (x ∷ xs) zero le = absurd (omega (arith, le))
 items_past (x ∷ xs) (suc k) le = items_past xs k (omega (arith, le))
-
--- bytes that are no UTF-8 are no bus's name
-pub nowhere : (buses : List BusSeen) (name : List ℕ) → All (λ b. AreNames b.names) buses → (¬ IsUtf8 name) → IsFirstNamed buses name None
-nowhere buses name good bad k d lt = sym (unnamed (slice_index_or buses k d).names name (good k d lt) bad)
 
 -- none before the next bus, where none is before this one and this one has none
 pub none_next : (n : ℕ) (buses : List BusSeen) (name : List ℕ) (found : Option ℕ) → NoneNamed n buses name → ((d : BusSeen) → found ≡ place_of (slice_index_or buses n d).names name) → found ≡ None → NoneNamed (n + 1) buses name

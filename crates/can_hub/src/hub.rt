@@ -1,5 +1,5 @@
 ghost use Rattle.std.specs.Prelude.{◌≡◌, ◌<◌, ◌≤◌, length, IfOk, IfErr, MatchResult, All, ◌↔◌, slice_index_or, slice_get};
-ghost use Rattle.can_frame.specs.Names.{AreNames, place_of};
+ghost use Rattle.can_frame.specs.Names.{place_of};
 ghost use Rattle.can_hub.specs.Buses.{BusSeen, IsFirstNamed, items_on};
 ghost use Rattle.can_hub.specs.Benches.{IsProper, MakeHub, NamedFrom, bus_of, buses_from};
 ghost use Rattle.can_hub.specs.Settling.{AllOwn, AllSettle, FirstForeign};
@@ -81,8 +81,7 @@ pub struct Hub<N: RollName + MeterName, F: FaultSource + Drop, G: Gate + Drop> {
 }
 
 impl<N: RollName + MeterName, F: FaultSource + Drop, G: Gate + Drop> Model for Hub<N, F, G> {
-    ghost use Rattle.std.specs.Prelude.{◌≡◌, ◌≤◌, [], List, length, All, vec_capacity};
-    ghost use Rattle.can_frame.specs.Names.{AreNames};
+    ghost use Rattle.std.specs.Prelude.{◌≡◌, ◌≤◌, [], List, length, vec_capacity};
     ghost use Rattle.can_hub.specs.Buses.{BusSeen, NumberedFrom, AllApart, names_of};
 
     ghost Value = { List BusSeen };
@@ -91,7 +90,7 @@ impl<N: RollName + MeterName, F: FaultSource + Drop, G: Gate + Drop> Model for H
 
     ghost invariant = { λ h.
         NumberedFrom 0 h.wires.items × AllApart (names_of h.wires.items)
-        × All (λ b. AreNames b.names) h.wires.items × (length h.wires.items ≤ 16)
+        × (length h.wires.items ≤ 16)
         × (h.settled.items ≡ []) × (length h.wires.items ≤ vec_capacity h.settled) };
 }
 
@@ -120,6 +119,13 @@ impl<N: RollName + MeterName, F: FaultSource + Drop, G: Gate + Drop> Hub<N, F, G
     pub fn find(&self, name: &str) -> Option<(usize, Iface)>
         ensures { IsFirstNamed self.now name.now result }
     {
+        self.find_bytes(name.as_bytes())
+    }
+
+    /// As `find`; bytes that are no UTF-8 are no name.
+    pub fn find_bytes(&self, name: &[u8]) -> Option<(usize, Iface)>
+        ensures { IsFirstNamed self.now name.now result }
+    {
         for bus in 0..self.wires.len() {
             if let Some(iface) = self.interface(bus, name) {
                 return Some((bus, iface));
@@ -130,18 +136,17 @@ impl<N: RollName + MeterName, F: FaultSource + Drop, G: Gate + Drop> Hub<N, F, G
 
     /// The interface of a bus that has this name.
     #[tactic(auto, using(crate::proofs::Places::named_at))]
-    fn interface(&self, bus: usize, name: &str) -> Option<Iface>
+    fn interface(&self, bus: usize, name: &[u8]) -> Option<Iface>
         requires { bus < length self.now }
         ensures { (d : BusSeen) → result ≡ place_of (slice_index_or self.now bus d).names name.now }
     {
-        self.wires[bus].names.find(name)
+        self.wires[bus].names.find_bytes(name)
     }
 
     /// How many buses there are, 1 to 16.
     pub fn count(&self) -> usize
         ensures count { result ≡ length self.now }
         ensures few { result ≤ 16 }
-        ensures good { All (λ b. AreNames b.names) self.now }
     {
         self.wires.len()
     }

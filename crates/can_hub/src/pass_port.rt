@@ -144,22 +144,6 @@ fn read_gauge<N: MeterName>(gauge: &mut Gauge<N>, iface: Iface) -> Counters
     gauge.status(place).counters
 }
 
-/// The bus that has an interface of this name, and that interface. Names are ASCII, so bytes that are no UTF-8 are
-/// none of them.
-fn interface_named<N: RollName + MeterName, F: FaultSource + Drop, G: Gate + Drop>(
-    hub: &Hub<N, F, G>,
-    name: &[u8],
-) -> Option<(usize, Iface)>
-    ensures { IsFirstNamed hub.now name.now result }
-{
-    // The proof learns here that the names are good.
-    let _ = hub.count();
-    match str::from_utf8(name) {
-        Ok(name) => hub.find(name),
-        Err(_) => None,
-    }
-}
-
 impl<'a, N: RollName + MeterName, F: FaultSource + Drop, G: Gate + Drop, R: Wait> Port
     for PassPort<'a, N, F, G, R> {
     ghost use Rattle.can_hub.specs.PassSteps.{PassStep};
@@ -179,7 +163,7 @@ impl<'a, N: RollName + MeterName, F: FaultSource + Drop, G: Gate + Drop, R: Wait
     }
 
     fn attach(&mut self, name: &[u8]) -> Result<Iface, PortRefusal> {
-        let Some(found) = interface_named(self.hub, name) else {
+        let Some(found) = self.hub.find_bytes(name) else {
             return Err(PortRefusal::Bus(Refusal::NoInterface));
         };
         let station = self.hub.station(found.0);

@@ -6,16 +6,20 @@
 //! to settle.
 //!
 //! Of the threads it is proved that one list of passes is handed back for each bus, and that a server that is closed
-//! lets nobody in ([`Guests`]). The sessions are can_dialog's, each with a pass of its own. Not promised: that a peer
-//! gets anything, how long anybody waits, that no two wait for each other.
+//! lets nobody in ([`Guests`]). The sessions are can_dialog's, each with a pass of its own; what one says, and the texts
+//! of its items, go out in order, each once ([`Batch`]). Which first bytes of a connection are a request of HTTP, which is
+//! closed, is [`FirstBytes`]. Not promised: that a peer gets anything, how long anybody waits, that no two wait for each
+//! other.
 #![tactic(auto)]
 
 mod accepting;
+pub mod batch;
 pub mod conn;
 pub mod door;
 mod driving;
 pub mod guests;
 pub mod notice;
+pub mod opening;
 mod returned;
 mod server;
 pub mod serving;
@@ -23,9 +27,11 @@ mod sessions;
 mod sums;
 mod talk;
 
+pub use batch::{Batch, Handed};
 pub use can_hub::{Bench, HeldPort, Hub, PassPort, SettleFault};
 pub use conn::Conn;
 pub use door::{Door, Listener};
 pub use guests::{Guests, NotAdmitted};
 pub use notice::Notice;
+pub use opening::{FirstBytes, Opening};
 pub use serving::{Clock, serve};

@@ -14,6 +14,10 @@ pub enum Notice {
         session: u32,
         from: Option<SocketAddr>,
     },
+    /// A client sent a request of HTTP, as a web page does, and is closed.
+    Requested {
+        session: u32,
+    },
     /// A session opened a socket on this interface of a bus.
     Opened {
         session: u32,

@@ -80,6 +80,7 @@ impl<
     fn hear_all(&self, talk: &Mutex<Talk<'_, N, F, G, R>>, admitted: &Admitted) {
         let conn = &*admitted.conn;
         let Some(place) = self.hear_until_raw(talk, conn) else {
+            self.tell_request(talk, admitted.session);
             return;
         };
         self.guests.lock(self.rt).keep(admitted.place);
@@ -161,6 +162,14 @@ impl<
     fn stop_full(&self, station: &Station<N, F, G>) {
         if station.is_full() {
             station.stop(self.rt);
+        }
+    }
+
+    /// Reports to the host that a session's client sent a request of HTTP, if it did.
+    fn tell_request(&self, talk: &Mutex<Talk<'_, N, F, G, R>>, session: u32) {
+        let is_request = talk.lock(self.rt).is_request();
+        if is_request {
+            self.host.tell(Notice::Requested { session });
         }
     }
 

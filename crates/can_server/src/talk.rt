@@ -1,9 +1,11 @@
 ghost use Rattle.std.specs.Prelude.{◌≡◌};
 ghost use Rattle.can_server.specs.Driving.{restarted_by};
 
+use crate::batch::{Batch, Handed};
 use crate::conn::{Conn, Out};
-use can_bus::{Entry, Event, Received, Reply, SocketId};
-use can_dialog::{Delivery, Session, Stage};
+use crate::opening::{FirstBytes, Opening};
+use can_bus::{Entry, Event, Reply, SocketId};
+use can_dialog::{Session, SessionFault, Stage};
 use can_fault::FaultSource;
 use can_frame::{Iface, Moment};
 use can_hub::{HeldPort, Hub, PassPort};
@@ -11,14 +13,7 @@ use can_meter::MeterName;
 use can_roll::RollName;
 use can_station::{Gate, Pass, Station};
 use std::alloc::{AllocError, Global};
-use std::io::Write;
 use std::sync::Wait;
-
-/// The most bytes of an item's text.
-const LONGEST: usize = 256;
-
-/// The most items that are received in one hold of the bus's lock.
-const MOST_ITEMS: usize = 256;
 
 /// Where the socket of a session in raw mode is, and of which interface it is one.
 #[derive(Drop)]
@@ -33,14 +28,10 @@ pub struct Place<'a, N: RollName + MeterName, F: FaultSource + Drop, G: Gate + D
 pub struct Talk<'a, N: RollName + MeterName, F: FaultSource + Drop, G: Gate + Drop, R: Wait> {
     session: Session,
     port: PassPort<'a, N, F, G, R>,
-    /// The texts of items that go out in one write.
-    batch: Vec<u8>,
-    /// The most bytes of these texts, but that one item goes out whole.
-    most_bytes: usize,
-    /// Rooms for the items that are received in one hold.
-    rooms: Vec<Received>,
-    /// What was received in one hold, and is to be written: the first into the first room, and so on.
-    deliveries: Vec<Delivery>,
+    batch: Batch,
+    /// How the connection begins, and the bytes that decide it.
+    opening: Opening,
+    first: FirstBytes,
     /// How many calls were looked at for a restart.
     looked: usize,
 }
@@ -62,10 +53,9 @@ impl<'a, N: RollName + MeterName, F: FaultSource + Drop, G: Gate + Drop, R: Wait
         Ok(Talk {
             session: Session::new(alloc, 0)?,
             port: PassPort::new(rt, alloc, hub),
-            batch: Vec::with_capacity(alloc, most_bytes)?,
-            most_bytes,
-            rooms: Vec::from_elem(alloc, Received::nothing(), MOST_ITEMS)?,
-            deliveries: Vec::with_capacity(alloc, MOST_ITEMS)?,
+            batch: Batch::new(alloc, most_bytes)?,
+            opening: Opening::Undecided,
+            first: FirstBytes::new(),
             looked: 0,
         })
     }
@@ -78,69 +68,71 @@ impl<'a, N: RollName + MeterName, F: FaultSource + Drop, G: Gate + Drop, R: Wait
         }
     }
 
-    /// Takes a piece of what the client says: whether the session goes on.
-    pub fn feed(&mut self, alloc: Global, piece: &[u8], moment: Moment, conn: &Conn) -> bool {
-        self.batch.clear();
-        let mut port = HeldPort::new(&mut self.port);
-        let fed = self
-            .session
-            .feed(alloc, piece, moment, &mut port, &mut self.batch);
-        drop(port);
-        let is_taken = write_out(&mut self.batch, conn);
-        self.goes_on(is_taken, conn) && fed.is_ok() && !self.is_over()
+    /// Takes a piece of what the client says: whether the session goes on. Of a request of HTTP nothing is carried out.
+    pub fn feed(&mut self, alloc: Global, piece: &[u8], moment: Moment, conn: &Conn) -> bool
+        ensures { self.new.opening ≡ Opening.Request →
+            (self.new.session ≡ self.old.session) × (self.new.port ≡ self.old.port) }
+    {
+        if self.opening == Opening::Undecided {
+            self.opening = self.first.hear(piece);
+        }
+        if self.opening == Opening::Request {
+            return false;
+        }
+        let port = HeldPort::new(&mut self.port);
+        let fed = self.batch.feed(
+            &mut self.session,
+            alloc,
+            piece,
+            moment,
+            port,
+            &mut Out(conn),
+        );
+        match fed {
+            Ok(()) => !self.is_over(),
+            Err(SessionFault::Write) => {
+                self.cut(conn);
+                false
+            }
+            Err(_) => false,
+        }
     }
 
     /// Gives the client up to this many items: how many it took, or `None` where there can be no more. They are
-    /// received in one hold of the bus's lock, and their texts are made and written after it.
+    /// received in one hold of the bus's lock, and their texts are written after it.
     pub fn deliver(&mut self, waiting: u64, conn: &Conn) -> Option<u64> {
-        let can_be_more = self.receive(waiting);
-        if self.write_items(conn) && can_be_more {
-            Some(self.deliveries.len() as u64)
-        } else {
-            None
-        }
-    }
-
-    /// Receives up to this many items in one hold of the bus's lock: whether there can be more.
-    fn receive(&mut self, waiting: u64) -> bool {
-        self.deliveries.clear();
-        let mut port = HeldPort::new(&mut self.port);
-        let mut can_be_more = true;
-        let most = waiting.min(MOST_ITEMS as u64) as usize;
-        for room in self.rooms.iter_mut().take(most) {
-            let delivery = self.session.take(&mut port, room);
-            can_be_more = self.deliveries.push(delivery).is_ok() && delivery.is_item();
-            if !can_be_more {
-                break;
+        let port = HeldPort::new(&mut self.port);
+        match self
+            .batch
+            .hand_over(&self.session, waiting, port, &mut Out(conn))
+        {
+            Handed::Items(count) => Some(count),
+            Handed::Last => None,
+            Handed::Cut => {
+                self.cut(conn);
+                None
             }
         }
-        can_be_more
     }
 
-    /// Writes the texts of what was received: whether the client took them.
-    fn write_items(&mut self, conn: &Conn) -> bool {
-        let are_taken = write_texts(
-            &self.deliveries,
-            &self.rooms,
-            &mut self.batch,
-            self.most_bytes,
-            conn,
-        );
-        self.goes_on(are_taken, conn)
-    }
-
-    /// Ends the session where the client did not take what was written: whether it goes on.
-    fn goes_on(&mut self, is_taken: bool, conn: &Conn) -> bool {
-        if !is_taken {
-            self.end();
-            conn.shutdown();
-        }
-        is_taken
+    /// Ends the session, whose client did not take what was written.
+    fn cut(&mut self, conn: &Conn)
+        ensures { self.new.opening ≡ self.old.opening }
+    {
+        self.end();
+        conn.shutdown();
     }
 
     /// Ends the session.
-    pub fn end(&mut self) {
+    pub fn end(&mut self)
+        ensures { self.new.opening ≡ self.old.opening }
+    {
         let _ = self.session.end(&mut self.port);
+    }
+
+    /// Whether the client sent a request of HTTP.
+    pub fn is_request(&self) -> bool {
+        self.opening == Opening::Request
     }
 
     /// Whether the session is over.
@@ -183,34 +175,6 @@ impl<'a, N: RollName + MeterName, F: FaultSource + Drop, G: Gate + Drop, R: Wait
         let Talk { port, .. } = self;
         port.into_pass()
     }
-}
-
-/// Writes the texts of what was received, in writes of at most this many bytes: whether the client took them.
-fn write_texts(
-    deliveries: &[Delivery],
-    rooms: &[Received],
-    batch: &mut Vec<u8>,
-    most_bytes: usize,
-    conn: &Conn,
-) -> bool {
-    let full = most_bytes.saturating_sub(LONGEST);
-    batch.clear();
-    for (delivery, room) in deliveries.iter().zip(rooms) {
-        if batch.len() > full && !write_out(batch, conn) {
-            return false;
-        }
-        if !delivery.write(room, batch) {
-            return false;
-        }
-    }
-    write_out(batch, conn)
-}
-
-/// Writes the texts for a client, with no lock but its session's, and empties them: whether the client took it.
-fn write_out(batch: &mut Vec<u8>, conn: &Conn) -> bool {
-    let is_taken = Out(conn).write_all(batch).is_ok();
-    batch.clear();
-    is_taken
 }
 
 /// The interface that a call restarted, if it did.

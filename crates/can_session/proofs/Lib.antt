@@ -9,3 +9,5 @@ pub mod Running
 pub mod FirstPlaces
 pub mod Heard
 pub mod Ordered
+pub mod BusCalls
+pub mod Configs

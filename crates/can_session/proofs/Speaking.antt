@@ -2,7 +2,7 @@ use Rattle.std.proofs.Common.{◌≡◌, ℕ, ◌+◌, ◌-◌, ◌<◌, List, [
 use Rattle.std.specs.Fmt.{decimal}
 use Rattle.std.proofs.lemmas.List.{append-nil, length-append}
 use Rattle.can_dialog.specs.Sessions.{SessionState}
-use Rattle.can_dialog.specs.BusSteps.{NamedBus}
+use Rattle.can_session.specs.BusSteps.{NamedBus}
 use Rattle.can_session.specs.Benches.{BenchState, Speaks, spoken}
 
 -- a session at its place has done something, and what it said was put out

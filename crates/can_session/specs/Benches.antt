@@ -1,4 +1,4 @@
-use Rattle.std.specs.Prelude.{◌≡◌, ◌≢◌, ℕ, zero, suc, ◌-◌, Bool, true, false, List, [], ◌∷◌, ◌++◌, length, slice_get, slice_set, Option, Some, None, Result}
+use Rattle.std.specs.Prelude.{◌≡◌, ◌≢◌, ℕ, ◌-◌, Bool, false, List, [], ◌∷◌, ◌++◌, length, slice_get, slice_set, Option, Some, None, Result}
 use Rattle.std.specs.Fmt.{decimal}
 use Rattle.can_fault.specs.Sources.{VerdictMap, verdict_in}
 use Rattle.can_event.specs.declared.event.Event.TheVariants as event
@@ -12,8 +12,9 @@ use Rattle.can_dialog.specs.declared.stage.Stage.{Stage}
 use Rattle.can_dialog.specs.declared.stage.Stage.TheVariants.{Ended}
 use Rattle.can_dialog.specs.Plans.{Plays}
 use Rattle.can_dialog.specs.Turns.{ending, delivery, greeting}
+use Rattle.can_dialog.specs.Deliveries.{AreGiven}
 use Rattle.can_dialog.specs.Sessions.{SessionState, Turns, beginning}
-use Rattle.can_dialog.specs.BusSteps.{NamedBus, BusStep}
+use Rattle.can_session.specs.BusSteps.{NamedBus, BusStep}
 use Rattle.can_session.specs.declared.unheard.Unheard.{Unheard}
 use Rattle.can_session.specs.Unheard.{unheard_then}
 use Rattle.can_session.specs.Orders.{Effect, order_of}
@@ -63,18 +64,13 @@ IsFedAt _ moment bytes old p text new q = Hears moment bytes old p text new q
 abbrev pub IsFed : ℕ → List ℕ → SessionState → NamedBus → List ℕ → SessionState → NamedBus → Type 0
 IsFed moment bytes = λ old. IsFedAt old.dialog.stage moment bytes old
 
--- this many items are given to a session, one after another
-abbrev pub AreGiven : ℕ → Stage → NamedBus → List ℕ → NamedBus → Type 0
-AreGiven zero stage p text q = (text ≡ []) × (q ≡ p)
-AreGiven (suc n) stage p text q = (before : List ℕ) × (mid : NamedBus) × (last : List ℕ) × AreGiven n stage p before mid × Plays BusStep (delivery stage) mid q last true × (text ≡ before ++ last)
-
 -- items are given to a session until there is none
 pub record IsDrained (old : SessionState) (p : NamedBus) (text : List ℕ) (new : SessionState) (q : NamedBus) : Type 0 where
   pub items : ℕ
   pub before : List ℕ
   pub mid : NamedBus
   pub last : List ℕ
-  pub given : AreGiven items old.dialog.stage p before mid
+  pub given : AreGiven BusStep items old.dialog.stage p before mid
   pub ends : Plays BusStep (delivery old.dialog.stage) mid q last false
   pub said : text ≡ before ++ last
   pub same : new ≡ old

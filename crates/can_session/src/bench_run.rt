@@ -72,6 +72,8 @@ pub fn bench<F: FaultSource + Drop, R: Read + Drop, W: Write>(
     ensures runs { result ≢ Err BenchFault.BadConfig →
         EndsOver W.contents (F.verdicts config.script) (R.remaining input)
         (at_start config.names config.config config.rx_capacity) out.old result out.new }
+    ensures good { OnOk result (IsBench config.names config.config config.rx_capacity) }
+    ensures config { IfOk result (λ r. r.config ≡ config.config) }
     ensures legal { IfOk result (λ r. IsLegal r.config r.history) }
     ensures headline { IfOk result (λ r. Headline r.config r.history) }
 {
@@ -95,6 +97,8 @@ pub fn bench_noting<F: FaultSource + Drop, R: Read + Drop, W: Write>(
     ensures notes { OnOk result (Notes W.contents (F.verdicts config.script) (R.remaining input)
         (at_start config.names config.config config.rx_capacity) out.old unheard.new out.new) }
     ensures same { OnErr result (unheard.new ≡ unheard.old) }
+    ensures good { OnOk result (IsBench config.names config.config config.rx_capacity) }
+    ensures config { IfOk result (λ r. r.config ≡ config.config) }
     ensures legal { IfOk result (λ r. IsLegal r.config r.history) }
     ensures headline { IfOk result (λ r. Headline r.config r.history) }
 {
@@ -124,6 +128,8 @@ pub fn bench_lines<F: FaultSource + Drop, R: Read + Drop, W: Write>(
     ensures runs { result ≢ Err BenchFault.BadConfig →
         Ends IsRecordOf W.contents (F.verdicts config.script) lines.old.coming
         (at_start config.names config.config config.rx_capacity) out.old result lines.new out.new }
+    ensures good { OnOk result (IsBench config.names config.config config.rx_capacity) }
+    ensures config { IfOk result (λ r. r.config ≡ config.config) }
     ensures legal { IfOk result (λ r. IsLegal r.config r.history) }
     ensures headline { IfOk result (λ r. Headline r.config r.history) }
 {

@@ -8,17 +8,18 @@ ghost use Rattle.can_session.specs.inner.Acts.{done_by, noted, noted_by};
 
 use crate::attempt_lines::put_attempt;
 use crate::bench_run::BenchFault;
+use crate::bus_port::BusPort;
 use crate::line_prefix::{begin_spoken, end_spoken};
 use crate::order::{Order, SessionNumber, read_order};
 use crate::starts::{make_bus, no_sessions, the_start};
-use crate::turns::{self, Act, BenchPort, NoMemory};
+use crate::turns::{self, Act, BenchPort};
 use crate::unheard::Unheard;
 use can_bus::{BusConfig, Record};
-use can_dialog::{BusPort, Session};
+use can_dialog::Session;
 use can_event::MAX_RX_CAPACITY;
 use can_fault::FaultSource;
 use can_frame::{Moment, Names};
-use std::alloc::Global;
+use std::alloc::{AllocError, Global};
 use std::marker::Model;
 
 /// One bus with up to 64 sessions, at a moment.
@@ -102,7 +103,7 @@ impl Bench {
         script: &mut F,
         line: &[u8],
         said: &mut Vec<u8>,
-    ) -> Result<bool, NoMemory>
+    ) -> Result<bool, AllocError>
         ensures line { IfOk result (λ good. MatchBool good
             (IsCarriedOut (F.verdicts script.old) line.now self.old said.new.items self.new)
             (IsRefused (order_of line.now) self.old)) }
@@ -136,7 +137,7 @@ impl Bench {
         session: SessionNumber,
         act: Act<'_>,
         said: &mut Vec<u8>,
-    ) -> Result<bool, NoMemory>
+    ) -> Result<bool, AllocError>
         requires { said.old.items ≡ [] }
         ensures { IfOk result (λ good. MatchBool good
             (Speaks (done_by act.entry self.old.moment) session (noted act.entry session self.old)
@@ -156,7 +157,7 @@ impl Bench {
     }
 
     /// Starts a session, if its number was not used before: whether it was not.
-    pub fn start(&mut self, session: SessionNumber, said: &mut Vec<u8>) -> Result<bool, NoMemory>
+    pub fn start(&mut self, session: SessionNumber, said: &mut Vec<u8>) -> Result<bool, AllocError>
         requires { said.old.items ≡ [] }
         ensures { IfOk result (λ good. MatchBool good
             (IsStarted session self.old said.new.items self.new)
@@ -183,15 +184,14 @@ impl Bench {
         &mut self,
         script: &mut F,
         said: &mut Vec<u8>,
-    ) -> Result<(), NoMemory>
+    ) -> Result<(), AllocError>
         requires { said.old.items ≡ [] }
         ensures tried { OnOk result (IsTried (F.verdicts script.old) self.old said.new.items self.new) }
         ensures keeps { F.verdicts script.new ≡ F.verdicts script.old }
     {
         let verdict = script.verdict(self.port.next_attempt());
         let outcome = self.port.attempt(self.moment, verdict);
-        put_attempt(said, self.port.names(), &outcome)?;
-        Ok(())
+        put_attempt(said, self.port.names(), &outcome)
     }
 }
 

@@ -1,13 +1,14 @@
 //! The bench: one bus with up to 64 sessions, driven by the lines of an input.
 //!
 //! `bench` reads the lines, carries them out one after another, and writes what each puts out. `specs/Benches.antt`
-//! says what a line does, `specs/Runs.antt` how a run ends. The sessions, and the bus as their port, are can_dialog's,
-//! and can be named through this crate too.
+//! says what a line does, `specs/Runs.antt` how a run ends. The sessions are can_dialog's, over the bus with its names as
+//! a port ([`BusPort`]), and can be named through this crate too.
 #![tactic(auto)]
 
 mod attempt_lines;
 pub mod bench_run;
 mod bench_state;
+pub mod bus_port;
 mod byte_search;
 pub mod laws;
 mod line_prefix;
@@ -20,9 +21,8 @@ mod turns;
 pub mod unheard;
 
 pub use bench_run::{BenchConfig, BenchFault, bench, bench_lines, bench_noting};
-pub use can_dialog::{
-    BusPort, Dialog, Port, PortRefusal, RawSocket, Session, SessionFault, Stage,
-};
+pub use bus_port::BusPort;
+pub use can_dialog::{Dialog, Port, PortRefusal, RawSocket, Session, SessionFault, Stage};
 pub use lines::{LineFault, Lines};
 pub use order::{Order, SessionNumber, read_order};
 pub use unheard::Unheard;

@@ -4,27 +4,18 @@ ghost use Rattle.can_dialog.specs.Sessions.{beginning};
 ghost use Rattle.can_session.specs.Benches.{spoken, IsFed, IsDrained, IsEnded};
 ghost use Rattle.can_session.specs.inner.Acts.{Adds, done_by};
 
+use crate::bus_port::BusPort;
 use crate::line_prefix::{begin_spoken, end_spoken};
 use crate::order::SessionNumber;
 use can_arbiter::IndexArbiter;
 use can_bus::{Pending, Received};
-use can_dialog::{BusPort, Session, SessionFault};
+use can_dialog::{Session, SessionFault};
 use can_frame::Moment;
 use can_queue::RingQueue;
 use std::alloc::{AllocError, Global};
 
 /// The bus of a bench, with its names.
 pub type BenchPort = BusPort<RingQueue<Pending>, RingQueue<Received>, IndexArbiter>;
-
-/// Memory was refused.
-#[derive(Debug, Clone, Copy, PartialEq, Eq)]
-pub struct NoMemory;
-
-impl From<AllocError> for NoMemory {
-    fn from(_refused: AllocError) -> NoMemory {
-        NoMemory
-    }
-}
 
 /// What a session does at a line.
 #[derive(Clone, Copy)]
@@ -43,7 +34,7 @@ pub fn begin(
     capacity: u32,
     number: SessionNumber,
     said: &mut Vec<u8>,
-) -> Result<Session, NoMemory>
+) -> Result<Session, AllocError>
     requires { said.old.items ≡ [] }
     ensures { IfOk result (λ s.
         (s ≡ beginning capacity) × (said.new.items ≡ spoken number greeting)) }
@@ -55,14 +46,14 @@ pub fn begin(
 }
 
 /// A session at its start, and adds its greeting.
-fn greeted(alloc: Global, capacity: u32, said: &mut Vec<u8>) -> Result<Session, NoMemory>
+fn greeted(alloc: Global, capacity: u32, said: &mut Vec<u8>) -> Result<Session, AllocError>
     ensures { IfOk result (λ s.
         (s ≡ beginning capacity) × (said.new.items ≡ said.old.items ++ greeting)) }
 {
     let mut session = Session::new(alloc, capacity)?;
     match session.greet(said) {
         Ok(()) => Ok(session),
-        Err(_) => Err(NoMemory),
+        Err(_) => Err(AllocError),
     }
 }
 
@@ -75,7 +66,7 @@ pub fn carry_out(
     moment: Moment,
     port: &mut BenchPort,
     said: &mut Vec<u8>,
-) -> Result<(), NoMemory>
+) -> Result<(), AllocError>
     ensures { OnOk result (Adds (done_by act.entry moment)
         session.old port.old said.old.items session.new port.new said.new.items) }
 {
@@ -97,19 +88,19 @@ fn feed(
     moment: Moment,
     port: &mut BenchPort,
     said: &mut Vec<u8>,
-) -> Result<(), NoMemory>
+) -> Result<(), AllocError>
     ensures { OnOk result (Adds (IsFed moment bytes.now)
         session.old port.old said.old.items session.new port.new said.new.items) }
 {
     match session.feed(alloc, bytes, moment, port, said) {
         Ok(()) => Ok(()),
         Err(SessionFault::Ended) => Ok(()),
-        Err(_) => Err(NoMemory),
+        Err(_) => Err(AllocError),
     }
 }
 
 /// Gives a session its items until there is none, and adds what it says.
-fn drain(session: &mut Session, port: &mut BenchPort, said: &mut Vec<u8>) -> Result<(), NoMemory>
+fn drain(session: &mut Session, port: &mut BenchPort, said: &mut Vec<u8>) -> Result<(), AllocError>
     ensures { OnOk result (Adds IsDrained
         session.old port.old said.old.items session.new port.new said.new.items) }
 {
@@ -118,7 +109,7 @@ fn drain(session: &mut Session, port: &mut BenchPort, said: &mut Vec<u8>) -> Res
             Ok(true) => {}
             Ok(false) => return Ok(()),
             Err(SessionFault::Ended) => return Ok(()),
-            Err(_) => return Err(NoMemory),
+            Err(_) => return Err(AllocError),
         }
     }
 }

@@ -30,6 +30,9 @@ fn notice_text(alloc: Global, buses: &[BusWord<'_>], notice: Notice) -> Result<S
             let from = from_text(alloc, from)?;
             format!(in alloc; "session {session}: turned away{from}, too many sessions")
         }
+        Notice::Requested { session } => {
+            format!(in alloc; "session {session}: closed, a request of HTTP")
+        }
         Notice::Opened {
             session,
             bus,

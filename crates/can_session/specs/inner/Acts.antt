@@ -1,6 +1,6 @@
 use Rattle.std.specs.Prelude.{◌≡◌, ℕ, List, ◌++◌}
 use Rattle.can_dialog.specs.Sessions.{SessionState}
-use Rattle.can_dialog.specs.BusSteps.{NamedBus}
+use Rattle.can_session.specs.BusSteps.{NamedBus}
 use Rattle.can_session.specs.declared.turns.Act.{Act}
 use Rattle.can_session.specs.declared.turns.Act.TheVariants.{Feed, Drain, End}
 use Rattle.can_session.specs.declared.unheard.Unheard.{Unheard}

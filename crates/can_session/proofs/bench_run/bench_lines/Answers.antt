@@ -1,6 +1,7 @@
 use Rattle.std.proofs.Common.{◌≡◌, Err, sym, ap, subst, ◌∙◌}
 use Rattle.can_session.specs.Benches.{BenchState}
 use Rattle.can_session.specs.Runs.{Ran, IsRecordOf, at_start, Ends}
+use Rattle.can_session.proofs.Configs.{carried_out}
 use Rattle.can_session.proofs.Running.{err_is, ends_unmade, ends_err}
 use Rattle.can_session.proofs.bench_run.bench_lines.Goals as goal
 
@@ -41,3 +42,9 @@ returns-clause-runs g c =
       subst (λ (b : BenchState). Ran g.W.Write.contents (g.F.FaultSource.verdicts c.args.config.script) ran.0 b c.args.out.now ran.1 c.run.new.out) c.in_ok-state.ensures.made ran.5,
       subst (λ (b : BenchState). IsRecordOf c.into_record.result b) (sym ran.6) c.into_record.ensures.record,
     )
+
+pub returns-clause-config : goal.returns-clause-config
+returns-clause-config g c =
+    let ran = c.in_ok-run.ensures in
+    c.into_record.ensures.record.config ∙ ap (λ (b : BenchState). b.bus.journal.config) (sym ran.6)
+    ∙ carried_out (g.F.FaultSource.verdicts c.args.config.script) ran.0 c.in_ok-state.state ran.5.text ran.1 ran.5.carried ∙ ap (λ (b : BenchState). b.bus.journal.config) c.in_ok-state.ensures.made

@@ -2,6 +2,7 @@ use Rattle.std.proofs.Common.{◌≡◌, ℕ, List, Option, Err, sym, ap, subst,
 use Rattle.can_session.specs.Benches.{BenchState}
 use Rattle.can_session.specs.Lines.{Input, unread}
 use Rattle.can_session.specs.Runs.{AreAll, Ran, IsRecordOf, at_start, Ends}
+use Rattle.can_session.proofs.Configs.{carried_out}
 use Rattle.can_session.proofs.Running.{err_is, ends_before, ends_unmade, ends_err}
 use Rattle.can_session.proofs.bench_run.bench_noting.Goals as goal
 
@@ -73,3 +74,9 @@ returns-clause-notes g c =
         c.unheard.ensures ∙ ap (λ (b : BenchState). b.unheard) (sym ran.6),
       ),
     )
+
+pub returns-clause-config : goal.returns-clause-config
+returns-clause-config g c =
+    let ran = c.in_ok-run.ensures in
+    c.into_record.ensures.record.config ∙ ap (λ (b : BenchState). b.bus.journal.config) (sym ran.6)
+    ∙ carried_out (g.F.FaultSource.verdicts c.args.config.script) ran.0 c.in_ok-state.state ran.5.text ran.1 ran.5.carried ∙ ap (λ (b : BenchState). b.bus.journal.config) c.in_ok-state.ensures.made

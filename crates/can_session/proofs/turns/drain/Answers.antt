@@ -2,7 +2,7 @@ use Rattle.std.proofs.Common.{◌++◌, ℕ, List, suc, Bool, true, refl, subst,
 use Rattle.can_dialog.specs.Plans.{Plays}
 use Rattle.can_dialog.specs.Turns.{delivery}
 use Rattle.can_dialog.specs.Sessions.{SessionState}
-use Rattle.can_dialog.specs.BusSteps.{BusStep}
+use Rattle.can_session.specs.BusSteps.{BusStep}
 use Rattle.can_session.proofs.turns.drain.Goals as goal
 
 pub loop-preserved : goal.loop-preserved

@@ -1,8 +1,7 @@
-use Rattle.std.proofs.Common.{List, All, length, rules, arith, sym, subst, ap}
-use Rattle.can_frame.specs.Names.{AreNames}
+use Rattle.std.proofs.Common.{List, length, rules, arith, sym, subst, ap}
 use Rattle.can_hub.specs.Buses.{BusSeen, NumberedFrom, AllApart, names_of}
 use Rattle.can_hub.specs.Benches.{MakeHub}
-use Rattle.can_hub.proofs.Making.{numbered, same_names, good_names, same_length}
+use Rattle.can_hub.proofs.Making.{numbered, same_names, same_length}
 use Rattle.can_hub.proofs.hub.Hub.new.Goals as goal
 
 pub invariant_of-result : goal.invariant_of-result
@@ -14,7 +13,6 @@ invariant_of-result g c =
     let same = same_length 0 benches in (
       subst (λ (bs : List BusSeen). NumberedFrom 0 bs) (sym made) (numbered 0 benches),
       subst (λ (bs : List BusSeen). AllApart (names_of bs)) (sym made) (subst AllApart (sym (same_names 0 benches)) hub.apart),
-      subst (λ (bs : List BusSeen). All (λ b. AreNames b.names) bs) (sym made) (good_names 0 benches hub.proper),
       omega (arith, long, same, hub.few),
       c.in_ok-settled.ensures.items,
       omega (arith, long, same, c.in_ok-settled.ensures.capacity, c.len.ensures, c.args.benches.ok.0),

@@ -14,7 +14,7 @@ loop-wire-init g c =
     let given = c.into_iter-wire-iterator.ensures.into_iter_gives in
     let items = into_iter_items c.into_iter-wire-iterator.result in
     let lists = c.into_iter-lists.ensures in
-    let zero = ap length own.4 in
+    let zero = ap length own.3 in
     let wires = ap length given.0 in
     let passes = ap length lists.rest in
     let buses = ap length c.self.view_is in (
@@ -22,13 +22,13 @@ loop-wire-init g c =
       record {
         lists = lists.rest;
         own = tt;
-        settled = settle_none Global c.self.inside.settled.items own.4;
+        settled = settle_none Global c.self.inside.settled.items own.3;
         place = sym zero;
-        numbered = subst (λ (ds : List Settled). NumberedFrom (length ds) items) (sym own.4) (subst (λ (ws : List BusSeen). NumberedFrom 0 ws) (sym given.0) own.0);
+        numbered = subst (λ (ds : List Settled). NumberedFrom (length ds) items) (sym own.3) (subst (λ (ws : List BusSeen). NumberedFrom 0 ws) (sym given.0) own.0);
         wires = omega (arith, given.1, wires, c.self.inside.wires.ok.0);
         passes = omega (arith, lists.len, passes, c.args.passes.ok.0);
         same = omega (arith, given.1, c.self.inside.wires.ok.0, lists.len, c.args.passes.ok.0, c.requires, buses);
-        room = omega (arith, zero, given.1, c.self.inside.wires.ok.0, own.5);
+        room = omega (arith, zero, given.1, c.self.inside.wires.ok.0, own.4);
       },
     )
 

@@ -1,4 +1,5 @@
-use Rattle.std.proofs.Common.{ℕ, List, ◌++◌, ap, subst, ◌∙◌}
+use Rattle.std.proofs.Common.{◌≡◌, ℕ, List, ◌++◌, Result, Ok, Err, ap, subst, ◌∙◌}
+use Rattle.std.specs.Prelude.{OnOk}
 use Rattle.can_fault.specs.declared.verdict.Verdict.{Verdict}
 use Rattle.can_fault.specs.Sources.{verdict_in}
 use Rattle.can_event.specs.declared.event.Event.TheVariants as event
@@ -7,6 +8,10 @@ use Rattle.can_session.specs.AttemptLines.{attempt_line}
 use Rattle.can_session.specs.Benches.{BenchState, IsTried}
 use Rattle.can_session.proofs.bench_state.Bench.attempt.Goals as goal
 
+on_ok-map : {T E P Q : Type 0} (r : Result T E) → (P → Q) → OnOk r P → OnOk r Q
+on_ok-map (Ok x) f h = f h
+on_ok-map (Err e) f h = h
+
 pub returns-clause-tried : goal.returns-clause-tried
 returns-clause-tried g c =
     let stood = c.self.inside in
@@ -14,13 +19,15 @@ returns-clause-tried g c =
     let old : BenchState = record { capacity = stood.capacity; bus = stood.port; sessions = stood.sessions.items; moment = stood.moment; unheard = stood.unheard } in
     let new = c.attempt-outcome.new.self in
     let after : BenchState = record old { bus = new } in
+    let said = c.put_attempt.new.said.items in
     let verdict = c.verdict-verdict.ensures.answer ∙ ap (λ (n : ℕ). verdict_in verdicts n) c.next_attempt.ensures in
     let names = c.names.ensures ∙ c.attempt-outcome.ensures.names in
-    subst (λ (b : BenchState). IsTried verdicts b c.put_attempt.new.said.items after) c.self.view_is
+    on_ok-map c.put_attempt.result (λ (put : said ≡ c.args.said.now.items ++ attempt_line c.names.result.now c.attempt-outcome.result).
+    subst (λ (b : BenchState). IsTried verdicts b said after) c.self.view_is
     (record {
       outcome = c.attempt-outcome.result;
       journal = new.journal;
       answers = subst (λ (v : Verdict). Answers told_attempt stood.port.journal (event.Attempt stood.moment v) c.attempt-outcome.result new.journal) verdict c.attempt-outcome.ensures.answer;
-      text_is = c.in_ok-put_attempt.ensures ∙ ap (λ (said : List ℕ). said ++ attempt_line c.names.result.now c.attempt-outcome.result) c.requires ∙ ap (λ (ns : List (List ℕ)). attempt_line ns c.attempt-outcome.result) names;
+      text_is = put ∙ ap (λ (said : List ℕ). said ++ attempt_line c.names.result.now c.attempt-outcome.result) c.requires ∙ ap (λ (ns : List (List ℕ)). attempt_line ns c.attempt-outcome.result) names;
       after_is = ap (λ (ns : List (List ℕ)). record old { bus = record { names = ns; journal = new.journal } }) c.attempt-outcome.ensures.names;
-    })
+    })) c.put_attempt.ensures

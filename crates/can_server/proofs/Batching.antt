@@ -1,0 +1,94 @@
+-- Items that are received one after another, and their texts.
+use Rattle.std.proofs.Common.{◌≡◌, ◌≢◌, ℕ, zero, suc, ◌+◌, ◌<◌, ◌≤◌, Bool, true, false, List, [], ◌∷◌, ◌++◌, length, take, drop, get_or, set, min, Option, refl, sym, ap, subst, ◌∙◌, append-nil, append_assoc, add-one, take-append-drop, inl, inr, arith}
+use Rattle.std.specs.List.{flat_map}
+use Rattle.std.specs.Io.KnownBytes.{Appends}
+use Rattle.std.proofs.KnownBytes.{Appends-trans}
+use Rattle.std.proofs.lemmas.Bool.{cases_lt}
+use Rattle.std.proofs.lemmas.List.{take_more, take_more_set}
+use Rattle.std.proofs.lemmas.List.Concat.{flat_map-append}
+use Rattle.can_server.specs.declared.batch.Room.{Room}
+use Rattle.can_dialog.specs.declared.stage.Stage.{Stage}
+use Rattle.can_dialog.specs.Calls.{Call, Reply}
+use Rattle.can_dialog.specs.Plans.{Plays}
+use Rattle.can_dialog.specs.Turns.{delivery}
+use Rattle.can_dialog.specs.Deliveries.{AreGiven, Gives, Receives, delivery_text, is_item}
+use Rattle.can_server.specs.Batches.{texts_of}
+
+-- the text of a room
+abbrev pub text_of : Room → List ℕ
+text_of r = delivery_text r.delivery r.item
+
+one_text : (rooms : List Room) (room : Room) → texts_of (rooms ++ room ∷ []) ≡ texts_of rooms ++ text_of room
+one_text rooms room = flat_map-append text_of rooms (room ∷ []) ∙ ap (λ (t : List ℕ). texts_of rooms ++ t) (append-nil (text_of room))
+
+-- the next room's text
+pub text_more : (rooms : List Room) (i : ℕ) (room : Room) → i < length rooms → room ≡ get_or rooms i room → texts_of (take (i + 1) rooms) ≡ texts_of (take i rooms) ++ text_of room
+text_more rooms i room below is =
+    ap texts_of (take_more rooms i room below ∙ ap (λ (r : Room). take i rooms ++ r ∷ []) (sym is)) ∙ one_text (take i rooms) room
+
+-- the text of a room that was written
+text_set : (rooms : List Room) (i : ℕ) (room : Room) → i < length rooms → texts_of (take (i + 1) (set rooms i room)) ≡ texts_of (take i rooms) ++ text_of room
+text_set rooms i room below = ap texts_of (take_more_set rooms i room below) ∙ one_text (take i rooms) room
+
+-- the texts of some rooms, and those of the others
+pub text_rest : (rooms : List Room) (i : ℕ) (front : List ℕ) → front ≡ texts_of (take i rooms) → front ++ texts_of (drop i rooms) ≡ texts_of rooms
+text_rest rooms i front is =
+    ap (λ (t : List ℕ). t ++ texts_of (drop i rooms)) is ∙ sym (flat_map-append text_of (take i rooms) (drop i rooms)) ∙ ap texts_of (take-append-drop i rooms)
+
+module _ {P : Type 0} (step : P → (call : Call) → Reply call → P → Type 0) (stage : Stage) (p : P) where
+  module _ (mid q : P) (rooms : List Room) (i : ℕ) (room : Room) (below : i < length rooms) (given : AreGiven step i stage p (texts_of (take i rooms)) mid) (received : Receives step stage mid q room.delivery room.item) where
+    -- one item more
+    pub given_more : is_item room.delivery ≡ true → AreGiven step (i + 1) stage p (texts_of (take (i + 1) (set rooms i room))) q
+    given_more is =
+        let plays : Plays step (delivery stage) mid q (text_of room) true = subst (λ (b : Bool). Plays step (delivery stage) mid q (text_of room) b) is received in
+        subst (λ (n : ℕ). AreGiven step n stage p (texts_of (take (i + 1) (set rooms i room))) q) (sym (add-one i)) (texts_of (take i rooms), mid, text_of room, given, plays, text_set rooms i room below)
+
+    -- the last receive, which gave none
+    pub given_last : (most : ℕ) → i < most → is_item room.delivery ≡ false → Gives step most stage p (texts_of (take (i + 1) (set rooms i room))) q false
+    given_last most low is =
+        let plays : Plays step (delivery stage) mid q (text_of room) false = subst (λ (b : Bool). Plays step (delivery stage) mid q (text_of room) b) is received in
+        (i, texts_of (take i rooms), mid, text_of room, low, given, plays, text_set rooms i room below)
+
+  module _ (q : P) (most items used : ℕ) (rooms seen : List Room) (same : seen ≡ rooms) (uses : used ≡ min most (items + 1)) (within : items ≤ most) (all : items ≡ most → Gives step most stage p (texts_of (take most rooms)) q true) (few : items < most → Gives step most stage p (texts_of (take (items + 1) rooms)) q false) where
+    -- the rooms that were used have the texts of all items
+    pub used_all : items ≡ most → Gives step most stage p (texts_of (take used seen)) q true
+    used_all is =
+        let n : most ≡ used = omega (arith, uses, is) in
+        subst (λ (rs : List Room). Gives step most stage p (texts_of (take used rs)) q true) (sym same) (subst (λ (k : ℕ). Gives step most stage p (texts_of (take k rooms)) q true) n (all is))
+
+    -- or also that of the receive that gave none
+    pub used_few : items < most → Gives step most stage p (texts_of (take used seen)) q false
+    used_few low =
+        let n : items + 1 ≡ used = omega (arith, uses, low) in
+        subst (λ (rs : List Room). Gives step most stage p (texts_of (take used rs)) q false) (sym same) (subst (λ (k : ℕ). Gives step most stage p (texts_of (take k rooms)) q false) n (few low))
+
+    -- one of the two
+    pub used_some : (more : Bool) × Gives step most stage p (texts_of (take used seen)) q more
+    used_some = elim (cases_lt items most) [
+      | inl low ↦ (false, used_few low)
+      | inr high ↦ (let is : items ≡ most = omega (arith, high, within) in (true, used_all is))
+    ]
+
+-- texts that have some in them are some
+pub some_text : (a b c all : List ℕ) → a ≢ [] → (b ++ a) ++ c ≡ all → all ≢ []
+some_text [] b c all some is = λ none. some refl
+some_text (x ∷ a) [] c all some is = λ none. absurd (cc (is, none))
+some_text (x ∷ a) (y ∷ b) c all some is = λ none. absurd (cc (is, none))
+
+module _ {W : Type 0} (contents : W → Option (List ℕ)) (old : W) (rooms : List Room) where
+  -- the texts of some rooms: those that a writer took, and those that wait for it
+  abbrev pub Waits : ℕ → W → List ℕ → Type 0
+  Waits i out text = (gone : List ℕ) × Appends (contents old) (contents out) gone × (gone ++ text ≡ texts_of (take i rooms))
+
+  -- the writer took them
+  pub gone_out : (i : ℕ) (out new : W) (text none : List ℕ) → Waits i out text → Appends (contents out) (contents new) text → none ≡ [] → Waits i new none
+  gone_out i out new text none (gone, took, is) more empty =
+      (gone ++ text, Appends-trans (contents old) (contents out) (contents new) gone text took more, ap (λ (t : List ℕ). (gone ++ text) ++ t) empty ∙ append-nil (gone ++ text) ∙ is)
+
+  -- one text more waits
+  pub added : (i : ℕ) (out : W) (text more : List ℕ) (room : Room) → i < length rooms → room ≡ get_or rooms i room → Waits i out text → more ≡ text ++ text_of room → Waits (i + 1) out more
+  added i out text more room below here (gone, took, is) grown = (
+    gone,
+    took,
+    ap (λ (t : List ℕ). gone ++ t) grown ∙ sym (append_assoc gone text (text_of room)) ∙ ap (λ (t : List ℕ). t ++ text_of room) is ∙ sym (text_more rooms i room below here),
+  )
