@@ -16,6 +16,7 @@ use Rattle.can_dialog.specs.declared.port.PortRefusal.{PortRefusal}
 use Rattle.can_dialog.specs.Calls.{Gives, Refuses, Steps, received_into}
 use Rattle.can_event.specs.declared.stats.SocketStats.{SocketStats}
 use Rattle.can_event.specs.declared.stats.IfaceStats.{IfaceStats}
+use Rattle.can_station.specs.Held.{StationSeen}
 use Rattle.can_station.specs.Passes.{PassSeen, Called, HadNoPassLeft, InSome, IsNewPass, Suits, same}
 use Rattle.can_station.specs.Waits.{AreCounts}
 use Rattle.can_station.specs.declared.refusals.StationRefusal.{StationRefusal}
@@ -28,7 +29,7 @@ abbrev over : List BusSeen → EnteredSeen → PortSeen
 over buses e = record { buses = buses; entered = Some e }
 
 module _ (F : Type 0) (buses : List BusSeen) (now : EnteredSeen) (pass : PassSeen) where
-  on : {A : Type 0} (told : A → Reply) (e : Event) (outcome : Result A StationRefusal) → Called told now.number now.pass e outcome pass
+  on : {A : Type 0} (told : A → Reply) (e : Event) (outcome : Result A StationRefusal) → Called told now.station.number now.pass e outcome pass
       → OnPort told (over buses now) e (passed_on outcome) (over buses (record now { pass = pass }))
   on told e outcome called = ((outcome, pass, refl, called, refl), refl)
 
@@ -36,7 +37,7 @@ module _ (F : Type 0) (buses : List BusSeen) (now : EnteredSeen) (pass : PassSee
   abbrev made : Event → Event
   made e = with_room e (room_in buses (Some now))
 
-  gives : (e : Event) (r : Reply) → Called same now.number now.pass (made e) (Ok r) pass → Suits (made e) r → Gives (PassStep F) (over buses now) e r (over buses (record now { pass = pass }))
+  gives : (e : Event) (r : Reply) → Called same now.station.number now.pass (made e) (Ok r) pass → Suits (made e) r → Gives (PassStep F) (over buses now) e r (over buses (record now { pass = pass }))
   gives (event.Open iface asked) (reply.Opened socket) called fits = on (λ x. reply.Opened x) _ (Ok socket) called
   gives (event.Close socket) (reply.Closed counts) called fits = on (λ x. reply.Closed x) _ (Ok counts) called
   gives (event.SetFilters socket filters) reply.Done called fits = on done_reply _ (Ok tt) called
@@ -55,18 +56,18 @@ module _ (F : Type 0) (buses : List BusSeen) (now : EnteredSeen) (pass : PassSee
   gives e r called fits = absurd fits
 
   -- a receive into a room
-  taken : (room : Received) (socket : SocketId) (outcome : Result Bool StationRefusal) → Called (taken_reply room) now.number now.pass (event.Receive socket) outcome pass
+  taken : (room : Received) (socket : SocketId) (outcome : Result Bool StationRefusal) → Called (taken_reply room) now.station.number now.pass (event.Receive socket) outcome pass
       → PassStep F (over buses now) (Receive socket) (received_into room (passed_on outcome)) (over buses (record now { pass = pass }))
   taken room socket (Ok is_item) called = on (λ x. reply.Received x) _ (Ok (taken_item room is_item)) called
   taken room socket (Err (station.Bus why)) called = on (λ x. reply.Received x) _ (Err (station.Bus why)) called
   taken room socket (Err station.WrongStation) called = on (λ x. reply.Received x) _ (Err station.WrongStation) called
 
   -- a refusal is the same for every call
-  refused : {A : Type 0} (told : A → Reply) (e : Event) (why : StationRefusal) → Called same now.number now.pass e (Err why) pass → OnPort told (over buses now) e (Err (refused_as why)) (over buses (record now { pass = pass }))
+  refused : {A : Type 0} (told : A → Reply) (e : Event) (why : StationRefusal) → Called same now.station.number now.pass e (Err why) pass → OnPort told (over buses now) e (Err (refused_as why)) (over buses (record now { pass = pass }))
   refused told e (station.Bus why) called = on told e (Err (station.Bus why)) called
   refused told e station.WrongStation called = on told e (Err station.WrongStation) called
 
-  refuses : (e : Event) (why : StationRefusal) → Called same now.number now.pass (made e) (Err why) pass → Refuses (PassStep F) (over buses now) e (refused_as why) (over buses (record now { pass = pass }))
+  refuses : (e : Event) (why : StationRefusal) → Called same now.station.number now.pass (made e) (Err why) pass → Refuses (PassStep F) (over buses now) e (refused_as why) (over buses (record now { pass = pass }))
   refuses (event.Open iface asked) why called = refused (λ x. reply.Opened x) _ why called
   refuses (event.Close socket) why called = refused (λ x. reply.Closed x) _ why called
   refuses (event.Send socket frame) why called = refused (λ x. reply.Sent x) _ why called
@@ -74,27 +75,27 @@ module _ (F : Type 0) (buses : List BusSeen) (now : EnteredSeen) (pass : PassSee
   refuses (event.Attempt moment verdict) why called = refused told_attempt _ why called
   refuses e why called = refused done_reply _ why called
 
-  steps : (e : Event) (outcome : Result Reply StationRefusal) → Called same now.number now.pass (made e) outcome pass → IfOk outcome (λ r. Suits (made e) r)
+  steps : (e : Event) (outcome : Result Reply StationRefusal) → Called same now.station.number now.pass (made e) outcome pass → IfOk outcome (λ r. Suits (made e) r)
       → Steps (PassStep F) (over buses now) e (passed_on outcome) (over buses (record now { pass = pass }))
   steps e (Ok r) called fits = gives e r called fits
   steps e (Err why) called fits = refuses e why called
 
 -- a call of the station that was entered is one of the port
 pub on_pass : (F : Type 0) (old : PortSeen) (buses : List BusSeen) (inside : Option EnteredSeen) (now : EnteredSeen) (pass : PassSeen) (e : Event) (room : ℕ) (outcome : Result Reply StationRefusal) (answer : Result Reply PortRefusal)
-    → ◌≡◌ {A = PortSeen} (record { buses = buses; entered = inside }) old → inside ≡ Some now → room ≡ items_on (slice_get buses now.number) → answer ≡ passed_on outcome
-    → Called same now.number now.pass (with_room e room) outcome pass → IfOk outcome (λ r. Suits (with_room e room) r)
+    → ◌≡◌ {A = PortSeen} (record { buses = buses; entered = inside }) old → inside ≡ Some now → room ≡ items_on (slice_get buses now.station.number) → answer ≡ passed_on outcome
+    → Called same now.station.number now.pass (with_room e room) outcome pass → IfOk outcome (λ r. Suits (with_room e room) r)
     → Steps (PassStep F) old e answer (over buses (record now { pass = pass }))
 on_pass F old buses inside now pass e room outcome answer seen is has told called fits =
     let after : PortSeen = over buses (record now { pass = pass }) in
     let stepped : Steps (PassStep F) (over buses now) e (passed_on outcome) after =
-    steps F buses now pass e outcome (subst (λ (n : ℕ). Called same now.number now.pass (with_room e n) outcome pass) has called) (subst (λ (n : ℕ). IfOk outcome (λ r. Suits (with_room e n) r)) has fits) in
+    steps F buses now pass e outcome (subst (λ (n : ℕ). Called same now.station.number now.pass (with_room e n) outcome pass) has called) (subst (λ (n : ℕ). IfOk outcome (λ r. Suits (with_room e n) r)) has fits) in
     subst (λ (o : PortSeen). Steps (PassStep F) o e answer after) (ap (λ (i : Option EnteredSeen). record { buses = buses; entered = i }) (sym is) ∙ seen)
     (subst (λ (a : Result Reply PortRefusal). Steps (PassStep F) (over buses now) e a after) (sym told) stepped)
 
 -- a receive of the station that was entered, into a room, is one of the port
 pub received : (F : Type 0) (old : PortSeen) (buses : List BusSeen) (inside : Option EnteredSeen) (now : EnteredSeen) (pass : PassSeen) (socket : SocketId) (room : Received) (outcome : Result Bool StationRefusal) (answer : Result Bool PortRefusal)
     → ◌≡◌ {A = PortSeen} (record { buses = buses; entered = inside }) old → inside ≡ Some now → answer ≡ passed_on outcome
-    → Called (taken_reply room) now.number now.pass (event.Receive socket) outcome pass
+    → Called (taken_reply room) now.station.number now.pass (event.Receive socket) outcome pass
     → PassStep F old (Receive socket) (received_into room answer) (over buses (record now { pass = pass }))
 received F old buses inside now pass socket room outcome answer seen is told called =
     let after : PortSeen = over buses (record now { pass = pass }) in
@@ -116,11 +117,11 @@ on_gauge old buses inside now gauge iface answer seen is tells =
 
 -- the counts that the station that was entered returns are returned by the port
 pub counted : (F : Type 0) (old : PortSeen) (buses : List BusSeen) (inside : Option EnteredSeen) (now : EnteredSeen) (socket iface : ℕ) (counts : Option SocketStats × Option IfaceStats)
-    → ◌≡◌ {A = PortSeen} (record { buses = buses; entered = inside }) old → inside ≡ Some now → InSome F now.number (λ held. AreCounts held.journal socket iface counts)
+    → ◌≡◌ {A = PortSeen} (record { buses = buses; entered = inside }) old → inside ≡ Some now → InSome F now.station (λ held. AreCounts held.journal socket iface counts)
     → CountsSocket F old.entered socket counts.0 × CountsIface F old.entered iface counts.1
-counted F old buses inside now socket iface counts seen is (held, number, found) =
+counted F old buses inside now socket iface counts seen is (held, state, found) =
     subst (λ (o : PortSeen). CountsSocket F o.entered socket counts.0 × CountsIface F o.entered iface counts.1) seen
-    (subst (λ (o : Option EnteredSeen). CountsSocket F o socket counts.0 × CountsIface F o iface counts.1) (sym is) ((held, number, found.0), (held, number, found.1)))
+    (subst (λ (o : Option EnteredSeen). CountsSocket F o socket counts.0 × CountsIface F o iface counts.1) (sym is) ((held, state, found.0), (held, state, found.1)))
 
 module _ (old : PortSeen) (buses : List BusSeen) (inside : Option EnteredSeen) (name : List ℕ) (at : ℕ × ℕ) (seen : ◌≡◌ {A = PortSeen} (record { buses = buses; entered = inside }) old) (first : IsFirstNamed buses name (Some at)) where
   -- the bus that was found has the name
@@ -128,11 +129,11 @@ module _ (old : PortSeen) (buses : List BusSeen) (inside : Option EnteredSeen) (
   some_named = subst (λ (o : PortSeen). SomeNamed o.buses name) seen (at.0, at.1, first)
 
   -- and its station had no pass left
-  pub some_named_full : (F : Type 0) (number : ℕ) → number ≡ at.0 → HadNoPassLeft F number → SomeNamedFull F old.buses name
-  some_named_full F number is full = subst (λ (o : PortSeen). SomeNamedFull F o.buses name) seen (at.0, at.1, first, subst (λ (n : ℕ). HadNoPassLeft F n) is full)
+  pub some_named_full : (F : Type 0) (here : StationSeen) → here.number ≡ at.0 → HadNoPassLeft F here → SomeNamedFull F old.buses name
+  some_named_full F here is full = subst (λ (o : PortSeen). SomeNamedFull F o.buses name) seen (here, at.1, subst (λ (n : ℕ). IsFirstNamed buses name (Some (n, at.1))) (sym is) first, full)
 
   -- and its station was entered
-  pub attached : (F : Type 0) (number : ℕ) (gauge : Readings) (pass : PassSeen) → number ≡ at.0 → gauge.number ≡ number → IsNewPass F number pass → Attaches F old name (Ok at.1) (over buses (entered_with number gauge pass))
-  attached F number gauge pass is metered new =
-      subst (λ (o : PortSeen). Attaches F o name (Ok at.1) (over buses (entered_with number gauge pass))) seen
-      (at.0, gauge, pass, first, metered ∙ is, subst (λ (n : ℕ). IsNewPass F n pass) is new, ap (λ (n : ℕ). over buses (entered_with n gauge pass)) is)
+  pub attached : (F : Type 0) (here : StationSeen) (gauge : Readings) (pass : PassSeen) → here.number ≡ at.0 → gauge.number ≡ here.number → IsNewPass F here pass → Attaches F old name (Ok at.1) (over buses (entered_with here gauge pass))
+  attached F here gauge pass is metered new =
+      subst (λ (o : PortSeen). Attaches F o name (Ok at.1) (over buses (entered_with here gauge pass))) seen
+      (here, gauge, pass, subst (λ (n : ℕ). IsFirstNamed buses name (Some (n, at.1))) (sym is) first, metered, new, refl)

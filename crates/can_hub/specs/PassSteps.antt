@@ -17,6 +17,7 @@ use Rattle.can_dialog.specs.declared.port.PortRefusal.TheVariants as port
 use Rattle.can_dialog.specs.Calls.{Call}
 use Rattle.can_dialog.specs.Calls.{Reply as CallReply}
 use Rattle.can_dialog.specs.Calls.Call.{Attach, Open, Close, SetFilters, SetOption, Send, Receive, Restart, Attempt, CountsOfSocket, CountsOfIface, CountersOfIface}
+use Rattle.can_station.specs.Held.{StationSeen}
 use Rattle.can_station.specs.Passes.{PassSeen, Called, HadNoPassLeft, InSome, IsNewPass}
 use Rattle.can_station.specs.declared.refusals.StationRefusal.{StationRefusal}
 use Rattle.can_station.specs.declared.refusals.StationRefusal.TheVariants as station
@@ -24,9 +25,9 @@ use Rattle.can_hub.specs.Buses.{BusSeen, IsFirstNamed, items_on}
 
 -- A pass as a port: each call but the look-ups is the station's.
 
--- a station that was entered: its number, what the gauge of its meter has seen, and the pass
+-- a station that was entered, what the gauge of its meter has seen, and the pass
 pub record EnteredSeen : Type 0 where
-  pub number : ℕ
+  pub station : StationSeen
   pub gauge : Readings
   pub pass : PassSeen
 
@@ -36,13 +37,13 @@ pub record PortSeen : Type 0 where
   pub entered : Option EnteredSeen
 
 -- a station that was entered with this gauge and this pass
-abbrev pub entered_with : ℕ → Readings → PassSeen → EnteredSeen
-entered_with bus gauge pass = record { number = bus; gauge = gauge; pass = pass }
+abbrev pub entered_with : StationSeen → Readings → PassSeen → EnteredSeen
+entered_with station gauge pass = record { station = station; gauge = gauge; pass = pass }
 
 -- how many items a socket holds on the bus that was entered
 abbrev pub room_in : List BusSeen → Option EnteredSeen → ℕ
 room_in buses None = 0
-room_in buses (Some e) = items_on (slice_get buses e.number)
+room_in buses (Some e) = items_on (slice_get buses e.station.number)
 
 -- an event as a pass makes it: a socket holds as many items as its bus says
 abbrev pub with_room : Event → ℕ → Event
@@ -69,7 +70,7 @@ passed_on (Err why) = Err (refused_as why)
 abbrev pub OnPass : {A : Type 0} → (A → Reply) → Option EnteredSeen → Event → Result A PortRefusal → Option EnteredSeen → Type 0
 OnPass {A} told None e answer new = (answer ≡ Err (port.Bus refusal.NoSocket)) × (new ≡ None)
 OnPass {A} told (Some old) e answer new =
-    (outcome : Result A StationRefusal) × (pass : PassSeen) × (answer ≡ passed_on outcome) × Called told old.number old.pass e outcome pass
+    (outcome : Result A StationRefusal) × (pass : PassSeen) × (answer ≡ passed_on outcome) × Called told old.station.number old.pass e outcome pass
     × (new ≡ Some (record old { pass = pass }))
 
 -- a call of the station on the port of a hub, which stays as it was
@@ -82,14 +83,14 @@ SomeNamed buses name = (bus : ℕ) × (iface : ℕ) × IsFirstNamed buses name (
 
 -- some bus that has an interface of this name had no pass left
 abbrev pub SomeNamedFull : Type 0 → List BusSeen → List ℕ → Type 0
-SomeNamedFull F buses name = (bus : ℕ) × (iface : ℕ) × IsFirstNamed buses name (Some (bus, iface)) × HadNoPassLeft F bus
+SomeNamedFull F buses name = (at : StationSeen) × (iface : ℕ) × IsFirstNamed buses name (Some (at.number, iface)) × HadNoPassLeft F at
 
 -- the station of the bus that has the name is entered, with a gauge of its meter and its next pass; else nothing changes:
 -- no bus has the name, or it has one and memory was refused to the gauge or no pass was left
 abbrev pub Attaches : Type 0 → PortSeen → List ℕ → Result ℕ PortRefusal → PortSeen → Type 0
 Attaches F old name (Ok iface) new =
-    (bus : ℕ) × (gauge : Readings) × (pass : PassSeen) × IsFirstNamed old.buses name (Some (bus, iface)) × (gauge.number ≡ bus)
-    × IsNewPass F bus pass × (new ≡ record { buses = old.buses; entered = Some (entered_with bus gauge pass) })
+    (at : StationSeen) × (gauge : Readings) × (pass : PassSeen) × IsFirstNamed old.buses name (Some (at.number, iface)) × (gauge.number ≡ at.number)
+    × IsNewPass F at pass × (new ≡ record { buses = old.buses; entered = Some (entered_with at gauge pass) })
 Attaches F old name (Err (port.Bus refusal.NoInterface)) new = IsFirstNamed old.buses name None × (new ≡ old)
 Attaches F old name (Err (port.Bus refusal.NoMemory)) new = SomeNamed old.buses name × (new ≡ old)
 Attaches F old name (Err port.TooManyPasses) new = SomeNamedFull F old.buses name × (new ≡ old)
@@ -113,13 +114,13 @@ TellsCounters (Some old) iface answer new = (gauge : Readings) × GaugeTells old
 -- none was, it is not open
 abbrev pub CountsSocket : Type 0 → Option EnteredSeen → ℕ → Option SocketStats → Type 0
 CountsSocket F None socket answer = answer ≡ None
-CountsSocket F (Some e) socket answer = InSome F e.number (λ held. answer ≡ socket_stats_of held.journal.config held.journal.history socket)
+CountsSocket F (Some e) socket answer = InSome F e.station (λ held. answer ≡ socket_stats_of held.journal.config held.journal.history socket)
 
 -- counts that this interface has in some state of the station that was entered (which is not said); where none was,
 -- there is no such interface
 abbrev pub CountsIface : Type 0 → Option EnteredSeen → ℕ → Option IfaceStats → Type 0
 CountsIface F None iface answer = answer ≡ None
-CountsIface F (Some e) iface answer = InSome F e.number (λ held. answer ≡ iface_stats_of held.journal.config held.journal.history iface)
+CountsIface F (Some e) iface answer = InSome F e.station (λ held. answer ≡ iface_stats_of held.journal.config held.journal.history iface)
 
 -- a call on a port over a pass of a station whose verdicts come from an F
 abbrev pub PassStep : Type 0 → PortSeen → (call : Call) → CallReply call → PortSeen → Type 0

@@ -59,7 +59,7 @@ fn hold_of<'h, 'a, N: RollName + MeterName, F: FaultSource + Drop, G: Gate + Dro
     station: &'a Station<N, F, G>,
     taken: &'h mut Option<Hold<'a, N, F, G>>,
 ) -> &'h mut Hold<'a, N, F, G>
-    ensures { result.now.number ≡ station.now }
+    ensures { result.now.number ≡ station.now.number }
 {
     let is_own = match taken {
         Some(hold) => hold.number() == station.number(),

@@ -38,7 +38,7 @@ impl<N: RollName + MeterName, F: FaultSource + Drop, G: Gate + Drop> Model for W
     ghost Value = { BusSeen };
 
     ghost view = { λ w. record {
-      number = w.station;
+      number = w.station.number;
       names = w.names;
       pace_ms = w.pace_ms;
       rx_capacity = w.rx_capacity;
@@ -155,7 +155,7 @@ impl<N: RollName + MeterName, F: FaultSource + Drop, G: Gate + Drop> Hub<N, F, G
     #[tactic(auto, using(crate::proofs::Places::number_at))]
     pub fn station(&self, bus: usize) -> &Station<N, F, G>
         requires { bus < length self.now }
-        ensures { result.now ≡ bus }
+        ensures { result.now.number ≡ bus }
     {
         &self.wires[bus].station
     }

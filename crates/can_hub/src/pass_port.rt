@@ -29,7 +29,7 @@ impl<'a, N: RollName + MeterName, F: FaultSource + Drop, G: Gate + Drop> Model
 
     ghost Value = { EnteredSeen };
 
-    ghost view = { λ e. record { number = e.station.now; gauge = e.gauge; pass = e.pass } };
+    ghost view = { λ e. record { station = e.station.now; gauge = e.gauge; pass = e.pass } };
 }
 
 /// A session's way to the buses of a hub: the pass of the station that it opens.
@@ -82,7 +82,7 @@ impl<'a, N: RollName + MeterName, F: FaultSource + Drop, G: Gate + Drop, R: Wait
 
     /// The station that was entered.
     pub fn station(&self) -> Option<&'a Station<N, F, G>>
-        ensures { option_map (λ s. s.now) result ≡ option_map (λ e. e.number) self.now.entered }
+        ensures { option_map (λ s. s.now) result ≡ option_map (λ e. e.station) self.now.entered }
     {
         match &self.entered {
             Some(entered) => Some(entered.station),

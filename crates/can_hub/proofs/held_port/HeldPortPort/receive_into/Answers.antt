@@ -8,7 +8,7 @@ use Rattle.can_hub.proofs.held_port.HeldPortPort.receive_into.Goals as goal
 
 pub returns : goal.returns
 returns g c =
-    let now : EnteredSeen = record { number = c.entered.inside.station.now; gauge = c.entered.inside.gauge; pass = c.entered.inside.pass } in
+    let now : EnteredSeen = record { station = c.entered.inside.station.now; gauge = c.entered.inside.gauge; pass = c.entered.inside.pass } in
     let room = c.receive_into.new.room in
     received g.row.F.Denot c.args.self.now c.port.inside.hub.now c.port.inside.entered now c.receive_into.new.pass c.args.socket room c.receive_into.result c.pass_on.result
     (c.port.view_is ∙ c.self.view_is) (c.in-Some.is ∙ ap Some (sym c.entered.view_is)) c.pass_on.ensures

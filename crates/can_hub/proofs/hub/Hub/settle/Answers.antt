@@ -1,5 +1,6 @@
 use Rattle.std.proofs.Common.{◌≡◌, ◌+◌, ◌∷◌, ◌++◌, ◌∙◌, ℕ, suc, List, [], Vec, Global, length, length-append, append_assoc, append-nil, inl, inr, arith, sym, subst, ap}
 use Rattle.std.specs.Vec.Iter.{into_iter_items}
+use Rattle.can_bus.specs.Journal.{Kept}
 use Rattle.can_station.specs.declared.pass.Settled.{Settled}
 use Rattle.can_hub.specs.Buses.{BusSeen, NumberedFrom}
 use Rattle.can_station.specs.Passes.{PassSeen, AllOf, SomeOther}
@@ -24,7 +25,7 @@ loop-wire-init g c =
         own = tt;
         settled = settle_none Global c.self.inside.settled.items own.3;
         place = sym zero;
-        numbered = subst (λ (ds : List Settled). NumberedFrom (length ds) items) (sym own.3) (subst (λ (ws : List BusSeen). NumberedFrom 0 ws) (sym given.0) own.0);
+        numbered = subst (λ (ds : List (Settled Kept)). NumberedFrom (length ds) items) (sym own.3) (subst (λ (ws : List BusSeen). NumberedFrom 0 ws) (sym given.0) own.0);
         wires = omega (arith, given.1, wires, c.self.inside.wires.ok.0);
         passes = omega (arith, lists.len, passes, c.args.passes.ok.0);
         same = omega (arith, given.1, c.self.inside.wires.ok.0, lists.len, c.args.passes.ok.0, c.requires, buses);
@@ -39,8 +40,8 @@ returns-in_default-settle-clause-refused g c =
     let own = c.in-Some-next.own in
     let done = c.loop-wire.settled.items in
     let numbered = subst (λ (ws : List BusSeen). NumberedFrom (length done) ws) c.in-Some.ensures.steps.0 i.numbered in
-    let here : c.wire.inside.station ≡ c.in-Some.wire.number = ap (λ (b : BusSeen). b.number) c.wire.view_is in
-    let bus : c.wire.inside.station ≡ c.len-bus.result = omega (arith, numbered.0, here, c.len-bus.ensures, c.loop-wire.settled.ok.0) in
+    let here : c.wire.inside.station.number ≡ c.in-Some.wire.number = ap (λ (b : BusSeen). b.number) c.wire.view_is in
+    let bus : c.wire.inside.station.number ≡ c.len-bus.result = omega (arith, numbered.0, here, c.len-bus.ensures, c.loop-wire.settled.ok.0) in
     let none = ap length c.new.ensures.items in
     record {
       before = before;
@@ -66,8 +67,8 @@ loop-wire-preserved g c =
     let lists = c.in-Some-next.ensures in
     let more = into_iter_items c.next.new.self in
     let numbered = subst (λ (ws : List BusSeen). NumberedFrom (length done) ws) steps.0 i.numbered in
-    let here : c.wire.inside.station ≡ c.in-Some.wire.number = ap (λ (b : BusSeen). b.number) c.wire.view_is in
-    let bus : c.wire.inside.station ≡ length done = omega (arith, numbered.0, here) in
+    let here : c.wire.inside.station.number ≡ c.in-Some.wire.number = ap (λ (b : BusSeen). b.number) c.wire.view_is in
+    let bus : c.wire.inside.station.number ≡ length done = omega (arith, numbered.0, here) in
     let grown : length new ≡ length done + 1 = ap length c.push_reserved.ensures.items ∙ length-append done (c.in-Ok.left ∷ []) in
     let longer : length (before ++ own ∷ []) ≡ length before + 1 = length-append before (own ∷ []) in
     let wires = ap length steps.0 in
@@ -77,7 +78,7 @@ loop-wire-preserved g c =
       record {
         lists = append_assoc before (own ∷ []) (into_iter_items c.next-in-loop-wire.new.self) ∙ ap (λ (r : List (Vec PassSeen Global)). before ++ r) (sym lists.items) ∙ i.lists;
         own = own_push 0 (length done) before own i.own (omega (arith, i.place)) (subst (λ (k : ℕ). AllOf k own.items) bus c.in-Ok.ensures.refused.0);
-        settled = subst (λ (ds : List Settled). AllSettle (before ++ own ∷ []) ds) (sym c.push_reserved.ensures.items) (settle_push before done own c.in-Ok.left i.settled c.in-Ok.ensures.settled);
+        settled = subst (λ (ds : List (Settled Kept)). AllSettle (before ++ own ∷ []) ds) (sym c.push_reserved.ensures.items) (settle_push before done own c.in-Ok.left i.settled c.in-Ok.ensures.settled);
         place = omega (arith, grown, longer, i.place);
         numbered = subst (λ (k : ℕ). NumberedFrom k more) next numbered.1;
         wires = omega (arith, steps.1, i.wires, wires);
