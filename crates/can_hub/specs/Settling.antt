@@ -1,4 +1,5 @@
 use Rattle.std.specs.Prelude.{◌≡◌, ℕ, suc, List, [], ◌∷◌, ◌++◌, length, Vec}
+use Rattle.can_record.specs.Journal.{Kept}
 use Rattle.can_station.specs.declared.pass.Settled.{Settled}
 use Rattle.can_station.specs.Passes.{PassSeen, AllOf, SomeOther, Settles}
 
@@ -10,7 +11,7 @@ AllOwn n [] = Unit {0}
 AllOwn n (own ∷ more) = AllOf n own.items × AllOwn (suc n) more
 
 -- each bus leaves a record that settles its list of passes
-abbrev pub AllSettle : {A : Type 0} → List (Vec PassSeen A) → List Settled → Type 0
+abbrev pub AllSettle : {A : Type 0} → List (Vec PassSeen A) → List (Settled Kept) → Type 0
 AllSettle [] [] = Unit {0}
 AllSettle (own ∷ more) (s ∷ rest) = Settles s.history s.passes own.items × AllSettle more rest
 AllSettle [] (s ∷ rest) = ⊥

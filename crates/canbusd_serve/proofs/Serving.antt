@@ -4,6 +4,7 @@ use Rattle.std.proofs.lemmas.List.Elements.{All-cons}
 use Rattle.std.proofs.lemmas.Option.{slice_get-get_or}
 use Rattle.can_frame.specs.Names.{AreNames, names_in}
 use Rattle.can_station.specs.declared.gate.Open.{Open}
+use Rattle.can_record.specs.Journal.{Kept}
 use Rattle.can_station.specs.declared.pass.Settled.{Settled}
 use Rattle.can_station.specs.Passes.{PassSeen}
 use Rattle.can_hub.specs.declared.bench.Bench.{Bench}
@@ -63,14 +64,14 @@ buses-length n [] = refl
 buses-length n (b ∷ more) = ap suc (buses-length (suc n) more)
 
 -- what is settled is one for each list of passes
-pub settles-length : {A : Type 0} (passes : List (Vec PassSeen A)) (ends : List Settled) → AllSettle passes ends → length ends ≡ length passes
+pub settles-length : {A : Type 0} (passes : List (Vec PassSeen A)) (ends : List (Settled Kept)) → AllSettle passes ends → length ends ≡ length passes
 settles-length [] [] all = refl
 settles-length (p ∷ ps) (s ∷ ss) all = ap suc (settles-length ps ss all.1)
 settles-length [] (s ∷ ss) all = absurd all
 settles-length (p ∷ ps) [] all = absurd all
 
 -- and its records are of legal histories
-pub settles-legal : {A : Type 0} (passes : List (Vec PassSeen A)) (ends : List Settled) → AllSettle passes ends → All (λ s. IsLegalEnd s) ends
+pub settles-legal : {A : Type 0} (passes : List (Vec PassSeen A)) (ends : List (Settled Kept)) → AllSettle passes ends → All (λ s. IsLegalEnd s) ends
 settles-legal [] [] all = λ k d low. absurd (omega arith)
 settles-legal (p ∷ ps) (s ∷ ss) all = All-cons (λ s. IsLegalEnd s) s ss all.0.legal (settles-legal ps ss all.1)
 settles-legal [] (s ∷ ss) all = absurd all

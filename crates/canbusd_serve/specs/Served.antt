@@ -4,6 +4,7 @@ use Rattle.std.specs.Io.KnownBytes.{Appends}
 use Rattle.can_frame.specs.Names.{AreNames, names_in}
 use Rattle.can_bus.specs.Legal.{IsLegal}
 use Rattle.can_station.specs.declared.gate.Open.{Open}
+use Rattle.can_record.specs.Journal.{Kept}
 use Rattle.can_station.specs.declared.pass.Settled.{Settled}
 use Rattle.can_hub.specs.declared.bench.Bench.{Bench}
 use Rattle.canbusd_options.specs.declared.bus_word.BusWord.{BusWord}
@@ -61,15 +62,15 @@ abbrev pub IsOfServer : ServeOptions → Fault → Type 0
 IsOfServer o why = IsOfBuses o why ⊎ IsOfServing why
 
 -- the record is of a legal history
-abbrev pub IsLegalEnd : Settled → Type 0
+abbrev pub IsLegalEnd : Settled Kept → Type 0
 IsLegalEnd s = IsLegal s.history.config s.history.history
 
 -- the line of a bus at the end: its first name, and how many entries its record has
-abbrev pub end_line : BusWord → Settled → List ℕ
+abbrev pub end_line : BusWord → Settled Kept → List ℕ
 end_line bus s = codes "bus " ++ first_name_of bus.names.now ++ codes " entries " ++ decimal (length s.history.history) ++ 10 ∷ []
 
 -- the lines of all buses
-abbrev pub end_lines : List BusWord → List Settled → List ℕ
+abbrev pub end_lines : List BusWord → List (Settled Kept) → List ℕ
 end_lines [] settled = []
 end_lines (bus ∷ buses) [] = []
 end_lines (bus ∷ buses) (s ∷ settled) = end_line bus s ++ end_lines buses settled
@@ -85,7 +86,7 @@ IsListening contents old new = (heard : List ℕ) × Appends (contents old) (con
 -- a server reported where it listens, and at its end how many entries the legal record of each bus has
 pub record IsServed {W : Type 0} (contents : W → Option (List ℕ)) (o : ServeOptions) (old new : W) : Type 0 where
   pub named : All (λ bus. AreNames (names_in bus.names.now)) o.buses.items
-  pub settled : List Settled
+  pub settled : List (Settled Kept)
   pub each : length settled ≡ length o.buses.items
   pub legal : All (λ s. IsLegalEnd s) settled
   pub heard : List ℕ
