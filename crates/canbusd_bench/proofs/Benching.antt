@@ -5,6 +5,7 @@ use Rattle.std.proofs.KnownBytes.{Keeps-refl}
 use Rattle.can_frame.specs.Names.{AreNames, names_in}
 use Rattle.can_fault.specs.Sources.{VerdictMap}
 use Rattle.can_event.specs.declared.bus_config.BusConfig.{BusConfig}
+use Rattle.can_event.specs.Events.{IsConfig}
 use Rattle.can_record.specs.Journal.{Kept}
 use Rattle.can_bus.specs.Legal.{IsLegal}
 use Rattle.can_session.specs.declared.bench_run.BenchFault.{BenchFault}
@@ -54,10 +55,11 @@ stopped contents c o names verdicts input out new why f is told a =
 
 -- the same with the verdicts of the script that the options name
 pub ran : {W : Type 0} (E : Type 0) (contents : W → Option (List ℕ)) (o : BenchOptions) (names : List (List ℕ)) (verdicts : VerdictMap) (input : Option (List ℕ)) (out new : W) (r : Result Kept E)
-    → AreVerdicts o.bus.script names verdicts → IfOk r (λ k. EndsOver contents verdicts input (begun o names) out (Ok k) new) → IfOk r (λ k. IsLegal k.config k.history)
+    → AreVerdicts o.bus.script names verdicts → IfOk r (λ k. EndsOver contents verdicts input (begun o names) out (Ok k) new)
+    → IfOk r (λ k. k.config ≡ config_of o.settings (length names)) → IfOk r (λ k. IsConfig k.config) → IfOk r (λ k. IsLegal k.config k.history)
     → IfOk r (λ k. IsRun contents o names input out k new)
-ran E contents o names verdicts input out new (Ok k) scripted ends legal = record { verdicts = verdicts; scripted = scripted; ends = ends; legal = legal }
-ran E contents o names verdicts input out new (Err why) scripted ends legal = tt
+ran E contents o names verdicts input out new (Ok k) scripted ends config proper legal = record { verdicts = verdicts; scripted = scripted; ends = ends; config = config; proper = proper; legal = legal }
+ran E contents o names verdicts input out new (Err why) scripted ends config proper legal = tt
 
 -- the writer that took what a watcher was given, where its bytes are known: the one that was flushed
 pub record Taken {W : Type 0} (contents : W → Option (List ℕ)) (old behind new : W) (text : List ℕ) : Type 0 where
@@ -93,7 +95,7 @@ moved outer contents verdicts input b v w old new r (now, (lines, after, all, ov
 run_over : {V W : Type 0} (outer : V → Option (List ℕ)) (contents : W → Option (List ℕ)) (o : BenchOptions) (names : List (List ℕ)) (input : Option (List ℕ)) (v w : V) (old new : W) (r : Kept)
     (run : IsRun outer o names input v r w) → Appends (contents old) (contents new) (text_in outer run.verdicts input (begun o names) v w r run.ends).0 → IsRun contents o names input old r new
 run_over outer contents o names input v w old new r run a =
-    record { verdicts = run.verdicts; scripted = run.scripted; ends = moved outer contents run.verdicts input (begun o names) v w old new r run.ends a; legal = run.legal }
+    record { verdicts = run.verdicts; scripted = run.scripted; ends = moved outer contents run.verdicts input (begun o names) v w old new r run.ends a; config = run.config; proper = run.proper; legal = run.legal }
 
 -- known bytes that did not grow quietly, or by a refusal, are known
 unless_known : {W : Type 0} (contents : W → Option (List ℕ)) (P : Option (List ℕ) → Option (List ℕ) → Type 0) (old behind written : W)

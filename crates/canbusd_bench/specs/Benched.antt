@@ -2,6 +2,7 @@ use Rattle.std.specs.Prelude.{◌≡◌, ◌⊎◌, ℕ, true, List, length, Opt
 use Rattle.std.specs.Io.KnownBytes.{Keeps}
 use Rattle.can_frame.specs.Names.{AreNames, names_in}
 use Rattle.can_fault.specs.Sources.{VerdictMap}
+use Rattle.can_event.specs.Events.{IsConfig}
 use Rattle.can_record.specs.Journal.{Kept}
 use Rattle.can_bus.specs.Legal.{IsLegal}
 use Rattle.can_session.specs.declared.bench_run.BenchFault.TheVariants.{BadConfig}
@@ -33,11 +34,14 @@ FailsBy contents o names input out why new =
     (IsOfSource o.bus.script names why × (new ≡ out))
     ⊎ ((verdicts : VerdictMap) × AreVerdicts o.bus.script names verdicts × StopsBy contents o names verdicts input out why new)
 
--- a run that options describe came to its end, with these names and this record
+-- a run that options describe came to its end, with these names and this record of the bus that they describe, which is
+-- within the limits
 pub record IsRun {W : Type 0} (contents : W → Option (List ℕ)) (o : BenchOptions) (names : List (List ℕ)) (input : Option (List ℕ)) (old : W) (r : Kept) (new : W) : Type 0 where
   pub verdicts : VerdictMap
   pub scripted : AreVerdicts o.bus.script names verdicts
   pub ends : EndsOver contents verdicts input (begun o names) old (Ok r) new
+  pub config : r.config ≡ config_of o.settings (length names)
+  pub proper : IsConfig r.config
   pub legal : IsLegal r.config r.history
 
 -- a run that options describe came to its end, all that it put out was written, and where they are strict it has no refusal

@@ -1,6 +1,8 @@
-ghost use Rattle.std.specs.Prelude.{IfErr, IfOk, Ok, OnOk};
+ghost use Rattle.std.specs.Prelude.{◌≡◌, length, IfErr, IfOk, Ok, OnOk};
+ghost use Rattle.can_event.specs.Events.{IsConfig};
 ghost use Rattle.can_bus.specs.Legal.{IsLegal};
 ghost use Rattle.can_session.specs.Runs.{EndsOver};
+ghost use Rattle.canbusd_files.specs.Buses.{config_of};
 ghost use Rattle.canbusd_bench.specs.Benched.{FailsAs, FailsBy, HasRun, IsBenched, IsOfFiles, IsRun, IsStopped, StopsBy, begun};
 
 use crate::input_notes::input_note;
@@ -159,6 +161,8 @@ fn run_on<'a, F: FaultSource + Drop, R: Read + Drop, W: Write>(
     ensures ends { IfOk result (λ r.
         EndsOver W.contents (F.verdicts script) (R.remaining input) (begun options.entry names)
         output.old (Ok r) output.new) }
+    ensures config { IfOk result (λ r. r.config ≡ config_of options.entry.settings (length names)) }
+    ensures proper { IfOk result (λ r. IsConfig r.config) }
     ensures legal { IfOk result (λ r. IsLegal r.config r.history) }
     ensures fault { IfErr result (λ failure.
         StopsBy W.contents options.entry names (F.verdicts script) (R.remaining input)

@@ -1,4 +1,5 @@
-use Rattle.std.proofs.Common.{Ok, subst}
+use Rattle.std.proofs.Common.{Ok, sym, subst, ◌∙◌}
+use Rattle.can_event.specs.Events.{IsConfig}
 use Rattle.can_session.specs.Runs.{EndsOver}
 use Rattle.canbusd_bench.specs.Benched.{StopsBy, begun}
 use Rattle.canbusd_bench.proofs.Benching.{ended, stopped}
@@ -15,3 +16,9 @@ returns-clause-fault g c =
     let e = c.in-Err.ensures in
     subst (λ x. StopsBy g.W.Write.contents c.args.options c.args.names (g.F.FaultSource.verdicts c.args.script) (g.R.Read.remaining x) c.args.output.now c.with.result.fault c.bench_noting.new.out) c.new-input.ensures
     (stopped g.W.Write.contents c.bus_config.result c.args.options c.args.names _ _ c.args.output.now c.bench_noting.new.out c.in-Err.fault c.with.result.fault c.bus_config.ensures c.with.ensures (record { bad = e.bad; untouched = e.untouched; runs = e.runs }))
+
+pub returns-in-Ok-clause-config : goal.returns-in-Ok-clause-config
+returns-in-Ok-clause-config g c = c.in-Ok.ensures.config ∙ c.bus_config.ensures
+
+pub returns-in-Ok-clause-proper : goal.returns-in-Ok-clause-proper
+returns-in-Ok-clause-proper g c = subst IsConfig (sym c.in-Ok.ensures.config) c.in-Ok.ensures.good.bus
