@@ -15,10 +15,10 @@ ghost use Rattle.can_event.specs.declared.event.Event.TheVariants as event;
 
 use crate::bus::RingBus;
 use crate::long_bus::{LongEnd, LongRingBus};
-use can_record::Record;
 use can_confine::Counters;
 use can_event::{Event, IfaceStats, Received, Refusal, Reply, SocketId, SocketStats};
 use can_frame::{Frame, Iface};
+use can_record::Record;
 use std::alloc::Global;
 
 /// A bus that others share. Contracts see its journal, and how many entries more it takes.

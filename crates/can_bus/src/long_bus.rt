@@ -23,8 +23,8 @@ use can_event::{
 };
 use can_filter::FilterSet;
 use can_frame::{Frame, Iface};
-use can_record::PackedRecord;
 use can_queue::{BoundedQueue, RingQueue};
+use can_record::PackedRecord;
 use std::alloc::Global;
 use std::marker::Model;
 use std::mem;

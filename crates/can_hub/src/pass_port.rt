@@ -161,10 +161,9 @@ impl<'a, N: RollName + MeterName, F: FaultSource + Drop, G: Gate + Drop, R: Wait
         };
         let room = self.hub.rx_capacity(usize::from(entered.station.number()));
         let counted = Counted::of(&event);
-        let outcome =
-            entered
-                .station
-                .call(self.rt, self.alloc, &mut entered.pass, sized(event, room));
+        let outcome = entered
+            .station
+            .call(self.rt, self.alloc, &mut entered.pass, sized(event, room));
         self.tally.add(counted, &outcome);
         pass_on(outcome)
     }

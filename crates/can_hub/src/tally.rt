@@ -13,20 +13,21 @@ pub struct Tally {
 }
 
 /// A call, as far as a tally looks at it.
-#[derive(Debug, Clone, Copy)]
-pub(crate) enum Counted {
-    Send,
-    Restart(Iface),
-    Other,
+#[derive(Clone, Copy)]
+pub(crate) struct Counted {
+    is_send: bool,
+    restarts: Option<Iface>,
 }
 
 impl Counted {
     /// The call that makes this event.
     pub(crate) fn of(event: &Event) -> Counted {
-        match event {
-            Event::Send(..) => Counted::Send,
-            Event::Restart(iface, _) => Counted::Restart(*iface),
-            _ => Counted::Other,
+        Counted {
+            is_send: matches!(event, Event::Send(_, _)),
+            restarts: match event {
+                Event::Restart(iface, _) => Some(*iface),
+                _ => None,
+            },
         }
     }
 }
@@ -46,13 +47,19 @@ impl Tally {
         let Ok(reply) = outcome else {
             return;
         };
-        match (call, reply) {
-            (Counted::Send, Reply::Refused(_)) if reply.enters() => {
-                self.refused = self.refused.saturating_add(1);
+        match reply {
+            Reply::Refused(_) => {
+                if call.is_send && reply.enters() {
+                    self.refused = self.refused.saturating_add(1);
+                }
             }
-            (Counted::Restart(iface), Reply::Done) => self.restarted = Some(iface),
-            (_, Reply::Closed(closed)) => {
+            Reply::Closed(closed) => {
                 self.dropped = self.dropped.saturating_add(closed.dropped);
+            }
+            Reply::Done => {
+                if call.restarts.is_some() {
+                    self.restarted = call.restarts;
+                }
             }
             _ => {}
         }
