@@ -4,7 +4,9 @@
 const KINDS = ["done", "lastbit", "destroyed", "noack", "restart", "idle"];
 const KIND_WORDS = ["done", "last bit", "destroyed", "no acknowledgement", "restart", "idle"];
 const RESTART = 4, IDLE = 5;
-const STATE_WORDS = ["error active", "error warning", "error passive", "bus off"];
+const STATES = ["active", "warning", "passive", "off"];
+// Spelled as in CAN documents; not parted at the end of a line.
+const stateWords = state => state === "off" ? "bus\u00a0off" : `error\u00a0${state}`;
 const LIMITS = [[96, "warning"], [128, "passive"], [256, "bus off"]];
 const WARNING = 96, PASSIVE = 128, OFF = 256;
 
@@ -24,6 +26,17 @@ function cell(tag, content) {
   return element(tag, typeof content === "number" ? grouped(content) : content, isNumber ? { className: "number" } : {});
 }
 const tableRow = (tag, cells) => element("tr", cells.map(one => cell(tag, one)));
+// The rows of a table: a heading is at the right where its numbers are, and where the page is narrow each cell has it.
+function rowsOf(heads, rows) {
+  const made = rows.map(cells => tableRow("td", cells)), head = tableRow("th", heads);
+  for (const row of made) {
+    [...row.children].forEach((one, k) => {
+      one.dataset.head = heads[k];
+      if (one.classList.contains("number")) head.children[k].className = "number";
+    });
+  }
+  return [head, ...made];
+}
 // A number that is bad unless it is 0.
 const loss = number => element("td", grouped(number), { className: number ? "number bad" : "number" });
 // The symbol of a kind of attempt, or of another thing that the legend has.

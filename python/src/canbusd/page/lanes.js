@@ -216,7 +216,7 @@ function drawRuler(plot) {
     pen.stroke();
     const left = Math.min(x, plot.full - wide);
     if (left < free) continue;
-    words.forEach((text, k) => write(pen, text, left, 7 + k * 14, k ? theme.soft : theme.text));
+    words.forEach((text, k) => write(pen, text, left, words.length > 1 ? 7 + k * 14 : 14, k ? theme.soft : theme.text));
     free = left + wide + 14;
   }
 }

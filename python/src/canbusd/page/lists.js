@@ -37,8 +37,10 @@ class Rolling {
   set(list) {
     this.list = list;
     this.active = Math.min(this.active, Math.max(list.length - 1, 0));
+    const hasFocus = this.body.contains(document.activeElement);
     this.clear();
     this.show();
+    if (hasFocus) this.focus();
   }
   clear() {
     this.rows.clear();

@@ -285,14 +285,12 @@ function countersAround(step) {
     steps.accepted[step] >> i & 1 && "accepted"].filter(Boolean).join(", ");
   const state = i => {
     const now = severity(Math.max(tec[i].all[step], rec[i].all[step]));
-    return now ? element("td", STATE_WORDS[now], { className: "bad" }) : STATE_WORDS[now];
+    return element("td", stateWords(STATES[now]), { className: now ? "bad" : "" });
   };
-  const rows = names.map((name, i) => tableRow("td",
-    [name, part(i), state(i), change(tec[i].all), change(rec[i].all), queues[i].all[step]]));
+  const rows = names.map((name, i) =>
+    [name, part(i), state(i), change(tec[i].all), change(rec[i].all), queues[i].all[step]]);
   const heads = ["node", "part in it", "state after it", "transmit count", "receive count", "queue before it"];
-  const head = tableRow("th", heads);
-  for (const one of [...head.children].slice(3)) one.className = "number";
-  return element("div", element("table", [head, ...rows]), { className: "wide" });
+  return element("table", rowsOf(heads, rows));
 }
 // A frame's fields, as a reader of CAN has them.
 function fieldsOf(text) {
@@ -314,22 +312,21 @@ function fieldList(step) {
 function eventsAt(step) {
   const events = run.events.filter(event => event[0] === step), lost = run.lost[step] || [];
   const words = ([, kind, , text]) => element("p", [element("b", `${kind}: `, { className: isWorst(kind) ? "bad" : "" }), text]);
-  const rows = lost.map(([number, text]) => tableRow("td", [number, element("code", run.texts[text])]));
-  const table = [element("h3", "Lost with it"), element("table", [tableRow("th", ["frame no.", "frame"]), ...rows])];
+  const rows = lost.map(([number, text]) => [number, element("code", run.texts[text])]);
+  const table = [element("h3", "Lost with it"), element("table", rowsOf(["frame no.", "frame"], rows))];
   return [...events.map(words), ...lost.length ? table : []];
 }
 function itemsOf(step) {
   const [first, last] = itemsAt(step);
   if (first === last) return [];
   const rows = Array.from({ length: last - first }, (_, k) => itemRow(first + k));
-  const heads = tableRow("th", ["socket", "node", "item", "what became of it"]);
-  return [element("h3", "Items"), element("div", element("table", [heads, ...rows]), { className: "wide" })];
+  return [element("h3", "Items"), element("table", rowsOf(["socket", "node", "item", "what became of it"], rows))];
 }
 function itemRow(item) {
   const error = items.error[item], says = error ? `${run.texts[error]}: ${run.meanings[error] || ""}` : "the frame";
   const fate = FATE_WORDS[items.fate[item]], socket = items.socket[item];
-  return tableRow("td", [element("td", String(socket)), names[run.sockets[socket].iface], says,
-    element("td", fate, { className: items.fate[item] === DROPPED ? "bad" : "" })]);
+  return [socket, names[run.sockets[socket].iface], says,
+    element("td", fate, { className: items.fate[item] === DROPPED ? "bad" : "" })];
 }
 function itemsAt(step) {
   const find = wanted => {
@@ -367,16 +364,16 @@ function makeLists() {
     [["attempt", "7ch", "n"], moment, ["kind", "11ch"], ["what", "minmax(0, 1fr)"]],
     ([step, kind, , words]) => [attemptCell(step), momentOf(step), kindCell(kind), words], event => event[0]);
   lists["tab-attempts"] = toStep("tried",
-    [["attempt", "8ch", "n"], moment, ["sender", "minmax(6ch, 1fr)"], ["frame no.", "8ch", "nh"],
+    [["attempt", "8ch", "n"], moment, ["sender", "minmax(6ch, 1fr)"], ["frame no.", "8ch", "n h"],
       ["frame", "minmax(20ch, 2fr)"], ["outcome", "minmax(14ch, 1fr)"], ["fault", "minmax(9ch, 1.5fr)"],
       ["accepted by", "minmax(9ch, 1.5fr)", "h"]], attemptCells, step => step);
   lists["tab-items"] = toStep("items",
-    [["attempt", "8ch", "n"], moment, ["socket", "6ch", "nh"], ["from", "minmax(6ch, 1fr)", "h"],
-      ["frame no.", "8ch", "nh"], ["frame", "minmax(20ch, 2fr)"], ["says", "minmax(0, 2fr)"],
+    [["attempt", "8ch", "n"], moment, ["socket", "6ch", "n h"], ["from", "minmax(6ch, 1fr)", "h"],
+      ["frame no.", "8ch", "n h"], ["frame", "minmax(20ch, 2fr)"], ["says", "minmax(0, 2fr)"],
       ["what became of it", "minmax(14ch, 1.5fr)"]], itemCells, item => items.step[item]);
   lists["tab-sockets"] = new Rolling("sockets",
-    [["socket", "6ch", "nh"], ["node", "minmax(6ch, 1fr)"], ["capacity", "9ch", "nh"], ["queued", "9ch", "nh"],
-      ["taken", "9ch", "nh"], ["waiting", "8ch", "nh"], ["unread", "8ch", "nh"], ["dropped", "8ch", "nh"],
+    [["socket", "6ch", "n h"], ["node", "minmax(6ch, 1fr)"], ["capacity", "9ch", "n h"], ["queued", "9ch", "n h"],
+      ["taken", "9ch", "n h"], ["waiting", "8ch", "n h"], ["unread", "8ch", "n h"], ["dropped", "8ch", "n h"],
       ["open", "minmax(10ch, 1fr)"]], one => [String(one.number), names[one.iface], ...[one.capacity, one.queued, one.taken,
       one.waiting, one.unread].map(grouped), one.dropped ? badText(grouped(one.dropped)) : "0", one.open],
     one => chooseSocket(one.number));
@@ -498,12 +495,9 @@ function follow() {
 function showIfaces() {
   const heads = ["node", "state", "transmit count", "receive count", "sent", "done", "waiting", "lost",
     "refused: queue full", "refused: bus off"];
-  const head = tableRow("th", heads);
-  for (const one of [...head.children].slice(2)) one.className = "number";
-  at("ifaces").replaceChildren(head, ...run.ifaces.map((one, i) => tableRow("td",
-    [names[i], one.state === "active" ? "error active" : element("td", one.state === "off" ? "bus off" : `error ${one.state}`,
-      { className: "bad" }), one.tec, one.rec, one.sent, one.done, one.waiting, loss(one.lost), loss(one.full),
-    loss(one.off)])));
+  at("ifaces").replaceChildren(...rowsOf(heads, run.ifaces.map((one, i) => [names[i],
+    element("td", stateWords(one.state), { className: one.state === "active" ? "" : "bad" }),
+    one.tec, one.rec, one.sent, one.done, one.waiting, loss(one.lost), loss(one.full), loss(one.off)])));
 }
 
 // What the reader does.
