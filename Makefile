@@ -10,6 +10,7 @@
 #                   folder below PREFIX in which python3 looks for packages
 # make uninstall    removes them
 # make deb          makes a package for Debian of what make install installs
+# make wheel        makes a wheel of the Python package with the program of dist/, for pip
 # make clean        removes what was built here
 
 PREFIX ?= /usr/local
@@ -98,7 +99,10 @@ uninstall-extras:
 deb:
 	./scripts/deb
 
+wheel:
+	./scripts/python-package wheel "$(CURDIR)"
+
 clean:
 	rm -rf crates/*/out python/build python/src/canbusd.egg-info
 
-.PHONY: all test quick python-test check dist verify-dist install install-extras uninstall uninstall-extras deb clean
+.PHONY: all test quick python-test check dist verify-dist install install-extras uninstall uninstall-extras deb wheel clean

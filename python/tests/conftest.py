@@ -47,7 +47,7 @@ def installed(tmp_path_factory):
     # Not where it is: setuptools builds in the folder that it is given.
     source = folder / "clone" / "python"
     shutil.copytree(PYTHON, source, ignore=shutil.ignore_patterns("build", "*.egg-info", "__pycache__", ".*"))
-    for name in ("canbusd", "crates.txt"):
+    for name in ("canbusd", "crates.txt", "dist", "tools"):
         (source.parent / name).symlink_to(PYTHON.parent / name)
     done = subprocess.run(
         [sys.executable, "-m", "pip", "install", "--quiet", "--no-deps", "--no-build-isolation", "--no-index",

@@ -1,6 +1,7 @@
 """python3 -m canbusd: dump, send, status, report and replay, each as a process."""
 
 import contextlib
+import json
 import os
 import re
 import select
@@ -382,6 +383,40 @@ def test_commands_and_their_help():
         assert call(name, "--help")[0] == 0
     assert call("dance")[0] == 2
     assert call("--version") == (0, f"canbusd {canbusd.__version__}\n", "")
+
+
+def test_a_replay_in_json(tmp_path):
+    faults = Faults().last_bit(0).destroyed(range(1, 32))
+    with Bench("can0,can1", faults=faults, auto_restart=1, out=tmp_path) as bench:
+        can0, can1 = bench.open("can0", error_frames=0x140), bench.open("can1", error_frames=False)
+        can0.send(0x123, b"\x11")
+        bench.run()
+        assert [str(frame) for frame in can1.receive()] == ["123#11"]
+    status, written, said = call("replay", "--json", "--names", "can0,can1", tmp_path / "can0.rec")
+    assert (status, said) == (0, "")
+    lines = [json.loads(line) for line in written.splitlines()]
+    attempt = {
+        "type": "attempt", "attempt": 0, "timestamp": 0.0, "winner": "can0", "number": 0, "frame": "123#11",
+        "outcome": "lastbit", "fault": "lastbit", "accepted": ["can1"], "off": [], "restarted": [],
+    }  # fmt: skip
+    destroyed = {**attempt, "outcome": "destroyed", "fault": "global bit", "accepted": []}
+    idle = {
+        **attempt, "attempt": None, "winner": "", "frame": "", "outcome": "idle", "fault": "good", "accepted": [],
+        "restarted": ["can0"],
+    }  # fmt: skip
+    off = [{**destroyed, "attempt": number, "off": ["can0"] if number == 31 else []} for number in range(1, 32)]
+    assert lines[:33] == [attempt, *off, idle]
+    item = {
+        "type": "item", "attempt": 0, "timestamp": 0.0, "interface": "can1", "socket": 1, "sender": "can0",
+        "frame": "123#11", "fate": "taken",
+    }  # fmt: skip
+    at_can0 = {**item, "interface": "can0", "socket": 0, "fate": "waiting"}
+    assert lines[33:] == [
+        item,
+        {**at_can0, "attempt": 31, "frame": "20000040#0000000000000000"},
+        {**at_can0, "attempt": None, "frame": "20000100#0000000000000000"},
+    ]
+    assert call("replay", "--json", "--quiet", tmp_path / "can0.rec")[0] == 2
 
 
 def test_reports_need_no_python_can(record):

@@ -204,3 +204,21 @@ def test_with_xdist(run, pytester):
     tests = "".join(PASSES.replace("test_it", f"test_{number}") for number in range(6))
     run(tests, "-n", "2").assert_outcomes(passed=6)
     assert kept(pytester) == []
+
+
+def test_an_expectation_that_fails_shows_what_was_seen(run):
+    done = run("""
+    @pytest.mark.canbusd("can0,can1", observe="can1")
+    def test_it(canbusd):
+        with canbusd.bus("can0") as can0:
+            can0.send(can.Message(arbitration_id=0x123, data=[1, 2], is_extended_id=False))
+            assert canbusd.expect(id=0x123, within=20).data == b"\\1\\2"
+            canbusd.expect_state("can0", "active")
+            canbusd.expect(id=0x124, within=0.1)
+    """)
+    done.assert_outcomes(failed=1)
+    done.stdout.fnmatch_lines(
+        ["E * no frame 124 within 0.1 seconds", "E * the last frames that can1 saw:", "E * (*) can1 123#0102"]
+    )
+    # The fault is shown at the line of the test.
+    done.stdout.no_fnmatch_line("*expectations.py*")

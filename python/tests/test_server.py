@@ -151,11 +151,11 @@ def test_the_program_of_the_clone(monkeypatch):
     assert find_program() == str(CLONE / "canbusd")
 
 
-def test_the_program_of_the_clone_that_pip_installed_it_from(installed, tmp_path):
+def test_the_program_of_the_package(installed, tmp_path):
     environment = {name: value for name, value in installed.items() if name != "CANBUSD"}
     program = "from canbusd._program import find_program; print(find_program())"
     found = subprocess.check_output([sys.executable, "-c", program], env=environment, cwd=tmp_path, text=True)
-    assert found.endswith("/clone/canbusd\n")
+    assert found.endswith("/target/canbusd/program/canbusd\n")
 
 
 def test_the_options_reach_the_program():

@@ -21,8 +21,10 @@ if TYPE_CHECKING:
     from canbusd.frames import BadFrame, Frame
     from canbusd.record import Attempt, BadRecord, Item, Record, read_record
     from canbusd.server import Result, Server, ServerError
+    from canbusd.signals import Database, DatabaseError, load_database
 
-__version__ = "0.1.0"
+# The one place of the version of the package.
+__version__ = "0.2.0"
 
 __all__ = [
     "Attempt",
@@ -31,6 +33,8 @@ __all__ = [
     "Bench",
     "BenchError",
     "CanbusdBus",
+    "Database",
+    "DatabaseError",
     "ErrorCounters",
     "Faults",
     "Frame",
@@ -43,6 +47,7 @@ __all__ = [
     "ServerError",
     "Session",
     "Stats",
+    "load_database",
     "read_record",
 ]
 
@@ -55,6 +60,7 @@ _HOMES = {
     "frames": ["BadFrame", "Frame"],
     "record": ["Attempt", "BadRecord", "Item", "Record", "read_record"],
     "server": ["Result", "Server", "ServerError"],
+    "signals": ["Database", "DatabaseError", "load_database"],
 }
 
 

@@ -25,6 +25,8 @@ HOST_PORT = re.compile(r"(?:\[([^][]+)\]|([^][:]+)):([0-9]{1,5})")
 PIECE = 65536
 # Seconds that a server is given to end a session.
 CLOSE_TIMEOUT = 1.0
+# Seconds between two looks at what a server has no news of, such as a full transmit queue: at first, and at most.
+POLL, LONGEST_POLL = 0.0002, 0.01
 # What no limit of the system's calls is below.
 LONGEST_WAIT = 3600.0
 

@@ -1,37 +1,21 @@
 """The program `canbusd`: where it is, and what it says of a record."""
 
-import json
 import os
 import shutil
 import subprocess
-from collections.abc import Iterator
-from importlib import metadata
+from collections.abc import Sequence
 from pathlib import Path
-from typing import Optional, Union
-from urllib.parse import urlsplit
-from urllib.request import url2pathname
+from typing import NoReturn, Optional, Union
 
 
 class ProgramNotFound(FileNotFoundError):
     """There is no program canbusd where it is looked for."""
 
 
-def package_folders() -> Iterator[Path]:
-    """Yields the folder `python` that the package is in, and the one that pip installed it from."""
-    yield Path(__file__).resolve().parent.parent.parent
-    try:
-        origin = json.loads(metadata.distribution("canbusd").read_text("direct_url.json") or "{}")
-    except (metadata.PackageNotFoundError, ValueError):
-        return
-    url = urlsplit(str(origin.get("url")))
-    if url.scheme == "file":
-        yield Path(url2pathname(url.path))
-
-
 def find_program() -> str:
-    """Returns the path of the program: `$CANBUSD`, else `./canbusd` of the clone, else canbusd on the PATH.
+    """Returns the path of the program: `$CANBUSD`, else that of the package, of its clone, or on the PATH.
 
-    The clone is the one that the package is in, or that `pip install ./python` installed it from.
+    A wheel has the program in the package. Where the package is in a clone, it is `./canbusd` of that.
     """
     given = os.environ.get("CANBUSD")
     if given:
@@ -39,14 +23,27 @@ def find_program() -> str:
         if found is None:
             raise ProgramNotFound(f"CANBUSD names no program: {given}")
         return os.path.abspath(found)
-    for folder in package_folders():
-        launcher = folder.parent / "canbusd"
-        if launcher.is_file() and (folder.parent / "crates.txt").is_file():
-            return str(launcher)
+    package = Path(__file__).resolve().parent
+    packed, clone = package / "program" / "canbusd", package.parent.parent.parent
+    if packed.is_file():
+        return str(packed)
+    if (clone / "canbusd").is_file() and (clone / "crates.txt").is_file():
+        return str(clone / "canbusd")
     found = shutil.which("canbusd")
     if found is None:
-        raise ProgramNotFound("canbusd is not on the PATH: install it, or set CANBUSD to the path of the program")
+        raise ProgramNotFound(
+            "no program canbusd: this package was installed without it and it is not on the PATH; install the wheel, "
+            "or set CANBUSD to the path of the program"
+        )
     return found
+
+
+def run_program(words: Sequence[str]) -> NoReturn:
+    """Becomes the program with these words; a server by the launcher beside it, which ends it at Ctrl-C."""
+    program = find_program()
+    launcher = os.path.join(os.path.dirname(program), "serve")
+    command = [launcher, program, *words] if words[0] == "serve" and os.path.isfile(launcher) else [program, *words]
+    os.execv(command[0], command)
 
 
 def audited(path: Union[str, "os.PathLike[str]"]) -> str:

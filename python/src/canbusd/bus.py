@@ -19,7 +19,15 @@ from can.bus import BusABC, BusState
 from can.exceptions import CanInitializationError, CanOperationError, CanTimeoutError
 from can.message import Message
 
-from canbusd._connection import DEFAULT_ADDRESS, Connection, NoAnswer, SessionRefused, parse_address
+from canbusd._connection import (
+    DEFAULT_ADDRESS,
+    LONGEST_POLL,
+    POLL,
+    Connection,
+    NoAnswer,
+    SessionRefused,
+    parse_address,
+)
 from canbusd._protocol import (
     ErrorCounters,
     Filters,
@@ -48,8 +56,6 @@ BUS_STATES = {
 TRUTHS = {"1": True, "true": True, "yes": True, "on": True, "0": False, "false": False, "no": False, "off": False}
 # What an address is where nobody listens: of TCP, and a Unix path that is not there.
 NO_SERVER = (ConnectionRefusedError, FileNotFoundError)
-# Seconds between two looks at a full transmit queue: at first, and at most.
-POLL, LONGEST_POLL = 0.0002, 0.01
 
 
 def truth(name: str, value: object) -> bool:

@@ -3,7 +3,10 @@
 import re
 from collections.abc import Callable, Sequence
 from dataclasses import dataclass, field
-from typing import Optional, Protocol, TypeVar, Union
+from typing import TYPE_CHECKING, Optional, Protocol, TypeVar, Union
+
+if TYPE_CHECKING:
+    from can.message import Message
 
 EXTENDED, REMOTE, ERROR = 0x80000000, 0x40000000, 0x20000000
 # The same bit in the identifier word of a filter.
@@ -110,6 +113,22 @@ class Frame:
     def meaning(self) -> str:
         """What an error message frame says, in words; the empty text for another frame."""
         return meaning(str(self))
+
+    def message(self, channel: Optional[str] = None) -> "Message":
+        """Returns the message of python-can, such as a bus sends."""
+        from can.message import Message
+
+        return Message(channel=channel, **vars(self))
+
+
+def log_line(name: str, frame: Frame) -> str:
+    """Returns the line of a log, as `candump -L` writes it: `(0000000001.000000) can0 123#1122`."""
+    return f"({frame.timestamp:017.6f}) {name} {frame}"
+
+
+def described_line(name: str, frame: Frame) -> str:
+    """Returns the line of a log, in which an error message frame is followed by what it says in words."""
+    return f"{log_line(name, frame)}  {frame.meaning}".rstrip()
 
 
 class MessageLike(Protocol):

@@ -21,16 +21,13 @@ def read_log(path: Path) -> "list[Message]":
 
     Unlike python-can's reader it keeps the classes of error message frames.
     """
-    from can.message import Message
-
     messages = []
     with open(path, encoding="ascii") as file:
         for number, line in enumerate(file, 1):
             words = LOG_LINE.fullmatch(line.rstrip("\n"))
             if not words:
                 raise ValueError(f"{os.fspath(path)}: line {number} is no frame: {shown(line)}")
-            frame = Frame.parse(words[3], float(words[1]))
-            messages.append(Message(channel=words[2], **vars(frame)))
+            messages.append(Frame.parse(words[3], float(words[1])).message(words[2]))
     return messages
 
 

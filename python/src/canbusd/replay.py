@@ -179,9 +179,9 @@ class Step:
     number: int
     text: str
     verdict: str
-    accepted: list[int]
-    off: list[int]
-    hit: list[int]
+    accepted: Sequence[int]
+    off: Sequence[int]
+    hit: Sequence[int]
     #: The frame of each interface that takes part.
     contenders: list[tuple[int, WireFrame]]
     #: After the step: transmit and receive count of each interface.
@@ -205,6 +205,7 @@ class Replay:
         self.frames: dict[str, WireFrame] = {}
         #: What bus off took out of a transmit queue, by the step.
         self.lost: dict[int, list[Pending]] = {}
+        self.counts: list[Counts] = [(0, 0)] * record.ifaces
         self.attempts = self.idle = 0
         # How many attempts were idle since the last step.
         self.idle_since = 0
@@ -224,8 +225,9 @@ class Replay:
 
     def open_socket(self, number: str) -> Optional[Socket]:
         """The socket of this number, if it is open."""
-        if int(number) < len(self.sockets):
-            socket = self.sockets[int(number)]
+        place = int(number)
+        if place < len(self.sockets):
+            socket = self.sockets[place]
             return socket if socket.closed_after is None else None
         return None
 
@@ -322,6 +324,7 @@ class Replay:
         """Restarts an interface."""
         step = self.begin("restart", entry, moment, number)
         self.ifaces[number].restart()
+        self.count_errors()
         self.post_error(number, 0x100, bytes(8))
         self.end(step)
 
@@ -361,14 +364,15 @@ class Replay:
         sent = self.ifaces[winner].waiting[0]
         step = self.begin("", entry, moment, winner)
         step.number, step.text, step.verdict, step.contenders = sent.number, sent.frame.text, verdict, contenders
-        before = [(iface.tec, iface.rec) for iface in self.ifaces]
+        before = self.counts
         receivers = [i for i, iface in enumerate(self.ifaces) if i != winner and not iface.is_off()]
         self.judge(step, receivers)
         self.leave_queue(step)
         self.post_frame(step, sent)
-        for number in range(len(self.ifaces)):
-            self.post_fault(step, number, number in receivers)
-            self.post_state(number, before[number])
+        if self.count_errors() or self.record.reporting:
+            for number in range(len(self.ifaces)):
+                self.post_fault(step, number, number in receivers)
+                self.post_state(number, before[number])
         self.end(step)
         return [
             "tried",
@@ -402,7 +406,7 @@ class Replay:
             self.ifaces[i].receive_error()
         for i in good_ones:
             self.ifaces[i].good_reception()
-        step.off = [step.iface] if winner.is_off() else []
+        step.off = (step.iface,) if winner.is_off() else ()
 
     def leave_queue(self, step: Step) -> None:
         """A frame that is done leaves its queue; a winner that goes off loses all of its frames."""
@@ -419,7 +423,7 @@ class Replay:
     def post_frame(self, step: Step, sent: Pending) -> None:
         """Puts the frame to the sockets where it was accepted, and looped back."""
         looped = [step.iface] if step.kind == "done" and sent.loops_back else []
-        for number in sorted(step.accepted + looped):
+        for number in sorted([*step.accepted, *looped]):
             for socket in self.open_sockets[number]:
                 if socket.passes(sent.frame) and (socket is not sent.socket or socket.options["recvown"]):
                     self.put(Delivery(socket, len(self.steps), step.text, step.iface, step.number, step.moment))
@@ -475,11 +479,19 @@ class Replay:
         self.moment = moment
         waiting = [len(one.waiting) for one in self.ifaces]
         idle, self.idle_since = self.idle_since, 0
-        return Step(kind, entry, moment, iface, self.attempts, 0, "", "", [], [], [], [], [], waiting, idle)
+        return Step(kind, entry, moment, iface, self.attempts, 0, "", "", (), (), (), [], [], waiting, idle)
+
+    def count_errors(self) -> bool:
+        """Takes the error counts of the interfaces; whether one has changed. Steps that change none share a list."""
+        counts = [(iface.tec, iface.rec) for iface in self.ifaces]
+        if counts == self.counts:
+            return False
+        self.counts = counts
+        return True
 
     def end(self, step: Step) -> None:
         """Keeps a step that has happened."""
-        step.counts = [(iface.tec, iface.rec) for iface in self.ifaces]
+        step.counts = self.counts
         self.steps.append(step)
         self.attempts += step.kind != "restart"
 

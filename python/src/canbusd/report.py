@@ -1,4 +1,11 @@
-"""Makes a page that shows a run: what its replay gives as columns of numbers, in one file with its style and script."""
+"""Makes a page that shows a run: what its replay gives as columns of numbers, in one file with its style and script.
+
+With a file of messages, as `--dbc` names one, the header of the data has two objects more, by the places of frames in
+`texts` as `meanings` is: `messages`, the name of the message of each frame that the file knows, and `signals`, for each
+of these a list of [signal, value, unit]. A value is a number, or a text where the file has names for numbers; a unit is
+a text, empty where there is none. A frame that is shorter than its message has the empty list. Without a file both
+objects are empty.
+"""
 
 import base64
 import functools
@@ -10,11 +17,12 @@ import sys
 import zlib
 from array import array
 from collections.abc import Iterable, Sequence
-from typing import Any
+from typing import Any, Optional
 
-from canbusd.frames import meaning
+from canbusd.frames import Frame, meaning
 from canbusd._protocol import STATES
 from canbusd.replay import Delivery, Replay, Socket, Step
+from canbusd.signals import Database
 from canbusd.story import Event, events_of, facts_of, heading_of, refused_sends, verdict_words
 
 # By their numbers on the page.
@@ -223,6 +231,17 @@ def socket_of(socket: Socket) -> Json:
     }
 
 
+def decoded_of(texts: Iterable[str], database: Optional[Database]) -> Json:
+    """The messages and the signals of the frames that the file knows, by the places of the frames."""
+    messages: Json = {}
+    signals: Json = {}
+    for place, text in enumerate(texts):
+        decoded = database.decode(Frame.parse(text)) if database is not None and text else None
+        if decoded is not None:
+            messages[str(place)], signals[str(place)] = decoded.message, decoded.signals
+    return {"messages": messages, "signals": signals}
+
+
 def event_of(event: Event, places: Sequence[int]) -> Column:
     """An event: its place, its kind, its interface and its words."""
     return [places[event.step] if event.step >= 0 and places else 0, event.kind, event.iface, event.words]
@@ -236,7 +255,7 @@ def lost_frames(run: Replay, places: Sequence[int], texts: Texts) -> Json:
     }
 
 
-def data_of(run: Replay, names: Sequence[str], title: str, most_items: int) -> str:
+def data_of(run: Replay, names: Sequence[str], title: str, most_items: int, database: Optional[Database] = None) -> str:
     """The data of a page, as its script reads it."""
     block, texts, verdicts = Block(), Texts(), Texts()
     # Place 0 is no error message frame.
@@ -264,14 +283,18 @@ def data_of(run: Replay, names: Sequence[str], title: str, most_items: int) -> s
         "bits": bits_of(run),
         "texts": texts.all(),
         "meanings": {place: meaning(text) for place, text in enumerate(texts.all()) if text and meaning(text)},
+        **decoded_of(texts.all(), database),
         "verdicts": [verdict_words(verdict, names) for verdict in verdicts.all()],
     }
     return block.packed(header)
 
 
-def page(run: Replay, names: Sequence[str], title: str, most_items: int = 1000000) -> str:
+def page(
+    run: Replay, names: Sequence[str], title: str, most_items: int = 1000000, database: Optional[Database] = None
+) -> str:
     """Returns the page of a run, with its first items."""
-    return filled("page.html", ["core.js", "lanes.js", "lists.js", "page.js"]).replace("/*RUN*/", data_of(run, names, title, most_items))
+    data = data_of(run, names, title, most_items, database)
+    return filled("page.html", ["core.js", "lanes.js", "lists.js", "page.js"]).replace("/*RUN*/", data)
 
 
 def filled(name: str, scripts: Sequence[str]) -> str:

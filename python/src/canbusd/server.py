@@ -11,12 +11,13 @@ import re
 import select
 import subprocess
 import time
-from collections.abc import Mapping
+from collections.abc import Mapping, Sequence
 from pathlib import Path
 from typing import TYPE_CHECKING, Any, NamedTuple, Optional, Union
 
 from canbusd._program import audited
 from canbusd._process import RUNNING, ProgramRun, option_words
+from canbusd.expectations import Expectations
 from canbusd.faults import Script, script_text
 from canbusd.log import read_log
 from canbusd.record import Record, read_record
@@ -24,6 +25,7 @@ from canbusd.record import Record, read_record
 if TYPE_CHECKING:
     from can.message import Message
 
+    from canbusd._observer import Observer
     from canbusd.bus import CanbusdBus
 
 #: Seconds in which a server has to listen, and to end. Long records take their time.
@@ -75,13 +77,14 @@ def bus_words(
     return by_bus
 
 
-class Server(ProgramRun):
+class Server(Expectations, ProgramRun):
     """`canbusd serve` with these buses, each the names of its interfaces: ``Server("can0,can1", "car0")``.
 
     The options are those of the program. ``faults`` is a script for the one bus there is (:class:`canbusd.Faults`, a
     path or a text), or a dict of them by the name of a bus's first interface. ``out`` is a folder for logs and records;
-    without it they are kept as long as the server is. The server runs when the constructor returns, and is ended by
-    :meth:`stop`, by the end of a ``with`` block, and by the end of this process, whatever ends it.
+    without it they are kept as long as the server is. ``observe`` names interfaces whose frames :meth:`expect` looks
+    at. The server runs when the constructor returns, and is ended by :meth:`stop`, by the end of a ``with`` block, and
+    by the end of this process, whatever ends it.
     """
 
     def __init__(
@@ -98,6 +101,7 @@ class Server(ProgramRun):
         limit: int = 1_000_000,
         out: Union[str, "os.PathLike[str]", None] = None,
         listen: str = "127.0.0.1:0",
+        observe: Union[str, Sequence[str]] = (),
     ) -> None:
         if not buses or not all(isinstance(bus, str) for bus in buses):
             raise ValueError(f"buses are given by the names of their interfaces, such as 'can0,can1', not {buses!r}")
@@ -111,14 +115,20 @@ class Server(ProgramRun):
             rxqueue=rxqueue,
             limit=limit,
         )
+        observed = tuple(observe.split(",") if isinstance(observe, str) else observe)
         super().__init__(out)
         self._txqueue = txqueue
         self._by_bus = bus_words(buses, faults, self._folder)
+        self._observer: Optional[Observer] = None
+        for name in observed:
+            self._first(name)
         self._result: Optional[Result] = None
         words = ["--until-eof", "--listen", listen, *options, "--out", str(self._out)]
         self._start("serve", *words, "--", *(bus[-1] for bus in self._by_bus.values()))
         #: Where clients connect: HOST:PORT, or a Unix path.
         self.address = self._listening()
+        if observed:
+            self._observing(observed)
 
     def bus(self, channel: str, **kwargs: Any) -> "CanbusdBus":
         """Returns a bus of python-can on the interface of this name; the arguments are those of CanbusdBus."""
@@ -134,6 +144,7 @@ class Server(ProgramRun):
         :raises ServerError: where the server ended with a fault, or was killed by others
         """
         if self._result is None:
+            self._end_observer()
             self._close_input()
             status, written = self._ended()
             self._result = Result(status, {name: int(number) for name, number in ENTRIES.findall(written)})
@@ -147,6 +158,7 @@ class Server(ProgramRun):
             self._signal()
             self._close_input()
             self._result = Result(self._ended()[0], {})
+            self._end_observer()
         return self._result
 
     def log(self, name: Optional[str] = None) -> list["Message"]:
@@ -170,6 +182,18 @@ class Server(ProgramRun):
         from canbusd._summary import write_page
 
         return Path(write_page(self.record(name), self._file(name, "html")))
+
+    def _observing(self, observed: Sequence[str] = ()) -> "Observer":
+        """The sessions of the server's own, of which those on these interfaces receive frames."""
+        from canbusd._observer import Observer
+
+        if self._observer is None:
+            self._observer = Observer(self.bus, observed)
+        return self._observer
+
+    def _end_observer(self) -> None:
+        if self._observer is not None:
+            self._observer.close()
 
     def _first(self, name: Optional[str]) -> str:
         """The first interface of the bus that has this one."""

@@ -10,8 +10,9 @@ from typing import Any, Optional
 
 from canbusd._protocol import ALL_CLASSES
 from canbusd.bus import CanbusdBus
-from canbusd.commands import add_address
-from canbusd.frames import ERROR, EXTENDED, INVERTED, Frame, frame_like
+from canbusd.commands import add_address, add_database, database_of
+from canbusd.frames import ERROR, EXTENDED, INVERTED, Frame, frame_like, log_line
+from canbusd.signals import Database
 
 EPILOG = """\
 An interface is a name, followed by filters as candump has them: ID:MASK, ID~MASK for all others, #MASK for classes of
@@ -21,6 +22,7 @@ words.
   python3 -m canbusd dump -e can0
   python3 -m canbusd dump can0,123:7FF can1,#FFFFFFFF
   python3 -m canbusd dump -L can0 can1 > run.log
+  python3 -m canbusd dump --dbc car.dbc can0
 """
 FILTER = re.compile("([0-9A-Fa-f]{1,8})([:~])([0-9A-Fa-f]{1,8})")
 # How many frames of an interface are printed before the others have their turn.
@@ -30,18 +32,22 @@ BATCH = 1000
 class View:
     """How frames are written."""
 
-    def __init__(self, options: argparse.Namespace, width: int) -> None:
+    def __init__(self, options: argparse.Namespace, width: int, database: Optional[Database] = None) -> None:
         self.is_log, self.explains = options.log, options.explain
+        self.database = database
         self.width, self.has_seen_extended = width, False
         self.stamp: Callable[[float], str] = STAMPS[options.timestamps](options.timestamps)
 
     def lines(self, name: str, frame: Frame) -> list[str]:
         """Returns the lines of a frame."""
         if self.is_log:
-            return [f"({frame.timestamp:017.6f}) {name} {frame}"]
+            return [log_line(name, frame)]
         lines = [f" {self.stamp(frame.timestamp)} {name:>{self.width}}  {self.long(frame)}"]
         if self.explains and frame.is_error_frame:
             lines.append(f"\t{frame.meaning or 'no class that canbusd knows'}")
+        decoded = self.database.decode(frame) if self.database is not None else None
+        if decoded is not None:
+            lines.append(f"\t{decoded}")
         return lines
 
     def long(self, frame: Frame) -> str:
@@ -119,6 +125,7 @@ def add_arguments(parser: argparse.ArgumentParser) -> None:
     parser.add_argument(
         "-T", dest="timeout", type=float, metavar="MS", help="end after so many milliseconds without a frame"
     )
+    add_database(parser)
     add_address(parser)
 
 
@@ -171,8 +178,10 @@ class Drops:
 
 def run(options: argparse.Namespace) -> None:
     """Prints frames as they come."""
+    if options.log and options.dbc:
+        raise ValueError("--dbc does not go with -L: a log has frames only")
+    view = View(options, max(len(text.split(",")[0]) for text in options.interfaces), database_of(options))
     buses = [opened(text, options) for text in options.interfaces]
-    view = View(options, max(len(name) for name, _ in buses))
     drops = Drops(buses)
     left = sys.maxsize if options.count is None else options.count
     timeout = float("inf") if options.timeout is None else options.timeout / 1000

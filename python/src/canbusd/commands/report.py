@@ -8,6 +8,7 @@ from collections.abc import Iterable
 
 from canbusd import _summary, drawings
 from canbusd._command import add_record, replayed
+from canbusd.commands import add_database, database_of
 
 EPILOG = """\
 The page is one file, which needs no network. It shows the attempts by interface, with winner, outcome and faults;
@@ -24,6 +25,7 @@ MOST_EVENTS = 1000
 def add_arguments(parser: argparse.ArgumentParser) -> None:
     """Adds the words of the command."""
     add_record(parser)
+    add_database(parser)
     parser.add_argument(
         "--items", type=int, default=1000000, metavar="N", help="items on the page at most (default 1000000)"
     )
@@ -53,7 +55,9 @@ def run(options: argparse.Namespace) -> None:
 
     if isinstance(sys.stdout, io.TextIOWrapper):
         sys.stdout.reconfigure(encoding="utf-8")
-    sys.stdout.write(page(record.replay, record.names, os.path.basename(options.record), max(options.items, 0)))
+    sys.stdout.write(
+        page(record.replay, record.names, os.path.basename(options.record), max(options.items, 0), database_of(options))
+    )
 
 
 def write(lines: Iterable[str]) -> None:

@@ -3,12 +3,13 @@
 import argparse
 import re
 import sys
-
-from can.message import Message
+from collections.abc import Iterable, Iterator, Mapping
+from typing import Optional
 
 from canbusd.bus import CanbusdBus
-from canbusd.commands import NOTHING, add_address
+from canbusd.commands import NOTHING, add_address, add_database, database_of
 from canbusd.frames import BadFrame, Frame
+from canbusd.signals import Database, Value
 
 EPILOG = """\
 frames:
@@ -16,11 +17,15 @@ frames:
   00000123#          29 bits in 8 digits
   123#R, 123#R4      remote frames of length 0 and 4
   123##0DEADBEEF     an FD frame; canbusd has no bit rate switch, so other flags than 0 are left out
+  Engine.speed=120   with --dbc, a message with this signal; the words of one message that follow each other are one
+                     frame, and signals that are not given have their initial value
 
 The command ends once the bus has accepted the frames. What becomes of them is in the log and the record.
 
   python3 -m canbusd send can0 123#DEADBEEF 00000123#R4
+  python3 -m canbusd send --dbc car.dbc can0 Engine.speed=120.5 Engine.gear=Drive
 """
+SIGNAL = re.compile(r"([A-Za-z_]\w*)\.([A-Za-z_]\w*)=(.+)")
 
 
 def add_arguments(parser: argparse.ArgumentParser) -> None:
@@ -30,7 +35,31 @@ def add_arguments(parser: argparse.ArgumentParser) -> None:
     parser.add_argument(
         "--timeout", type=float, default=1.0, metavar="S", help="seconds to wait for room in the queue (default 1)"
     )
+    add_database(parser)
     add_address(parser)
+
+
+def frames_of_words(words: Iterable[str], database: Optional[Database]) -> Iterator[Frame]:
+    """Yields the frames that the words of the command line name."""
+    message, values = "", dict[str, Value]()
+    for text in words:
+        signal = SIGNAL.fullmatch(text)
+        if message and (not signal or signal[1] != message or signal[2] in values):
+            yield frame_of_signals(message, values, database)
+            message, values = "", {}
+        if signal:
+            message, values[signal[2]] = signal[1], signal[3]
+        else:
+            yield frame_of_word(text)
+    if message:
+        yield frame_of_signals(message, values, database)
+
+
+def frame_of_signals(message: str, values: Mapping[str, Value], database: Optional[Database]) -> Frame:
+    """The frame of a message with these values."""
+    if database is None:
+        raise ValueError(f"{message}.{next(iter(values))}: the names of signals need --dbc FILE")
+    return database.encode(message, values)
 
 
 def frame_of_word(text: str) -> Frame:
@@ -48,20 +77,8 @@ def frame_of_word(text: str) -> Frame:
 
 def run(options: argparse.Namespace) -> None:
     """Sends the frames."""
-    frames = [frame_of_word(text) for text in options.frames]
+    frames = list(frames_of_words(options.frames, database_of(options)))
     has_fd = any(frame.is_fd for frame in frames)
     with CanbusdBus(options.interface, NOTHING, address=options.address, fd=has_fd, error_frames=False) as bus:
         for frame in frames:
-            bus.send(message_of(frame), timeout=options.timeout)
-
-
-def message_of(frame: Frame) -> Message:
-    """The message of python-can for a frame."""
-    return Message(
-        arbitration_id=frame.arbitration_id,
-        data=frame.data,
-        dlc=frame.dlc,
-        is_extended_id=frame.is_extended_id,
-        is_remote_frame=frame.is_remote_frame,
-        is_fd=frame.is_fd,
-    )
+            bus.send(frame.message(), timeout=options.timeout)

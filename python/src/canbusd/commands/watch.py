@@ -15,10 +15,11 @@ from typing import Any, Optional
 from can.exceptions import CanOperationError
 
 from canbusd.bus import CanbusdBus, seconds
-from canbusd.commands import add_address
 from canbusd._protocol import Stats
+from canbusd.commands import add_address, add_database, database_of
 from canbusd.frames import SENDING, Frame, frame_like
 from canbusd.report import filled
+from canbusd.signals import Database
 
 EPILOG = """\
 The page is served on 127.0.0.1 only. It shows how many frames each interface sent, their error counts with the limits,
@@ -60,7 +61,7 @@ class Board:
         with self._changed:
             self._ticks.append(tick)
             for row in frames:
-                self._kept[0 if not row[3] else 1 if row[3].startswith("bus error") else 2].append(row)
+                self._kept[0 if is_frame(row) else 1 if row[3].startswith("bus error") else 2].append(row)
             self._last = self._last[0] + 1, {"ticks": [tick], "frames": frames}
             self._changed.notify_all()
 
@@ -102,10 +103,11 @@ class Pages(ThreadingHTTPServer):
     # A connection that asks nothing holds up no end.
     daemon_threads = True
 
-    def __init__(self, port: int, board: Board, names: Sequence[str], source: str) -> None:
+    def __init__(self, port: int, board: Board, names: Sequence[str], source: str, has_database: bool) -> None:
         super().__init__(("127.0.0.1", port), Request)
         self.board = board
-        data = json.dumps({"names": list(names), "source": source}).replace("<", "\\u003c")
+        known = {"names": list(names), "source": source, "isDecoded": has_database}
+        data = json.dumps(known).replace("<", "\\u003c")
         self.page = filled("watch.html", ["core.js", "lanes.js", "lists.js", "watch.js"]).replace("/*RUN*/", data).encode()
 
     @property
@@ -114,10 +116,10 @@ class Pages(ThreadingHTTPServer):
         return f"http://127.0.0.1:{self.server_address[1]}/"
 
 
-def opened(port: int, board: Board, names: Sequence[str], source: str) -> Pages:
+def opened(port: int, board: Board, names: Sequence[str], source: str, has_database: bool) -> Pages:
     """Returns the pages on this port; the fault of a port that can't be had names it."""
     try:
-        return Pages(port, board, names, source)
+        return Pages(port, board, names, source, has_database)
     except OSError as fault:
         raise OSError(fault.errno, fault.strerror, f"127.0.0.1:{port}") from None
 
@@ -167,7 +169,8 @@ class Request(BaseHTTPRequestHandler):
 class Watcher:
     """The sessions on the interfaces."""
 
-    def __init__(self, names: Sequence[str], address: Optional[str]) -> None:
+    def __init__(self, names: Sequence[str], address: Optional[str], database: Optional[Database] = None) -> None:
+        self.database = database
         self.buses = [CanbusdBus(name, address=address, fd=True) for name in names]
         self.senders = Senders()
 
@@ -202,7 +205,7 @@ class Watcher:
         return stats
 
     def take(self, number: int, rows: dict[tuple[float, str, int], Row], faults: list[int]) -> None:
-        """Takes what an interface has received. A row is moment, frame, interfaces, what an error frame says, sender."""
+        """Takes what an interface has received. A row is moment, frame, interfaces, what it says, sender."""
         for _ in range(MOST_FRAMES):
             message = self.buses[number].recv(0)
             if message is None:
@@ -213,8 +216,13 @@ class Watcher:
                 faults[kind] += 1
             # An error frame is the interface's own; a frame that several have received is one row.
             key = frame.timestamp, str(frame), number if frame.is_error_frame else -1
-            row = rows.setdefault(key, [frame.timestamp, str(frame), 0, frame.meaning, -1])
+            row = rows.setdefault(key, [frame.timestamp, str(frame), 0, self.meaning(frame), -1])
             row[2] |= 1 << number
+
+    def meaning(self, frame: Frame) -> str:
+        """What an error message frame says, or one that a file knows."""
+        decoded = self.database.decode(frame) if self.database is not None else None
+        return str(decoded) if decoded is not None else frame.meaning
 
 
 class Senders:
@@ -237,13 +245,13 @@ class Senders:
 
     def wants(self, rows: Iterable[Row]) -> bool:
         """Whether there is a frame whose sender another look could show."""
-        possible = (self.possible.get(identifier_of(text)) for _, text, _, says, _ in rows if not says)
+        possible = (self.possible.get(identifier_of(text)) for _, text, *_ in filter(is_frame, rows))
         return any(one is None or len(one) > 1 for one in possible)
 
     def add(self, rows: Iterable[Row], done: list[int]) -> None:
         """Learns from the rows and the counts after them."""
         grown = [after - before for after, before in zip(done, self.done or done)]
-        frames = {(moment, text) for moment, text, _, says, _ in rows if not says}
+        frames = {(moment, text) for moment, text, *_ in filter(is_frame, rows)}
         new = [identifier_of(text) for _, text in frames - self.seen] if self.done else []
         before = self.excess[-1]
         self.done, self.seen = done, frames
@@ -269,8 +277,13 @@ class Senders:
     def named(self, rows: dict[tuple[float, str, int], Row]) -> list[Row]:
         """The rows, with senders as far as they are known."""
         for row in rows.values():
-            row[4] = -1 if row[3] else self.sender(row[1])
+            row[4] = self.sender(row[1])
         return list(rows.values())
+
+
+def is_frame(row: Row) -> bool:
+    """Whether a row is not an error message frame, whose first digit has bit 29."""
+    return not (row[1][8:9] == "#" and row[1][0] in "23")
 
 
 def identifier_of(text: str) -> str:
@@ -300,6 +313,7 @@ def add_arguments(parser: argparse.ArgumentParser) -> None:
         metavar="S",
         help="seconds between two looks at the counts (default 0.25)",
     )
+    add_database(parser)
     add_address(parser)
 
 
@@ -309,8 +323,8 @@ def run(options: argparse.Namespace) -> None:
     if not 0 <= options.port <= 65535:
         raise ValueError(f"--port is a number from 0 to 65535, not {options.port}")
     names: list[str] = options.interfaces
-    watcher, board = Watcher(names, options.address), Board()
-    with opened(options.port, board, names, watcher.buses[0].address) as pages:
+    watcher, board = Watcher(names, options.address, database_of(options)), Board()
+    with opened(options.port, board, names, watcher.buses[0].address, watcher.database is not None) as pages:
         threading.Thread(target=pages.serve_forever, daemon=True).start()
         print(f"watching {', '.join(names)} on {pages.url}", flush=True)
         try:

@@ -165,14 +165,15 @@ class NodeLane {
 // A single column as an area or a curve, with marks where something is.
 class CurveLane {
   constructor(name, numbers, words, more = {}) {
-    Object.assign(this, { name, numbers, words, height: 58, marks: null, most: Math.max(1, numbers.most) }, more);
+    Object.assign(this, { name, numbers, words, height: 58, marks: null, hasArea: true, most: Math.max(1, numbers.most) }, more);
   }
   draw(plot, top) {
     const high = this.height - 18;
-    area(plot, this.numbers, top + 8, high, this.most, theme.queue);
+    if (this.hasArea) area(plot, this.numbers, top + 8, high, this.most, theme.queue);
     curve(plot, this.numbers, top + 8, high, this.most, theme.tec);
     across(plot, top + this.height - 6, theme.line);
     if (!plot.isNarrow) write(plot.pen, this.scale || grouped(this.most), plot.width + 6, top + 10, theme.soft);
+    if (!plot.isNarrow && this.foot) write(plot.pen, this.foot, plot.width + 6, top + 6 + high, theme.soft);
     if (this.marks) this.drawMarks(plot, top);
   }
   drawMarks(plot, top) {
@@ -233,9 +234,15 @@ function rounded(from, to, most, least) {
 function buildGutter() {
   const axisWords = element("div", time.axisWords.map(text => element("div", text)), { className: "axis" });
   at("gutter").replaceChildren(axisWords, ...lanes.map(lane => {
-    const name = element(lane.canFold ? "button" : "span", lane.name, { className: "name", title: lane.title || lane.name });
+    const isButton = lane.canFold || lane.canGo;
+    const name = element(isButton ? "button" : "span", lane.name, { className: "name", title: lane.title || lane.name });
+    if (isButton) name.type = "button";
+    if (lane.canGo) {
+      name.classList.add("goes");
+      name.title += "; choose to take the lane away";
+      name.onclick = () => { lanes = lanes.filter(one => one !== lane); buildGutter(); redraw(); };
+    }
     if (lane.canFold) {
-      name.type = "button";
       name.setAttribute("aria-expanded", !lane.isFolded);
       name.title = `${lane.name}: ${lane.isFolded ? "show" : "fold"} counters and queue`;
       name.onclick = () => { lane.isFolded = !lane.isFolded; buildGutter(); redraw(); };

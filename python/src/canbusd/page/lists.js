@@ -3,8 +3,9 @@
 // What browsers can scroll through at most; longer lists scroll faster.
 const MOST_ROOM = 8e6;
 
-// A list of which only the rows in view are made. A column is a heading, a width, and whether it has numbers ("n") or is
-// said with its heading where the page is narrow ("h"). The arrow keys move in a list, Enter chooses.
+// A list of which only the rows in view are made. A column is a heading, a width, and whether it has numbers ("n"), is
+// said with its heading where the page is narrow ("h"), or may be wrapped there ("w"). The arrow keys move in a list,
+// Enter chooses.
 class Rolling {
   constructor(id, columns, cellsOf, choose = null) {
     Object.assign(this, { columns, cellsOf, choose, list: [], active: 0, rows: new Map() });
@@ -77,10 +78,12 @@ class Rolling {
   }
   row(place) {
     const one = this.list[place], cells = this.cellsOf(one);
-    const row = element("div", cells.map((content, k) => this.cell("gridcell", this.columns[k], content)), { className: "row" });
+    // Where a row is wrapped it is parted at the blanks.
+    const made = cells.flatMap((content, k) => [this.cell("gridcell", this.columns[k], content), " "]);
+    const row = element("div", made, { className: "row" });
     row.setAttribute("role", "row");
     row.setAttribute("aria-rowindex", place + 2);
-    row.title = cells.map(content => content.textContent ?? content).join("  ");
+    row.title = row.textContent;
     if (!this.choose) return row;
     row.dataset.place = place;
     row.onclick = () => { this.active = place; this.choose(one); };

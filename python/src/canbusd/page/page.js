@@ -252,6 +252,56 @@ function socketLane(socket) {
 }
 const isCut = () => run.itemsInAll > items.step.length;
 
+// Signals, where the page has them: by their messages, a lane for each that is asked for.
+
+const signalsOf = place => run.signals[place] || [];
+const valueOf = (place, name) => signalsOf(place).find(([signal]) => signal === name)?.[1];
+function signalLane(message, name) {
+  const values = new Map(), count = steps.kind.length, of = new Float64Array(count).fill(NaN);
+  for (const [place, one] of Object.entries(run.messages)) {
+    const value = one === message ? valueOf(place, name) : undefined;
+    if (value !== undefined) values.set(Number(place), value);
+  }
+  const texts = [...new Set([...values.values()].filter(value => typeof value === "string"))];
+  let last = NaN, low = Infinity, high = -Infinity;
+  for (let step = 0; step < count; step++) {
+    const value = steps.kind[step] < 2 ? values.get(steps.frame[step]) : undefined;
+    if (value !== undefined) last = texts.length ? texts.indexOf(String(value)) : Number(value);
+    of[step] = last;
+    if (last < low) low = last;
+    if (last > high) high = last;
+  }
+  const unit = signalsOf([...values.keys()][0]).find(([signal]) => signal === name)[2];
+  const words = value => Number.isNaN(value) ? "none yet" : texts[value] ?? `${+value.toFixed(6)} ${unit}`.trim();
+  const part = value => Number.isNaN(value) ? 0 : Math.round((value - low) / (high - low || 1) * 9999) + 1;
+  return new CurveLane(name, new Numbers(Uint16Array.from(of, part)), step => words(of[step]), {
+    isSignal: true, most: 10000, hasArea: false, scale: words(high), foot: words(low), canGo: true,
+    title: `${message}.${name}: the last value that was sent`,
+  });
+}
+function toggleSignal(message, name) {
+  const title = signalTitle(message, name), rest = lanes.filter(lane => !lane.title?.startsWith(title));
+  lanes = rest.length < lanes.length ? rest : [...lanes, signalLane(message, name)];
+  buildGutter();
+  redraw();
+  showChosen();
+}
+const signalTitle = (message, name) => `${message}.${name}:`;
+function signalTable(step) {
+  const message = run.messages[steps.frame[step]];
+  if (!isAttempt(step) || message === undefined) return [];
+  const rows = signalsOf(steps.frame[step]).map(([name, value, unit]) => {
+    const isShown = lanes.some(lane => lane.title?.startsWith(signalTitle(message, name)));
+    const button = element("button", "curve", { type: "button", title: `${name} as a lane, or no longer` });
+    button.setAttribute("aria-pressed", isShown);
+    button.onclick = () => toggleSignal(message, name);
+    return [name, element("td", `${value} ${unit}`.trim(), { className: "number" }), element("td", button)];
+  });
+  const heads = ["signal", "value", ""];
+  return [element("h3", `Signals of ${message}`), rows.length ? element("table", rowsOf(heads, rows))
+    : element("p", "The frame is shorter than its message.")];
+}
+
 // The chosen step.
 
 function arbitration(step) {
@@ -344,7 +394,8 @@ function showChosen() {
   const step = view.step, title = placeWords(step);
   const entry = momentOf(step) && `, entry ${grouped(steps.entry[step])} of the record`;
   at("chosen").replaceChildren(element("h2", title[0].toUpperCase() + title.slice(1) + entry),
-    element("p", sentence(step)), ...eventsAt(step), ...isAttempt(step) ? [fieldList(step)] : [], countersAround(step),
+    element("p", sentence(step)), ...eventsAt(step), ...isAttempt(step) ? [fieldList(step)] : [], ...signalTable(step),
+    countersAround(step),
     ...arbitration(step), ...itemsOf(step));
   if (isAttempt(step)) at("number").value = attemptOf[step];
 }
@@ -361,15 +412,15 @@ function makeLists() {
     return list;
   };
   lists["tab-events"] = toStep("events",
-    [["attempt", "7ch", "n"], moment, ["kind", "11ch"], ["what", "minmax(0, 1fr)"]],
+    [["attempt", "7ch", "n"], moment, ["kind", "11ch"], ["what", "minmax(0, 1fr)", "w"]],
     ([step, kind, , words]) => [attemptCell(step), momentOf(step), kindCell(kind), words], event => event[0]);
   lists["tab-attempts"] = toStep("tried",
     [["attempt", "8ch", "n"], moment, ["sender", "minmax(6ch, 1fr)"], ["frame no.", "8ch", "n h"],
-      ["frame", "minmax(20ch, 2fr)"], ["outcome", "minmax(14ch, 1fr)"], ["fault", "minmax(9ch, 1.5fr)"],
-      ["accepted by", "minmax(9ch, 1.5fr)", "h"]], attemptCells, step => step);
+      ["frame", "minmax(20ch, 2fr)"], ["outcome", "minmax(14ch, 1fr)"], ["fault", "minmax(9ch, 1.5fr)", "w"],
+      ["accepted by", "minmax(9ch, 1.5fr)", "h w"]], attemptCells, step => step);
   lists["tab-items"] = toStep("items",
     [["attempt", "8ch", "n"], moment, ["socket", "6ch", "n h"], ["from", "minmax(6ch, 1fr)", "h"],
-      ["frame no.", "8ch", "n h"], ["frame", "minmax(20ch, 2fr)"], ["says", "minmax(0, 2fr)"],
+      ["frame no.", "8ch", "n h"], ["frame", "minmax(20ch, 2fr)"], ["says", "minmax(0, 2fr)", "w"],
       ["what became of it", "minmax(14ch, 1.5fr)"]], itemCells, item => items.step[item]);
   lists["tab-sockets"] = new Rolling("sockets",
     [["socket", "6ch", "n h"], ["node", "minmax(6ch, 1fr)"], ["capacity", "9ch", "n h"], ["queued", "9ch", "n h"],
@@ -388,15 +439,17 @@ function attemptCells(step) {
   const kind = steps.kind[step];
   if (kind === IDLE) return ["idle", "", "", "", times(steps.number[step], "idle attempt"), "", "", ""];
   if (kind === RESTART) return ["restart", momentOf(step), names[steps.iface[step]], "", "", outcome(kind), "", ""];
-  return [grouped(attemptOf[step]), momentOf(step), names[steps.iface[step]], grouped(steps.number[step]), textOf(step),
+  return [grouped(attemptOf[step]), momentOf(step), names[steps.iface[step]], grouped(steps.number[step]), [textOf(step), messageOf(steps.frame[step])],
     outcome(kind), faultOf(step) === "none" ? "" : faultOf(step), steps.accepted[step] ? listed(steps.accepted[step]) : ""];
 }
+const messageOf = place => run.messages[place] ? ` ${run.messages[place]}` : "";
 const outcome = kind => element("span", [mark(KINDS[kind]), KIND_WORDS[kind]]);
 function itemCells(item) {
   const step = items.step[item], error = items.error[item], words = FATE_WORDS[items.fate[item]];
   const sender = error ? run.sockets[items.socket[item]].iface : steps.iface[step];
   return [attemptCell(step), momentOf(step), String(items.socket[item]), names[sender],
-    error ? "" : grouped(steps.number[step]), error ? run.texts[error] : textOf(step), error ? run.meanings[error] || "" : "",
+    error ? "" : grouped(steps.number[step]), error ? run.texts[error] : textOf(step),
+    error ? run.meanings[error] || "" : run.messages[steps.frame[step]] || "",
     items.fate[item] === DROPPED ? badText(words) : words];
 }
 function chooseSocket(socket) {

@@ -1,6 +1,6 @@
 // The live page: ticks and frames as they come from `python3 -m canbusd watch`, on the time line of the page of a run.
 
-const { names, source } = JSON.parse(at("run").textContent);
+const { names, source, isDecoded } = JSON.parse(at("run").textContent);
 const MOST = 4000, MOST_TICKS = 2400, FOLLOWED = 60;
 // The kinds of events, the worst first.
 const EVENTS = ["bus off", "error passive", "error warning", "error active", "restarted", "no acknowledgement",
@@ -43,15 +43,17 @@ function takeTick(tick) {
   tick.wins = names.map((_, i) => [Math.max(0, tick.ifaces[i][SENT_DONE] - before.ifaces[i][SENT_DONE]), ...tick.faults[i]]);
   ticks.push(tick);
 }
+// The first digit of an error message frame has bit 29.
+const isError = text => /^[23].{7}#/.test(text);
 // A frame that an interface got later is the same row.
 function takeFrame(moment, text, seen, says, sender) {
-  const key = `${moment} ${text}`, known = says ? undefined : byKey.get(key);
+  const key = `${moment} ${text}`, known = isError(text) ? undefined : byKey.get(key);
   if (known && !(known.seen & seen)) {
     known.seen |= seen;
     return;
   }
   const frame = { key, moment, text, seen, says, sender };
-  if (says) {
+  if (isError(text)) {
     frame.kind = says.includes("no acknowledgement") ? "no acknowledgement" : says.split(",")[0];
     frame.iface = Math.log2(seen);
     events.push(frame);
@@ -165,10 +167,10 @@ function makeLists() {
     return list;
   };
   lists["tab-frames"] = make("frames", [["moment", "15ch", "n"], ["sender", "minmax(6ch, 1fr)", "h"],
-    ["frame", "minmax(22ch, 2fr)"], ["received by", "minmax(8ch, 2fr)", "h"]],
-    frame => [momentWords(frame.moment), senderOf(frame), frame.text, seenBy(frame)]);
+    ["frame", "minmax(22ch, 2fr)"], ["received by", "minmax(8ch, 2fr)", "h w"], ...isDecoded ? [["says", "minmax(0, 3fr)", "w"]] : []],
+    frame => [momentWords(frame.moment), senderOf(frame), frame.text, seenBy(frame), ...isDecoded ? [frame.says] : []]);
   lists["tab-events"] = make("events", [["moment", "15ch", "n"], ["node", "minmax(6ch, 12ch)"], ["kind", "18ch"],
-    ["what", "minmax(0, 1fr)"]], frame => [momentWords(frame.moment), names[frame.iface],
+    ["what", "minmax(0, 1fr)", "w"]], frame => [momentWords(frame.moment), names[frame.iface],
     isBad(frame.kind) ? element("span", frame.kind, { className: "bad" }) : frame.kind, frame.says]);
   lists["tab-identifiers"] = make("identifiers", [["identifier", "10ch", "n"], ["sender", "minmax(6ch, 1fr)", "h"],
     ["frames", "9ch", "n h"], ["ms since the one before", "22ch", "n h"], ["last", "minmax(20ch, 2fr)"], ["moment", "15ch", "n"]],
@@ -219,7 +221,7 @@ function showMoment() {
       .map(line => element("p", line)));
   }
   if (chosen?.text) {
-    const from = chosen.says ? `, of ${names[chosen.iface]}` : senderOf(chosen) && `, sent by ${senderOf(chosen)}`;
+    const from = chosen.kind ? `, of ${names[chosen.iface]}` : senderOf(chosen) && `, sent by ${senderOf(chosen)}`;
     made.push(element("p", [element("code", chosen.text), from]), chosen.says ? element("p", chosen.says) : "");
   }
   at("moment").replaceChildren(...made);

@@ -1,0 +1,148 @@
+"""A running server seen from inside a test: the states of its interfaces, and the frames that some of them see.
+
+    with Server("ecu,tester", observe="tester") as server:
+        ...
+        server.expect(id=0x123, within=1.0)
+        server.expect_state("ecu", "off")
+
+What an attempt was, and why it failed, is in the record at the end of the run; only what sessions get is seen here.
+"""
+
+import time
+from collections.abc import Callable
+from typing import TYPE_CHECKING, Optional, TypeVar
+
+from canbusd._connection import LONGEST_POLL, POLL
+from canbusd._protocol import STATES, ErrorCounters
+from canbusd.frames import described_line, frame_like
+
+if TYPE_CHECKING:
+    from can.message import Message
+
+    from canbusd._observer import Observer
+
+T = TypeVar("T")
+
+
+def wait_for(predicate: Callable[[], T], timeout: float) -> Optional[T]:
+    """Returns what the predicate returns once that is true; None if it is not within these seconds."""
+    deadline, pause = time.monotonic() + timeout, POLL
+    while True:
+        found = predicate()
+        if found:
+            return found
+        left = deadline - time.monotonic()
+        if left <= 0:
+            return None
+        time.sleep(min(pause, left))
+        pause = min(2 * pause, LONGEST_POLL)
+
+
+def matcher(
+    id: Optional[int], data: Optional[bytes], is_extended_id: Optional[bool], is_error_frame: bool
+) -> "Callable[[Message], bool]":
+    """Returns whether a message has these fields; None is any. An identifier above 7FF is one of 29 bits."""
+
+    def matches(message: "Message") -> bool:
+        return (
+            message.is_error_frame == is_error_frame
+            and (id is None or message.arbitration_id == id)
+            and (data is None or bytes(message.data) == bytes(data))
+            and (is_extended_id is None or message.is_extended_id == is_extended_id)
+        )
+
+    if is_extended_id is None and id is not None and not is_error_frame:
+        is_extended_id = id > 0x7FF
+    return matches
+
+
+def named(id: Optional[int], data: Optional[bytes]) -> str:
+    """The frame that was looked for, for a failure: `frame 123#1122`, `frame 123`, `frame`."""
+    digits = "" if id is None else f" {id:03X}" if id <= 0x7FF else f" {id:08X}"
+    return f"frame{digits}" + ("" if data is None else f" with data {bytes(data).hex(' ').upper() or 'of no byte'}")
+
+
+class Expectations:
+    """What a test expects of a running server; the mixin of Server."""
+
+    def _observing(self) -> "Observer":
+        """The observer of the server."""
+        raise NotImplementedError
+
+    def error_counters(self, name: str) -> ErrorCounters:
+        """Returns the state of an interface and its error counts, while the server runs.
+
+        The first question about an interface that is not observed opens a session there, which the record shows.
+        """
+        return self._observing().error_counters(name)
+
+    def state(self, name: str) -> str:
+        """Returns the state of an interface while the server runs: `active`, `warning`, `passive` or `off`."""
+        return self.error_counters(name).state
+
+    def wait_for(self, predicate: Callable[[], T], timeout: float = 1.0) -> T:
+        """Calls the predicate until it returns something true, and returns that; TimeoutError after these seconds."""
+        found = wait_for(predicate, timeout)
+        if found is None:
+            raise TimeoutError(f"not so within {timeout:g} seconds{self._observing().shown()}")
+        return found
+
+    def expect(
+        self,
+        id: Optional[int] = None,
+        data: Optional[bytes] = None,
+        *,
+        within: float = 1.0,
+        channel: Optional[str] = None,
+        is_extended_id: Optional[bool] = None,
+        is_error_frame: bool = False,
+    ) -> "Message":
+        """Returns the first frame that an observed interface sees and that has this identifier and data.
+
+        Frames that were seen before count, from the one after that which the last `expect` returned. AssertionError
+        after these seconds; its text ends with what was seen. An identifier above 7FF has 29 bits unless
+        `is_extended_id` says otherwise.
+        """
+        __tracebackhide__ = True
+        matches = matcher(id, data, is_extended_id, is_error_frame)
+        found = self._observing().find(matches, channel, within)
+        if found is None:
+            raise AssertionError(f"no {named(id, data)} within {within:g} seconds{self._observing().shown()}")
+        return found
+
+    def expect_no_frame(
+        self,
+        id: Optional[int] = None,
+        data: Optional[bytes] = None,
+        *,
+        within: float = 1.0,
+        channel: Optional[str] = None,
+        is_extended_id: Optional[bool] = None,
+        is_error_frame: bool = False,
+    ) -> None:
+        """Fails if an observed interface has seen such a frame since the last `expect`, or does within these seconds."""
+        __tracebackhide__ = True
+        matches = matcher(id, data, is_extended_id, is_error_frame)
+        found = self._observing().find(matches, channel, within)
+        if found is not None:
+            line = described_line(str(found.channel), frame_like(found))
+            raise AssertionError(f"{named(id, data)} was not expected: {line}{self._observing().shown()}")
+
+    def expect_state(self, name: str, state: str, *, within: float = 1.0) -> ErrorCounters:
+        """Waits until an interface is in this state; AssertionError if it is not within these seconds."""
+        __tracebackhide__ = True
+        if state not in STATES:
+            raise ValueError(f"state is one of {', '.join(STATES)}, not {state!r}")
+        counters = wait_for(lambda: counters_in(self.error_counters(name), state), within)
+        if counters is None:
+            now = self.error_counters(name)
+            raise AssertionError(
+                f"{name} is {now.state} (transmit count {now.tec}, receive count {now.rec}), and was not {state} within "
+                f"{within:g} seconds{self._observing().shown()}"
+            )
+        return counters
+
+
+def counters_in(counters: ErrorCounters, state: str) -> Optional[ErrorCounters]:
+    """The counters where they are of this state."""
+    return counters if counters.state == state else None

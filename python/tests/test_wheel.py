@@ -1,0 +1,138 @@
+"""The wheel, and pip from the clone: the program comes with the package, and the same files give the same wheel."""
+
+import os
+import re
+import shutil
+import signal
+import subprocess
+import sys
+import tarfile
+import zipfile
+
+import pytest
+
+import canbusd
+from conftest import PYTHON, WAIT
+
+CLONE = PYTHON.parent
+NAME = f"canbusd-{canbusd.__version__}-py3-none-manylinux_2_34_x86_64.whl"
+SCRIPT = [CLONE / "scripts" / "python-package", "wheel"]
+
+
+def done(*words, **options):
+    """A process that has ended well."""
+    finished = subprocess.run(words, capture_output=True, text=True, timeout=300, check=False, **options)
+    assert finished.returncode == 0, finished.stdout + finished.stderr
+    return finished
+
+
+@pytest.fixture(scope="module")
+def wheel(tmp_path_factory):
+    """The wheel."""
+    folder = tmp_path_factory.mktemp("wheel")
+    done(*SCRIPT, folder, env={**os.environ, "PYTHON": sys.executable})
+    return folder / NAME
+
+
+@pytest.fixture
+def environment(tmp_path):
+    """A virtual environment in a folder of its own, where nothing shows the way to a program; python-can is Debian's."""
+    done(sys.executable, "-m", "venv", "--system-site-packages", tmp_path / "venv")
+    kept = {name: value for name, value in os.environ.items() if not name.startswith(("CANBUSD", "PYTHON"))}
+
+    def run(*words):
+        env = {**kept, "PATH": "/usr/bin:/bin", "PIP_DISABLE_PIP_VERSION_CHECK": "1"}
+        return done(tmp_path / "venv" / "bin" / "python", *words, cwd=tmp_path, env=env)
+
+    return run
+
+
+def test_the_same_files_give_the_same_wheel(wheel, tmp_path):
+    done(*SCRIPT, tmp_path, env={**os.environ, "PYTHON": sys.executable, "TZ": "Asia/Tokyo"}, umask=0o077)
+    assert (tmp_path / NAME).read_bytes() == wheel.read_bytes()
+
+
+def test_what_is_in_the_wheel(wheel):
+    with zipfile.ZipFile(wheel) as opened:
+        names = opened.namelist()
+        for file in filter(os.path.isfile, [*(CLONE / "dist").iterdir(), CLONE / "tools" / "serve"]):
+            entry = opened.getinfo(f"canbusd/program/{file.name}")
+            assert opened.read(entry) == file.read_bytes()
+            assert entry.external_attr >> 16 & 0o777 == (0o755 if os.access(file, os.X_OK) else 0o644)
+    modules = [
+        f"canbusd/{path.relative_to(PYTHON / 'src' / 'canbusd')}" for path in PYTHON.rglob("src/canbusd/**/*.py")
+    ]
+    assert set(modules) == {name for name in names if name.endswith(".py")}
+    assert {"canbusd/py.typed", "canbusd/page/page.js"} <= set(names)
+
+
+@pytest.mark.skipif(shutil.which("objdump") is None, reason="no objdump (binutils) to look at symbols with")
+def test_its_platform_is_that_of_the_program():
+    for file in (CLONE / "dist").iterdir():
+        if file.read_bytes()[:4] == b"\x7fELF":
+            needed = re.findall(r"GLIBC_2\.(\d+)", done("objdump", "-T", file).stdout)
+            assert max(map(int, needed)) <= 34, file
+
+
+def tries_the_package(environment, folder):
+    """README's test, and the program's commands."""
+    (text,) = re.findall(r"^```python\n(.*?)^```$", (CLONE / "README.md").read_text(), re.M | re.S)
+    (folder / "test_bus_off.py").write_text(text)
+    assert "1 passed" in environment("-m", "pytest", "-q", "test_bus_off.py").stdout
+    place = environment("-c", "from canbusd._program import find_program; print(find_program())").stdout
+    assert place.startswith(str(folder / "venv"))
+    (folder / "run.bench").write_text("session 1\nfeed 1 < open can0 >\n")
+    with open(folder / "run.bench") as lines:
+        written = subprocess.run(
+            [folder / "venv" / "bin" / "python", "-m", "canbusd", "bench", "--record", "run.rec", "can0"],
+            stdin=lines, cwd=folder, env={"PATH": "/usr/bin:/bin"}, capture_output=True, text=True, timeout=WAIT,
+            check=True,
+        )  # fmt: skip
+    assert written.stdout == "1 < hi >\n1 < ok >\n"
+    assert environment("-m", "canbusd", "audit", "run.rec").stdout == "ok 0 entries\n"
+
+
+def test_the_wheel_needs_no_clone(wheel, environment, tmp_path):
+    environment("-m", "pip", "install", "--quiet", "--no-index", "--no-deps", wheel)
+    tries_the_package(environment, tmp_path)
+    with subprocess.Popen(
+        [tmp_path / "venv" / "bin" / "python", "-m", "canbusd", "serve", "--listen", "127.0.0.1:0", "can0"],
+        cwd=tmp_path, env={"PATH": "/usr/bin:/bin"}, stdout=subprocess.PIPE, text=True,
+    ) as server:  # fmt: skip
+        assert server.stdout.readline().startswith("listening ")
+        server.send_signal(signal.SIGTERM)
+        assert server.communicate(timeout=WAIT)[0] == "bus can0 entries 0\n"
+    assert server.returncode == 0
+
+
+def test_pip_installs_the_same_from_the_clone(wheel, environment, tmp_path):
+    clone = tmp_path / "clone"
+    for name in ("python", "dist", "tools"):
+        ignored = shutil.ignore_patterns("build", "*.egg-info", "__pycache__", ".*")
+        shutil.copytree(CLONE / name, clone / name, ignore=ignored)
+    environment("-m", "pip", "install", "--quiet", "--no-index", "--no-deps", "--no-build-isolation", clone / "python")
+    (package,) = (tmp_path / "venv" / "lib").glob("python3*/site-packages/canbusd")
+    with zipfile.ZipFile(wheel) as opened:
+        for name in opened.namelist():
+            if name.startswith("canbusd/"):
+                assert (package.parent / name).read_bytes() == opened.read(name), name
+    tries_the_package(environment, tmp_path)
+
+
+def test_a_source_distribution_says_where_the_program_is(environment, tmp_path):
+    source = tmp_path / "source"
+    shutil.copytree(PYTHON, source, ignore=shutil.ignore_patterns("build", "*.egg-info", "__pycache__", ".*"))
+    make = "import setuptools.build_meta as made; made.build_sdist('dist')"
+    done(sys.executable, "-W", "ignore", "-c", make, cwd=source)
+    (archive,) = (source / "dist").iterdir()
+    with tarfile.open(archive) as opened:
+        about = opened.extractfile(f"canbusd-{canbusd.__version__}/PKG-INFO").read().decode()
+    assert "comes from `dist/` of the clone" in about
+    words = ["--quiet", "--no-index", "--no-deps", "--no-build-isolation", archive]
+    environment("-m", "pip", "wheel", "--wheel-dir", tmp_path, *words)
+    assert (tmp_path / f"canbusd-{canbusd.__version__}-py3-none-any.whl").exists()
+    environment("-m", "pip", "install", *words)
+    said = environment(
+        "-c", "import canbusd\ntry: canbusd.Server('can0')\nexcept canbusd.ProgramNotFound as e: print(e)"
+    )
+    assert "install the wheel" in said.stdout
