@@ -10,6 +10,7 @@ import os
 import re
 import select
 import subprocess
+import threading
 import time
 from pathlib import Path
 from typing import TYPE_CHECKING, Any, Dict, List, Mapping, NamedTuple, Optional, Tuple, Union
@@ -112,6 +113,7 @@ class Server(Run):
         super().__init__(out)
         self._txqueue = txqueue
         self._by_bus = bus_words(buses, faults, self._folder)
+        self._ending = threading.Lock()
         self._result: Optional[Result] = None
         words = ["--until-eof", "--listen", listen, *options, "--out", str(self._out)]
         self._start("serve", *words, "--", *(bus[-1] for bus in self._by_bus.values()))
@@ -131,6 +133,11 @@ class Server(Run):
 
         :raises ServerError: where the server ended with a fault, or was killed by others
         """
+        self._check_process()
+        with self._ending:
+            return self._stopped()
+
+    def _stopped(self) -> Result:
         if self._result is None:
             self._close_input()
             status, written = self._ended()
@@ -141,11 +148,15 @@ class Server(Run):
 
     def kill(self) -> Result:
         """Ends the server as a crash would: no logs or records are written."""
+        self._check_process()
         if self._result is None:
+            # Also one that is being stopped.
             self._signal()
-            self._close_input()
-            self._result = Result(self._ended()[0], {})
-        return self._result
+        with self._ending:
+            if self._result is None:
+                self._close_input()
+                self._result = Result(self._ended()[0], {})
+            return self._result
 
     def log(self, name: Optional[str] = None) -> List["Message"]:
         """Ends the server, and returns the frames that were put on the bus of this interface, oldest first.
