@@ -186,6 +186,46 @@ def test_a_bench_that_is_not_ended_is_audited_too(run, pytester):
     assert kept(pytester) == ["can0.html", "can0.log", "can0.rec"]
 
 
+def test_a_test_that_has_to_fail_has_not_failed(run, pytester):
+    result = run(
+        """
+    @pytest.mark.xfail
+    def test_it(canbusd):
+        assert False
+
+    @pytest.mark.xfail(strict=True)
+    def test_it_too(canbusd_bench):
+        assert False
+    """
+    )
+    result.assert_outcomes(xfailed=2)
+    assert "canbusd teardown" not in result.stdout.str() and kept(pytester) == []
+    result = run("    @pytest.mark.xfail(strict=True)\n" + PASSES.lstrip("\n"))
+    result.assert_outcomes(failed=1)
+    assert kept(pytester) == ["can0.html", "can0.log", "can0.rec"]
+
+
+def test_no_links_that_lead_nowhere(run, pytester):
+    run(PASSES + PASSES.replace("test_it", "test_other")).assert_outcomes(passed=2)
+    assert [path for path in (pytester.path / "kept").rglob("*") if path.is_symlink() and not path.exists()] == []
+    assert list((pytester.path / "kept").iterdir()) == []
+
+
+@pytest.mark.parametrize("fixture", ["canbusd", "canbusd_bench"])
+def test_a_pytest_that_is_killed(run, pytester, monkeypatch, fixture):
+    """What it leaves is below its own folder, which the next one clears away."""
+    (pytester.path / "tmp").mkdir()
+    monkeypatch.setenv("TMPDIR", str(pytester.path / "tmp"))
+    run(
+        f"""
+    def test_it({fixture}):
+        import os
+        os.kill(os.getpid(), 9)
+    """
+    )
+    assert list((pytester.path / "tmp").glob("canbusd-*")) == []
+
+
 def test_the_program_of_the_ini_file(run, pytester, monkeypatch):
     program = os.path.realpath(canbusd._program.find_program())
     (pytester.path / "the program").symlink_to(program)

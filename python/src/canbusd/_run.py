@@ -6,6 +6,7 @@ import signal
 import subprocess
 import tempfile
 import weakref
+from contextvars import ContextVar
 from pathlib import Path
 from types import TracebackType
 from typing import Dict, List, Optional, Tuple, Type, TypeVar, Union
@@ -14,6 +15,8 @@ from canbusd._program import find_program
 
 Self = TypeVar("Self", bound="Run")
 
+#: Where runs have their folders; None is the system's place for temporary files.
+FOLDERS: "ContextVar[Optional[Path]]" = ContextVar("FOLDERS", default=None)
 #: The options of the program that are numbers, by the names of their arguments: the least and the most of each.
 NUMBERS: Dict[str, Tuple[str, int, int]] = {
     "auto_restart": ("--auto-restart", 0, 1_000_000),
@@ -53,7 +56,7 @@ class Run:
         if out is not None and not os.path.isdir(out):
             raise ValueError(f"out is a folder that exists, not {os.fspath(out)!r}")
         self._process = os.getpid()
-        self._folder = Path(tempfile.mkdtemp(prefix="canbusd-"))
+        self._folder = Path(tempfile.mkdtemp(prefix="canbusd-", dir=FOLDERS.get()))
         self._remove = weakref.finalize(self, remove, self._folder, self._process)
         self._out = Path(out) if out is not None else self._folder
 
