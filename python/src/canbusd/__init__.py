@@ -22,7 +22,8 @@ if TYPE_CHECKING:
     from canbusd.record import Attempt, BadRecord, Item, Record, read_record
     from canbusd.server import Result, Server, ServerError
 
-__version__ = "0.1.0"
+#: The one of the program, of the wheel and of the folder canbusd-0.2.0.dist-info beside this package.
+__version__ = "0.2.0"
 
 __all__ = [
     "Attempt",
