@@ -1,12 +1,16 @@
 """python3 -m canbusd watch: what pages get, the page in a browser, and how it ends."""
 
+import contextlib
 import http.client
 import json
 import os
 import re
+import resource
+import socket
 import subprocess
 import sys
 import threading
+import time
 from pathlib import Path
 
 import can
@@ -125,6 +129,9 @@ def test_a_page_gets_the_end():
         ("20000204#0008000000006000", None),
         ("20000040#0000000000000000", None),
         ("123#0000810A00000000", None),
+        # Cut short.
+        ("20000088#00", None),
+        ("20000088#000081", 1),
     ],
 )
 def test_faults_of_the_sender(text, fault):
@@ -203,6 +210,40 @@ def test_news_have_the_frames_and_counts_of_both_interfaces():
     }
     assert faults == 1
     assert now == ["active", 7, 0, 1, 1, 0, 0, 0]
+
+
+@contextlib.contextmanager
+def connections(port, count):
+    """So many connections that ask nothing."""
+    with contextlib.ExitStack() as all_of_them:
+        made = []
+        for _ in range(count):
+            made.append(all_of_them.enter_context(socket.create_connection(("127.0.0.1", port), WAIT)))
+        yield made
+
+
+def test_connections_that_ask_nothing_are_closed():
+    with Server("can0") as server, Watch(server, "can0") as watch, connections(watch.port, 30) as silent:
+        # The others are served meanwhile.
+        assert watch.get("/").status == 200
+        for one in silent:
+            assert one.recv(1) == b""
+
+
+def ticks(child):
+    """The processor time of a process, in hundredths of a second."""
+    fields = Path(f"/proc/{child.pid}/stat").read_text(encoding="ascii").rsplit(") ", 1)[1].split()
+    return int(fields[11]) + int(fields[12])
+
+
+def test_without_file_descriptors_it_waits_for_some():
+    with Server("can0") as server, Watch(server, "can0") as watch:
+        resource.prlimit(watch.child.pid, resource.RLIMIT_NOFILE, (20, 20))
+        with connections(watch.port, 60):
+            before, start = ticks(watch.child), time.monotonic()
+            time.sleep(3)
+            assert ticks(watch.child) - before < 20 * (time.monotonic() - start)
+        assert watch.get("/").status == 200
 
 
 def test_other_sites_and_paths_are_refused():

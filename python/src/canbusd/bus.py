@@ -11,6 +11,7 @@ import os
 import threading
 import time
 from collections.abc import Iterable, Mapping, Sequence
+from math import isfinite
 from typing import Any, Optional, TypeVar, Union, cast
 
 import can
@@ -327,11 +328,14 @@ class CanbusdBus(BusABC):
     def _next(self, timeout: Optional[float]) -> Optional[Message]:
         try:
             text = self._connection.frame(timeout)
-            return None if text is None else received(self._make, *text.split()[1:])
+            message = None if text is None else received(self._make, *text.split()[1:])
         except ConnectionError as fault:
             raise CanOperationError(str(fault)) from None
         except (TypeError, ValueError):
-            raise CanOperationError(f"no message of canbusd: {text} >") from None
+            message = None
+        if text is not None and (message is None or not isfinite(message.timestamp)):
+            raise CanOperationError(f"no message of canbusd: {text} >")
+        return message
 
     def _passes(self, message: Message) -> bool:
         """Whether a message passes the filters, where the server did not apply them to it."""

@@ -10,6 +10,7 @@ import os
 import re
 import select
 import subprocess
+import threading
 import time
 from collections.abc import Mapping, Sequence
 from pathlib import Path
@@ -122,6 +123,7 @@ class Server(Expectations, ProgramRun):
         self._observer: Optional[Observer] = None
         for name in observed:
             self._first(name)
+        self._ending = threading.Lock()
         self._result: Optional[Result] = None
         words = ["--until-eof", "--listen", listen, *options, "--out", str(self._out)]
         self._start("serve", *words, "--", *(bus[-1] for bus in self._by_bus.values()))
@@ -143,6 +145,11 @@ class Server(Expectations, ProgramRun):
 
         :raises ServerError: where the server ended with a fault, or was killed by others
         """
+        self._check_process()
+        with self._ending:
+            return self._stopped()
+
+    def _stopped(self) -> Result:
         if self._result is None:
             self._end_observer()
             self._close_input()
@@ -154,12 +161,16 @@ class Server(Expectations, ProgramRun):
 
     def kill(self) -> Result:
         """Ends the server as a crash would: no logs or records are written."""
+        self._check_process()
         if self._result is None:
+            # Also one that is being stopped.
             self._signal()
-            self._close_input()
-            self._result = Result(self._ended()[0], {})
-            self._end_observer()
-        return self._result
+        with self._ending:
+            if self._result is None:
+                self._close_input()
+                self._result = Result(self._ended()[0], {})
+                self._end_observer()
+            return self._result
 
     def log(self, name: Optional[str] = None) -> list["Message"]:
         """Ends the server, and returns the frames that were put on the bus of this interface, oldest first.

@@ -36,8 +36,9 @@ MOST_TICKS, MOST_FRAMES = 2400, 4000
 LOOK = 0.01
 # How many looks have to pass before frames are taken for those of an interface that is not watched.
 LOOKS = 20
-# Seconds in which pages are sent that the server has ended.
-CLOSE_TIMEOUT = 2.0
+# Seconds in which pages are sent that the server has ended, after which a silent connection is closed, and between two looks
+# for a file descriptor where there are no more.
+CLOSE_TIMEOUT, REQUEST_TIMEOUT, PAUSE = 2.0, 10.0, 0.2
 BUS_ERROR, NOT_ACKNOWLEDGED, END_OF_FRAME, FORM = 0x080, 0x020, 0x1A, 0x02
 
 Json = dict[str, Any]
@@ -102,13 +103,24 @@ class Pages(ThreadingHTTPServer):
 
     # A connection that asks nothing holds up no end.
     daemon_threads = True
+    request_queue_size = 128
 
     def __init__(self, port: int, board: Board, names: Sequence[str], source: str, has_database: bool) -> None:
         super().__init__(("127.0.0.1", port), Request)
         self.board = board
         known = {"names": list(names), "source": source, "isDecoded": has_database}
         data = json.dumps(known).replace("<", "\\u003c")
-        self.page = filled("watch.html", ["core.js", "lanes.js", "lists.js", "watch.js"]).replace("/*RUN*/", data).encode()
+        self.page = (
+            filled("watch.html", ["core.js", "lanes.js", "lists.js", "watch.js"]).replace("/*RUN*/", data).encode()
+        )
+
+    def get_request(self) -> tuple[Any, Any]:
+        """Takes a connection. Where there is no file descriptor for it, it waits for one, and burns no processor."""
+        try:
+            return super().get_request()
+        except OSError:
+            time.sleep(PAUSE)
+            raise
 
     @property
     def url(self) -> str:
@@ -128,6 +140,8 @@ class Request(BaseHTTPRequestHandler):
     """A browser's request."""
 
     server: Pages
+    # Of a connection that asks nothing, and of a page that takes nothing.
+    timeout = REQUEST_TIMEOUT
 
     def do_GET(self) -> None:
         """Sends the page or the news."""
@@ -293,11 +307,12 @@ def identifier_of(text: str) -> str:
 
 def fault_of(frame: Frame) -> Optional[int]:
     """Which fault of the interface's own frame is reported: 0 last bit, 1 destroyed, 2 not acknowledged; else None."""
-    if not frame.is_error_frame or not frame.arbitration_id & BUS_ERROR or not frame.data[2] & SENDING:
+    kind, place = frame.data.ljust(4, b"\0")[2:4]
+    if not frame.is_error_frame or not frame.arbitration_id & BUS_ERROR or not kind & SENDING:
         return None
     if frame.arbitration_id & NOT_ACKNOWLEDGED:
         return 2
-    return 0 if frame.data[3] == END_OF_FRAME and frame.data[2] & FORM else 1
+    return 0 if place == END_OF_FRAME and kind & FORM else 1
 
 
 def add_arguments(parser: argparse.ArgumentParser) -> None:
