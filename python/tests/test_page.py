@@ -242,7 +242,10 @@ def long_run(count=5000):
 
 def test_more_attempts_than_pixels_are_shares(opened):
     shown = opened(long_run())
-    assert shown.run("KINDS.map((_, kind) => won(tallies.of(0, axis.count), 0, kind)).slice(0, 5).join()") == "4900,0,100,0,0"
+    assert (
+        shown.run("KINDS.map((_, kind) => won(tallies.of(0, axis.count), 0, kind)).slice(0, 5).join()")
+        == "4900,0,100,0,0"
+    )
     assert "123#" not in shown.run(WRITTEN)
     for _ in range(9):
         shown.key("+")
@@ -334,18 +337,22 @@ def test_a_held_key_and_the_load(opened):
     shown.ask("Performance.enable", timeDomain="threadTicks")
 
     def used():
-        return next(one["value"] for one in shown.ask("Performance.getMetrics")["metrics"] if one["name"] == "TaskDuration")
+        return next(
+            one["value"] for one in shown.ask("Performance.getMetrics")["metrics"] if one["name"] == "TaskDuration"
+        )
 
     shown.run("choose(0)")
     for name in ("tab-events", "tab-attempts", "tab-items"):
         shown.run(f"showTab('{name}')")
         before, count = used(), 50
-        shown.run(f"""(async () => {{
+        shown.run(
+            f"""(async () => {{
           for (let k = 0; k < {count}; k++) {{
             document.dispatchEvent(new KeyboardEvent('keydown', {{ key: 'ArrowRight', bubbles: true }}));
             await new Promise(done => requestAnimationFrame(done));
           }}
-        }})()""")
+        }})()"""
+        )
         # Of the processor, whatever else the machine does.
         assert (used() - before) / count < 0.033
 
@@ -364,13 +371,17 @@ def test_paper(shown):
 def test_parts_have_names_and_the_focus_goes_down_the_page(shown):
     assert shown.run("document.querySelectorAll('main').length") == 1
     assert shown.run("[...document.querySelectorAll('canvas[role]')].every(one => one.ariaLabel)")
-    assert shown.run("[...document.querySelectorAll('[role=grid], section, [role=tabpanel]')].every(one => one.ariaLabel)")
+    assert shown.run(
+        "[...document.querySelectorAll('[role=grid], section, [role=tabpanel]')].every(one => one.ariaLabel)"
+    )
     assert shown.run("[...document.querySelectorAll('.tools button')].every(one => one.title)")
     assert shown.run("[...document.querySelectorAll('.legend span')].every(one => one.title && one.innerText)")
-    places = shown.run("""[...document.querySelectorAll('button, input, select, summary, [tabindex="0"]')]
+    places = shown.run(
+        """[...document.querySelectorAll('button, input, select, summary, [tabindex="0"]')]
       .filter(one => one.checkVisibility() && one.tabIndex >= 0)
       .map(one => one.closest('.tools, #timeline, #tabs, #filters, .kinds, .rolling, #chosen')).map(one => one.id || one.className)
-      .filter((one, k, all) => one !== all[k - 1])""")
+      .filter((one, k, all) => one !== all[k - 1])"""
+    )
     assert places == ["tools", "timeline", "tabs", "filters", "kinds", "events"]
 
 

@@ -129,7 +129,9 @@ def test_idle_attempts_are_steps_between_the_others():
 
 def test_what_bus_off_took_and_refused():
     header, _ = data_of(page(bus_off(), NAMES, "run.rec"))
-    lost = {step: [(number, header["texts"][text]) for number, text in frames] for step, frames in header["lost"].items()}
+    lost = {
+        step: [(number, header["texts"][text]) for number, text in frames] for step, frames in header["lost"].items()
+    }
     assert lost == {"31": [(0, "123#"), (1, "124#")]}
     assert [(one["lost"], one["full"], one["off"]) for one in header["ifaces"]] == [(2, 0, 2), (0, 0, 0)]
 

@@ -77,7 +77,9 @@ class Climb:
         """`32 of its 33 attempts since attempt 1,000 failed: global bit 31, last bit 1`."""
         each = [f"{fault_words(fault, names)} {count:,}" for fault, count in self.faults.most_common()]
         since = f"since attempt {self.first:,}"
-        return f"{sum(self.faults.values()):,} of its {times(self.attempts, 'attempt')} {since} failed: {', '.join(each)}"
+        return (
+            f"{sum(self.faults.values()):,} of its {times(self.attempts, 'attempt')} {since} failed: {', '.join(each)}"
+        )
 
 
 def fault_words(fault: str, names: Sequence[str]) -> str:
