@@ -22,9 +22,9 @@ from canbusd.report import filled
 from canbusd.signals import Database
 
 EPILOG = """\
-The page is served on 127.0.0.1 only. It shows how many frames each interface sent, their error counts with the limits,
-changes of state, each identifier with its last data, and the last frames. Destroyed and unacknowledged frames are shown
-where the server was started with --report. A session on each interface receives everything: each frame that it gets is
+The page is served on 127.0.0.1 only. It shows on a time line how many frames each interface sent, its state, error
+counts and queue; and lists the last frames, with senders as far as the counts show them, changes of state, and each
+identifier with its last data. Destroyed and unacknowledged frames are shown where the server was started with --report. A session on each interface receives everything: each frame that it gets is
 an entry of the record.
 
   python3 -m canbusd watch can0 can1
