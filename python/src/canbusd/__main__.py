@@ -45,7 +45,12 @@ def main(given: Optional[List[str]] = None) -> None:
     parser.add_argument("--version", action="version", version=f"canbusd {__version__}")
     parser.add_argument("command", choices=COMMANDS, metavar="COMMAND", help="one of those below")
     name = parser.parse_args(arguments[:1]).command
-    options = parser_of(name).parse_args(arguments[1:])
+    try:
+        options = parser_of(name).parse_args(arguments[1:])
+    except ImportError as fault:
+        if type(fault).__name__ != "NoPythonCan":
+            raise
+        sys.exit(f"canbusd {name}: {fault}")
     run: Callable[[argparse.Namespace], Optional[int]] = importlib.import_module(COMMANDS[name][0]).run
     carry_out(lambda: run(options), f"canbusd {name}")
 

@@ -9,7 +9,7 @@ import weakref
 from contextvars import ContextVar
 from pathlib import Path
 from types import TracebackType
-from typing import Dict, List, Optional, Tuple, Type, TypeVar, Union
+from typing import Dict, List, Optional, Sequence, Tuple, Type, TypeVar, Union
 
 from canbusd._program import find_program
 
@@ -39,6 +39,15 @@ def option_words(ack: str, report: bool, **numbers: int) -> List[str]:
             raise ValueError(f"{name} is a whole number from {least} to {most}, not {number!r}")
         words += [option, str(number)]
     return words
+
+
+def check_names(names: Sequence[str]) -> Sequence[str]:
+    """Returns the names of a bus's interfaces; ValueError where spaces were written between them."""
+    spaced = next((name for name in names if name != name.strip()), None)
+    if spaced is not None:
+        right = ",".join(name.strip() for name in names)
+        raise ValueError(f"names of interfaces are joined by commas without spaces, {right!r}, not {','.join(names)!r}")
+    return names
 
 
 def remove(folder: Path, process: int) -> None:

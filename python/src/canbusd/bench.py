@@ -29,7 +29,7 @@ from canbusd._protocol import (
     options,
     stats_of,
 )
-from canbusd._run import RUNNING, Run, option_words
+from canbusd._run import RUNNING, Run, check_names, option_words
 from canbusd._summary import write_page
 from canbusd.faults import Script, script_text, verdicts_of
 from canbusd.frames import Frame, MessageLike, command_of, frame_of, frame_like
@@ -200,6 +200,7 @@ class Bench(Run):
         self.names = tuple(names.split(",") if isinstance(names, str) else names)
         if not self.names or not all(isinstance(name, str) for name in self.names):
             raise ValueError(f"names are those of the interfaces, such as 'can0,can1', not {names!r}")
+        check_names(self.names)
         script = script_text(faults)
         super().__init__(out)
         self._verdicts = verdicts_of(script)
@@ -239,6 +240,8 @@ class Bench(Run):
             error_frames=error_frames,
             join_filters=join_filters,
         )
+        if channel not in self.names:
+            raise Refused(f"no such interface {channel!r}; the bench has {', '.join(self.names)}")
         with self._turn:
             if self._sessions > MOST_SESSIONS:
                 raise Refused("too many sessions")

@@ -295,6 +295,7 @@ def read_log(path: Path) -> "List[Message]":
 
     Unlike python-can's reader it keeps the classes of error message frames.
     """
+    import canbusd._python_can  # noqa: F401
     from can.message import Message
 
     messages = []

@@ -1,6 +1,7 @@
 """Shows a running server in the browser: frames, states and counts as they come, on one page, until Ctrl-C."""
 
 import argparse
+import errno
 import json
 import select
 import threading
@@ -9,6 +10,8 @@ from collections import deque
 from http import HTTPStatus
 from http.server import BaseHTTPRequestHandler, ThreadingHTTPServer
 from typing import Any, Deque, Dict, Iterator, List, Optional, Sequence, Tuple
+
+import canbusd._python_can  # noqa: F401  it says what is missing, so it comes first
 
 from can.exceptions import CanOperationError
 
@@ -119,7 +122,8 @@ def opened(port: int, board: Board, names: Sequence[str], source: str) -> Pages:
     try:
         return Pages(port, board, names, source)
     except OSError as fault:
-        raise OSError(fault.errno, fault.strerror, f"127.0.0.1:{port}") from None
+        hint = "; --port 0 takes a free one" if fault.errno == errno.EADDRINUSE else ""
+        raise OSError(fault.errno, f"{fault.strerror}{hint}", f"127.0.0.1:{port}") from None
 
 
 class Request(BaseHTTPRequestHandler):

@@ -4,6 +4,8 @@ import argparse
 import re
 import sys
 
+import canbusd._python_can  # noqa: F401  it says what is missing, so it comes first
+
 from can.message import Message
 
 from canbusd.bus import CanbusdBus
