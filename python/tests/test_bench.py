@@ -219,7 +219,7 @@ def test_refusals():
     # An open and an option of each session, and a refused open is no event.
     bench, sender, receiver = pair(limit=4)
     with bench:
-        with pytest.raises(Refused, match="^no such interface$"):
+        with pytest.raises(Refused, match="^no such interface 'can7'; the bench has can0, can1$"):
             bench.open("can7")
         for call in (lambda: bench.open("can1"), receiver.receive):
             with pytest.raises(Refused, match="^record full$"):
@@ -308,7 +308,7 @@ def test_messages_that_are_too_long():
             for message in ("echo".ljust(length), "\xe9" * length):
                 with pytest.raises(Refused, match="^message too long$"):
                     sender.call(message)
-        with pytest.raises(Refused, match="^(no such interface|message too long)$"):
+        with pytest.raises(Refused, match="^no such interface 'x"):
             bench.open("x" * 5000)
         assert sender.status() == ("active", 0, 0)
 
@@ -424,6 +424,12 @@ def test_a_wrong_option_is_named(options):
 @pytest.mark.parametrize("names", [[], ["can0", 1]])
 def test_names_that_are_none_are_named(names):
     with pytest.raises(ValueError, match="^names "):
+        Bench(names)
+
+
+@pytest.mark.parametrize("names", ["can0, can1", " can0,can1", ["can0 ", "can1"]])
+def test_spaces_between_names_are_named(names):
+    with pytest.raises(ValueError, match="^names .* commas without spaces, 'can0,can1', not '"):
         Bench(names)
 
 

@@ -84,3 +84,24 @@ def test_one_version(installed):
 def test_the_version_of_the_program():
     said = subprocess.check_output([find_program(), "--version"], text=True)
     assert said == f"canbusd {canbusd.__version__}\n"
+
+
+@pytest.mark.parametrize(
+    "python_can, said",
+    [
+        ("raise ModuleNotFoundError('No module named can', name='can')", "and there is none"),
+        ("__version__ = '4.0.0'", "and found 4.0.0"),
+        ("__version__ = '3.3.2.final.0-1'", "and found 3.3.2.final.0-1"),
+    ],
+)
+@pytest.mark.parametrize("command", ["dump", "send", "status", "watch"])
+def test_without_a_python_can_that_fits(tmp_path, python_can, said, command):
+    (tmp_path / "can.py").write_text(python_can)
+    environment = {**ENVIRONMENT, "PYTHONPATH": os.pathsep.join([str(tmp_path), str(SOURCES)])}
+    words = [sys.executable, "-m", "canbusd", command, "can0"]
+    done = subprocess.run(words, env=environment, capture_output=True, text=True, check=False)
+    assert done.returncode == 1
+    assert re.fullmatch(
+        rf"canbusd {command}: canbusd needs python-can 4.1 or later, {said}: `apt-get install python3-can` .*\n",
+        done.stderr,
+    )

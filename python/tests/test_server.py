@@ -141,6 +141,19 @@ def test_a_port_in_use(server):
         Server("can0", listen=server.address)
 
 
+def test_interfaces_that_there_are(server):
+    with pytest.raises(can.CanInitializationError, match="^can7: no such interface; the server has can0, can1$"):
+        server.bus("can7")
+    server.log()
+    with pytest.raises(can.CanInitializationError, match=r"^can0: the server has ended; .*log\(\), record\(\)"):
+        server.bus("can0")
+
+
+def test_spaces_between_names_are_named():
+    with pytest.raises(ValueError, match="^names .* commas without spaces, 'can0,can1', not 'can0, can1'$"):
+        Server("can0, can1")
+
+
 def test_no_program(monkeypatch):
     monkeypatch.setenv("CANBUSD", "/no/such/program")
     with pytest.raises(FileNotFoundError, match="CANBUSD"):

@@ -266,7 +266,7 @@ def test_a_wrong_number_is_named(words):
 def test_a_port_in_use():
     with Server("can0") as server, Watch(server, "can0") as watch:
         done = called(server, "--port", str(watch.port))
-    assert done.stderr == f"canbusd watch: 127.0.0.1:{watch.port}: Address already in use\n"
+    assert done.stderr == f"canbusd watch: 127.0.0.1:{watch.port}: Address already in use; --port 0 takes a free one\n"
 
 
 def test_it_ends_with_the_server():

@@ -6,6 +6,7 @@ import signal
 import subprocess
 import tempfile
 import weakref
+from collections.abc import Sequence
 from contextvars import ContextVar
 from pathlib import Path
 from types import TracebackType
@@ -39,6 +40,15 @@ def option_words(ack: str, report: bool, **numbers: int) -> list[str]:
             raise ValueError(f"{name} is a whole number from {least} to {most}, not {number!r}")
         words += [option, str(number)]
     return words
+
+
+def check_names(names: Sequence[str]) -> Sequence[str]:
+    """Returns the names of a bus's interfaces; ValueError where spaces were written between them."""
+    spaced = next((name for name in names if name != name.strip()), None)
+    if spaced is not None:
+        right = ",".join(name.strip() for name in names)
+        raise ValueError(f"names of interfaces are joined by commas without spaces, {right!r}, not {','.join(names)!r}")
+    return names
 
 
 def remove(folder: Path, process: int) -> None:

@@ -30,7 +30,7 @@ from canbusd._protocol import (
     options,
     stats_of,
 )
-from canbusd._process import RUNNING, ProgramRun, option_words
+from canbusd._process import RUNNING, ProgramRun, check_names, option_words
 from canbusd._summary import write_page
 from canbusd.faults import Script, script_text, verdicts_of
 from canbusd.frames import Frame, MessageLike, command_of, frame_of, frame_like
@@ -202,6 +202,7 @@ class Bench(ProgramRun):
         self.names = tuple(names.split(",") if isinstance(names, str) else names)
         if not self.names or not all(isinstance(name, str) for name in self.names):
             raise ValueError(f"names are those of the interfaces, such as 'can0,can1', not {names!r}")
+        check_names(self.names)
         script = script_text(faults)
         super().__init__(out)
         self._verdicts = verdicts_of(script)
@@ -241,6 +242,8 @@ class Bench(ProgramRun):
             error_frames=error_frames,
             join_filters=join_filters,
         )
+        if channel not in self.names:
+            raise Refused(f"no such interface {channel!r}; the bench has {', '.join(self.names)}")
         with self._turn:
             if self._sessions > MOST_SESSIONS:
                 raise Refused("too many sessions")

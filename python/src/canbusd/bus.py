@@ -14,6 +14,8 @@ from collections.abc import Iterable, Mapping, Sequence
 from math import isfinite
 from typing import Any, Optional, TypeVar, Union, cast
 
+import canbusd._python_can  # noqa: F401  it says what is missing, so it comes first
+
 import can
 from can.broadcastmanager import CyclicSendTaskABC, ThreadBasedCyclicSendTask
 from can.bus import BusABC, BusState
@@ -48,6 +50,11 @@ LOG = logging.getLogger("can.canbusd")
 NO_BUFFERS, BUS_OFF, NOT_BUS_OFF = "no buffers", "bus off", "not bus off"
 # What the system's own CAN sockets report.
 ERROR_CODES = {NO_BUFFERS: errno.ENOBUFS, BUS_OFF: errno.ENETDOWN}
+# What to do, where it can be said in a few words.
+CURES = {
+    NO_BUFFERS: ": the transmit queue is full; send(msg, timeout=1) waits for room, and a server's txqueue= makes more",
+    BUS_OFF: ": restart() brings the interface back, as the server's auto_restart= does",
+}
 BUS_STATES = {
     "active": BusState.ACTIVE,
     "warning": BusState.ACTIVE,
@@ -102,7 +109,7 @@ def server_address(given: Optional[str], others: Mapping[str, Any]) -> str:
 
 def refusal(text: str, after: str = "") -> CanOperationError:
     """The exception for what the server refused; its `error_code` is that of the system's own CAN sockets."""
-    return CanOperationError(text + after, ERROR_CODES.get(text))
+    return CanOperationError(f"{text}{after}{CURES.get(text, '')}", ERROR_CODES.get(text))
 
 
 def goes_on(fault: Exception) -> bool:
@@ -351,6 +358,8 @@ class CanbusdBus(BusABC):
 
     def _command(self, msg: Message) -> str:
         """The command that sends this message; ValueError where none does."""
+        if not isinstance(msg, Message):
+            raise ValueError(f"msg is a can.Message, such as can.Message(arbitration_id=0x123, data=[1]), not {msg!r}")
         if msg.is_fd:
             if not self._fd:
                 raise ValueError("an FD frame needs a bus with fd=True")

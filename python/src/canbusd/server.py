@@ -17,7 +17,7 @@ from pathlib import Path
 from typing import TYPE_CHECKING, Any, NamedTuple, Optional, Union
 
 from canbusd._program import audited
-from canbusd._process import RUNNING, ProgramRun, option_words
+from canbusd._process import RUNNING, ProgramRun, check_names, option_words
 from canbusd.expectations import Expectations
 from canbusd.faults import Script, script_text
 from canbusd.log import read_log
@@ -59,7 +59,7 @@ def bus_words(
         names = bus.partition("@")[0].split(",")
         if names[0] in by_bus:
             raise ValueError(f"buses are of different interfaces, and two begin with {names[0]!r}")
-        by_bus[names[0]] = [*names, bus]
+        by_bus[check_names(names)[0]] = [*names, bus]
     if faults is None:
         return by_bus
     if not isinstance(faults, Mapping):
@@ -134,8 +134,18 @@ class Server(Expectations, ProgramRun):
 
     def bus(self, channel: str, **kwargs: Any) -> "CanbusdBus":
         """Returns a bus of python-can on the interface of this name; the arguments are those of CanbusdBus."""
+        import canbusd._python_can  # noqa: F401  it says what is missing, so it comes first
+        from can.exceptions import CanInitializationError
+
         from canbusd.bus import CanbusdBus
 
+        names = [name for bus in self._by_bus.values() for name in bus[:-1]]
+        if channel not in names:
+            raise CanInitializationError(f"{channel}: no such interface; the server has {', '.join(names)}")
+        if self._result is not None:
+            raise CanInitializationError(
+                f"{channel}: the server has ended; stop(), log(), record(), audit(), report() and its with block end it"
+            )
         bus = CanbusdBus(channel, address=self.address, **kwargs)
         bus.window = self._txqueue
         return bus

@@ -1,8 +1,10 @@
 """Shows a running server in the browser: frames, states and counts as they come, on one page, until Ctrl-C."""
 
 import argparse
+import errno
 import itertools
 import json
+import operator
 import select
 import threading
 import time
@@ -11,6 +13,8 @@ from collections.abc import Iterable, Iterator, Sequence
 from http import HTTPStatus
 from http.server import BaseHTTPRequestHandler, ThreadingHTTPServer
 from typing import Any, Optional
+
+import canbusd._python_can  # noqa: F401  it says what is missing, so it comes first
 
 from can.exceptions import CanOperationError
 
@@ -87,7 +91,7 @@ class Board:
                     number, news = self._last
                     if seen < 0 or number != seen + 1:
                         # A page that is new, or reads slowly, begins with all that is kept.
-                        rows = sorted(itertools.chain(*self._kept), key=lambda row: row[0])
+                        rows = sorted(itertools.chain(*self._kept), key=operator.itemgetter(0))
                         news = {"start": True, "ticks": list(self._ticks), "frames": rows}
                     seen = number
                 yield news
@@ -133,7 +137,8 @@ def opened(port: int, board: Board, names: Sequence[str], source: str, has_datab
     try:
         return Pages(port, board, names, source, has_database)
     except OSError as fault:
-        raise OSError(fault.errno, fault.strerror, f"127.0.0.1:{port}") from None
+        hint = "; --port 0 takes a free one" if fault.errno == errno.EADDRINUSE else ""
+        raise OSError(fault.errno, f"{fault.strerror}{hint}", f"127.0.0.1:{port}") from None
 
 
 class Request(BaseHTTPRequestHandler):
