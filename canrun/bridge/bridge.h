@@ -181,7 +181,9 @@ int raw_want(const struct can_filter *filters, size_t count, bool has_fd);
 
 /* ---- own.c: which received frames this socket has sent ---- */
 
+/* A frame is about to be sent; the one that was last is refused. */
 void own_sent(const struct canfd_frame *frame, bool is_fd);
+void own_refused(void);
 
 /* The flags of recvmsg for a received frame, where this socket receives its own. */
 uint32_t own_flags(const struct item *item);

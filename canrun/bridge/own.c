@@ -20,6 +20,10 @@ void own_sent(const struct canfd_frame *frame, bool is_fd) {
     first += end - first > KEPT;
 }
 
+void own_refused(void) {
+    end -= end != first;
+}
+
 static bool is_equal(unsigned at, const struct item *item) {
     const struct canfd_frame *frame = &sent[at % KEPT].frame;
     size_t length = frame->can_id & CAN_RTR_FLAG ? 0 : frame->len;

@@ -166,9 +166,12 @@ int raw_send(struct session *to, const struct canfd_frame *frame, bool is_fd, bo
         return refused(EINVAL, "error message frames can't be sent");
     }
     for (;;) {
+        if (options.receive_own) {
+            own_sent(frame, is_fd); /* It may come back before the verdict does. */
+        }
         int error = session_send(to, frame, is_fd);
-        if (!error && options.receive_own) {
-            own_sent(frame, is_fd);
+        if (error && options.receive_own) {
+            own_refused();
         }
         if (error != ENOBUFS || !is_waiting) {
             return error;
