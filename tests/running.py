@@ -103,3 +103,36 @@ def bridges(address):
 def none_left(server):
     """Whether no bridge is left of what ran for this server, soon."""
     return come_true(lambda: not bridges(environment(server)["CANBUSD_ADDRESS"]), WAIT)
+
+
+#: Calls of the kernel in which a program waits for frames: poll, select, pselect6, ppoll, epoll_wait, epoll_pwait, recvmsg.
+#: While a socket is made or bound it waits in others.
+WAITING = {7, 23, 270, 271, 232, 281, 47}
+
+
+def settled(child):
+    """Returns the program once it waits for frames; it may have ended."""
+
+    def waits():
+        with open(f"/proc/{child.pid}/syscall", encoding="ascii") as syscall:
+            return syscall.read().split()[0] in map(str, WAITING)
+
+    def is_settled():
+        return child.poll() is not None or waits()
+
+    assert come_true(is_settled), "it does not wait for frames"
+    return child
+
+
+@contextlib.contextmanager
+def listening(server, *words, **how):
+    """A program that runs by canbusd-run, and waits for frames."""
+    with started(server, *words, **how) as child:
+        yield settled(child)
+
+
+def written(child, patience=WAIT):
+    """What a program has written until its end, which comes by itself."""
+    output, errors = child.communicate(timeout=patience)
+    assert child.returncode == 0, f"status {child.returncode}: {output}{errors}"
+    return output

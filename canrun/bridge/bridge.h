@@ -16,8 +16,8 @@
 #define PROGRAM 3
 /* The interfaces that a server may have: 16 buses of 16. */
 #define MOST_SESSIONS 256
-/* Milliseconds that a server is given for a reply. */
-#define PATIENCE 5000
+/* Seconds that a server is given for a reply. */
+#define PATIENCE 5
 #define SECOND 1000000000ull
 #define MIN(a, b) ((a) < (b) ? (a) : (b))
 
@@ -95,8 +95,8 @@ void session_ask_counts(struct session *session);
 /* Waits until a frame has left the transmit queue. Returns 0, or an errno where nobody waits any more. */
 int session_wait_for_room(struct session *session, bool is_unasked);
 
-/* Reads what there is, handles it, and hands it on. */
-void session_read(struct session *session);
+/* Reads what there is, handles it, and hands it on. False where it waited, and nothing came in PATIENCE. */
+bool session_read(struct session *session, bool waits);
 
 /* ---- sessions.c: the sessions of this socket ---- */
 
@@ -135,8 +135,8 @@ uint64_t clock_now(void);
  * sessions bring is handled. Returns whether the program asks for something, or has closed its socket. */
 bool wait_for_input(int64_t nanoseconds, bool takes_requests);
 
-/* Waits for this session alone, until this moment of the clock; false where it has passed. */
-bool wait_for_session(const struct session *session, bool has_to_write, uint64_t until);
+/* Waits until this session can be read or written, or until this moment of the clock; false where it has passed. */
+bool wait_for_session(const struct session *session, uint64_t until);
 
 /* Whether the last copy of the socket has been closed. */
 bool program_is_gone(void);

@@ -9,6 +9,7 @@
 #include <stdlib.h>
 #include <string.h>
 #include <sys/socket.h>
+#include <sys/time.h>
 #include <unistd.h>
 
 /* The longest text of commands that are given at once: filters, and the echo. */
@@ -95,8 +96,8 @@ static void handle_input(struct session *session) {
     }
 }
 
-void session_read(struct session *session) {
-    ssize_t length = recv(session->fd, session->input + session->have, sizeof session->input - session->have, MSG_DONTWAIT);
+bool session_read(struct session *session, bool waits) {
+    ssize_t length = recv(session->fd, session->input + session->have, sizeof session->input - session->have, waits ? 0 : MSG_DONTWAIT);
     if (length > 0) {
         session->have += (size_t)length;
         handle_input(session);
@@ -104,12 +105,14 @@ void session_read(struct session *session) {
         lose(session);
     }
     outbox_flush();
+    return length >= 0 || errno != EAGAIN;
 }
 
 /* ---- commands ---- */
 
 /* Writes all of it. What comes meanwhile is handled: a server that waits for its reader takes no commands. */
-static bool put_text(struct session *session, const char *text, size_t length, uint64_t until) {
+static bool put_text(struct session *session, const char *text, size_t length) {
+    uint64_t until = clock_now() + PATIENCE * SECOND;
     size_t written = 0;
     while (session->fd >= 0) {
         ssize_t part = send(session->fd, text + written, length - written, MSG_DONTWAIT | MSG_NOSIGNAL);
@@ -117,11 +120,11 @@ static bool put_text(struct session *session, const char *text, size_t length, u
         if (written == length) {
             return true;
         }
-        if ((part < 0 && errno != EAGAIN && errno != EINTR) || !wait_for_session(session, true, until)) {
+        if ((part < 0 && errno != EAGAIN && errno != EINTR) || !wait_for_session(session, until)) {
             lose(session); /* Half a command was written perhaps. */
             return false;
         }
-        session_read(session);
+        session_read(session, false);
     }
     return false;
 }
@@ -129,17 +132,15 @@ static bool put_text(struct session *session, const char *text, size_t length, u
 int session_command(struct session *session, const char *text) {
     char whole[LONGEST];
     int length = snprintf(whole, sizeof whole, "%s< echo >", text);
-    uint64_t until = clock_now() + PATIENCE * (SECOND / 1000);
     session->reply[0] = 0;
     session->due++;
-    if (!put_text(session, whole, (size_t)length, until)) {
+    if (!put_text(session, whole, (size_t)length)) {
         return refused(ENXIO, GONE);
     }
     while (session->due && session->fd >= 0) {
-        if (!wait_for_session(session, false, until)) {
+        if (!session_read(session, true)) {
             return refused(ETIMEDOUT, "the server does not reply");
         }
-        session_read(session);
     }
     /* What it said before its end counts: it may have too many sessions. */
     int error = error_of(session->reply);
@@ -167,6 +168,7 @@ struct session *session_start(int *error) {
     } else if ((session->fd = address_connect(&address)) < 0) {
         *error = refused(ENODEV, "there is no server at CANBUSD_ADDRESS");
     } else {
+        setsockopt(session->fd, SOL_SOCKET, SO_RCVTIMEO, &(struct timeval){PATIENCE, 0}, sizeof(struct timeval));
         *error = session_command(session, "");
         if (!*error && strcmp(session->reply, "hi") != 0) {
             *error = refused(ENODEV, "what listens at CANBUSD_ADDRESS is no canbusd");
@@ -220,7 +222,7 @@ int session_wait_for_room(struct session *session, bool is_unasked) {
         wait_for_input(pause, false);
         if (program_is_gone()) {
             closed = closed ? closed : clock_now();
-            if (!is_unasked || clock_now() - closed > PATIENCE * (SECOND / 1000)) {
+            if (!is_unasked || clock_now() - closed > PATIENCE * SECOND) {
                 return refused(ENETDOWN, "the program has ended");
             }
         }

@@ -32,16 +32,16 @@ bool wait_for_input(int64_t nanoseconds, bool takes_requests) {
     }
     for (int i = 0; i < session_count; i++) {
         if (polled[1 + i].revents) {
-            session_read(sessions[i]);
+            session_read(sessions[i], false);
         }
     }
     return takes_requests && polled[0].revents & (POLLIN | POLLHUP | POLLERR);
 }
 
-bool wait_for_session(const struct session *session, bool has_to_write, uint64_t until) {
+bool wait_for_session(const struct session *session, uint64_t until) {
     for (;;) {
         uint64_t now = clock_now();
-        struct pollfd polled = {session->fd, (short)(POLLIN | (has_to_write ? POLLOUT : 0)), 0};
+        struct pollfd polled = {session->fd, POLLIN | POLLOUT, 0};
         if (now >= until) {
             return false;
         }
