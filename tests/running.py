@@ -4,6 +4,7 @@ import contextlib
 import functools
 import os
 import shutil
+import signal
 import subprocess
 
 import pytest
@@ -76,14 +77,15 @@ def passes(server, *words, **how):
 
 @contextlib.contextmanager
 def started(server, *words, options=(), **how):
-    """A program that runs by canbusd-run, and is gone in the end."""
+    """A program that runs by canbusd-run, in a group of its own, which is gone in the end."""
     how.setdefault("env", environment(server))
-    how = {"stdout": subprocess.PIPE, "stderr": subprocess.PIPE, "text": True, **how}
+    how = {"stdout": subprocess.PIPE, "stderr": subprocess.PIPE, "text": True, "start_new_session": True, **how}
     with subprocess.Popen([command(), *options, "--", *words], **how) as child:
         try:
             yield child
         finally:
-            child.kill()
+            with contextlib.suppress(ProcessLookupError):
+                os.killpg(child.pid, signal.SIGKILL)
 
 
 def bridges(address):

@@ -273,7 +273,6 @@ def test_canlogserver(server):
                 line = client.recv(200).split(b"\n")[0]
                 break
         assert re.fullmatch(rb"\(\d+\.\d{6}\) can1 123#DEADBEEF", line), line
-        logs.kill()
 
 
 def test_isotpdump(server):
