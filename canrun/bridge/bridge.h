@@ -176,8 +176,11 @@ void raw_receive(const struct item *item, int index);
 /* Writes the commands that change what the session has into what the socket has, and notes it as given. */
 void raw_setup(struct session *session, char *text, size_t size);
 
-/* Sets filters and FD frames for a protocol that is not CAN_RAW. */
-int raw_want(const struct can_filter *filters, size_t count, bool has_fd);
+/* For a protocol that is not CAN_RAW: its sessions receive what passes one of these filters. */
+int raw_want(const struct can_filter *filters, size_t count);
+
+/* For CAN_BCM: FD frames, and what the socket itself has sent. */
+void raw_want_all_kinds(void);
 
 /* ---- own.c: which received frames this socket has sent ---- */
 
@@ -190,7 +193,8 @@ uint32_t own_flags(const struct item *item);
 
 /* ---- bcm.c: CAN_BCM; isotp.c: CAN_ISOTP ---- */
 
-int bcm_write(int index, const char *data, size_t length);
+/* Carries out what a program writes; `taken` is what its write returns. */
+int bcm_write(int index, const char *data, size_t length, int *taken);
 void bcm_receive(const struct item *item, int index);
 /* Does what is due; returns how many nanoseconds there are until the next is, or -1. */
 int64_t bcm_due(void);

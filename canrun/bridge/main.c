@@ -63,6 +63,10 @@ int main(void) {
     }
     protocol = (enum wire_protocol)name.sun_path[sizeof WIRE_NAME];
     leave_program();
+    if (protocol == WIRE_BCM) {
+        raw_want(NULL, 0);
+        raw_want_all_kinds();
+    }
     /* Once the server is gone and all is handed over, the program reads the end of its socket: ENODEV. */
     while (!sessions_ended() || !outbox_is_empty()) {
         int64_t due = protocol == WIRE_BCM ? bcm_due() : -1;

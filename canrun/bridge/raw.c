@@ -111,7 +111,9 @@ static int set_filters(const void *value, size_t length) {
     if (!fresh) {
         return refused(ENOMEM, "no memory for filters");
     }
-    memcpy(fresh, value, length);
+    if (length) {
+        memcpy(fresh, value, length);
+    }
     if (filters != all_pass) {
         free(filters);
     }
@@ -150,10 +152,13 @@ int raw_get(int option, void *room, uint32_t *length) {
     return 0;
 }
 
-int raw_want(const struct can_filter *wanted, size_t count, bool has_fd) {
+int raw_want(const struct can_filter *wanted, size_t count) {
     int error = set_filters(wanted, count * sizeof *wanted);
-    options.fd_frames = has_fd;
     return error ? error : sessions_apply();
+}
+
+void raw_want_all_kinds(void) {
+    options.fd_frames = options.receive_own = 1;
 }
 
 /* ---- frames ---- */

@@ -26,8 +26,9 @@ static void put_reply(int to, int error, struct reply *reply) {
     close(to);
 }
 
-static int send_message(int index, const char *data, size_t length) {
-    return protocol == WIRE_BCM ? bcm_write(index, data, length) : raw_write(index, data, length, false);
+static int send_message(int index, const char *data, size_t length, struct reply *reply) {
+    reply->head.value = (int)length;
+    return protocol == WIRE_BCM ? bcm_write(index, data, length, &reply->head.value) : raw_write(index, data, length, false);
 }
 
 /* The name in the data, which is empty where there is none. */
@@ -54,7 +55,7 @@ static int name_of(int index, struct reply *reply) {
 static int carry_out(const struct wire_request *request, const char *data, size_t length, struct reply *reply) {
     char name[IFNAMSIZ];
     switch (request->kind) {
-    case WIRE_SEND: return send_message(request->ifindex, data, length);
+    case WIRE_SEND: return send_message(request->ifindex, data, length, reply);
     case WIRE_BIND: get_name(name, data, length); return sessions_bind(request->ifindex, name);
     case WIRE_SET: return raw_set(request->option, data, length);
     case WIRE_GET: return raw_get(request->option, reply->data, &reply->head.length);

@@ -8,6 +8,7 @@
 
 static ssize_t can_sendmsg(int fd, const struct msghdr *message) {
     struct wire_request request = {.kind = WIRE_SEND, .ifindex = WIRE_BOUND};
+    struct answer answer = {0};
     size_t length = 0;
     for (size_t i = 0; i < message->msg_iovlen; i++) {
         length += message->msg_iov[i].iov_len;
@@ -23,7 +24,7 @@ static ssize_t can_sendmsg(int fd, const struct msghdr *message) {
         }
         request.ifindex = can.can_ifindex;
     }
-    return ask(fd, "write", &request, message->msg_iov, message->msg_iovlen, NULL) ? -1 : (ssize_t)length;
+    return ask(fd, "write", &request, message->msg_iov, message->msg_iovlen, &answer) ? -1 : answer.value;
 }
 
 static ssize_t send_one(int fd, const void *data, size_t length, const struct sockaddr *to, socklen_t to_length) {

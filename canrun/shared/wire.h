@@ -22,7 +22,8 @@ enum wire_protocol { WIRE_RAW = 'r', WIRE_BCM = 'b', WIRE_ISOTP = 'i' };
 #define WIRE_REPLY 4096
 
 enum wire_kind {
-    WIRE_SEND,       /* the frame or message follows; `ifindex` is that of sendto, or WIRE_BOUND */
+    WIRE_SEND,       /* the frame or message follows; `ifindex` is that of sendto, or WIRE_BOUND; what the write returns is the
+                      * reply's value */
     WIRE_BIND,       /* to `ifindex`, 0 for all; the name follows where the library knows it */
     WIRE_SET,        /* `option` of the protocol's level; the value follows */
     WIRE_GET,        /* the same; the value is the reply's data */
