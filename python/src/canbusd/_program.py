@@ -48,6 +48,17 @@ def find_program() -> str:
     return found
 
 
+def find_run() -> str:
+    """Returns the path of canbusd-run: `$CANBUSD_RUN`, else `./canbusd-run` of the clone, else the one on the PATH."""
+    given = os.environ.get("CANBUSD_RUN")
+    launchers = [str(folder.parent / "canbusd-run") for folder in package_folders()]
+    for candidate in [given] if given else [*launchers, "canbusd-run"]:
+        found = shutil.which(candidate)
+        if found is not None:
+            return os.path.abspath(found)
+    raise ProgramNotFound(f"CANBUSD_RUN names no program: {given}" if given else "canbusd-run is not on the PATH")
+
+
 def audited(path: Union[str, "os.PathLike[str]"]) -> str:
     """Returns what `canbusd audit` says of the record in this file: `ok 7 entries`, or the fault and where it is."""
     words = [find_program(), "audit", os.fspath(path)]
