@@ -13,7 +13,7 @@ pytestmark = needs_gcc
 ATTACK = f"can0,can1@{ROOT}/examples/bus_off_attack.script"
 SIXTEEN = ",".join(f"node{number}" for number in range(16))
 #: Those that need nothing else than can0 and can1 on one bus.
-PLAIN = ("calls", "faults", "options", "filters", "own", "fd", "epoll", "fork", "threads", "signals", "bcm")
+PLAIN = ("calls", "faults", "options", "filters", "own", "fd", "epoll", "fork", "threads", "signals", "bcm", "isotp")
 
 
 @pytest.fixture(params=["", pytest.param("sanitized", marks=pytest.mark.slow)], ids=["plain", "sanitized"])

@@ -146,6 +146,9 @@ bool program_is_gone(void);
 /* Puts a message behind the others. Where there is no room it is lost, and counted. */
 void outbox_put(const void *data, size_t length, uint64_t moment, int index, uint32_t message_flags);
 
+/* The same for an errno, which a read returns. */
+void outbox_put_error(int error);
+
 /* Hands over what the program's socket has room for. */
 void outbox_flush(void);
 bool outbox_is_empty(void);
@@ -179,8 +182,8 @@ void raw_setup(struct session *session, char *text, size_t size);
 /* For a protocol that is not CAN_RAW: its sessions receive what passes one of these filters. */
 int raw_want(const struct can_filter *filters, size_t count);
 
-/* For CAN_BCM: FD frames, and what the socket itself has sent. */
-void raw_want_all_kinds(void);
+void raw_want_fd(bool has_fd);
+void raw_want_own(void);
 
 /* ---- own.c: which received frames this socket has sent ---- */
 
@@ -191,7 +194,7 @@ void own_refused(void);
 /* The flags of recvmsg for a received frame, where this socket receives its own. */
 uint32_t own_flags(const struct item *item);
 
-/* ---- bcm.c: CAN_BCM; isotp.c: CAN_ISOTP ---- */
+/* ---- bcm.c: CAN_BCM ---- */
 
 /* Carries out what a program writes; `taken` is what its write returns. */
 int bcm_write(int index, const char *data, size_t length, int *taken);
@@ -199,7 +202,28 @@ void bcm_receive(const struct item *item, int index);
 /* Does what is due; returns how many nanoseconds there are until the next is, or -1. */
 int64_t bcm_due(void);
 
+/* ---- isotp.c: CAN_ISOTP ---- */
+
+int isotp_bind(int index, const char *name, canid_t rx_id, canid_t tx_id);
+int isotp_set(int option, const void *value, size_t length);
+int isotp_get(int option, void *room, uint32_t *length);
+void isotp_address(uint32_t identifiers[2]);
+
+/* Sends a message. Returns ISOTP_LATER where the reply is given later, by this pipe; else an errno, or 0. */
+#define ISOTP_LATER (-1)
+int isotp_write(const char *data, size_t length, bool is_nonblocking, int reply_to);
+void isotp_receive(const struct item *item);
+/* Does what is due; returns how many nanoseconds there are until the next is, or -1. */
+int64_t isotp_due(void);
+bool isotp_takes_requests(void);
+/* A message that was accepted is sent to its end, also where the socket has been closed. */
+bool isotp_is_busy(void);
+
 /* ---- requests.c: what the program asks for ---- */
+
+/* Gives the reply to a request whose error, or value, is this. */
+void request_reply(int to, int error, int value);
+
 
 /* Carries out one request. Returns false where the last copy of the socket is closed. */
 bool request_serve(void);

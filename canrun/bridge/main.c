@@ -17,10 +17,10 @@ int refused(int error, const char *why) {
 }
 
 void item_received(const struct item *item, int index) {
-    if (protocol == WIRE_BCM) {
-        bcm_receive(item, index);
-    } else {
-        raw_receive(item, index);
+    switch (protocol) {
+    case WIRE_BCM: bcm_receive(item, index); break;
+    case WIRE_ISOTP: isotp_receive(item); break;
+    default: raw_receive(item, index);
     }
 }
 
@@ -54,6 +54,26 @@ static int64_t sooner(int64_t one, int64_t other) {
     return one < 0 ? other : other < 0 ? one : MIN(one, other);
 }
 
+static int64_t do_due(void) {
+    int64_t due = protocol == WIRE_BCM ? bcm_due() : protocol == WIRE_ISOTP ? isotp_due() : -1;
+    return sooner(due, outbox_counts_due());
+}
+
+/* Until the socket is closed, and what was accepted is sent. Once the server is gone and all is handed over, the program
+ * reads the end of its socket: ENODEV. */
+static void serve(void) {
+    bool is_closed = false;
+    for (;;) {
+        int64_t due = do_due();
+        if ((is_closed && !isotp_is_busy()) || (sessions_ended() && outbox_is_empty())) {
+            return;
+        }
+        if (wait_for_input(due, !is_closed && isotp_takes_requests())) {
+            is_closed = !request_serve();
+        }
+    }
+}
+
 int main(void) {
     struct sockaddr_un name;
     socklen_t length = sizeof name;
@@ -65,14 +85,9 @@ int main(void) {
     leave_program();
     if (protocol == WIRE_BCM) {
         raw_want(NULL, 0);
-        raw_want_all_kinds();
+        raw_want_fd(true);
+        raw_want_own();
     }
-    /* Once the server is gone and all is handed over, the program reads the end of its socket: ENODEV. */
-    while (!sessions_ended() || !outbox_is_empty()) {
-        int64_t due = protocol == WIRE_BCM ? bcm_due() : -1;
-        if (wait_for_input(sooner(due, outbox_counts_due()), true) && !request_serve()) {
-            return 0;
-        }
-    }
+    serve();
     return 0;
 }

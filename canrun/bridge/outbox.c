@@ -58,22 +58,31 @@ static struct message *place_for(size_t length) {
     return message;
 }
 
-void outbox_put(const void *data, size_t length, uint64_t moment, int index, uint32_t message_flags) {
-    struct wire_trailer trailer = {moment, index, is_counted ? dropped : 0, message_flags, is_stamped};
-    struct message *message = place_for(length + sizeof trailer);
+static void put(const void *data, size_t length, const struct wire_trailer *trailer) {
+    struct message *message = place_for(length + sizeof *trailer);
     if (!message) {
         outbox_flush();
-        message = place_for(length + sizeof trailer);
+        message = place_for(length + sizeof *trailer);
     }
     if (!message) {
         dropped++;
         return;
     }
     memcpy(message->data, data, length);
-    memcpy(message->data + length, &trailer, sizeof trailer);
+    memcpy(message->data + length, trailer, sizeof *trailer);
     if (is_counted && !uncounted++) {
         count_at = clock_now() + COUNT_PAUSE;
     }
+}
+
+void outbox_put(const void *data, size_t length, uint64_t moment, int index, uint32_t message_flags) {
+    struct wire_trailer trailer = {moment, index, is_counted ? dropped : 0, message_flags, is_stamped, 0};
+    put(data, length, &trailer);
+}
+
+void outbox_put_error(int error) {
+    struct wire_trailer trailer = {.error = (uint16_t)error};
+    put("", 0, &trailer);
 }
 
 static size_t after(size_t at) {

@@ -157,8 +157,12 @@ int raw_want(const struct can_filter *wanted, size_t count) {
     return error ? error : sessions_apply();
 }
 
-void raw_want_all_kinds(void) {
-    options.fd_frames = options.receive_own = 1;
+void raw_want_fd(bool has_fd) {
+    options.fd_frames = has_fd;
+}
+
+void raw_want_own(void) {
+    options.receive_own = 1;
 }
 
 /* ---- frames ---- */

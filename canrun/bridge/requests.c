@@ -26,9 +26,18 @@ static void put_reply(int to, int error, struct reply *reply) {
     close(to);
 }
 
-static int send_message(int index, const char *data, size_t length, struct reply *reply) {
+void request_reply(int to, int error, int value) {
+    struct reply reply = {.head = {.value = value}};
+    put_reply(to, error, &reply);
+}
+
+static int send_message(const struct wire_request *request, const char *data, size_t length, int to, struct reply *reply) {
     reply->head.value = (int)length;
-    return protocol == WIRE_BCM ? bcm_write(index, data, length, &reply->head.value) : raw_write(index, data, length, false);
+    switch (protocol) {
+    case WIRE_BCM: return bcm_write(request->ifindex, data, length, &reply->head.value);
+    case WIRE_ISOTP: return isotp_write(data, length, request->number, to);
+    default: return raw_write(request->ifindex, data, length, false);
+    }
 }
 
 /* The name in the data, which is empty where there is none. */
@@ -51,16 +60,39 @@ static int name_of(int index, struct reply *reply) {
     return 0;
 }
 
-/* Carries out a request whose data are these; returns an errno, or 0. */
-static int carry_out(const struct wire_request *request, const char *data, size_t length, struct reply *reply) {
+static int bind_to(const struct wire_request *request, const char *name) {
+    return protocol == WIRE_ISOTP ? isotp_bind(request->ifindex, name, request->rx_id, request->tx_id)
+                                  : sessions_bind(request->ifindex, name);
+}
+
+static int set_option(int option, const char *data, size_t length) {
+    return protocol == WIRE_ISOTP ? isotp_set(option, data, length) : raw_set(option, data, length);
+}
+
+static int get_option(int option, struct reply *reply) {
+    return protocol == WIRE_ISOTP ? isotp_get(option, reply->data, &reply->head.length)
+                                  : raw_get(option, reply->data, &reply->head.length);
+}
+
+static int get_address(struct reply *reply) {
+    uint32_t identifiers[2];
+    isotp_address(identifiers);
+    memcpy(reply->data, identifiers, sizeof identifiers);
+    reply->head.value = bound_index;
+    reply->head.length = protocol == WIRE_ISOTP ? sizeof identifiers : 0;
+    return 0;
+}
+
+/* Carries out a request whose data are these, and whose reply goes there; returns an errno, 0, or ISOTP_LATER. */
+static int carry_out(const struct wire_request *request, const char *data, size_t length, int to, struct reply *reply) {
     char name[IFNAMSIZ];
     switch (request->kind) {
-    case WIRE_SEND: return send_message(request->ifindex, data, length, reply);
-    case WIRE_BIND: get_name(name, data, length); return sessions_bind(request->ifindex, name);
-    case WIRE_SET: return raw_set(request->option, data, length);
-    case WIRE_GET: return raw_get(request->option, reply->data, &reply->head.length);
+    case WIRE_SEND: return send_message(request, data, length, to, reply);
+    case WIRE_BIND: get_name(name, data, length); return bind_to(request, name);
+    case WIRE_SET: return set_option(request->option, data, length);
+    case WIRE_GET: return get_option(request->option, reply);
     case WIRE_SOCKET_SET: outbox_set(request->option, request->number); return 0;
-    case WIRE_ADDRESS: reply->head.value = bound_index; return 0;
+    case WIRE_ADDRESS: return get_address(reply);
     case WIRE_INDEX: get_name(name, data, length); return look_up(name, reply);
     case WIRE_NAME_OF: return name_of(request->ifindex, reply);
     case WIRE_LIST: reply->head.length = sessions_list(reply->data, sizeof reply->data); return 0;
@@ -98,6 +130,9 @@ bool request_serve(void) {
     }
     memcpy(&request, data, sizeof request);
     reply.head = (struct wire_reply){0};
-    put_reply(to, carry_out(&request, data + sizeof request, (size_t)length - sizeof request, &reply), &reply);
+    int error = carry_out(&request, data + sizeof request, (size_t)length - sizeof request, to, &reply);
+    if (error != ISOTP_LATER) {
+        put_reply(to, error, &reply);
+    }
     return true;
 }

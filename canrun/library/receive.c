@@ -103,6 +103,9 @@ static ssize_t can_recvmsg(int fd, enum wire_protocol protocol, struct msghdr *u
     }
     length -= (ssize_t)sizeof trailer;
     memcpy(&trailer, datagram + length, sizeof trailer);
+    if (trailer.error) {
+        return refuse("read", trailer.error, "a message has not come whole, or has not got through");
+    }
     size_t done = scatter(user, datagram, (size_t)length);
     keep_stamp(fd, trailer.nanoseconds);
     message.msg_flags &= ~MSG_TRUNC;

@@ -39,7 +39,7 @@ struct wire_request {
     uint32_t kind;
     int32_t ifindex;
     int32_t option;
-    int32_t number;         /* the first number of a value of SOL_SOCKET */
+    int32_t number;        /* the first number of a value of SOL_SOCKET; of WIRE_SEND, whether the write may not wait */
     uint32_t rx_id, tx_id; /* WIRE_BIND of ISO-TP */
 };
 
@@ -54,7 +54,8 @@ struct wire_trailer {
     int32_t ifindex;
     uint32_t dropped;       /* frames lost before this one, where SO_RXQ_OVFL asks for it */
     uint32_t message_flags; /* MSG_DONTROUTE, MSG_CONFIRM */
-    uint32_t is_stamped;    /* SO_TIMESTAMPING asks for the moment */
+    uint16_t is_stamped;    /* SO_TIMESTAMPING asks for the moment */
+    uint16_t error;         /* an errno that the read returns, without a message; or 0 */
 };
 
 #endif
