@@ -300,3 +300,21 @@ def test_multiprocessing(server):
             assert child.exitcode == 0
         """,
     )
+
+
+def test_isotp(server):
+    """Python's own sockets of ISO-TP"""
+    python(
+        server,
+        """
+        import socket
+        a = socket.socket(socket.AF_CAN, socket.SOCK_DGRAM, socket.CAN_ISOTP)
+        b = socket.socket(socket.AF_CAN, socket.SOCK_DGRAM, socket.CAN_ISOTP)
+        a.bind(("can0", 0x321, 0x123))
+        b.bind(("can1", 0x123, 0x321))
+        for length in 1, 7, 8, 500:
+            data = bytes(number % 251 for number in range(length))
+            assert a.send(data) == length and b.recv(5000) == data
+            assert b.send(data) == length and a.recv(5000) == data
+        """,
+    )

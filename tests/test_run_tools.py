@@ -283,3 +283,63 @@ def test_isotpdump(server):
         ended(dump)
     text = re.sub(r"\x1b\[[0-9;]*m", "", "".join(lines))
     assert "[SF] ln: 2" in text and "[FF] ln: 10" in text, text
+
+
+@needs("isotpsend", "isotprecv")
+@pytest.mark.parametrize(
+    "sending, receiving, length",
+    [
+        (["-s", "123", "-d", "321"], ["-s", "321", "-d", "123"], 5),
+        (["-s", "123", "-d", "321"], ["-s", "321", "-d", "123", "-b", "4", "-m", "1"], 3000),
+        (["-s", "12345678", "-d", "123", "-p", "AA"], ["-s", "123", "-d", "12345678", "-p", "55"], 200),
+        (["-s", "123", "-d", "321", "-x", "E0"], ["-s", "321", "-d", "123", "-x", "E0", "-b", "2"], 50),
+        (["-s", "123", "-d", "321", "-L", "72:64:0"], ["-s", "321", "-d", "123", "-L", "72:64:0"], 300),
+    ],
+)
+def test_isotp(server, sending, receiving, length):
+    """isotpsend and isotprecv: one frame, blocks, 29 bits with padding, extended addresses, FD frames"""
+    text = " ".join(f"{number * 7 % 256:02X}" for number in range(length))
+    with listening(server, "isotprecv", *receiving, "can1") as receiver:
+        passes(server, "isotpsend", *sending, "can0", input=text + "\n")
+        assert written(receiver).split() == text.split()
+
+
+@needs("isotpperf", "isotpsend", "isotprecv")
+def test_isotpperf(server):
+    """it measures a message between two others"""
+    with listening(server, "stdbuf", "-oL", "isotpperf", "-s", "123", "-d", "321", "vcan0") as perf:
+        with listening(server, "isotprecv", "-s", "321", "-d", "123", "vcan0") as receiver:
+            passes(server, "isotpsend", "-s", "123", "-d", "321", "vcan0", input="11 " * 100 + "\n")
+            assert len(written(receiver).split()) == 100
+        for _ in turns("the message is measured"):
+            shown = perf.stdout.read(1)
+            while not shown.endswith(("\r", "\n")):
+                shown += perf.stdout.read(1)
+            if "100 byte in" in shown:
+                break
+
+
+@needs("bcmserver")
+def test_bcmserver(server):
+    """its port takes commands: a cyclic frame, and a filter for contents"""
+    with started(server, "bcmserver") as running, contextlib.ExitStack() as ending:
+        for _ in turns("it listens"):
+            if running.poll() is not None:
+                pytest.skip("another bcmserver has its port")
+            with contextlib.suppress(ConnectionRefusedError):
+                client = ending.enter_context(socket.create_connection(("127.0.0.1", 28600), 20))
+                break
+            time.sleep(0.05)
+        with listening(server, "candump", "-L", "-n", "3", "can1") as dump:
+            client.sendall(b"< can0 A 0 20000 123 2 AB CD >")
+            assert [line.split()[-1] for line in written(dump).splitlines()] == ["123#ABCD"] * 3
+        client.sendall(b"< can0 D 0 0 123 0 >< can0 R 0 0 222 1 FF >")
+        said = ""
+        for number in range(1000):
+            send(server, f"222#{number // 20 % 256:02X}", name="can1")
+            client.settimeout(0.1)
+            with contextlib.suppress(TimeoutError):
+                said += client.recv(200).decode()
+            if said.count(">") >= 2:
+                break
+        assert re.search(r"< can0 222 1 00 >.*< can0 222 1 01 >", said), said
