@@ -20,7 +20,7 @@ import pytest
 from serving import ROOT, WAIT, come_true
 
 # Commands of README that run until they are ended.
-ENDLESS = ("./canbusd serve", "python3 -m canbusd dump", "python3 -m canbusd watch")
+ENDLESS = ("./canbusd serve", "./canbusd-run candump", "python3 -m canbusd dump", "python3 -m canbusd watch")
 
 
 class Clone:
@@ -143,6 +143,7 @@ def test_files_that_are_named(clone):
     for name in [
         "README.md",
         "canbusd.1",
+        "canbusd-run.1",
         *(f"docs/{one}" for one in os.listdir(os.path.join(clone.folder, "docs")) if one.endswith(".md")),
     ]:
         for path in re.findall(

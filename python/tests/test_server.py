@@ -368,3 +368,17 @@ def test_the_launcher(launcher, monkeypatch, found_by):
         time.sleep(0.01)
     else:
         pytest.fail(f"some of its processes still run: {states}")
+
+
+def test_programs_with_can_sockets(server, pair):
+    """unchanged programs: by run, by environment, and their faults"""
+    can0, can1 = pair
+    send = "import socket, struct; s = socket.socket(29, 3, 1); s.bind(('can0',)); s.send(struct.pack('=IB3x8s', 0x123, 1, b'a'))"
+    done = server.run([sys.executable, "-c", send], check=True, capture_output=True, text=True)
+    assert (done.returncode, done.stdout, done.stderr) == (0, "", "")
+    subprocess.run([sys.executable, "-c", send], env=server.environment(), check=True)
+    assert [can1.recv(WAIT).arbitration_id for _ in range(2)] == [0x123] * 2
+    assert can0.recv(WAIT).data == b"a"  # By loopback.
+    assert server.run(["sh", "-c", "exit 3"], wait=True).returncode == 3
+    wrong = server.run([sys.executable, "-c", send.replace("can0", "can5")], capture_output=True, text=True)
+    assert wrong.returncode == 1 and "No such device" in wrong.stderr

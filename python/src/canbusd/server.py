@@ -16,7 +16,7 @@ from collections.abc import Mapping, Sequence
 from pathlib import Path
 from typing import TYPE_CHECKING, Any, NamedTuple, Optional, Union
 
-from canbusd._program import audited
+from canbusd._program import audited, find_program
 from canbusd._process import RUNNING, ProgramRun, check_names, option_words
 from canbusd.expectations import Expectations
 from canbusd.faults import Script, script_text
@@ -149,6 +149,26 @@ class Server(Expectations, ProgramRun):
         bus = CanbusdBus(channel, address=self.address, **kwargs)
         bus.window = self._txqueue
         return bus
+
+    def run(self, words: Sequence[str], wait: bool = False, **kwargs: Any) -> "subprocess.CompletedProcess[Any]":
+        """Runs a program whose CAN sockets are those of this server, such as ``["cansend", "can0", "123#"]``, to its end.
+
+        With ``wait`` its writes wait where the transmit queue is full. The other arguments are those of subprocess.run.
+        """
+        return subprocess.run([*self._run_words(), *(["--wait"] if wait else []), "--", *words], **kwargs)
+
+    def environment(self) -> dict[str, str]:
+        """Returns the environment of this process with what makes a program's CAN sockets those of this server.
+
+        For programs that others start: ``subprocess.Popen(["candump", "can0"], env=server.environment())``.
+        """
+        words = [*self._run_words(), "--", "env", "-0"]
+        pairs = os.fsdecode(subprocess.run(words, stdout=subprocess.PIPE, check=True).stdout).split("\0")
+        return dict(pair.split("=", 1) for pair in pairs if pair)
+
+    def _run_words(self) -> list[str]:
+        names = ",".join(name for names in self._by_bus.values() for name in names[:-1])
+        return [find_program("canbusd-run"), "--address", self.address, "--interfaces", names]
 
     def stop(self) -> Result:
         """Ends the server; logs and records are written. Called again it returns the same.
