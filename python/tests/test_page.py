@@ -37,6 +37,8 @@ CUT = """[...document.querySelectorAll('main *, header *')].filter(one => {
   return one.checkVisibility() && one.scrollWidth > one.clientWidth + 1 && style.overflowX === 'hidden' && !isSigned
     || one.checkVisibility() && one.getBoundingClientRect().right > innerWidth + 1 && !one.closest('.rolling, pre');
 }).map(one => one.outerHTML.slice(0, 80))"""
+# Rows of lists that are wider than their list.
+WIDE = "[...document.querySelectorAll('.row')].filter(one => one.checkVisibility() && one.scrollWidth > one.clientWidth).length"
 # The contrast of each text with what is behind it, as WCAG 2 defines it, where it is below 4.5.
 WEAK = """(() => {
   const channels = colour => colour.match(/[\\d.]+/g).map(Number);
@@ -160,7 +162,7 @@ def test_mouse(shown):
 
 
 @pytest.mark.parametrize("dark", [False, True])
-@pytest.mark.parametrize("width", [320, 500, 1000, 1600])
+@pytest.mark.parametrize("width", [320, 500, 1000, 1200, 1600])
 def test_nothing_is_cut_and_all_is_legible(shown, width, dark):
     shown.size(width, dark=dark)
     assert shown.run("theme.page") == ("#14181e" if dark else "#fff")
@@ -169,6 +171,7 @@ def test_nothing_is_cut_and_all_is_legible(shown, width, dark):
         shown.settle()
         assert shown.run("document.documentElement.scrollWidth") == width
         assert shown.run(CUT) == []
+        assert shown.run(WIDE) == 0
         assert shown.run(WEAK) == []
 
 

@@ -415,17 +415,17 @@ function makeLists() {
     [["attempt", "7ch", "n"], moment, ["kind", "11ch"], ["what", "minmax(0, 1fr)", "w"]],
     ([step, kind, , words]) => [attemptCell(step), momentOf(step), kindCell(kind), words], event => event[0]);
   lists["tab-attempts"] = toStep("tried",
-    [["attempt", "8ch", "n"], moment, ["sender", "minmax(6ch, 1fr)"], ["frame no.", "8ch", "n h"],
-      ["frame", "minmax(20ch, 2fr)"], ["outcome", "minmax(14ch, 1fr)"], ["fault", "minmax(9ch, 1.5fr)", "w"],
-      ["accepted by", "minmax(9ch, 1.5fr)", "h w"]], attemptCells, step => step);
+    [["attempt", "8ch", "n"], moment, ["sender", "minmax(0, 1fr)"], ["frame no.", "8ch", "n h"],
+      ["frame", "minmax(0, 2.4fr)"], ["outcome", "minmax(0, 1.5fr)"], ["fault", "minmax(0, 1.5fr)", "w"],
+      ["accepted by", "minmax(0, 1.5fr)", "h w"]], attemptCells, step => step);
   lists["tab-items"] = toStep("items",
-    [["attempt", "8ch", "n"], moment, ["socket", "6ch", "n h"], ["from", "minmax(6ch, 1fr)", "h"],
-      ["frame no.", "8ch", "n h"], ["frame", "minmax(20ch, 2fr)"], ["says", "minmax(0, 2fr)", "w"],
-      ["what became of it", "minmax(14ch, 1.5fr)"]], itemCells, item => items.step[item]);
+    [["attempt", "8ch", "n"], moment, ["socket", "6ch", "n h"], ["from", "minmax(0, 1fr)", "h"],
+      ["frame no.", "8ch", "n h"], ["frame", "minmax(0, 2fr)"], ["says", "minmax(0, 2fr)", "w"],
+      ["what became of it", "minmax(0, 1.5fr)"]], itemCells, item => items.step[item]);
   lists["tab-sockets"] = new Rolling("sockets",
-    [["socket", "6ch", "n h"], ["node", "minmax(6ch, 1fr)"], ["capacity", "9ch", "n h"], ["queued", "9ch", "n h"],
-      ["taken", "9ch", "n h"], ["waiting", "8ch", "n h"], ["unread", "8ch", "n h"], ["dropped", "8ch", "n h"],
-      ["open", "minmax(10ch, 1fr)"]], one => [String(one.number), names[one.iface], ...[one.capacity, one.queued, one.taken,
+    [["socket", "6ch", "n h"], ["node", "minmax(0, 1fr)"], ["capacity", "minmax(0, 9ch)", "n h"], ["queued", "minmax(0, 9ch)", "n h"],
+      ["taken", "minmax(0, 9ch)", "n h"], ["waiting", "minmax(0, 8ch)", "n h"], ["unread", "minmax(0, 8ch)", "n h"], ["dropped", "minmax(0, 8ch)", "n h"],
+      ["open", "minmax(0, 1fr)"]], one => [String(one.number), names[one.iface], ...[one.capacity, one.queued, one.taken,
       one.waiting, one.unread].map(grouped), one.dropped ? badText(grouped(one.dropped)) : "0", one.open],
     one => chooseSocket(one.number));
   lists["tab-sockets"].isChosen = one => lanes.some(lane => lane.name === `socket ${one.number}`);

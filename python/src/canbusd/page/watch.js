@@ -166,14 +166,14 @@ function makeLists() {
     list.isChosen = one => one === chosen;
     return list;
   };
-  lists["tab-frames"] = make("frames", [["moment", "15ch", "n"], ["sender", "minmax(6ch, 1fr)", "h"],
-    ["frame", "minmax(22ch, 2fr)"], ["received by", "minmax(8ch, 2fr)", "h w"], ...isDecoded ? [["says", "minmax(0, 3fr)", "w"]] : []],
+  lists["tab-frames"] = make("frames", [["moment", "15ch", "n"], ["sender", "minmax(0, 1fr)", "h"],
+    ["frame", "minmax(0, 2fr)"], ["received by", "minmax(0, 2fr)", "h w"], ...isDecoded ? [["says", "minmax(0, 3fr)", "w"]] : []],
     frame => [momentWords(frame.moment), senderOf(frame), frame.text, seenBy(frame), ...isDecoded ? [frame.says] : []]);
-  lists["tab-events"] = make("events", [["moment", "15ch", "n"], ["node", "minmax(6ch, 12ch)"], ["kind", "18ch"],
+  lists["tab-events"] = make("events", [["moment", "15ch", "n"], ["node", "minmax(0, 12ch)"], ["kind", "18ch"],
     ["what", "minmax(0, 1fr)", "w"]], frame => [momentWords(frame.moment), names[frame.iface],
     isBad(frame.kind) ? element("span", frame.kind, { className: "bad" }) : frame.kind, frame.says]);
-  lists["tab-identifiers"] = make("identifiers", [["identifier", "10ch", "n"], ["sender", "minmax(6ch, 1fr)", "h"],
-    ["frames", "9ch", "n h"], ["ms since the one before", "22ch", "n h"], ["last", "minmax(20ch, 2fr)"], ["moment", "15ch", "n"]],
+  lists["tab-identifiers"] = make("identifiers", [["identifier", "10ch", "n"], ["sender", "minmax(0, 1fr)", "h"],
+    ["frames", "9ch", "n h"], ["ms since the one before", "22ch", "n h"], ["last", "minmax(0, 2fr)"], ["moment", "15ch", "n"]],
     one => [one.identifier, senderOf(one), grouped(one.number), (one.period * 1000).toFixed(3), one.text, momentWords(one.moment)]);
   chips = new Chips("kinds", () => showLists());
 }
