@@ -3,7 +3,8 @@
 # make test         the test command: every proof, edit, test, stored run and example, from scratch
 # make quick        every test, stored run and example without proofs, in a few minutes, for work in between
 # make python-test  the tests of the Python package, on the program; needs python-can and pytest
-# make check        the program, its documents and tools from outside, by pytest; slow tests are left out (tests/)
+# make check        the program, its documents and tools from outside, by pytest; slow tests are left out (tests/), and what
+#                   else is skipped is listed with what it lacks. It takes some 5 minutes
 # make dist         puts the proved program into dist/, with what it was built from
 # make dist-run     puts canbusd-run into dist/, with what it was built from
 # make verify-dist  proves and builds it again from scratch, and compares it with dist/ byte for byte
@@ -52,7 +53,9 @@ python-test:
 PYTHON ?= $(shell command -v /usr/bin/python3 || command -v python3)
 
 check:
-	$(PYTHON) -m pytest -q -m "not slow" tests
+	@$(PYTHON) -c 'import can, pytest' || { echo 'make check: $(PYTHON) has no python-can or no pytest;' \
+		'`apt-get install python3-can python3-pytest` for /usr/bin/python3, else PYTHON=.. names another' >&2; exit 1; }
+	$(PYTHON) -m pytest -q -rs -m "not slow" tests
 
 dist:
 	./scripts/program dist
