@@ -1,5 +1,5 @@
-/* CAN_BCM, the broadcast manager: frames that are sent again and again, and frames that are received only where they change.
- * What each message does is that of net/can/bcm.c of the kernel. */
+/* CAN_BCM, the broadcast manager: frames that are sent again and again, and frames that are received only where they
+ * change. What each message does is that of net/can/bcm.c of the kernel. */
 #define _GNU_SOURCE
 #include "bridge.h"
 
@@ -9,7 +9,16 @@
 #include <string.h>
 
 #define MOST_FRAMES 256
-#define HEAD sizeof(struct bcm_msg_head)
+#define HEAD sizeof(struct bcm_head)
+
+/* The head of a message: struct bcm_msg_head without its frames. */
+struct bcm_head {
+    uint32_t opcode, flags, count;
+    struct bcm_timeval ival1, ival2;
+    canid_t can_id;
+    uint32_t nframes;
+};
+_Static_assert(sizeof(struct bcm_head) == sizeof(struct bcm_msg_head), "the head of linux/can/bcm.h");
 
 /* What is known of a received frame, beside the frame. */
 struct last {
@@ -20,13 +29,13 @@ struct last {
 struct task {
     struct task *next;
     bool is_rx;
-    int index;                /* of its interface; 0 for all, to receive */
-    struct bcm_msg_head head; /* with the flags, timers and count that there are now */
-    unsigned at;              /* the frame that is sent next */
-    uint64_t due;             /* the next frame, or the timeout; 0 for never */
-    uint64_t held_until;      /* the throttle; 0 where it is off */
-    uint64_t told;            /* when the program got a frame last */
-    struct last *last;        /* one for each frame of an RX task */
+    int index;            /* of its interface; 0 for all, to receive */
+    struct bcm_head head; /* with the flags, timers and count that there are now */
+    unsigned at;          /* the frame that is sent next */
+    uint64_t due;         /* the next frame, or the timeout; 0 for never */
+    uint64_t held_until;  /* the throttle; 0 where it is off */
+    uint64_t told;        /* when the program got a frame last */
+    struct last *last;    /* one for each frame of an RX task */
     struct canfd_frame frames[];
 };
 
@@ -45,7 +54,7 @@ static size_t frame_size(uint32_t flags) {
 }
 
 /* The place of the task that a message is about, or the end of the list. */
-static struct task **find(const struct bcm_msg_head *head, int index, bool is_rx) {
+static struct task **find(const struct bcm_head *head, int index, bool is_rx) {
     struct task **place = &tasks;
     while (*place && !((*place)->is_rx == is_rx && (*place)->head.can_id == head->can_id && (*place)->index == index &&
                        is_fd(*place) == !!(head->flags & CAN_FD_FRAME))) {
@@ -55,10 +64,11 @@ static struct task **find(const struct bcm_msg_head *head, int index, bool is_rx
 }
 
 /* Hands a message of this kind to the program, with these frames. */
-static void inform(const struct task *task, uint32_t opcode, const struct canfd_frame *frames, uint32_t count, uint64_t moment, int index) {
+static void inform(const struct task *task, uint32_t opcode, const struct canfd_frame *frames, uint32_t count,
+                   uint64_t moment, int index) {
     static char data[WIRE_LARGEST];
     size_t each = frame_size(task->head.flags);
-    struct bcm_msg_head head = task->head;
+    struct bcm_head head = task->head;
     head.opcode = opcode;
     head.nframes = count;
     memcpy(data, &head, HEAD);
@@ -137,7 +147,8 @@ static void release(struct task *task, uint64_t now) {
 }
 
 /* Whether the frames differ where the mask has bits. */
-static bool differs(const struct canfd_frame *mask, const struct canfd_frame *one, const struct canfd_frame *other, unsigned length) {
+static bool differs(const struct canfd_frame *mask, const struct canfd_frame *one, const struct canfd_frame *other,
+                    unsigned length) {
     for (unsigned i = 0; i < length; i++) {
         if ((one->data[i] ^ other->data[i]) & mask->data[i]) {
             return true;
@@ -184,7 +195,8 @@ static void receive(struct task *task, const struct item *item, int index) {
 
 void bcm_receive(const struct item *item, int index) {
     for (struct task *task = tasks; task; task = task->next) {
-        if (task->is_rx && task->head.can_id == item->frame.can_id && is_fd(task) == item->is_fd && (!task->index || task->index == index)) {
+        if (task->is_rx && task->head.can_id == item->frame.can_id && is_fd(task) == item->is_fd &&
+            (!task->index || task->index == index)) {
             task->due = task->head.flags & RX_RTR_FRAME ? clock_now() : 0;
             receive(task, item, index);
         }
@@ -224,7 +236,8 @@ int64_t bcm_due(void) {
         if (task->held_until && task->held_until <= now) {
             release(task, now);
         }
-        uint64_t soonest = task->held_until && (!task->due || task->held_until < task->due) ? task->held_until : task->due;
+        uint64_t soonest =
+            task->held_until && (!task->due || task->held_until < task->due) ? task->held_until : task->due;
         next = soonest && (!next || soonest < next) ? soonest : next;
     }
     outbox_flush();
@@ -248,7 +261,7 @@ static int want_all(void) {
     return raw_want(filters, count);
 }
 
-static int copy_frames(struct task *task, const struct bcm_msg_head *head, const char *data) {
+static int copy_frames(struct task *task, const struct bcm_head *head, const char *data) {
     size_t each = frame_size(head->flags);
     for (uint32_t i = 0; i < head->nframes; i++, data += each) {
         memcpy(&task->frames[i], data, each);
@@ -262,52 +275,68 @@ static int copy_frames(struct task *task, const struct bcm_msg_head *head, const
     return 0;
 }
 
-/* Makes the task of this message, with its frames; one that there is already is changed. */
-static int set_up(const struct bcm_msg_head *head, const char *data, int index, bool is_rx, struct task **made) {
-    struct task **place = find(head, index, is_rx), *task = *place;
-    size_t count = head->nframes ? head->nframes : 1;
-    if (task && head->nframes > task->head.nframes) {
-        return refused(E2BIG, "a task can't get more frames");
-    }
-    bool is_new = !task;
-    if (is_new) {
-        task = calloc(1, sizeof *task + count * sizeof *task->frames);
-        struct last *last = is_rx ? calloc(count, sizeof *last) : NULL;
-        if (!task || (is_rx && !last)) {
-            free(task);
-            free(last);
-            return refused(ENOMEM, "no memory for a task");
-        }
-        *task = (struct task){.is_rx = is_rx, .index = index, .last = last, .head = *head};
-    }
-    int error = copy_frames(task, head, data);
-    if (error && is_new) {
+static void free_task(struct task *task) {
+    if (task) {
         free(task->last);
         free(task);
     }
-    if (error) {
-        return error;
+}
+
+/* A task without frames, timers or count. */
+static struct task *new_task(const struct bcm_head *head, int index, bool is_rx) {
+    size_t count = head->nframes ? head->nframes : 1;
+    struct task *task = calloc(1, sizeof *task + count * sizeof *task->frames);
+    struct last *last = is_rx ? calloc(count, sizeof *last) : NULL;
+    if (!task || (is_rx && !last)) {
+        free(task);
+        free(last);
+        return NULL;
     }
-    if (is_new) {
-        *place = task;
-    } else if (is_rx) {
-        memset(task->last, 0, count * sizeof *task->last);
-    }
-    if (task->head.nframes != head->nframes || head->flags & TX_RESET_MULTI_IDX) {
+    task->is_rx = is_rx;
+    task->index = index;
+    task->last = last;
+    task->head = (struct bcm_head){.flags = head->flags, .can_id = head->can_id, .nframes = head->nframes};
+    return task;
+}
+
+/* The head of a message in place of that of its task; count and timers are taken only with SETTIMER. */
+static void change_head(struct task *task, const struct bcm_head *head) {
+    struct bcm_head before = task->head;
+    if (head->nframes != before.nframes || head->flags & TX_RESET_MULTI_IDX) {
         task->at = 0;
     }
-    struct bcm_msg_head before = task->head;
     task->head = *head;
-    if (!(head->flags & SETTIMER)) { /* The old ones stay; a new task has none. */
-        task->head.count = is_new ? 0 : before.count;
-        task->head.ival1 = is_new ? (struct bcm_timeval){0, 0} : before.ival1;
-        task->head.ival2 = is_new ? (struct bcm_timeval){0, 0} : before.ival2;
+    if (!(head->flags & SETTIMER)) {
+        task->head.count = before.count;
+        task->head.ival1 = before.ival1;
+        task->head.ival2 = before.ival2;
     }
-    *made = task;
+    if (task->is_rx) {
+        memset(task->last, 0, (head->nframes ? head->nframes : 1) * sizeof *task->last);
+    }
+}
+
+/* Makes the task of this message, with its frames; one that there is already is changed. */
+static int set_up(const struct bcm_head *head, const char *data, int index, bool is_rx, struct task **made) {
+    struct task **place = find(head, index, is_rx), *fresh = NULL;
+    if (*place && head->nframes > (*place)->head.nframes) {
+        return refused(E2BIG, "a task can't get more frames");
+    }
+    if (!*place && !(fresh = new_task(head, index, is_rx))) {
+        return refused(ENOMEM, "no memory for a task");
+    }
+    struct task *task = fresh ? fresh : *place;
+    int error = copy_frames(task, head, data);
+    if (error) {
+        free_task(fresh);
+        return error;
+    }
+    change_head(task, head);
+    *place = *made = task;
     return 0;
 }
 
-static int set_up_tx(const struct bcm_msg_head *head, const char *data, int index) {
+static int set_up_tx(const struct bcm_head *head, const char *data, int index) {
     struct task *task;
     if (!index) {
         return refused(ENODEV, "to send, a task needs an interface");
@@ -331,7 +360,7 @@ static int set_up_tx(const struct bcm_msg_head *head, const char *data, int inde
     return 0;
 }
 
-static int set_up_rx(struct bcm_msg_head *head, const char *data, int index) {
+static int set_up_rx(struct bcm_head *head, const char *data, int index) {
     struct task *task;
     if (head->flags & RX_FILTER_ID || !head->nframes) {
         head->flags |= RX_FILTER_ID;
@@ -361,18 +390,17 @@ static int set_up_rx(struct bcm_msg_head *head, const char *data, int index) {
     return want_all();
 }
 
-static int delete_task(const struct bcm_msg_head *head, int index, bool is_rx) {
+static int delete_task(const struct bcm_head *head, int index, bool is_rx) {
     struct task **place = find(head, index, is_rx), *task = *place;
     if (!task) {
         return refused(EINVAL, "there is no such task");
     }
     *place = task->next;
-    free(task->last);
-    free(task);
+    free_task(task);
     return is_rx ? want_all() : 0;
 }
 
-static int read_task(const struct bcm_msg_head *head, int index, bool is_rx) {
+static int read_task(const struct bcm_head *head, int index, bool is_rx) {
     const struct task *task = *find(head, index, is_rx);
     if (!task) {
         return refused(EINVAL, "there is no such task");
@@ -382,7 +410,7 @@ static int read_task(const struct bcm_msg_head *head, int index, bool is_rx) {
     return 0;
 }
 
-static int send_once(const struct bcm_msg_head *head, const char *data, size_t length, int index) {
+static int send_once(const struct bcm_head *head, const char *data, size_t length, int index) {
     struct canfd_frame frame = {0};
     if (head->nframes != 1 || length != frame_size(head->flags)) {
         return refused(EINVAL, "TX_SEND sends one frame");
@@ -394,7 +422,7 @@ static int send_once(const struct bcm_msg_head *head, const char *data, size_t l
 }
 
 int bcm_write(int index, const char *data, size_t length, int *taken) {
-    struct bcm_msg_head head;
+    struct bcm_head head;
     if (!is_bound) {
         return refused(ENOTCONN, "connect comes first");
     }

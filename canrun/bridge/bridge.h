@@ -1,6 +1,6 @@
-/* What the files of the bridge share. A bridge is one process for one CAN socket: at descriptor 3 it has the other end of
- * the program's pair, and it has a session of the server for each interface that the socket is bound to. It ends when the
- * last copy of the socket is closed, or the server is gone and all has been handed over. */
+/* What the files of the bridge share. A bridge is one process for one CAN socket: at descriptor 3 it has the other end
+ * of the program's pair, and it has a session of the server for each interface that the socket is bound to. It ends
+ * when the last copy of the socket is closed, or the server is gone and all has been handed over. */
 #ifndef BRIDGE_H
 #define BRIDGE_H
 
@@ -57,13 +57,13 @@ bool message_to_item(const char *text, struct item *item);
 struct options {
     int loopback, receive_own, fd_frames, join;
     uint32_t errors;
-    unsigned filters; /* which list it is: 0 for the one that passes all, NO_FILTERS for none, else a number of its own */
+    unsigned filters; /* which list: 0 for the first, which passes all; NO_FILTERS; else a number of its own */
 };
 #define NO_FILTERS UINT32_MAX
 
 struct session {
-    int fd;               /* -1: it has come to its end */
-    int index;            /* of its interface, 0 before it has one */
+    int fd;    /* -1: it has come to its end */
+    int index; /* of its interface, 0 before it has one */
     char name[IFNAMSIZ];
     bool is_receiving;    /* for what the socket is bound to, and not only to send */
     bool is_counting;     /* a reply to session_ask_counts is due */
@@ -79,8 +79,8 @@ struct session {
 struct session *session_start(int *error);
 void session_end(struct session *session);
 
-/* Gives commands, and waits until they are done. Returns 0, or the errno of the first refusal. `reply` has what the server
- * said first that is not ok. */
+/* Gives commands, and waits until they are done. Returns 0, or the errno of the first refusal. `reply` has what the
+ * server said first that is not ok. */
 int session_command(struct session *session, const char *text);
 
 /* Sends a frame, and returns the server's verdict. What acknowledges a frame is here and nowhere else. */
@@ -108,7 +108,8 @@ extern int bound_index; /* 0: to all */
 /* Binds the socket to the interface of this index, and name where it is known; to all for index 0. */
 int sessions_bind(int index, const char *name);
 
-/* Returns the session that sends on this interface, which is started if need be; NULL and the refusal where there is none. */
+/* Returns the session that sends on this interface, which is started if need be; NULL and the refusal where there is
+ * none. */
 struct session *sessions_for(int index);
 
 /* Gives all sessions the options that there are now. */
@@ -131,8 +132,8 @@ uint32_t sessions_list(char *room, size_t size);
 /* Nanoseconds of a clock that only goes forward. */
 uint64_t clock_now(void);
 
-/* Waits for the sessions, or the program where it may ask for something, so many nanoseconds or without end (-1); what the
- * sessions bring is handled. Returns whether the program asks for something, or has closed its socket. */
+/* Waits for the sessions, or the program where it may ask for something, so many nanoseconds or without end (-1); what
+ * the sessions bring is handled. Returns whether the program asks for something, or has closed its socket. */
 bool wait_for_input(int64_t nanoseconds, bool takes_requests);
 
 /* Waits until this session can be read or written, or until this moment of the clock; false where it has passed. */
@@ -223,7 +224,6 @@ bool isotp_is_busy(void);
 
 /* Gives the reply to a request whose error, or value, is this. */
 void request_reply(int to, int error, int value);
-
 
 /* Carries out one request. Returns false where the last copy of the socket is closed. */
 bool request_serve(void);

@@ -142,7 +142,8 @@ void isotp_receive_frame(const struct canfd_frame *frame, uint64_t moment) {
         return;
     }
     unsigned kind = frame->data[address] >> 4;
-    if (isotp.options.flags & CAN_ISOTP_HALF_DUPLEX && ((isotp_is_sending() && kind != 3) || (rx.is_open && kind == 3))) {
+    if (isotp.options.flags & CAN_ISOTP_HALF_DUPLEX &&
+        ((isotp_is_sending() && kind != 3) || (rx.is_open && kind == 3))) {
         return;
     }
     switch (kind) {

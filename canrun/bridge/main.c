@@ -59,8 +59,8 @@ static int64_t do_due(void) {
     return sooner(due, outbox_counts_due());
 }
 
-/* Until the socket is closed, and what was accepted is sent. Once the server is gone and all is handed over, the program
- * reads the end of its socket: ENODEV. */
+/* Until the socket is closed, and what was accepted is sent. Once the server is gone and all is handed over, the
+ * program reads the end of its socket: ENODEV. */
 static void serve(void) {
     bool is_closed = false;
     for (;;) {
@@ -77,8 +77,10 @@ static void serve(void) {
 int main(void) {
     struct sockaddr_un name;
     socklen_t length = sizeof name;
-    if (getpeername(PROGRAM, (struct sockaddr *)&name, &length) || length <= offsetof(struct sockaddr_un, sun_path) + sizeof WIRE_NAME) {
-        static const char text[] = "canbusd-bridge: this is started by programs under canbusd-run, see canbusd-run(1)\n";
+    if (getpeername(PROGRAM, (struct sockaddr *)&name, &length) ||
+        length <= offsetof(struct sockaddr_un, sun_path) + sizeof WIRE_NAME) {
+        static const char text[] =
+            "canbusd-bridge: this is started by programs under canbusd-run, see canbusd-run(1)\n";
         return write(STDERR_FILENO, text, sizeof text - 1) < 0 ? 1 : 125;
     }
     protocol = (enum wire_protocol)name.sun_path[sizeof WIRE_NAME];

@@ -57,7 +57,10 @@ void message_of_frame(char text[COMMAND], const struct canfd_frame *frame, bool 
 
 /* The value of a hexadecimal digit, or -1. */
 static int digit(char one) {
-    return one >= '0' && one <= '9' ? one - '0' : one >= 'A' && one <= 'F' ? one - 'A' + 10 : one >= 'a' && one <= 'f' ? one - 'a' + 10 : -1;
+    return one >= '0' && one <= '9'   ? one - '0'
+           : one >= 'A' && one <= 'F' ? one - 'A' + 10
+           : one >= 'a' && one <= 'f' ? one - 'a' + 10
+                                      : -1;
 }
 
 /* Reads hexadecimal digits and the space behind them; returns how many digits there were. */
@@ -105,7 +108,8 @@ bool message_to_item(const char *text, struct item *item) {
         const char *word;
         bool is_fd;
         uint32_t flag;
-    } kinds[] = {{"frame ", false, 0}, {"remote ", false, CAN_RTR_FLAG}, {"fdframe ", true, 0}, {"error ", false, CAN_ERR_FLAG}};
+    } kinds[] = {
+        {"frame ", false, 0}, {"remote ", false, CAN_RTR_FLAG}, {"fdframe ", true, 0}, {"error ", false, CAN_ERR_FLAG}};
     for (size_t i = 0; i < sizeof kinds / sizeof *kinds; i++) {
         size_t length = strlen(kinds[i].word);
         if (strncmp(text, kinds[i].word, length) != 0) {

@@ -1,5 +1,5 @@
-/* What is on its way to the program: a ring of messages that its socket has no room for yet, and the counts of those that
- * were lost. */
+/* What is on its way to the program: a ring of messages that its socket has no room for yet, and the counts of those
+ * that were lost. */
 #define _GNU_SOURCE
 #include "bridge.h"
 
@@ -19,13 +19,9 @@
 #define COUNT_FRAMES 256
 #define COUNT_PAUSE 20000000
 
-/* Each begins at a multiple of 8. */
-struct message {
-    uint32_t length;
-    char data[];
-};
-
-static _Alignas(8) char ring[RING];
+/* A message is its length, and behind HEAD its data. */
+#define HEAD 8
+static char ring[RING];
 /* Messages are from `first` on; where `end` is not behind it, they go on at 0 after `wrap`. */
 static size_t first, end, wrap;
 static unsigned count, room = USUAL_ROOM;
@@ -35,11 +31,17 @@ static unsigned uncounted;
 static uint64_t count_at;
 
 static size_t size_of(size_t length) {
-    return (sizeof(struct message) + length + 7) & ~(size_t)7;
+    return HEAD + ((length + HEAD - 1) & ~(size_t)(HEAD - 1));
+}
+
+static uint32_t length_at(size_t at) {
+    uint32_t length;
+    memcpy(&length, ring + at, sizeof length);
+    return length;
 }
 
 /* Takes a place for so many bytes; NULL where there is none. */
-static struct message *place_for(size_t length) {
+static char *place_for(size_t length) {
     size_t size = size_of(length), at = end;
     if (count == 0) {
         at = first = 0;
@@ -52,24 +54,23 @@ static struct message *place_for(size_t length) {
         return NULL;
     }
     end = at + size;
-    struct message *message = (struct message *)(void *)(ring + at);
-    message->length = (uint32_t)length;
+    memcpy(ring + at, &(uint32_t){(uint32_t)length}, sizeof(uint32_t));
     count++;
-    return message;
+    return ring + at + HEAD;
 }
 
 static void put(const void *data, size_t length, const struct wire_trailer *trailer) {
-    struct message *message = place_for(length + sizeof *trailer);
-    if (!message) {
+    char *place = place_for(length + sizeof *trailer);
+    if (!place) {
         outbox_flush();
-        message = place_for(length + sizeof *trailer);
+        place = place_for(length + sizeof *trailer);
     }
-    if (!message) {
+    if (!place) {
         dropped++;
         return;
     }
-    memcpy(message->data, data, length);
-    memcpy(message->data + length, trailer, sizeof *trailer);
+    memcpy(place, data, length);
+    memcpy(place + length, trailer, sizeof *trailer);
     if (is_counted && !uncounted++) {
         count_at = clock_now() + COUNT_PAUSE;
     }
@@ -86,8 +87,7 @@ void outbox_put_error(int error) {
 }
 
 static size_t after(size_t at) {
-    const struct message *message = (const struct message *)(const void *)(ring + at);
-    size_t next = at + size_of(message->length);
+    size_t next = at + size_of(length_at(at));
     return next == wrap && end <= first ? 0 : next;
 }
 
@@ -98,8 +98,7 @@ void outbox_flush(void) {
         unsigned batch = MIN(count, BATCH);
         size_t at = first;
         for (unsigned i = 0; i < batch; i++, at = after(at)) {
-            struct message *message = (struct message *)(void *)(ring + at);
-            parts[i] = (struct iovec){message->data, message->length};
+            parts[i] = (struct iovec){ring + at + HEAD, length_at(at)};
             messages[i].msg_hdr = (struct msghdr){.msg_iov = &parts[i], .msg_iovlen = 1};
         }
         int sent = sendmmsg(PROGRAM, messages, batch, MSG_DONTWAIT | MSG_NOSIGNAL);

@@ -1,5 +1,5 @@
-/* Which received frames this socket has sent itself. The server can't say it yet, so a frame that is equal to one that was
- * sent and has not come back counts as that one. */
+/* Which received frames this socket has sent itself. The server can't say it yet, so a frame that is equal to one that
+ * was sent and has not come back counts as that one. */
 #include "bridge.h"
 
 #include <string.h>
@@ -27,8 +27,8 @@ void own_refused(void) {
 static bool is_equal(unsigned at, const struct item *item) {
     const struct canfd_frame *frame = &sent[at % KEPT].frame;
     size_t length = frame->can_id & CAN_RTR_FLAG ? 0 : frame->len;
-    return sent[at % KEPT].is_fd == item->is_fd && frame->can_id == item->frame.can_id && frame->len == item->frame.len &&
-           !memcmp(frame->data, item->frame.data, length);
+    return sent[at % KEPT].is_fd == item->is_fd && frame->can_id == item->frame.can_id &&
+           frame->len == item->frame.len && !memcmp(frame->data, item->frame.data, length);
 }
 
 uint32_t own_flags(const struct item *item) {

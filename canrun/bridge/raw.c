@@ -1,5 +1,5 @@
-/* CAN_RAW: options, filters, and frames both ways. The server has the options too and does the filtering, but for filters
- * that are too many for one of its messages. */
+/* CAN_RAW: options, filters, and frames both ways. The server has the options too and does the filtering, but for
+ * filters that are too many for one of its messages. */
 #define _GNU_SOURCE
 #include "bridge.h"
 
@@ -57,7 +57,10 @@ static size_t filter_command(char *text, size_t size, bool is_none) {
     char words[FILTER_TEXT + 20];
     int count = is_none ? 0 : filter_words(words);
     filters_here = count < 0;
-    return (size_t)snprintf(text, size, "< filter %d%s >", filters_here ? 1 : count, filters_here ? " 0 0" : is_none ? "" : words);
+    return (size_t)snprintf(text, size, "< filter %d%s >", filters_here ? 1 : count,
+                            filters_here ? " 0 0"
+                            : is_none    ? ""
+                                         : words);
 }
 
 void raw_setup(struct session *session, char *text, size_t size) {

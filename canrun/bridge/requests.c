@@ -31,7 +31,8 @@ void request_reply(int to, int error, int value) {
     put_reply(to, error, &reply);
 }
 
-static int send_message(const struct wire_request *request, const char *data, size_t length, int to, struct reply *reply) {
+static int send_message(const struct wire_request *request, const char *data, size_t length, int to,
+                        struct reply *reply) {
     reply->head.value = (int)length;
     switch (protocol) {
     case WIRE_BCM: return bcm_write(request->ifindex, data, length, &reply->head.value);
@@ -107,7 +108,8 @@ bool request_serve(void) {
         struct cmsghdr align;
     } control;
     struct iovec part = {data, sizeof data};
-    struct msghdr message = {.msg_iov = &part, .msg_iovlen = 1, .msg_control = &control, .msg_controllen = sizeof control};
+    struct msghdr message = {
+        .msg_iov = &part, .msg_iovlen = 1, .msg_control = &control, .msg_controllen = sizeof control};
     struct wire_request request;
     static struct reply reply;
     int to;

@@ -25,9 +25,8 @@ static int error_of(const char *reply) {
     static const struct {
         const char *text;
         int error;
-    } known[] = {{"no buffers", ENOBUFS},         {"bus off", ENETDOWN},
-                 {"record full", ENETDOWN},       {"no such interface", ENODEV},
-                 {"too many sessions", EUSERS},   {"no memory", ENOMEM}};
+    } known[] = {{"no buffers", ENOBUFS},       {"bus off", ENETDOWN},         {"record full", ENETDOWN},
+                 {"no such interface", ENODEV}, {"too many sessions", EUSERS}, {"no memory", ENOMEM}};
     static char kept[sizeof((struct session *)0)->reply + 20];
     if (strncmp(reply, "error ", 6) != 0) {
         return 0;
@@ -97,7 +96,8 @@ static void handle_input(struct session *session) {
 }
 
 bool session_read(struct session *session, bool waits) {
-    ssize_t length = recv(session->fd, session->input + session->have, sizeof session->input - session->have, waits ? 0 : MSG_DONTWAIT);
+    ssize_t length = recv(session->fd, session->input + session->have, sizeof session->input - session->have,
+                          waits ? 0 : MSG_DONTWAIT);
     if (length > 0) {
         session->have += (size_t)length;
         handle_input(session);

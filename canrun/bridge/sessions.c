@@ -86,7 +86,9 @@ static int start_all(struct session *started[MOST_SESSIONS], int *count) {
         }
         *count += !error;
     }
-    return *count ? 0 : error ? error : refused(ENODEV, "the server has none of the usual interfaces; --interfaces names others");
+    return *count  ? 0
+           : error ? error
+                   : refused(ENODEV, "the server has none of the usual interfaces; --interfaces names others");
 }
 
 /* As in the kernel, a bind that is refused changes nothing. */

@@ -16,22 +16,25 @@
 /* The statuses of env, timeout and their kin: a fault of the command itself, a program that can't be run, and none. */
 enum { STATUS_FAULT = 125, STATUS_NOT_RUN = 126, STATUS_NOT_FOUND = 127 };
 
+/* clang-format off */
 static const char HELP[] =
     "usage: canbusd-run [--address ADDR] [--interfaces NAME,..] [--wait] [--] PROGRAM [ARGUMENT ..]\n"
     "       canbusd-run --help | --version\n"
     "\n"
-    "Runs PROGRAM, and what it starts, so that their CAN sockets (CAN_RAW, CAN_BCM) are sockets of a canbusd server: candump,\n"
-    "cansend, python-can's socketcan interface, or your own. It needs no root, kernel module or vcan.\n"
+    "Runs PROGRAM, and what it starts, so that CAN sockets (CAN_RAW, CAN_BCM, CAN_ISOTP) are sockets of a canbusd\n"
+    "server: candump, cansend, python-can's socketcan interface, or a program of your own. It needs no root, kernel\n"
+    "module or vcan.\n"
     "\n"
-    "  --address ADDR          the server: HOST:PORT, [V6]:PORT, or a Unix path that begins with / or .\n"
-    "                          (default: $CANBUSD_ADDRESS, else " ADDRESS_DEFAULT ")\n"
-    "  --interfaces NAME,..    which interfaces there are, for `any` and lists of names (default: $CANBUSD_INTERFACES, else\n"
-    "                          those of can0 to can9 and vcan0 to vcan9 that the server has)\n"
-    "  --wait                  wait for a server that is not there yet, and in each write for room in a full transmit queue;\n"
-    "                          without it the run fails, and the write with ENOBUFS\n"
+    "  --address ADDR        the server: HOST:PORT, [V6]:PORT, or a Unix path that begins with / or .\n"
+    "                        (default: $CANBUSD_ADDRESS, else " ADDRESS_DEFAULT ")\n"
+    "  --interfaces NAME,..  which interfaces there are, for `any` and lists of names (default:\n"
+    "                        $CANBUSD_INTERFACES, else those of can0 to can9 and vcan0 to vcan9 that it has)\n"
+    "  --wait                wait for a server that is not there yet, and in each write for room in a full\n"
+    "                        transmit queue; without it the run fails, and the write with ENOBUFS\n"
     "\n"
     "CANBUSD_RUN_DEBUG=1 in the environment writes each call that is refused, and why, to standard error.\n"
     "The status is the program's; 125 where canbusd-run fails, 126 where PROGRAM can't be run, 127 where there is none.\n";
+/* clang-format on */
 
 struct words {
     const char *address, *interfaces;
@@ -120,7 +123,8 @@ static int preload(void) {
     *strrchr(path, '/') = 0;
     snprintf(library, sizeof library, "%s/" LIBRARY, path);
     if (strpbrk(library, " :")) {
-        return fault("the loader takes no library from a path with a space or a colon; move canbusd to another", library);
+        return fault("the loader takes no library from a path with a space or a colon; move canbusd to another",
+                     library);
     }
     if (access(library, R_OK)) {
         return fault(library, strerror(errno));

@@ -48,13 +48,15 @@ static bool is_note_of_go(int fd, const Elf64_Phdr *segment) {
         Elf64_Nhdr head;
         char owner[4];
     } note;
-    return segment->p_type == PT_NOTE && read_at(fd, &note, sizeof note, segment->p_offset) && note.head.n_namesz == 4 &&
-           !memcmp(note.owner, "Go\0", 4);
+    return segment->p_type == PT_NOTE && read_at(fd, &note, sizeof note, segment->p_offset) &&
+           note.head.n_namesz == 4 && !memcmp(note.owner, "Go\0", 4);
 }
 
 static bool is_loader_of_musl(int fd, const Elf64_Phdr *segment) {
     char loader[64] = "";
-    return segment->p_type == PT_INTERP && read_at(fd, loader, segment->p_filesz < sizeof loader ? segment->p_filesz : sizeof loader - 1, segment->p_offset) &&
+    return segment->p_type == PT_INTERP &&
+           read_at(fd, loader, segment->p_filesz < sizeof loader ? segment->p_filesz : sizeof loader - 1,
+                   segment->p_offset) &&
            strstr(loader, "ld-musl");
 }
 
@@ -68,7 +70,8 @@ static const char *elf_obstacle(int fd) {
     if (head.e_ident[EI_CLASS] != ELFCLASS64) {
         return "is a 32-bit program";
     }
-    for (size_t i = 0; i < head.e_phnum && read_at(fd, &segment, sizeof segment, head.e_phoff + i * head.e_phentsize); i++) {
+    for (size_t i = 0; i < head.e_phnum && read_at(fd, &segment, sizeof segment, head.e_phoff + i * head.e_phentsize);
+         i++) {
         is_dynamic |= segment.p_type == PT_INTERP;
         is_go |= is_note_of_go(fd, &segment);
         is_musl |= is_loader_of_musl(fd, &segment);
@@ -85,7 +88,8 @@ static bool is_privileged(const char *path) {
     if (stat(path, &status)) {
         return false;
     }
-    return (status.st_mode & S_ISUID && status.st_uid != geteuid()) || (status.st_mode & S_ISGID && status.st_gid != getegid()) ||
+    return (status.st_mode & S_ISUID && status.st_uid != geteuid()) ||
+           (status.st_mode & S_ISGID && status.st_gid != getegid()) ||
            (geteuid() != 0 && getxattr(path, "security.capability", NULL, 0) > 0);
 }
 

@@ -36,7 +36,8 @@ static const char *resolve(struct address *address) {
     if (fault) {
         return gai_strerror(fault);
     }
-    fault = getnameinfo(found->ai_addr, found->ai_addrlen, address->host, sizeof address->host, NULL, 0, NI_NUMERICHOST);
+    fault =
+        getnameinfo(found->ai_addr, found->ai_addrlen, address->host, sizeof address->host, NULL, 0, NI_NUMERICHOST);
     freeaddrinfo(found);
     return fault ? gai_strerror(fault) : NULL;
 }
@@ -82,7 +83,8 @@ static const char *look(const struct address *address, bool *is_absent) {
         return "it has as many sessions as it can, 64; close some";
     }
     greeting[strcspn(greeting, "\r\n")] = 0;
-    snprintf(said, sizeof said, "what listens there is something else: %s%s", *greeting ? "it says " : "it says nothing", greeting);
+    snprintf(said, sizeof said, "what listens there is something else: %s%s",
+             *greeting ? "it says " : "it says nothing", greeting);
     return said;
 }
 
@@ -90,7 +92,9 @@ bool server_find(const char *text, bool waits, char name[SERVER_NAME]) {
     struct address address;
     bool is_absent = false;
     if (!address_read(text, &address)) {
-        fprintf(stderr, "canbusd-run: %s is no address: it is HOST:PORT, [V6]:PORT, or a Unix path that begins with / or .\n", text);
+        fprintf(stderr,
+                "canbusd-run: %s is no address: it is HOST:PORT, [V6]:PORT, or a Unix path that begins with / or .\n",
+                text);
         return false;
     }
     const char *fault = resolve(&address);
@@ -99,8 +103,11 @@ bool server_find(const char *text, bool waits, char name[SERVER_NAME]) {
         poll(NULL, 0, PAUSE);
     }
     if (fault) {
-        fprintf(stderr, "canbusd-run: no canbusd server at %s (%s): start one with `canbusd serve can0`, wait for it with --wait, "
-                        "or name another with --address or $CANBUSD_ADDRESS\n", text, fault);
+        fprintf(
+            stderr,
+            "canbusd-run: no canbusd server at %s (%s): start one with `canbusd serve can0`, wait for it with --wait, "
+            "or name another with --address or $CANBUSD_ADDRESS\n",
+            text, fault);
         return false;
     }
     write_name(&address, name);

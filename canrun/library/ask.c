@@ -1,5 +1,5 @@
-/* A request to the bridge of a socket, and its reply. Nothing is kept for it: the reply comes by a pipe of its own, so any
- * number of threads and processes can ask at once. */
+/* A request to the bridge of a socket, and its reply. Nothing is kept for it: the reply comes by a pipe of its own, so
+ * any number of threads and processes can ask at once. */
 #define _GNU_SOURCE
 #include "library.h"
 
@@ -12,7 +12,8 @@
 static const char GONE[] = "the server is gone";
 
 /* Sends it with the write end of the pipe. Returns an errno, or 0. */
-static int put_request(int fd, int reply_to, const struct wire_request *request, const struct iovec *data, size_t pieces) {
+static int put_request(int fd, int reply_to, const struct wire_request *request, const struct iovec *data,
+                       size_t pieces) {
     struct iovec parts[1 + WIRE_PARTS] = {{(void *)request, sizeof *request}};
     union {
         char room[CMSG_SPACE(sizeof(int))];
@@ -21,7 +22,8 @@ static int put_request(int fd, int reply_to, const struct wire_request *request,
     if (pieces) {
         memcpy(parts + 1, data, pieces * sizeof *data);
     }
-    struct msghdr message = {.msg_iov = parts, .msg_iovlen = 1 + pieces, .msg_control = &control, .msg_controllen = sizeof control};
+    struct msghdr message = {
+        .msg_iov = parts, .msg_iovlen = 1 + pieces, .msg_control = &control, .msg_controllen = sizeof control};
     struct cmsghdr *rights = CMSG_FIRSTHDR(&message);
     rights->cmsg_level = SOL_SOCKET;
     rights->cmsg_type = SCM_RIGHTS;

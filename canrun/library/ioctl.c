@@ -33,7 +33,8 @@ static bool is_of_interface(unsigned long request) {
 }
 
 static bool is_of_stamp(unsigned long request) {
-    return request == SIOCGSTAMP_OLD || request == SIOCGSTAMPNS_OLD || request == SIOCGSTAMP_NEW || request == SIOCGSTAMPNS_NEW;
+    return request == SIOCGSTAMP_OLD || request == SIOCGSTAMPNS_OLD || request == SIOCGSTAMP_NEW ||
+           request == SIOCGSTAMPNS_NEW;
 }
 
 /* The facts of an interface of the server, which always is up. */

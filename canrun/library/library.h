@@ -1,7 +1,7 @@
 /* What the files of the preloaded library share.
  *
- * The library has no state about sockets. A CAN socket is one end of a pair of Unix sockets whose name says so, and stays
- * one across fork, dup, exec and SCM_RIGHTS; poll, select, epoll, fcntl and close are the kernel's own. */
+ * The library has no state about sockets. A CAN socket is one end of a pair of Unix sockets whose name says so, and
+ * stays one across fork, dup, exec and SCM_RIGHTS; poll, select, epoll, fcntl and close are the kernel's own. */
 #ifndef LIBRARY_H
 #define LIBRARY_H
 
@@ -19,35 +19,35 @@
 #define MIN(a, b) ((a) < (b) ? (a) : (b))
 
 /* The functions of the C library that this one stands before. */
-#define REAL_FUNCTIONS(X)                                                                                              \
-    X(socket)                                                                                                          \
-    X(socketpair)                                                                                                      \
-    X(bind)                                                                                                            \
-    X(connect)                                                                                                         \
-    X(listen)                                                                                                          \
-    X(accept)                                                                                                          \
-    X(accept4)                                                                                                         \
-    X(shutdown)                                                                                                        \
-    X(getsockname)                                                                                                     \
-    X(getpeername)                                                                                                     \
-    X(setsockopt)                                                                                                      \
-    X(getsockopt)                                                                                                      \
-    X(ioctl)                                                                                                           \
-    X(if_nametoindex)                                                                                                  \
-    X(if_indextoname)                                                                                                  \
-    X(if_nameindex)                                                                                                    \
-    X(if_freenameindex)                                                                                                \
-    X(read)                                                                                                            \
-    X(readv)                                                                                                           \
-    X(recv)                                                                                                            \
-    X(recvfrom)                                                                                                        \
-    X(recvmsg)                                                                                                         \
-    X(recvmmsg)                                                                                                        \
-    X(write)                                                                                                           \
-    X(writev)                                                                                                          \
-    X(send)                                                                                                            \
-    X(sendto)                                                                                                          \
-    X(sendmsg)                                                                                                         \
+#define REAL_FUNCTIONS(X) \
+    X(socket)             \
+    X(socketpair)         \
+    X(bind)               \
+    X(connect)            \
+    X(listen)             \
+    X(accept)             \
+    X(accept4)            \
+    X(shutdown)           \
+    X(getsockname)        \
+    X(getpeername)        \
+    X(setsockopt)         \
+    X(getsockopt)         \
+    X(ioctl)              \
+    X(if_nametoindex)     \
+    X(if_indextoname)     \
+    X(if_nameindex)       \
+    X(if_freenameindex)   \
+    X(read)               \
+    X(readv)              \
+    X(recv)               \
+    X(recvfrom)           \
+    X(recvmsg)            \
+    X(recvmmsg)           \
+    X(write)              \
+    X(writev)             \
+    X(send)               \
+    X(sendto)             \
+    X(sendmsg)            \
     X(sendmmsg)
 
 struct real {
@@ -75,8 +75,8 @@ struct answer {
     size_t room, length;
 };
 
-/* Asks the bridge of a socket; the data are at most WIRE_PARTS pieces. Returns 0, or -1 and errno; `what` is the call that
- * is refused then. */
+/* Asks the bridge of a socket; the data are at most WIRE_PARTS pieces. Returns 0, or -1 and errno; `what` is the call
+ * that is refused then. */
 #define WIRE_PARTS 64
 int ask(int fd, const char *what, const struct wire_request *request, const struct iovec *data, size_t pieces,
         struct answer *answer);
@@ -87,8 +87,8 @@ int can_socket(int type, int protocol);
 /* Starts the bridge of a socket whose other end is this. Returns 0, or an errno. */
 int start_bridge(int end);
 
-/* The index of the interface of this name, or -1 and errno; the name of this index, or -1. The socket is any CAN socket,
- * or -1. */
+/* The index of the interface of this name, or -1 and errno; the name of this index, or -1. The socket is any CAN
+ * socket, or -1. */
 int index_of_name(int fd, const char *name);
 int name_of_index(int fd, int index, char name[IFNAMSIZ]);
 /* The name, where this process has looked it up or it is listed; else an empty one. */

@@ -11,8 +11,8 @@
 #include <sys/syscall.h>
 #include <unistd.h>
 
-/* Names that this process has looked up by one socket and may bind another to. It is needed only where no list says which
- * interfaces there are, and goes once a server can be asked. */
+/* Names that this process has looked up by one socket and may bind another to. It is needed only where no list says
+ * which interfaces there are, and goes once a server can be asked. */
 static struct {
     int index;
     char name[IFNAMSIZ];
@@ -39,7 +39,8 @@ void known_name(int index, char name[IFNAMSIZ]) {
 }
 
 /* Asks by this socket, or where it is none by one for the purpose. */
-static int ask_any(int fd, const struct wire_request *request, const struct iovec *data, size_t pieces, struct answer *answer) {
+static int ask_any(int fd, const struct wire_request *request, const struct iovec *data, size_t pieces,
+                   struct answer *answer) {
     int can = fd >= 0 ? fd : can_socket(SOCK_RAW | SOCK_CLOEXEC, CAN_RAW);
     if (can < 0) {
         return -1;
@@ -83,7 +84,8 @@ int name_of_index(int fd, int index, char name[IFNAMSIZ]) {
     if (*name) {
         return 0;
     }
-    if (interface_list() || ask_any(fd, &(struct wire_request){.kind = WIRE_NAME_OF, .ifindex = index}, NULL, 0, &answer)) {
+    if (interface_list() ||
+        ask_any(fd, &(struct wire_request){.kind = WIRE_NAME_OF, .ifindex = index}, NULL, 0, &answer)) {
         return no_device("no interface has this index");
     }
     remember(index, name);

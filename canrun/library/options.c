@@ -13,7 +13,8 @@
 #define SHORT_ADDRESS (offsetof(struct sockaddr_can, can_ifindex) + sizeof(int))
 #define ISOTP_ADDRESS (offsetof(struct sockaddr_can, can_addr) + 2 * sizeof(canid_t))
 
-static int bind_can(const char *call, int fd, enum wire_protocol protocol, const struct sockaddr *address, socklen_t length) {
+static int bind_can(const char *call, int fd, enum wire_protocol protocol, const struct sockaddr *address,
+                    socklen_t length) {
     struct sockaddr_can can = {0};
     char name[IFNAMSIZ];
     if (!address || length < (protocol == WIRE_ISOTP ? ISOTP_ADDRESS : SHORT_ADDRESS)) {
@@ -156,5 +157,6 @@ EXPORT int getsockopt(int fd, int level, int option, void *restrict value, sockl
         memcpy(value, &fact, *length);
         return 0;
     }
-    return level == level_of(protocol) ? get_protocol_option(fd, option, value, length) : refuse_level("getsockopt", protocol);
+    return level == level_of(protocol) ? get_protocol_option(fd, option, value, length)
+                                       : refuse_level("getsockopt", protocol);
 }

@@ -35,8 +35,9 @@ enum wire_protocol protocol_of(int fd) {
     int before = errno;
     long failed = syscall(SYS_getsockname, fd, &name, &length);
     errno = before;
-    if (failed || name.sun_family != AF_UNIX || length < offsetof(struct sockaddr_un, sun_path) + 1 + sizeof WIRE_NAME ||
-        name.sun_path[0] || memcmp(name.sun_path + 1, WIRE_NAME, sizeof WIRE_NAME - 1)) {
+    if (failed || name.sun_family != AF_UNIX ||
+        length < offsetof(struct sockaddr_un, sun_path) + 1 + sizeof WIRE_NAME || name.sun_path[0] ||
+        memcmp(name.sun_path + 1, WIRE_NAME, sizeof WIRE_NAME - 1)) {
         return 0;
     }
     return (enum wire_protocol)name.sun_path[sizeof WIRE_NAME];

@@ -1,4 +1,5 @@
-/* Receiving: each call that reads from a socket. Those that the kernel wakes wait in the kernel, in the real recvmsg. */
+/* Receiving: each call that reads from a socket. Those that the kernel wakes wait in the kernel, in the real recvmsg.
+ */
 #define _GNU_SOURCE
 #include "library.h"
 
@@ -20,7 +21,8 @@ static bool correct_stamps(struct msghdr *message, uint64_t nanoseconds) {
         bool is_three = one->cmsg_type == SO_TIMESTAMPING_OLD || one->cmsg_type == SO_TIMESTAMPING_NEW;
         bool is_micro = one->cmsg_type == SO_TIMESTAMP_OLD || one->cmsg_type == SO_TIMESTAMP_NEW;
         bool is_nano = one->cmsg_type == SO_TIMESTAMPNS_OLD || one->cmsg_type == SO_TIMESTAMPNS_NEW;
-        if (one->cmsg_level != SOL_SOCKET || one->cmsg_len < CMSG_LEN(sizeof moment) || !(is_three || is_micro || is_nano)) {
+        if (one->cmsg_level != SOL_SOCKET || one->cmsg_len < CMSG_LEN(sizeof moment) ||
+            !(is_three || is_micro || is_nano)) {
             continue;
         }
         moment[1] /= is_micro ? 1000 : 1;
@@ -89,7 +91,8 @@ static ssize_t no_device(void) {
 static ssize_t can_recvmsg(int fd, enum wire_protocol protocol, struct msghdr *user, int flags) {
     char datagram[protocol == WIRE_RAW ? CANFD_MTU + sizeof(struct wire_trailer) : WIRE_LARGEST];
     struct iovec whole = {datagram, sizeof datagram};
-    struct msghdr message = {.msg_iov = &whole, .msg_iovlen = 1, .msg_control = user->msg_control, .msg_controllen = user->msg_controllen};
+    struct msghdr message = {
+        .msg_iov = &whole, .msg_iovlen = 1, .msg_control = user->msg_control, .msg_controllen = user->msg_controllen};
     struct wire_trailer trailer;
     if (flags & MSG_ERRQUEUE) {
         return fail(EAGAIN);
@@ -121,9 +124,11 @@ static ssize_t can_recvmsg(int fd, enum wire_protocol protocol, struct msghdr *u
     return protocol == WIRE_ISOTP && flags & MSG_TRUNC ? length : (ssize_t)done;
 }
 
-static ssize_t receive(int fd, enum wire_protocol protocol, void *data, size_t length, int flags, struct sockaddr *from, socklen_t *room) {
+static ssize_t receive(int fd, enum wire_protocol protocol, void *data, size_t length, int flags, struct sockaddr *from,
+                       socklen_t *room) {
     struct iovec part = {data, length};
-    struct msghdr message = {.msg_iov = &part, .msg_iovlen = 1, .msg_name = from, .msg_namelen = from && room ? *room : 0};
+    struct msghdr message = {
+        .msg_iov = &part, .msg_iovlen = 1, .msg_name = from, .msg_namelen = from && room ? *room : 0};
     ssize_t result = can_recvmsg(fd, protocol, &message, flags);
     if (result >= 0 && from && room) {
         *room = message.msg_namelen;
@@ -227,8 +232,8 @@ ssize_t __recv_chk(int fd, void *data, size_t length, size_t room, int flags) {
     return recv(fd, data, length, flags);
 }
 
-ssize_t __recvfrom_chk(int fd, void *restrict data, size_t length, size_t room, int flags, struct sockaddr *restrict from,
-                       socklen_t *restrict from_room) {
+ssize_t __recvfrom_chk(int fd, void *restrict data, size_t length, size_t room, int flags,
+                       struct sockaddr *restrict from, socklen_t *restrict from_room) {
     if (length > room) {
         __chk_fail();
     }

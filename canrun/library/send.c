@@ -13,7 +13,8 @@ static bool is_nonblocking(int fd, enum wire_protocol protocol, int flags) {
 }
 
 static ssize_t can_sendmsg(int fd, enum wire_protocol protocol, const struct msghdr *message, int flags) {
-    struct wire_request request = {.kind = WIRE_SEND, .ifindex = WIRE_BOUND, .number = is_nonblocking(fd, protocol, flags)};
+    struct wire_request request = {
+        .kind = WIRE_SEND, .ifindex = WIRE_BOUND, .number = is_nonblocking(fd, protocol, flags)};
     struct answer answer = {0};
     size_t length = 0;
     for (size_t i = 0; i < message->msg_iovlen; i++) {
@@ -45,7 +46,8 @@ EXPORT ssize_t sendmsg(int fd, const struct msghdr *message, int flags) {
     return protocol ? can_sendmsg(fd, protocol, message, flags) : real()->sendmsg(fd, message, flags);
 }
 
-EXPORT ssize_t sendto(int fd, const void *data, size_t length, int flags, const struct sockaddr *to, socklen_t to_length) {
+EXPORT ssize_t sendto(int fd, const void *data, size_t length, int flags, const struct sockaddr *to,
+                      socklen_t to_length) {
     enum wire_protocol protocol = protocol_of(fd);
     return protocol ? send_one(fd, protocol, data, length, flags, to, to_length)
                     : real()->sendto(fd, data, length, flags, to, to_length);
@@ -66,7 +68,8 @@ EXPORT ssize_t writev(int fd, const struct iovec *parts, int count) {
     if (count < 0 || !protocol) {
         return real()->writev(fd, parts, count);
     }
-    return can_sendmsg(fd, protocol, &(struct msghdr){.msg_iov = (struct iovec *)parts, .msg_iovlen = (size_t)count}, 0);
+    return can_sendmsg(fd, protocol, &(struct msghdr){.msg_iov = (struct iovec *)parts, .msg_iovlen = (size_t)count},
+                       0);
 }
 
 EXPORT int sendmmsg(int fd, struct mmsghdr *messages, unsigned count, int flags) {

@@ -30,8 +30,8 @@ struct start {
 };
 
 /* These two run in copies of the process that share its memory; the caller waits, and so does the first for the second.
- * The first executes nothing, so its end sends no signal, as `clone` asks for none. The second is its child, and nobody's
- * here once the first has ended: execve would make SIGCHLD of its own end. */
+ * The first executes nothing, so its end sends no signal, as `clone` asks for none. The second is its child, and
+ * nobody's here once the first has ended: execve would make SIGCHLD of its own end. */
 static int become_bridge(void *argument) {
     struct start *start = argument;
     char *words[] = {"canbusd-bridge", NULL};
@@ -69,9 +69,10 @@ static int find_bridge(char path[PATH_MAX]) {
 }
 
 /* What the bridge has to know of the environment. */
-static const char *const SETTINGS[] = {"CANBUSD_ADDRESS", "CANBUSD_INTERFACES", "CANBUSD_RUN_WAIT",
+static const char *const SETTINGS[] = {
+    "CANBUSD_ADDRESS", "CANBUSD_INTERFACES", "CANBUSD_RUN_WAIT",
 #ifdef __SANITIZE_ADDRESS__
-                                       "ASAN_OPTIONS", "UBSAN_OPTIONS",
+    "ASAN_OPTIONS",    "UBSAN_OPTIONS",
 #endif
 };
 #define SETTING_COUNT (sizeof SETTINGS / sizeof *SETTINGS)

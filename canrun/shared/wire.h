@@ -6,8 +6,8 @@
  * Library to bridge: a request and its data, with the write end of a pipe (SCM_RIGHTS) that takes the one reply. What
  * comes without a pipe is the frame of a write that did not go through the library, and gets no reply.
  *
- * Bridge to library: a frame, or a message of the broadcast manager or of ISO-TP, and a trailer. A read of the size of a
- * frame cuts the trailer off, so that a read that does not go through the library gets a whole frame too. */
+ * Bridge to library: a frame, or a message of the broadcast manager or of ISO-TP, and a trailer. A read of the size of
+ * a frame cuts the trailer off, so that a read that does not go through the library gets a whole frame too. */
 #ifndef WIRE_H
 #define WIRE_H
 
@@ -22,11 +22,11 @@ enum wire_protocol { WIRE_RAW = 'r', WIRE_BCM = 'b', WIRE_ISOTP = 'i' };
 #define WIRE_REPLY 4096
 
 enum wire_kind {
-    WIRE_SEND,       /* the frame or message follows; `ifindex` is that of sendto, or WIRE_BOUND; what the write returns is the
-                      * reply's value */
-    WIRE_BIND,       /* to `ifindex`, 0 for all; the name follows where the library knows it */
-    WIRE_SET,        /* `option` of the protocol's level; the value follows */
-    WIRE_GET,        /* the same; the value is the reply's data */
+    WIRE_SEND, /* the frame or message follows; `ifindex` is that of sendto, or WIRE_BOUND; what the write returns is
+                * the reply's value */
+    WIRE_BIND, /* to `ifindex`, 0 for all; the name follows where the library knows it */
+    WIRE_SET,  /* `option` of the protocol's level; the value follows */
+    WIRE_GET,  /* the same; the value is the reply's data */
     WIRE_SOCKET_SET, /* `option` of SOL_SOCKET, which the kernel has set, so that the bridge knows of it */
     WIRE_ADDRESS,    /* the index is the reply's value; of ISO-TP the two identifiers are its data */
     WIRE_INDEX,      /* of the interface whose name follows: the reply's value */

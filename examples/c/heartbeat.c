@@ -1,7 +1,7 @@
 /* A node that sends a heartbeat each 20 milliseconds, as a C program for SocketCAN: it knows nothing of canbusd.
  *
- * Its controller goes bus off where too many of its frames are destroyed. Then it waits for the restart, and begins to count
- * anew, so that others see that it was away. After three heartbeats more it ends. */
+ * Its controller goes bus off where too many of its frames are destroyed. Then it waits for the restart, and begins to
+ * count anew, so that others see that it was away. After three heartbeats more it ends. */
 #include <errno.h>
 #include <linux/can.h>
 #include <linux/can/error.h>
@@ -21,7 +21,8 @@ static int open_node(const char *interface) {
     struct sockaddr_can address = {.can_family = AF_CAN, .can_ifindex = (int)if_nametoindex(interface)};
     can_err_mask_t errors = CAN_ERR_BUSOFF | CAN_ERR_RESTARTED;
     if (node < 0 || setsockopt(node, SOL_CAN_RAW, CAN_RAW_ERR_FILTER, &errors, sizeof errors) ||
-        setsockopt(node, SOL_CAN_RAW, CAN_RAW_FILTER, NULL, 0) || bind(node, (struct sockaddr *)&address, sizeof address)) {
+        setsockopt(node, SOL_CAN_RAW, CAN_RAW_FILTER, NULL, 0) ||
+        bind(node, (struct sockaddr *)&address, sizeof address)) {
         perror(interface);
         return -1;
     }

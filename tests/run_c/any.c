@@ -24,7 +24,8 @@ int main(void) {
     for (int i = 0; i < 2; i++) {
         char name[IFNAMSIZ];
         CHECK(comes(any, PATIENCE));
-        CHECK(recvfrom(any, &frame, sizeof frame, 0, (struct sockaddr *)&from, &length) == 16 && number_of(&frame) == 2);
+        CHECK(recvfrom(any, &frame, sizeof frame, 0, (struct sockaddr *)&from, &length) == 16 &&
+              number_of(&frame) == 2);
         CHECK(if_indextoname((unsigned)from.can_ifindex, name));
         has_can0 |= !strcmp(name, "can0");
         has_can1 |= !strcmp(name, "can1");

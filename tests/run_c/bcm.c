@@ -28,9 +28,10 @@ static struct message told(uint32_t opcode, canid_t id, uint32_t frames) {
     struct message message;
     CHECK(comes(manager, PATIENCE));
     ssize_t length = read(manager, &message, sizeof message);
-    if (message.head.opcode != opcode || message.head.can_id != id || message.head.nframes != frames || length != (ssize_t)size_of(frames)) {
-        fprintf(stderr, "message %u of %X with %u frames, not %u of %X with %u\n", message.head.opcode, message.head.can_id,
-                message.head.nframes, opcode, id, frames);
+    if (message.head.opcode != opcode || message.head.can_id != id || message.head.nframes != frames ||
+        length != (ssize_t)size_of(frames)) {
+        fprintf(stderr, "message %u of %X with %u frames, not %u of %X with %u\n", message.head.opcode,
+                message.head.can_id, message.head.nframes, opcode, id, frames);
         exit(1);
     }
     return message;
@@ -51,9 +52,11 @@ static void faults(void) {
     int loose = socket(PF_CAN, SOCK_DGRAM, CAN_BCM);
     CHECK(loose >= 0);
     FAILS(write(loose, &one, size_of(1)), ENOTCONN);
-    FAILS(bind(loose, (struct sockaddr *)&(struct sockaddr_can){.can_family = AF_CAN}, sizeof(struct sockaddr_can)), EOPNOTSUPP);
+    FAILS(bind(loose, (struct sockaddr *)&(struct sockaddr_can){.can_family = AF_CAN}, sizeof(struct sockaddr_can)),
+          EOPNOTSUPP);
     FAILS(setsockopt(loose, SOL_CAN_BASE + CAN_BCM, 1, &(int){1}, sizeof(int)), ENOPROTOOPT);
-    CHECK(connect(loose, (struct sockaddr *)&(struct sockaddr_can){.can_family = AF_CAN}, sizeof(struct sockaddr_can)) == 0);
+    CHECK(connect(loose, (struct sockaddr *)&(struct sockaddr_can){.can_family = AF_CAN},
+                  sizeof(struct sockaddr_can)) == 0);
     FAILS(write(loose, &one, size_of(1)), ENODEV); /* On all interfaces nothing can be sent. */
     CHECK(close(loose) == 0);
     FAILS(write(manager, &one, 10), EINVAL);
@@ -71,8 +74,9 @@ static void faults(void) {
 }
 
 static void cyclic(void) {
-    struct message task = {.head = {.opcode = TX_SETUP, .flags = SETTIMER | STARTTIMER, .can_id = 77, .nframes = 2, .ival2 = ms(20)},
-                           .frames = {frame_of(0x101, 1), frame_of(0x102, 2)}};
+    struct message task = {
+        .head = {.opcode = TX_SETUP, .flags = SETTIMER | STARTTIMER, .can_id = 77, .nframes = 2, .ival2 = ms(20)},
+        .frames = {frame_of(0x101, 1), frame_of(0x102, 2)}};
     double start = now();
     CHECK(give(task) == (ssize_t)size_of(2));
     for (int i = 0; i < 5; i++) {
@@ -81,7 +85,8 @@ static void cyclic(void) {
     }
     CHECK(now() - start >= 9 * 20 - 5); /* The first goes at once, then one each 20 ms. */
     /* Other contents: the timer goes on. */
-    struct message changed = {.head = {.opcode = TX_SETUP, .can_id = 77, .nframes = 2}, .frames = {frame_of(0x101, 3), frame_of(0x102, 4)}};
+    struct message changed = {.head = {.opcode = TX_SETUP, .can_id = 77, .nframes = 2},
+                              .frames = {frame_of(0x101, 3), frame_of(0x102, 4)}};
     CHECK(give(changed) == (ssize_t)size_of(2));
     struct can_frame frame;
     do {
@@ -101,8 +106,12 @@ static void cyclic(void) {
 
 /* Three at once, 10 ms apart; then no more, and the program hears of it. */
 static void counted(void) {
-    struct message task = {.head = {.opcode = TX_SETUP, .flags = SETTIMER | STARTTIMER | TX_COUNTEVT | TX_CP_CAN_ID, .can_id = 0x155,
-                                    .nframes = 1, .count = 3, .ival1 = ms(10)},
+    struct message task = {.head = {.opcode = TX_SETUP,
+                                    .flags = SETTIMER | STARTTIMER | TX_COUNTEVT | TX_CP_CAN_ID,
+                                    .can_id = 0x155,
+                                    .nframes = 1,
+                                    .count = 3,
+                                    .ival1 = ms(10)},
                            .frames = {frame_of(0x7FF, 5)}};
     CHECK(give(task) > 0);
     told(TX_EXPIRED, 0x155, 0);
@@ -110,7 +119,8 @@ static void counted(void) {
         get(raw, 0x155, 5); /* TX_CP_CAN_ID */
     }
     CHECK(!comes(raw, QUIET));
-    CHECK(give((struct message){.head = {.opcode = TX_SEND, .nframes = 1}, .frames = {frame_of(0x123, 6)}}) == (ssize_t)size_of(1));
+    CHECK(give((struct message){.head = {.opcode = TX_SEND, .nframes = 1}, .frames = {frame_of(0x123, 6)}}) ==
+          (ssize_t)size_of(1));
     get(raw, 0x123, 6);
 }
 
@@ -140,7 +150,11 @@ static void filtered(void) {
 }
 
 static void limits(void) {
-    CHECK(give((struct message){.head = {.opcode = RX_SETUP, .flags = SETTIMER | RX_ANNOUNCE_RESUME, .can_id = 0x210, .nframes = 1, .ival1 = ms(50)},
+    CHECK(give((struct message){.head = {.opcode = RX_SETUP,
+                                         .flags = SETTIMER | RX_ANNOUNCE_RESUME,
+                                         .can_id = 0x210,
+                                         .nframes = 1,
+                                         .ival1 = ms(50)},
                                 .frames = {{.can_id = 0x210, .data = {0xFF}}}}) > 0);
     put(raw, 0x210, 1);
     told(RX_CHANGED, 0x210, 1);
@@ -150,7 +164,8 @@ static void limits(void) {
     CHECK(give((struct message){.head = {.opcode = RX_DELETE, .can_id = 0x210}}) > 0);
     /* At most one message each 100 ms. */
     double start = now();
-    CHECK(give((struct message){.head = {.opcode = RX_SETUP, .flags = SETTIMER | RX_FILTER_ID, .can_id = 0x211, .ival2 = ms(100)}}) > 0);
+    CHECK(give((struct message){
+              .head = {.opcode = RX_SETUP, .flags = SETTIMER | RX_FILTER_ID, .can_id = 0x211, .ival2 = ms(100)}}) > 0);
     for (unsigned i = 0; i < 5; i++) {
         put(raw, 0x211, i);
     }
@@ -161,8 +176,9 @@ static void limits(void) {
 
 static void remote(void) {
     struct can_frame request = {.can_id = 0x220 | CAN_RTR_FLAG};
-    CHECK(give((struct message){.head = {.opcode = RX_SETUP, .flags = RX_RTR_FRAME, .can_id = 0x220 | CAN_RTR_FLAG, .nframes = 1},
-                                .frames = {frame_of(0x220, 42)}}) > 0);
+    CHECK(give((struct message){
+              .head = {.opcode = RX_SETUP, .flags = RX_RTR_FRAME, .can_id = 0x220 | CAN_RTR_FLAG, .nframes = 1},
+              .frames = {frame_of(0x220, 42)}}) > 0);
     CHECK(write(raw, &request, sizeof request) == sizeof request);
     get(raw, 0x220, 42);
 }
@@ -178,7 +194,8 @@ static void all_interfaces(void) {
     task.head = (struct bcm_msg_head){.opcode = RX_SETUP, .flags = RX_FILTER_ID, .can_id = 0x230};
     CHECK(sendto(all, &task, size_of(0), 0, (struct sockaddr *)&to, sizeof to) == (ssize_t)size_of(0));
     put(raw, 0x230, 1);
-    CHECK(comes(all, PATIENCE) && recvfrom(all, &message, sizeof message, 0, (struct sockaddr *)&from, &length) == (ssize_t)size_of(1));
+    CHECK(comes(all, PATIENCE) &&
+          recvfrom(all, &message, sizeof message, 0, (struct sockaddr *)&from, &length) == (ssize_t)size_of(1));
     CHECK(from.can_ifindex == to.can_ifindex && message.head.opcode == RX_CHANGED);
 }
 

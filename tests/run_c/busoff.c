@@ -5,7 +5,8 @@
 static void error_comes(int fd, canid_t class, unsigned char controller) {
     struct can_frame frame = got(fd);
     if (frame.can_id != (class | CAN_ERR_FLAG) || frame.can_dlc != CAN_ERR_DLC || frame.data[1] != controller) {
-        fprintf(stderr, "error message frame %X %02X instead of %X %02X\n", frame.can_id, frame.data[1], class, controller);
+        fprintf(stderr, "error message frame %X %02X instead of %X %02X\n", frame.can_id, frame.data[1], class,
+                controller);
         exit(1);
     }
 }

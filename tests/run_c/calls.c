@@ -33,7 +33,8 @@ static void each_read(void) {
     struct iovec parts[2] = {{&frame, 7}, {(char *)&frame + 7, sizeof frame - 7}};
     struct msghdr message = {.msg_iov = parts, .msg_iovlen = 2, .msg_name = &from, .msg_namelen = sizeof from};
     struct iovec others[2] = {{&frame, sizeof frame}, {&other, sizeof other}};
-    struct mmsghdr several[3] = {{.msg_hdr = {.msg_iov = others, .msg_iovlen = 1}}, {.msg_hdr = {.msg_iov = others + 1, .msg_iovlen = 1}}};
+    struct mmsghdr several[3] = {{.msg_hdr = {.msg_iov = others, .msg_iovlen = 1}},
+                                 {.msg_hdr = {.msg_iov = others + 1, .msg_iovlen = 1}}};
     for (unsigned i = 0; i < 9; i++) {
         put(can0, 0x102, i);
     }
@@ -46,7 +47,8 @@ static void each_read(void) {
     CHECK(length == offsetof(struct sockaddr_can, can_addr));
     memset(&from, 0, sizeof from);
     CHECK(recvmsg(can1, &message, 0) == 16 && is_frame(&frame, 5));
-    CHECK(from.can_family == AF_CAN && from.can_ifindex == (int)if_nametoindex("can1") && message.msg_namelen == length);
+    CHECK(from.can_family == AF_CAN && from.can_ifindex == (int)if_nametoindex("can1") &&
+          message.msg_namelen == length);
     CHECK(message.msg_flags == 0);
     CHECK(recvmmsg(can1, several, 2, 0, NULL) == 2 && is_frame(&frame, 6) && is_frame(&other, 7));
     CHECK(several[0].msg_len == 16 && several[1].msg_len == 16);
@@ -98,7 +100,8 @@ static void contents(void) {
     static const canid_t ids[] = {0, 0x7FF, CAN_EFF_FLAG, CAN_EFF_FLAG | 0x7FF, CAN_EFF_FLAG | CAN_EFF_MASK};
     for (size_t i = 0; i < sizeof ids / sizeof *ids; i++) {
         for (unsigned char length = 0; length <= 8; length++) {
-            struct can_frame frame = {.can_id = ids[i], .can_dlc = length}, remote = {.can_id = ids[i] | CAN_RTR_FLAG, .can_dlc = length}, one;
+            struct can_frame frame = {.can_id = ids[i], .can_dlc = length},
+                             remote = {.can_id = ids[i] | CAN_RTR_FLAG, .can_dlc = length}, one;
             for (unsigned char at = 0; at < length; at++) {
                 frame.data[at] = (unsigned char)(0xF1 * (at + 1) + length);
             }

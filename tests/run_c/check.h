@@ -1,5 +1,5 @@
-/* What the C programs of test_run_c.py share: they are programs with CAN sockets as any other, and know nothing of canbusd.
- * A check that fails ends the program with status 1, and says where. */
+/* What the C programs of test_run_c.py share: they are programs with CAN sockets as any other, and know nothing of
+ * canbusd. A check that fails ends the program with status 1, and says where. */
 #ifndef CHECK_H
 #define CHECK_H
 
@@ -27,23 +27,25 @@
 #include <time.h>
 #include <unistd.h>
 
-#define CHECK(condition)                                                                                               \
-    do {                                                                                                               \
-        if (!(condition)) {                                                                                            \
-            fprintf(stderr, "%s:%d: not so: %s (errno %d, %s)\n", __FILE__, __LINE__, #condition, errno, strerror(errno)); \
-            exit(1);                                                                                                   \
-        }                                                                                                              \
+#define CHECK(condition)                                                                                 \
+    do {                                                                                                 \
+        if (!(condition)) {                                                                              \
+            fprintf(stderr, "%s:%d: not so: %s (errno %d, %s)\n", __FILE__, __LINE__, #condition, errno, \
+                    strerror(errno));                                                                    \
+            exit(1);                                                                                     \
+        }                                                                                                \
     } while (0)
 
 /* The call fails, with this errno. */
-#define FAILS(call, error)                                                                                             \
-    do {                                                                                                               \
-        errno = 0;                                                                                                     \
-        CHECK((call) == -1);                                                                                           \
-        if (errno != (error)) {                                                                                        \
-            fprintf(stderr, "%s:%d: %s: errno is %s, not %s\n", __FILE__, __LINE__, #call, strerrorname_np(errno), #error); \
-            exit(1);                                                                                                   \
-        }                                                                                                              \
+#define FAILS(call, error)                                                                                         \
+    do {                                                                                                           \
+        errno = 0;                                                                                                 \
+        CHECK((call) == -1);                                                                                       \
+        if (errno != (error)) {                                                                                    \
+            fprintf(stderr, "%s:%d: %s: errno is %s, not %s\n", __FILE__, __LINE__, #call, strerrorname_np(errno), \
+                    #error);                                                                                       \
+            exit(1);                                                                                               \
+        }                                                                                                          \
     } while (0)
 
 /* Milliseconds in which what has to come comes, on any machine. */

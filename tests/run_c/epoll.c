@@ -21,7 +21,8 @@ int main(void) {
     struct epoll_event on_level = {.events = EPOLLIN}, on_edge = {.events = EPOLLIN | EPOLLET};
     struct pollfd to_write = {writer, POLLOUT, 0};
     CHECK(poll(&to_write, 1, 0) == 1 && to_write.revents == POLLOUT);
-    CHECK(epoll_ctl(level, EPOLL_CTL_ADD, reader, &on_level) == 0 && epoll_ctl(edge, EPOLL_CTL_ADD, reader, &on_edge) == 0);
+    CHECK(epoll_ctl(level, EPOLL_CTL_ADD, reader, &on_level) == 0 &&
+          epoll_ctl(edge, EPOLL_CTL_ADD, reader, &on_edge) == 0);
     CHECK(!comes(reader, QUIET) && selected(reader, 0) == 0 && waited(level, 0) == 0 && waited(edge, 0) == 0);
     put(writer, 0x123, 1);
     put(writer, 0x123, 2);

@@ -84,7 +84,8 @@ static void binds(void) {
     address = address_of("can1");
     CHECK(bind(moved, (struct sockaddr *)&address, sizeof address) == 0);
     CHECK(bind(moved, (struct sockaddr *)&address, sizeof address) == 0);
-    CHECK(getsockname(moved, (struct sockaddr *)&own, &length) == 0 && own.can_ifindex == address.can_ifindex && length == 8);
+    CHECK(getsockname(moved, (struct sockaddr *)&own, &length) == 0 && own.can_ifindex == address.can_ifindex &&
+          length == 8);
     put(moved, 0x124, 2);
     get(writer, 0x124, 2);
 }

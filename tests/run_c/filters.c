@@ -1,5 +1,5 @@
-/* Filters by the rule of linux/can.h: received & mask == id & mask, inverted by CAN_INV_FILTER; more than the server has
- * room for in a message too. */
+/* Filters by the rule of linux/can.h: received & mask == id & mask, inverted by CAN_INV_FILTER; more than the server
+ * has room for in a message too. */
 #include "check.h"
 
 #define MANY 200
@@ -27,19 +27,21 @@ static void passes(const canid_t *sent, size_t count, const canid_t *expected, s
     }
     CHECK(!comes(reader, QUIET));
 }
-#define PASSES(sent, ...)                                                                                              \
+#define PASSES(sent, ...) \
     passes(sent, sizeof sent / sizeof *sent, (canid_t[]){__VA_ARGS__}, sizeof(canid_t[]){__VA_ARGS__} / sizeof(canid_t))
 
 #define EXTENDED(id) ((id) | CAN_EFF_FLAG)
 #define REMOTE(id) ((id) | CAN_RTR_FLAG)
-static const canid_t SENT[] = {0x123, 0x124, EXTENDED(0x123), REMOTE(0x123), EXTENDED(0x12345123), 0x7FF, REMOTE(EXTENDED(0x123))};
+static const canid_t SENT[] = {
+    0x123, 0x124, EXTENDED(0x123), REMOTE(0x123), EXTENDED(0x12345123), 0x7FF, REMOTE(EXTENDED(0x123))};
 
 static void many(bool is_joined) {
     struct can_filter filters[MANY];
     canid_t sent[2 * MANY], expected[MANY];
     size_t count = 0;
     for (unsigned i = 0; i < MANY; i++) {
-        filters[i] = (struct can_filter){EXTENDED(0x10000 + 2 * i) | (is_joined ? CAN_INV_FILTER : 0), CAN_EFF_FLAG | CAN_EFF_MASK};
+        filters[i] = (struct can_filter){EXTENDED(0x10000 + 2 * i) | (is_joined ? CAN_INV_FILTER : 0),
+                                         CAN_EFF_FLAG | CAN_EFF_MASK};
     }
     for (unsigned i = 0; i < 2 * MANY; i++) {
         sent[i] = EXTENDED(0x10000 + i);

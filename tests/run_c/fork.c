@@ -1,5 +1,5 @@
-/* A socket is one after fork, dup, exec and SCM_RIGHTS; its last copy ends it. Called with a number it is the program that
- * inherits that descriptor. */
+/* A socket is one after fork, dup, exec and SCM_RIGHTS; its last copy ends it. Called with a number it is the program
+ * that inherits that descriptor. */
 #include "check.h"
 
 static void send_descriptor(int through, int fd) {
@@ -34,7 +34,8 @@ int main(int count, char **words) {
         put(atoi(words[1]), 0x123, 50);
         struct sockaddr_can own;
         socklen_t length = sizeof own;
-        CHECK(getsockname(atoi(words[1]), (struct sockaddr *)&own, &length) == 0 && own.can_ifindex == (int)if_nametoindex("can0"));
+        CHECK(getsockname(atoi(words[1]), (struct sockaddr *)&own, &length) == 0 &&
+              own.can_ifindex == (int)if_nametoindex("can0"));
         return 0;
     }
     int writer = bound("can0"), reader = bound("can1"), pair[2];

@@ -1,4 +1,5 @@
-/* A transmit queue of 10 with a frame a second: the 12th write at the latest finds it full. With the word `wait` none does. */
+/* A transmit queue of 10 with a frame a second: the 12th write at the latest finds it full. With the word `wait` none
+ * does. */
 #include "check.h"
 
 int main(int count, char **words) {

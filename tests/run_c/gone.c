@@ -1,5 +1,5 @@
-/* The server ends while a read waits, as a device that is unregistered: ENODEV, and ENXIO for writes. The word on standard
- * output is when it should end. */
+/* The server ends while a read waits, as a device that is unregistered: ENODEV, and ENXIO for writes. The word on
+ * standard output is when it should end. */
 #include "check.h"
 
 int main(void) {

@@ -29,8 +29,10 @@ int main(void) {
             struct sockaddr_can from;
             socklen_t length = sizeof from;
             unsigned number;
-            CHECK(comes(any, PATIENCE) && recvfrom(any, &frame, sizeof frame, 0, (struct sockaddr *)&from, &length) == 16);
-            CHECK(number_of(&frame) == i && if_indextoname((unsigned)from.can_ifindex, name) && sscanf(name, "node%u", &number) == 1);
+            CHECK(comes(any, PATIENCE) &&
+                  recvfrom(any, &frame, sizeof frame, 0, (struct sockaddr *)&from, &length) == 16);
+            CHECK(number_of(&frame) == i && if_indextoname((unsigned)from.can_ifindex, name) &&
+                  sscanf(name, "node%u", &number) == 1);
             indices |= 1u << number;
         }
         CHECK(indices == 0xFFFF && close(fd) == 0);

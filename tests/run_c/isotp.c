@@ -1,4 +1,5 @@
-/* CAN_ISOTP: the frames of ISO 15765-2, both ways, and each errno, with a raw socket at the other end that plays a peer. */
+/* CAN_ISOTP: the frames of ISO 15765-2, both ways, and each errno, with a raw socket at the other end that plays a
+ * peer. */
 #include "check.h"
 #include <linux/can/isotp.h>
 
@@ -76,11 +77,13 @@ static void faults(void) {
     FAILS(write(fd, "", 0), EINVAL);
     struct sockaddr_can own = {0};
     socklen_t length = sizeof own;
-    CHECK(getsockname(fd, (struct sockaddr *)&own, &length) == 0 && own.can_addr.tp.rx_id == RX && own.can_addr.tp.tx_id == TX);
+    CHECK(getsockname(fd, (struct sockaddr *)&own, &length) == 0 && own.can_addr.tp.rx_id == RX &&
+          own.can_addr.tp.tx_id == TX);
     struct can_isotp_options options;
     length = sizeof options;
     CHECK(getsockopt(fd, SOL_CAN_ISOTP, CAN_ISOTP_OPTS, &options, &length) == 0 && length == sizeof options);
-    CHECK(options.flags == 0 && options.frame_txtime == CAN_ISOTP_DEFAULT_FRAME_TXTIME && options.txpad_content == 0xCC);
+    CHECK(options.flags == 0 && options.frame_txtime == CAN_ISOTP_DEFAULT_FRAME_TXTIME &&
+          options.txpad_content == 0xCC);
     CHECK(close(fd) == 0);
 }
 
@@ -96,8 +99,8 @@ static void single_frames(void) {
     SEES("\7abcdefg");
     SAYS("\2xy");
     SAYS("\2xy\0\0\0\0\0");
-    SAYS("\0xy");  /* No length. */
-    SAYS("\7xy");  /* More than there is. */
+    SAYS("\0xy"); /* No length. */
+    SAYS("\7xy"); /* More than there is. */
     SAYS("\1z");
     reads(fd, "xy", 2);
     reads(fd, "xy", 2);
@@ -112,26 +115,35 @@ static void several_frames(void) {
     int fd = made();
     CHECK(bind_isotp(fd, RX, TX) == 0);
     CHECK(write(fd, "0123456789abcdefghij", 20) == 20);
-    SEES("\x10\x14" "012345");
+    SEES("\x10\x14"
+         "012345");
     CHECK(!comes(peer, QUIET));
     SAYS("\x30\x01\x05");
-    SEES("\x21" "6789abc");
+    SEES("\x21"
+         "6789abc");
     CHECK(!comes(peer, QUIET));
     SAYS("\x31\0\0"); /* Wait. */
     SAYS("\x30\0\0");
-    SEES("\x22" "defghij");
-    SAYS("\x10\x14" "012345");
+    SEES("\x22"
+         "defghij");
+    SAYS("\x10\x14"
+         "012345");
     SEES("\x30\0\0");
-    SAYS("\x21" "6789abc");
-    SAYS("\x22" "defghij");
+    SAYS("\x21"
+         "6789abc");
+    SAYS("\x22"
+         "defghij");
     reads(fd, "0123456789abcdefghij", 20);
     /* A wrong number, and frames that cease. */
-    SAYS("\x10\x14" "012345");
+    SAYS("\x10\x14"
+         "012345");
     SEES("\x30\0\0");
-    SAYS("\x22" "6789abc");
+    SAYS("\x22"
+         "6789abc");
     CHECK(comes(fd, PATIENCE));
     FAILS(read(fd, &(char){0}, 1), EILSEQ);
-    SAYS("\x10\x14" "012345");
+    SAYS("\x10\x14"
+         "012345");
     SEES("\x30\0\0");
     CHECK(comes(fd, PATIENCE));
     FAILS(read(fd, &(char){0}, 1), ETIMEDOUT);
@@ -141,7 +153,8 @@ static void several_frames(void) {
 /* With CAN_ISOTP_WAIT_TX_DONE a write reports how its message ended. */
 static void waits(void) {
     int fd = made();
-    set_options(fd, (struct can_isotp_options){.flags = CAN_ISOTP_WAIT_TX_DONE | CAN_ISOTP_TX_PADDING, .txpad_content = 0xAA});
+    set_options(
+        fd, (struct can_isotp_options){.flags = CAN_ISOTP_WAIT_TX_DONE | CAN_ISOTP_TX_PADDING, .txpad_content = 0xAA});
     CHECK(bind_isotp(fd, RX, TX) == 0);
     pid_t child = fork();
     if (child == 0) {
@@ -151,13 +164,17 @@ static void waits(void) {
         CHECK(write(fd, "x", 1) == 1);
         _exit(0);
     }
-    SEES("\x10\x0A" "012345");
+    SEES("\x10\x0A"
+         "012345");
     FAILS(send(fd, "x", 1, MSG_DONTWAIT), EAGAIN);
     SAYS("\x30\0\0");
-    SEES("\x21" "6789\xAA\xAA\xAA");
-    SEES("\x10\x0A" "012345");
+    SEES("\x21"
+         "6789\xAA\xAA\xAA");
+    SEES("\x10\x0A"
+         "012345");
     SAYS("\x32\0\0"); /* Overflow. */
-    SEES("\x10\x0A" "012345");
+    SEES("\x10\x0A"
+         "012345");
     SEES("\x01x\xAA\xAA\xAA\xAA\xAA\xAA");
     int status;
     CHECK(waitpid(child, &status, 0) == child && WIFEXITED(status) && WEXITSTATUS(status) == 0);
@@ -171,11 +188,13 @@ static void extended(void) {
     CHECK(write(fd, "abcdef", 6) == 6);
     SEES("\xE0\6abcdef");
     CHECK(write(fd, "abcdefghijk", 11) == 11);
-    SEES("\xE0\x10\x0B" "abcde");
+    SEES("\xE0\x10\x0B"
+         "abcde");
     SAYS("\xE1\x30\0\0"); /* To another. */
     CHECK(!comes(peer, QUIET));
     SAYS("\xE0\x30\0\0");
-    SEES("\xE0\x21" "fghijk");
+    SEES("\xE0\x21"
+         "fghijk");
     SAYS("\xE0\2hi");
     reads(fd, "hi", 2);
     CHECK(close(fd) == 0);
@@ -192,11 +211,13 @@ static void long_messages(bool is_fd) {
         CHECK(setsockopt(receiver, SOL_CAN_ISOTP, CAN_ISOTP_LL_OPTS, &link, sizeof link) == 0);
         CHECK(setsockopt(sender, SOL_CAN_ISOTP, CAN_ISOTP_LL_OPTS, &link, sizeof link) == 0);
     }
-    CHECK(bind_isotp(sender, RX | CAN_EFF_FLAG, TX | CAN_EFF_FLAG) == 0 && bind_isotp(receiver, TX | CAN_EFF_FLAG, RX | CAN_EFF_FLAG) == 0);
+    CHECK(bind_isotp(sender, RX | CAN_EFF_FLAG, TX | CAN_EFF_FLAG) == 0 &&
+          bind_isotp(receiver, TX | CAN_EFF_FLAG, RX | CAN_EFF_FLAG) == 0);
     for (size_t i = 0; i < sizeof data; i++) {
         data[i] = (char)(i * 7 + i / 256);
     }
-    CHECK(write(sender, data, 5) == 5 && write(sender, data, 4000) == 4000 && write(sender, data, sizeof data) == sizeof data);
+    CHECK(write(sender, data, 5) == 5 && write(sender, data, 4000) == 4000 &&
+          write(sender, data, sizeof data) == sizeof data);
     CHECK(close(sender) == 0);
     reads(receiver, data, 5);
     reads(receiver, data, 4000);

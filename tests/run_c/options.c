@@ -27,7 +27,8 @@ static void flags(int fd) {
 }
 
 static void filters(int fd) {
-    struct can_filter some[3] = {{0x123, CAN_SFF_MASK}, {0x200, 0x700}, {0x300 | CAN_INV_FILTER, 0x700}}, read_back[4] = {{0, 0}};
+    struct can_filter some[3] = {{0x123, CAN_SFF_MASK}, {0x200, 0x700}, {0x300 | CAN_INV_FILTER, 0x700}},
+                      read_back[4] = {{0, 0}};
     socklen_t length = sizeof read_back;
     CHECK(getsockopt(fd, SOL_CAN_RAW, CAN_RAW_FILTER, read_back, &length) == 0 && length == 8);
     CHECK(read_back[0].can_id == 0 && read_back[0].can_mask == 0);

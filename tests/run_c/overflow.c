@@ -1,4 +1,5 @@
-/* A reader with a small SO_RCVBUF that does not read loses frames, and SO_RXQ_OVFL counts them: received and lost are sent. */
+/* A reader with a small SO_RCVBUF that does not read loses frames, and SO_RXQ_OVFL counts them: received and lost are
+ * sent. */
 #include "check.h"
 
 #define FRAMES 20000
@@ -7,7 +8,8 @@ static unsigned take(int fd, uint32_t *dropped) {
     char control[64];
     struct can_frame frame;
     struct iovec part = {&frame, sizeof frame};
-    struct msghdr message = {.msg_iov = &part, .msg_iovlen = 1, .msg_control = control, .msg_controllen = sizeof control};
+    struct msghdr message = {
+        .msg_iov = &part, .msg_iovlen = 1, .msg_control = control, .msg_controllen = sizeof control};
     CHECK(comes(fd, PATIENCE) && recvmsg(fd, &message, 0) == sizeof frame);
     for (struct cmsghdr *one = CMSG_FIRSTHDR(&message); one; one = CMSG_NXTHDR(&message, one)) {
         if (one->cmsg_level == SOL_SOCKET && one->cmsg_type == SO_RXQ_OVFL) {

@@ -8,7 +8,8 @@ static int64_t stamp_of(int fd, int type) {
     char control[256];
     struct can_frame frame;
     struct iovec part = {&frame, sizeof frame};
-    struct msghdr message = {.msg_iov = &part, .msg_iovlen = 1, .msg_control = control, .msg_controllen = sizeof control};
+    struct msghdr message = {
+        .msg_iov = &part, .msg_iovlen = 1, .msg_control = control, .msg_controllen = sizeof control};
     int64_t found = 0;
     CHECK(comes(fd, PATIENCE) && recvmsg(fd, &message, 0) == sizeof frame && !(message.msg_flags & MSG_CTRUNC));
     for (struct cmsghdr *one = CMSG_FIRSTHDR(&message); one; one = CMSG_NXTHDR(&message, one)) {
@@ -58,6 +59,7 @@ int main(void) {
     struct iovec part = {&frame, sizeof frame};
     struct msghdr message = {.msg_iov = &part, .msg_iovlen = 1, .msg_control = little, .msg_controllen = sizeof little};
     put(writer, 0x123, 9);
-    CHECK(comes(readers[2], PATIENCE) && recvmsg(readers[2], &message, 0) == sizeof frame && message.msg_flags & MSG_CTRUNC);
+    CHECK(comes(readers[2], PATIENCE) && recvmsg(readers[2], &message, 0) == sizeof frame &&
+          message.msg_flags & MSG_CTRUNC);
     return 0;
 }
