@@ -1,9 +1,12 @@
-# make              proves and builds the program
+# make              proves and builds the program, and builds canbusd-run where there is a gcc
+# make run          builds canbusd-run only (canrun/)
 # make test         the test command: every proof, edit, test, stored run and example, from scratch
 # make quick        every test, stored run and example without proofs, in a few minutes, for work in between
 # make python-test  the tests of the Python package, on the program; needs python-can and pytest
-# make check        the program, its documents and tools from outside, by pytest; slow tests are left out (tests/)
+# make check        the program, its documents and tools from outside, by pytest; slow tests are left out (tests/), and what
+#                   else is skipped is listed with what it lacks. It takes some 5 minutes
 # make dist         puts the proved program into dist/, with what it was built from
+# make dist-run     puts canbusd-run into dist/, with what it was built from
 # make verify-dist  proves and builds it again from scratch, and compares it with dist/ byte for byte
 # make install      puts the program with its launcher, the Python package, tools, manual page, completions, unit of systemd,
 #                   documents and examples under PREFIX (after DESTDIR); PYTHONDIR is where the package goes, as it is the
@@ -26,8 +29,16 @@ PYTHONDIR ?= $(shell ./scripts/python-package place "$(PREFIX)")
 # Tools that need python3 and the package: in bin/ each is a link.
 TOOLS = canbusd-report candump2bench
 
+# The compiler of canbusd-run.
+CC_OF_RUN = $(if $(filter default,$(origin CC)),gcc,$(CC))
+
 all:
 	./scripts/program build
+	@$(MAKE) -s run
+
+run:
+	@if command -v $(CC_OF_RUN) >/dev/null; then ./scripts/run-program build; \
+	else echo "canbusd: there is no $(CC_OF_RUN), so canbusd-run is not built"; fi
 
 test:
 	./scripts/test
@@ -42,10 +53,15 @@ python-test:
 PYTHON ?= $(shell command -v /usr/bin/python3 || command -v python3)
 
 check:
-	$(PYTHON) -m pytest -q -m "not slow" tests
+	@$(PYTHON) -c 'import can, pytest' || { echo 'make check: $(PYTHON) has no python-can or no pytest;' \
+		'`apt-get install python3-can python3-pytest` for /usr/bin/python3, else PYTHON=.. names another' >&2; exit 1; }
+	$(PYTHON) -m pytest -q -rs -m "not slow" tests
 
 dist:
 	./scripts/program dist
+
+dist-run:
+	./scripts/run-program dist
 
 verify-dist:
 	./scripts/program verify
@@ -87,7 +103,7 @@ install-extras:
 	done
 	sed 's|^ExecStart=/usr/bin/canbusd|ExecStart="$(PREFIX)/bin/canbusd"|' contrib/canbusd.service >"$(UNITS)/canbusd.service"
 	chmod 644 "$(UNITS)/canbusd.service"
-	for file in README.md LICENSE docs/*.md docs/pictures/* examples/*.* examples/python/*.*; do \
+	for file in README.md LICENSE docs/*.md docs/pictures/* examples/*.* examples/python/*.* examples/c/*.*; do \
 		install -D -m 644 "$$file" "$(DOCDIR)/$$file" || exit; \
 	done
 
@@ -96,6 +112,26 @@ uninstall-extras:
 	rm -f $(TOOL_COMPLETIONS) "$(UNITS)/canbusd.service"
 	rm -rf "$(DOCDIR)"
 
+# canbusd-run, where there is one that fits the sources or a gcc to build it: the command finds library and bridge beside it.
+RUN_FILES = canbusd-run canbusd-bridge libcanbusd-run.so
+
+install: install-run
+install-run:
+	install -d "$(BINDIR)" "$(LIBEXECDIR)" "$(MANDIR)" "$(COMPLETIONS)" "$(ZSH)" "$(FISH)"
+	if program=$$(./scripts/run-program choose); then \
+		for file in $(RUN_FILES); do install -m 755 "$$(dirname "$$program")/$$file" "$(LIBEXECDIR)/$$file" || exit; done && \
+		ln -sf ../libexec/canbusd/canbusd-run "$(BINDIR)/canbusd-run" && \
+		install -m 644 canbusd-run.1 "$(MANDIR)/canbusd-run.1" && \
+		install -m 644 tools/completions/canbusd-run.bash "$(COMPLETIONS)/canbusd-run" && \
+		install -m 644 tools/completions/canbusd-run.zsh "$(ZSH)/_canbusd-run" && \
+		install -m 644 tools/completions/canbusd-run.fish "$(FISH)/canbusd-run.fish"; \
+	fi
+
+uninstall: uninstall-run
+uninstall-run:
+	rm -f "$(BINDIR)/canbusd-run" "$(MANDIR)/canbusd-run.1" "$(COMPLETIONS)/canbusd-run" "$(ZSH)/_canbusd-run" \
+		"$(FISH)/canbusd-run.fish"
+
 deb:
 	./scripts/deb
 
@@ -103,6 +139,7 @@ wheel:
 	./scripts/python-package wheel "$(CURDIR)"
 
 clean:
-	rm -rf crates/*/out python/build python/src/canbusd.egg-info
+	rm -rf crates/*/out canrun/out python/build python/src/canbusd.egg-info
 
-.PHONY: all test quick python-test check dist verify-dist install install-extras uninstall uninstall-extras deb wheel clean
+.PHONY: all run test quick python-test check dist dist-run verify-dist install install-extras install-run uninstall \
+	uninstall-extras uninstall-run deb wheel clean

@@ -128,7 +128,8 @@ class Server:
             raise NotListening(f"{line}{said}")
         self.address = line.removeprefix("listening ").rstrip("\n")
         if ":" in self.address:
-            self.host, self.port = self.address.split(":")[0], int(self.address.split(":")[1])
+            host, _, port = self.address.rpartition(":")
+            self.host, self.port = host.strip("[]"), int(port)
 
     def said(self):
         with open(self.path("stderr"), encoding="utf-8") as errors:

@@ -12,6 +12,7 @@ import os
 import re
 import shutil
 import signal
+import socket
 import subprocess
 import tempfile
 
@@ -20,7 +21,7 @@ import pytest
 from serving import ROOT, WAIT, come_true
 
 # Commands of README that run until they are ended.
-ENDLESS = ("./canbusd serve", "python3 -m canbusd dump", "python3 -m canbusd watch")
+ENDLESS = ("./canbusd serve", "./canbusd-run candump", "python3 -m canbusd dump", "python3 -m canbusd watch")
 
 
 class Clone:
@@ -107,6 +108,16 @@ class Clone:
                 child.wait(WAIT)
 
 
+def needs_port(number):
+    """Skips a test whose commands listen there, where somebody does so already."""
+    with socket.socket() as one:
+        one.setsockopt(socket.SOL_SOCKET, socket.SO_REUSEADDR, 1)
+        try:
+            one.bind(("127.0.0.1", number))
+        except OSError as fault:
+            pytest.skip(f"127.0.0.1:{number}, which the documents name, can't be had: {fault.strerror}")
+
+
 @pytest.fixture
 def clone(tmp_path):
     clone = Clone(tmp_path / "clone")
@@ -143,6 +154,7 @@ def test_files_that_are_named(clone):
     for name in [
         "README.md",
         "canbusd.1",
+        "canbusd-run.1",
         *(f"docs/{one}" for one in os.listdir(os.path.join(clone.folder, "docs")) if one.endswith(".md")),
     ]:
         for path in re.findall(
@@ -153,6 +165,8 @@ def test_files_that_are_named(clone):
 
 def test_commands_of_readme(clone):
     """each of them, in their order; those that run until Ctrl-C together"""
+    needs_port(29536)
+    needs_port(8029)
     clone.environment["PYTHONPATH"] = os.path.join(clone.folder, "python", "src")
     server = None
     with contextlib.ExitStack() as endless:
@@ -231,6 +245,7 @@ def test_dialogues_of_the_guide(clone):
 
 def test_commands_of_the_package(clone, python_can):
     """those of the guide: a dump prints what a send sends, and a status has the interfaces"""
+    needs_port(29536)
     path, dump, send, status = next(
         block for block in clone.blocks("docs/GUIDE.md") if any(" dump " in line for line in block)
     )

@@ -99,6 +99,17 @@ def test_definitions_taken_away(copy):
     assert copy.status("./canbusd", "--version") == 0
 
 
+def test_few_file_descriptors(copy):
+    """it is said, and the program is not taken for one of other sources"""
+    for files in range(8, 24):
+        shutil.rmtree(copy.folder / "crates" / "canbusd" / "out", ignore_errors=True)
+        done = copy.run("bash", "-c", f"ulimit -n {files}; exec ./canbusd --version")
+        assert done.returncode == 0 if files >= 20 else done.stderr, f"{files}: {done}"
+        assert "other sources" not in done.stderr, done.stderr
+    shutil.rmtree(copy.folder / "crates" / "canbusd" / "out")
+    assert "`ulimit -n 20`" in copy.run("bash", "-c", "ulimit -n 14; exec ./canbusd --version").stderr
+
+
 def test_changed_proof(copy):
     """a change of a proof makes no other program"""
     assert copy.status("./canbusd", "--version") == 0

@@ -250,8 +250,8 @@ SHOWN = [
             "can0 wins with its frame 0, 123#. Fault: global bit. Outcome: destroyed.",
             "Accepted by nobody. can0 goes bus off.",
             "248 \u2192 256",
-            "bus off",
-            "error warning, transmit count 96, receive count 0",
+            "32 of its 32 attempts since attempt 0 failed: global bit 32",
+            "can0 went bus off at transmit count 256",
         ],
     ),
     ("missed_frame", 16, ["Fault: local crc at can2. Outcome: done. Accepted by can1.", "local fault"]),
@@ -306,4 +306,4 @@ def test_page_of_a_long_run(tmp_path):
     if not BROWSER:
         pytest.skip("the page is made, but there is no browser to show it")
     shown = page_in_browser(path, 99999)
-    assert "Attempt 99999 at 99.999000" in shown and "100,000 of 100,000" in shown, shown[:500]
+    assert "Attempt 99,999 at 99.999000" in shown and "Attempts 100,000" in shown, shown[:500]

@@ -1,11 +1,13 @@
 """The bench in a dialogue. What is expected is what the rules of the bus give (Bosch CAN 2.0, linux/can/error.h)."""
 
 import os
+import signal
+import threading
 
 import can
 import pytest
 
-from canbusd.bench import Bench, BenchError, Refused
+from canbusd.bench import MOST_INPUT, Bench, BenchError, Refused
 from canbusd.faults import Faults
 from canbusd.frames import Frame
 
@@ -217,7 +219,7 @@ def test_refusals():
     # An open and an option of each session, and a refused open is no event.
     bench, sender, receiver = pair(limit=4)
     with bench:
-        with pytest.raises(Refused, match="^no such interface$"):
+        with pytest.raises(Refused, match="^no such interface 'can7'; the bench has can0, can1$"):
             bench.open("can7")
         for call in (lambda: bench.open("can1"), receiver.receive):
             with pytest.raises(Refused, match="^record full$"):
@@ -280,6 +282,122 @@ def test_messages_of_the_protocol():
                 sender.call(message)
 
 
+def test_an_echo_keeps_the_bench_in_step():
+    bench, sender, receiver = pair(txqueue=1)
+    with bench:
+        for echo in ("echo", "  echo  "):
+            assert sender.call(echo) == ["echo"]
+        sender.send(0x123)
+        for _ in range(2):
+            with pytest.raises(Refused, match="^no buffers$"):
+                sender.send(0x124)
+        assert sender.status() == ("active", 0, 0)
+        sender.call("echo")
+        assert [attempt.frame for attempt in bench.run()] == ["123#"]
+        sender.send(0x125)
+        assert [attempt.frame for attempt in bench.run()] == ["125#"]
+        assert [str(frame) for frame in receiver.receive()] == ["123#", "125#"]
+
+
+def test_messages_that_are_too_long():
+    # A message has at most 1,024 bytes between < and >.
+    bench, sender, _ = pair()
+    with bench:
+        assert sender.call("echo".ljust(1022)) == ["echo"]
+        for length in (1023, 4090, 100_000):
+            for message in ("echo".ljust(length), "\xe9" * length):
+                with pytest.raises(Refused, match="^message too long$"):
+                    sender.call(message)
+        with pytest.raises(Refused, match="^no such interface 'x"):
+            bench.open("x" * 5000)
+        assert sender.status() == ("active", 0, 0)
+
+
+def test_a_session_is_closed_only_where_the_bus_says_so():
+    bench, sender, _ = pair(limit=4)
+    with bench:
+        for _ in range(2):
+            with pytest.raises(Refused, match="^record full$"):
+                sender.close()
+        assert sender.status() == ("active", 0, 0)
+
+
+def test_a_bus_as_the_program_is_given_it(tmp_path):
+    script = tmp_path / "my script"
+    script.write_text("0 lastbit\n")
+    with Bench(f"can0,can1@{script}") as bench:
+        assert bench.names == ("can0", "can1")
+        bench.open("can1").send(0x123)
+        assert [(attempt.outcome, attempt.fault) for attempt in bench.run()] == [
+            ("lastbit", "lastbit"),
+            ("done", "good"),
+        ]
+    assert bench.audit().startswith("ok ")
+    with pytest.raises(ValueError, match="^faults are given twice"):
+        Bench(f"can0@{script}", faults=Faults())
+    with pytest.raises(FileNotFoundError):
+        Bench("can0@no such file")
+
+
+def test_threads_share_a_bench():
+    bench, _, _ = pair(txqueue=1000)
+    sessions = [bench.open("can0") for _ in range(8)]
+    faults = []
+
+    def work(number):
+        try:
+            for turn in range(50):
+                sessions[number].send(0x100 + number, bytes([turn]))
+                assert sessions[number].status() == ("active", 0, 0)
+        except Exception as fault:
+            faults.append(fault)
+
+    threads = [threading.Thread(target=work, args=(number,)) for number in range(len(sessions))]
+    for thread in threads:
+        thread.start()
+    for thread in threads:
+        thread.join(60)
+    assert faults == []
+    frames = [attempt.frame for attempt in bench.run()]
+    assert sorted(frames) == sorted(f"{0x100 + number:03X}#{turn:02X}" for number in range(8) for turn in range(50))
+    assert [attempt.frame for attempt in bench.record().attempts] == frames
+
+
+def test_an_interrupted_call_ends_the_dialogue_and_keeps_the_run(monkeypatch):
+    bench, sender, receiver = pair()
+    sender.send(0x123)
+    bench.attempt()
+    with monkeypatch.context() as patched:
+        # What Ctrl-C does while the bench is waited for.
+        patched.setattr("select.select", lambda *_: signal.raise_signal(signal.SIGINT))
+        with pytest.raises(KeyboardInterrupt):
+            sender.send(0x124)
+    for call in (receiver.receive, bench.attempt, lambda: bench.open("can0"), receiver.close, sender.restart):
+        with pytest.raises(BenchError, match="^a call was interrupted"):
+            call()
+    assert bench.audit().startswith("ok ")
+    assert [attempt.frame for attempt in bench.record().attempts] == ["123#"]
+
+
+def test_the_end_of_the_input():
+    """The program takes 16777216 bytes. What does not fit is not begun, and the run before it is kept."""
+    bench, sender, _ = pair()
+    sender.send(0x123)
+    assert bench.attempt().outcome == "done"
+    comment = "#" + "x" * 4000
+    while bench._written + len(comment) + 100 < MOST_INPUT:
+        bench._write(comment)
+        bench._in_step = True
+    with pytest.raises(BenchError, match="^a bench takes 16777216 bytes of input"):
+        for _ in range(100):
+            sender.status()
+    assert bench._written <= MOST_INPUT < bench._written + 100
+    with pytest.raises(ValueError, match="ended"):
+        sender.status()
+    assert bench.audit().startswith("ok ")
+    assert [attempt.frame for attempt in bench.record().attempts] == ["123#"]
+
+
 @pytest.mark.parametrize(
     "words, said",
     [
@@ -306,6 +424,12 @@ def test_a_wrong_option_is_named(options):
 @pytest.mark.parametrize("names", [[], ["can0", 1]])
 def test_names_that_are_none_are_named(names):
     with pytest.raises(ValueError, match="^names "):
+        Bench(names)
+
+
+@pytest.mark.parametrize("names", ["can0, can1", " can0,can1", ["can0 ", "can1"]])
+def test_spaces_between_names_are_named(names):
+    with pytest.raises(ValueError, match="^names .* commas without spaces, 'can0,can1', not '"):
         Bench(names)
 
 

@@ -176,7 +176,16 @@ def test_an_answer_that_comes_too_late(play):
         assert bus.error_counters() == ("active", 1, 2)
 
 
-@pytest.mark.parametrize("junk", ["< frame 123 >", "< frame XYZ 1.000000 11 >", "< frame 123 1.000000 1 >"])
+@pytest.mark.parametrize(
+    "junk",
+    [
+        "< frame 123 >",
+        "< frame XYZ 1.000000 11 >",
+        "< frame 123 1.000000 1 >",
+        "< frame 123 nan 11 >",
+        "< frame 123 inf >",
+    ],
+)
 def test_what_is_no_message_is_a_fault(play, junk):
     played = play()
     with CanbusdBus("can0", address=played.address) as bus:

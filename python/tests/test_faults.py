@@ -2,6 +2,7 @@
 
 import pytest
 
+from canbusd.bench import Bench
 from canbusd.faults import Faults, script_text, verdicts_of
 
 SCRIPT = """\
@@ -30,6 +31,12 @@ def test_a_fault_by_its_attempt():
     assert verdicts_of("# a comment\n\n" + SCRIPT) == {
         int(line.split()[0]): line.split(" ", 1)[1] for line in SCRIPT.splitlines()
     }
+
+
+def test_a_text_of_one_line_is_a_text():
+    with Bench("can0,can1", faults="0 lastbit") as bench:
+        bench.open("can0").send(0x123)
+        assert [attempt.outcome for attempt in bench.run()] == ["lastbit", "done"]
 
 
 @pytest.mark.parametrize(
@@ -65,8 +72,13 @@ def test_a_script_is_faults_a_text_or_a_path(tmp_path):
     path.write_text(SCRIPT)
     assert script_text(script()) == script_text(SCRIPT) == script_text(path) == script_text(str(path)) == SCRIPT
     assert script_text(None) == script_text("") == ""
-    with pytest.raises(FileNotFoundError):
-        script_text("no such file")
+    assert script_text("0 lastbit") == "0 lastbit"
+    assert script_text("7 local crc can1/can2") == "7 local crc can1/can2"
+    for path in ("no such file", "0lastbit", "lastbit"):
+        with pytest.raises(
+            FileNotFoundError, match=f"a text begins with the number of an attempt, as '0 lastbit' .*{path}"
+        ):
+            script_text(path)
     with pytest.raises(ValueError, match="faults"):
         script_text(range(32))
 

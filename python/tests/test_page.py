@@ -10,17 +10,20 @@ from canbusd.record import parse_record
 from canbusd.report import page
 
 pytestmark = pytest.mark.skipif(PROGRAM is None, reason="no chromium on the PATH")
-# What the charts have at places 300 pixels from their left.
-PLACE = "(() => { const box = at('attempts').getBoundingClientRect(); return [box.left + 300, box.top + 20]; })()"
+# A place in the lane of the first node, 300 pixels from its left.
+PLACE = "(() => { const box = at('lanes').getBoundingClientRect(); return [box.left + 300, box.top + 12]; })()"
 ATTEMPT = "attemptOf[view.step]"
 SPAN = "view.to - view.from"
-# How many colours there are at the upper edge of the bars that both nodes have at step 32.
+# How many colours there are in the bands of states of both nodes at step 32.
 COLOURS = """(() => {
-  const plot = plotted(at('attempts').parentElement.clientWidth), left = placeOf(plot, 32) + 2;
-  const chart = new Uint32Array(at('attempts').getContext('2d').getImageData(left, 4, 10, ROW + 2).data.buffer);
-  return [chart.slice(0, 20), chart.slice(-20)].map(colours => new Set(colours).size);
+  const left = placeOf(plotted(), axis.start[32]) + 3, pen = at('lanes').getContext('2d');
+  const all = new Uint32Array(pen.getImageData(left, 0, 8, at('lanes').height).data.buffer);
+  return lanes.map((lane, i) => {
+    const top = 2 + lanes.slice(0, i).reduce((sum, one) => sum + one.height, 0) + STRIP + 4;
+    return new Set(all.subarray(top * 8, (top + 6) * 8)).size;
+  });
 })()"""
-# What is written on the charts.
+# What is written on the time line.
 WRITTEN = """(() => {
   const said = [], pen = CanvasRenderingContext2D.prototype, write = pen.fillText;
   pen.fillText = function (text, ...more) { said.push(text); write.call(this, text, ...more); };
@@ -28,6 +31,44 @@ WRITTEN = """(() => {
   pen.fillText = write;
   return said;
 })()"""
+# What is cut at the right of the page, or of a box that can't be scrolled and shows no sign of it.
+CUT = """[...document.querySelectorAll('main *, header *')].filter(one => {
+  const style = getComputedStyle(one), isSigned = style.textOverflow === 'ellipsis' || style.webkitLineClamp !== 'none';
+  return one.checkVisibility() && one.scrollWidth > one.clientWidth + 1 && style.overflowX === 'hidden' && !isSigned
+    || one.checkVisibility() && one.getBoundingClientRect().right > innerWidth + 1 && !one.closest('.rolling, pre');
+}).map(one => one.outerHTML.slice(0, 80))"""
+# Rows of lists that are wider than their list.
+WIDE = "[...document.querySelectorAll('.row')].filter(one => one.checkVisibility() && one.scrollWidth > one.clientWidth).length"
+# The contrast of each text with what is behind it, as WCAG 2 defines it, where it is below 4.5.
+WEAK = """(() => {
+  const channels = colour => colour.match(/[\\d.]+/g).map(Number);
+  const luminance = ([red, green, blue]) => {
+    const parts = [red, green, blue].map(one => one / 255)
+      .map(one => one <= 0.03928 ? one / 12.92 : ((one + 0.055) / 1.055) ** 2.4);
+    return 0.2126 * parts[0] + 0.7152 * parts[1] + 0.0722 * parts[2];
+  };
+  const behind = one => {
+    for (; one; one = one.parentElement) {
+      const colour = channels(getComputedStyle(one).backgroundColor);
+      if (colour.length < 4 || colour[3] > 0.99) return colour;
+    }
+    return [255, 255, 255];
+  };
+  const weak = [];
+  for (const one of document.querySelectorAll('body *')) {
+    if (!one.checkVisibility() || ![...one.childNodes].some(child => child.nodeType === 3 && child.data.trim())) continue;
+    const style = getComputedStyle(one);
+    const [dark, light] = [luminance(channels(style.color)), luminance(behind(one))].sort((a, b) => a - b);
+    if ((light + 0.05) / (dark + 0.05) < 4.5) weak.push(one.outerHTML.slice(0, 80));
+  }
+  return weak;
+})()"""
+# The rows of the list that is shown which are marked and in view.
+MARKED = """[...lists[tab].body.querySelectorAll('[aria-selected]')].filter(row => {
+  const box = lists[tab].box.getBoundingClientRect(), one = row.getBoundingClientRect();
+  return one.top >= box.top && one.bottom <= box.bottom + 1;
+}).map(row => row.firstChild.textContent)"""
+TABS = ["tab-events", "tab-attempts", "tab-items", "tab-nodes", "tab-sockets"]
 
 
 @pytest.fixture(scope="module")
@@ -76,7 +117,8 @@ def test_keys(shown):
     assert after("E") == 11
     assert after("ArrowRight") == 12
     assert after("F") == 11
-    assert shown.run("location.hash") == "#attempt=11"
+    # The address follows once no key is held.
+    shown.until("location.hash === '#attempt=11'")
     assert after("End", "ArrowLeft") and shown.run("titleOf(view.step)") == "2 idle"
     whole = shown.run(SPAN)
     after("+")
@@ -86,11 +128,12 @@ def test_keys(shown):
 
 
 def test_rows_are_chosen_by_keys(shown):
-    shown.run("document.querySelector('#events [tabindex=\"0\"]').focus()")
+    shown.key("Home")
+    shown.run("document.querySelector('#events .rows [tabindex=\"0\"]').focus()")
     shown.key("ArrowDown")
     shown.key("Enter")
     assert shown.run(ATTEMPT) == 15
-    assert shown.run("document.activeElement.getAttribute('aria-current')") == "true"
+    assert shown.run("document.activeElement.getAttribute('aria-selected')") == "true"
 
 
 def test_the_wheel_scrolls_and_zooms_with_ctrl_only(shown):
@@ -100,8 +143,9 @@ def test_the_wheel_scrolls_and_zooms_with_ctrl_only(shown):
     shown.until(f"{SPAN} < {whole}")
     assert shown.run("scrollY") == 0
     shown.key("0")
+    shown.size(1200, 500)
     shown.mouse("mouseWheel", x, y, deltaX=0, deltaY=200)
-    shown.until("scrollY > 0")
+    shown.until("scrollY > 0 || at('area').scrollTop > 0")
     assert shown.run(SPAN) == whole
 
 
@@ -118,13 +162,36 @@ def test_mouse(shown):
 
 
 @pytest.mark.parametrize("dark", [False, True])
-@pytest.mark.parametrize("width", [320, 500, 1600])
-def test_widths_and_colours(shown, width, dark):
+@pytest.mark.parametrize("width", [320, 500, 1000, 1200, 1600])
+def test_nothing_is_cut_and_all_is_legible(shown, width, dark):
     shown.size(width, dark=dark)
-    assert shown.run("document.documentElement.scrollWidth") == width
-    light = shown.run("getComputedStyle(document.body).backgroundColor") == "rgb(255, 255, 255)"
-    assert light is not dark
     assert shown.run("theme.page") == ("#14181e" if dark else "#fff")
+    for name in TABS:
+        shown.run(f"showTab('{name}')")
+        shown.settle()
+        assert shown.run("document.documentElement.scrollWidth") == width
+        assert shown.run(CUT) == []
+        assert shown.run(WIDE) == 0
+        assert shown.run(WEAK) == []
+
+
+def test_wide_windows_have_the_list_beside_the_detail(shown):
+    sides = "['lists', 'chosen'].map(id => at(id).getBoundingClientRect()).map(({ top, left }) => [top, left])"
+    shown.size(1600)
+    (above, left), (beside, right) = shown.run(sides)
+    assert above == beside and right > left + 700
+    assert shown.run("document.documentElement.scrollHeight") == 900
+    shown.size(500)
+    (above, left), (below, right) = shown.run(sides)
+    assert below > above and left == right
+
+
+def test_numbers_are_at_the_right(shown):
+    align = "[...document.querySelectorAll('#events .row')].map(row => getComputedStyle(row.firstChild).textAlign)"
+    assert set(shown.run(align)) == {"right"}
+    shown.run("showTab('tab-nodes')")
+    aligned = "[...document.querySelectorAll('#ifaces tr')].map(row => getComputedStyle(row.children[4]).textAlign)"
+    assert set(shown.run(aligned)) == {"right"}
 
 
 def test_idle_attempts_are_a_step_and_a_node_that_is_off_is_hatched(shown):
@@ -154,30 +221,143 @@ def test_sixteen_nodes_of_which_one_sends(opened):
         shown.key(key)
     assert "101#0102030405060700" in shown.run(WRITTEN)
     # Counts that are 0 throughout take no room until they are asked for.
-    assert shown.run("at('counters').hidden && at('quiet').textContent").startswith("can0, can1, can2, ")
-    shown.run("at('quiet').querySelector('button').click()")
+    assert shown.run("lanes.map(lane => lane.isFolded).join()") == ",".join(["true"] * 16)
+    folded = shown.run("at('lanes').clientHeight")
+    shown.run("at('gutter').querySelector('button').click()")
     shown.settle()
-    assert not shown.run("at('counters').hidden")
+    assert shown.run("at('lanes').clientHeight - CURVES") == folded
+    assert "256 bus off" in shown.run(WRITTEN)
+
+
+def long_run(count=5000):
+    """can0 sends 123 and 124 in turn, and each 50th attempt fails; then there is a pause of 3 seconds."""
+    entries, sent = ["open 0 1 = socket 0", "open 1 65536 = socket 1", "send 0 123# = number 0"], 0
+    for number in range(count):
+        fails, text = number % 50 == 49, f"12{3 + sent % 2}#"
+        fate = ("global-bit", "destroyed 0000") if fails else ("good", "done 0002")
+        moment = f"{number // 1000 + 3 * (number >= 4000)}.{number % 1000:03}000"
+        entries.append(f"attempt {moment} {fate[0]} = tried 0 {sent} {text} {fate[1]} 0000")
+        if not fails:
+            sent += 1
+            entries.append(f"send 0 12{3 + sent % 2}# = number {sent}")
+    return record_of(*entries, bus="2 always 0000 10 20000")
 
 
 def test_more_attempts_than_pixels_are_shares(opened):
-    entries, sent = ["open 0 1 = socket 0", "send 0 123# = number 0"], 0
-    for number in range(5000):
-        # Each 50th fails, and its frame is sent again.
-        fails = number % 50 == 49
-        fate = ("global-bit", "destroyed 0000") if fails else ("good", "done 0002")
-        entries.append(f"attempt 0.{number:06} {fate[0]} = tried 0 {sent} 123# {fate[1]} 0000")
-        if not fails:
-            sent += 1
-            entries.append(f"send 0 123# = number {sent}")
-    shown = opened(record_of(*entries, bus="2 always 0000 10 20000"))
-    assert shown.run("tally(0, axis.count).wins[0].join()") == "4900,0,100,0,0"
-    # The share of failed attempts has a row and a scale of its own, until there is room for a bar each.
-    written = shown.run(WRITTEN)
-    assert "failed" in written and "123#" not in written
+    shown = opened(long_run())
+    assert (
+        shown.run("KINDS.map((_, kind) => won(tallies.of(0, axis.count), 0, kind)).slice(0, 5).join()")
+        == "4900,0,100,0,0"
+    )
+    assert "123#" not in shown.run(WRITTEN)
     for _ in range(9):
         shown.key("+")
     assert "123#" in shown.run(WRITTEN)
+
+
+def test_sums_and_extremes_are_those_of_the_steps(opened):
+    shown = opened(long_run(1000))
+    same = """[[0, 1000], [0, 64], [63, 129], [1, 63], [64, 128], [500, 500], [700, 999]].every(([first, last]) => {
+      const part = Array.from({ length: last - first }, (_, k) => first + k), found = tec[0].range(first, last, {});
+      const failed = part.filter(step => steps.kind[step] === 2).length, counts = part.map(step => tec[0].all[step]);
+      return failures.of(first, last)[1] === failed && won(tallies.of(first, last), 0, 2) === failed
+        && (!part.length || found.high === Math.max(...counts) && found.low === Math.min(...counts));
+    })"""
+    assert shown.run(same) is True
+
+
+def test_by_time_a_pause_looks_like_one(opened):
+    shown = opened(long_run())
+    # The pause of 3 s is before attempt 4000; with it the run takes 8 s.
+    gap = "(axis.start[4000] - axis.start[3999]) / axis.length"
+    assert shown.run(gap) == pytest.approx(1 / 5000, rel=0.1)
+    shown.key("t")
+    assert shown.run(gap) == pytest.approx(3 / 8, rel=0.01)
+    assert shown.run("at('by-time').getAttribute('aria-pressed')") == "true"
+    assert {"2 s", "6 s"} <= {*shown.run(WRITTEN)}
+    shown.key("t")
+    assert shown.run(SPAN) == shown.run("axis.length")
+
+
+def test_lists_follow_the_chosen_attempt(opened):
+    shown = opened(long_run())
+    for number in (0, 500, 2499, 4999):
+        shown.run(f"location.hash = '#attempt={number}'")
+        shown.until(f"{ATTEMPT} === {number}")
+        for name in ("tab-attempts", "tab-items"):
+            shown.run(f"showTab('{name}')")
+            shown.settle()
+            # A destroyed frame comes to no socket.
+            belonging = [] if name == "tab-items" and number % 50 == 49 else [f"{number:,}"]
+            assert shown.run(MARKED) == belonging
+        shown.run("showTab('tab-attempts')")
+        shown.key("ArrowLeft")
+        assert shown.run(MARKED) == [f"{max(number - 1, 0):,}"]
+
+
+def test_events_follow(shown):
+    shown.run("location.hash = '#attempt=15'")
+    shown.until(f"{ATTEMPT} === 15")
+    assert shown.run(MARKED) == ["15"]
+    assert "error passive: transmit count 128" in shown.run("at('chosen').textContent")
+
+
+def test_filters(opened):
+    shown = opened(long_run())
+
+    def found(**values):
+        for name, value in values.items():
+            name = name.replace("_", "-")
+            shown.run(f"at('{name}').value = '{value}', at('{name}').dispatchEvent(new Event('input')), 0")
+        shown.settle()
+        return shown.run("at('found').textContent")
+
+    shown.run("showTab('tab-attempts')")
+    assert found() == "5,000 of 5,000"
+    assert found(of_outcome="failed") == "100 of 5,000"
+    assert found(of_outcome="", of_frame="124") == "2,500 of 5,000"
+    assert found(of_frame="0x12") == "5,000 of 5,000"
+    assert found(of_node="1") == "0 of 5,000"
+    assert found(of_node="0", of_frame="") == "5,000 of 5,000"
+    shown.run("look(0, 100), at('in-view').click()")
+    assert found() == "100 of 5,000"
+    shown.run("showTab('tab-items')")
+    # Two of the 100 were destroyed, and came to no socket.
+    assert found() == "98 of 4,900"
+    assert found(of_fate="3") == "0 of 4,900"
+
+
+def test_what_was_lost_is_on_the_page(shown):
+    text = shown.run("at('chosen').innerText")
+    assert "32 of its 32 attempts since attempt 0 failed: global bit 32" in text
+    assert "123#" in text and "124#" in text and "Lost with it" in text
+    shown.run("showTab('tab-nodes')")
+    assert "refused: bus off" in shown.run("at('ifaces').textContent")
+
+
+def test_a_held_key_and_the_load(opened):
+    shown = opened(long_run())
+    shown.ask("Performance.enable", timeDomain="threadTicks")
+
+    def used():
+        return next(
+            one["value"] for one in shown.ask("Performance.getMetrics")["metrics"] if one["name"] == "TaskDuration"
+        )
+
+    shown.run("choose(0)")
+    for name in ("tab-events", "tab-attempts", "tab-items"):
+        shown.run(f"showTab('{name}')")
+        before, count = used(), 50
+        shown.run(
+            f"""(async () => {{
+          for (let k = 0; k < {count}; k++) {{
+            document.dispatchEvent(new KeyboardEvent('keydown', {{ key: 'ArrowRight', bubbles: true }}));
+            await new Promise(done => requestAnimationFrame(done));
+          }}
+        }})()"""
+        )
+        # Of the processor, whatever else the machine does.
+        assert (used() - before) / count < 0.033
 
 
 def test_paper(shown):
@@ -187,11 +367,30 @@ def test_paper(shown):
     assert shown.run("papers.join()") == "#fff"
     assert shown.run("theme.page") == "#14181e"
     shown.ask("Emulation.setEmulatedMedia", media="print")
-    assert shown.run("getComputedStyle(document.querySelector('nav')).display") == "none"
+    assert shown.run("getComputedStyle(document.querySelector('.tools')).display") == "none"
     shown.ask("Emulation.setEmulatedMedia", media="")
 
 
-def test_charts_and_lists_have_names(shown):
-    assert shown.run("[...document.querySelectorAll('canvas')].every(one => one.role === 'img' && one.ariaLabel)")
-    assert shown.run("[...document.querySelectorAll('.rolling')].every(one => one.role === 'region' && one.ariaLabel)")
-    assert shown.run("[...document.querySelectorAll('nav button')].every(one => one.title)")
+def test_parts_have_names_and_the_focus_goes_down_the_page(shown):
+    assert shown.run("document.querySelectorAll('main').length") == 1
+    assert shown.run("[...document.querySelectorAll('canvas[role]')].every(one => one.ariaLabel)")
+    assert shown.run(
+        "[...document.querySelectorAll('[role=grid], section, [role=tabpanel]')].every(one => one.ariaLabel)"
+    )
+    assert shown.run("[...document.querySelectorAll('.tools button')].every(one => one.title)")
+    assert shown.run("[...document.querySelectorAll('.legend span')].every(one => one.title && one.innerText)")
+    places = shown.run(
+        """[...document.querySelectorAll('button, input, select, summary, [tabindex="0"]')]
+      .filter(one => one.checkVisibility() && one.tabIndex >= 0)
+      .map(one => one.closest('.tools, #timeline, #tabs, #filters, .kinds, .rolling, #chosen')).map(one => one.id || one.className)
+      .filter((one, k, all) => one !== all[k - 1])"""
+    )
+    assert places == ["tools", "timeline", "tabs", "filters", "kinds", "events"]
+
+
+def test_tabs_are_chosen_by_arrow_keys(shown):
+    shown.run("document.querySelector('[role=tab][aria-selected=true]').focus()")
+    shown.key("ArrowRight")
+    assert shown.run("document.activeElement.textContent") == "Attempts 32"
+    assert shown.run("tab") == "tab-attempts"
+    assert shown.run(ATTEMPT) == 31

@@ -186,6 +186,46 @@ def test_a_bench_that_is_not_ended_is_audited_too(run, pytester):
     assert kept(pytester) == ["can0.html", "can0.log", "can0.rec"]
 
 
+def test_a_test_that_has_to_fail_has_not_failed(run, pytester):
+    result = run(
+        """
+    @pytest.mark.xfail
+    def test_it(canbusd):
+        assert False
+
+    @pytest.mark.xfail(strict=True)
+    def test_it_too(canbusd_bench):
+        assert False
+    """
+    )
+    result.assert_outcomes(xfailed=2)
+    assert "canbusd teardown" not in result.stdout.str() and kept(pytester) == []
+    result = run("    @pytest.mark.xfail(strict=True)\n" + PASSES.lstrip("\n"))
+    result.assert_outcomes(failed=1)
+    assert kept(pytester) == ["can0.html", "can0.log", "can0.rec"]
+
+
+def test_no_links_that_lead_nowhere(run, pytester):
+    run(PASSES + PASSES.replace("test_it", "test_other")).assert_outcomes(passed=2)
+    assert [path for path in (pytester.path / "kept").rglob("*") if path.is_symlink() and not path.exists()] == []
+    assert list((pytester.path / "kept").iterdir()) == []
+
+
+@pytest.mark.parametrize("fixture", ["canbusd", "canbusd_bench"])
+def test_a_pytest_that_is_killed(run, pytester, monkeypatch, fixture):
+    """What it leaves is below its own folder, which the next one clears away."""
+    (pytester.path / "tmp").mkdir()
+    monkeypatch.setenv("TMPDIR", str(pytester.path / "tmp"))
+    run(
+        f"""
+    def test_it({fixture}):
+        import os
+        os.kill(os.getpid(), 9)
+    """
+    )
+    assert list((pytester.path / "tmp").glob("canbusd-*")) == []
+
+
 def test_the_program_of_the_ini_file(run, pytester, monkeypatch):
     program = os.path.realpath(canbusd._program.find_program())
     (pytester.path / "the program").symlink_to(program)
@@ -207,7 +247,8 @@ def test_with_xdist(run, pytester):
 
 
 def test_an_expectation_that_fails_shows_what_was_seen(run):
-    done = run("""
+    done = run(
+        """
     @pytest.mark.canbusd("can0,can1", observe="can1")
     def test_it(canbusd):
         with canbusd.bus("can0") as can0:
@@ -215,7 +256,8 @@ def test_an_expectation_that_fails_shows_what_was_seen(run):
             assert canbusd.expect(id=0x123, within=20).data == b"\\1\\2"
             canbusd.expect_state("can0", "active")
             canbusd.expect(id=0x124, within=0.1)
-    """)
+    """
+    )
     done.assert_outcomes(failed=1)
     done.stdout.fnmatch_lines(
         ["E * no frame 124 within 0.1 seconds", "E * the last frames that can1 saw:", "E * (*) can1 123#0102"]

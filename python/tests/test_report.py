@@ -63,7 +63,11 @@ def test_the_events_of_bus_off():
     assert events_in(run) == [
         (11, "warning", "can0 is error warning: transmit count 96"),
         (15, "passive", "can0 is error passive: transmit count 128"),
-        (31, "bus off", "can0 went bus off: its transmit count reached 256"),
+        (
+            31,
+            "bus off",
+            "can0 went bus off at transmit count 256: 32 of its 32 attempts since attempt 0 failed: global bit 32",
+        ),
         (31, "lost", "can0 lost 2 frames: bus off empties its transmit queue"),
         (31, "refused", "can0 refused 2 sends: it was bus off"),
         (32, "restart", "can0 is back on the bus, with both counts 0"),
@@ -117,10 +121,32 @@ def test_idle_attempts_are_steps_between_the_others():
     kinds = column(header["steps"]["kind"])
     assert [KINDS[kind] for kind in kinds] == ["destroyed"] * 32 + ["idle", "restart"]
     assert column(header["steps"]["number"])[32] == 2
-    assert column(header["tec"][0]["all"]) == [8 * k for k in range(1, 33)] + [256, 0]
+    assert column(header["tec"][0]) == [8 * k for k in range(1, 33)] + [256, 0]
     # Events name places among these steps.
-    assert [(step, kind) for step, kind, _ in header["events"]][-1] == (33, "restart")
+    assert [event[:3] for event in header["events"]][-1] == [33, "restart", 0]
     assert header["first"] == 31
+
+
+def test_what_bus_off_took_and_refused():
+    header, _ = data_of(page(bus_off(), NAMES, "run.rec"))
+    lost = {
+        step: [(number, header["texts"][text]) for number, text in frames] for step, frames in header["lost"].items()
+    }
+    assert lost == {"31": [(0, "123#"), (1, "124#")]}
+    assert [(one["lost"], one["full"], one["off"]) for one in header["ifaces"]] == [(2, 0, 2), (0, 0, 0)]
+
+
+def test_what_drove_a_node_off_is_counted_from_a_count_of_0():
+    verdicts = ["global-bit", "good", "good", "good", "good", "good", "good", "good", "good", *["local-crc:0002"] * 32]
+    kinds = ["done 0002" if verdict == "good" else "destroyed 0000" for verdict in verdicts]
+    entries, number = ["open 0 1 = socket 0", *(f"send 0 123# = number {k}" for k in range(9))], 0
+    for k, (verdict, kind) in enumerate(zip(verdicts, kinds)):
+        entries.append(f"attempt 0.{k:06} {verdict} = tried 0 {number} 123# {kind} {int(k == 40):04X}")
+        number += verdict == "good"
+    run = record_of(*entries)
+    assert [words for _, kind, words in events_in(run) if kind == "bus off"] == [
+        "can0 went bus off at transmit count 256: 32 of its 32 attempts since attempt 9 failed: local crc at can1 32"
+    ]
 
 
 def test_items_say_what_became_of_them():
@@ -143,25 +169,6 @@ def test_items_say_what_became_of_them():
     assert column(header["items"]["later"])[0] == 2
     header, column = data_of(page(run, NAMES, "run.rec", most_items=1))
     assert (column(header["items"]["step"]), header["itemsInAll"]) == ([0], 2)
-
-
-def test_cells_are_sums_over_256_steps():
-    entries, count = ["open 0 1 = socket 0"], 5000
-    number = -1
-    for k in range(count):
-        if k % 10 != 1:
-            number += 1
-            entries.append(f"send 0 123# = number {number}")
-        verdict, kind, accepted = ("global-bit", "destroyed", "0000") if k % 10 == 0 else ("good", "done", "0002")
-        entries.append(f"attempt {k}.000000 {verdict} = tried 0 {number} 123# {kind} {accepted} 0000")
-    header, column = data_of(page(record_of(*entries), NAMES, "run.rec"))
-    kinds, tec = column(header["steps"]["kind"]), column(header["tec"][0]["all"])
-    parts = [range(first, min(first + 256, count)) for first in range(0, count, 256)]
-    for kind in (0, 2):
-        assert column(header["cells"]["wins"][0][kind]) == [sum(kinds[k] == kind for k in part) for part in parts]
-    assert column(header["tec"][0]["high"]) == [max(tec[k] for k in part) for part in parts]
-    assert column(header["tec"][0]["low"]) == [min(tec[k] for k in part) for part in parts]
-    assert column(header["steps"]["seconds"]) == list(range(count))
 
 
 def test_no_title_ends_the_data():
@@ -191,6 +198,7 @@ def test_contrast_is_at_least_4_5_in_light_and_dark():
     for style in (light, dark):
         colours = {**colours, **dict(re.findall(r"--(\w+): (#[0-9a-f]+)", style))}
         pairs = [("on", kind) for kind in kinds]
+        pairs += [("on", name) for name in ("warning", "passive")]
         pairs += [(name, "page") for name in [*kinds, "idle", "accepted", "hit", "off", "tec", "rec", "text", "soft"]]
         pairs += [
             (name, back) for name in ("text", "soft", "tec", "destroyed") for back in ("chosen", "hover", "panel")

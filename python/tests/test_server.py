@@ -3,10 +3,12 @@
 import errno
 import multiprocessing
 import os
+import re
 import shutil
 import signal
 import subprocess
 import sys
+import threading
 import time
 from pathlib import Path
 
@@ -139,6 +141,19 @@ def test_a_port_in_use(server):
         Server("can0", listen=server.address)
 
 
+def test_interfaces_that_there_are(server):
+    with pytest.raises(can.CanInitializationError, match="^can7: no such interface; the server has can0, can1$"):
+        server.bus("can7")
+    server.log()
+    with pytest.raises(can.CanInitializationError, match=r"^can0: the server has ended; .*log\(\), record\(\)"):
+        server.bus("can0")
+
+
+def test_spaces_between_names_are_named():
+    with pytest.raises(ValueError, match="^names .* commas without spaces, 'can0,can1', not 'can0, can1'$"):
+        Server("can0, can1")
+
+
 def test_no_program(monkeypatch):
     monkeypatch.setenv("CANBUSD", "/no/such/program")
     with pytest.raises(FileNotFoundError, match="CANBUSD"):
@@ -243,6 +258,76 @@ def test_a_forked_process_keeps_no_server_from_its_end(tmp_path):
         child.join(WAIT)
 
 
+# What a forked process does, and how it ends.
+FORKED = {
+    "it exits": "sys.exit()",
+    "it raises": "raise KeyError",
+    "it stops it": "server.stop()",
+    "it kills it": "server.kill()",
+    "it audits it": "server.audit()",
+    "its block ends": "with server: sys.exit()",
+    "it drops it": "del server; gc.collect(); os._exit(0)",
+    "it drops a bus": "bus.shutdown(); os._exit(0)",
+}
+
+
+@pytest.mark.parametrize("run", ["server", "bench"])
+@pytest.mark.parametrize("does", FORKED)
+def test_a_forked_process_leaves_the_run_to_its_parent(does, run):
+    if run == "bench" and does in ("it kills it", "it drops a bus"):
+        pytest.skip("a bench has none of it")
+    program = f"""
+import gc, os, sys
+import can
+from canbusd import Bench, Server
+if {run!r} == "server":
+    server = Server("can0,can1")
+    bus = server.bus("can0")
+else:
+    server = Bench("can0,can1")
+if os.fork() == 0:
+    {FORKED[does]}
+os.wait()
+if {run!r} == "server":
+    bus.send(can.Message(arbitration_id=0x123, is_extended_id=False))
+    assert bus.stats().sent == 1
+    bus.shutdown()
+else:
+    server.open("can0").send(0x123)
+    assert server.attempt().outcome == "done"
+server.stop()
+assert len(server.log()) == 1
+assert len(os.listdir(server._folder)) > 1
+print("of one piece")
+"""
+    environment = {**os.environ, "PYTHONPATH": str(Path(canbusd.__file__).parents[1])}
+    done = subprocess.run(
+        [sys.executable, "-c", program], env=environment, capture_output=True, text=True, timeout=WAIT, check=False
+    )
+    assert done.stdout == "of one piece\n", done.stderr
+    if does in ("it stops it", "it kills it", "it audits it"):
+        assert re.search(r"RuntimeError: this (Server|Bench) belongs to process \d+, ", done.stderr)
+
+
+def test_a_server_that_many_threads_stop(server):
+    faults, results = [], []
+
+    def stop():
+        try:
+            results.append(server.stop())
+        except Exception as fault:
+            faults.append(fault)
+
+    send_one(server)
+    threads = [threading.Thread(target=stop) for _ in range(10)]
+    for thread in threads:
+        thread.start()
+    for thread in threads:
+        thread.join(WAIT)
+    assert faults == []
+    assert results == [server.stop()] * 10
+
+
 @pytest.fixture
 def launcher(tmp_path):
     """The program as it is installed: a script in bin/, which starts servers by another one."""
@@ -283,3 +368,17 @@ def test_the_launcher(launcher, monkeypatch, found_by):
         time.sleep(0.01)
     else:
         pytest.fail(f"some of its processes still run: {states}")
+
+
+def test_programs_with_can_sockets(server, pair):
+    """unchanged programs: by run, by environment, and their faults"""
+    can0, can1 = pair
+    send = "import socket, struct; s = socket.socket(29, 3, 1); s.bind(('can0',)); s.send(struct.pack('=IB3x8s', 0x123, 1, b'a'))"
+    done = server.run([sys.executable, "-c", send], check=True, capture_output=True, text=True)
+    assert (done.returncode, done.stdout, done.stderr) == (0, "", "")
+    subprocess.run([sys.executable, "-c", send], env=server.environment(), check=True)
+    assert [can1.recv(WAIT).arbitration_id for _ in range(2)] == [0x123] * 2
+    assert can0.recv(WAIT).data == b"a"  # By loopback.
+    assert server.run(["sh", "-c", "exit 3"], wait=True).returncode == 3
+    wrong = server.run([sys.executable, "-c", send.replace("can0", "can5")], capture_output=True, text=True)
+    assert wrong.returncode == 1 and "No such device" in wrong.stderr

@@ -1,12 +1,16 @@
 """python3 -m canbusd watch: what pages get, the page in a browser, and how it ends."""
 
+import contextlib
 import http.client
 import json
 import os
 import re
+import resource
+import socket
 import subprocess
 import sys
 import threading
+import time
 from pathlib import Path
 
 import can
@@ -17,7 +21,7 @@ import canbusd
 from canbusd.faults import Faults
 from canbusd.frames import Frame
 from canbusd.server import Server
-from canbusd.commands.watch import MOST_TICKS, Board, fault_of
+from canbusd.commands.watch import MOST_FRAMES, MOST_TICKS, Board, Senders, fault_of
 
 WAIT = 30
 
@@ -33,8 +37,59 @@ def test_a_page_that_comes_later_begins_with_all_that_is_kept():
     news = board.news()
     start = next(news)
     assert (start["start"], start["ticks"]) == (True, numbered(5, MOST_TICKS + 5))
-    board.add({"number": -1}, [["row"]])
-    assert next(news) == {"ticks": [{"number": -1}], "frames": [["row"]]}
+    row = [0.1, "123#", 1, "", -1]
+    board.add({"number": -1}, [row])
+    assert next(news) == {"ticks": [{"number": -1}], "frames": [row]}
+
+
+def test_frames_and_bus_errors_push_out_no_bus_off():
+    board = Board()
+    off = [0.0, "20000040#0000000000000000", 1, "bus off", -1]
+    board.add({"number": 0}, [off])
+    for number in range(3):
+        frames = [[1.0 + k, f"123#{number:02}", 1, "", -1] for k in range(MOST_FRAMES)]
+        board.add({"number": number}, [*frames, *([1.5, "20000088#00", 1, "bus error, bit error", -1] for _ in frames)])
+    start = next(board.news())
+    assert start["frames"][0] == off
+    assert len(start["frames"]) == 1 + 2 * MOST_FRAMES
+
+
+def senders(*looks):
+    """What is known after looks, each of which has the identifiers that came and the counts after it."""
+    known, moment, rows = Senders(), 0, []
+    known.add([], [0, 0, 0])
+    for identifiers, done in looks:
+        for one in identifiers:
+            moment += 1
+            rows.append([moment, f"{one}#", 7, "", -1])
+        known.add(rows, done)
+    return {row[1]: row[4] for row in known.named(dict(enumerate(rows)))}
+
+
+def test_the_only_interface_that_can_have_sent_is_the_sender():
+    assert senders((["100"], [1, 0, 0])) == {"100#": 0}
+    # One of two, and then one of two others.
+    assert senders((["100", "200"], [1, 1, 0])) == {"100#": -1, "200#": -1}
+    assert senders((["100", "200"], [1, 1, 0]), (["200", "300"], [1, 2, 1])) == {"100#": -1, "200#": 1, "300#": -1}
+
+
+def test_where_an_interface_is_not_watched_no_sender_is_made_up():
+    # More frames came than the watched ones have sent.
+    assert senders((["100", "400"], [1, 0, 0])) == {"100#": -1, "400#": -1}
+    assert senders((["400"], [0, 0, 0])) == {"400#": -1}
+
+
+def test_an_identifier_of_two_interfaces_has_no_sender():
+    assert senders((["100"], [1, 0, 0]), (["100"], [1, 1, 0])) == {"100#": -1}
+    # And where that is only seen in the numbers, what was known is given up.
+    assert senders((["100"], [1, 0, 0]), (["100", "100"], [2, 1, 0])) == {"100#": -1}
+
+
+def test_a_frame_that_comes_before_its_count_misleads_nobody():
+    looks = [(["100"], [1, 0, 0]), (["200"], [1, 1, 0])]
+    # 200 comes again before it is counted; at the next look it is counted, and 300 of another has not been.
+    looks += [(["200"], [1, 1, 0]), (["300"], [1, 2, 0]), ([], [1, 2, 1]), (["300"], [1, 2, 2])]
+    assert senders(*looks) == {"100#": 0, "200#": 1, "300#": 2}
 
 
 def test_a_page_that_reads_slowly_begins_anew():
@@ -74,6 +129,9 @@ def test_a_page_gets_the_end():
         ("20000204#0008000000006000", None),
         ("20000040#0000000000000000", None),
         ("123#0000810A00000000", None),
+        # Cut short.
+        ("20000088#00", None),
+        ("20000088#000081", 1),
     ],
 )
 def test_faults_of_the_sender(text, fault):
@@ -134,24 +192,58 @@ def test_news_have_the_frames_and_counts_of_both_interfaces():
         assert answer.getheader("Content-Type") == "text/event-stream"
         with server.bus("can0") as bus:
             bus.send(message(0x123))
-        frames, faults, now = [], 0, []
+        frames, faults, now = {}, 0, []
         for _ in range(1000):
             line = answer.readline()
             if line.startswith(b"data: "):
                 news = json.loads(line[6:])
-                frames += [frame[1:] for frame in news["frames"]]
+                for _, text, seen, says, _ in news["frames"]:
+                    frames[text, says] = frames.get((text, says), 0) | seen
                 faults += sum(tick["faults"][0][1] for tick in news["ticks"])
                 now = news["ticks"][-1]["ifaces"][0] if news["ticks"] else now
-            if len(frames) == 4:
+            if frames.get(("123#01", "")) == 3:
                 break
-    assert sorted(frames) == [
-        ["123#01", 0, ""],
-        ["123#01", 1, ""],
-        ["20000088#0000040000000000", 1, "bus error, stuff error"],
-        ["20000088#0000810A00000000", 0, "bus error, bit error while sending in the data section"],
-    ]
+    assert frames == {
+        ("123#01", ""): 3,
+        ("20000088#0000040000000000", "bus error, stuff error"): 2,
+        ("20000088#0000810A00000000", "bus error, bit error while sending in the data section"): 1,
+    }
     assert faults == 1
     assert now == ["active", 7, 0, 1, 1, 0, 0, 0]
+
+
+@contextlib.contextmanager
+def connections(port, count):
+    """So many connections that ask nothing."""
+    with contextlib.ExitStack() as all_of_them:
+        made = []
+        for _ in range(count):
+            made.append(all_of_them.enter_context(socket.create_connection(("127.0.0.1", port), WAIT)))
+        yield made
+
+
+def test_connections_that_ask_nothing_are_closed():
+    with Server("can0") as server, Watch(server, "can0") as watch, connections(watch.port, 30) as silent:
+        # The others are served meanwhile.
+        assert watch.get("/").status == 200
+        for one in silent:
+            assert one.recv(1) == b""
+
+
+def ticks(child):
+    """The processor time of a process, in hundredths of a second."""
+    fields = Path(f"/proc/{child.pid}/stat").read_text(encoding="ascii").rsplit(") ", 1)[1].split()
+    return int(fields[11]) + int(fields[12])
+
+
+def test_without_file_descriptors_it_waits_for_some():
+    with Server("can0") as server, Watch(server, "can0") as watch:
+        resource.prlimit(watch.child.pid, resource.RLIMIT_NOFILE, (20, 20))
+        with connections(watch.port, 60):
+            before, start = ticks(watch.child), time.monotonic()
+            time.sleep(3)
+            assert ticks(watch.child) - before < 20 * (time.monotonic() - start)
+        assert watch.get("/").status == 200
 
 
 def test_other_sites_and_paths_are_refused():
@@ -174,7 +266,7 @@ def test_a_wrong_number_is_named(words):
 def test_a_port_in_use():
     with Server("can0") as server, Watch(server, "can0") as watch:
         done = called(server, "--port", str(watch.port))
-    assert done.stderr == f"canbusd watch: 127.0.0.1:{watch.port}: Address already in use\n"
+    assert done.stderr == f"canbusd watch: 127.0.0.1:{watch.port}: Address already in use; --port 0 takes a free one\n"
 
 
 def test_it_ends_with_the_server():
@@ -197,13 +289,32 @@ def test_the_page(tmp_path):
             browser.open(watch.url)
             with server.bus("can0") as can0, server.bus("can1") as can1:
                 can0.send(message(0x123))
-                browser.until("at('facts').textContent.endsWith('Bus off: can0.')")
+                browser.until("at('offs').textContent.startsWith('Bus off now: can0. Went bus off: can0')")
                 can1.send(message(0x124))
                 browser.until("byIdentifier.has('124')")
                 browser.settle()
-            shown = browser.run("at('ifaces').innerText").split("\n")
-            assert shown[1].split() == ["can0", "off", "256", "0", "1", "0", "0", "1", "0"]
+            shown = browser.run("[...at('ifaces').rows[1].cells].map(one => one.textContent)")
+            assert shown == ["can0", "bus\u00a0off", "256", "0", "1", "0", "0", "1", "0"]
+            # Only can1 sends now.
+            browser.until("byIdentifier.get('124').sender === 1")
+            browser.run("showTab('tab-events')")
             assert "bus off" in browser.run("at('events').innerText")
+            # What is chosen stays, and nothing moves while it is paused; what comes is kept.
+            browser.run("at('offs').querySelector('button').click()")
+            browser.settle()
+            assert browser.run("at('moment').innerText").startswith("Chosen: ")
+            browser.key(" ")
+            before = browser.run("ticks.length")
+            browser.until("held.length > 3")
+            assert browser.run("ticks.length") == before
+            browser.key(" ")
+            assert browser.run("ticks.length") > before
+            assert browser.run("chosen.kind") == "bus off"
+            assert browser.run("at('events').querySelector('[aria-selected]').innerText.includes('bus off')")
+            # Kinds can be hidden and shown.
+            browser.run("[...at('kinds').children].find(one => one.textContent.startsWith('error warning')).click()")
+            browser.settle()
+            assert browser.run("[...new Set(lists[tab].list.map(one => one.kind))].join()") == "error warning"
             browser.size(500, dark=True)
             assert browser.run("document.documentElement.scrollWidth") == 500
             server.stop()

@@ -23,7 +23,7 @@ if TYPE_CHECKING:
     from canbusd.server import Result, Server, ServerError
     from canbusd.signals import Database, DatabaseError, load_database
 
-# The one place of the version of the package.
+#: The one of the program, of the wheel and of the folder canbusd-0.2.0.dist-info beside this package.
 __version__ = "0.2.0"
 
 __all__ = [

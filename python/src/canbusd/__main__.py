@@ -64,7 +64,12 @@ def main(given: Optional[list[str]] = None) -> None:
     name = parser.parse_args(arguments[:1]).command
     if name in PROGRAM:
         run_command(lambda: run_program(arguments), f"canbusd {name}")
-    options = parser_of(name).parse_args(arguments[1:])
+    try:
+        options = parser_of(name).parse_args(arguments[1:])
+    except ImportError as fault:
+        if type(fault).__name__ != "NoPythonCan":
+            raise
+        sys.exit(f"canbusd {name}: {fault}")
     run: Callable[[argparse.Namespace], Optional[int]] = importlib.import_module(COMMANDS[name][0]).run
     run_command(lambda: run(options), f"canbusd {name}")
 

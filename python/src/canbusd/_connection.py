@@ -3,8 +3,13 @@
 Whoever waits, for a frame or for an answer, reads the socket unless another thread does so already; the reader sorts
 what comes into frames and answers, and wakes the others. So there is no thread of its own, and nothing is read before
 its time.
+
+At any moment the handler of a signal may raise an exception, as at Ctrl-C. So a lock is taken by `with` only, or its
+taking is noted as it happens, nobody waits with a lock that others need, and what was sent or received is never
+forgotten. threading.Condition, which gives its lock back to wait and then takes it again, would be left locked.
 """
 
+import contextlib
 import os
 import re
 import select
@@ -13,7 +18,7 @@ import threading
 import time
 from collections import deque
 from collections.abc import Callable, Sequence
-from typing import NoReturn, Optional, TypeVar
+from typing import Any, NoReturn, Optional, TypeVar
 
 from canbusd._protocol import LONGEST_MESSAGE
 from canbusd.frames import MESSAGE
@@ -29,8 +34,19 @@ CLOSE_TIMEOUT = 1.0
 POLL, LONGEST_POLL = 0.0002, 0.01
 # What no limit of the system's calls is below.
 LONGEST_WAIT = 3600.0
+# Seconds after which a thread looks for what another one has read, if that was interrupted before it woke it.
+LONGEST_NAP = 1.0
 
 T = TypeVar("T")
+
+
+def note(results: list[T], call: Callable[..., T], *words: Any) -> T:
+    """Calls a function that is written in C, and adds what it returns to the list.
+
+    That is done before the handler of a signal can raise an exception, so the list has it even then.
+    """
+    results.extend(map(call, *([word] for word in words)))
+    return results[-1]
 
 
 class NoAnswer(TimeoutError):
@@ -76,6 +92,7 @@ class Readiness:
 
     def __init__(self, connected: socket.socket) -> None:
         self._reader, self._writer = os.pipe()
+        os.set_blocking(self._reader, False)
         self._is_shown = False
         self._epoll = select.epoll()
         self._epoll.register(self._reader, select.EPOLLIN)
@@ -89,9 +106,12 @@ class Readiness:
         """Makes it readable, or readable only where the socket is."""
         if is_ready and not self._is_shown:
             os.write(self._writer, b"!")
-        elif self._is_shown and not is_ready:
-            os.read(self._reader, 1)
-        self._is_shown = is_ready
+            self._is_shown = True
+        elif not is_ready:
+            # Also where it is not known to be shown: an interrupted call is made good.
+            self._is_shown = False
+            with contextlib.suppress(BlockingIOError):
+                os.read(self._reader, PIECE)
 
     def forget(self, connected: socket.socket) -> None:
         """Looks no more at the socket, which has come to its end and would be readable for ever."""
@@ -113,20 +133,26 @@ class Connection:
 
     def __init__(self, address: str, timeout: float) -> None:
         self._timeout = timeout
-        # One question at a time, and one look at the state below at a time.
+        # One question at a time, one reader at a time, and for a moment one look at the state below.
         self._asking = threading.Lock()
-        self._changed = threading.Condition(threading.Lock())
-        self._reading = False
-        self._piece = memoryview(bytearray(PIECE))
+        self._reading = threading.Lock()
+        self._lock = threading.Lock()
+        # What threads wait for while another one reads: it is locked until there is news.
+        self._news: Optional[threading.Lock] = None
+        # What was read and is not sorted yet, and the beginning of a message.
+        self._pieces: list[bytes] = []
         self._rest = ""
         self._frames: deque[str] = deque()
         self._answers: list[str] = []
-        # Answers that are waited for: echoes of the question at hand, and of questions that were given up.
+        # How long the question at hand is, and what was sent of it. Answers that are waited for: echoes of this one, and of
+        # questions that were given up.
+        self._length, self._sent = 0, [0]
         self._wanted = 1
         self._owed = 0
         self._end: Optional[str] = None
-        self._is_closing = False
+        self._is_closing = self._is_closed = False
         self._readiness: Optional[Readiness] = None
+        self._process = os.getpid()
         self._socket = connect(address, timeout)
         self._polls = {events: self._poll(events) for events in (select.POLLIN, select.POLLIN | select.POLLOUT)}
         try:
@@ -137,23 +163,18 @@ class Connection:
 
     def ask(self, messages: Sequence[str]) -> list[str]:
         """Writes these messages at once, and returns the answer to each; the empty text where it had none."""
-        text = "".join(f"< {message} >< echo >" for message in messages)
+        data = "".join(f"< {message} >< echo >" for message in messages).encode()
         with self._asking:
             deadline = time.monotonic() + self._timeout
-            with self._changed:
-                self._wanted = len(messages)
-            try:
-                self._write(text.encode(), deadline)
-                self._wait(self._answered, deadline)
-                with self._changed:
-                    if self._wanted:
-                        raise NoAnswer(f"no answer within {self._timeout:g} seconds")
-                    return self._answers_by_question()
-            finally:
-                with self._changed:
-                    self._owed += self._wanted
-                    self._wanted = 0
-                    self._answers.clear()
+            with self._lock:
+                self._settle()
+                self._length, self._sent, self._wanted = len(data), [], len(messages)
+            self._write(data, self._sent, deadline)
+            self._wait(self._answered, deadline)
+            with self._lock:
+                if self._wanted:
+                    raise NoAnswer(f"no answer within {self._timeout:g} seconds")
+                return self._answers_by_question()
 
     def frame(self, timeout: Optional[float]) -> Optional[str]:
         """Returns the next message that hands over a frame, from `<` on; None where none came in this time, in seconds."""
@@ -166,7 +187,7 @@ class Connection:
         try:
             return self._wait(self._next_frame, None if timeout is None else time.monotonic() + timeout)
         except ConnectionError:
-            with self._changed:
+            with self._lock:
                 # Who waits for the file descriptor learns of the end once.
                 if self._readiness is not None and not self._is_closing:
                     self._readiness.show(False)
@@ -181,7 +202,7 @@ class Connection:
         there is none."""
         if not hasattr(select, "epoll"):
             raise NotImplementedError("a file descriptor needs epoll, which this system does not have")
-        with self._changed:
+        with self._lock:
             if self._end is not None and self._readiness is None:
                 raise ConnectionError(self._end)
             if self._readiness is None:
@@ -191,32 +212,50 @@ class Connection:
 
     def close(self) -> None:
         """Ends the session, and all that wait for it. It may be called again."""
-        with self._changed:
-            if self._is_closing:
+        with self._lock:
+            if self._is_closed:
                 return
             self._is_closing = True
-        # The end of what it reads ends the session of a server, which then closes the connection. It may be gone, or
-        # busy.
-        if self._asking.acquire(timeout=CLOSE_TIMEOUT):
-            try:
-                self._socket.shutdown(socket.SHUT_WR)
-                self._wait(self._never, time.monotonic() + CLOSE_TIMEOUT)
-            except OSError:
-                pass
-            finally:
-                self._asking.release()
-        with self._changed:
+        # A process that was forked leaves the session to its parent.
+        is_own = os.getpid() == self._process
+        if is_own:
+            self._part()
+        with self._lock:
             self._stop("the bus was shut down")
             self._frames.clear()
-            try:
+        self._wake()
+        if is_own:
+            with contextlib.suppress(OSError):
                 self._socket.shutdown(socket.SHUT_RDWR)
-            except OSError:
-                pass
-            self._changed.wait_for(lambda: not self._reading, CLOSE_TIMEOUT)
-            self._socket.close()
-            if self._readiness is not None:
-                self._readiness.close()
-                self._readiness = None
+        self._release()
+
+    def _part(self) -> None:
+        """Ends what the server reads, which ends the session: then it closes the connection. It may be gone, or busy."""
+        taken: list[bool] = []
+        try:
+            if note(taken, self._asking.acquire, True, CLOSE_TIMEOUT):
+                self._socket.shutdown(socket.SHUT_WR)
+                self._wait(self._never, time.monotonic() + CLOSE_TIMEOUT)
+        except OSError:
+            pass
+        finally:
+            if taken == [True]:
+                self._asking.release()
+
+    def _release(self) -> None:
+        """Closes the file descriptors, once nobody reads any more."""
+        taken: list[bool] = []
+        try:
+            note(taken, self._reading.acquire, True, CLOSE_TIMEOUT)
+            with self._lock:
+                self._socket.close()
+                if self._readiness is not None:
+                    self._readiness.close()
+                    self._readiness = None
+                self._is_closed = True
+        finally:
+            if taken == [True]:
+                self._reading.release()
 
     def _greet(self) -> None:
         self._wait(lambda: self._answers or None, time.monotonic() + self._timeout)
@@ -252,25 +291,30 @@ class Connection:
                 last = answer
         return answers
 
-    def _write(self, data: bytes, deadline: float) -> None:
-        """Writes all of this. Meanwhile frames are read: a server that waits for its reader takes no commands."""
+    def _settle(self) -> None:
+        """Forgets the question at hand. If it was given up, the rest of its answers is still to come."""
+        sent = sum(self._sent)
+        if 0 < sent < self._length:
+            self._stop("half a command was written")
+        self._owed, self._wanted, self._answers = self._owed + self._wanted * (sent > 0), 0, []
+
+    def _write(self, data: bytes, sent: list[int], deadline: float) -> None:
+        """Writes all of this, and notes what was sent. Meanwhile frames are read: a server that waits for its reader takes
+        no commands."""
         left = memoryview(data)
-        with self._changed:
-            left = left[self._send(left) or 0 :]
         while left:
-            sent = self._wait(lambda: self._send(left), deadline, select.POLLIN | select.POLLOUT)
-            if sent is None:
-                with self._changed:
+            if self._wait(lambda: self._send(left, sent), deadline, select.POLLIN | select.POLLOUT) is None:
+                with self._lock:
                     # Half a command was written perhaps.
                     self._stop(f"the server took no commands within {self._timeout:g} seconds")
                 raise NoAnswer(self._end)
-            left = left[sent:]
+            left = left[sent[-1] :]
 
-    def _send(self, data: memoryview) -> Optional[int]:
+    def _send(self, data: memoryview, sent: list[int]) -> Optional[int]:
         if self._end is not None:
             self._raise_end()
         try:
-            return self._socket.send(data)
+            return note(sent, self._socket.send, data)
         except BlockingIOError:
             return None
         except OSError as fault:
@@ -284,9 +328,10 @@ class Connection:
 
         `ready` is called again after each change. What came before the end of the connection is still returned.
         """
-        with self._changed:
-            is_last = False
-            while True:
+        is_last = others_read = False
+        news: Optional[threading.Lock] = None
+        while True:
+            with self._lock:
                 found = ready()
                 if found is not None:
                     return found
@@ -294,62 +339,94 @@ class Connection:
                     self._raise_end()
                 if is_last:
                     return None
-                left = None if deadline is None else min(max(0.0, deadline - time.monotonic()), LONGEST_WAIT)
+                news = self._next_news() if others_read else None
+            left = None if deadline is None else min(max(0.0, deadline - time.monotonic()), LONGEST_WAIT)
+            if self._read(left, events):
+                others_read, is_last = False, left == 0
+            elif news is None:
+                # There may have been news since the look above.
+                others_read = True
+            else:
+                # Whether the socket takes more is nothing that its reader sees.
+                most = 0.01 if events & select.POLLOUT else LONGEST_NAP
+                if news.acquire(timeout=most if left is None else min(left, most)):
+                    news.release()
                 is_last = left == 0
-                if not self._reading:
-                    self._read(left, events)
-                elif events & select.POLLOUT:
-                    # Whether the socket takes more is nothing that its reader sees.
-                    self._changed.wait(0.01)
-                else:
-                    self._changed.wait(left)
 
-    def _read(self, seconds: Optional[float], events: int) -> None:
-        """Reads what there is, or what comes within these seconds, and sorts it; the others may go on meanwhile."""
-        self._reading = True
-        self._changed.release()
-        length: Optional[int] = None
-        reason = "the server closed the connection"
+    def _next_news(self) -> threading.Lock:
+        """A lock that can be taken once somebody has read."""
+        if self._news is None:
+            news = threading.Lock()
+            news.acquire()
+            self._news = news
+        return self._news
+
+    def _wake(self) -> None:
+        """Wakes those that wait while another thread reads."""
+        if self._news is not None:
+            with self._lock:
+                news, self._news = self._news, None
+            if news is not None:
+                news.release()
+
+    def _read(self, seconds: Optional[float], events: int) -> bool:
+        """Reads what there is, or what comes within these seconds, and sorts it; False if another thread reads."""
+        taken: list[bool] = []
+        try:
+            if not note(taken, self._reading.acquire, False):
+                return False
+            if not self._pieces:
+                self._receive(seconds, events)
+            with self._lock:
+                self._sort()
+            return True
+        finally:
+            if taken == [True]:
+                self._reading.release()
+                self._wake()
+
+    def _receive(self, seconds: Optional[float], events: int) -> None:
         try:
             if self._polls[events].poll(None if seconds is None else seconds * 1000):
-                length = self._socket.recv_into(self._piece)
+                note(self._pieces, self._socket.recv, PIECE)
         except BlockingIOError:
             pass
         except OSError as fault:
-            length, reason = 0, f"the connection broke: {fault.strerror}"
-        finally:
-            self._changed.acquire()
-            self._reading = False
-            self._changed.notify_all()
-        if length:
-            self._sort(str(self._piece[:length], "ascii", "replace"))
-        elif length is not None:
-            self._stop(reason)
+            with self._lock:
+                self._stop(f"the connection broke: {fault.strerror}")
 
-    def _sort(self, text: str) -> None:
-        """Sorts messages, which may be cut anywhere, into frames and answers."""
-        pieces = (self._rest + text).split(">")
-        self._rest = pieces.pop()
-        for piece in pieces:
-            if piece.startswith("< frame "):
-                self._frames.append(piece)
+    def _sort(self) -> None:
+        """Sorts what was read, messages which may be cut anywhere, into frames and answers."""
+        is_end = b"" in self._pieces
+        messages = (self._rest + b"".join(self._pieces).decode("ascii", "replace")).split(">")
+        rest = messages.pop()
+        frames: list[str] = []
+        answers, wanted, owed, unasked = self._answers.copy(), self._wanted, self._owed, ""
+        for one in messages:
+            if one.startswith("< frame "):
+                frames.append(one)
+                continue
+            message = one[one.rfind("<") + 1 :].strip()
+            if MESSAGE.fullmatch(message):
+                frames.append(f"< {message}")
+            elif owed:
+                owed -= message == "echo"
+            elif wanted:
+                answers.append(message)
+                wanted -= message == "echo"
             else:
-                self._sort_one(piece[piece.rfind("<") + 1 :].strip())
-        if len(self._rest) > 2 * LONGEST_MESSAGE:
+                unasked = unasked or message
+        # All of it or nothing: no handler of a signal is called before the frames are there.
+        self._pieces, self._rest, self._answers, self._wanted, self._owed = [], rest, answers, wanted, owed
+        self._frames.extend(frames)
+        if unasked and not self._is_closing:
+            self._stop(f"the server says: {unasked}")
+        elif len(rest) > 2 * LONGEST_MESSAGE:
             self._stop("no server of canbusd: a message without its end")
+        elif is_end:
+            self._stop("the server closed the connection")
         if self._readiness is not None and self._frames:
             self._readiness.show(True)
-
-    def _sort_one(self, message: str) -> None:
-        if MESSAGE.fullmatch(message):
-            self._frames.append(f"< {message}")
-        elif self._owed:
-            self._owed -= message == "echo"
-        elif self._wanted:
-            self._answers.append(message)
-            self._wanted -= message == "echo"
-        elif not self._is_closing:
-            self._stop(f"the server says: {message}")
 
     def _stop(self, reason: str) -> None:
         """The connection is of no use any more. The first reason is the one that counts."""
@@ -359,7 +436,6 @@ class Connection:
         if self._readiness is not None:
             self._readiness.forget(self._socket)
             self._readiness.show(True)
-        self._changed.notify_all()
 
     def _raise_end(self) -> NoReturn:
         assert self._end is not None

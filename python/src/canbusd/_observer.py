@@ -1,5 +1,6 @@
 """The sessions by which a server is seen from inside a test: see canbusd.expectations."""
 
+import itertools
 import select
 import time
 from collections import deque
@@ -15,6 +16,8 @@ from canbusd.frames import described_line, frame_like
 
 # How many of the frames that were seen a failure shows.
 MOST_SHOWN = 10
+# How many frames are read before the time is looked at.
+MOST_AT_ONCE = 1000
 
 
 class Observer:
@@ -40,14 +43,15 @@ class Observer:
 
     def find(self, matches: Callable[[Message], bool], channel: Optional[str], within: float) -> Optional[Message]:
         """Takes the first frame that matches, of those that came since the last that was taken and within seconds."""
-        names = self._names(channel)
+        looked_at = dict.fromkeys(self._names(channel), 0)
         deadline = time.monotonic() + within
         while True:
             self._read(0)
-            for name in names:
-                message = take_first(self._frames[name], matches)
+            for name, first in looked_at.items():
+                message = take_first(self._frames[name], matches, first)
                 if message is not None:
                     return message
+                looked_at[name] = len(self._frames[name])
             left = deadline - time.monotonic()
             if left <= 0:
                 return None
@@ -88,17 +92,17 @@ class Observer:
 
 
 def received(bus: CanbusdBus) -> Iterator[Message]:
-    """Yields what a bus has at hand."""
-    while True:
+    """Yields what a bus has at hand, or a part of it where frames come without end."""
+    for _ in range(MOST_AT_ONCE):
         message = bus.recv(0)
         if message is None:
             return
         yield message
 
 
-def take_first(frames: "deque[Message]", matches: Callable[[Message], bool]) -> Optional[Message]:
-    """Takes the first message that matches, and those before it; nothing where none does."""
-    for place, message in enumerate(frames):
+def take_first(frames: "deque[Message]", matches: Callable[[Message], bool], first: int) -> Optional[Message]:
+    """Takes the first message from this place on that matches, and those before it; nothing where none does."""
+    for place, message in enumerate(itertools.islice(frames, first, None), first):
         if matches(message):
             for _ in range(place + 1):
                 frames.popleft()

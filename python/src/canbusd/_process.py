@@ -6,6 +6,8 @@ import signal
 import subprocess
 import tempfile
 import weakref
+from collections.abc import Sequence
+from contextvars import ContextVar
 from pathlib import Path
 from types import TracebackType
 from typing import Optional, TypeVar, Union
@@ -14,6 +16,8 @@ from canbusd._program import find_program
 
 Self = TypeVar("Self", bound="ProgramRun")
 
+#: Where runs have their folders; None is the system's place for temporary files.
+FOLDERS: "ContextVar[Optional[Path]]" = ContextVar("FOLDERS", default=None)
 #: The options of the program that are numbers, by the names of their arguments: the least and the most of each.
 NUMBERS: dict[str, tuple[str, int, int]] = {
     "auto_restart": ("--auto-restart", 0, 1_000_000),
@@ -38,6 +42,21 @@ def option_words(ack: str, report: bool, **numbers: int) -> list[str]:
     return words
 
 
+def check_names(names: Sequence[str]) -> Sequence[str]:
+    """Returns the names of a bus's interfaces; ValueError where spaces were written between them."""
+    spaced = next((name for name in names if name != name.strip()), None)
+    if spaced is not None:
+        right = ",".join(name.strip() for name in names)
+        raise ValueError(f"names of interfaces are joined by commas without spaces, {right!r}, not {','.join(names)!r}")
+    return names
+
+
+def remove(folder: Path, process: int) -> None:
+    """Removes the folder of a run, in the process that started it; one that was forked leaves it there."""
+    if os.getpid() == process:
+        shutil.rmtree(folder, ignore_errors=True)
+
+
 class ProgramRun:
     """A run of the program. Its logs and records are in `out`, else in a folder that is kept as long as it is."""
 
@@ -46,8 +65,9 @@ class ProgramRun:
     def __init__(self, out: Union[str, "os.PathLike[str]", None]) -> None:
         if out is not None and not os.path.isdir(out):
             raise ValueError(f"out is a folder that exists, not {os.fspath(out)!r}")
-        self._folder = Path(tempfile.mkdtemp(prefix="canbusd-"))
-        self._remove = weakref.finalize(self, shutil.rmtree, self._folder, ignore_errors=True)
+        self._process = os.getpid()
+        self._folder = Path(tempfile.mkdtemp(prefix="canbusd-", dir=FOLDERS.get()))
+        self._remove = weakref.finalize(self, remove, self._folder, self._process)
         self._out = Path(out) if out is not None else self._folder
 
     @property
@@ -73,6 +93,11 @@ class ProgramRun:
         """Ends the run; logs and records are written."""
         raise NotImplementedError
 
+    def _check_process(self) -> None:
+        """Raises RuntimeError in a process that was forked: only the one that started the program may end it."""
+        if os.getpid() != self._process:
+            raise RuntimeError(f"this {type(self).__name__} belongs to process {self._process}, which was forked")
+
     def _close_input(self) -> None:
         """The end of its input ends the program."""
         if self._child.stdin is not None:
@@ -92,6 +117,8 @@ class ProgramRun:
     def __exit__(
         self, kind: Optional[type[BaseException]], fault: Optional[BaseException], _: Optional[TracebackType]
     ) -> None:
+        if os.getpid() != self._process:
+            return
         try:
             self.stop()
         except RuntimeError:

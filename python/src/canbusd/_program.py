@@ -12,28 +12,30 @@ class ProgramNotFound(FileNotFoundError):
     """There is no program canbusd where it is looked for."""
 
 
-def find_program() -> str:
-    """Returns the path of the program: `$CANBUSD`, else that of the package, of its clone, or on the PATH.
+def find_program(name: str = "canbusd") -> str:
+    """Returns the path of a program: `$CANBUSD`, else that of the package, of its clone, or on the PATH.
 
-    A wheel has the program in the package. Where the package is in a clone, it is `./canbusd` of that.
+    A wheel has the programs in the package. Where the package is in a clone, it is `./canbusd` of that. For another
+    name the variable is that: `$CANBUSD_RUN` for canbusd-run.
     """
-    given = os.environ.get("CANBUSD")
+    variable = name.upper().replace("-", "_")
+    given = os.environ.get(variable)
     if given:
         found: Optional[str] = shutil.which(given)
         if found is None:
-            raise ProgramNotFound(f"CANBUSD names no program: {given}")
+            raise ProgramNotFound(f"{variable} names no program: {given}")
         return os.path.abspath(found)
     package = Path(__file__).resolve().parent
-    packed, clone = package / "program" / "canbusd", package.parent.parent.parent
+    packed, clone = package / "program" / name, package.parent.parent.parent
     if packed.is_file():
         return str(packed)
-    if (clone / "canbusd").is_file() and (clone / "crates.txt").is_file():
-        return str(clone / "canbusd")
-    found = shutil.which("canbusd")
+    if (clone / name).is_file() and (clone / "crates.txt").is_file():
+        return str(clone / name)
+    found = shutil.which(name)
     if found is None:
         raise ProgramNotFound(
-            "no program canbusd: this package was installed without it and it is not on the PATH; install the wheel, "
-            "or set CANBUSD to the path of the program"
+            f"no program {name}: this package was installed without it and it is not on the PATH; install the wheel, or "
+            f"set {variable} to the path of the program"
         )
     return found
 

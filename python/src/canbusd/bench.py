@@ -7,19 +7,30 @@
             pass
         assert len(receiver.receive()) == 2
 
-Nothing happens on the bus but in `attempt`. python-can is not needed.
+Nothing happens on the bus but in `attempt`. python-can is not needed. Threads may share a bench: each call is carried
+out whole before the next.
 """
 
 import os
 import re
 import select
+import threading
 from collections.abc import Sequence
 from pathlib import Path
 from typing import TYPE_CHECKING, Optional, Union
 
 from canbusd._program import audited
-from canbusd._protocol import ErrorCounters, Filters, Stats, counters_of, filter_message, options, stats_of
-from canbusd._process import RUNNING, ProgramRun, option_words
+from canbusd._protocol import (
+    LONGEST_MESSAGE,
+    ErrorCounters,
+    Filters,
+    Stats,
+    counters_of,
+    filter_message,
+    options,
+    stats_of,
+)
+from canbusd._process import RUNNING, ProgramRun, check_names, option_words
 from canbusd._summary import write_page
 from canbusd.faults import Script, script_text, verdicts_of
 from canbusd.frames import Frame, MessageLike, command_of, frame_of, frame_like
@@ -32,7 +43,10 @@ if TYPE_CHECKING:
 #: Seconds after which a bench that says nothing is given up.
 TIMEOUT = 30.0
 MOST_SESSIONS = 64
+#: Bytes of input that the program takes.
+MOST_INPUT = 1 << 24
 MESSAGES = re.compile(r"< (.*?) >")
+CLOSED = re.compile(r"[0-9]+ < closed ([0-9]+) ([0-9]+) >")
 AT = re.compile(r"[0-9]{1,10}\.[0-9]{6}")
 TRIED = re.compile(
     r"(?:idle|tried (?P<winner>\S+) (?P<number>\d+) (?P<outcome>\w+) (?P<accepted>\S+) (?P<off>\S+))"
@@ -94,12 +108,19 @@ class Session:
             )
         else:
             sent = frame_like(frame)
-        self.call(command_of(sent))
-        self._bench._accepted(self.channel, sent)
+        command, accepted = command_of(sent), self._bench._sent[self.channel]
+        with self._bench._turn:
+            accepted.append(sent)
+            try:
+                self.call(command)
+            except Refused:
+                accepted.pop()
+                raise
 
     def receive(self) -> list[Frame]:
         """Takes what the socket has received, oldest first; error message frames too, if they were asked for."""
-        frames = (frame_of(message) for message in self._bench._ask(f"drain {self._live()}", self._number))
+        number = self._live()
+        frames = (frame_of(message) for message in self._bench._ask(f"drain {number}\nfeed {number} < echo >"))
         return [frame for frame in frames if frame is not None]
 
     def status(self) -> ErrorCounters:
@@ -123,21 +144,27 @@ class Session:
 
     def restart(self, at: Union[str, float, None] = None) -> None:
         """Brings the interface back from bus off, at this moment if one is given."""
-        self._bench._set_moment(at)
-        self.call("restart")
+        number = self._live()
+        self._bench._ask(f"feed {number} < restart >< echo >", at)
 
     def call(self, message: str) -> list[str]:
         """Feeds a message of the protocol, such as `recvown 1`, and returns the answers to it; a refusal is raised."""
         if re.search(r"[<>\n]|^\s*close\b", message):
             raise ValueError(f"message is one message without < and >, and not close: {message!r}")
-        return self._bench._ask(f"feed {self._live()} < {message} >", self._number)
+        text = f" {message} "
+        if len(text.encode()) > LONGEST_MESSAGE:
+            # As the session says of one that is not too long for a line of the bench.
+            raise Refused("message too long")
+        return self._bench._ask(f"feed {self._live()} <{text}>< echo >")
 
     def close(self) -> tuple[int, int]:
         """Closes the socket; returns how many frames it had not read, and how many it dropped."""
-        number = self._live()
+        line = self._bench._line_after(f"feed {self._live()} < close >")
+        counts = CLOSED.fullmatch(line)
+        if not counts:
+            raise Refused(line.partition("< error ")[2].rstrip(" >") or line)
         self._closed = True
-        words = self._bench._line_after(f"feed {number} < close >").split()
-        return int(words[3]), int(words[4])
+        return int(counts[1]), int(counts[2])
 
     def _live(self) -> int:
         if self._closed:
@@ -166,15 +193,26 @@ class Bench(ProgramRun):
         out: Union[str, "os.PathLike[str]", None] = None,
     ) -> None:
         words = option_words(ack, report, auto_restart=auto_restart, txqueue=txqueue, rxqueue=rxqueue, limit=limit)
+        if isinstance(names, str):
+            # As the program is given a bus: can0,can1@FILE.
+            names, given, script_path = names.partition("@")
+            if given and faults is not None:
+                raise ValueError("faults are given twice, as a file after the names too")
+            faults = Path(script_path) if given else faults
         self.names = tuple(names.split(",") if isinstance(names, str) else names)
         if not self.names or not all(isinstance(name, str) for name in self.names):
             raise ValueError(f"names are those of the interfaces, such as 'can0,can1', not {names!r}")
-        super().__init__(out)
+        check_names(self.names)
         script = script_text(faults)
+        super().__init__(out)
         self._verdicts = verdicts_of(script)
         self._attempts = self._sessions = 0
         self._sent: dict[str, list[Frame]] = {name: [] for name in self.names}
         self._moment = "0.000000"
+        # One call at a time. Where one was interrupted, its answer is still to come, and would be taken for that of the next.
+        self._turn = threading.RLock()
+        self._in_step = True
+        self._written = 0
         self._rest = b""
         words += ["--record", str(self._path("rec")), "--log", str(self._path("log")), "--"]
         bus = ",".join(self.names)
@@ -197,8 +235,6 @@ class Bench(ProgramRun):
         join_filters: bool = False,
     ) -> Session:
         """Opens a session with a raw socket on this interface; the options are those of CanbusdBus."""
-        if self._sessions > MOST_SESSIONS:
-            raise Refused("too many sessions")
         messages = options(
             fd=fd,
             receive_own_messages=receive_own_messages,
@@ -206,18 +242,24 @@ class Bench(ProgramRun):
             error_frames=error_frames,
             join_filters=join_filters,
         )
-        session = Session(self, self._sessions, channel)
-        try:
-            for message in [f"open {channel}", "rawmode", *messages]:
-                session.call(message)
-            if can_filters is not None:
-                session.set_filters(can_filters)
-        except (Refused, ValueError):
-            self._write(f"end {self._sessions}\n")
-            raise
-        finally:
+        if channel not in self.names:
+            raise Refused(f"no such interface {channel!r}; the bench has {', '.join(self.names)}")
+        with self._turn:
+            if self._sessions > MOST_SESSIONS:
+                raise Refused("too many sessions")
+            session = Session(self, self._sessions, channel)
+            try:
+                for message in [f"open {channel}", "rawmode", *messages]:
+                    session.call(message)
+                if can_filters is not None:
+                    session.set_filters(can_filters)
+            except (Refused, ValueError):
+                self._write(f"end {self._sessions}")
+                self._in_step = True
+                self._greet()
+                raise
             self._greet()
-        return session
+            return session
 
     def attempt(self, at: Union[str, float, None] = None) -> Optional[Attempt]:
         """Puts the frame that wins arbitration on the bus, at this moment if one is given; None if no frame waits.
@@ -225,27 +267,15 @@ class Bench(ProgramRun):
         A moment stays until the next is given, and is 0 at first. An attempt without a frame that restarts an interface
         is returned with the outcome `idle`.
         """
-        self._set_moment(at)
-        line = self._line_after("attempt")
-        words = TRIED.fullmatch(line)
+        with self._turn:
+            self._write("attempt", at)
+            line = self._line()
+            words = TRIED.fullmatch(line)
+            attempt = self._attempt_of(words) if words else None
+            self._in_step = True
         if not words:
             raise Refused(line)
-        restarted = set_of(words["restarted"])
-        if words["winner"] is None:
-            return Attempt(float(self._moment), "", 0, "", "idle", "good", (), (), restarted) if restarted else None
-        number, winner = int(words["number"]), words["winner"]
-        self._attempts += 1
-        return Attempt(
-            float(self._moment),
-            winner,
-            number,
-            str(self._sent[winner][number]),
-            words["outcome"],
-            self._verdicts.get(self._attempts - 1, "good"),
-            set_of(words["accepted"]),
-            set_of(words["off"]),
-            restarted,
-        )
+        return attempt
 
     def run(self, most: int = 100_000) -> list[Attempt]:
         """Makes attempts until none has a frame, and returns them; RuntimeError if after `most` frames still wait."""
@@ -259,12 +289,14 @@ class Bench(ProgramRun):
 
     def stop(self) -> None:
         """Ends the run; its record and its log are written. The sessions can't be used any more."""
-        if self._child.stdin is None:
-            return
-        self._close_input()
-        while self._more():
-            pass
-        self._finish()
+        self._check_process()
+        with self._turn:
+            if self._child.stdin is None:
+                return
+            self._close_input()
+            while self._more():
+                pass
+            self._finish()
 
     def record(self) -> Record:
         """Ends the run and returns its record."""
@@ -288,40 +320,74 @@ class Bench(ProgramRun):
     def _path(self, ending: str) -> Path:
         return self._out / f"{self.names[0]}.{ending}"
 
+    def _attempt_of(self, words: "re.Match[str]") -> Optional[Attempt]:
+        """The attempt that the bench tells of in these words."""
+        restarted = set_of(words["restarted"])
+        if words["winner"] is None:
+            return Attempt(float(self._moment), "", 0, "", "idle", "good", (), (), restarted) if restarted else None
+        number, winner = int(words["number"]), words["winner"]
+        self._attempts += 1
+        return Attempt(
+            float(self._moment),
+            winner,
+            number,
+            str(self._sent[winner][number]),
+            words["outcome"],
+            self._verdicts.get(self._attempts - 1, "good"),
+            set_of(words["accepted"]),
+            set_of(words["off"]),
+            restarted,
+        )
+
     def _greet(self) -> None:
         """Starts the session of the next `open`, while there is room for one."""
         self._sessions += 1
         if self._sessions <= MOST_SESSIONS:
             self._line_after(f"session {self._sessions}")
 
-    def _accepted(self, channel: str, frame: Frame) -> None:
-        self._sent[channel].append(frame)
+    def _ask(self, lines: str, at: Union[str, float, None] = None) -> list[str]:
+        """Carries out lines whose last one ends with `< echo >`, and returns what the session writes before that echo; a
+        refusal is raised.
 
-    def _set_moment(self, at: Union[str, float, None]) -> None:
-        if at is not None:
-            self._moment = moment_text(at)
-            self._write(f"at {self._moment}\n")
-
-    def _ask(self, line: str, session: int) -> list[str]:
-        """Carries out a line, and returns what the session writes; a refusal is raised."""
-        self._write(f"{line}\nfeed {session} < echo >\n")
-        messages: list[str] = []
-        while not messages or messages[-1] != "echo":
-            messages += MESSAGES.findall(self._line())
+        A line of messages is answered in one line, so an echo that was asked for is not taken for the last.
+        """
+        with self._turn:
+            self._write(lines, at)
+            messages: list[str] = []
+            while not messages or messages[-1] != "echo":
+                messages += MESSAGES.findall(self._line())
+            self._in_step = True
         for message in messages:
             if message.startswith("error ") and frame_of(message) is None:
                 raise Refused(message[len("error ") :])
         return messages[:-1]
 
     def _line_after(self, line: str) -> str:
-        self._write(f"{line}\n")
-        return self._line()
+        with self._turn:
+            self._write(line)
+            written = self._line()
+            self._in_step = True
+        return written
 
-    def _write(self, text: str) -> None:
+    def _write(self, lines: str, at: Union[str, float, None] = None) -> None:
+        """Writes lines, before which the moment is set if one is given."""
+        self._check_process()
         if self._child.stdin is None:
             raise ValueError("the bench has ended")
+        if not self._in_step:
+            raise BenchError("a call was interrupted, and its answer is still to come: the bench can only be ended")
+        moment = self._moment if at is None else moment_text(at)
+        data = f"at {moment}\n{lines}\n".encode() if at is not None else f"{lines}\n".encode()
+        if self._written + len(data) > MOST_INPUT:
+            self.stop()
+            raise BenchError(
+                f"a bench takes {MOST_INPUT} bytes of input, and has got them: it was ended, and has its record"
+            )
+        self._in_step = False
+        self._moment = moment
+        self._written += len(data)
         try:
-            self._child.stdin.write(text.encode())
+            self._child.stdin.write(data)
         except BrokenPipeError:
             self._finish()
 

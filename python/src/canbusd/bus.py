@@ -11,7 +11,10 @@ import os
 import threading
 import time
 from collections.abc import Iterable, Mapping, Sequence
+from math import isfinite
 from typing import Any, Optional, TypeVar, Union, cast
+
+import canbusd._python_can  # noqa: F401  it says what is missing, so it comes first
 
 import can
 from can.broadcastmanager import CyclicSendTaskABC, ThreadBasedCyclicSendTask
@@ -47,6 +50,11 @@ LOG = logging.getLogger("can.canbusd")
 NO_BUFFERS, BUS_OFF, NOT_BUS_OFF = "no buffers", "bus off", "not bus off"
 # What the system's own CAN sockets report.
 ERROR_CODES = {NO_BUFFERS: errno.ENOBUFS, BUS_OFF: errno.ENETDOWN}
+# What to do, where it can be said in a few words.
+CURES = {
+    NO_BUFFERS: ": the transmit queue is full; send(msg, timeout=1) waits for room, and a server's txqueue= makes more",
+    BUS_OFF: ": restart() brings the interface back, as the server's auto_restart= does",
+}
 BUS_STATES = {
     "active": BusState.ACTIVE,
     "warning": BusState.ACTIVE,
@@ -101,7 +109,7 @@ def server_address(given: Optional[str], others: Mapping[str, Any]) -> str:
 
 def refusal(text: str, after: str = "") -> CanOperationError:
     """The exception for what the server refused; its `error_code` is that of the system's own CAN sockets."""
-    return CanOperationError(text + after, ERROR_CODES.get(text))
+    return CanOperationError(f"{text}{after}{CURES.get(text, '')}", ERROR_CODES.get(text))
 
 
 def goes_on(fault: Exception) -> bool:
@@ -327,11 +335,14 @@ class CanbusdBus(BusABC):
     def _next(self, timeout: Optional[float]) -> Optional[Message]:
         try:
             text = self._connection.frame(timeout)
-            return None if text is None else received(self._make, *text.split()[1:])
+            message = None if text is None else received(self._make, *text.split()[1:])
         except ConnectionError as fault:
             raise CanOperationError(str(fault)) from None
         except (TypeError, ValueError):
-            raise CanOperationError(f"no message of canbusd: {text} >") from None
+            message = None
+        if text is not None and (message is None or not isfinite(message.timestamp)):
+            raise CanOperationError(f"no message of canbusd: {text} >")
+        return message
 
     def _passes(self, message: Message) -> bool:
         """Whether a message passes the filters, where the server did not apply them to it."""
@@ -347,6 +358,8 @@ class CanbusdBus(BusABC):
 
     def _command(self, msg: Message) -> str:
         """The command that sends this message; ValueError where none does."""
+        if not isinstance(msg, Message):
+            raise ValueError(f"msg is a can.Message, such as can.Message(arbitration_id=0x123, data=[1]), not {msg!r}")
         if msg.is_fd:
             if not self._fd:
                 raise ValueError("an FD frame needs a bus with fd=True")

@@ -57,7 +57,7 @@ def matcher(
 
 
 def named(id: Optional[int], data: Optional[bytes]) -> str:
-    """The frame that was looked for, for a failure: `frame 123#1122`, `frame 123`, `frame`."""
+    """The frame that was looked for, for a failure: `frame 123 with data 11 22`, `frame 123`, `frame`."""
     digits = "" if id is None else f" {id:03X}" if id <= 0x7FF else f" {id:08X}"
     return f"frame{digits}" + ("" if data is None else f" with data {bytes(data).hex(' ').upper() or 'of no byte'}")
 

@@ -6,12 +6,15 @@ Attempts are counted from 0, and only those in which a frame was tried. An attem
 """
 
 import os
+import re
 from collections.abc import Iterable, Sequence
 from typing import Optional, Union
 
 from canbusd._text import NAME
 
 MOST = 99999999
+# What no path is.
+IS_TEXT = re.compile(r"\A\Z|\n|\A[0-9]+ ")
 
 Attempts = Union[int, Iterable[int]]
 
@@ -94,17 +97,25 @@ Script = Union[str, "os.PathLike[str]", Faults]
 
 
 def script_text(script: Optional[Script]) -> str:
-    """Returns the text of a fault script. A `str` is the text if it has a line feed or is empty, else a path."""
+    """Returns the text of a fault script.
+
+    A `str` is the text if it is empty, has a line feed, or begins with a number and a space, as `0 lastbit` does; else it
+    is a path.
+    """
     if script is None:
         return ""
     if isinstance(script, Faults):
         return str(script)
-    if isinstance(script, str) and ("\n" in script or not script):
+    if isinstance(script, str) and IS_TEXT.search(script):
         return script
     if not isinstance(script, (str, os.PathLike)):
         raise ValueError(f"faults are Faults, a path or a text, not {script!r}")
-    with open(script, encoding="utf-8") as file:
-        return file.read()
+    try:
+        with open(script, encoding="utf-8") as file:
+            return file.read()
+    except FileNotFoundError as fault:
+        hint = f"{fault.strerror}; a text begins with the number of an attempt, as '0 lastbit' does"
+        raise FileNotFoundError(fault.errno, hint, os.fspath(script)) from None
 
 
 def verdicts_of(text: str) -> dict[int, str]:

@@ -21,7 +21,10 @@ def read_log(path: Path) -> "list[Message]":
 
     Unlike python-can's reader it keeps the classes of error message frames.
     """
-    messages = []
+    import canbusd._python_can  # noqa: F401  it says what is missing
+    from can.message import Message
+
+    messages: list[Message] = []
     with open(path, encoding="ascii") as file:
         for number, line in enumerate(file, 1):
             words = LOG_LINE.fullmatch(line.rstrip("\n"))

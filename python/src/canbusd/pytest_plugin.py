@@ -6,17 +6,20 @@
             ...
 """
 
+import contextlib
+import itertools
 import os
 import re
 import shutil
 from collections.abc import Iterator
 from pathlib import Path
-from typing import TYPE_CHECKING, Any, Protocol, Union
+from typing import TYPE_CHECKING, Any, Generator, Protocol, Union
 
 import pytest
 
 from canbusd import _summary
 from canbusd._program import audited
+from canbusd._process import FOLDERS
 from canbusd.bench import Bench
 from canbusd.record import BadRecord, read_record
 
@@ -60,10 +63,22 @@ def pytest_unconfigure(config: pytest.Config) -> None:
         os.environ.pop("CANBUSD", None)
 
 
-def pytest_runtest_makereport(item: pytest.Item, call: "pytest.CallInfo[None]") -> None:
-    """Keeps whether the test failed, for the end of its fixtures."""
-    if call.excinfo is not None and not call.excinfo.errisinstance(pytest.skip.Exception):
+@pytest.hookimpl(hookwrapper=True, tryfirst=True)  # type: ignore[misc]
+def pytest_runtest_makereport(item: pytest.Item) -> Generator[None, Any, None]:
+    """Keeps whether the test failed, for the end of its fixtures. One that had to fail, by a mark xfail, did not."""
+    outcome = yield
+    if outcome.get_result().failed:
         item.stash[FAILED] = True
+
+
+def new_folder(place: Path, name: str) -> Path:
+    """Makes a folder, whose name gets a number; as pytest does, but without a link to the last."""
+    for number in itertools.count():
+        with contextlib.suppress(FileExistsError):
+            folder = place / f"{name}{number}"
+            folder.mkdir(mode=0o700)
+            return folder
+    raise AssertionError("numbers have an end")
 
 
 class StartsServer(Protocol):
@@ -80,7 +95,7 @@ class Runs:
         self._item: pytest.Item = request.node
         self._keep = str(request.config.getoption("--canbusd-keep"))
         name = re.sub(r"\W+", "-", self._item.name)[:40]
-        self._folder = factory.mktemp(f"canbusd-{name}")
+        self._folder = new_folder(factory.getbasetemp(), f"canbusd-{name}")
         self._runs: list[Union["Server", Bench]] = []
         #: By the path of each record its run, and the names of its interfaces.
         self._records: dict[Path, tuple[Union["Server", Bench], list[str]]] = {}
@@ -90,16 +105,27 @@ class Runs:
         from canbusd.server import Server
 
         out = self._folder_of(options)
-        server = Server(*buses, **options)
+        with self._below():
+            server = Server(*buses, **options)
         self._add(server, out, [bus.partition("@")[0].split(",") for bus in buses])
         return server
 
     def bench(self, names: str, **options: Any) -> Bench:
         """Starts a bench whose log and record are in a folder of the test."""
         out = self._folder_of(options)
-        bench = Bench(names, **options)
+        with self._below():
+            bench = Bench(names, **options)
         self._add(bench, out, [list(bench.names)])
         return bench
+
+    @contextlib.contextmanager
+    def _below(self) -> Iterator[None]:
+        """Runs that are started have their folders here, where pytest clears them away if it is killed."""
+        before = FOLDERS.set(self._folder)
+        try:
+            yield
+        finally:
+            FOLDERS.reset(before)
 
     def _folder_of(self, options: dict[str, Any]) -> Path:
         if options.get("out") is None:
@@ -121,6 +147,8 @@ class Runs:
             self._item.add_report_section("teardown", "canbusd", "\n\n".join(sections))
         if self._keep == "none" or (self._keep == "failed" and not failed):
             shutil.rmtree(self._folder, ignore_errors=True)
+        for folder in self._folder.glob("canbusd-*"):
+            shutil.rmtree(folder, ignore_errors=True)
         if faults:
             pytest.fail("\n".join(faults), pytrace=False)
 

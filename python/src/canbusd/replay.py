@@ -203,6 +203,8 @@ class Replay:
         self.items: list[Delivery] = []
         self.open_sockets: list[list[Socket]] = [[] for _ in self.ifaces]
         self.frames: dict[str, WireFrame] = {}
+        #: What bus off took out of a transmit queue, by the step.
+        self.lost: dict[int, list[Pending]] = {}
         self.counts: list[Counts] = [(0, 0)] * record.ifaces
         self.attempts = self.idle = 0
         # How many attempts were idle since the last step.
@@ -414,6 +416,7 @@ class Replay:
             winner.done += 1
         if step.off:
             winner.lost += len(winner.waiting)
+            self.lost[len(self.steps)] = list(winner.waiting)
             winner.waiting.clear()
             winner.attempts_off = 0
 

@@ -21,16 +21,13 @@ from typing import Any, Optional
 
 from canbusd.frames import Frame, meaning
 from canbusd._protocol import STATES
-from canbusd.replay import OFF, Delivery, Replay, Socket, Step
+from canbusd.replay import Delivery, Replay, Socket, Step
 from canbusd.signals import Database
-from canbusd.story import Event, events_of, facts_of, heading_of, verdict_words
+from canbusd.story import Event, events_of, facts_of, heading_of, refused_sends, verdict_words
 
 # By their numbers on the page.
 KINDS = ["done", "lastbit", "destroyed", "noack", "restart", "idle"]
 FATES = ["taken", "waiting", "unread", "dropped"]
-# Where there are more steps than pixels the page draws from sums over this many steps. Short runs need none.
-CELL = 256
-FEWEST_FOR_CELLS = 4096
 
 Json = dict[str, Any]
 Column = list[Any]
@@ -146,33 +143,11 @@ class Timeline:
         }
 
     def lines(self, block: Block) -> Json:
-        """The counts and the waiting frames of each interface, by rows, with the extremes of each cell."""
-        found: Json = {"tec": [], "rec": [], "waiting": []}
-        for (tec, rec), waiting in zip(self.counts, self.waiting):
-            for name, numbers in (("tec", tec), ("rec", rec), ("waiting", waiting)):
-                found[name].append(
-                    {
-                        "all": block.column("H", numbers),
-                        "high": block.column("H", map(max, cells(numbers))),
-                        "low": block.column("H", map(min, cells(numbers))),
-                    }
-                )
-        return found
-
-    def cells(self, block: Block) -> Json:
-        """For each cell: how many attempts of each kind each interface won, and in how many rows it was off."""
-        codes = bytes((0 if idle else step.iface) << 4 | kind for (idle, step), kind in zip(self.rows, self.kinds))
+        """The counts and the waiting frames of each interface, by rows."""
         return {
-            "size": CELL,
-            "wins": [
-                [block.column("H", (cell.count(i << 4 | kind) for cell in cells(codes))) for kind in range(5)]
-                for i in range(self.ifaces)
-            ],
-            "idle": block.column("H", (cell.count(5) for cell in cells(self.kinds))),
-            "away": [
-                block.column("H", (sum(count >= OFF for count in cell) for cell in cells(tec)))
-                for tec, _ in self.counts
-            ],
+            "tec": [block.column("H", tec) for tec, _ in self.counts],
+            "rec": [block.column("H", rec) for _, rec in self.counts],
+            "waiting": [block.column("H", waiting) for waiting in self.waiting],
         }
 
 
@@ -192,14 +167,6 @@ def accumulated_most(numbers: Iterable[int]) -> Iterable[int]:
 def taking_part(step: Step) -> int:
     """How many frames met in arbitration; 0 for one."""
     return len(step.contenders) if len(step.contenders) > 1 else 0
-
-
-def cells(numbers: Any) -> Iterable[Any]:
-    """The parts of a column of which the page draws sums; none where it is short."""
-    if len(numbers) < FEWEST_FOR_CELLS:
-        return
-    for first in range(0, len(numbers), CELL):
-        yield numbers[first : first + CELL]
 
 
 def items_of(items: Sequence[Delivery], places: Sequence[int], block: Block, texts: Texts) -> Json:
@@ -230,19 +197,21 @@ def arbitrating(text: str) -> str:
 
 
 def ifaces_of(run: Replay) -> list[Json]:
-    """The interfaces at the end of the run."""
+    """The interfaces at the end of the run, with the sends that were refused: since the queue was full, or it off."""
+    refused = refused_sends(run)
     return [
         {
             "sent": one.sent,
             "done": one.done,
             "waiting": len(one.waiting),
             "lost": one.lost,
-            "refused": one.refused,
+            "full": one.refused,
+            "off": len(refused.get((number, "bus-off"), [])),
             "tec": one.tec,
             "rec": one.rec,
             "state": STATES[one.state()],
         }
-        for one in run.ifaces
+        for number, one in enumerate(run.ifaces)
     ]
 
 
@@ -274,8 +243,16 @@ def decoded_of(texts: Iterable[str], database: Optional[Database]) -> Json:
 
 
 def event_of(event: Event, places: Sequence[int]) -> Column:
-    """An event: its place, its kind and its words."""
-    return [places[event.step] if event.step >= 0 and places else 0, event.kind, event.words]
+    """An event: its place, its kind, its interface and its words."""
+    return [places[event.step] if event.step >= 0 and places else 0, event.kind, event.iface, event.words]
+
+
+def lost_frames(run: Replay, places: Sequence[int], texts: Texts) -> Json:
+    """The number and text of each frame that bus off took out of a transmit queue, by the place of the step."""
+    return {
+        str(places[step]): [[sent.number, texts.place(sent.frame.text)] for sent in lost]
+        for step, lost in run.lost.items()
+    }
 
 
 def data_of(run: Replay, names: Sequence[str], title: str, most_items: int, database: Optional[Database] = None) -> str:
@@ -296,10 +273,10 @@ def data_of(run: Replay, names: Sequence[str], title: str, most_items: int, data
         "steps": timeline.steps(block, texts, verdicts),
         "contenders": timeline.contenders(block, texts),
         **timeline.lines(block),
-        "cells": timeline.cells(block),
         "items": items_of(run.items[:most_items], timeline.places, block, texts),
         "itemsInAll": len(run.items),
         "events": [event_of(event, timeline.places) for event in events],
+        "lost": lost_frames(run, timeline.places, texts),
         "ifaces": ifaces_of(run),
         "sockets": [socket_of(socket) for socket in run.sockets],
         "socket": worst.number if worst else 0,
@@ -317,7 +294,7 @@ def page(
 ) -> str:
     """Returns the page of a run, with its first items."""
     data = data_of(run, names, title, most_items, database)
-    return filled("page.html", ["draw.js", "page.js"]).replace("/*RUN*/", data)
+    return filled("page.html", ["core.js", "lanes.js", "lists.js", "page.js"]).replace("/*RUN*/", data)
 
 
 def filled(name: str, scripts: Sequence[str]) -> str:

@@ -10,13 +10,14 @@ import os
 import re
 import select
 import subprocess
+import threading
 import time
 from collections.abc import Mapping, Sequence
 from pathlib import Path
 from typing import TYPE_CHECKING, Any, NamedTuple, Optional, Union
 
-from canbusd._program import audited
-from canbusd._process import RUNNING, ProgramRun, option_words
+from canbusd._program import audited, find_program
+from canbusd._process import RUNNING, ProgramRun, check_names, option_words
 from canbusd.expectations import Expectations
 from canbusd.faults import Script, script_text
 from canbusd.log import read_log
@@ -58,7 +59,7 @@ def bus_words(
         names = bus.partition("@")[0].split(",")
         if names[0] in by_bus:
             raise ValueError(f"buses are of different interfaces, and two begin with {names[0]!r}")
-        by_bus[names[0]] = [*names, bus]
+        by_bus[check_names(names)[0]] = [*names, bus]
     if faults is None:
         return by_bus
     if not isinstance(faults, Mapping):
@@ -122,6 +123,7 @@ class Server(Expectations, ProgramRun):
         self._observer: Optional[Observer] = None
         for name in observed:
             self._first(name)
+        self._ending = threading.Lock()
         self._result: Optional[Result] = None
         words = ["--until-eof", "--listen", listen, *options, "--out", str(self._out)]
         self._start("serve", *words, "--", *(bus[-1] for bus in self._by_bus.values()))
@@ -132,17 +134,52 @@ class Server(Expectations, ProgramRun):
 
     def bus(self, channel: str, **kwargs: Any) -> "CanbusdBus":
         """Returns a bus of python-can on the interface of this name; the arguments are those of CanbusdBus."""
+        import canbusd._python_can  # noqa: F401  it says what is missing, so it comes first
+        from can.exceptions import CanInitializationError
+
         from canbusd.bus import CanbusdBus
 
+        names = [name for bus in self._by_bus.values() for name in bus[:-1]]
+        if channel not in names:
+            raise CanInitializationError(f"{channel}: no such interface; the server has {', '.join(names)}")
+        if self._result is not None:
+            raise CanInitializationError(
+                f"{channel}: the server has ended; stop(), log(), record(), audit(), report() and its with block end it"
+            )
         bus = CanbusdBus(channel, address=self.address, **kwargs)
         bus.window = self._txqueue
         return bus
+
+    def run(self, words: Sequence[str], wait: bool = False, **kwargs: Any) -> "subprocess.CompletedProcess[Any]":
+        """Runs a program whose CAN sockets are those of this server, such as ``["cansend", "can0", "123#"]``, to its end.
+
+        With ``wait`` its writes wait where the transmit queue is full. The other arguments are those of subprocess.run.
+        """
+        return subprocess.run([*self._run_words(), *(["--wait"] if wait else []), "--", *words], **kwargs)
+
+    def environment(self) -> dict[str, str]:
+        """Returns the environment of this process with what makes a program's CAN sockets those of this server.
+
+        For programs that others start: ``subprocess.Popen(["candump", "can0"], env=server.environment())``.
+        """
+        words = [*self._run_words(), "--", "env", "-0"]
+        pairs = os.fsdecode(subprocess.run(words, stdout=subprocess.PIPE, check=True).stdout).split("\0")
+        return dict(pair.split("=", 1) for pair in pairs if pair)
+
+    def _run_words(self) -> list[str]:
+        names = ",".join(name for names in self._by_bus.values() for name in names[:-1])
+        return [find_program("canbusd-run"), "--address", self.address, "--interfaces", names]
 
     def stop(self) -> Result:
         """Ends the server; logs and records are written. Called again it returns the same.
 
         :raises ServerError: where the server ended with a fault, or was killed by others
         """
+        self._check_process()
+        with self._ending:
+            return self._stopped()
+
+    def _stopped(self) -> Result:
         if self._result is None:
             self._end_observer()
             self._close_input()
@@ -154,12 +191,16 @@ class Server(Expectations, ProgramRun):
 
     def kill(self) -> Result:
         """Ends the server as a crash would: no logs or records are written."""
+        self._check_process()
         if self._result is None:
+            # Also one that is being stopped.
             self._signal()
-            self._close_input()
-            self._result = Result(self._ended()[0], {})
-            self._end_observer()
-        return self._result
+        with self._ending:
+            if self._result is None:
+                self._close_input()
+                self._result = Result(self._ended()[0], {})
+                self._end_observer()
+            return self._result
 
     def log(self, name: Optional[str] = None) -> list["Message"]:
         """Ends the server, and returns the frames that were put on the bus of this interface, oldest first.

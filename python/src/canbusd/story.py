@@ -2,6 +2,7 @@
 
 import bisect
 import re
+from collections import Counter
 from collections.abc import Iterable, Iterator, Sequence
 from typing import NamedTuple
 
@@ -44,22 +45,55 @@ def events_of(run: Replay, names: Sequence[str]) -> list[Event]:
 def changes_of(run: Replay, names: Sequence[str]) -> Iterator[Event]:
     """Changes of state, frames lost by bus off, and restarts."""
     before = [(0, 0)] * len(names)
+    climbs = [Climb() for _ in names]
     for number, step in enumerate(run.steps):
         if step.kind == "restart":
             yield Event(number, "restart", step.iface, f"{names[step.iface]} is back on the bus, with both counts 0")
         elif step.counts != before:
+            climbs[step.iface].add(step, before[step.iface][0])
             for i, (old, new) in enumerate(zip(before, step.counts)):
                 if severity(max(old)) != severity(max(new)):
-                    yield from change_of(number, step, i, names[i])
+                    yield from change_of(number, step, i, names, climbs[i])
         before = step.counts
 
 
-def change_of(number: int, step: Step, i: int, name: str) -> Iterator[Event]:
+class Climb:
+    """What raised the transmit count of an interface since it was last 0."""
+
+    def __init__(self) -> None:
+        self.first = self.attempts = 0
+        self.faults: Counter[str] = Counter()
+
+    def add(self, step: Step, tec: int) -> None:
+        """Adds an attempt of the interface, before which its transmit count was `tec`."""
+        if not tec:
+            self.first, self.attempts = step.attempt, 0
+            self.faults.clear()
+        self.attempts += 1
+        if step.kind != "done":
+            self.faults[step.kind if step.kind == "noack" else step.verdict] += 1
+
+    def words(self, names: Sequence[str]) -> str:
+        """`32 of its 33 attempts since attempt 1,000 failed: global bit 31, last bit 1`."""
+        each = [f"{fault_words(fault, names)} {count:,}" for fault, count in self.faults.most_common()]
+        since = f"since attempt {self.first:,}"
+        return (
+            f"{sum(self.faults.values()):,} of its {times(self.attempts, 'attempt')} {since} failed: {', '.join(each)}"
+        )
+
+
+def fault_words(fault: str, names: Sequence[str]) -> str:
+    """A verdict in words, or a missing acknowledgement."""
+    short = {"noack": "no acknowledgement", "lastbit": "last bit"}
+    return short.get(fault) or verdict_words(fault, names)
+
+
+def change_of(number: int, step: Step, i: int, names: Sequence[str], climb: Climb) -> Iterator[Event]:
     """The change of the state of an interface in a step."""
     tec, rec = step.counts[i]
-    state = severity(max(tec, rec))
+    name, state = names[i], severity(max(tec, rec))
     if state == 3:
-        yield Event(number, "bus off", i, f"{name} went bus off: its transmit count reached {tec}")
+        yield Event(number, "bus off", i, f"{name} went bus off at transmit count {tec}: {climb.words(names)}")
         lost = times(step.waiting[i], "frame")
         yield Event(number, "lost", i, f"{name} lost {lost}: bus off empties its transmit queue")
     else:
@@ -89,6 +123,13 @@ def second_copies(run: Replay, names: Sequence[str]) -> Iterator[Event]:
 
 def refusals_of(run: Replay, names: Sequence[str]) -> Iterator[Event]:
     """Sends that were refused because a queue was full or an interface off."""
+    for (iface, reason), steps in refused_sends(run).items():
+        for first, count in groups(steps):
+            yield Event(first, "refused", iface, f"{names[iface]} refused {times(count, 'send')}: {REASONS[reason]}")
+
+
+def refused_sends(run: Replay) -> dict[tuple[int, str], list[int]]:
+    """The steps after which sends were refused, by the interface and the reply."""
     entries = [step.entry for step in run.steps]
     places: dict[tuple[int, str], list[int]] = {}
     for number, line in enumerate(run.record.lines):
@@ -97,9 +138,7 @@ def refusals_of(run: Replay, names: Sequence[str]) -> Iterator[Event]:
             if words:
                 key = run.sockets[int(words[1])].iface, words[2]
                 places.setdefault(key, []).append(bisect.bisect_left(entries, number) - 1)
-    for (iface, reason), steps in places.items():
-        for first, count in groups(steps):
-            yield Event(first, "refused", iface, f"{names[iface]} refused {times(count, 'send')}: {REASONS[reason]}")
+    return places
 
 
 def drops_of(run: Replay, names: Sequence[str]) -> Iterator[Event]:

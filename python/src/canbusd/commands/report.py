@@ -11,9 +11,9 @@ from canbusd._command import add_record, replayed
 from canbusd.commands import add_database, database_of
 
 EPILOG = """\
-The page is one file, which needs no network. It shows the attempts by interface, with winner, outcome and faults;
-the arbitration of a chosen attempt bit by bit; the error counters with their limits; queues and losses; and each item
-that a socket received or lost. The record is replayed by the rules of the bus, and one that breaks them is refused.
+The page is one file, which needs no network. It has a time line with a lane for each interface: its attempts, state,
+error counters and queue; the chosen attempt in detail, with its arbitration bit by bit; and lists of events, attempts
+and items, which follow it. The record is replayed by the rules of the bus, and one that breaks them is refused.
 
   canbusd bench --record run.rec can0,can1 < first_frame.bench
   python3 -m canbusd report --names can0,can1 run.rec > run.html

@@ -1,28 +1,34 @@
 """Shows a running server in the browser: frames, states and counts as they come, on one page, until Ctrl-C."""
 
 import argparse
+import errno
+import itertools
 import json
+import operator
 import select
 import threading
 import time
-from collections import deque
-from collections.abc import Iterator, Sequence
+from collections import Counter, deque
+from collections.abc import Iterable, Iterator, Sequence
 from http import HTTPStatus
 from http.server import BaseHTTPRequestHandler, ThreadingHTTPServer
 from typing import Any, Optional
 
+import canbusd._python_can  # noqa: F401  it says what is missing, so it comes first
+
 from can.exceptions import CanOperationError
 
 from canbusd.bus import CanbusdBus, seconds
+from canbusd._protocol import Stats
 from canbusd.commands import add_address, add_database, database_of
 from canbusd.frames import SENDING, Frame, frame_like
 from canbusd.report import filled
 from canbusd.signals import Database
 
 EPILOG = """\
-The page is served on 127.0.0.1 only. It shows how many frames each interface sent, their error counts with the limits,
-changes of state, each identifier with its last data, and the last frames. Destroyed and unacknowledged frames are shown
-where the server was started with --report. A session on each interface receives everything: each frame that it gets is
+The page is served on 127.0.0.1 only. It shows on a time line how many frames each interface sent, its state, error
+counts and queue; and lists the last frames, with senders as far as the counts show them, changes of state, and each
+identifier with its last data. Destroyed and unacknowledged frames are shown where the server was started with --report. A session on each interface receives everything: each frame that it gets is
 an entry of the record.
 
   python3 -m canbusd watch can0 can1
@@ -30,8 +36,13 @@ an entry of the record.
 """
 # How much a page gets that is opened later: ticks, and frames.
 MOST_TICKS, MOST_FRAMES = 2400, 4000
-# Seconds in which pages are sent that the server has ended.
-CLOSE_TIMEOUT = 2.0
+# Seconds between two looks at the counts while there are frames whose sender is not known.
+LOOK = 0.01
+# How many looks have to pass before frames are taken for those of an interface that is not watched.
+LOOKS = 20
+# Seconds in which pages are sent that the server has ended, after which a silent connection is closed, and between two looks
+# for a file descriptor where there are no more.
+CLOSE_TIMEOUT, REQUEST_TIMEOUT, PAUSE = 2.0, 10.0, 0.2
 BUS_ERROR, NOT_ACKNOWLEDGED, END_OF_FRAME, FORM = 0x080, 0x020, 0x1A, 0x02
 
 Json = dict[str, Any]
@@ -44,7 +55,8 @@ class Board:
     def __init__(self) -> None:
         self._changed = threading.Condition()
         self._ticks: deque[Json] = deque(maxlen=MOST_TICKS)
-        self._frames: deque[Row] = deque(maxlen=MOST_FRAMES)
+        # Frames, faults and changes of state are kept apart, so that none pushes out another.
+        self._kept = [deque[Row](maxlen=MOST_FRAMES) for _ in range(3)]
         self._last: tuple[int, Json] = (0, {})
         self._end: Optional[str] = None
         self._readers = 0
@@ -53,7 +65,8 @@ class Board:
         """Adds a tick."""
         with self._changed:
             self._ticks.append(tick)
-            self._frames.extend(frames)
+            for row in frames:
+                self._kept[0 if is_frame(row) else 1 if row[3].startswith("bus error") else 2].append(row)
             self._last = self._last[0] + 1, {"ticks": [tick], "frames": frames}
             self._changed.notify_all()
 
@@ -78,7 +91,8 @@ class Board:
                     number, news = self._last
                     if seen < 0 or number != seen + 1:
                         # A page that is new, or reads slowly, begins with all that is kept.
-                        news = {"start": True, "ticks": list(self._ticks), "frames": list(self._frames)}
+                        rows = sorted(itertools.chain(*self._kept), key=operator.itemgetter(0))
+                        news = {"start": True, "ticks": list(self._ticks), "frames": rows}
                     seen = number
                 yield news
             yield {"end": self._end}
@@ -93,12 +107,24 @@ class Pages(ThreadingHTTPServer):
 
     # A connection that asks nothing holds up no end.
     daemon_threads = True
+    request_queue_size = 128
 
-    def __init__(self, port: int, board: Board, names: Sequence[str], source: str) -> None:
+    def __init__(self, port: int, board: Board, names: Sequence[str], source: str, has_database: bool) -> None:
         super().__init__(("127.0.0.1", port), Request)
         self.board = board
-        data = json.dumps({"names": list(names), "source": source}).replace("<", "\\u003c")
-        self.page = filled("watch.html", ["draw.js", "watch.js"]).replace("/*RUN*/", data).encode()
+        known = {"names": list(names), "source": source, "isDecoded": has_database}
+        data = json.dumps(known).replace("<", "\\u003c")
+        self.page = (
+            filled("watch.html", ["core.js", "lanes.js", "lists.js", "watch.js"]).replace("/*RUN*/", data).encode()
+        )
+
+    def get_request(self) -> tuple[Any, Any]:
+        """Takes a connection. Where there is no file descriptor for it, it waits for one, and burns no processor."""
+        try:
+            return super().get_request()
+        except OSError:
+            time.sleep(PAUSE)
+            raise
 
     @property
     def url(self) -> str:
@@ -106,18 +132,21 @@ class Pages(ThreadingHTTPServer):
         return f"http://127.0.0.1:{self.server_address[1]}/"
 
 
-def opened(port: int, board: Board, names: Sequence[str], source: str) -> Pages:
+def opened(port: int, board: Board, names: Sequence[str], source: str, has_database: bool) -> Pages:
     """Returns the pages on this port; the fault of a port that can't be had names it."""
     try:
-        return Pages(port, board, names, source)
+        return Pages(port, board, names, source, has_database)
     except OSError as fault:
-        raise OSError(fault.errno, fault.strerror, f"127.0.0.1:{port}") from None
+        hint = "; --port 0 takes a free one" if fault.errno == errno.EADDRINUSE else ""
+        raise OSError(fault.errno, f"{fault.strerror}{hint}", f"127.0.0.1:{port}") from None
 
 
 class Request(BaseHTTPRequestHandler):
     """A browser's request."""
 
     server: Pages
+    # Of a connection that asks nothing, and of a page that takes nothing.
+    timeout = REQUEST_TIMEOUT
 
     def do_GET(self) -> None:
         """Sends the page or the news."""
@@ -162,26 +191,40 @@ class Watcher:
     def __init__(self, names: Sequence[str], address: Optional[str], database: Optional[Database] = None) -> None:
         self.database = database
         self.buses = [CanbusdBus(name, address=address, fd=True) for name in names]
+        self.senders = Senders()
 
     def tick(self, seconds: float) -> tuple[Json, list[Row]]:
         """Collects frames for so long; then how the interfaces are, and the frames."""
-        frames: list[Row] = []
+        rows: dict[tuple[float, str, int], Row] = {}
         faults = [[0, 0, 0] for _ in self.buses]
         deadline = time.monotonic() + seconds
+        looked = 0.0
         while True:
             ready = select.select(self.buses, [], [], max(0.0, deadline - time.monotonic()))[0]
             for number, bus in enumerate(self.buses):
                 if bus in ready:
-                    self.take(number, frames, faults[number])
-            if time.monotonic() >= deadline:
+                    self.take(number, rows, faults[number])
+            now = time.monotonic()
+            if now >= deadline:
                 break
-        stats = [bus.stats() for bus in self.buses]
+            if now - looked >= LOOK and self.senders.wants(rows.values()):
+                looked = now
+                self.look(rows, faults)
+        stats = self.look(rows, faults)
         ifaces = [[*bus.error_counters(), *one[3:]] for bus, one in zip(self.buses, stats)]
         missed = sum(one.dropped for one in stats)
-        return {"time": time.time(), "ifaces": ifaces, "faults": faults, "missed": missed}, frames
+        return {"time": time.time(), "ifaces": ifaces, "faults": faults, "missed": missed}, self.senders.named(rows)
 
-    def take(self, number: int, frames: list[Row], faults: list[int]) -> None:
-        """Takes what an interface has received: the moment, the frame, the interface, and what the frame says."""
+    def look(self, rows: dict[tuple[float, str, int], Row], faults: list[list[int]]) -> list[Stats]:
+        """Looks at the counts, and takes what came before them."""
+        stats = [bus.stats() for bus in self.buses]
+        for number in range(len(self.buses)):
+            self.take(number, rows, faults[number])
+        self.senders.add(rows.values(), [one.done for one in stats])
+        return stats
+
+    def take(self, number: int, rows: dict[tuple[float, str, int], Row], faults: list[int]) -> None:
+        """Takes what an interface has received. A row is moment, frame, interfaces, what it says, sender."""
         for _ in range(MOST_FRAMES):
             message = self.buses[number].recv(0)
             if message is None:
@@ -190,7 +233,10 @@ class Watcher:
             kind = fault_of(frame)
             if kind is not None:
                 faults[kind] += 1
-            frames.append([frame.timestamp, str(frame), number, self.meaning(frame)])
+            # An error frame is the interface's own; a frame that several have received is one row.
+            key = frame.timestamp, str(frame), number if frame.is_error_frame else -1
+            row = rows.setdefault(key, [frame.timestamp, str(frame), 0, self.meaning(frame), -1])
+            row[2] |= 1 << number
 
     def meaning(self, frame: Frame) -> str:
         """What an error message frame says, or one that a file knows."""
@@ -198,13 +244,80 @@ class Watcher:
         return str(decoded) if decoded is not None else frame.meaning
 
 
+class Senders:
+    """Which interface sent a frame, as far as the counts say it.
+
+    A session is not told who sent what it receives. But where as many frames came since the last look as the
+    interfaces have done, one of those that have done some sent each of them. The sender of an identifier is the only
+    interface that is possible at all such looks.
+    """
+
+    def __init__(self) -> None:
+        self.done: list[int] = []
+        # The frames up to the last look.
+        self.seen: set[tuple[float, str]] = set()
+        # By how many the frames that came exceed those that were done, at the last looks. A frame that comes before its
+        # interface is counted raises it until the next look, a frame of an interface that is not watched for good.
+        self.excess = deque([0], maxlen=LOOKS)
+        # Who may send an identifier; nobody where it came from several.
+        self.possible: dict[str, frozenset[int]] = {}
+
+    def wants(self, rows: Iterable[Row]) -> bool:
+        """Whether there is a frame whose sender another look could show."""
+        possible = (self.possible.get(identifier_of(text)) for _, text, *_ in filter(is_frame, rows))
+        return any(one is None or len(one) > 1 for one in possible)
+
+    def add(self, rows: Iterable[Row], done: list[int]) -> None:
+        """Learns from the rows and the counts after them."""
+        grown = [after - before for after, before in zip(done, self.done or done)]
+        frames = {(moment, text) for moment, text, *_ in filter(is_frame, rows)}
+        new = [identifier_of(text) for _, text in frames - self.seen] if self.done else []
+        before = self.excess[-1]
+        self.done, self.seen = done, frames
+        self.excess.append(before + len(new) - sum(grown))
+        if before == self.excess[-1] == min(self.excess):
+            self.learn(new, grown)
+
+    def learn(self, identifiers: list[str], grown: list[int]) -> None:
+        """Learns from identifiers that came, and how many frames each interface has done meanwhile."""
+        active = frozenset(number for number, count in enumerate(grown) if count)
+        for one in identifiers:
+            self.possible[one] = self.possible.get(one, active) & active
+        known = Counter(next(iter(self.possible[one])) for one in identifiers if len(self.possible[one]) == 1)
+        for one in identifiers:
+            if any(known[number] > grown[number] for number in self.possible[one]):
+                self.possible[one] = frozenset()
+
+    def sender(self, text: str) -> int:
+        """The only possible sender of a frame's identifier, or -1."""
+        possible = self.possible.get(identifier_of(text), frozenset())
+        return next(iter(possible)) if len(possible) == 1 else -1
+
+    def named(self, rows: dict[tuple[float, str, int], Row]) -> list[Row]:
+        """The rows, with senders as far as they are known."""
+        for row in rows.values():
+            row[4] = self.sender(row[1])
+        return list(rows.values())
+
+
+def is_frame(row: Row) -> bool:
+    """Whether a row is not an error message frame, whose first digit has bit 29."""
+    return not (row[1][8:9] == "#" and row[1][0] in "23")
+
+
+def identifier_of(text: str) -> str:
+    """The identifier in a frame's text."""
+    return text.split("#", 1)[0]
+
+
 def fault_of(frame: Frame) -> Optional[int]:
     """Which fault of the interface's own frame is reported: 0 last bit, 1 destroyed, 2 not acknowledged; else None."""
-    if not frame.is_error_frame or not frame.arbitration_id & BUS_ERROR or not frame.data[2] & SENDING:
+    kind, place = frame.data.ljust(4, b"\0")[2:4]
+    if not frame.is_error_frame or not frame.arbitration_id & BUS_ERROR or not kind & SENDING:
         return None
     if frame.arbitration_id & NOT_ACKNOWLEDGED:
         return 2
-    return 0 if frame.data[3] == END_OF_FRAME and frame.data[2] & FORM else 1
+    return 0 if place == END_OF_FRAME and kind & FORM else 1
 
 
 def add_arguments(parser: argparse.ArgumentParser) -> None:
@@ -231,7 +344,7 @@ def run(options: argparse.Namespace) -> None:
         raise ValueError(f"--port is a number from 0 to 65535, not {options.port}")
     names: list[str] = options.interfaces
     watcher, board = Watcher(names, options.address, database_of(options)), Board()
-    with opened(options.port, board, names, watcher.buses[0].address) as pages:
+    with opened(options.port, board, names, watcher.buses[0].address, watcher.database is not None) as pages:
         threading.Thread(target=pages.serve_forever, daemon=True).start()
         print(f"watching {', '.join(names)} on {pages.url}", flush=True)
         try:

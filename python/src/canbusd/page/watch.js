@@ -1,172 +1,360 @@
-// The live page: ticks and frames as they come from `python3 -m canbusd watch`, drawn as the page of a run draws them.
+// The live page: ticks and frames as they come from `python3 -m canbusd watch`, on the time line of the page of a run.
 
-const { names, source } = JSON.parse(at("run").textContent);
-const MOST = 4000, MOST_TICKS = 2400, FOLLOWED = 240;
-let ticks = [], frames = [], tec = [], rec = [], busiest = 1, isFollowing = true, total = 0;
-let byKey = new Map(), byIdentifier = new Map(), eventList = [], events, identifiers, frameList;
+const { names, source, isDecoded } = JSON.parse(at("run").textContent);
+const MOST = 4000, MOST_TICKS = 2400, FOLLOWED = 60;
+// The kinds of events, the worst first.
+const EVENTS = ["bus off", "error passive", "error warning", "error active", "restarted", "no acknowledgement",
+  "bus error"];
+const QUEUE = 5, SENT_DONE = 4;
+let ticks = [], frames = [], events = [], offs = [], held = [], busiest = 1, total = 0, isLatest = true, isPaused = false;
+let chosenAt = null, chosen = null, byKey = new Map(), byIdentifier = new Map(), lists = {}, chips, showTab, tab;
 
 // What came.
 
 function take(news) {
-  if (news.end !== undefined) {
-    at("facts").textContent = `The server has ended: ${news.end}`;
-    return true;
-  }
   if (news.start) {
-    [ticks, frames, eventList, total] = [[], [], [], 0];
+    [ticks, frames, events, offs, total] = [[], [], [], [], 0];
     byKey = new Map();
     byIdentifier = new Map();
   }
   for (const tick of news.ticks) takeTick(tick);
-  if (ticks.length > MOST_TICKS) ticks = ticks.slice(-MOST_TICKS);
   for (const frame of news.frames) takeFrame(...frame);
-  if (frames.length > MOST) {
-    for (const { key } of frames.slice(0, frames.length - MOST)) byKey.delete(key);
+  // What a reader looks back at is kept for longer.
+  const more = isLatest ? 1 : 10;
+  if (ticks.length > MOST_TICKS * more) ticks = ticks.slice(-MOST_TICKS);
+  if (frames.length > MOST * more) {
+    for (const { key } of frames.slice(0, -MOST)) byKey.delete(key);
     frames = frames.slice(-MOST);
   }
-  if (eventList.length > MOST) eventList = eventList.slice(-MOST);
-  return false;
+  if (events.length > MOST * more) events = fewer(events);
+}
+// The last ones of each kind, so that none is pushed out by another.
+function fewer(all) {
+  const numbers = new Map();
+  const kept = all.slice().reverse().filter(({ kind }) => {
+    numbers.set(kind, (numbers.get(kind) || 0) + 1);
+    return numbers.get(kind) <= MOST / EVENTS.length;
+  });
+  return kept.reverse();
 }
 // How many attempts there were since the tick before: those that were done, and the failed ones that were reported.
 function takeTick(tick) {
   const before = ticks.length ? ticks[ticks.length - 1] : tick;
-  tick.wins = names.map((_, i) => [Math.max(0, tick.ifaces[i][4] - before.ifaces[i][4]), ...tick.faults[i]]);
+  tick.wins = names.map((_, i) => [Math.max(0, tick.ifaces[i][SENT_DONE] - before.ifaces[i][SENT_DONE]), ...tick.faults[i]]);
   ticks.push(tick);
 }
-// A frame that several interfaces got is one row.
-function takeFrame(moment, text, iface, says) {
-  const key = `${moment} ${text}`, known = says ? undefined : byKey.get(key);
-  if (known && !(known.seen >> iface & 1)) {
-    known.seen |= 1 << iface;
+// The first digit of an error message frame has bit 29.
+const isError = text => /^[23].{7}#/.test(text);
+// A frame that an interface got later is the same row.
+function takeFrame(moment, text, seen, says, sender) {
+  const key = `${moment} ${text}`, known = isError(text) ? undefined : byKey.get(key);
+  if (known && !(known.seen & seen)) {
+    known.seen |= seen;
     return;
   }
-  const frame = { key, moment, text, seen: 1 << iface, says };
+  const frame = { key, moment, text, seen, says, sender };
+  if (isError(text)) {
+    frame.kind = says.includes("no acknowledgement") ? "no acknowledgement" : says.split(",")[0];
+    frame.iface = Math.log2(seen);
+    events.push(frame);
+    if (frame.kind === "bus off") offs.push(frame);
+    return;
+  }
   byKey.set(key, frame);
   frames.push(frame);
-  if (says) {
-    eventList.push(frame);
-    return;
-  }
   total++;
-  const identifier = text.split("#")[0], one = byIdentifier.get(identifier) || { identifier, number: 0, moment };
-  byIdentifier.set(identifier, { identifier, number: one.number + 1, moment, period: moment - one.moment, text });
+  const identifier = text.split("#")[0], one = byIdentifier.get(identifier) || { number: 0, moment, sender: -1 };
+  const from = sender < 0 ? one.sender : sender;
+  byIdentifier.set(identifier, { identifier, number: one.number + 1, moment, period: moment - one.moment, text, sender: from });
 }
 
-// Drawing.
+// The time line: a tick is a step, and its place is its time.
 
 function measure() {
-  const sum = numbers => numbers.reduce((all, one) => all + one, 0);
-  const most = Math.max(1, ...ticks.map(tick => sum(tick.wins.map(sum))));
-  const column = place => names.map((_, i) => new Numbers(Uint16Array.from(ticks, tick => tick.ifaces[i][place])));
-  busiest = most;
-  [tec, rec] = [column(1), column(2)];
-  axis = new Axis(Float64Array.from({ length: ticks.length + 1 }, (_, k) => k));
-  view.step = Math.max(0, ticks.length - 1);
-  if (isFollowing) {
+  const sum = numbers => numbers.reduce((all, one) => all + one, 0), first = ticks.length ? ticks[0].time : 0;
+  busiest = ticks.reduce((most, tick) => Math.max(most, ...tick.wins.map(sum)), 1);
+  const start = new Float64Array(ticks.length + 1);
+  for (let k = 1; k < ticks.length; k++) start[k] = ticks[k - 1].time - first;
+  start[ticks.length] = ticks.length ? ticks[ticks.length - 1].time - first : 1;
+  axis = new Axis(start, Math.min(1, Math.max(start[ticks.length], 0.1)));
+  // What is seen stays, also where older ticks are gone.
+  const moved = first - (measure.first ?? first);
+  measure.first = first;
+  if (isLatest) {
     view.to = axis.length;
     view.from = Math.max(0, view.to - FOLLOWED);
+  } else if (moved) {
+    view.from = Math.max(0, view.from - moved);
+    view.to = Math.max(view.from + axis.least, view.to - moved);
   }
+  view.step = chosenAt === null ? Math.max(0, ticks.length - 1) : tickAt(chosenAt);
+  const column = place => names.map((_, i) => new Numbers(Uint16Array.from(ticks, tick => tick.ifaces[i][place])));
+  const [tec, rec, queue] = [1, 2, QUEUE].map(column), queueMost = Math.max(...queue.map(one => one.most));
+  lanes.forEach((lane, i) => Object.assign(lane, { tec: tec[i], rec: rec[i], queue: queue[i], queueMost }));
 }
-function tally(first, last) {
-  const wins = names.map(() => [0, 0, 0, 0, 0]), away = names.map(() => 0);
-  for (const tick of ticks.slice(first, last)) {
-    tick.wins.forEach((kinds, i) => kinds.forEach((number, kind) => wins[i][kind] += number));
-    tick.ifaces.forEach((one, i) => away[i] += one[0] === "off" ? busiest : 0);
+function tickAt(seconds) {
+  let low = 0, high = ticks.length - 1;
+  while (low < high) {
+    const middle = low + high >> 1;
+    if (ticks[middle].time < seconds) low = middle + 1; else high = middle;
   }
-  return { wins, away, steps: busiest * (last - first) };
+  return Math.max(low, 0);
 }
-function drawAttempts() {
-  chart("attempts", names.length * ROW + 20, plot => {
-    names.forEach((name, i) => {
-      named(plot, name, i * ROW + ROW / 2);
-      rule(plot, (i + 1) * ROW - 1, theme.line);
+function strip(plot, i, top, fills) {
+  const high = STRIP - 3, first = axis.stepAt(view.from);
+  for (let tick = first; tick < Math.min(axis.from(view.to) + 1, ticks.length); tick++) {
+    const x = Math.max(placeOf(plot, axis.start[tick]), 0), to = Math.min(placeOf(plot, axis.start[tick + 1]), plot.width);
+    let y = top + STRIP - 2;
+    ticks[tick].wins[i].forEach((number, kind) => {
+      if (!number) return;
+      const share = Math.max(number / busiest * high, 1);
+      block(plot.pen, fills[KINDS[kind]], x, y -= share, Math.max(to - x - (to - x > 5 ? 1 : 0), 1), share);
     });
-    drawShares(plot, bucketsOf(plot, 3), tally, names, 0);
-    drawTicks(plot, names.length * ROW, tick => [clock(ticks[tick].time)]);
+  }
+  if (!plot.isNarrow) write(plot.pen, `${perSecond()}/s`, plot.width + 6, top + 8, theme.soft);
+}
+// What the full height of a bar is.
+function perSecond() {
+  const last = ticks[ticks.length - 1], each = ticks.length > 1 ? (last.time - ticks[0].time) / (ticks.length - 1) : 1;
+  return grouped(Math.round(busiest / each));
+}
+function ticksOf(plot) {
+  if (ticks.length < 2) return [];
+  const from = ticks[0].time + view.from, spacing = [0.1, 0.5, 1, 2, 5, 10, 15, 30, 60, 120, 300, 600];
+  const each = spacing.find(one => (view.to - view.from) / one * 90 < plot.width) || 1200, found = [];
+  for (let time = Math.ceil(from / each) * each; time <= from + view.to - view.from; time += each) {
+    const words = each < 1 ? clock(time) + (time % 1).toFixed(1).slice(1) : clock(time);
+    found.push({ place: time - ticks[0].time, words: [words] });
+  }
+  return found;
+}
+function tipWords(first, last) {
+  const lines = names.map((name, i) => {
+    const said = KIND_WORDS.slice(0, RESTART).map((word, kind) =>
+      [ticks.slice(first, last).reduce((sum, tick) => sum + (tick.wins[i][kind] || 0), 0), word]);
+    const words = said.filter(([number]) => number).map(([number, word]) => `${grouped(number)} ${word}`);
+    const [state, transmit, receive] = ticks[last - 1].ifaces[i];
+    return `${name}: ${words.join(", ") || "nothing"}; ${state}, counts ${transmit}/${receive}`;
+  });
+  return [clock(ticks[first].time), ...lines].join("\n");
+}
+function drawOverview() {
+  const canvas = at("overview"), width = canvas.parentElement.clientWidth, pen = sized(canvas, width, 24);
+  const fills = fillsOf(pen);
+  block(pen, theme.panel, 0, 0, width, 24);
+  ticks.forEach((tick, k) => {
+    const x = axis.start[k] / axis.length * width, wide = Math.max((axis.start[k + 1] - axis.start[k]) / axis.length * width, 2);
+    if (tick.ifaces.some(([state]) => state === "off")) block(pen, fills.off, x, 0, wide, 24);
+    const failed = tick.wins.reduce((sum, [, ...kinds]) => sum + kinds.reduce((a, b) => a + b, 0), 0);
+    const high = Math.min(failed / busiest, 1) * 20;
+    if (failed) block(pen, theme.destroyed, x, 24 - Math.max(high, 3), wide, Math.max(high, 3));
   });
 }
+
+// Words and lists.
+
 const clock = seconds => new Date(seconds * 1000).toTimeString().slice(0, 8);
 const momentWords = seconds => clock(seconds) + (seconds % 1).toFixed(6).slice(1);
-const seenBy = frame => names.filter((_, i) => frame.seen >> i & 1).join(", ");
+const seenBy = frame => names.filter((_, i) => frame.seen >> i & 1 && i !== frame.sender).join(", ");
+const senderOf = one => one.sender >= 0 ? names[one.sender] : "";
+const isBad = kind => kind === "bus off";
 
-function show() {
-  measure();
-  if (ticks.length) drawAttempts();
-  const shown = names.map((_, i) => i).filter(i => tec[i].most || rec[i].most);
-  drawCounts("counters", names, tec, rec, shown);
-  const quiet = names.filter((_, i) => !shown.includes(i));
-  at("quiet").textContent = quiet.length ? `${quiet.join(", ")}: both counts are 0.` : "";
-  at("follow").setAttribute("aria-pressed", isFollowing);
-  showIfaces();
-  const text = at("of-frame").value.trim().toUpperCase();
-  keep(events, eventList.slice().reverse());
-  keep(identifiers, [...byIdentifier.values()].sort((one, other) => one.identifier < other.identifier ? -1 : 1));
-  keep(frameList, frames.filter(frame => frame.text.startsWith(text)).reverse());
+function makeLists() {
+  const chooseFrame = frame => { chosen = frame; chooseAt(frame.moment); };
+  const make = (id, columns, cellsOf) => {
+    const list = new Rolling(id, columns, cellsOf, chooseFrame);
+    list.isChosen = one => one === chosen;
+    return list;
+  };
+  lists["tab-frames"] = make("frames", [["moment", "15ch", "n"], ["sender", "minmax(0, 1fr)", "h"],
+    ["frame", "minmax(0, 2fr)"], ["received by", "minmax(0, 2fr)", "h w"], ...isDecoded ? [["says", "minmax(0, 3fr)", "w"]] : []],
+    frame => [momentWords(frame.moment), senderOf(frame), frame.text, seenBy(frame), ...isDecoded ? [frame.says] : []]);
+  lists["tab-events"] = make("events", [["moment", "15ch", "n"], ["node", "minmax(0, 12ch)"], ["kind", "18ch"],
+    ["what", "minmax(0, 1fr)", "w"]], frame => [momentWords(frame.moment), names[frame.iface],
+    isBad(frame.kind) ? element("span", frame.kind, { className: "bad" }) : frame.kind, frame.says]);
+  lists["tab-identifiers"] = make("identifiers", [["identifier", "10ch", "n"], ["sender", "minmax(0, 1fr)", "h"],
+    ["frames", "9ch", "n h"], ["ms since the one before", "22ch", "n h"], ["last", "minmax(0, 2fr)"], ["moment", "15ch", "n"]],
+    one => [one.identifier, senderOf(one), grouped(one.number), (one.period * 1000).toFixed(3), one.text, momentWords(one.moment)]);
+  chips = new Chips("kinds", () => showLists());
 }
-// A list that grows stays where the reader has scrolled it.
-function keep(table, list) {
-  table.list = list;
-  table.box.classList.toggle("few", list.length < 7);
-  table.show();
+function found() {
+  const text = at("of-frame").value.trim().toUpperCase().replace(/^0X/, ""), node = at("of-node").value;
+  const fits = one => (text.includes("#") ? one : one.split("#")[0]).startsWith(text);
+  if (tab === "tab-identifiers") {
+    return [...byIdentifier.values()].filter(one => fits(one.text)).sort((one, other) => one.identifier < other.identifier ? -1 : 1);
+  }
+  if (tab === "tab-frames") return frames.filter(one => fits(one.text) && (node === "" || one.sender === Number(node)));
+  const seen = events.filter(one => node === "" || one.iface === Number(node));
+  chips.set(new Map(EVENTS.map(kind => [kind, seen.reduce((sum, one) => sum + (one.kind === kind), 0)])
+    .filter(([kind, number]) => number || chips.made.has(kind))));
+  return seen.filter(one => chips.has(one.kind));
+}
+// A list stays at its end while the latest are wanted, else with what is at its top.
+function showLists() {
+  const list = lists[tab], isLog = tab !== "tab-identifiers", top = list.list[Math.round(list.box.scrollTop / list.step)];
+  const all = found(), of = { "tab-frames": frames, "tab-events": events, "tab-identifiers": [...byIdentifier] }[tab].length;
+  list.set(all);
+  at("found").textContent = `${grouped(all.length)} of ${grouped(of)}`;
+  if (!isLog) return;
+  const place = isLatest ? all.length : all.indexOf(top);
+  if (isLatest || place > 0) list.box.scrollTop = place * list.step;
+  list.show();
+}
+function showList(name) {
+  tab = name;
+  for (const label of document.querySelectorAll("#filters [data-for]")) {
+    label.hidden = !label.dataset.for.split(" ").some(one => name === "tab-" + one);
+  }
+  showLists();
 }
 function showIfaces() {
   const heads = ["node", "state", "transmit count", "receive count", "sent", "done", "waiting", "lost", "refused"];
   const now = ticks.length ? ticks[ticks.length - 1].ifaces : [];
-  at("ifaces").replaceChildren(tableRow("th", heads), ...now.map(([state, ...counts], i) => tableRow("td",
-    [names[i], state === "active" ? state : bad(state), ...counts.slice(0, 5), ...counts.slice(5).map(counted)])));
+  at("ifaces").replaceChildren(...rowsOf(heads, now.map(([state, ...counts], i) => [names[i],
+    element("td", stateWords(state), { className: state === "active" ? "" : "bad" }),
+    ...counts.slice(0, 5), ...counts.slice(5).map(loss)])));
+}
+function showMoment() {
+  const made = [];
+  if (chosenAt !== null && ticks.length) {
+    made.push(element("h2", `Chosen: ${momentWords(chosenAt)}`), ...tipWords(view.step, view.step + 1).split("\n").slice(1)
+      .map(line => element("p", line)));
+  }
+  if (chosen?.text) {
+    const from = chosen.kind ? `, of ${names[chosen.iface]}` : senderOf(chosen) && `, sent by ${senderOf(chosen)}`;
+    made.push(element("p", [element("code", chosen.text), from]), chosen.says ? element("p", chosen.says) : "");
+  }
+  at("moment").replaceChildren(...made);
 }
 function sayNow() {
   const recent = ticks.slice(-5), last = recent[recent.length - 1];
   if (!last) return;
   const sent = recent.slice(1).reduce((sum, tick) => sum + tick.wins.reduce((all, one) => all + one[0], 0), 0);
   const rate = recent.length > 1 ? sent / (last.time - recent[0].time) : 0;
-  const off = names.filter((_, i) => last.ifaces[i][0] === "off");
-  at("facts").textContent =
-    `${source}: ${grouped(Math.round(rate))} frames a second, ${grouped(total)} received so far.`
+  at("facts").textContent = `${source}: ${grouped(Math.round(rate))} frames a second, ${grouped(total)} received so far.`
     + (last.missed ? ` ${grouped(last.missed)} missed: they came too fast for \`canbusd watch\`.` : "")
-    + (off.length ? ` Bus off: ${off.join(", ")}.` : "");
+    + (isPaused ? ` Paused at ${clock(last.time)}.` : "");
+  sayOffs(last);
 }
-function tipWords(first, last) {
-  const sum = tally(first, last), whole = KIND_WORDS.slice(0, RESTART);
-  const lines = names.map((name, i) => `${name}: ${whole.map((word, kind) => [sum.wins[i][kind], word])
-    .filter(([number]) => number).map(([number, word]) => `${number} ${word}`).join(", ") || "nothing"}; `
-    + `counts ${tec[i].all[last - 1]}/${rec[i].all[last - 1]}`);
-  return [clock(ticks[first].time), ...lines].join("\n");
+// Which nodes are bus off, and the last times that any went; whatever else happens they stay here.
+function sayOffs(last) {
+  const off = names.filter((_, i) => last.ifaces[i][0] === "off"), shown = offs.slice(-3).reverse();
+  at("offs").hidden = !off.length && !offs.length;
+  const more = offs.length > 3 ? ` and ${grouped(offs.length - 3)} before` : "";
+  const buttons = shown.map(one => element("button", `${names[one.iface]} ${momentWords(one.moment)}`, {
+    type: "button", title: "choose this moment", onclick: () => { chosen = one; chooseAt(one.moment); showTab("tab-events"); },
+  }));
+  at("offs").replaceChildren(off.length ? `Bus off now: ${off.join(", ")}. ` : "No node is bus off now. ",
+    shown.length ? "Went bus off: " : "", ...buttons, more);
 }
 
+// What the reader does.
+
+function show() {
+  measure();
+  drawOverview();
+  drawTime();
+  placeCursor();
+  at("cursor").hidden ||= chosenAt === null;
+  buildGutterOnce();
+  sayValues();
+  showLists();
+  showIfaces();
+  showMoment();
+  at("latest").setAttribute("aria-pressed", isLatest);
+  at("pause").setAttribute("aria-pressed", isPaused);
+}
+// Nodes where something began to happen are unfolded.
+function buildGutterOnce() {
+  const changed = lanes.filter(lane => lane.isQuiet && (lane.tec.most || lane.rec.most || lane.queue.most > 1));
+  for (const lane of changed) lane.isQuiet = lane.isFolded = false;
+  if (changed.length) { buildGutter(); redraw(); }
+}
+function chooseAt(seconds) {
+  chosenAt = seconds;
+  isLatest = false;
+  const place = seconds - ticks[0].time, span = view.to - view.from;
+  if (place < view.from || place > view.to) look(place - span / 2, place + span / 2);
+  redraw();
+}
+// A click on the time line chooses a tick, and the lists go there.
+function chooseTick(first, last) {
+  chosen = null;
+  chooseAt(ticks[last - 1].time);
+  const list = lists[tab], place = list.list.findIndex(one => one.moment >= axis.start[last - 1] + ticks[0].time);
+  if (place >= 0 && tab !== "tab-identifiers") list.box.scrollTop = Math.max(0, place - 2) * list.step;
+}
+function pause() {
+  isPaused = !isPaused;
+  if (!isPaused) for (const news of held.splice(0)) take(news);
+  sayNow();
+  redraw();
+}
+function setLatest(isOn) {
+  isLatest = isOn;
+  if (isOn) chosenAt = chosen = null;
+  redraw();
+}
+function move(by) {
+  isLatest = false;
+  const span = (view.to - view.from) * by;
+  look(view.from + span, view.to + span);
+}
 const KEYS = {
-  "+": () => zoom(0.5, view.to), "=": () => zoom(0.5, view.to), "-": () => zoom(2, view.to),
-  0: () => { isFollowing = false; look(0, axis.length); }, " ": () => { isFollowing = !isFollowing; redraw(); },
+  " ": pause, l: () => setLatest(!isLatest), ArrowLeft: () => move(-0.25), ArrowRight: () => move(0.25),
+  "+": () => { isLatest = false; zoom(0.5, view.to); }, "=": () => { isLatest = false; zoom(0.5, view.to); },
+  "-": () => { isLatest = false; zoom(2, view.to); }, 0: () => { isLatest = false; look(0, axis.length); },
+  "/": () => { if (at("of-frame").parentElement.hidden) showTab("tab-frames"); at("of-frame").focus(); },
 };
 function listen() {
-  for (const id of ["attempts", "counters"]) {
-    listenTo(id, tipWords, () => {});
-    for (const kind of ["pointerdown", "wheel"]) {
-      at(id).addEventListener(kind, event => { if (kind !== "wheel" || event.ctrlKey) isFollowing = false; });
-    }
+  for (const id of ["of-frame", "of-node"]) at(id).addEventListener("input", redraw);
+  Object.assign(time, { ticks: ticksOf, words: tipWords, choose: chooseTick, axisWords: ["time of day"] });
+  for (const id of ["lanes", "ruler", "overview"]) {
+    at(id).addEventListener("pointerdown", () => { isLatest = false; });
+    at(id).addEventListener("wheel", event => { if (event.ctrlKey) isLatest = false; });
   }
-  at("of-frame").addEventListener("input", redraw);
+  for (const list of Object.values(lists)) list.box.addEventListener("wheel", event => { if (event.deltaY < 0) isLatest = false; });
+  listenToTime();
   listenToKeys(KEYS);
+}
+const LEGEND = [["done", "done", "the frame was sent"],
+  ["lastbit", "last bit", "the sender saw a fault in the last bit: receivers have the frame, and it is sent again"],
+  ["destroyed", "destroyed", "an error frame destroyed it: it is sent again"],
+  ["noack", "no acknowledgement", "nobody acknowledged it: it is sent again"],
+  ["warning", "error warning", "a count of 96 or more"], ["passive", "error passive", "a count of 128 or more"],
+  ["off", "bus off", "a transmit count of 256 or more"]];
+
+function listenToNews() {
+  const news = new EventSource("/news");
+  news.onmessage = event => {
+    const said = JSON.parse(event.data);
+    if (said.end !== undefined) {
+      at("facts").textContent = `The server has ended: ${said.end}`;
+      news.close();
+    } else if (isPaused) held.push(said);
+    else {
+      take(said);
+      sayNow();
+      redraw();
+    }
+    document.body.dataset.drawn = ticks.length;
+  };
+  news.onerror = () => { at("facts").textContent = "`canbusd watch` has ended, or can't be reached."; };
 }
 function begin() {
   document.title = `${names.join(", ")}: canbusd`;
   at("title").textContent = `Live: ${names.join(", ")}`;
-  showLegend("legend", [...KINDS.slice(0, RESTART).map((kind, k) => [kind, KIND_WORDS[k]]), ["off", "bus off"]]);
-  const moment = frame => momentWords(frame.moment);
-  events = new Rolling("events", ["moment", "node", "what"], frame => [moment(frame), seenBy(frame), frame.says]);
-  identifiers = new Rolling("identifiers", ["identifier", "frames", "ms since the one before", "last", "moment"],
-    one => [one.identifier, one.number, (one.period * 1000).toFixed(3), one.text, momentWords(one.moment)]);
-  frameList = new Rolling("frames", ["moment", "received by", "frame", "says"],
-    frame => [moment(frame), seenBy(frame), frame.text, frame.says]);
+  legend("legend", LEGEND);
+  at("of-node").append(...[["all", ""], ...names.map((name, i) => [name, i])].map(([text, value]) => element("option", text, { value })));
+  const none = new Numbers(new Uint16Array(0));
+  lanes = names.map((name, i) => new NodeLane(i, name, { tec: none, rec: none, queue: none, queueMost: 0 }, strip));
+  makeLists();
   listen();
-  keepDrawn(show);
-  const news = new EventSource("/news");
-  news.onmessage = event => {
-    if (take(JSON.parse(event.data))) news.close();
-    else sayNow();
-    document.body.dataset.drawn = ticks.length;
-    redraw();
-  };
-  news.onerror = () => { at("facts").textContent = "`canbusd watch` has ended, or can't be reached."; };
+  readTheme();
+  buildGutter();
+  showTab = makeTabs("tabs", showList);
+  showTab("tab-frames");
+  keepDrawn(show, () => {});
+  listenToNews();
 }
 begin();

@@ -1,0 +1,231 @@
+/* What the files of the bridge share. A bridge is one process for one CAN socket: at descriptor 3 it has the other end
+ * of the program's pair, and it has a session of the server for each interface that the socket is bound to. It ends
+ * when the last copy of the socket is closed, or the server is gone and all has been handed over. */
+#ifndef BRIDGE_H
+#define BRIDGE_H
+
+#include "../shared/wire.h"
+
+#include <linux/can.h>
+#include <net/if.h>
+#include <stdbool.h>
+#include <stddef.h>
+#include <stdint.h>
+
+/* The bridge's end of the pair. */
+#define PROGRAM 3
+/* The interfaces that a server may have: 16 buses of 16. */
+#define MOST_SESSIONS 256
+/* Seconds that a server is given for a reply. */
+#define PATIENCE 5
+#define SECOND 1000000000ull
+#define MIN(a, b) ((a) < (b) ? (a) : (b))
+
+/* A frame, as it comes and goes: of 16 bytes or, an FD frame, of 72. */
+struct item {
+    struct canfd_frame frame;
+    bool is_fd;
+    uint64_t moment; /* nanoseconds since 1970 */
+};
+
+/* ---- main.c ---- */
+
+/* The protocol of the socket. */
+extern enum wire_protocol protocol;
+
+/* Hands what a session has received to the protocol. */
+void item_received(const struct item *item, int index);
+
+/* Keeps the text of a refusal for the program's debugging, and returns the error. */
+int refused(int error, const char *why);
+extern const char *refusal;
+
+/* ---- messages.c: frames as texts of the server's raw mode ---- */
+
+/* The longest command for a frame. */
+#define COMMAND 320
+
+/* Writes the command that sends a frame. */
+void message_of_frame(char text[COMMAND], const struct canfd_frame *frame, bool is_fd);
+
+/* Reads the text of a message, without < and >, that hands over a frame; false where it is another. */
+bool message_to_item(const char *text, struct item *item);
+
+/* ---- session.c: a session of the server, on one interface ---- */
+
+/* The options and filters of a socket. */
+struct options {
+    int loopback, receive_own, fd_frames, join;
+    uint32_t errors;
+    unsigned filters; /* which list: 0 for the first, which passes all; NO_FILTERS; else a number of its own */
+};
+#define NO_FILTERS UINT32_MAX
+
+struct session {
+    int fd;    /* -1: it has come to its end */
+    int index; /* of its interface, 0 before it has one */
+    char name[IFNAMSIZ];
+    bool is_receiving;    /* for what the socket is bound to, and not only to send */
+    bool is_counting;     /* a reply to session_ask_counts is due */
+    unsigned due;         /* echoes that have not come yet */
+    uint32_t dropped;     /* by the server, as far as is known */
+    struct options given; /* what the server has */
+    char reply[64];       /* the first reply to the last command that is not ok */
+    size_t have;
+    char input[32768];
+};
+
+/* Connects to the server; NULL and the refusal where there is none. */
+struct session *session_start(int *error);
+void session_end(struct session *session);
+
+/* Gives commands, and waits until they are done. Returns 0, or the errno of the first refusal. `reply` has what the
+ * server said first that is not ok. */
+int session_command(struct session *session, const char *text);
+
+/* Sends a frame, and returns the server's verdict. What acknowledges a frame is here and nowhere else. */
+int session_send(struct session *session, const struct canfd_frame *frame, bool is_fd);
+
+/* Takes the interface of this name. ENODEV where there is none; then the session can take another. */
+int session_open(struct session *session, const char *name);
+
+/* Asks for the counts, which come in the order of the frames; nothing waits for them. */
+void session_ask_counts(struct session *session);
+
+/* Waits until a frame has left the transmit queue. Returns 0, or an errno where nobody waits any more. */
+int session_wait_for_room(struct session *session, bool is_unasked);
+
+/* Reads what there is, handles it, and hands it on. False where it waited, and nothing came in PATIENCE. */
+bool session_read(struct session *session, bool waits);
+
+/* ---- sessions.c: the sessions of this socket ---- */
+
+extern struct session *sessions[MOST_SESSIONS];
+extern int session_count;
+extern bool is_bound;
+extern int bound_index; /* 0: to all */
+
+/* Binds the socket to the interface of this index, and name where it is known; to all for index 0. */
+int sessions_bind(int index, const char *name);
+
+/* Returns the session that sends on this interface, which is started if need be; NULL and the refusal where there is
+ * none. */
+struct session *sessions_for(int index);
+
+/* Gives all sessions the options that there are now. */
+int sessions_apply(void);
+
+/* Whether one of them has come to its end. */
+bool sessions_ended(void);
+
+/* Whether the server has an interface of this name, which is kept open for a bind that follows. */
+int sessions_look_up(const char *name);
+
+/* The name of the interface of this index; false where it is not known. */
+bool sessions_name(int index, char name[IFNAMSIZ]);
+
+/* Writes the names of all interfaces, joined by commas; returns their length. */
+uint32_t sessions_list(char *room, size_t size);
+
+/* ---- wait.c: waiting ---- */
+
+/* Nanoseconds of a clock that only goes forward. */
+uint64_t clock_now(void);
+
+/* Waits for the sessions, or the program where it may ask for something, so many nanoseconds or without end (-1); what
+ * the sessions bring is handled. Returns whether the program asks for something, or has closed its socket. */
+bool wait_for_input(int64_t nanoseconds, bool takes_requests);
+
+/* Waits until this session can be read or written, or until this moment of the clock; false where it has passed. */
+bool wait_for_session(const struct session *session, uint64_t until);
+
+/* Whether the last copy of the socket has been closed. */
+bool program_is_gone(void);
+
+/* ---- outbox.c: what is on its way to the program ---- */
+
+/* Puts a message behind the others. Where there is no room it is lost, and counted. */
+void outbox_put(const void *data, size_t length, uint64_t moment, int index, uint32_t message_flags);
+
+/* The same for an errno, which a read returns. */
+void outbox_put_error(int error);
+
+/* Hands over what the program's socket has room for. */
+void outbox_flush(void);
+bool outbox_is_empty(void);
+
+/* An option of SOL_SOCKET that the program has set. */
+void outbox_set(int option, int number);
+
+/* The server's count of what it lost of a session. */
+void outbox_server_dropped(struct session *session, uint32_t dropped);
+
+/* Asks the server for its counts where the program wants to know of lost frames and it is time; returns how many
+ * nanoseconds there are until then, or -1. */
+int64_t outbox_counts_due(void);
+
+/* ---- raw.c: CAN_RAW, and the options of the other protocols' sessions ---- */
+
+int raw_set(int option, const void *value, size_t length);
+int raw_get(int option, void *room, uint32_t *length);
+
+/* Sends the frame that a program has written; `is_unasked`: by a write that waits for no verdict. */
+int raw_write(int index, const void *data, size_t length, bool is_unasked);
+
+/* Sends a frame by this session; where `is_waiting` it waits for room. */
+int raw_send(struct session *to, const struct canfd_frame *frame, bool is_fd, bool is_waiting, bool is_unasked);
+
+void raw_receive(const struct item *item, int index);
+
+/* Writes the commands that change what the session has into what the socket has, and notes it as given. */
+void raw_setup(struct session *session, char *text, size_t size);
+
+/* For a protocol that is not CAN_RAW: its sessions receive what passes one of these filters. */
+int raw_want(const struct can_filter *filters, size_t count);
+
+void raw_want_fd(bool has_fd);
+void raw_want_own(void);
+
+/* ---- own.c: which received frames this socket has sent ---- */
+
+/* A frame is about to be sent; the one that was last is refused. */
+void own_sent(const struct canfd_frame *frame, bool is_fd);
+void own_refused(void);
+
+/* The flags of recvmsg for a received frame, where this socket receives its own. */
+uint32_t own_flags(const struct item *item);
+
+/* ---- bcm.c: CAN_BCM ---- */
+
+/* Carries out what a program writes; `taken` is what its write returns. */
+int bcm_write(int index, const char *data, size_t length, int *taken);
+void bcm_receive(const struct item *item, int index);
+/* Does what is due; returns how many nanoseconds there are until the next is, or -1. */
+int64_t bcm_due(void);
+
+/* ---- isotp.c: CAN_ISOTP ---- */
+
+int isotp_bind(int index, const char *name, canid_t rx_id, canid_t tx_id);
+int isotp_set(int option, const void *value, size_t length);
+int isotp_get(int option, void *room, uint32_t *length);
+void isotp_address(uint32_t identifiers[2]);
+
+/* Sends a message. Returns ISOTP_LATER where the reply is given later, by this pipe; else an errno, or 0. */
+#define ISOTP_LATER (-1)
+int isotp_write(const char *data, size_t length, bool is_nonblocking, int reply_to);
+void isotp_receive(const struct item *item);
+/* Does what is due; returns how many nanoseconds there are until the next is, or -1. */
+int64_t isotp_due(void);
+bool isotp_takes_requests(void);
+/* A message that was accepted is sent to its end, also where the socket has been closed. */
+bool isotp_is_busy(void);
+
+/* ---- requests.c: what the program asks for ---- */
+
+/* Gives the reply to a request whose error, or value, is this. */
+void request_reply(int to, int error, int value);
+
+/* Carries out one request. Returns false where the last copy of the socket is closed. */
+bool request_serve(void);
+
+#endif

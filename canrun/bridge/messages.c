@@ -1,0 +1,138 @@
+/* Frames as texts of the server's raw mode, both ways: docs of the messages are in canbusd.1. */
+#include "bridge.h"
+
+#include <string.h>
+
+static const char DIGITS[] = "0123456789ABCDEF";
+/* The lengths that an FD frame may have past 8 (ISO 11898-1). */
+static const uint8_t FD_LENGTHS[] = {12, 16, 20, 24, 32, 48, 64};
+
+/* The least length of an FD frame that has room for so many bytes. */
+static unsigned fd_length(unsigned length) {
+    unsigned at = 0;
+    if (length <= CAN_MAX_DLEN) {
+        return length;
+    }
+    while (FD_LENGTHS[at] < length) {
+        at++;
+    }
+    return FD_LENGTHS[at];
+}
+
+static char *put_text(char *at, const char *text) {
+    size_t length = strlen(text);
+    memcpy(at, text, length);
+    return at + length;
+}
+
+static char *put_hex(char *at, uint32_t number, int digits) {
+    for (int i = digits - 1; i >= 0; i--) {
+        *at++ = DIGITS[number >> (4 * i) & 15];
+    }
+    return at;
+}
+
+static char *put_decimal(char *at, unsigned number) {
+    if (number >= 10) {
+        *at++ = DIGITS[number / 10];
+    }
+    *at++ = DIGITS[number % 10];
+    return at;
+}
+
+void message_of_frame(char text[COMMAND], const struct canfd_frame *frame, bool is_fd) {
+    bool is_long = frame->can_id & CAN_EFF_FLAG, is_remote = !is_fd && frame->can_id & CAN_RTR_FLAG;
+    unsigned length = is_fd ? fd_length(frame->len) : frame->len;
+    char *at = put_text(text, is_remote ? "< sendrtr " : is_fd ? "< sendfd " : "< send ");
+    at = put_hex(at, frame->can_id & (is_long ? CAN_EFF_MASK : CAN_SFF_MASK), is_long ? 8 : 3);
+    *at++ = ' ';
+    at = put_decimal(at, length);
+    for (unsigned i = 0; !is_remote && i < length; i++) {
+        *at++ = ' ';
+        at = put_hex(at, i < frame->len ? frame->data[i] : 0, 2);
+    }
+    at = put_text(at, " >");
+    *at = 0;
+}
+
+/* The value of a hexadecimal digit, or -1. */
+static int digit(char one) {
+    return one >= '0' && one <= '9'   ? one - '0'
+           : one >= 'A' && one <= 'F' ? one - 'A' + 10
+           : one >= 'a' && one <= 'f' ? one - 'a' + 10
+                                      : -1;
+}
+
+/* Reads hexadecimal digits and the space behind them; returns how many digits there were. */
+static int get_hex(const char **at, uint32_t *number) {
+    int count = 0;
+    for (*number = 0; digit(**at) >= 0 && count < 8; count++, (*at)++) {
+        *number = *number << 4 | (uint32_t)digit(**at);
+    }
+    *at += **at == ' ';
+    return count;
+}
+
+static bool get_decimal(const char **at, uint64_t *number) {
+    const char *from = *at;
+    for (*number = 0; **at >= '0' && **at <= '9' && *at - from < 12; (*at)++) {
+        *number = *number * 10 + (uint64_t)(**at - '0');
+    }
+    return *at != from;
+}
+
+/* SECONDS.MICROS. */
+static bool get_moment(const char **at, uint64_t *nanoseconds) {
+    uint64_t seconds, micros;
+    if (!get_decimal(at, &seconds) || **at != '.') {
+        return false;
+    }
+    (*at)++;
+    if (!get_decimal(at, &micros)) {
+        return false;
+    }
+    *at += **at == ' ';
+    *nanoseconds = seconds * SECOND + micros * 1000;
+    return true;
+}
+
+static void get_data(const char *at, struct canfd_frame *frame) {
+    while (frame->len < CANFD_MAX_DLEN && digit(at[0]) >= 0 && digit(at[1]) >= 0) {
+        frame->data[frame->len++] = (uint8_t)(digit(at[0]) << 4 | digit(at[1]));
+        at += 2;
+    }
+}
+
+bool message_to_item(const char *text, struct item *item) {
+    static const struct {
+        const char *word;
+        bool is_fd;
+        uint32_t flag;
+    } kinds[] = {
+        {"frame ", false, 0}, {"remote ", false, CAN_RTR_FLAG}, {"fdframe ", true, 0}, {"error ", false, CAN_ERR_FLAG}};
+    for (size_t i = 0; i < sizeof kinds / sizeof *kinds; i++) {
+        size_t length = strlen(kinds[i].word);
+        if (strncmp(text, kinds[i].word, length) != 0) {
+            continue;
+        }
+        const char *at = text + length;
+        uint32_t identifier;
+        uint64_t remote_length = 0;
+        *item = (struct item){.is_fd = kinds[i].is_fd};
+        int digits = get_hex(&at, &identifier);
+        /* A refusal, such as `error bad id`, has no moment. */
+        if (!digits || !get_moment(&at, &item->moment)) {
+            return false;
+        }
+        bool is_long = digits == 8 && kinds[i].flag != CAN_ERR_FLAG;
+        item->frame.can_id = identifier | kinds[i].flag | (is_long ? CAN_EFF_FLAG : 0);
+        if (kinds[i].flag == CAN_RTR_FLAG) {
+            get_decimal(&at, &remote_length);
+            item->frame.len = (uint8_t)MIN(remote_length, (uint64_t)CAN_MAX_DLEN);
+        } else {
+            get_data(at, &item->frame);
+        }
+        return true;
+    }
+    return false;
+}

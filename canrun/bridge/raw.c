@@ -1,0 +1,232 @@
+/* CAN_RAW: options, filters, and frames both ways. The server has the options too and does the filtering, but for
+ * filters that are too many for one of its messages. */
+#define _GNU_SOURCE
+#include "bridge.h"
+
+#include <errno.h>
+#include <linux/can/error.h>
+#include <linux/can/raw.h>
+#include <stdio.h>
+#include <stdlib.h>
+#include <string.h>
+
+/* The most characters of filters in a message, which has 1024 with its command. */
+#define FILTER_TEXT 1000
+
+static struct options options = {.loopback = 1};
+static struct can_filter all_pass[1];
+static struct can_filter *filters = all_pass;
+static size_t filter_count = 1;
+static unsigned filter_lists;
+static bool filters_here; /* they are too many for the server */
+
+/* ---- options ---- */
+
+/* A filter whose mask has CAN_ERR_FLAG asks for error message frames, as in the kernel. */
+static bool is_of_errors(const struct can_filter *filter) {
+    return filter->can_mask & CAN_ERR_FLAG;
+}
+
+static uint32_t error_classes(void) {
+    uint32_t classes = options.errors;
+    for (size_t i = 0; i < filter_count; i++) {
+        classes |= is_of_errors(&filters[i]) ? filters[i].can_mask & CAN_ERR_MASK : 0;
+    }
+    return classes;
+}
+
+/* Writes the filters of frames; returns how many there are, or -1 where they have no room. */
+static int filter_words(char words[FILTER_TEXT + 20]) {
+    size_t length = 0;
+    int count = 0;
+    words[0] = 0;
+    for (size_t i = 0; i < filter_count; i++) {
+        if (is_of_errors(&filters[i])) {
+            continue;
+        }
+        length += (size_t)sprintf(words + length, " %X %X", filters[i].can_id, filters[i].can_mask);
+        if (length > FILTER_TEXT) {
+            return -1;
+        }
+        count++;
+    }
+    return count;
+}
+
+static size_t filter_command(char *text, size_t size, bool is_none) {
+    char words[FILTER_TEXT + 20];
+    int count = is_none ? 0 : filter_words(words);
+    filters_here = count < 0;
+    return (size_t)snprintf(text, size, "< filter %d%s >", filters_here ? 1 : count,
+                            filters_here ? " 0 0"
+                            : is_none    ? ""
+                                         : words);
+}
+
+void raw_setup(struct session *session, char *text, size_t size) {
+    struct options wanted = options, *given = &session->given;
+    if (session->is_receiving) {
+        wanted.errors = error_classes();
+    } else {
+        wanted.errors = 0;
+        wanted.receive_own = 0;
+        wanted.filters = NO_FILTERS;
+    }
+    size_t length = 0;
+    text[0] = 0;
+    if (wanted.filters != given->filters) {
+        length += filter_command(text, size, wanted.filters == NO_FILTERS);
+    }
+    wanted.join = wanted.join && !filters_here;
+    const struct {
+        const char *command;
+        uint32_t wanted, given;
+    } all[] = {{"loopback", (uint32_t)wanted.loopback, (uint32_t)given->loopback},
+               {"recvown", (uint32_t)wanted.receive_own, (uint32_t)given->receive_own},
+               {"fdframes", (uint32_t)wanted.fd_frames, (uint32_t)given->fd_frames},
+               {"join", (uint32_t)wanted.join, (uint32_t)given->join},
+               {"errmask", wanted.errors, given->errors}};
+    for (size_t i = 0; i < sizeof all / sizeof *all; i++) {
+        if (all[i].wanted != all[i].given) {
+            length += (size_t)snprintf(text + length, size - length, "< %s %X >", all[i].command, all[i].wanted);
+        }
+    }
+    *given = wanted;
+}
+
+/* Where an option of one number is kept; NULL for others. */
+static void *place_of(int option) {
+    switch (option) {
+    case CAN_RAW_LOOPBACK: return &options.loopback;
+    case CAN_RAW_RECV_OWN_MSGS: return &options.receive_own;
+    case CAN_RAW_FD_FRAMES: return &options.fd_frames;
+    case CAN_RAW_JOIN_FILTERS: return &options.join;
+    case CAN_RAW_ERR_FILTER: return &options.errors;
+    default: return NULL;
+    }
+}
+
+static int set_filters(const void *value, size_t length) {
+    if (length % sizeof *filters || length > CAN_RAW_FILTER_MAX * sizeof *filters) {
+        return refused(EINVAL, "these are no filters, or more than 512");
+    }
+    struct can_filter *fresh = malloc(length + 1);
+    if (!fresh) {
+        return refused(ENOMEM, "no memory for filters");
+    }
+    if (length) {
+        memcpy(fresh, value, length);
+    }
+    if (filters != all_pass) {
+        free(filters);
+    }
+    filters = fresh;
+    filter_count = length / sizeof *filters;
+    options.filters = ++filter_lists;
+    return 0;
+}
+
+int raw_set(int option, const void *value, size_t length) {
+    uint32_t number;
+    if (option == CAN_RAW_FILTER) {
+        int error = set_filters(value, length);
+        return error ? error : sessions_apply();
+    }
+    void *place = place_of(option);
+    if (!place) {
+        return refused(ENOPROTOOPT, "linux/can/raw.h has no such option, or canbusd has it not");
+    }
+    if (length != sizeof number) {
+        return refused(EINVAL, "the value has the wrong length");
+    }
+    memcpy(&number, value, sizeof number);
+    number = option == CAN_RAW_ERR_FILTER ? number & CAN_ERR_MASK : number != 0;
+    memcpy(place, &number, sizeof number);
+    return sessions_apply();
+}
+
+int raw_get(int option, void *room, uint32_t *length) {
+    const void *place = option == CAN_RAW_FILTER ? filters : place_of(option);
+    if (!place) {
+        return refused(ENOPROTOOPT, "linux/can/raw.h has no such option, or canbusd has it not");
+    }
+    *length = option == CAN_RAW_FILTER ? (uint32_t)(filter_count * sizeof *filters) : (uint32_t)sizeof(uint32_t);
+    memcpy(room, place, *length);
+    return 0;
+}
+
+int raw_want(const struct can_filter *wanted, size_t count) {
+    int error = set_filters(wanted, count * sizeof *wanted);
+    return error ? error : sessions_apply();
+}
+
+void raw_want_fd(bool has_fd) {
+    options.fd_frames = has_fd;
+}
+
+void raw_want_own(void) {
+    options.receive_own = 1;
+}
+
+/* ---- frames ---- */
+
+int raw_send(struct session *to, const struct canfd_frame *frame, bool is_fd, bool is_waiting, bool is_unasked) {
+    if (frame->len > (is_fd ? CANFD_MAX_DLEN : CAN_MAX_DLEN)) {
+        return refused(EINVAL, "the frame is too long");
+    }
+    if (frame->can_id & CAN_ERR_FLAG) {
+        return refused(EINVAL, "error message frames can't be sent");
+    }
+    for (;;) {
+        if (options.receive_own) {
+            own_sent(frame, is_fd); /* It may come back before the verdict does. */
+        }
+        int error = session_send(to, frame, is_fd);
+        if (error && options.receive_own) {
+            own_refused();
+        }
+        if (error != ENOBUFS || !is_waiting) {
+            return error;
+        }
+        error = session_wait_for_room(to, is_unasked);
+        if (error) {
+            return error;
+        }
+    }
+}
+
+int raw_write(int index, const void *data, size_t length, bool is_unasked) {
+    struct canfd_frame frame = {0};
+    bool is_fd = length == CANFD_MTU, is_waiting = is_unasked || getenv("CANBUSD_RUN_WAIT");
+    struct session *to = sessions_for(index == WIRE_BOUND ? bound_index : index);
+    if (!to) {
+        return ENXIO;
+    }
+    if (length != CAN_MTU && !(is_fd && options.fd_frames)) {
+        return refused(EINVAL, is_fd ? "CAN_RAW_FD_FRAMES is off" : "a frame has 16 bytes, or 72");
+    }
+    memcpy(&frame, data, length);
+    return raw_send(to, &frame, is_fd, is_waiting, is_unasked);
+}
+
+/* The rule of linux/can.h, for filters that the server has no room for. */
+static bool passes(canid_t identifier) {
+    bool any = false, all = true;
+    for (size_t i = 0; i < filter_count; i++) {
+        canid_t differs = (identifier ^ filters[i].can_id) & filters[i].can_mask & ~CAN_INV_FILTER;
+        bool matches = !differs != !!(filters[i].can_id & CAN_INV_FILTER);
+        if (!is_of_errors(&filters[i])) {
+            any |= matches;
+            all &= matches;
+        }
+    }
+    return options.join ? all : any;
+}
+
+void raw_receive(const struct item *item, int index) {
+    if (filters_here && !(item->frame.can_id & CAN_ERR_FLAG) && !passes(item->frame.can_id)) {
+        return;
+    }
+    uint32_t flags = options.receive_own ? own_flags(item) : 0;
+    outbox_put(&item->frame, item->is_fd ? CANFD_MTU : CAN_MTU, item->moment, index, flags);
+}

@@ -1,0 +1,235 @@
+/* A session of the server: its messages, its commands, and what becomes of a frame that it sends. */
+#define _GNU_SOURCE
+#include "bridge.h"
+
+#include "../shared/address.h"
+
+#include <errno.h>
+#include <stdio.h>
+#include <stdlib.h>
+#include <string.h>
+#include <sys/socket.h>
+#include <sys/time.h>
+#include <unistd.h>
+
+/* The longest text of commands that are given at once: filters, and the echo. */
+#define LONGEST 2048
+/* How often the counts are looked at while a write waits for room, in nanoseconds: at first, and at last. */
+#define SHORT_PAUSE 100000
+#define LONG_PAUSE 2000000
+
+static const char GONE[] = "the server is gone";
+
+/* What a refusal of the server is to a program: as SocketCAN has it. */
+static int error_of(const char *reply) {
+    static const struct {
+        const char *text;
+        int error;
+    } known[] = {{"no buffers", ENOBUFS},       {"bus off", ENETDOWN},         {"record full", ENETDOWN},
+                 {"no such interface", ENODEV}, {"too many sessions", EUSERS}, {"no memory", ENOMEM}};
+    static char kept[sizeof((struct session *)0)->reply + 20];
+    if (strncmp(reply, "error ", 6) != 0) {
+        return 0;
+    }
+    snprintf(kept, sizeof kept, "the server says: %s", reply + 6);
+    for (size_t i = 0; i < sizeof known / sizeof *known; i++) {
+        if (!strcmp(reply + 6, known[i].text)) {
+            return refused(known[i].error, kept);
+        }
+    }
+    return refused(EINVAL, kept);
+}
+
+static void lose(struct session *session) {
+    close(session->fd);
+    session->fd = -1;
+}
+
+void session_end(struct session *session) {
+    if (session && session->fd >= 0) {
+        close(session->fd);
+    }
+    free(session);
+}
+
+/* ---- what the server says ---- */
+
+static void handle_reply(struct session *session, const char *text) {
+    unsigned dropped;
+    if (!strcmp(text, "echo")) {
+        session->due -= session->due > 0;
+    } else if (session->is_counting && sscanf(text, "stats %*u %u", &dropped) == 1) {
+        session->is_counting = false;
+        outbox_server_dropped(session, dropped);
+    } else if (session->due == 1 && !*session->reply && strcmp(text, "ok") != 0) {
+        /* With more echoes due it is the reply to a command that was given up. */
+        snprintf(session->reply, sizeof session->reply, "%s", text);
+    }
+}
+
+/* Handles the messages in the input; a part of one waits for the rest. */
+static void handle_input(struct session *session) {
+    char *at = session->input, *end = at + session->have, *close_at;
+    while ((close_at = memchr(at, '>', (size_t)(end - at)))) {
+        char *open_at = memrchr(at, '<', (size_t)(close_at - at)), *last = close_at;
+        struct item item;
+        at = close_at + 1;
+        if (!open_at) {
+            continue;
+        }
+        for (open_at++; *open_at == ' '; open_at++) {
+        }
+        for (; last > open_at && last[-1] == ' '; last--) {
+        }
+        *last = 0;
+        if (!message_to_item(open_at, &item)) {
+            handle_reply(session, open_at);
+        } else if (session->is_receiving) {
+            item_received(&item, session->index);
+        }
+    }
+    session->have = (size_t)(end - at);
+    memmove(session->input, at, session->have);
+    if (session->have == sizeof session->input) {
+        session->have = 0; /* No message is so long: this is no canbusd. */
+    }
+}
+
+bool session_read(struct session *session, bool waits) {
+    ssize_t length = recv(session->fd, session->input + session->have, sizeof session->input - session->have,
+                          waits ? 0 : MSG_DONTWAIT);
+    if (length > 0) {
+        session->have += (size_t)length;
+        handle_input(session);
+    } else if (length == 0 || (errno != EAGAIN && errno != EINTR)) {
+        lose(session);
+    }
+    outbox_flush();
+    return length >= 0 || errno != EAGAIN;
+}
+
+/* ---- commands ---- */
+
+/* Writes all of it. What comes meanwhile is handled: a server that waits for its reader takes no commands. */
+static bool put_text(struct session *session, const char *text, size_t length) {
+    uint64_t until = clock_now() + PATIENCE * SECOND;
+    size_t written = 0;
+    while (session->fd >= 0) {
+        ssize_t part = send(session->fd, text + written, length - written, MSG_DONTWAIT | MSG_NOSIGNAL);
+        written += part > 0 ? (size_t)part : 0;
+        if (written == length) {
+            return true;
+        }
+        if ((part < 0 && errno != EAGAIN && errno != EINTR) || !wait_for_session(session, until)) {
+            lose(session); /* Half a command was written perhaps. */
+            return false;
+        }
+        session_read(session, false);
+    }
+    return false;
+}
+
+int session_command(struct session *session, const char *text) {
+    char whole[LONGEST];
+    int length = snprintf(whole, sizeof whole, "%s< echo >", text);
+    session->reply[0] = 0;
+    session->due++;
+    if (!put_text(session, whole, (size_t)length)) {
+        return refused(ENXIO, GONE);
+    }
+    while (session->due && session->fd >= 0) {
+        if (!session_read(session, true)) {
+            return refused(ETIMEDOUT, "the server does not reply");
+        }
+    }
+    /* What it said before its end counts: it may have too many sessions. */
+    int error = error_of(session->reply);
+    return error ? error : session->fd < 0 ? refused(ENXIO, GONE) : 0;
+}
+
+int session_send(struct session *session, const struct canfd_frame *frame, bool is_fd) {
+    char text[COMMAND];
+    message_of_frame(text, frame, is_fd);
+    return session_command(session, text);
+}
+
+struct session *session_start(int *error) {
+    struct address address;
+    const char *text = getenv("CANBUSD_ADDRESS");
+    struct session *session = calloc(1, sizeof *session);
+    if (!session) {
+        *error = refused(ENOMEM, "no memory for a session");
+        return NULL;
+    }
+    session->given = (struct options){.loopback = 1};
+    session->fd = -1;
+    if (!address_read(text && *text ? text : ADDRESS_DEFAULT, &address)) {
+        *error = refused(ENODEV, "CANBUSD_ADDRESS is no address");
+    } else if ((session->fd = address_connect(&address)) < 0) {
+        *error = refused(ENODEV, "there is no server at CANBUSD_ADDRESS");
+    } else {
+        setsockopt(session->fd, SOL_SOCKET, SO_RCVTIMEO, &(struct timeval){PATIENCE, 0}, sizeof(struct timeval));
+        *error = session_command(session, "");
+        if (!*error && strcmp(session->reply, "hi") != 0) {
+            *error = refused(ENODEV, "what listens at CANBUSD_ADDRESS is no canbusd");
+        }
+    }
+    if (*error) {
+        session_end(session);
+        return NULL;
+    }
+    return session;
+}
+
+int session_open(struct session *session, const char *name) {
+    char text[IFNAMSIZ + 16];
+    snprintf(text, sizeof text, "< open %s >", name);
+    int error = session_command(session, text);
+    if (!error) {
+        snprintf(session->name, IFNAMSIZ, "%s", name);
+    }
+    return error;
+}
+
+/* ---- counts ---- */
+
+void session_ask_counts(struct session *session) {
+    static const char text[] = "< stats >";
+    if (!session->is_counting && session->fd >= 0) {
+        session->is_counting = send(session->fd, text, sizeof text - 1, MSG_DONTWAIT | MSG_NOSIGNAL) == sizeof text - 1;
+    }
+}
+
+/* How many frames have left the transmit queue, one way or the other. */
+static int count_of_gone(struct session *session, uint64_t *count) {
+    unsigned long done, lost;
+    int error = session_command(session, "< stats >");
+    if (error) {
+        return error;
+    }
+    if (sscanf(session->reply, "stats %*u %*u %*u %*u %lu %*u %lu", &done, &lost) != 2) {
+        return refused(ENETDOWN, session->reply);
+    }
+    *count = done + lost;
+    return 0;
+}
+
+/* A refused send is an entry of the server's record, a look at the counts is none. */
+int session_wait_for_room(struct session *session, bool is_unasked) {
+    uint64_t before = 0, count = 0, closed = 0;
+    int error = count_of_gone(session, &before);
+    for (int64_t pause = SHORT_PAUSE; !error; pause = MIN(pause * 2, LONG_PAUSE)) {
+        wait_for_input(pause, false);
+        if (program_is_gone()) {
+            closed = closed ? closed : clock_now();
+            if (!is_unasked || clock_now() - closed > PATIENCE * SECOND) {
+                return refused(ENETDOWN, "the program has ended");
+            }
+        }
+        error = count_of_gone(session, &count);
+        if (!error && count != before) {
+            return 0;
+        }
+    }
+    return error;
+}

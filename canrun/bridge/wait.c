@@ -1,0 +1,57 @@
+/* Waiting: for the program, the sessions, and a moment. */
+#define _GNU_SOURCE
+#include "bridge.h"
+
+#include <poll.h>
+#include <time.h>
+
+uint64_t clock_now(void) {
+    struct timespec now;
+    clock_gettime(CLOCK_MONOTONIC, &now);
+    return (uint64_t)now.tv_sec * SECOND + (uint64_t)now.tv_nsec;
+}
+
+static int wait_for(struct pollfd *polled, nfds_t count, int64_t nanoseconds) {
+    struct timespec left = {nanoseconds / (int64_t)SECOND, nanoseconds % (int64_t)SECOND};
+    return ppoll(polled, count, nanoseconds < 0 ? NULL : &left, NULL);
+}
+
+bool wait_for_input(int64_t nanoseconds, bool takes_requests) {
+    static struct pollfd polled[1 + MOST_SESSIONS];
+    short events = (short)((takes_requests ? POLLIN : 0) | (outbox_is_empty() ? 0 : POLLOUT));
+    /* A socket whose other end is closed is ready for ever, though nobody asks. */
+    polled[0] = (struct pollfd){takes_requests || !program_is_gone() ? PROGRAM : -1, events, 0};
+    for (int i = 0; i < session_count; i++) {
+        polled[1 + i] = (struct pollfd){sessions[i]->fd, POLLIN, 0};
+    }
+    if (wait_for(polled, 1 + (nfds_t)session_count, nanoseconds) <= 0) {
+        return false;
+    }
+    if (polled[0].revents & POLLOUT) {
+        outbox_flush();
+    }
+    for (int i = 0; i < session_count; i++) {
+        if (polled[1 + i].revents) {
+            session_read(sessions[i], false);
+        }
+    }
+    return takes_requests && polled[0].revents & (POLLIN | POLLHUP | POLLERR);
+}
+
+bool wait_for_session(const struct session *session, uint64_t until) {
+    for (;;) {
+        uint64_t now = clock_now();
+        struct pollfd polled = {session->fd, POLLIN | POLLOUT, 0};
+        if (now >= until) {
+            return false;
+        }
+        if (wait_for(&polled, 1, (int64_t)(until - now)) > 0) {
+            return true;
+        }
+    }
+}
+
+bool program_is_gone(void) {
+    struct pollfd polled = {PROGRAM, 0, 0};
+    return poll(&polled, 1, 0) > 0 && polled.revents & POLLHUP;
+}

@@ -1,0 +1,182 @@
+/* canbusd-run: becomes a program whose CAN sockets are those of a canbusd server. */
+#define _GNU_SOURCE
+#include "program.h"
+#include "server.h"
+
+#include "../shared/address.h"
+#include "../shared/interfaces.h"
+
+#include <errno.h>
+#include <stdio.h>
+#include <stdlib.h>
+#include <string.h>
+#include <unistd.h>
+
+#define LIBRARY "libcanbusd-run.so"
+/* The statuses of env, timeout and their kin: a fault of the command itself, a program that can't be run, and none. */
+enum { STATUS_FAULT = 125, STATUS_NOT_RUN = 126, STATUS_NOT_FOUND = 127 };
+
+/* clang-format off */
+static const char HELP[] =
+    "usage: canbusd-run [--address ADDR] [--interfaces NAME,..] [--wait] [--] PROGRAM [ARGUMENT ..]\n"
+    "       canbusd-run --help | --version\n"
+    "\n"
+    "Runs PROGRAM, and what it starts, so that CAN sockets (CAN_RAW, CAN_BCM, CAN_ISOTP) are sockets of a canbusd\n"
+    "server: candump, cansend, python-can's socketcan interface, or a program of your own. It needs no root, kernel\n"
+    "module or vcan.\n"
+    "\n"
+    "  --address ADDR        the server: HOST:PORT, [V6]:PORT, or a Unix path that begins with / or .\n"
+    "                        (default: $CANBUSD_ADDRESS, else " ADDRESS_DEFAULT ")\n"
+    "  --interfaces NAME,..  which interfaces there are, for `any` and lists of names (default:\n"
+    "                        $CANBUSD_INTERFACES, else those of can0 to can9 and vcan0 to vcan9 that it has)\n"
+    "  --wait                wait for a server that is not there yet, and in each write for room in a full\n"
+    "                        transmit queue; without it the run fails, and the write with ENOBUFS\n"
+    "\n"
+    "CANBUSD_RUN_DEBUG=1 in the environment writes each call that is refused, and why, to standard error.\n"
+    "The status is the program's; 125 where canbusd-run fails, 126 where PROGRAM can't be run, 127 where there is none.\n";
+/* clang-format on */
+
+struct words {
+    const char *address, *interfaces;
+    int waits;
+    char **program;
+};
+
+static int fault(const char *text, const char *word) {
+    fprintf(stderr, "canbusd-run: %s%s%s\n", text, word ? ": " : "", word ? word : "");
+    return STATUS_FAULT;
+}
+
+/* The value of an option, as `--name VALUE` or `--name=VALUE`; NULL where the word is another. */
+static const char *value_of(const char *name, char ***at) {
+    size_t length = strlen(name);
+    if (strncmp(**at, name, length) != 0) {
+        return NULL;
+    }
+    if ((**at)[length] == '=') {
+        return **at + length + 1;
+    }
+    return (**at)[length] ? NULL : (*at)[1] ? *++*at : "";
+}
+
+/* Returns 0, or a status after a line on standard error. */
+static int read_words(char **at, struct words *words) {
+    for (; *at && !strncmp(*at, "--", 2); at++) {
+        const char *value;
+        if (!(*at)[2]) {
+            at++;
+            break;
+        }
+        if (!strcmp(*at, "--wait")) {
+            words->waits = 1;
+        } else if ((value = value_of("--address", &at))) {
+            words->address = value;
+        } else if ((value = value_of("--interfaces", &at))) {
+            words->interfaces = value;
+        } else {
+            return fault("no such option (--help shows all)", *at);
+        }
+        if (!*at) {
+            break;
+        }
+    }
+    words->program = at;
+    return *at ? 0 : fault("which program? --help shows how it is used", NULL);
+}
+
+/* A list whose names could be those of interfaces. */
+static int check_interfaces(const char *list) {
+    for (const char *at = list;; at++) {
+        char name[IFNAMSIZ] = "";
+        size_t length = strcspn(at, ",");
+        memcpy(name, at, length < IFNAMSIZ ? length : 0);
+        if (!interface_is_name(name)) {
+            return fault("--interfaces needs names of interfaces, joined by commas", list);
+        }
+        at += length;
+        if (!*at) {
+            return 0;
+        }
+    }
+}
+
+/* Puts a text in front of a list of the environment, unless it is there. */
+static void put_first(const char *variable, const char *text, const char *separator) {
+    const char *before = getenv(variable);
+    char *whole;
+    if (!before || !*before) {
+        setenv(variable, text, 1);
+    } else if (!strstr(before, text) && asprintf(&whole, "%s%s%s", text, separator, before) >= 0) {
+        setenv(variable, whole, 1);
+        free(whole);
+    }
+}
+
+/* Has the loader load the library before all others; the bridge is beside it. */
+static int preload(void) {
+    char path[PATH_MAX], library[PATH_MAX + sizeof LIBRARY];
+    ssize_t length = readlink("/proc/self/exe", path, sizeof path - 1);
+    if (length < 0) {
+        return fault("/proc/self/exe can't be read", strerror(errno));
+    }
+    path[length] = 0;
+    *strrchr(path, '/') = 0;
+    snprintf(library, sizeof library, "%s/" LIBRARY, path);
+    if (strpbrk(library, " :")) {
+        return fault("the loader takes no library from a path with a space or a colon; move canbusd to another",
+                     library);
+    }
+    if (access(library, R_OK)) {
+        return fault(library, strerror(errno));
+    }
+    put_first("LD_PRELOAD", library, ":");
+    /* gcc's address sanitizer wants to be the first library, though it need not be. */
+    put_first("ASAN_OPTIONS", "verify_asan_link_order=0", ":");
+    return 0;
+}
+
+static int become(char **program) {
+    char path[PATH_MAX];
+    int error = program_find(program[0], path);
+    if (!error) {
+        const char *obstacle = program_obstacle(path);
+        if (obstacle) {
+            fprintf(stderr, "canbusd-run: note: %s %s, so its CAN sockets are the kernel's\n", path, obstacle);
+        }
+        execv(path, program);
+        error = errno;
+    }
+    fault(program[0], strerror(error));
+    return error == ENOENT ? STATUS_NOT_FOUND : STATUS_NOT_RUN;
+}
+
+int main(int count, char **all) {
+    const char *address = getenv("CANBUSD_ADDRESS");
+    struct words words = {.address = address && *address ? address : ADDRESS_DEFAULT};
+    char name[SERVER_NAME];
+    if (count > 1 && !strcmp(all[1], "--help")) {
+        return fputs(HELP, stdout) < 0 || fflush(stdout) ? STATUS_FAULT : 0;
+    }
+    if (count > 1 && !strcmp(all[1], "--version")) {
+        return puts("canbusd-run " VERSION) < 0 || fflush(stdout) ? STATUS_FAULT : 0;
+    }
+    int status = read_words(all + 1, &words);
+    if (!status && words.interfaces) {
+        status = check_interfaces(words.interfaces);
+    }
+    if (status) {
+        return status;
+    }
+    if (!server_find(words.address, words.waits, name)) {
+        return STATUS_FAULT;
+    }
+    setenv("CANBUSD_ADDRESS", name, 1);
+    if (words.interfaces) {
+        setenv("CANBUSD_INTERFACES", words.interfaces, 1);
+    }
+    if (words.waits) {
+        setenv("CANBUSD_RUN_WAIT", "1", 1);
+    }
+    status = preload();
+    return status ? status : become(words.program);
+}

@@ -1,0 +1,106 @@
+/* Whether a program can be run so: what its file says of how it is loaded. See program.h. */
+#define _GNU_SOURCE
+#include "program.h"
+
+#include <elf.h>
+#include <errno.h>
+#include <fcntl.h>
+#include <stdbool.h>
+#include <stddef.h>
+#include <stdio.h>
+#include <stdlib.h>
+#include <string.h>
+#include <sys/stat.h>
+#include <sys/xattr.h>
+#include <unistd.h>
+
+static bool is_program(const char *path) {
+    struct stat status;
+    return !stat(path, &status) && S_ISREG(status.st_mode) && !access(path, X_OK);
+}
+
+int program_find(const char *name, char path[PATH_MAX]) {
+    const char *folders = getenv("PATH");
+    if (strchr(name, '/')) {
+        return snprintf(path, PATH_MAX, "%s", name) < PATH_MAX ? 0 : ENAMETOOLONG;
+    }
+    for (const char *at = folders ? folders : "/bin:/usr/bin"; *name; at++) {
+        int length = (int)strcspn(at, ":");
+        const char *folder = length ? at : ".";
+        if (snprintf(path, PATH_MAX, "%.*s/%s", length ? length : 1, folder, name) < PATH_MAX && is_program(path)) {
+            return 0;
+        }
+        at += length;
+        if (!*at) {
+            break;
+        }
+    }
+    return ENOENT;
+}
+
+static bool read_at(int fd, void *data, size_t length, size_t offset) {
+    return pread(fd, data, length, (off_t)offset) == (ssize_t)length;
+}
+
+/* Go marks its programs by a note of this owner. */
+static bool is_note_of_go(int fd, const Elf64_Phdr *segment) {
+    struct {
+        Elf64_Nhdr head;
+        char owner[4];
+    } note;
+    return segment->p_type == PT_NOTE && read_at(fd, &note, sizeof note, segment->p_offset) &&
+           note.head.n_namesz == 4 && !memcmp(note.owner, "Go\0", 4);
+}
+
+static bool is_loader_of_musl(int fd, const Elf64_Phdr *segment) {
+    char loader[64] = "";
+    return segment->p_type == PT_INTERP &&
+           read_at(fd, loader, segment->p_filesz < sizeof loader ? segment->p_filesz : sizeof loader - 1,
+                   segment->p_offset) &&
+           strstr(loader, "ld-musl");
+}
+
+static const char *elf_obstacle(int fd) {
+    Elf64_Ehdr head;
+    Elf64_Phdr segment;
+    bool is_dynamic = false, is_go = false, is_musl = false;
+    if (!read_at(fd, &head, sizeof head, 0) || memcmp(head.e_ident, ELFMAG, SELFMAG) != 0) {
+        return NULL; /* A script: what counts is what it runs. */
+    }
+    if (head.e_ident[EI_CLASS] != ELFCLASS64) {
+        return "is a 32-bit program";
+    }
+    for (size_t i = 0; i < head.e_phnum && read_at(fd, &segment, sizeof segment, head.e_phoff + i * head.e_phentsize);
+         i++) {
+        is_dynamic |= segment.p_type == PT_INTERP;
+        is_go |= is_note_of_go(fd, &segment);
+        is_musl |= is_loader_of_musl(fd, &segment);
+    }
+    return is_go         ? "is a Go program, which calls the kernel itself"
+           : !is_dynamic ? "is linked statically"
+           : is_musl     ? "is linked with musl, and not with glibc"
+                         : NULL;
+}
+
+/* The loader ignores what it should preload where a program gets other rights by its file. */
+static bool is_privileged(const char *path) {
+    struct stat status;
+    if (stat(path, &status)) {
+        return false;
+    }
+    return (status.st_mode & S_ISUID && status.st_uid != geteuid()) ||
+           (status.st_mode & S_ISGID && status.st_gid != getegid()) ||
+           (geteuid() != 0 && getxattr(path, "security.capability", NULL, 0) > 0);
+}
+
+const char *program_obstacle(const char *path) {
+    if (is_privileged(path)) {
+        return "is setuid, setgid or has capabilities";
+    }
+    int fd = open(path, O_RDONLY | O_CLOEXEC);
+    const char *obstacle = fd >= 0 ? elf_obstacle(fd) : NULL;
+    if (fd >= 0) {
+        close(fd);
+    }
+    return obstacle;
+}

@@ -1,0 +1,96 @@
+/* ioctl: what is asked of an interface, and the moment of the last frame. */
+#define _GNU_SOURCE
+#include "library.h"
+
+#include <errno.h>
+#include <linux/can.h>
+#include <linux/sockios.h>
+#include <net/if_arp.h>
+#include <stdarg.h>
+#include <string.h>
+
+/* The length of a transmit queue, as canbusd has it by default. */
+#define TXQUEUE 10
+#define SECOND 1000000000u
+
+/* SIOCGSTAMP has to know which frame a descriptor received last, and the kernel does not keep it for Unix sockets. */
+#define STAMPS 1024
+static uint64_t stamps[STAMPS];
+
+void keep_stamp(int fd, uint64_t nanoseconds) {
+    if (fd >= 0 && fd < STAMPS) {
+        __atomic_store_n(&stamps[fd], nanoseconds, __ATOMIC_RELAXED);
+    }
+}
+
+uint64_t kept_stamp(int fd) {
+    return fd >= 0 && fd < STAMPS ? __atomic_load_n(&stamps[fd], __ATOMIC_RELAXED) : 0;
+}
+
+static bool is_of_interface(unsigned long request) {
+    return request == SIOCGIFNAME || request == SIOCGIFINDEX || request == SIOCGIFMTU || request == SIOCGIFFLAGS ||
+           request == SIOCGIFHWADDR || request == SIOCGIFTXQLEN;
+}
+
+static bool is_of_stamp(unsigned long request) {
+    return request == SIOCGSTAMP_OLD || request == SIOCGSTAMPNS_OLD || request == SIOCGSTAMP_NEW ||
+           request == SIOCGSTAMPNS_NEW;
+}
+
+/* The facts of an interface of the server, which always is up. */
+static int interface_ioctl(int fd, unsigned long request, struct ifreq *interface) {
+    if (request == SIOCGIFNAME) {
+        char name[IFNAMSIZ];
+        int result = name_of_index(fd, interface->ifr_ifindex, name);
+        memcpy(interface->ifr_name, name, result ? 0 : IFNAMSIZ);
+        return result;
+    }
+    char name[IFNAMSIZ] = {0};
+    memcpy(name, interface->ifr_name, strnlen(interface->ifr_name, IFNAMSIZ - 1));
+    int index = index_of_name(fd, name);
+    if (index < 0) {
+        return -1;
+    }
+    switch (request) {
+    case SIOCGIFINDEX: interface->ifr_ifindex = index; break;
+    case SIOCGIFMTU: interface->ifr_mtu = CANFD_MTU; break;
+    case SIOCGIFFLAGS: interface->ifr_flags = IFF_UP | IFF_RUNNING | IFF_NOARP; break;
+    case SIOCGIFTXQLEN: interface->ifr_qlen = TXQUEUE; break;
+    default:
+        memset(&interface->ifr_hwaddr, 0, sizeof interface->ifr_hwaddr);
+        interface->ifr_hwaddr.sa_family = ARPHRD_CAN;
+    }
+    return 0;
+}
+
+static int stamp_ioctl(int fd, unsigned long request, void *argument) {
+    uint64_t stamp = kept_stamp(fd);
+    bool is_micro = request == SIOCGSTAMP_OLD || request == SIOCGSTAMP_NEW;
+    if (!stamp) {
+        return refuse("ioctl", ENOENT, "no frame has been received by this descriptor");
+    }
+    int64_t parts[2] = {(int64_t)(stamp / SECOND), (int64_t)(stamp % SECOND / (is_micro ? 1000 : 1))};
+    memcpy(argument, parts, sizeof parts);
+    return 0;
+}
+
+EXPORT int ioctl(int fd, unsigned long request, ...) {
+    va_list list;
+    va_start(list, request);
+    void *argument = va_arg(list, void *);
+    va_end(list);
+    bool is_ours = is_of_interface(request) || is_of_stamp(request) || request == FIONREAD || request == TIOCOUTQ;
+    enum wire_protocol protocol = is_ours ? protocol_of(fd) : 0;
+    if (protocol && is_of_stamp(request)) {
+        return stamp_ioctl(fd, request, argument);
+    }
+    if (protocol && !is_of_interface(request)) {
+        return refuse("ioctl", ENOTTY, "a CAN socket does not count bytes");
+    }
+    int result = real()->ioctl(fd, request, argument);
+    /* Interfaces can be looked up by any socket. */
+    if (result && is_ours && is_of_interface(request) && (errno == ENODEV || protocol)) {
+        result = interface_ioctl(protocol ? fd : -1, request, argument);
+    }
+    return result;
+}

@@ -1,0 +1,101 @@
+/* What the files of the preloaded library share.
+ *
+ * The library has no state about sockets. A CAN socket is one end of a pair of Unix sockets whose name says so, and
+ * stays one across fork, dup, exec and SCM_RIGHTS; poll, select, epoll, fcntl and close are the kernel's own. */
+#ifndef LIBRARY_H
+#define LIBRARY_H
+
+#include "../shared/wire.h"
+
+#include <net/if.h>
+#include <stdbool.h>
+#include <stddef.h>
+#include <sys/ioctl.h>
+#include <sys/socket.h>
+#include <sys/uio.h>
+#include <unistd.h>
+
+#define EXPORT __attribute__((visibility("default")))
+#define MIN(a, b) ((a) < (b) ? (a) : (b))
+
+/* The functions of the C library that this one stands before. */
+#define REAL_FUNCTIONS(X) \
+    X(socket)             \
+    X(socketpair)         \
+    X(bind)               \
+    X(connect)            \
+    X(listen)             \
+    X(accept)             \
+    X(accept4)            \
+    X(shutdown)           \
+    X(getsockname)        \
+    X(getpeername)        \
+    X(setsockopt)         \
+    X(getsockopt)         \
+    X(ioctl)              \
+    X(if_nametoindex)     \
+    X(if_indextoname)     \
+    X(if_nameindex)       \
+    X(if_freenameindex)   \
+    X(read)               \
+    X(readv)              \
+    X(recv)               \
+    X(recvfrom)           \
+    X(recvmsg)            \
+    X(recvmmsg)           \
+    X(write)              \
+    X(writev)             \
+    X(send)               \
+    X(sendto)             \
+    X(sendmsg)            \
+    X(sendmmsg)
+
+struct real {
+#define X(name) __typeof__(&name) name;
+    REAL_FUNCTIONS(X)
+#undef X
+};
+
+/* They are found when the library is loaded, or by the first call where another library calls before that. */
+const struct real *real(void);
+
+/* The protocol of a CAN socket; 0 for any other descriptor. It leaves errno as it was. */
+enum wire_protocol protocol_of(int fd);
+
+/* Sets errno, and returns -1. */
+int fail(int error);
+
+/* The same. With CANBUSD_RUN_DEBUG=1 a line of standard error says what was refused, and why. */
+int refuse(const char *what, int error, const char *why);
+
+/* What a reply brings, besides its error. The data are cut where there is no room. */
+struct answer {
+    int value;
+    void *data;
+    size_t room, length;
+};
+
+/* Asks the bridge of a socket; the data are at most WIRE_PARTS pieces. Returns 0, or -1 and errno; `what` is the call
+ * that is refused then. */
+#define WIRE_PARTS 64
+int ask(int fd, const char *what, const struct wire_request *request, const struct iovec *data, size_t pieces,
+        struct answer *answer);
+
+/* Makes a CAN socket. */
+int can_socket(int type, int protocol);
+
+/* Starts the bridge of a socket whose other end is this. Returns 0, or an errno. */
+int start_bridge(int end);
+
+/* The index of the interface of this name, or -1 and errno; the name of this index, or -1. The socket is any CAN
+ * socket, or -1. */
+int index_of_name(int fd, const char *name);
+int name_of_index(int fd, int index, char name[IFNAMSIZ]);
+/* The name, where this process has looked it up or it is listed; else an empty one. */
+void known_name(int index, char name[IFNAMSIZ]);
+
+/* The moment of the frame that was received last by this descriptor, for SIOCGSTAMP; 0 before that. */
+void keep_stamp(int fd, uint64_t nanoseconds);
+uint64_t kept_stamp(int fd);
+
+#endif

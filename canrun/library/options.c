@@ -1,0 +1,162 @@
+/* Addresses and options of CAN sockets: bind, connect, getsockname, setsockopt, getsockopt. */
+#define _GNU_SOURCE
+#include "library.h"
+
+#include <errno.h>
+#include <linux/can.h>
+#include <linux/can/isotp.h>
+#include <linux/can/raw.h>
+#include <stdint.h>
+#include <string.h>
+
+/* The least lengths of an address, as CAN_REQUIRED_SIZE of the kernel gives them. */
+#define SHORT_ADDRESS (offsetof(struct sockaddr_can, can_ifindex) + sizeof(int))
+#define ISOTP_ADDRESS (offsetof(struct sockaddr_can, can_addr) + 2 * sizeof(canid_t))
+
+static int bind_can(const char *call, int fd, enum wire_protocol protocol, const struct sockaddr *address,
+                    socklen_t length) {
+    struct sockaddr_can can = {0};
+    char name[IFNAMSIZ];
+    if (!address || length < (protocol == WIRE_ISOTP ? ISOTP_ADDRESS : SHORT_ADDRESS)) {
+        return refuse(call, EINVAL, "the address is too short");
+    }
+    memcpy(&can, address, MIN(length, sizeof can));
+    if (can.can_family != AF_CAN) {
+        return refuse(call, EINVAL, "the address is not of AF_CAN");
+    }
+    struct wire_request request = {.kind = WIRE_BIND, .ifindex = can.can_ifindex};
+    if (protocol == WIRE_ISOTP) {
+        request.rx_id = can.can_addr.tp.rx_id;
+        request.tx_id = can.can_addr.tp.tx_id;
+    }
+    known_name(can.can_ifindex, name);
+    struct iovec data = {name, strlen(name)};
+    int result = ask(fd, call, &request, &data, 1, NULL);
+    return result && errno == ENXIO ? fail(ENODEV) : result;
+}
+
+EXPORT int bind(int fd, const struct sockaddr *address, socklen_t length) {
+    enum wire_protocol protocol = protocol_of(fd);
+    if (!protocol) {
+        return real()->bind(fd, address, length);
+    }
+    return protocol == WIRE_BCM ? refuse("bind", EOPNOTSUPP, "CAN_BCM has connect in its place")
+                                : bind_can("bind", fd, protocol, address, length);
+}
+
+EXPORT int connect(int fd, const struct sockaddr *address, socklen_t length) {
+    enum wire_protocol protocol = protocol_of(fd);
+    if (!protocol) {
+        return real()->connect(fd, address, length);
+    }
+    return protocol == WIRE_BCM ? bind_can("connect", fd, protocol, address, length)
+                                : refuse("connect", EOPNOTSUPP, "CAN_RAW and CAN_ISOTP have bind in its place");
+}
+
+EXPORT int getsockname(int fd, struct sockaddr *restrict address, socklen_t *restrict length) {
+    enum wire_protocol protocol = protocol_of(fd);
+    uint32_t identifiers[2] = {0, 0};
+    struct answer answer = {.data = identifiers, .room = sizeof identifiers};
+    if (!protocol) {
+        return real()->getsockname(fd, address, length);
+    }
+    if (protocol == WIRE_BCM) {
+        return refuse("getsockname", EOPNOTSUPP, "CAN_BCM has no such call");
+    }
+    if (ask(fd, "getsockname", &(struct wire_request){.kind = WIRE_ADDRESS}, NULL, 0, &answer)) {
+        return -1;
+    }
+    struct sockaddr_can can = {.can_family = AF_CAN, .can_ifindex = answer.value};
+    can.can_addr.tp.rx_id = identifiers[0];
+    can.can_addr.tp.tx_id = identifiers[1];
+    socklen_t whole = protocol == WIRE_ISOTP ? ISOTP_ADDRESS : SHORT_ADDRESS;
+    memcpy(address, &can, MIN(*length, whole));
+    *length = whole;
+    return 0;
+}
+
+/* The level of a protocol's own options; the broadcast manager has none. */
+static int level_of(enum wire_protocol protocol) {
+    return protocol == WIRE_RAW ? SOL_CAN_RAW : protocol == WIRE_ISOTP ? SOL_CAN_ISOTP : SOL_SOCKET;
+}
+
+static int refuse_level(const char *call, enum wire_protocol protocol) {
+    return refuse(call, protocol == WIRE_RAW ? EINVAL : ENOPROTOOPT, "this protocol has no options of this level");
+}
+
+/* An option of SOL_SOCKET is the kernel's; of some the bridge has to know too. */
+static int set_socket_option(int fd, int option, const void *value, socklen_t length) {
+    int result = real()->setsockopt(fd, SOL_SOCKET, option, value, length);
+    bool is_told = option == SO_RCVBUF || option == SO_RCVBUFFORCE || option == SO_RXQ_OVFL ||
+                   option == SO_TIMESTAMPING_OLD || option == SO_TIMESTAMPING_NEW;
+    if (!result && is_told) {
+        int error = errno;
+        struct wire_request request = {.kind = WIRE_SOCKET_SET, .option = option};
+        memcpy(&request.number, value, sizeof request.number);
+        ask(fd, "setsockopt", &request, NULL, 0, NULL);
+        errno = error;
+    }
+    return result;
+}
+
+EXPORT int setsockopt(int fd, int level, int option, const void *value, socklen_t length) {
+    enum wire_protocol protocol = protocol_of(fd);
+    if (!protocol) {
+        return real()->setsockopt(fd, level, option, value, length);
+    }
+    if (level == SOL_SOCKET) {
+        return set_socket_option(fd, option, value, length);
+    }
+    if (level != level_of(protocol)) {
+        return refuse_level("setsockopt", protocol);
+    }
+    if (length > WIRE_REPLY) {
+        return refuse("setsockopt", EINVAL, "the value is too long");
+    }
+    struct iovec data = {(void *)value, length};
+    return ask(fd, "setsockopt", &(struct wire_request){.kind = WIRE_SET, .option = option}, &data, 1, NULL);
+}
+
+/* What SO_DOMAIN, SO_TYPE and SO_PROTOCOL are of a CAN socket; -1 for other options. */
+static int socket_fact(enum wire_protocol protocol, int option) {
+    switch (option) {
+    case SO_DOMAIN: return AF_CAN;
+    case SO_TYPE: return protocol == WIRE_RAW ? SOCK_RAW : SOCK_DGRAM;
+    case SO_PROTOCOL: return protocol == WIRE_RAW ? CAN_RAW : protocol == WIRE_BCM ? CAN_BCM : CAN_ISOTP;
+    default: return -1;
+    }
+}
+
+/* The kernel's rules for how much of a value is returned: a short one is cut, but never a list of filters. */
+static int get_protocol_option(int fd, int option, void *value, socklen_t *length) {
+    char whole[WIRE_REPLY];
+    struct answer answer = {.data = whole, .room = sizeof whole};
+    if ((int)*length < 0) {
+        return refuse("getsockopt", EINVAL, "the length is below 0");
+    }
+    if (ask(fd, "getsockopt", &(struct wire_request){.kind = WIRE_GET, .option = option}, NULL, 0, &answer)) {
+        return -1;
+    }
+    if (option == CAN_RAW_FILTER && *length < answer.length) {
+        *length = (socklen_t)answer.length;
+        return refuse("getsockopt", ERANGE, "the filters need more room");
+    }
+    *length = MIN(*length, (socklen_t)answer.length);
+    memcpy(value, whole, *length);
+    return 0;
+}
+
+EXPORT int getsockopt(int fd, int level, int option, void *restrict value, socklen_t *restrict length) {
+    enum wire_protocol protocol = protocol_of(fd);
+    int fact = protocol && level == SOL_SOCKET ? socket_fact(protocol, option) : -1;
+    if (!protocol || (level == SOL_SOCKET && fact < 0)) {
+        return real()->getsockopt(fd, level, option, value, length);
+    }
+    if (fact >= 0) {
+        *length = MIN(*length, (socklen_t)sizeof fact);
+        memcpy(value, &fact, *length);
+        return 0;
+    }
+    return level == level_of(protocol) ? get_protocol_option(fd, option, value, length)
+                                       : refuse_level("getsockopt", protocol);
+}

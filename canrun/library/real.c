@@ -1,0 +1,58 @@
+/* The functions of the C library that this one stands before, what a descriptor is, and errors. */
+#define _GNU_SOURCE
+#include "library.h"
+
+#include <dlfcn.h>
+#include <errno.h>
+#include <stdio.h>
+#include <stdlib.h>
+#include <string.h>
+#include <sys/syscall.h>
+#include <sys/un.h>
+#include <unistd.h>
+
+static struct real found;
+static bool is_debugged;
+
+__attribute__((constructor)) static void resolve(void) {
+    const char *debug = getenv("CANBUSD_RUN_DEBUG");
+    is_debugged = debug && *debug && strcmp(debug, "0");
+#define X(name) found.name = (__typeof__(found.name))dlsym(RTLD_NEXT, #name);
+    REAL_FUNCTIONS(X)
+#undef X
+}
+
+const struct real *real(void) {
+    if (__builtin_expect(!found.sendmmsg, 0)) {
+        resolve();
+    }
+    return &found;
+}
+
+enum wire_protocol protocol_of(int fd) {
+    struct sockaddr_un name;
+    socklen_t length = sizeof name;
+    int before = errno;
+    long failed = syscall(SYS_getsockname, fd, &name, &length);
+    errno = before;
+    if (failed || name.sun_family != AF_UNIX ||
+        length < offsetof(struct sockaddr_un, sun_path) + 1 + sizeof WIRE_NAME || name.sun_path[0] ||
+        memcmp(name.sun_path + 1, WIRE_NAME, sizeof WIRE_NAME - 1)) {
+        return 0;
+    }
+    return (enum wire_protocol)name.sun_path[sizeof WIRE_NAME];
+}
+
+int fail(int error) {
+    errno = error;
+    return -1;
+}
+
+int refuse(const char *what, int error, const char *why) {
+    if (is_debugged) {
+        char line[512];
+        int length = snprintf(line, sizeof line, "canbusd-run: %s: %s: %s\n", what, strerror(error), why);
+        syscall(SYS_write, STDERR_FILENO, line, MIN((size_t)length, sizeof line - 1));
+    }
+    return fail(error);
+}

@@ -1,0 +1,61 @@
+/* What the preloaded library and a bridge say to each other, over the SOCK_SEQPACKET pair that is a CAN socket.
+ *
+ * The program's end of the pair has an abstract name that begins with WIRE_NAME and a letter for the protocol; that is
+ * how the library knows a CAN socket.
+ *
+ * Library to bridge: a request and its data, with the write end of a pipe (SCM_RIGHTS) that takes the one reply. What
+ * comes without a pipe is the frame of a write that did not go through the library, and gets no reply.
+ *
+ * Bridge to library: a frame, or a message of the broadcast manager or of ISO-TP, and a trailer. A read of the size of
+ * a frame cuts the trailer off, so that a read that does not go through the library gets a whole frame too. */
+#ifndef WIRE_H
+#define WIRE_H
+
+#include <stdint.h>
+
+#define WIRE_NAME "canbusd-can/"
+enum wire_protocol { WIRE_RAW = 'r', WIRE_BCM = 'b', WIRE_ISOTP = 'i' };
+
+/* The longest message, either way: one of the broadcast manager with its head and 256 FD frames. */
+#define WIRE_LARGEST 20000
+/* The most data of a reply: 512 filters. */
+#define WIRE_REPLY 4096
+
+enum wire_kind {
+    WIRE_SEND, /* the frame or message follows; `ifindex` is that of sendto, or WIRE_BOUND; what the write returns is
+                * the reply's value */
+    WIRE_BIND, /* to `ifindex`, 0 for all; the name follows where the library knows it */
+    WIRE_SET,  /* `option` of the protocol's level; the value follows */
+    WIRE_GET,  /* the same; the value is the reply's data */
+    WIRE_SOCKET_SET, /* `option` of SOL_SOCKET, which the kernel has set, so that the bridge knows of it */
+    WIRE_ADDRESS,    /* the index is the reply's value; of ISO-TP the two identifiers are its data */
+    WIRE_INDEX,      /* of the interface whose name follows: the reply's value */
+    WIRE_NAME_OF,    /* of the interface `ifindex`: the reply's data */
+    WIRE_LIST,       /* the names of all interfaces, joined by commas: the reply's data */
+};
+#define WIRE_BOUND (-1)
+
+struct wire_request {
+    uint32_t kind;
+    int32_t ifindex;
+    int32_t option;
+    int32_t number;        /* the first number of a value of SOL_SOCKET; of WIRE_SEND, whether the write may not wait */
+    uint32_t rx_id, tx_id; /* WIRE_BIND of ISO-TP */
+};
+
+struct wire_reply {
+    int32_t error; /* an errno, and then the data are a text; or 0 */
+    int32_t value;
+    uint32_t length; /* of the data that follow, at most WIRE_REPLY */
+};
+
+struct wire_trailer {
+    uint64_t nanoseconds; /* the server's moment, since 1970 */
+    int32_t ifindex;
+    uint32_t dropped;       /* frames lost before this one, where SO_RXQ_OVFL asks for it */
+    uint32_t message_flags; /* MSG_DONTROUTE, MSG_CONFIRM */
+    uint16_t is_stamped;    /* SO_TIMESTAMPING asks for the moment */
+    uint16_t error;         /* an errno that the read returns, without a message; or 0 */
+};
+
+#endif

@@ -1,0 +1,33 @@
+"""A C program for SocketCAN, unchanged, on a bus where its frames are destroyed until it is bus off.
+
+    python3 -m pytest examples/c
+
+`canbusd.run` starts it by canbusd-run, which has its CAN sockets be those of the test's server.
+"""
+
+import subprocess
+from pathlib import Path
+
+import pytest
+
+from canbusd import Faults
+
+
+@pytest.fixture
+def heartbeat(tmp_path):
+    """The path of the program, as gcc builds it."""
+    program = tmp_path / "heartbeat"
+    source = Path(__file__).with_name("heartbeat.c")
+    subprocess.run(["gcc", "-Wall", "-Wextra", "-Werror", "-o", program, source], check=True)
+    return str(program)
+
+
+# Attempts 0 and 1 send two heartbeats. The third is destroyed 32 times, which makes 256 and bus off. The controller
+# restarts 50 attempts later, of which there is one each millisecond.
+@pytest.mark.canbusd("node,tester", faults=Faults().destroyed(range(2, 34)), auto_restart=50)
+def test_a_node_that_goes_bus_off(canbusd, heartbeat):
+    with canbusd.bus("tester") as tester:
+        done = canbusd.run([heartbeat, "node"], check=True, capture_output=True, text=True, timeout=30)
+        assert done.stdout == "bus off\nrestarted\n"
+        numbers = [tester.recv(timeout=5).data[0] for _ in range(5)]
+        assert numbers == [0, 1, 0, 1, 2]

@@ -1,0 +1,27 @@
+"""Says what is missing where there is no python-can, or one that is too old.
+
+A module that needs python-can imports this one first.
+"""
+
+import re
+
+LEAST = (4, 1)
+WANTED = f"canbusd needs python-can {LEAST[0]}.{LEAST[1]} or later"
+CURE = "`apt-get install python3-can` for Debian's /usr/bin/python3, else `pip install 'python-can>=4.1'`"
+
+
+class NoPythonCan(ImportError):
+    """There is no python-can, or it is too old; the text says which was found, and how to get it."""
+
+
+try:
+    import can
+except ModuleNotFoundError as fault:
+    if fault.name != "can":
+        raise
+    raise NoPythonCan(f"{WANTED}, and there is none: {CURE}") from None
+
+FOUND = str(getattr(can, "__version__", "unknown"))
+_numbers = re.match(r"(\d+)\.(\d+)", FOUND)
+if _numbers and (int(_numbers[1]), int(_numbers[2])) < LEAST:
+    raise NoPythonCan(f"{WANTED}, and found {FOUND}: {CURE}")

@@ -1,0 +1,192 @@
+"use strict";
+// What both pages share: elements, words, colours, columns of numbers and places along the time line.
+
+const KINDS = ["done", "lastbit", "destroyed", "noack", "restart", "idle"];
+const KIND_WORDS = ["done", "last bit", "destroyed", "no acknowledgement", "restart", "idle"];
+const RESTART = 4, IDLE = 5;
+const STATES = ["active", "warning", "passive", "off"];
+// Spelled as in CAN documents; not parted at the end of a line.
+const stateWords = state => state === "off" ? "bus\u00a0off" : `error\u00a0${state}`;
+const LIMITS = [[96, "warning"], [128, "passive"], [256, "bus off"]];
+const WARNING = 96, PASSIVE = 128, OFF = 256;
+
+const at = id => document.getElementById(id);
+const grouped = number => number.toLocaleString("en");
+const severity = count => (count >= WARNING) + (count >= PASSIVE) + (count >= OFF);
+const times = (number, one, many = one + "s") => `${grouped(number)} ${number === 1 ? one : many}`;
+
+function element(tag, content = [], more = {}) {
+  const made = Object.assign(document.createElement(tag), more);
+  made.append(...[content].flat());
+  return made;
+}
+function cell(tag, content) {
+  if (content instanceof Node && content.tagName === tag.toUpperCase()) return content;
+  const isNumber = typeof content === "number" || /^[\d,]+( \u2192 [\d,]+)?$/.test(content);
+  return element(tag, typeof content === "number" ? grouped(content) : content, isNumber ? { className: "number" } : {});
+}
+const tableRow = (tag, cells) => element("tr", cells.map(one => cell(tag, one)));
+// The rows of a table: a heading is at the right where its numbers are, and where the page is narrow each cell has it.
+function rowsOf(heads, rows) {
+  const made = rows.map(cells => tableRow("td", cells)), head = tableRow("th", heads);
+  for (const row of made) {
+    [...row.children].forEach((one, k) => {
+      one.dataset.head = heads[k];
+      if (one.classList.contains("number")) head.children[k].className = "number";
+    });
+  }
+  return [head, ...made];
+}
+// A number that is bad unless it is 0.
+const loss = number => element("td", grouped(number), { className: number ? "number bad" : "number" });
+// The symbol of a kind of attempt, or of another thing that the legend has.
+const mark = name => element("i", [], { className: "mark " + name });
+
+// Colours, and lines of hatching over a tile of 6 pixels, so that no kind is shown by its colour only.
+
+const HATCH = {
+  lastbit: by => [by + 3, 0, by + 3, 6],
+  destroyed: by => [by, 6, by + 6, 0],
+  noack: by => [0, by + 3, 6, by + 3],
+  off: by => [by, 0, by + 6, 6],
+};
+const COLOURS = ["text", "soft", "line", "on", "stripe", "tec", "rec", "queue", "accepted", "hit", "off", "warning",
+  "passive", "page", "panel", ...KINDS];
+let theme = {};
+function readTheme() {
+  const style = getComputedStyle(document.documentElement);
+  theme = Object.fromEntries(COLOURS.map(name => [name, style.getPropertyValue("--" + name).trim()]));
+}
+function hatched(pen, name) {
+  const tile = document.createElement("canvas"), brush = tile.getContext("2d");
+  tile.width = tile.height = 6;
+  brush.fillStyle = name === "off" ? theme.page : theme[name];
+  brush.fillRect(0, 0, 6, 6);
+  brush.strokeStyle = name === "off" ? theme.off : theme.stripe;
+  brush.lineWidth = 1.4;
+  brush.beginPath();
+  for (const by of [-6, 0, 6]) {
+    const [x0, y0, x1, y1] = HATCH[name](by);
+    brush.moveTo(x0, y0);
+    brush.lineTo(x1, y1);
+  }
+  brush.stroke();
+  return pen.createPattern(tile, "repeat");
+}
+const fillsOf = pen => Object.fromEntries([...KINDS, "off"].map(name =>
+  [name, HATCH[name] ? hatched(pen, name) : theme[name]]));
+
+// Steps along the time line: step k begins at start[k], and no step begins before the one before it.
+
+class Axis {
+  // `least` is how much of it is shown at least.
+  constructor(start, least) {
+    this.start = start;
+    this.count = start.length - 1;
+    this.length = Math.max(start[this.count], least);
+    this.least = least;
+  }
+  // The first step that begins there or later.
+  from(place) {
+    let low = 0, high = this.count;
+    while (low < high) {
+      const middle = low + high >> 1;
+      if (this.start[middle] < place) low = middle + 1; else high = middle;
+    }
+    return low;
+  }
+  // The last step that begins there or before.
+  stepAt(place) {
+    let low = 0, high = this.count - 1;
+    while (low < high) {
+      const middle = low + high + 1 >> 1;
+      if (this.start[middle] <= place) low = middle; else high = middle - 1;
+    }
+    return low;
+  }
+}
+
+// A column of numbers, with the extremes of each block of it.
+
+const BLOCK = 64;
+class Numbers {
+  constructor(all) {
+    this.all = all;
+    const blocks = Math.floor(all.length / BLOCK);
+    this.high = new Uint16Array(blocks);
+    this.low = new Uint16Array(blocks);
+    this.most = 0;
+    for (let block = 0, step = 0; block < blocks; block++) {
+      let high = all[step], low = high;
+      for (const end = step + BLOCK; step < end; step++) {
+        if (all[step] > high) high = all[step];
+        if (all[step] < low) low = all[step];
+      }
+      this.high[block] = high;
+      this.low[block] = low;
+      if (high > this.most) this.most = high;
+    }
+    for (let step = blocks * BLOCK; step < all.length; step++) this.most = Math.max(this.most, all[step]);
+  }
+  // The extremes from `first` to before `last`, as low and high.
+  range(first, last, found) {
+    let low = Infinity, high = 0;
+    const { all } = this;
+    for (let step = first; step < last;) {
+      if (step % BLOCK === 0 && step + BLOCK <= last) {
+        const block = step / BLOCK;
+        if (this.high[block] > high) high = this.high[block];
+        if (this.low[block] < low) low = this.low[block];
+        step += BLOCK;
+      } else {
+        if (all[step] > high) high = all[step];
+        if (all[step] < low) low = all[step];
+        step++;
+      }
+    }
+    found.low = low;
+    found.high = high;
+    return found;
+  }
+}
+
+// How often each of `codes` codes comes in ranges of a column: sums up to each block, and the rest one by one.
+class Tallies {
+  constructor(column, codes) {
+    Object.assign(this, { column, codes });
+    const blocks = Math.floor(column.length / BLOCK);
+    this.sums = new Uint32Array((blocks + 1) * codes);
+    for (let block = 0; block < blocks; block++) {
+      const here = block * codes, next = here + codes;
+      for (let code = 0; code < codes; code++) this.sums[next + code] = this.sums[here + code];
+      for (let k = block * BLOCK; k < (block + 1) * BLOCK; k++) this.sums[next + column[k]]++;
+    }
+  }
+  of(first, last) {
+    const found = new Uint32Array(this.codes), from = Math.ceil(first / BLOCK), to = Math.floor(last / BLOCK);
+    const each = (one, other) => { for (let k = one; k < other; k++) found[this.column[k]]++; };
+    if (from >= to) { each(first, last); return found; }
+    each(first, from * BLOCK);
+    each(to * BLOCK, last);
+    for (let code = 0; code < this.codes; code++) {
+      found[code] += this.sums[to * this.codes + code] - this.sums[from * this.codes + code];
+    }
+    return found;
+  }
+}
+
+// What keys do, and the buttons that name them.
+function listenToKeys(keys) {
+  for (const button of document.querySelectorAll("[data-key]")) button.onclick = () => keys[button.dataset.key]();
+  document.addEventListener("keydown", event => {
+    const taken = event.key === " " ? "input, select, button, summary" : "input:not([type=checkbox]), select";
+    if (event.target.matches?.(taken) || event.target.closest?.("[role=tablist]")?.contains(event.target)
+      && event.key.startsWith("Arrow")) return;
+    if (event.ctrlKey || event.altKey || event.metaKey || !Object.hasOwn(keys, event.key)) return;
+    event.preventDefault();
+    keys[event.key]();
+  });
+}
+function legend(id, marks) {
+  at(id).replaceChildren(...marks.map(([name, words, title]) => element("span", [mark(name), words], { title })));
+}

@@ -1,0 +1,371 @@
+// The time line: a ruler and a lane for each node, all with the same places for the same steps.
+// It is drawn again when what is seen changes; the chosen step is an element over it, which only moves.
+
+const STRIP = 20, BAND = 13, CURVES = 48, SPACE = 9, TOP = 264;
+const view = { from: 0, to: 1, step: 0 };
+let axis = new Axis([0], 1), lanes = [], overview = null;
+const time = { axisWords: [], ticks: () => [], words: () => "", choose: () => {}, moved: () => {} };
+
+// Where things are.
+
+const isNarrow = () => window.innerWidth < 640;
+function plotted() {
+  const full = at("field").clientWidth, right = isNarrow() ? 0 : 84;
+  return { full, width: Math.max(full - right, 1), isNarrow: isNarrow() };
+}
+const placeOf = (plot, place) => (place - view.from) / (view.to - view.from) * plot.width;
+
+// The steps of each pixel: those of pixel x are from edges[x] to before edges[x + 1].
+function edgesOf(width, from, to) {
+  const edges = new Int32Array(width + 1);
+  for (let x = 0; x <= width; x++) edges[x] = axis.from(from + (to - from) * x / width);
+  // What ends at the right end of the axis is in its last pixel.
+  if (to >= axis.length) edges[width] = axis.count;
+  return edges;
+}
+function sized(canvas, width, height) {
+  const scale = window.devicePixelRatio || 1, pen = canvas.getContext("2d");
+  canvas.style.height = height + "px";
+  canvas.width = Math.round(width * scale);
+  canvas.height = Math.round(height * scale);
+  pen.scale(scale, scale);
+  pen.font = "12px system-ui, 'DejaVu Sans', sans-serif";
+  pen.textBaseline = "middle";
+  return pen;
+}
+
+// Pieces of a drawing.
+
+function write(pen, text, x, y, tint = theme.text, align = "left") {
+  pen.fillStyle = tint;
+  pen.textAlign = align;
+  pen.fillText(text, x, y);
+}
+function across(plot, y, tint, dashes = []) {
+  const { pen } = plot;
+  pen.strokeStyle = tint;
+  pen.setLineDash(dashes);
+  pen.beginPath();
+  pen.moveTo(0, Math.round(y) + 0.5);
+  pen.lineTo(plot.width, Math.round(y) + 0.5);
+  pen.stroke();
+  pen.setLineDash([]);
+}
+function block(pen, fill, x, y, width, height) {
+  pen.fillStyle = fill;
+  pen.fillRect(x, y, width, height);
+}
+// Calls `each` with x, the lowest, the highest and the last value of the pixels; without a step in it a pixel keeps the
+// value before it.
+function pixels(plot, numbers, each) {
+  const { edges } = plot, found = { low: 0, high: 0 };
+  let last = edges[0] ? numbers.all[edges[0] - 1] : 0;
+  for (let x = 0; x < plot.width; x++) {
+    const first = edges[x], end = edges[x + 1];
+    if (end > first) {
+      numbers.range(first, end, found);
+      last = numbers.all[end - 1];
+    } else found.low = found.high = last;
+    each(x, found.low, found.high, last);
+  }
+}
+function curve(plot, numbers, top, height, most, tint, dashes = []) {
+  const { pen } = plot, y = value => top + height - value / most * height;
+  pen.strokeStyle = tint;
+  pen.lineWidth = 1.5;
+  pen.setLineDash(dashes);
+  pen.beginPath();
+  let before = -1;
+  pixels(plot, numbers, (x, low, high, last) => {
+    if (low === high && high === before) return;
+    if (before < 0) pen.moveTo(x, y(high)); else pen.lineTo(x, y(before));
+    pen.lineTo(x, y(high));
+    if (low !== high) pen.lineTo(x, y(low));
+    pen.lineTo(x, y(last));
+    before = last;
+  });
+  pen.lineTo(plot.width, y(Math.max(before, 0)));
+  pen.stroke();
+  pen.setLineDash([]);
+  pen.lineWidth = 1;
+}
+function area(plot, numbers, top, height, most, tint) {
+  plot.pen.fillStyle = tint;
+  pixels(plot, numbers, (x, _, high) => {
+    if (high) plot.pen.fillRect(x, top + height - high / most * height, 1, high / most * height);
+  });
+}
+// Error active is a line, every other state a bar with its name; of the states in a pixel the worst is shown.
+function band(plot, tec, rec, top, fills) {
+  const { pen } = plot, worst = new Uint8Array(plot.width);
+  pixels(plot, tec, (x, _, high) => { worst[x] = severity(high); });
+  pixels(plot, rec, (x, _, high) => { worst[x] = Math.max(worst[x], severity(high)); });
+  block(pen, theme.line, 0, top + BAND - 3, plot.width, 2);
+  for (let x = 0; x < plot.width;) {
+    let end = x + 1;
+    while (end < plot.width && worst[end] === worst[x]) end++;
+    if (worst[x]) stateBar(pen, worst[x], x, top, Math.max(end - x, 2), fills);
+    x = end;
+  }
+}
+function stateBar(pen, state, x, top, wide, fills) {
+  const text = ["", "warning", "passive", "bus off"][state];
+  block(pen, state === 3 ? fills.off : theme[text], x, top, wide, BAND - 1);
+  pen.font = "11px system-ui, 'DejaVu Sans', sans-serif";
+  const room = pen.measureText(text).width + 6;
+  if (room <= wide) {
+    if (state === 3) block(pen, theme.page, x + 1, top + 1, room, BAND - 3);
+    write(pen, text, x + 4, top + BAND / 2, state === 3 ? theme.text : theme.on);
+  }
+  pen.font = "12px system-ui, 'DejaVu Sans', sans-serif";
+}
+// The first of the texts that fits, on a plate in the colour of what it is on.
+function plate(pen, texts, x, wide, y, back, tint) {
+  const text = texts.find(one => pen.measureText(one).width < wide - 6);
+  if (!text) return;
+  const room = pen.measureText(text).width + 6;
+  block(pen, back, x + (wide - room) / 2, y - 8, room, 16);
+  write(pen, text, x + wide / 2, y + 0.5, tint, "center");
+}
+
+// A node: its attempts, its state, and both counters and the queue, which are folded where nothing happens.
+
+class NodeLane {
+  constructor(number, name, columns, strip) {
+    Object.assign(this, { number, name, strip, ...columns });
+    this.isFolded = this.isQuiet = !this.tec.most && !this.rec.most && this.queue.most < 2;
+    this.canFold = true;
+  }
+  get height() { return STRIP + BAND + (this.isFolded ? 0 : CURVES) + SPACE; }
+  draw(plot, top, fills) {
+    this.strip(plot, this.number, top, fills);
+    band(plot, this.tec, this.rec, top + STRIP + 2, fills);
+    if (!this.isFolded) this.curves(plot, top + STRIP + BAND + 4, CURVES - 2);
+    across(plot, top + this.height - 4, theme.line);
+  }
+  curves(plot, top, height) {
+    const y = limit => top + height - limit / TOP * height;
+    if (this.queue.most) area(plot, this.queue, top, height, Math.max(2, this.queueMost), theme.queue);
+    for (const [limit] of LIMITS) across(plot, y(limit), theme.soft, [2, 4]);
+    curve(plot, this.rec, top, height, TOP, theme.rec, [5, 2]);
+    curve(plot, this.tec, top, height, TOP, theme.tec);
+    const aside = { 96: 5, 128: -5, 256: 4 };
+    for (const [limit, text] of LIMITS) {
+      if (plot.isNarrow) write(plot.pen, String(limit), plot.width - 1, y(limit) + aside[limit], theme.soft, "right");
+      else write(plot.pen, `${limit} ${text}`, plot.width + 6, y(limit) + aside[limit], theme.soft);
+    }
+  }
+  // What is said at the left: the values at a step.
+  values(step) {
+    const of = numbers => numbers.all.length ? grouped(numbers.all[step]) : "0";
+    return [["tec", `transmit ${of(this.tec)}`], ["rec", `receive ${of(this.rec)}`], ["queue", `queue ${of(this.queue)}`]];
+  }
+}
+
+// A single column as an area or a curve, with marks where something is.
+class CurveLane {
+  constructor(name, numbers, words, more = {}) {
+    Object.assign(this, { name, numbers, words, height: 58, marks: null, hasArea: true, most: Math.max(1, numbers.most) }, more);
+  }
+  draw(plot, top) {
+    const high = this.height - 18;
+    if (this.hasArea) area(plot, this.numbers, top + 8, high, this.most, theme.queue);
+    curve(plot, this.numbers, top + 8, high, this.most, theme.tec);
+    across(plot, top + this.height - 6, theme.line);
+    if (!plot.isNarrow) write(plot.pen, this.scale || grouped(this.most), plot.width + 6, top + 10, theme.soft);
+    if (!plot.isNarrow && this.foot) write(plot.pen, this.foot, plot.width + 6, top + 6 + high, theme.soft);
+    if (this.marks) this.drawMarks(plot, top);
+  }
+  drawMarks(plot, top) {
+    for (let x = 0; x < plot.width; x++) {
+      const first = plot.edges[x], last = plot.edges[x + 1];
+      if (last > first && this.marks.subarray(first, last).includes(1)) {
+        block(plot.pen, theme.destroyed, x, top, 2, 6);
+      }
+    }
+  }
+  values(step) { return [["tec", this.words(step)]]; }
+}
+
+// The drawing of all.
+
+let layer = "";
+function drawTime() {
+  const plot = plotted();
+  plot.edges = edgesOf(plot.width, view.from, view.to);
+  drawRuler(plot);
+  const high = lanes.reduce((sum, lane) => sum + lane.height, 2);
+  plot.pen = sized(at("lanes"), plot.full, high);
+  const fills = fillsOf(plot.pen);
+  let top = 2;
+  for (const lane of lanes) {
+    lane.draw(plot, top, fills);
+    top += lane.height;
+  }
+  placeWindow();
+}
+function drawRuler(plot) {
+  const pen = sized(at("ruler"), plot.full, 32);
+  let free = 0;
+  pen.strokeStyle = theme.soft;
+  for (const { place, words } of time.ticks(plot)) {
+    const x = Math.round(placeOf(plot, place)), wide = Math.max(...words.map(text => pen.measureText(text).width));
+    if (x < 0 || x > plot.width) continue;
+    pen.beginPath();
+    pen.moveTo(x + 0.5, 26);
+    pen.lineTo(x + 0.5, 32);
+    pen.stroke();
+    const left = Math.min(x, plot.full - wide);
+    if (left < free) continue;
+    words.forEach((text, k) => write(pen, text, left, words.length > 1 ? 7 + k * 14 : 14, k ? theme.soft : theme.text));
+    free = left + wide + 14;
+  }
+}
+// Rounded steps of which `most` at most are from `from` to `to`.
+function rounded(from, to, most, least) {
+  const rough = Math.max((to - from) / Math.max(most, 1), least), power = 10 ** Math.floor(Math.log10(rough));
+  const each = [1, 2, 5, 10].map(by => by * power).find(by => by >= rough * 0.9999) || 10 * power;
+  const found = [];
+  for (let k = Math.ceil(from / each); k * each <= to && found.length < 100; k++) found.push(k * each);
+  return { each, found };
+}
+
+// The names at the left, with the values at the chosen step.
+function buildGutter() {
+  const axisWords = element("div", time.axisWords.map(text => element("div", text)), { className: "axis" });
+  at("gutter").replaceChildren(axisWords, ...lanes.map(lane => {
+    const isButton = lane.canFold || lane.canGo;
+    const name = element(isButton ? "button" : "span", lane.name, { className: "name", title: lane.title || lane.name });
+    if (isButton) name.type = "button";
+    if (lane.canGo) {
+      name.classList.add("goes");
+      name.title += "; choose to take the lane away";
+      name.onclick = () => { lanes = lanes.filter(one => one !== lane); buildGutter(); redraw(); };
+    }
+    if (lane.canFold) {
+      name.setAttribute("aria-expanded", !lane.isFolded);
+      name.title = `${lane.name}: ${lane.isFolded ? "show" : "fold"} counters and queue`;
+      name.onclick = () => { lane.isFolded = !lane.isFolded; buildGutter(); redraw(); };
+    }
+    lane.said = element("div", [], { className: "values" });
+    const box = element("div", lane.isFolded ? name : [name, lane.said], { className: "lane" });
+    box.style.height = lane.height + "px";
+    return box;
+  }));
+  sayValues();
+}
+function sayValues() {
+  for (const lane of lanes) {
+    const said = lane.values(view.step);
+    if (lane.said.childElementCount !== said.length) {
+      lane.said.replaceChildren(...said.map(([name]) => element("div", [mark(name), ""])));
+    }
+    said.forEach(([, text], k) => { lane.said.children[k].lastChild.data = text; });
+  }
+}
+// The chosen step, over ruler and lanes.
+function placeCursor() {
+  const plot = plotted(), cursor = at("cursor");
+  const from = placeOf(plot, axis.start[view.step]), to = placeOf(plot, axis.start[view.step + 1] ?? axis.length);
+  const wide = Math.min(Math.max(time.isInstant ? 3 : to - from, 3), plot.width);
+  cursor.hidden = !axis.count || from + wide < 0 || from > plot.width;
+  cursor.style.transform = `translateX(${from}px)`;
+  cursor.style.width = wide + "px";
+}
+// What is seen, in the overview of all.
+function placeWindow() {
+  const wide = at("overview").clientWidth, box = at("window");
+  box.style.left = view.from / axis.length * wide + "px";
+  box.style.width = Math.max((view.to - view.from) / axis.length * wide, 4) + "px";
+}
+
+// What a reader does to it: moves, zooms, chooses, asks.
+
+function look(from, to) {
+  const span = Math.min(Math.max(to - from, axis.least), axis.length);
+  view.from = Math.min(Math.max(0, from), axis.length - span);
+  view.to = view.from + span;
+  time.moved();
+  redraw();
+}
+function zoom(by, middle = Math.min(Math.max(axis.start[view.step] ?? 0, view.from), view.to)) {
+  const left = (middle - view.from) * by;
+  look(middle - left, middle - left + (view.to - view.from) * by);
+}
+let isDue = false, drawing = () => {};
+function redraw() {
+  if (isDue) return;
+  isDue = true;
+  requestAnimationFrame(() => { isDue = false; drawing(); });
+}
+function listenToTime() {
+  const canvas = at("lanes"), tip = at("tip");
+  const placeAt = event => view.from + event.offsetX / plotted().width * (view.to - view.from);
+  const rangeAt = event => {
+    const each = (view.to - view.from) / plotted().width, near = time.isInstant ? 3 : 0;
+    const first = near ? axis.from(placeAt(event) - near * each) : axis.stepAt(placeAt(event));
+    return [first, Math.max(first + (near ? 0 : 1), axis.from(placeAt(event) + (near || 1) * each))];
+  };
+  let held = null;
+  for (const one of [canvas, at("ruler")]) {
+    one.addEventListener("wheel", event => turn(event, placeAt(event)), { passive: false });
+    one.addEventListener("pointerdown", event => {
+      held = { place: placeAt(event), x: event.offsetX, moved: false };
+      one.setPointerCapture(event.pointerId);
+    });
+    one.addEventListener("pointermove", event => {
+      if (held && (held.moved || Math.abs(event.offsetX - held.x) > 4)) {
+        held.moved = true;
+        const by = held.place - placeAt(event);
+        look(view.from + by, view.to + by);
+      }
+      const isIn = axis.count && !held && event.offsetX <= plotted().width, [first, last] = isIn ? rangeAt(event) : [0, 0];
+      showTip(tip, event, last > first ? time.words(first, last) : "");
+    });
+    one.addEventListener("pointerleave", event => showTip(tip, event, ""));
+    one.addEventListener("pointercancel", () => held = null);
+    one.addEventListener("pointerup", event => {
+      const [first, last] = axis.count ? rangeAt(event) : [0, 0];
+      if (held && !held.moved && last > first) time.choose(first, last);
+      held = null;
+    });
+  }
+  listenToOverview();
+}
+function turn(event, place) {
+  const isAside = Math.abs(event.deltaX) > Math.abs(event.deltaY);
+  if (!event.ctrlKey && !event.metaKey && !isAside) return;
+  event.preventDefault();
+  if (!isAside) { zoom(event.deltaY < 0 ? 0.8 : 1.25, place); return; }
+  const by = event.deltaX / plotted().width * (view.to - view.from);
+  look(view.from + by, view.to + by);
+}
+function listenToOverview() {
+  const canvas = at("overview");
+  const move = event => {
+    const place = event.offsetX / canvas.clientWidth * axis.length, half = (view.to - view.from) / 2;
+    look(place - half, place + half);
+  };
+  canvas.addEventListener("pointerdown", event => { canvas.setPointerCapture(event.pointerId); move(event); });
+  canvas.addEventListener("pointermove", event => { if (event.buttons) move(event); });
+}
+function showTip(tip, event, text) {
+  tip.hidden = !text;
+  if (!text) return;
+  tip.textContent = text;
+  const x = Math.min(event.clientX + 14, window.innerWidth - tip.offsetWidth - 8);
+  const below = event.clientY + 18, isLow = below + tip.offsetHeight > window.innerHeight;
+  tip.style.left = Math.max(4, x) + "px";
+  tip.style.top = Math.max(4, isLow ? event.clientY - tip.offsetHeight - 10 : below) + "px";
+}
+
+// Draws again whenever colours or the width change, and in the colours of paper for the printer.
+function keepDrawn(draw, print) {
+  drawing = draw;
+  const again = () => { readTheme(); layer = ""; drawing(); };
+  matchMedia("(prefers-color-scheme: dark)").addEventListener("change", again);
+  window.addEventListener("resize", () => { layer = ""; redraw(); });
+  window.addEventListener("beforeprint", () => { document.documentElement.dataset.paper = ""; print(true); again(); });
+  window.addEventListener("afterprint", () => { delete document.documentElement.dataset.paper; print(false); again(); });
+  again();
+}

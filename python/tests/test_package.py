@@ -1,0 +1,107 @@
+"""The package as Python finds it: entry points without an installation, and one version everywhere."""
+
+import configparser
+import email
+import os
+import re
+import subprocess
+import sys
+from pathlib import Path
+
+import pytest
+
+import canbusd
+from canbusd._program import find_program
+
+tomllib = pytest.importorskip("tomllib")
+CLONE = Path(__file__).resolve().parents[2]
+SOURCES = CLONE / "python" / "src"
+(INFO,) = SOURCES.glob("canbusd-*.dist-info")
+# Nothing but PYTHONPATH, as README has it.
+ENVIRONMENT = {**os.environ, "PYTHONPATH": str(SOURCES), "PYTHONDONTWRITEBYTECODE": "1"}
+TEST = """
+import can, pytest
+
+@pytest.mark.canbusd("a,b")
+def test_it(canbusd):
+    with can.Bus(interface="canbusd", channel="a", address=canbusd.address) as a, canbusd.bus("b") as b:
+        a.send(can.Message(arbitration_id=0x123, is_extended_id=False))
+        assert b.recv(10).arbitration_id == 0x123
+"""
+
+
+def project():
+    return tomllib.loads((CLONE / "python" / "pyproject.toml").read_text(encoding="utf-8"))["project"]
+
+
+def test_the_entry_points_of_a_clone_are_those_of_the_wheel():
+    found = configparser.ConfigParser(delimiters="=")
+    found.optionxform = str
+    found.read(INFO / "entry_points.txt")
+    assert {name: dict(found[name]) for name in found.sections()} == project()["entry-points"]
+
+
+def test_the_metadata_of_a_clone_is_that_of_the_wheel():
+    found, wanted = email.message_from_string((INFO / "METADATA").read_text(encoding="utf-8")), project()
+    assert found["Name"] == wanted["name"]
+    assert found["Summary"] == wanted["description"]
+    assert found["Requires-Python"] == wanted["requires-python"]
+    assert [re.sub("[ ()]", "", one) for one in found.get_all("Requires-Dist")] == wanted["dependencies"]
+
+
+@pytest.mark.parametrize("words", [[], ["-p", "canbusd.pytest_plugin"]])
+def test_a_clone_without_an_installation(tmp_path, words):
+    (tmp_path / "test_it.py").write_text(TEST)
+    words = [
+        sys.executable,
+        "-m",
+        "pytest",
+        "-q",
+        "-p",
+        "no:cacheprovider",
+        *words,
+        "--canbusd-keep=failed",
+        "test_it.py",
+    ]
+    done = subprocess.run(words, cwd=tmp_path, env=ENVIRONMENT, capture_output=True, text=True, check=False)
+    assert "1 passed" in done.stdout, done.stdout + done.stderr
+
+
+def test_one_version(installed):
+    version = canbusd.__version__
+    assert INFO.name == f"canbusd-{version}.dist-info"
+    assert email.message_from_string((INFO / "METADATA").read_text(encoding="utf-8"))["Version"] == version
+    assert re.search(r"^## (\S+)", (CLONE / "CHANGELOG.md").read_text(encoding="utf-8"), re.M)[1] == version
+    manual = (CLONE / "canbusd.1").read_text(encoding="utf-8").splitlines()[0]
+    assert manual.endswith(f' "canbusd {version}"')
+    asks = "from importlib.metadata import version; print(version('canbusd'))"
+    words = [sys.executable, "-c", asks]
+    assert subprocess.check_output(words, env=installed, cwd="/", text=True) == f"{version}\n"
+
+
+# To be taken away once the program says so too: `.version(..)` in crates/canbusd_options/src/command_line.rt.
+@pytest.mark.xfail(strict=True, reason="the program of dist/ was built before the version changed")
+def test_the_version_of_the_program():
+    said = subprocess.check_output([find_program(), "--version"], text=True)
+    assert said == f"canbusd {canbusd.__version__}\n"
+
+
+@pytest.mark.parametrize(
+    "python_can, said",
+    [
+        ("raise ModuleNotFoundError('No module named can', name='can')", "and there is none"),
+        ("__version__ = '4.0.0'", "and found 4.0.0"),
+        ("__version__ = '3.3.2.final.0-1'", "and found 3.3.2.final.0-1"),
+    ],
+)
+@pytest.mark.parametrize("command", ["dump", "send", "status", "watch"])
+def test_without_a_python_can_that_fits(tmp_path, python_can, said, command):
+    (tmp_path / "can.py").write_text(python_can)
+    environment = {**ENVIRONMENT, "PYTHONPATH": os.pathsep.join([str(tmp_path), str(SOURCES)])}
+    words = [sys.executable, "-m", "canbusd", command, "can0"]
+    done = subprocess.run(words, env=environment, capture_output=True, text=True, check=False)
+    assert done.returncode == 1
+    assert re.fullmatch(
+        rf"canbusd {command}: canbusd needs python-can 4.1 or later, {said}: `apt-get install python3-can` .*\n",
+        done.stderr,
+    )

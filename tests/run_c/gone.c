@@ -1,0 +1,25 @@
+/* The server ends while a read waits, as a device that is unregistered: ENODEV, and ENXIO for writes. The word on
+ * standard output is when it should end. */
+#include "check.h"
+
+int main(void) {
+    struct can_frame frame;
+    int reader = bound("can1"), writer = bound("can0");
+    put(writer, 0x123, 1);
+    CHECK(comes(reader, PATIENCE));
+    printf("ready\n");
+    fflush(stdout);
+    get(reader, 0x123, 1); /* What has arrived can still be read. */
+    struct can_frame other;
+    CHECK(comes(reader, PATIENCE));
+    FAILS(read(reader, &other, sizeof other), ENODEV);
+    FAILS(recv(reader, &other, sizeof other, MSG_DONTWAIT), ENODEV);
+    frame = frame_of(0x123, 2);
+    CHECK(comes(writer, PATIENCE));
+    FAILS(write(writer, &frame, sizeof frame), ENXIO);
+    int late = socket(PF_CAN, SOCK_RAW, CAN_RAW);
+    struct sockaddr_can address = {.can_family = AF_CAN, .can_ifindex = 0};
+    CHECK(late >= 0);
+    FAILS(bind(late, (struct sockaddr *)&address, sizeof address), ENODEV);
+    return 0;
+}

@@ -1,0 +1,40 @@
+"""What the figures are measured by: the plain C programs compile without a warning, and `limit` writes what canbusd does."""
+
+import os
+import re
+import shutil
+import subprocess
+
+import pytest
+
+from commands import examples
+from serving import ROOT
+
+pytestmark = pytest.mark.skipif(not (shutil.which("cc") and shutil.which("make")), reason="not installed: cc or make")
+
+
+@pytest.fixture(scope="module")
+def built(tmp_path_factory):
+    """The folder in which they are built."""
+    folder = tmp_path_factory.mktemp("benches") / "benches"
+    shutil.copytree(os.path.join(ROOT, "benches"), folder)
+    done = subprocess.run(["make", "-s", "-C", folder, "clean", "all"], capture_output=True, text=True, check=False)
+    assert (done.returncode, done.stderr) == (0, "")
+    return folder
+
+
+@pytest.mark.parametrize("name", examples())
+def test_examples(built, name):
+    with open(os.path.join(ROOT, "examples", f"{name}.bench"), encoding="utf-8") as file:
+        words = re.search(r"\./canbusd (bench .+) < ", file.read())[1].split()
+    with open(os.path.join(ROOT, "examples", f"{name}.bench"), "rb") as lines:
+        done = subprocess.run([built / "limit", *words], stdin=lines, cwd=ROOT, capture_output=True, check=False)
+    with open(os.path.join(ROOT, "examples", f"{name}.out"), "rb") as wanted:
+        assert (done.returncode, done.stdout) == (0, wanted.read())
+
+
+@pytest.mark.slow
+def test_the_server_and_its_client(built):
+    """that the client finds each fault that a server has on purpose, and none in one that is right"""
+    done = subprocess.run([built / "serve_test.py"], capture_output=True, text=True, check=False)
+    assert done.returncode == 0, done.stdout + done.stderr

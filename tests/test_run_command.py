@@ -1,0 +1,412 @@
+"""canbusd-run, the command: it becomes the program, finds the server, and leaves nothing behind."""
+
+import contextlib
+import os
+import pty
+import re
+import shutil
+import signal
+import socket
+import stat
+import subprocess
+import time
+
+import pytest
+
+from running import FAST, bridges, command, environment, listening, needs, needs_gcc, none_left, passes, run, started
+from serving import WAIT, come_true, plain, serving
+
+NOWHERE = "127.0.0.1:9"
+
+
+def alone(*words, **how):
+    """canbusd-run with these words, without a server of the tests."""
+    how = {"capture_output": True, "text": True, "timeout": 60, "check": False, **how}
+    env = {name: value for name, value in os.environ.items() if not name.startswith("CANBUSD_")}
+    return subprocess.run([command(), *words], **{"env": env, **how})
+
+
+def test_help():
+    """--help shows each option, --version the version"""
+    shown = alone("--help")
+    assert shown.returncode == 0 and shown.stderr == ""
+    for word in ("--address", "--interfaces", "--wait", "CANBUSD_ADDRESS", "CANBUSD_RUN_DEBUG", "125", "126", "127"):
+        assert word in shown.stdout, word
+    assert re.fullmatch(r"canbusd-run \d+\.\d+\.\d+\n", alone("--version").stdout)
+
+
+@pytest.mark.parametrize(
+    "words, line",
+    [
+        ((), "which program? --help shows how it is used"),
+        (("--address", NOWHERE), "which program? --help shows how it is used"),
+        (("--fast", "true"), "no such option (--help shows all): --fast"),
+        (("--interfaces", "can0,", "true"), "--interfaces needs names of interfaces, joined by commas: can0,"),
+        (("--interfaces", "a/b", "true"), "--interfaces needs names of interfaces, joined by commas: a/b"),
+        (("--address", "can0", "true"), "can0 is no address: it is HOST:PORT, [V6]:PORT, or a Unix path that begins with / or ."),
+        (("--address", "1.2.3.4:0", "true"), "1.2.3.4:0 is no address: it is HOST:PORT, [V6]:PORT, or a Unix path that begins with / or ."),
+    ],
+)
+def test_wrong_words(words, line):
+    """status 125, and one line"""
+    ended = alone(*words)
+    assert (ended.returncode, ended.stdout, ended.stderr) == (125, "", f"canbusd-run: {line}\n")
+
+
+@pytest.mark.parametrize("how", ["option", "variable", "default"])
+def test_no_server(how, tmp_path):
+    """status 125 at once, and one line with the address and what to do"""
+    address = f"{tmp_path}/none.socket"
+    words = {"option": ["--address", address], "variable": [], "default": []}[how]
+    env = {**os.environ, "CANBUSD_ADDRESS": address if how == "variable" else ""}
+    if how == "default":
+        address = "127.0.0.1:29536"
+        with contextlib.closing(socket.socket()) as probe:
+            if probe.connect_ex(("127.0.0.1", 29536)) == 0:
+                pytest.skip("something listens at the default address")
+    begin = time.monotonic()
+    ended = alone(*words, "touch", str(tmp_path / "ran"), env=env)
+    assert time.monotonic() - begin < 5
+    assert ended.returncode == 125 and ended.stdout == "" and ended.stderr.count("\n") == 1, ended
+    assert f"no canbusd server at {address} (" in ended.stderr and "canbusd serve" in ended.stderr and "--address" in ended.stderr
+    assert not (tmp_path / "ran").exists()
+
+
+def test_other_server():
+    """what listens there may be no canbusd"""
+    with socket.create_server(("127.0.0.1", 0)) as other:
+        address = f"127.0.0.1:{other.getsockname()[1]}"
+        with subprocess.Popen([command(), "--address", address, "true"], stderr=subprocess.PIPE, text=True) as child:
+            connection, _ = other.accept()
+            connection.sendall(b"220 mail.example\r\n")
+            connection.close()
+            said = child.stderr.read()
+            assert child.wait(WAIT) == 125 and "something else: it says 220 mail.example" in said, said
+
+
+def test_wait(tmp_path):
+    """--wait waits for the server"""
+    address = str(tmp_path / "late.socket")
+    with subprocess.Popen([command(), "--wait", "--address", address, "echo", "ran"], stdout=subprocess.PIPE, text=True) as child:
+        time.sleep(0.3)
+        assert child.poll() is None
+        with serving("can0,can1", address=address) as server:
+            assert child.communicate(timeout=WAIT)[0] == "ran\n"
+            server.end()
+
+
+@pytest.mark.parametrize("address", ["127.0.0.1:0", "./run.socket", "[::1]:0"])
+def test_addresses(address):
+    """by option and by variable; a host's name; a path that is relative, from another folder too"""
+    if address.startswith("[") and not os.path.exists("/proc/net/if_inet6"):
+        pytest.skip("no IPv6")
+    with serving("can0,can1", address=address) as server:
+        reader = plain(server, "can1")
+        words = ["python3", "-c", SEND]
+        if address.startswith("."):
+            inside = ["sh", "-c", 'cd / && exec "$@"', "sh", *words]
+            ended = alone("--address", "./run.socket", "--", *inside, cwd=server.folder)
+        elif address.startswith("["):
+            ended = alone("--address", server.address, "--", *words)
+        else:
+            ended = alone("--address", f"localhost:{server.port}", "--", *words)
+        assert ended.returncode == 0, ended
+        passes(server, *words)
+        assert [reader.frame() for _ in range(2)] == [("123", b"\1")] * 2
+        reader.close()
+        server.end()
+
+
+SEND = "import socket, struct; s = socket.socket(29, 3, 1); s.bind(('can0',)); s.send(struct.pack('=IB3x8s', 0x123, 1, b'\\1'))"
+
+
+def test_status_and_pid():
+    """the status, the signal and the number of the process are the program's"""
+    with serving("can0,can1") as server:
+        assert run(server, "sh", "-c", "exit 7").returncode == 7
+        assert run(server, "sh", "-c", "kill -KILL $$").returncode == -signal.SIGKILL
+        missing, folder = run(server, "no-such-program"), run(server, "/tmp")
+        assert (missing.returncode, missing.stderr) == (127, "canbusd-run: no-such-program: No such file or directory\n")
+        assert (folder.returncode, folder.stderr) == (126, "canbusd-run: /tmp: Permission denied\n")
+        with started(server, "sh", "-c", "echo $$") as child:
+            assert int(child.stdout.readline()) == child.pid
+        assert passes(server, "printf", "%s|", "--address", "x y", "") == "--address|x y||"
+        server.end()
+
+
+def test_interrupt():
+    """Ctrl-C at a terminal ends the program, which has the terminal, and its bridges"""
+    with serving("can0,can1") as server:
+        pid, terminal = pty.fork()
+        if pid == 0:
+            os.execve(command(), [command(), "python3", "-c", WAITING_READER], environment(server))
+        shown = b""
+        while b"ready" not in shown:
+            shown += os.read(terminal, 1000)
+        assert len(bridges(environment(server)["CANBUSD_ADDRESS"])) == 1
+        os.write(terminal, b"\3")
+        with contextlib.suppress(OSError):
+            while piece := os.read(terminal, 1000):
+                shown += piece
+        _, status = os.waitpid(pid, 0)
+        os.close(terminal)
+        assert b"KeyboardInterrupt" in shown and os.WTERMSIG(status) == signal.SIGINT, shown
+        assert none_left(server)
+        server.end()
+
+
+WAITING_READER = (
+    "import socket, sys; s = socket.socket(29, 3, 1); s.bind(('can0',)); print('ready', flush=True); "
+    "s.recv(16); print('got', flush=True); s.recv(16)"
+)
+
+
+def test_kill():
+    """after SIGKILL no process and no session is left"""
+    with serving("can0,can1", "car0") as server:
+        watcher = plain(server, "can1")
+        for _ in range(3):
+            with started(server, "python3", "-c", WAITING_READER) as child:
+                assert child.stdout.readline() == "ready\n", child.stderr.read()
+                watcher.tell("< send 123 0 >")
+                assert child.stdout.readline() == "got\n"
+                child.kill()
+            assert none_left(server)
+        watcher.close()
+        assert come_true(server.rests)
+        server.end()
+
+
+def test_pipes():
+    """a bridge holds no pipe: who reads to its end sees it once the program has ended"""
+    with serving("can0,can1") as server:
+        script = 'python3 -c "$1" & sleep 0.5; kill -STOP $!; echo done'
+        with started(server, "bash", "-c", f"({script})", "sh", WAITING_READER) as child:
+            assert child.stdout.readline() == "ready\n", child.stderr.read()
+            assert child.stdout.readline() == "done\n"
+            for number in bridges(environment(server)["CANBUSD_ADDRESS"]):
+                held = {os.readlink(f"/proc/{number}/fd/{fd}") for fd in os.listdir(f"/proc/{number}/fd")}
+                assert {re.sub(r"\d+", "N", one) for one in held} == {"/dev/null", "socket:[N]"}, held
+                assert os.readlink(f"/proc/{number}/cwd") == "/"
+        assert none_left(server)
+        server.end()
+
+
+def test_no_child():
+    """the program sees no child, no SIGCHLD, and one descriptor for a socket; its other files are untouched"""
+    text = """
+import os, signal, socket
+seen = []
+signal.signal(signal.SIGCHLD, lambda *_: seen.append(1))
+before = os.listdir("/proc/self/fd")
+a = socket.socket(29, 3, 1)
+a.bind(("can0",))
+assert len(os.listdir("/proc/self/fd")) == len(before) + 1
+try:
+    os.waitpid(-1, os.WNOHANG)
+except ChildProcessError:
+    pass
+else:
+    raise AssertionError("a child")
+a.close()
+assert os.listdir("/proc/self/fd") == before and not seen
+r, w = os.pipe()
+assert os.write(w, b"xyz") == 3 and os.read(r, 2) == b"xy"
+x, y = socket.socketpair()
+x.send(b"1")
+assert y.recv(5) == b"1"
+with open("/dev/null", "wb", 0) as null:
+    assert null.write(b"123") == 3
+"""
+    with serving("can0,can1") as server:
+        passes(server, "/usr/bin/python3", "-c", text)
+        assert none_left(server)
+        server.end()
+
+
+@needs("candump", "cansend")
+def test_nested():
+    """canbusd-run in canbusd-run, a shell, and other preloads"""
+    with serving(*FAST, "can0,can1") as server:
+        assert passes(server, command(), "sh", "-c", 'echo "$LD_PRELOAD"').count("libcanbusd-run.so") == 1
+        with listening(server, "stdbuf", "-oL", "candump", "-L", "-n", "2", "can1") as dump:
+            passes(server, "sh", "-c", f"cansend can0 123#01 && {command()} cansend can0 124#02")
+            assert [line.split()[2] for line in dump.communicate(timeout=WAIT)[0].splitlines()] == ["123#01", "124#02"]
+        server.end()
+
+
+def test_debug():
+    """CANBUSD_RUN_DEBUG=1 writes each refusal and the server's reason"""
+    text = SEND.replace("s.send(", "s.send(b'x' * 15) if 0 else s.send(")
+    with serving("--limit", "3", "can0,can1") as server:
+        client = plain(server, "can0")
+        client.tell("< send 1 0 >")
+        ended = run(server, "/usr/bin/python3", "-c", text, env=environment(server, CANBUSD_RUN_DEBUG="1"))
+        assert ended.returncode == 1 and "canbusd-run: bind: Network is down: the server says: record full\n" in ended.stderr, ended
+        quiet = run(server, "/usr/bin/python3", "-c", text)
+        assert "canbusd-run" not in quiet.stderr
+        client.close()
+        server.finish()
+    with serving("can0,can1") as server:
+        wrong = run(server, "/usr/bin/python3", "-c", text.replace("can0", "can9"), env=environment(server, CANBUSD_RUN_DEBUG="1"))
+        assert "canbusd-run: interface: No such device: the server says: no such interface\n" in wrong.stderr, wrong
+        server.end()
+
+
+@needs_gcc
+def test_obstacles(tmp_path):
+    """a note says why the sockets of a program are the kernel's: linked statically, setuid, 32 bits, Go"""
+    source = tmp_path / "nothing.c"
+    source.write_text("int main(void) { return 0; }\n", encoding="utf-8")
+    built = {}
+    for name, flags in {"dynamic": [], "static": ["-static"]}.items():
+        built[name] = str(tmp_path / name)
+        subprocess.run(["gcc", *flags, "-o", built[name], str(source)], check=True)
+    marked = bytearray((tmp_path / "dynamic").read_bytes())
+    marked[4] = 1
+    (tmp_path / "small").write_bytes(marked)
+    (tmp_path / "small").chmod(0o755)
+    with serving("can0,can1") as server:
+        assert run(server, built["dynamic"]).stderr == ""
+        note = "canbusd-run: note: {} {}, so its CAN sockets are the kernel's\n"
+        static = run(server, built["static"])
+        assert (static.returncode, static.stderr) == (0, note.format(built["static"], "is linked statically"))
+        small = run(server, str(tmp_path / "small"))
+        assert small.stderr.startswith(note.format(tmp_path / "small", "is a 32-bit program"))
+        if os.geteuid() == 0:
+            shutil.copy(built["dynamic"], tmp_path / "other")
+            os.chown(tmp_path / "other", 65534, 65534)
+            os.chmod(tmp_path / "other", 0o755 | stat.S_ISUID)
+            other = run(server, str(tmp_path / "other"))
+            assert other.stderr == note.format(tmp_path / "other", "is setuid, setgid or has capabilities")
+        server.end()
+
+
+def test_space_in_path(tmp_path):
+    """the loader can't take a library from there: status 125 and a line"""
+    folder = tmp_path / "my programs"
+    folder.mkdir()
+    for name in ("canbusd-run", "canbusd-bridge", "libcanbusd-run.so"):
+        shutil.copy(os.path.join(os.path.dirname(command()), name), folder / name)
+    with serving("can0,can1") as server:
+        ended = run(server, "true", runner=str(folder / "canbusd-run"))
+        assert ended.returncode == 125 and "a space or a colon" in ended.stderr, ended
+        server.end()
+
+
+@pytest.mark.root
+def test_unprivileged(tmp_path):
+    """nobody, who can get no new rights, can use it"""
+    reader = os.path.dirname(command())
+    shutil.copytree(reader, tmp_path / "run", ignore=shutil.ignore_patterns("sanitized"))
+    for path in [tmp_path, *tmp_path.parents]:
+        if os.stat(path).st_mode & 0o755 != 0o755 and str(path).startswith("/tmp/pytest"):
+            os.chmod(path, 0o755)
+    with serving("can0,can1") as server:
+        client = plain(server, "can1")
+        words = ["setpriv", "--reuid=65534", "--regid=65534", "--clear-groups", "--no-new-privs", "--inh-caps=-all"]
+        subprocess.run([*words, str(tmp_path / "run" / "canbusd-run"), "/usr/bin/python3", "-c", SEND], env=environment(server), check=True, timeout=60)
+        assert client.frame() == ("123", b"\1")
+        client.close()
+        assert none_left(server)
+        server.end()
+
+
+def test_64_sockets():
+    """as many as the server has room for; one more is EUSERS (87), and again fine once one is closed"""
+    text = """
+import errno, socket
+def one():
+    s = socket.socket(29, 3, 1)
+    s.bind(("can0",))
+    return s
+all = [one() for _ in range(64)]
+try:
+    one()
+except OSError as fault:
+    assert fault.errno == errno.EUSERS, fault
+else:
+    raise AssertionError("65 sockets")
+all.pop().close()
+for _ in range(100):
+    try:
+        one()
+        break
+    except OSError:
+        import time
+        time.sleep(0.05)
+else:
+    raise AssertionError("no room")
+"""
+    with serving("can0,can1") as server:
+        passes(server, "/usr/bin/python3", "-c", text, options=["--interfaces", "can0,can1"])
+        assert none_left(server)
+        server.end()
+
+
+def test_server_stops():
+    """a server that is stopped for longer than a write waits: the write fails, and all goes on when it continues"""
+    text = """
+import errno, socket, struct, sys
+s = socket.socket(29, 3, 1)
+s.bind(("can0",))
+print("ready", flush=True)
+sys.stdin.readline()
+frame = struct.pack("=IB3x8s", 0x123, 1, b"1")
+try:
+    s.send(frame)
+except OSError as fault:
+    print(errno.errorcode[fault.errno], flush=True)
+sys.stdin.readline()
+s.send(frame)
+print("sent", flush=True)
+"""
+    with serving("can0,can1") as server, started(server, "/usr/bin/python3", "-c", text, stdin=subprocess.PIPE) as child:
+        reader = plain(server, "can1")
+        assert child.stdout.readline() == "ready\n"
+        os.killpg(server.child.pid, signal.SIGSTOP)
+        child.stdin.write("\n")
+        child.stdin.flush()
+        assert child.stdout.readline() == "ETIMEDOUT\n"
+        os.killpg(server.child.pid, signal.SIGCONT)
+        child.stdin.write("\n")
+        child.stdin.flush()
+        assert child.stdout.readline() == "sent\n"
+        assert [reader.frame() for _ in range(2)] == [("123", b"1")] * 2
+        reader.close()
+
+
+def test_no_descriptors():
+    """at the limit of descriptors a write is refused (ENOBUFS), and the socket goes on"""
+    text = """
+import errno, os, resource, socket, struct
+s = socket.socket(29, 3, 1)
+s.bind(("can0",))
+resource.setrlimit(resource.RLIMIT_NOFILE, (20, 20))
+held = []
+try:
+    while True:
+        held.append(os.dup(0))
+except OSError:
+    pass
+frame = struct.pack("=IB3x8s", 0x123, 1, b"1")
+try:
+    s.send(frame)
+except OSError as fault:
+    assert fault.errno == errno.ENOBUFS, fault
+else:
+    raise AssertionError("sent")
+for fd in held:
+    os.close(fd)
+assert s.send(frame) == 16
+"""
+    with serving("can0,can1") as server:
+        passes(server, "/usr/bin/python3", "-c", text)
+        server.end()
+
+
+def test_bridge_alone():
+    """the bridge says what it is"""
+    bridge = os.path.join(os.path.dirname(command()), "canbusd-bridge")
+    ended = subprocess.run([bridge], capture_output=True, text=True, check=False, stdin=subprocess.DEVNULL)
+    assert ended.returncode == 125 and "canbusd-run" in ended.stderr

@@ -1,0 +1,345 @@
+"""canbusd-run: the tools of can-utils, by what they write. What they should write is can-utils' own format."""
+
+import contextlib
+import re
+import signal
+import socket
+import subprocess
+import time
+
+import pytest
+
+from running import FAST, listening, needs, none_left, passes, run, settled, started, written
+from serving import ROOT, come_true, serving, turns
+
+pytestmark = needs("candump", "cansend")
+
+
+@pytest.fixture
+def server():
+    with serving(*FAST, "can0,can1", "vcan0") as running:
+        yield running
+        assert none_left(running), "a bridge is left"
+        running.end()
+
+
+def send(server, *frames, name="can0"):
+    for frame in frames:
+        assert passes(server, "cansend", name, frame) == ""
+
+
+def ended(child):
+    """What a program has written that Ctrl-C ends."""
+    child.send_signal(signal.SIGINT)
+    return child.communicate(timeout=20)[0]
+
+
+def logged(server, name):
+    """The frames of a server's log, once it has ended."""
+    server.end()
+    with open(server.path(f"{name}.log"), encoding="utf-8") as log:
+        return [line.split(" ", 1)[1] for line in log.read().splitlines()]
+
+
+def test_cansend():
+    """classic, 29 bits, remote, FD: as the server's log has them"""
+    with serving(*FAST, "can0,can1") as server:
+        frames = ["123#", "123#DEADBEEF", "5AA#0011223344556677", "1F334455#11", "00000123#", "123#R", "123#R5"]
+        send(server, *frames, "213##311223344556677881122334455667788")
+        flags = "213##011223344556677881122334455667788"  # The flags of FD frames are not carried.
+        assert none_left(server)
+        assert logged(server, "can0") == [f"can0 {frame}" for frame in [*frames, flags]]
+
+
+def test_cansend_refused():
+    """a wrong name, a full queue and bus off have the words of the kernel's errors"""
+    with serving("--pace", "60000", "can0,can1@" + f"{ROOT}/examples/bus_off_attack.script") as server:
+        wrong = run(server, "cansend", "can7", "123#")
+        assert wrong.returncode == 1 and "No such device" in wrong.stderr, wrong
+        full = [run(server, "cansend", "can0", "123#") for _ in range(12)][-1]
+        assert full.returncode == 1 and full.stderr == "write: No buffer space available\n", full
+        server.end()
+    with serving("--pace", "0", "can0,can1@" + f"{ROOT}/examples/bus_off_attack.script") as server:
+        send(server, "123#")
+        assert come_true(lambda: run(server, "cansend", "can0", "123#").stderr == "write: Network is down\n")
+        server.end()
+
+
+def test_candump(server):
+    """the forms of its lines"""
+    with listening(server, "candump", "-n", "4", "can1") as dump:
+        send(server, "123#1122", "12345678#01", "123#R", "7FF#0011223344556677")
+        # Identifiers of 11 bits are indented once one of 29 bits was shown.
+        assert re.sub(" +", " ", written(dump)) == (
+            " can1 123 [2] 11 22\n"
+            " can1 12345678 [1] 01\n"
+            " can1 123 [0] remote request\n"
+            " can1 7FF [8] 00 11 22 33 44 55 66 77\n"
+        )
+    with listening(server, "candump", "-n", "1", "-x", "-e", "-a", "can1") as dump:
+        send(server, "123#414243")
+        assert written(dump) == "  can1  RX - -  123   [3]  41 42 43                  'ABC'\n"
+    with listening(server, "candump", "-n", "1", "can1") as dump:
+        send(server, "123##0112233445566778899AABBCC")
+        assert written(dump) == "  can1  123  [12]  11 22 33 44 55 66 77 88 99 AA BB CC\n"
+    quiet = run(server, "candump", "-T", "300", "can1")
+    assert (quiet.returncode, quiet.stdout) == (0, ""), quiet
+
+
+def test_candump_stamps():
+    """the moments of each kind of stamp are those of the server's log"""
+    with serving(*FAST, "can0,can1") as server:
+        with listening(server, "candump", "-L", "-n", "2", "can1") as first, listening(
+            server, "candump", "-ta", "-n", "2", "can1"
+        ) as second, listening(server, "candump", "-H", "-ta", "-n", "2", "can1") as third:
+            send(server, "123#11", "124#22")
+            lines = written(first).splitlines()
+            absolute = re.findall(r"\((\d+\.\d+)\)", written(second))
+            hardware = third.communicate(timeout=20)[0].splitlines()
+        server.end()
+        with open(server.path("can0.log"), encoding="utf-8") as log:
+            expected = log.read().splitlines()
+        assert lines == [line.replace("can0", "can1") for line in expected]
+        assert absolute == [line[1:].split(")")[0] for line in expected]
+        assert len(hardware) == 2, hardware
+
+
+@pytest.mark.parametrize(
+    "words, expected",
+    [
+        ("can1,123:7FF", ["123", "00000123"]),
+        ("can1,123:C00007FF", ["123"]),
+        ("can1,00000123:DFFFFFFF", ["00000123"]),
+        ("can1,123~7FF", ["124", "7FF"]),
+        ("can1,100:700,123~7FF,j", ["124"]),
+        ("can1," + ",".join(f"{number:03X}:7FF" for number in range(0x100, 0x124)) + ",7FF:7FF", ["123", "00000123", "7FF"]),
+        ("can1," + ",".join(f"{number:08X}:DFFFFFFF" for number in range(0x100, 0x1C8)), ["00000123"]),
+    ],
+)
+def test_candump_filters(server, words, expected):
+    """what passes, and nothing else; up to 200 filters"""
+    with listening(server, "candump", "-L", words + ",555:7FF" * ("~" not in words and "j" not in words), "vcan0") as dump:
+        send(server, "123#", "124#", "00000123#", "7FF#")
+        send(server, "001#", name="vcan0")
+        lines = []
+        for line in dump.stdout:
+            lines.append(line.split()[-1].split("#")[0])
+            if lines[-1] == "001":
+                break
+        # Another bus has its own order.
+        time.sleep(0.1)
+        lines += [line.split()[-1].split("#")[0] for line in ended(dump).splitlines()]
+    assert [line for line in lines if line != "001"] == expected
+
+
+def test_candump_any(server):
+    """two buses; loopback at the interface that sends"""
+    with listening(server, "candump", "-L", "any") as dump:
+        send(server, "123#01")
+        send(server, "124#02", name="vcan0")
+        names = sorted(dump.stdout.readline().split(" ", 1)[1] for _ in range(3))
+    assert names == ["can0 123#01\n", "can1 123#01\n", "vcan0 124#02\n"]
+
+
+def test_candump_errors():
+    """bus off and restart as error message frames, as `-L` writes them"""
+    script = f"can0,can1@{ROOT}/examples/bus_off_attack.script"
+    with serving("--pace", "1", "--auto-restart", "50", script) as server:
+        with listening(server, "candump", "-L", "-n", "4", "can0,0~0,#FFFFFFFF") as dump:
+            send(server, "123#01")
+            classes = [line.split()[-1].split("#")[0] for line in written(dump).splitlines()]
+        assert classes == ["20000204", "20000204", "20000040", "20000100"]
+        server.end()
+
+
+def test_candump_log(server, tmp_path):
+    """-l writes a file"""
+    with listening(server, "candump", "-l", "can1", cwd=tmp_path) as dump:
+        send(server, "123#01", "12345678#02")
+
+        def lines():
+            return [line.split(" ", 1)[1] for path in tmp_path.glob("candump-*.log") for line in path.read_text().splitlines()]
+
+        assert come_true(lambda: dump.poll() is not None or len(lines()) == 2 or ended(dump))
+        assert lines() == ["can1 123#01", "can1 12345678#02"]
+
+
+def test_cangen(server, tmp_path):
+    """10,000 frames as fast as they go: all arrive, once, in order"""
+    frames = 10_000
+    with open(tmp_path / "lines", "w+", encoding="utf-8") as lines:
+        with listening(server, "candump", "-L", "-n", str(frames), "can1", stdout=lines) as dump:
+            passes(server, "cangen", "can0", "-g", "0", "-p", "10", "-I", "123", "-L", "8", "-D", "i", "-n", str(frames))
+            written(dump)
+        lines.seek(0)
+        numbers = [int.from_bytes(bytes.fromhex(line.split("#")[1]), "little") for line in lines]
+    assert numbers == list(range(frames))
+
+
+def test_cangen_kinds(server):
+    """FD, 29 bits and remote frames; -i goes on where the queue is full"""
+    with listening(server, "candump", "-L", "-n", "30", "can1") as dump:
+        passes(server, "cangen", "can0", "-g", "1", "-n", "10", "-f")
+        passes(server, "cangen", "can0", "-g", "1", "-n", "10", "-e")
+        passes(server, "cangen", "can0", "-g", "1", "-n", "10", "-R")
+        lines = [line.split()[-1] for line in written(dump).splitlines()]
+    assert all(re.fullmatch(r"[0-9A-F]{3}##0([0-9A-F]{2})*", line) for line in lines[:10]), lines
+    assert all(re.fullmatch(r"[0-9A-F]{8}#([0-9A-F]{2})*", line) for line in lines[10:20]), lines
+    assert all(re.fullmatch(r"[0-9A-F]{3}#R[0-8]?", line) for line in lines[20:]), lines
+    with serving("--pace", "50", "can0,can1") as slow:
+        refused = run(slow, "cangen", "can0", "-g", "0", "-n", "50", "-i")
+        assert refused.returncode == 0 and re.search(r"Counted \d+ ENOBUFS return values", refused.stdout), refused
+        slow.end()
+
+
+def test_canplayer(server, tmp_path):
+    """a log is played, with --wait also into a short queue"""
+    log = tmp_path / "run.log"
+    lines = [f"({number / 1000:.6f}) can0 {number:03X}#{number:04X}" for number in range(1, 101)]
+    log.write_text("\n".join(lines) + "\n", encoding="utf-8")
+    with serving("--pace", "1", "can0,can1") as short:
+        with listening(short, "candump", "-L", "-n", "100", "can1") as dump:
+            passes(short, "canplayer", "-I", str(log), "-t", options=["--wait"])
+            played = [line.split()[-1] for line in written(dump).splitlines()]
+        short.end()
+    assert played == [line.split()[-1] for line in lines]
+    with listening(server, "candump", "-L", "-n", "100", "can1") as dump:
+        passes(server, "canplayer", "-I", str(log), "can0=can0")
+        assert len(written(dump).splitlines()) == 100
+
+
+def test_cansequence(server):
+    """one end counts and sends, the other finds no gap"""
+    with listening(server, "cansequence", "-r", "-v", "can1") as reader:
+        passes(server, "cansequence", "can0", "--loop=300", "-p")
+        send(server, "002#FF")  # The next number is 300 & 255.
+        output = ""
+        for line in reader.stderr:
+            output += line
+            if "missing" in line:
+                break
+        ended(reader)
+    assert re.search(r"RX:\s+255\s+expected:\s+44\s+missing:\s+211 .* incident: 1$", output), output
+
+
+def test_canfdtest(server):
+    """each frame comes back, with all of its bytes one higher"""
+    with listening(server, "canfdtest", "can1") as dut:
+        host = run(server, "canfdtest", "-g", "-l", "200", "can0")
+        assert host.returncode == 0 and "Test messages sent and received: 200" in host.stdout + host.stderr, host
+        ended(dut)
+
+
+def test_canbusload(server):
+    """it counts frames and bits"""
+    with listening(server, "canbusload", "can1@500000") as load:
+        for number in range(5):
+            send(server, f"{0x100 + number:03X}#1122334455667788")
+        assert come_true(lambda: any(int(line.split()[1]) > 0 for line in [load.stdout.readline()] if line.startswith(" can1@")))
+        ended(load)
+
+
+def test_cansniffer(server):
+    """it shows the data of an identifier that changes"""
+    with started(server, "cansniffer", "can1", stdin=subprocess.PIPE) as sniffer:
+        settled(sniffer)
+        shown = ""
+        for number in range(50):
+            send(server, f"123#A1B2C3{number:02X}")
+            time.sleep(0.05)
+            if number % 10 == 9:
+                sniffer.stdin.write("\n")
+                sniffer.stdin.flush()
+        sniffer.stdin.write("q\n")
+        sniffer.stdin.flush()
+        try:
+            shown = sniffer.communicate(timeout=2)[0]
+        except subprocess.TimeoutExpired:
+            shown = ended(sniffer)
+    assert "A1 B2 C3" in re.sub(r"\x1b\[[0-9;]*[A-Za-z]", "", shown), shown[-500:]
+
+
+def test_canlogserver(server):
+    """a client of its port gets the log"""
+    with started(server, "canlogserver", "-p", "28700", "can1") as logs, contextlib.ExitStack() as ending:
+        for _ in turns("it listens"):
+            with contextlib.suppress(ConnectionRefusedError):
+                client = ending.enter_context(socket.create_connection(("127.0.0.1", 28700), 0.5))
+                break
+            time.sleep(0.05)
+        for _ in turns("a line of the log"):
+            send(server, "123#DEADBEEF")
+            with contextlib.suppress(TimeoutError):
+                line = client.recv(200).split(b"\n")[0]
+                break
+        assert re.fullmatch(rb"\(\d+\.\d{6}\) can1 123#DEADBEEF", line), line
+
+
+def test_isotpdump(server):
+    """it reads the protocol's frames; under another preload, which has it write each line at once"""
+    with listening(server, "stdbuf", "-oL", "isotpdump", "-s", "123", "-d", "321", "-c", "can1") as dump:
+        send(server, "123#021122", "123#100A112233445566")
+        lines = [dump.stdout.readline() for _ in range(2)]
+        ended(dump)
+    text = re.sub(r"\x1b\[[0-9;]*m", "", "".join(lines))
+    assert "[SF] ln: 2" in text and "[FF] ln: 10" in text, text
+
+
+@needs("isotpsend", "isotprecv")
+@pytest.mark.parametrize(
+    "sending, receiving, length",
+    [
+        (["-s", "123", "-d", "321"], ["-s", "321", "-d", "123"], 5),
+        (["-s", "123", "-d", "321"], ["-s", "321", "-d", "123", "-b", "4", "-m", "1"], 3000),
+        (["-s", "12345678", "-d", "123", "-p", "AA"], ["-s", "123", "-d", "12345678", "-p", "55"], 200),
+        (["-s", "123", "-d", "321", "-x", "E0"], ["-s", "321", "-d", "123", "-x", "E0", "-b", "2"], 50),
+        (["-s", "123", "-d", "321", "-L", "72:64:0"], ["-s", "321", "-d", "123", "-L", "72:64:0"], 300),
+    ],
+)
+def test_isotp(server, sending, receiving, length):
+    """isotpsend and isotprecv: one frame, blocks, 29 bits with padding, extended addresses, FD frames"""
+    text = " ".join(f"{number * 7 % 256:02X}" for number in range(length))
+    with listening(server, "isotprecv", *receiving, "can1") as receiver:
+        passes(server, "isotpsend", *sending, "can0", input=text + "\n")
+        assert written(receiver).split() == text.split()
+
+
+@needs("isotpperf", "isotpsend", "isotprecv")
+def test_isotpperf(server):
+    """it measures a message between two others"""
+    with listening(server, "stdbuf", "-oL", "isotpperf", "-s", "123", "-d", "321", "vcan0") as perf:
+        with listening(server, "isotprecv", "-s", "321", "-d", "123", "vcan0") as receiver:
+            passes(server, "isotpsend", "-s", "123", "-d", "321", "vcan0", input="11 " * 100 + "\n")
+            assert len(written(receiver).split()) == 100
+        for _ in turns("the message is measured"):
+            shown = perf.stdout.read(1)
+            while not shown.endswith(("\r", "\n")):
+                shown += perf.stdout.read(1)
+            if "100 byte in" in shown:
+                break
+
+
+@needs("bcmserver")
+def test_bcmserver(server):
+    """its port takes commands: a cyclic frame, and a filter for contents"""
+    with started(server, "bcmserver") as running, contextlib.ExitStack() as ending:
+        for _ in turns("it listens"):
+            if running.poll() is not None:
+                pytest.skip("another bcmserver has its port")
+            with contextlib.suppress(ConnectionRefusedError):
+                client = ending.enter_context(socket.create_connection(("127.0.0.1", 28600), 20))
+                break
+            time.sleep(0.05)
+        with listening(server, "candump", "-L", "-n", "3", "can1") as dump:
+            client.sendall(b"< can0 A 0 20000 123 2 AB CD >")
+            assert [line.split()[-1] for line in written(dump).splitlines()] == ["123#ABCD"] * 3
+        client.sendall(b"< can0 D 0 0 123 0 >< can0 R 0 0 222 1 FF >")
+        said = ""
+        for number in range(1000):
+            send(server, f"222#{number // 20 % 256:02X}", name="can1")
+            client.settimeout(0.1)
+            with contextlib.suppress(TimeoutError):
+                said += client.recv(200).decode()
+            if said.count(">") >= 2:
+                break
+        assert re.search(r"< can0 222 1 00 >.*< can0 222 1 01 >", said), said
