@@ -12,8 +12,8 @@ returns g c =
     let now : EnteredSeen = record { station = c.entered.inside.station.now; gauge = c.entered.inside.gauge; pass = c.entered.inside.pass } in
     let room : ℕ = items_on (slice_get c.port.inside.hub.now now.station.number) in
     let alike = sym (shared c.args.event room (sym c.if-not-is_shared.false ∙ c.is_shared.ensures)) in
-    on_pass g.row.F.Denot c.args.self.now c.port.inside.hub.now c.port.inside.entered now c.call-2.new.pass c.args.event room c.call-2.result c.pass_on.result
+    on_pass g.row.F.Denot c.args.self.now c.port.inside.hub.now c.port.inside.entered now c.call-outcome.new.pass c.args.event room c.call-outcome.result c.pass_on.result
     (c.port.view_is ∙ c.self.view_is) (c.in-Some.is ∙ ap Some (sym c.entered.view_is)) refl c.pass_on.ensures
-    (subst (λ (e : Event). Called same now.station.number now.pass e c.call-2.result c.call-2.new.pass) alike
-    (subst (λ (n : ℕ). Called same n now.pass c.args.event c.call-2.result c.call-2.new.pass) c.hold_of-hold.ensures c.call-2.ensures.called))
-    (subst (λ (e : Event). IfOk c.call-2.result (λ r. Suits e r)) alike c.call-2.ensures.suits)
+    (subst (λ (e : Event). Called same now.station.number now.pass e c.call-outcome.result c.call-outcome.new.pass) alike
+    (subst (λ (n : ℕ). Called same n now.pass c.args.event c.call-outcome.result c.call-outcome.new.pass) c.hold_of-hold.ensures c.call-outcome.ensures.called))
+    (subst (λ (e : Event). IfOk c.call-outcome.result (λ r. Suits e r)) alike c.call-outcome.ensures.suits)
