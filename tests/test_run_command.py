@@ -14,7 +14,7 @@ import time
 import pytest
 
 from running import FAST, bridges, command, environment, listening, needs, needs_gcc, none_left, passes, run, started
-from serving import WAIT, come_true, plain, serving
+from serving import ROOT, WAIT, come_true, plain, serving
 
 NOWHERE = "127.0.0.1:9"
 
@@ -403,6 +403,37 @@ assert s.send(frame) == 16
     with serving("can0,can1") as server:
         passes(server, "/usr/bin/python3", "-c", text)
         server.end()
+
+
+@needs_gcc
+def test_stored_files():
+    """those of dist/ are what the sources give, byte for byte, where sources and compiler are the same"""
+    compared = subprocess.run([os.path.join(ROOT, "scripts", "run-program"), "compare"], capture_output=True, text=True, check=False)
+    assert compared.returncode in (0, 3), compared.stdout + compared.stderr
+    if compared.returncode == 3:
+        pytest.skip(compared.stdout.strip())
+
+
+@pytest.mark.parametrize(
+    "words, wanted",
+    [
+        (["--a"], "--address"),
+        (["--address", "x", "--w"], "--wait"),
+        (["--wait", "--", "canbusd-no"], ""),
+        (["--interfaces", "can0", "tru"], "true"),
+        (["tru"], "true"),
+    ],
+)
+def test_completions_of_bash(words, wanted):
+    """options, then programs"""
+    script = """
+source "$1/tools/completions/canbusd-run.bash"
+shift
+COMP_WORDS=(canbusd-run "$@") COMP_CWORD=$#
+_canbusd_run canbusd-run "${@: -1}" "${COMP_WORDS[COMP_CWORD - 1]}" && printf '%s\\n' "${COMPREPLY[@]}"
+"""
+    shown = subprocess.run(["bash", "-c", script, "bash", ROOT, *words], capture_output=True, text=True, check=False)
+    assert shown.stderr == "" and wanted in shown.stdout.split("\n"), shown
 
 
 def test_bridge_alone():
