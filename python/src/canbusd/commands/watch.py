@@ -3,6 +3,7 @@
 import argparse
 import itertools
 import json
+import operator
 import select
 import threading
 import time
@@ -86,7 +87,7 @@ class Board:
                     number, news = self._last
                     if seen < 0 or number != seen + 1:
                         # A page that is new, or reads slowly, begins with all that is kept.
-                        rows = sorted(itertools.chain(*self._kept), key=lambda row: row[0])
+                        rows = sorted(itertools.chain(*self._kept), key=operator.itemgetter(0))
                         news = {"start": True, "ticks": list(self._ticks), "frames": rows}
                     seen = number
                 yield news
