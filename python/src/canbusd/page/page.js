@@ -415,8 +415,8 @@ function makeLists() {
     [["attempt", "7ch", "n"], moment, ["kind", "11ch"], ["what", "minmax(0, 1fr)", "w"]],
     ([step, kind, , words]) => [attemptCell(step), momentOf(step), kindCell(kind), words], event => event[0]);
   lists["tab-attempts"] = toStep("tried",
-    [["attempt", "8ch", "n"], moment, ["sender", "minmax(0, 1fr)"], ["frame no.", "8ch", "n h"],
-      ["frame", "minmax(0, 2.4fr)"], ["outcome", "minmax(0, 1.5fr)"], ["fault", "minmax(0, 1.5fr)", "w"],
+    [["attempt", "8ch", "n"], moment, ["sender", "minmax(0, 0.8fr)"], ["frame no.", "7ch", "n h"],
+      ["frame", "minmax(0, 2.2fr)"], ["outcome", "minmax(0, 1.9fr)"], ["fault", "minmax(0, 1.4fr)", "w"],
       ["accepted by", "minmax(0, 1.5fr)", "h w"]], attemptCells, step => step);
   lists["tab-items"] = toStep("items",
     [["attempt", "8ch", "n"], moment, ["socket", "6ch", "n h"], ["from", "minmax(0, 1fr)", "h"],
