@@ -53,6 +53,10 @@ try_package() {
     for _ in 1 2 3 4 5 6 7 8 9 10; do
         grep -q listening served || sleep 0.5
     done
+    grep -q listening served || {
+        cat served
+        exit 1
+    }
     $python client.py | grep "ID: *0*123 .* 01 02 03"
     printed docs/GUIDE.md "python3 -m canbusd send can0" "python3 -m canbusd status can0 can1"
     $python examples/python/first_session.py

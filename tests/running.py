@@ -116,7 +116,9 @@ def settled(child):
     """Returns the program once it waits for frames; it may have ended."""
 
     def waits():
-        with open(f"/proc/{child.pid}/comm", encoding="utf-8") as comm, open(f"/proc/{child.pid}/syscall", encoding="ascii") as syscall:
+        with open(f"/proc/{child.pid}/comm", encoding="utf-8") as comm, open(
+            f"/proc/{child.pid}/syscall", encoding="ascii"
+        ) as syscall:
             # The command waits too, for the server's greeting.
             return comm.read() != "canbusd-run\n" and syscall.read().split()[0] in map(str, WAITING)
 

@@ -5,7 +5,18 @@ import re
 
 import pytest
 
-from running import FAST, SANITIZERS, compiled, environment, needs_gcc, none_left, passes, run, sanitized_command, started
+from running import (
+    FAST,
+    SANITIZERS,
+    compiled,
+    environment,
+    needs_gcc,
+    none_left,
+    passes,
+    run,
+    sanitized_command,
+    started,
+)
 from serving import ROOT, serving
 
 pytestmark = needs_gcc
@@ -124,4 +135,6 @@ def test_static(tmp_path):
     path = compiled("faults", str(tmp_path), "-static")
     with serving("can0,can1") as server:
         ended = run(server, path)
-        assert ended.stderr.startswith(f"canbusd-run: note: {path} is linked statically, so its CAN sockets are the kernel's\n")
+        assert ended.stderr.startswith(
+            f"canbusd-run: note: {path} is linked statically, so its CAN sockets are the kernel's\n"
+        )

@@ -14,7 +14,7 @@ import time
 import pytest
 
 from running import FAST, bridges, command, environment, listening, needs, needs_gcc, none_left, passes, run, started
-from serving import WAIT, come_true, plain, serving
+from serving import ROOT, WAIT, come_true, plain, serving
 
 NOWHERE = "127.0.0.1:9"
 
@@ -43,8 +43,14 @@ def test_help():
         (("--fast", "true"), "no such option (--help shows all): --fast"),
         (("--interfaces", "can0,", "true"), "--interfaces needs names of interfaces, joined by commas: can0,"),
         (("--interfaces", "a/b", "true"), "--interfaces needs names of interfaces, joined by commas: a/b"),
-        (("--address", "can0", "true"), "can0 is no address: it is HOST:PORT, [V6]:PORT, or a Unix path that begins with / or ."),
-        (("--address", "1.2.3.4:0", "true"), "1.2.3.4:0 is no address: it is HOST:PORT, [V6]:PORT, or a Unix path that begins with / or ."),
+        (
+            ("--address", "can0", "true"),
+            "can0 is no address: it is HOST:PORT, [V6]:PORT, or a Unix path that begins with / or .",
+        ),
+        (
+            ("--address", "1.2.3.4:0", "true"),
+            "1.2.3.4:0 is no address: it is HOST:PORT, [V6]:PORT, or a Unix path that begins with / or .",
+        ),
     ],
 )
 def test_wrong_words(words, line):
@@ -68,7 +74,11 @@ def test_no_server(how, tmp_path):
     ended = alone(*words, "touch", str(tmp_path / "ran"), env=env)
     assert time.monotonic() - begin < 5
     assert ended.returncode == 125 and ended.stdout == "" and ended.stderr.count("\n") == 1, ended
-    assert f"no canbusd server at {address} (" in ended.stderr and "canbusd serve" in ended.stderr and "--address" in ended.stderr
+    assert (
+        f"no canbusd server at {address} (" in ended.stderr
+        and "canbusd serve" in ended.stderr
+        and "--address" in ended.stderr
+    )
     assert not (tmp_path / "ran").exists()
 
 
@@ -87,7 +97,9 @@ def test_other_server():
 def test_wait(tmp_path):
     """--wait waits for the server"""
     address = str(tmp_path / "late.socket")
-    with subprocess.Popen([command(), "--wait", "--address", address, "echo", "ran"], stdout=subprocess.PIPE, text=True) as child:
+    with subprocess.Popen(
+        [command(), "--wait", "--address", address, "echo", "ran"], stdout=subprocess.PIPE, text=True
+    ) as child:
         time.sleep(0.3)
         assert child.poll() is None
         with serving("can0,can1", address=address) as server:
@@ -126,7 +138,10 @@ def test_status_and_pid():
         assert run(server, "sh", "-c", "exit 7").returncode == 7
         assert run(server, "sh", "-c", "kill -KILL $$").returncode == -signal.SIGKILL
         missing, folder = run(server, "no-such-program"), run(server, "/tmp")
-        assert (missing.returncode, missing.stderr) == (127, "canbusd-run: no-such-program: No such file or directory\n")
+        assert (missing.returncode, missing.stderr) == (
+            127,
+            "canbusd-run: no-such-program: No such file or directory\n",
+        )
         assert (folder.returncode, folder.stderr) == (126, "canbusd-run: /tmp: Permission denied\n")
         with started(server, "sh", "-c", "echo $$") as child:
             assert int(child.stdout.readline()) == child.pid
@@ -242,13 +257,22 @@ def test_debug():
         client = plain(server, "can0")
         client.tell("< send 1 0 >")
         ended = run(server, "/usr/bin/python3", "-c", text, env=environment(server, CANBUSD_RUN_DEBUG="1"))
-        assert ended.returncode == 1 and "canbusd-run: bind: Network is down: the server says: record full\n" in ended.stderr, ended
+        assert (
+            ended.returncode == 1
+            and "canbusd-run: bind: Network is down: the server says: record full\n" in ended.stderr
+        ), ended
         quiet = run(server, "/usr/bin/python3", "-c", text)
         assert "canbusd-run" not in quiet.stderr
         client.close()
         server.finish()
     with serving("can0,can1") as server:
-        wrong = run(server, "/usr/bin/python3", "-c", text.replace("can0", "can9"), env=environment(server, CANBUSD_RUN_DEBUG="1"))
+        wrong = run(
+            server,
+            "/usr/bin/python3",
+            "-c",
+            text.replace("can0", "can9"),
+            env=environment(server, CANBUSD_RUN_DEBUG="1"),
+        )
         assert "canbusd-run: interface: No such device: the server says: no such interface\n" in wrong.stderr, wrong
         server.end()
 
@@ -305,7 +329,12 @@ def test_unprivileged(tmp_path):
     with serving("can0,can1") as server:
         client = plain(server, "can1")
         words = ["setpriv", "--reuid=65534", "--regid=65534", "--clear-groups", "--no-new-privs", "--inh-caps=-all"]
-        subprocess.run([*words, str(tmp_path / "run" / "canbusd-run"), "/usr/bin/python3", "-c", SEND], env=environment(server), check=True, timeout=60)
+        subprocess.run(
+            [*words, str(tmp_path / "run" / "canbusd-run"), "/usr/bin/python3", "-c", SEND],
+            env=environment(server),
+            check=True,
+            timeout=60,
+        )
         assert client.frame() == ("123", b"\1")
         client.close()
         assert none_left(server)
@@ -361,7 +390,9 @@ sys.stdin.readline()
 s.send(frame)
 print("sent", flush=True)
 """
-    with serving("can0,can1") as server, started(server, "/usr/bin/python3", "-c", text, stdin=subprocess.PIPE) as child:
+    with serving("can0,can1") as server, started(
+        server, "/usr/bin/python3", "-c", text, stdin=subprocess.PIPE
+    ) as child:
         reader = plain(server, "can1")
         assert child.stdout.readline() == "ready\n"
         os.killpg(server.child.pid, signal.SIGSTOP)
@@ -403,6 +434,39 @@ assert s.send(frame) == 16
     with serving("can0,can1") as server:
         passes(server, "/usr/bin/python3", "-c", text)
         server.end()
+
+
+@needs_gcc
+def test_stored_files():
+    """those of dist/ are what the sources give, byte for byte, where sources and compiler are the same"""
+    compared = subprocess.run(
+        [os.path.join(ROOT, "scripts", "run-program"), "compare"], capture_output=True, text=True, check=False
+    )
+    assert compared.returncode in (0, 3), compared.stdout + compared.stderr
+    if compared.returncode == 3:
+        pytest.skip(compared.stdout.strip())
+
+
+@pytest.mark.parametrize(
+    "words, wanted",
+    [
+        (["--a"], "--address"),
+        (["--address", "x", "--w"], "--wait"),
+        (["--wait", "--", "canbusd-no"], ""),
+        (["--interfaces", "can0", "tru"], "true"),
+        (["tru"], "true"),
+    ],
+)
+def test_completions_of_bash(words, wanted):
+    """options, then programs"""
+    script = """
+source "$1/tools/completions/canbusd-run.bash"
+shift
+COMP_WORDS=(canbusd-run "$@") COMP_CWORD=$#
+_canbusd_run canbusd-run "${@: -1}" "${COMP_WORDS[COMP_CWORD - 1]}" && printf '%s\\n' "${COMPREPLY[@]}"
+"""
+    shown = subprocess.run(["bash", "-c", script, "bash", ROOT, *words], capture_output=True, text=True, check=False)
+    assert shown.stderr == "" and wanted in shown.stdout.split("\n"), shown
 
 
 def test_bridge_alone():

@@ -235,7 +235,12 @@ def test_logger_and_player(server, tmp_path):
     log = tmp_path / "run.log"
     with started(server, PYTHON, "-m", "can.logger", "-i", "socketcan", "-c", "can1", "-f", str(log)) as logger:
         settled(logger)
-        passes(server, PYTHON, "-c", START + "with bus() as can0:\n    for n in range(5): can0.send(message(0x100 + n, [n]))\n")
+        passes(
+            server,
+            PYTHON,
+            "-c",
+            START + "with bus() as can0:\n    for n in range(5): can0.send(message(0x100 + n, [n]))\n",
+        )
         python(server, "with bus() as can0:\n    time.sleep(0.5)\n")
         logger.send_signal(2)
         logger.wait(20)

@@ -112,13 +112,18 @@ def test_candump_stamps():
         ("can1,00000123:DFFFFFFF", ["00000123"]),
         ("can1,123~7FF", ["124", "7FF"]),
         ("can1,100:700,123~7FF,j", ["124"]),
-        ("can1," + ",".join(f"{number:03X}:7FF" for number in range(0x100, 0x124)) + ",7FF:7FF", ["123", "00000123", "7FF"]),
+        (
+            "can1," + ",".join(f"{number:03X}:7FF" for number in range(0x100, 0x124)) + ",7FF:7FF",
+            ["123", "00000123", "7FF"],
+        ),
         ("can1," + ",".join(f"{number:08X}:DFFFFFFF" for number in range(0x100, 0x1C8)), ["00000123"]),
     ],
 )
 def test_candump_filters(server, words, expected):
     """what passes, and nothing else; up to 200 filters"""
-    with listening(server, "candump", "-L", words + ",555:7FF" * ("~" not in words and "j" not in words), "vcan0") as dump:
+    with listening(
+        server, "candump", "-L", words + ",555:7FF" * ("~" not in words and "j" not in words), "vcan0"
+    ) as dump:
         send(server, "123#", "124#", "00000123#", "7FF#")
         send(server, "001#", name="vcan0")
         lines = []
@@ -158,7 +163,11 @@ def test_candump_log(server, tmp_path):
         send(server, "123#01", "12345678#02")
 
         def lines():
-            return [line.split(" ", 1)[1] for path in tmp_path.glob("candump-*.log") for line in path.read_text().splitlines()]
+            return [
+                line.split(" ", 1)[1]
+                for path in tmp_path.glob("candump-*.log")
+                for line in path.read_text().splitlines()
+            ]
 
         assert come_true(lambda: dump.poll() is not None or len(lines()) == 2 or ended(dump))
         assert lines() == ["can1 123#01", "can1 12345678#02"]
@@ -169,7 +178,9 @@ def test_cangen(server, tmp_path):
     frames = 10_000
     with open(tmp_path / "lines", "w+", encoding="utf-8") as lines:
         with listening(server, "candump", "-L", "-n", str(frames), "can1", stdout=lines) as dump:
-            passes(server, "cangen", "can0", "-g", "0", "-p", "10", "-I", "123", "-L", "8", "-D", "i", "-n", str(frames))
+            passes(
+                server, "cangen", "can0", "-g", "0", "-p", "10", "-I", "123", "-L", "8", "-D", "i", "-n", str(frames)
+            )
             written(dump)
         lines.seek(0)
         numbers = [int.from_bytes(bytes.fromhex(line.split("#")[1]), "little") for line in lines]
@@ -235,7 +246,9 @@ def test_canbusload(server):
     with listening(server, "canbusload", "can1@500000") as load:
         for number in range(5):
             send(server, f"{0x100 + number:03X}#1122334455667788")
-        assert come_true(lambda: any(int(line.split()[1]) > 0 for line in [load.stdout.readline()] if line.startswith(" can1@")))
+        assert come_true(
+            lambda: any(int(line.split()[1]) > 0 for line in [load.stdout.readline()] if line.startswith(" can1@"))
+        )
         ended(load)
 
 

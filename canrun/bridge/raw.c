@@ -53,14 +53,11 @@ static int filter_words(char words[FILTER_TEXT + 20]) {
     return count;
 }
 
+/* The command for the filters; where they are too many, or none are wanted, all or nothing passes. */
 static size_t filter_command(char *text, size_t size, bool is_none) {
-    char words[FILTER_TEXT + 20];
-    int count = is_none ? 0 : filter_words(words);
-    filters_here = count < 0;
-    return (size_t)snprintf(text, size, "< filter %d%s >", filters_here ? 1 : count,
-                            filters_here ? " 0 0"
-                            : is_none    ? ""
-                                         : words);
+    char words[FILTER_TEXT + 20] = " 0 0";
+    int count = is_none ? 0 : filters_here ? 1 : filter_words(words);
+    return (size_t)snprintf(text, size, "< filter %d%s >", count, is_none ? "" : words);
 }
 
 void raw_setup(struct session *session, char *text, size_t size) {
@@ -107,6 +104,7 @@ static void *place_of(int option) {
 }
 
 static int set_filters(const void *value, size_t length) {
+    char words[FILTER_TEXT + 20];
     if (length % sizeof *filters || length > CAN_RAW_FILTER_MAX * sizeof *filters) {
         return refused(EINVAL, "these are no filters, or more than 512");
     }
@@ -122,6 +120,7 @@ static int set_filters(const void *value, size_t length) {
     }
     filters = fresh;
     filter_count = length / sizeof *filters;
+    filters_here = filter_words(words) < 0;
     options.filters = ++filter_lists;
     return 0;
 }

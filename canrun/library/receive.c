@@ -88,6 +88,23 @@ static ssize_t no_device(void) {
     return refuse("read", ENODEV, "the server is gone, and its interfaces with it");
 }
 
+/* The next datagram: its message's length, and its trailer; -1 and errno where there is none. */
+static ssize_t take(int fd, struct msghdr *message, int flags, struct wire_trailer *trailer) {
+    ssize_t length = real()->recvmsg(fd, message, flags & ~(MSG_TRUNC | MSG_OOB));
+    if (length < 0) {
+        return errno == ECONNRESET ? no_device() : -1;
+    }
+    if (length < (ssize_t)sizeof *trailer) {
+        return no_device();
+    }
+    length -= (ssize_t)sizeof *trailer;
+    memcpy(trailer, (char *)message->msg_iov->iov_base + length, sizeof *trailer);
+    if (trailer->error) {
+        return refuse("read", trailer->error, "a message has not come whole, or has not got through");
+    }
+    return length;
+}
+
 static ssize_t can_recvmsg(int fd, enum wire_protocol protocol, struct msghdr *user, int flags) {
     char datagram[protocol == WIRE_RAW ? CANFD_MTU + sizeof(struct wire_trailer) : WIRE_LARGEST];
     struct iovec whole = {datagram, sizeof datagram};
@@ -97,21 +114,12 @@ static ssize_t can_recvmsg(int fd, enum wire_protocol protocol, struct msghdr *u
     if (flags & MSG_ERRQUEUE) {
         return fail(EAGAIN);
     }
-    ssize_t length = real()->recvmsg(fd, &message, flags & ~(MSG_TRUNC | MSG_OOB));
+    ssize_t length = take(fd, &message, flags, &trailer);
     if (length < 0) {
-        return errno == ECONNRESET ? no_device() : -1;
-    }
-    if (length < (ssize_t)sizeof trailer) {
-        return no_device();
-    }
-    length -= (ssize_t)sizeof trailer;
-    memcpy(&trailer, datagram + length, sizeof trailer);
-    if (trailer.error) {
-        return refuse("read", trailer.error, "a message has not come whole, or has not got through");
+        return -1;
     }
     size_t done = scatter(user, datagram, (size_t)length);
     keep_stamp(fd, trailer.nanoseconds);
-    message.msg_flags &= ~MSG_TRUNC;
     if (user->msg_name) {
         make_name(fd, protocol, user, trailer.ifindex);
     }
@@ -119,7 +127,8 @@ static ssize_t can_recvmsg(int fd, enum wire_protocol protocol, struct msghdr *u
         make_control(&message, user->msg_controllen, &trailer);
     }
     user->msg_controllen = message.msg_controllen;
-    user->msg_flags = message.msg_flags | (int)trailer.message_flags | (done < (size_t)length ? MSG_TRUNC : 0);
+    user->msg_flags = (message.msg_flags & ~MSG_TRUNC) | (int)trailer.message_flags;
+    user->msg_flags |= done < (size_t)length ? MSG_TRUNC : 0;
     /* The kernel's CAN_RAW and CAN_BCM return what was copied, whatever MSG_TRUNC asks for. */
     return protocol == WIRE_ISOTP && flags & MSG_TRUNC ? length : (ssize_t)done;
 }

@@ -9,7 +9,7 @@ from pathlib import Path
 from canbusd.server import Server
 
 CLONE = Path(__file__).resolve().parents[2]
-# Those with a test that needs its faults.
+# Those whose first test needs its faults.
 DOCUMENTS = {"readme": "README.md", "guide": "docs/GUIDE.md"}
 
 
@@ -20,7 +20,7 @@ def blocks(path):
 
 def test_the_tests_of_the_documents_need_their_faults(installed, tmp_path):
     for name, path in DOCUMENTS.items():
-        (text,) = [block for block in blocks(path) if "def test_" in block]
+        text = next(block for block in blocks(path) if "def test_" in block)
         (tmp_path / f"test_{name}.py").write_text(text)
         text = re.sub(r", faults=Faults\(\)\.\w+\(.*?\)+$", ")", text, flags=re.M)
         text = re.sub(r"recv\((timeout=)?5\)", "recv(0.5)", text)

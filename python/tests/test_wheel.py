@@ -70,8 +70,9 @@ def test_what_is_in_the_wheel(wheel):
 def test_its_platform_is_that_of_the_program():
     for file in (CLONE / "dist").iterdir():
         if file.read_bytes()[:4] == b"\x7fELF":
-            needed = re.findall(r"GLIBC_2\.(\d+)", done("objdump", "-T", file).stdout)
-            assert max(map(int, needed)) <= 34, file
+            # One that is linked statically needs none, and objdump says that it has no dynamic symbols.
+            symbols = subprocess.run(["objdump", "-T", file], capture_output=True, text=True, check=False).stdout
+            assert max(map(int, re.findall(r"GLIBC_2\.(\d+)", symbols)), default=0) <= 34, file
 
 
 def tries_the_package(environment, folder):

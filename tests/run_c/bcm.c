@@ -162,15 +162,18 @@ static void limits(void) {
     put(raw, 0x210, 1); /* It has not changed, but comes back. */
     told(RX_CHANGED, 0x210, 1);
     CHECK(give((struct message){.head = {.opcode = RX_DELETE, .can_id = 0x210}}) > 0);
-    /* At most one message each 100 ms. */
+    while (comes(manager, 0)) {
+        told(RX_TIMEOUT, 0x210, 0); /* On a slow machine it was absent once more. */
+    }
+    /* At most one message in two seconds. */
     double start = now();
     CHECK(give((struct message){
-              .head = {.opcode = RX_SETUP, .flags = SETTIMER | RX_FILTER_ID, .can_id = 0x211, .ival2 = ms(100)}}) > 0);
+              .head = {.opcode = RX_SETUP, .flags = SETTIMER | RX_FILTER_ID, .can_id = 0x211, .ival2 = ms(2000)}}) > 0);
     for (unsigned i = 0; i < 5; i++) {
         put(raw, 0x211, i);
     }
     struct message first = told(RX_CHANGED, 0x211, 1), last = told(RX_CHANGED, 0x211, 1);
-    CHECK(number_of(&first.frames[0]) == 0 && number_of(&last.frames[0]) == 4 && now() - start >= 99);
+    CHECK(number_of(&first.frames[0]) == 0 && number_of(&last.frames[0]) == 4 && now() - start >= 1999);
     CHECK(give((struct message){.head = {.opcode = RX_DELETE, .can_id = 0x211}}) > 0);
 }
 

@@ -51,6 +51,10 @@ static void many(bool is_joined) {
     }
     set(reader, CAN_RAW_JOIN_FILTERS, is_joined);
     use(filters, MANY);
+    /* A frame on another interface, which the filters keep from coming back. */
+    struct sockaddr_can to = address_of("can0");
+    struct can_frame frame = {.can_id = is_joined ? filters[0].can_id & ~CAN_INV_FILTER : 0x7FF};
+    CHECK(sendto(reader, &frame, sizeof frame, 0, (struct sockaddr *)&to, sizeof to) == sizeof frame);
     passes(sent, 2 * MANY, expected, count);
 }
 

@@ -8,7 +8,6 @@ from typing import Optional
 
 import canbusd._python_can  # noqa: F401  it says what is missing, so it comes first
 
-from can.message import Message
 
 from canbusd.bus import CanbusdBus
 from canbusd.commands import NOTHING, add_address, add_database, database_of

@@ -12,9 +12,16 @@ let lists = {}, chips, showTab, tab = "tab-events";
 
 // The data: a header in JSON, then the columns that it names.
 
+// Browsers limit how long a data URL may be, so it is decoded in parts.
+const PART = 1 << 22;
 async function unpack(text) {
-  const coded = await fetch("data:application/octet-stream;base64," + text.trim());
-  const whole = await new Response(coded.body.pipeThrough(new DecompressionStream("deflate"))).arrayBuffer();
+  const coded = text.trim(), parts = [];
+  for (let k = 0; k < coded.length; k += PART) {
+    const part = await fetch("data:application/octet-stream;base64," + coded.slice(k, k + PART));
+    parts.push(await part.arrayBuffer());
+  }
+  const packed = new Blob(parts).stream().pipeThrough(new DecompressionStream("deflate"));
+  const whole = await new Response(packed).arrayBuffer();
   const size = new DataView(whole).getUint32(0, true), columns = 8 + size;
   const header = JSON.parse(new TextDecoder().decode(new Uint8Array(whole, 8, size)));
   const numbers = ([code, place, length]) => new ARRAYS[code](whole, columns + place, length);
@@ -415,16 +422,16 @@ function makeLists() {
     [["attempt", "7ch", "n"], moment, ["kind", "11ch"], ["what", "minmax(0, 1fr)", "w"]],
     ([step, kind, , words]) => [attemptCell(step), momentOf(step), kindCell(kind), words], event => event[0]);
   lists["tab-attempts"] = toStep("tried",
-    [["attempt", "8ch", "n"], moment, ["sender", "minmax(0, 1fr)"], ["frame no.", "8ch", "n h"],
-      ["frame", "minmax(0, 2.4fr)"], ["outcome", "minmax(0, 1.5fr)"], ["fault", "minmax(0, 1.5fr)", "w"],
+    [["attempt", "8ch", "n"], moment, ["sender", "minmax(0, 0.8fr)"], ["frame no.", "7ch", "n h"],
+      ["frame", "minmax(0, 2.2fr)"], ["outcome", "minmax(0, 1.9fr)"], ["fault", "minmax(0, 1.4fr)", "w"],
       ["accepted by", "minmax(0, 1.5fr)", "h w"]], attemptCells, step => step);
   lists["tab-items"] = toStep("items",
     [["attempt", "8ch", "n"], moment, ["socket", "6ch", "n h"], ["from", "minmax(0, 1fr)", "h"],
       ["frame no.", "8ch", "n h"], ["frame", "minmax(0, 2fr)"], ["says", "minmax(0, 2fr)", "w"],
       ["what became of it", "minmax(0, 1.5fr)"]], itemCells, item => items.step[item]);
   lists["tab-sockets"] = new Rolling("sockets",
-    [["socket", "6ch", "n h"], ["node", "minmax(0, 1fr)"], ["capacity", "minmax(0, 9ch)", "n h"], ["queued", "minmax(0, 9ch)", "n h"],
-      ["taken", "minmax(0, 9ch)", "n h"], ["waiting", "minmax(0, 8ch)", "n h"], ["unread", "minmax(0, 8ch)", "n h"], ["dropped", "minmax(0, 8ch)", "n h"],
+    [["socket", "6ch", "n h"], ["node", "minmax(0, 1fr)"],
+      ...["capacity", "queued", "taken", "waiting", "unread", "dropped"].map(head => [head, "minmax(0, 9ch)", "n h"]),
       ["open", "minmax(0, 1fr)"]], one => [String(one.number), names[one.iface], ...[one.capacity, one.queued, one.taken,
       one.waiting, one.unread].map(grouped), one.dropped ? badText(grouped(one.dropped)) : "0", one.open],
     one => chooseSocket(one.number));
@@ -439,8 +446,10 @@ function attemptCells(step) {
   const kind = steps.kind[step];
   if (kind === IDLE) return ["idle", "", "", "", times(steps.number[step], "idle attempt"), "", "", ""];
   if (kind === RESTART) return ["restart", momentOf(step), names[steps.iface[step]], "", "", outcome(kind), "", ""];
-  return [grouped(attemptOf[step]), momentOf(step), names[steps.iface[step]], grouped(steps.number[step]), [textOf(step), messageOf(steps.frame[step])],
-    outcome(kind), faultOf(step) === "none" ? "" : faultOf(step), steps.accepted[step] ? listed(steps.accepted[step]) : ""];
+  const fault = faultOf(step) === "none" ? "" : faultOf(step);
+  return [grouped(attemptOf[step]), momentOf(step), names[steps.iface[step]], grouped(steps.number[step]),
+    [textOf(step), messageOf(steps.frame[step])], outcome(kind), fault,
+    steps.accepted[step] ? listed(steps.accepted[step]) : ""];
 }
 const messageOf = place => run.messages[place] ? ` ${run.messages[place]}` : "";
 const outcome = kind => element("span", [mark(KINDS[kind]), KIND_WORDS[kind]]);
