@@ -102,7 +102,6 @@ def sent(server):
 
 
 # To be taken away once the server closes a connection that begins with a request of HTTP.
-@pytest.mark.xfail(strict=True, reason="the server takes what is between < and > of a request of HTTP")
 @pytest.mark.browser
 def test_a_page_sends_no_frames(server, tmp_path):
     text = PAGE.replace("ADDRESS", server.address).replace("TEXT", json.dumps(MESSAGES))
@@ -122,7 +121,6 @@ REQUESTS = [
 
 
 # To be taken away with the one above.
-@pytest.mark.xfail(strict=True, reason="the server takes what is between < and > of a request of HTTP")
 @pytest.mark.parametrize("cut", [False, True], ids=["whole", "cut"])
 @pytest.mark.parametrize("request_line", REQUESTS)
 def test_a_request_ends_the_connection(server, request_line, cut):

@@ -80,7 +80,6 @@ def test_one_version(installed):
 
 
 # To be taken away once the program says so too: `.version(..)` in crates/canbusd_options/src/command_line.rt.
-@pytest.mark.xfail(strict=True, reason="the program of dist/ was built before the version changed")
 def test_the_version_of_the_program():
     said = subprocess.check_output([find_program(), "--version"], text=True)
     assert said == f"canbusd {canbusd.__version__}\n"
