@@ -154,6 +154,10 @@ void outbox_put_error(int error);
 void outbox_flush(void);
 bool outbox_is_empty(void);
 
+/* Whether the server should keep what comes, as the program reads too slowly. One that has set SO_RCVBUF is to lose it.
+ */
+bool outbox_is_crowded(void);
+
 /* An option of SOL_SOCKET that the program has set. */
 void outbox_set(int option, int number);
 

@@ -11,7 +11,9 @@
 #define RING 524288
 /* Messages that wait for a program which has not said how many should: as many again wait in its socket, or fewer. */
 #define USUAL_ROOM 4096
-/* The same for one that has set SO_RCVBUF, and that is to lose frames as it asked. */
+/* From here on the server keeps what comes; the rest of the room is for what comes with the replies to commands. */
+#define CROWDED 2048
+/* The room for a program that has set SO_RCVBUF, and that is to lose frames as it asked. */
 #define SMALL_ROOM 64
 /* Messages that are handed over by one call. */
 #define BATCH 32
@@ -112,6 +114,10 @@ void outbox_flush(void) {
             return;
         }
     }
+}
+
+bool outbox_is_crowded(void) {
+    return room == USUAL_ROOM && count >= CROWDED;
 }
 
 bool outbox_is_empty(void) {

@@ -22,7 +22,7 @@ bool wait_for_input(int64_t nanoseconds, bool takes_requests) {
     /* A socket whose other end is closed is ready for ever, though nobody asks. */
     polled[0] = (struct pollfd){takes_requests || !program_is_gone() ? PROGRAM : -1, events, 0};
     for (int i = 0; i < session_count; i++) {
-        polled[1 + i] = (struct pollfd){sessions[i]->fd, POLLIN, 0};
+        polled[1 + i] = (struct pollfd){outbox_is_crowded() ? -1 : sessions[i]->fd, POLLIN, 0};
     }
     if (wait_for(polled, 1 + (nfds_t)session_count, nanoseconds) <= 0) {
         return false;

@@ -1,5 +1,5 @@
 /* A reader with a small SO_RCVBUF that does not read loses frames, and SO_RXQ_OVFL counts them: received and lost are
- * sent. */
+ * sent. One that has set nothing loses none, as the server has room. */
 #include "check.h"
 
 #define FRAMES 20000
@@ -20,13 +20,16 @@ static unsigned take(int fd, uint32_t *dropped) {
 }
 
 int main(void) {
-    int writer = bound("can0"), slow = bound("can1"), sync = bound("can1");
+    int writer = bound("can0"), slow = bound("can1"), sync = bound("can1"), patient = bound("can1");
     uint32_t dropped = 0, received = 0, next = 0, number;
     CHECK(setsockopt(slow, SOL_SOCKET, SO_RCVBUF, &(int){1}, sizeof(int)) == 0);
     CHECK(setsockopt(slow, SOL_SOCKET, SO_RXQ_OVFL, &(int){1}, sizeof(int)) == 0);
     for (unsigned i = 0; i < FRAMES; i++) {
         put_patiently(writer, 0x123, i);
         get(sync, 0x123, i);
+    }
+    for (unsigned i = 0; i < FRAMES; i++) {
+        get(patient, 0x123, i);
     }
     while (comes(slow, QUIET)) {
         number = take(slow, &dropped);
