@@ -106,7 +106,10 @@ def test_counts_of_verbose():
         dropped = int(closed.split()[3])
         assert dropped > 0, closed
         off.close()
-        gone = ["session 1: gone, 100 frames refused, 0 dropped", f"session 3: gone, 0 frames refused, {dropped} dropped"]
+        gone = [
+            "session 1: gone, 100 frames refused, 0 dropped",
+            f"session 3: gone, 0 frames refused, {dropped} dropped",
+        ]
         assert come_true(lambda: all(line in server.said() for line in gone)), f"{gone} in {server.said()}"
         status, _ = server.finish()
         assert status == 0, server.said()
@@ -153,11 +156,14 @@ def test_web_page(method, pieces):
         assert come_true(lambda: "session 1: gone" in server.said()), server.said()
         status, written = server.finish()
         lines = [line.split(" ", 1)[1] for line in server.said().splitlines()]
-        assert (status, lines) == (0, [
-            f"session 1: came from 127.0.0.1:{port}",
-            "session 1: closed, a request of HTTP",
-            "session 1: gone, 0 frames refused, 0 dropped",
-        ]), server.said()
+        assert (status, lines) == (
+            0,
+            [
+                f"session 1: came from 127.0.0.1:{port}",
+                "session 1: closed, a request of HTTP",
+                "session 1: gone, 0 frames refused, 0 dropped",
+            ],
+        ), server.said()
         assert written == "bus can0 entries 0\n", written
         assert server.audited("can0.rec") == 0, "the audit"
 
@@ -485,7 +491,9 @@ def test_folder_of_a_server(tmp_path):
     """one that takes no files is refused before the server listens; files of an earlier run stay until new ones are whole"""
     none = os.path.join(tmp_path, "none")
     words = [program(), "serve", "--listen", "127.0.0.1:0", "--until-eof", "--out"]
-    refused = subprocess.run([*words, none, "can0"], input="", capture_output=True, text=True, timeout=WAIT, check=False)
+    refused = subprocess.run(
+        [*words, none, "can0"], input="", capture_output=True, text=True, timeout=WAIT, check=False
+    )
     said = f"canbusd: cannot open {none}\n  {none}/can0.rec: No such file or directory (os error 2)\n"
     assert (refused.returncode, refused.stdout, refused.stderr) == (1, "", said), f"{refused}"
     os.mkdir(none)

@@ -79,7 +79,6 @@ def test_one_version(installed):
     assert subprocess.check_output(words, env=installed, cwd="/", text=True) == f"{version}\n"
 
 
-# To be taken away once the program says so too: `.version(..)` in crates/canbusd_options/src/command_line.rt.
 def test_the_version_of_the_program():
     said = subprocess.check_output([find_program(), "--version"], text=True)
     assert said == f"canbusd {canbusd.__version__}\n"
