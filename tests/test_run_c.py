@@ -43,7 +43,9 @@ class Build:
 
     def passes(self, server, name, *words, **how):
         path = compiled(name, self.folder, *self.flags)
-        written = passes(server, path, *words, env=environment(server, **self.settings), **self.how, **how)
+        written = passes(
+            server, path, *words, patience=200, env=environment(server, **self.settings), **self.how, **how
+        )
         assert none_left(server), "a bridge is left"
         reports = [file for file in os.listdir(self.folder) if file.startswith("report")]
         assert not reports, "".join(open(os.path.join(self.folder, file), encoding="utf-8").read() for file in reports)

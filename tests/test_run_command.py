@@ -439,6 +439,8 @@ assert s.send(frame) == 16
 @needs_gcc
 def test_stored_files():
     """those of dist/ are what the sources give, byte for byte, where sources and compiler are the same"""
+    if not os.access(os.path.join(ROOT, "canrun"), os.W_OK):
+        pytest.skip("the sources' folder can't be written")
     compared = subprocess.run(
         [os.path.join(ROOT, "scripts", "run-program"), "compare"], capture_output=True, text=True, check=False
     )
