@@ -1,4 +1,4 @@
-use Rattle.std.proofs.Common.{◌≡◌, ◌+◌, ◌<◌, ℕ, suc, take, get_or, slice_get, List, [], ◌∷◌, ◌++◌, length, All, Vec, Option, IsSomeAnd, Result, Ok, Err, Bool, false, IfErr, IsErrAnd, OnOk, IsTrue, inl, refl, ap, ◌∙◌, sym, subst, arith, rules}
+use Rattle.std.proofs.Common.{◌≡◌, ◌+◌, ◌<◌, ℕ, suc, take, get_or, slice_get, List, [], ◌∷◌, ◌++◌, length, All, Vec, Option, IsSomeAnd, Result, Ok, Err, Bool, false, IfErr, IsErrAnd, OnOk, IsTrue, inl, inr, refl, ap, ◌∙◌, sym, subst, arith, rules}
 use Rattle.std.proofs.lemmas.List.{take_more}
 use Rattle.std.proofs.lemmas.List.Elements.{All-cons}
 use Rattle.std.proofs.lemmas.Option.{slice_get-get_or}
@@ -8,14 +8,17 @@ use Rattle.can_record.specs.Journal.{Kept}
 use Rattle.can_station.specs.declared.pass.Settled.{Settled}
 use Rattle.can_station.specs.Passes.{PassSeen}
 use Rattle.can_hub.specs.declared.bench.Bench.{Bench}
-use Rattle.can_hub.specs.Benches.{buses_from}
+use Rattle.can_bus.specs.declared.bus.BusFault.{BusFault}
+use Rattle.can_bus.specs.declared.bus.BusFault.TheVariants.{BadConfig, NoMemory}
+use Rattle.can_hub.specs.Benches.{MakeHub, buses_from}
 use Rattle.can_hub.specs.Settling.{AllSettle}
 use Rattle.canbusd_faults.specs.declared.fault.Failure.{Failure}
 use Rattle.canbusd_faults.specs.declared.fault.Fault.{Fault}
+use Rattle.canbusd_faults.specs.declared.fault.Fault.TheVariants as fault
 use Rattle.canbusd_options.specs.declared.bus_word.BusWord.{BusWord}
 use Rattle.canbusd_files.specs.declared.buses.Source.{Source}
 use Rattle.canbusd_options.specs.declared.serve_options.ServeOptions.{ServeOptions}
-use Rattle.canbusd_serve.specs.Served.{AreBenches, IsBenchOf, IsLegalEnd, IsOfBus, IsOfBuses, IsOfServer, MakeBenches}
+use Rattle.canbusd_serve.specs.Served.{AreAllBenches, AreBenches, IsBenchOf, IsLegalEnd, IsOfBus, IsOfBuses, IsOfHub, IsOfServer, IsOfServing, MakeBenches}
 
 -- The buses of a server, one after the other.
 
@@ -81,3 +84,22 @@ settles-legal (p ∷ ps) [] all = absurd all
 pub not-told : {A E : Type 0} (P : Type 0) (r : Result A E) (told : Bool) → IfErr r (λ _. IsTrue told) → OnOk r P → told ≡ false → P
 not-told P (Ok a) told if_bad if_good quiet = if_good
 not-told P (Err e) told if_bad if_good quiet = absurd (search rules)
+
+-- no hub was made of these buses
+pub hub-fails : (benches : List (Bench Source Open)) (found : BusFault) (why : Fault) → why ≡ fault.Buses found → (found ≡ BadConfig → MakeHub benches → ⊥) → IsOfHub benches why
+hub-fails benches BadConfig why is bad = subst (IsOfHub benches) (sym is) (bad refl)
+hub-fails benches NoMemory why is bad = subst (IsOfHub benches) (sym is) tt
+
+-- a hub was not served to its end
+pub serving-fails : (benches : List (Bench Source Open)) (why : Fault) → IsOfServing why → IsOfHub benches why
+serving-fails benches (fault.Buses found) is = absurd is
+serving-fails benches why is = is
+
+-- and the fault is passed on
+pub serving-passed : {T : Type 0} (benches : List (Bench Source Open)) (failure : Failure) (r : Result T Failure) → IsOfServing failure.fault → IsErrAnd r (λ x. x ≡ failure) → IfErr r (λ x. IsOfHub benches x.fault)
+serving-passed benches failure (Ok t) is passed = tt
+serving-passed benches failure (Err x) is passed = serving-fails benches x.fault (subst (λ (f : Failure). IsOfServing f.fault) (sym passed) is)
+
+pub hub-passed : {T : Type 0} (o : ServeOptions) (benches : List (Bench Source Open)) (failure : Failure) (r : Result T Failure) → AreAllBenches o benches → IsOfHub benches failure.fault → IsErrAnd r (λ x. x ≡ failure) → IfErr r (λ x. IsOfServer o x.fault)
+hub-passed o benches failure (Ok t) are is passed = tt
+hub-passed o benches failure (Err x) are is passed = inr (inr (benches, are, subst (λ (f : Failure). IsOfHub benches f.fault) (sym passed) is))

@@ -6,7 +6,9 @@ use Rattle.can_bus.specs.Legal.{IsLegal}
 use Rattle.can_station.specs.declared.gate.Open.{Open}
 use Rattle.can_record.specs.Journal.{Kept}
 use Rattle.can_station.specs.declared.pass.Settled.{Settled}
+use Rattle.can_bus.specs.declared.bus.BusFault.TheVariants.{BadConfig, NoMemory}
 use Rattle.can_hub.specs.declared.bench.Bench.{Bench}
+use Rattle.can_hub.specs.Benches.{MakeHub}
 use Rattle.canbusd_options.specs.declared.bus_word.BusWord.{BusWord}
 use Rattle.canbusd_files.specs.declared.buses.Source.{Source}
 use Rattle.canbusd_options.specs.declared.serve_options.ServeOptions.{ServeOptions}
@@ -23,6 +25,7 @@ pub record IsBenchOf (o : ServeOptions) (bus : BusWord) (b : Bench Source Open) 
   pub names : b.names ≡ names_in bus.names.now
   pub good : AreNames b.names
   pub config : b.config ≡ config_of o.settings (length b.names)
+  pub words : b.blanks.meter.words ≡ length b.names
   pub verdicts : AreVerdicts bus.script b.names (verdicts_of b.source)
   pub pace_ms : b.pace_ms ≡ o.pace_ms
   pub rx_capacity : b.rx_capacity ≡ o.settings.rx_capacity
@@ -43,9 +46,9 @@ MakeBenches o buses = (benches : List (Bench Source Open)) × AreBenches o buses
 abbrev pub IsOfBus : BusWord → Fault → Type 0
 IsOfBus bus why = IsOfNames bus.names.now why ⊎ (AreNames (names_in bus.names.now) × IsOfSource bus.script (names_in bus.names.now) why)
 
--- a fault of serving: no server can have the buses, it cannot listen or write, its folder takes no files, a bus got the pass of another, or memory was refused
+-- a fault of serving: the server cannot listen or write, its folder takes no files, a bus got the pass of another, or memory was
+-- refused
 abbrev pub IsOfServing : Fault → Type 0
-IsOfServing (fault.Buses why) = Unit {0}
 IsOfServing fault.CannotListen = Unit {0}
 IsOfServing (fault.CannotOpen folder) = Unit {0}
 IsOfServing (fault.WrongStation name) = Unit {0}
@@ -53,13 +56,19 @@ IsOfServing fault.Write = Unit {0}
 IsOfServing fault.NoMemory = Unit {0}
 IsOfServing why = ⊥
 
+-- a fault of a server with these buses: no hub can be made of them, or memory for it was refused; or of serving
+abbrev pub IsOfHub : List (Bench Source Open) → Fault → Type 0
+IsOfHub benches (fault.Buses BadConfig) = MakeHub benches → ⊥
+IsOfHub benches (fault.Buses NoMemory) = Unit {0}
+IsOfHub benches why = IsOfServing why
+
 -- a fault of one of the buses of a server; those before it are what their words describe
 abbrev pub IsOfBuses : ServeOptions → Fault → Type 0
 IsOfBuses o why = (i : ℕ) × MakeBenches o (take i o.buses.items) × IsSomeAnd (slice_get o.buses.items i) (λ bus. IsOfBus bus why)
 
--- a fault of a server: of one of its buses, or of serving
+-- a fault of a server: of one of its buses, of serving, or with the buses that its options describe
 abbrev pub IsOfServer : ServeOptions → Fault → Type 0
-IsOfServer o why = IsOfBuses o why ⊎ IsOfServing why
+IsOfServer o why = IsOfBuses o why ⊎ (IsOfServing why ⊎ ((benches : List (Bench Source Open)) × AreAllBenches o benches × IsOfHub benches why))
 
 -- the record is of a legal history
 abbrev pub IsLegalEnd : Settled Kept → Type 0

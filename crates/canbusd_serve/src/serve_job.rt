@@ -2,7 +2,7 @@ ghost use Rattle.std.specs.Prelude.{◌≡◌, length, All, IfErr, IfOk, IsTrue,
 ghost use Rattle.can_hub.specs.Benches.{NamedFrom};
 ghost use Rattle.canbusd_faults.specs.declared.fault.Fault.TheVariants as fault;
 ghost use Rattle.canbusd_files.specs.Files.{Took};
-ghost use Rattle.canbusd_serve.specs.Served.{AreAllBenches, IsBenchOf, IsLegalEnd, IsListening, IsOfBus, IsOfServer, IsOfServing, IsServed, end_line, end_lines, listening_line};
+ghost use Rattle.canbusd_serve.specs.Served.{AreAllBenches, IsBenchOf, IsLegalEnd, IsListening, IsOfBus, IsOfHub, IsOfServer, IsOfServing, IsServed, end_line, end_lines, listening_line};
 
 use crate::buses_notes::buses_note;
 use crate::host::Host;
@@ -146,7 +146,7 @@ impl<'r, 'a, H: ServerRuntime> ServerRun<'r, 'a, H> {
         ensures each { IfOk result (λ settled. length settled.items ≡ length benches.items) }
         ensures legal { IfOk result (λ settled. All (λ s. IsLegalEnd s) settled.items) }
         ensures listening { OnOk result (IsListening W.contents output.old output.new) }
-        ensures fault { IfErr result (λ failure. IsOfServing failure.fault) }
+        ensures fault { IfErr result (λ failure. IsOfHub benches.items failure.fault) }
     {
         let hub = match Hub::<N, Source, Open>::new(self.alloc, benches) {
             Ok(hub) => hub,

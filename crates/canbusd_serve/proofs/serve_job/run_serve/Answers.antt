@@ -3,12 +3,16 @@ use Rattle.can_hub.proofs.Naming.{named}
 use Rattle.std.specs.Io.KnownBytes.{Appends}
 use Rattle.std.proofs.KnownBytes.{Appends-trans}
 use Rattle.canbusd_serve.specs.Served.{end_lines}
-use Rattle.canbusd_serve.proofs.Serving.{benches-length, benches-named, not-told}
+use Rattle.canbusd_serve.proofs.Serving.{benches-length, benches-named, hub-passed, not-told}
 use Rattle.canbusd_serve.proofs.serve_job.run_serve.Goals as goal
 use Rattle.canbusd_serve.proofs.serve_job.run_serve.Goals.{in-Some, in_default}
 
 pub serve_named-requires-after_bounds : goal.serve_named-requires-after_bounds
 serve_named-requires-after_bounds g c lifetimes met = named c.in_ok-benches.benches.items
+
+pub returns-in_err-settled-clause-fault : goal.returns-in_err-settled-clause-fault
+returns-in_err-settled-clause-fault g c =
+    hub-passed c.args.options.now c.in_ok-benches.benches.items c.in_err-settled.field-0.0 c.from_residual-in_err-settled.result c.in_ok-benches.ensures.made c.in_err-settled.ensures.fault c.from_residual-in_err-settled.ensures.1
 
 -- nothing was reported before, if nothing was reported after
 quiet : (before after result : Bool) → (IsTrue before → IsTrue after) → result ≡ after → IsTrue (not result) → before ≡ false
