@@ -518,6 +518,7 @@ def test_folder_of_a_server(tmp_path):
     assert (full.returncode, faults) == (1, ["canbusd: write fault"]), f"{full}"
     with open(os.path.join(none, "can0.rec"), encoding="utf-8") as file:
         assert file.read() == "old can0.rec\n"
+    assert sorted(os.listdir(none)) == ["can0.log", "can0.rec"], f"{os.listdir(none)}"
 
 
 def test_links_of_a_folder(tmp_path):
@@ -531,4 +532,3 @@ def test_links_of_a_folder(tmp_path):
     assert (run.returncode, run.stderr) == (0, ""), f"{run}"
     assert others.read_text() == "of others\n", "it was written through a link"
     assert sorted(os.listdir(tmp_path)) == ["can0.log", "can0.rec", "others"]
-    assert sorted(os.listdir(none)) == ["can0.log", "can0.rec"], f"{os.listdir(none)}"
