@@ -9,7 +9,7 @@ import subprocess
 
 import pytest
 
-from serving import ROOT, WAIT, come_true
+from serving import ROOT, WAIT, come_true, serving
 
 SOURCES = os.path.join(ROOT, "canrun")
 PROGRAMS = os.path.join(ROOT, "tests", "run_c")
@@ -141,3 +141,12 @@ def written(child, patience=WAIT):
     output, errors = child.communicate(timeout=patience)
     assert child.returncode == 0, f"status {child.returncode}: {output}{errors}"
     return output
+
+
+@pytest.fixture
+def server():
+    """A fast server of two buses, of whose sessions none is left after the test."""
+    with serving(*FAST, "can0,can1", "vcan0") as running:
+        yield running
+        assert none_left(running), "a bridge is left"
+        running.end()

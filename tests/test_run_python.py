@@ -4,7 +4,7 @@ import textwrap
 
 import pytest
 
-from running import FAST, none_left, passes, settled, started, written
+from running import passes, server, settled, started, written  # noqa: F401  the fixture
 from serving import ROOT, serving
 
 pytest.importorskip("can", reason="no python-can: apt-get install python3-can")
@@ -25,14 +25,6 @@ def all_of(receiver, count):
     assert receiver.recv(timeout=0.1) is None
     return got
 """
-
-
-@pytest.fixture
-def server():
-    with serving(*FAST, "can0,can1", "vcan0") as running:
-        yield running
-        assert none_left(running), "a bridge is left"
-        running.end()
 
 
 def python(server, text, *words, **how):

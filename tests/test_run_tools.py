@@ -9,18 +9,10 @@ import time
 
 import pytest
 
-from running import FAST, listening, needs, none_left, passes, run, settled, started, written
+from running import FAST, listening, needs, none_left, passes, run, server, settled, started, written  # noqa: F401
 from serving import ROOT, come_true, serving, turns
 
 pytestmark = needs("candump", "cansend")
-
-
-@pytest.fixture
-def server():
-    with serving(*FAST, "can0,can1", "vcan0") as running:
-        yield running
-        assert none_left(running), "a bridge is left"
-        running.end()
 
 
 def send(server, *frames, name="can0"):
