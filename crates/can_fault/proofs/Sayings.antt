@@ -1,13 +1,16 @@
-use Rattle.std.proofs.Common.{◌≡◌, ◌<◌, ◌+◌, ℕ, List, ◌∷◌, map, length, drop, get_or, Some, None, Ok, Err, is_some, sym, ap, ◌∙◌, if◌then◌else◌}
+use Rattle.std.proofs.Common.{◌≡◌, ◌<◌, ◌+◌, ℕ, Bool, true, false, List, [], ◌∷◌, map, length, drop, get_or, Some, None, Result, Ok, Err, is_some, refl, sym, ap, ◌∙◌, if◌then◌else◌}
+use Rattle.std.specs.Prelude.{IsTrue}
 use Rattle.std.specs.Ordering.{nat_cmp}
 use Rattle.std.specs.BTreeMap.{BTreeMap}
 use Rattle.std.specs.BTreeMap as tree
-use Rattle.std.specs.FinMap.{from_entries, insert}
+use Rattle.std.specs.FinMap.{from_entries, insert, contains_key}
 use Rattle.std.proofs.lemmas.List.{at_drop_more}
-use Rattle.can_fault.specs.Scripts.{Saying, line_spelling, script_spelling, spelled_after, at_line, Reads}
+use Rattle.can_fault.specs.Sources.{VerdictMap}
+use Rattle.can_fault.specs.Scripts.{Saying, sayings, line_spelling, line_after, spelled_after, script_spelling, takes_memory, at_line, Reads, TakesLine}
+use Rattle.can_fault.specs.declared.script.ScriptError.{ScriptError}
 use Rattle.can_fault.specs.declared.script_lines.LineFault.{LineFault}
-use Rattle.can_fault.specs.declared.script_lines.LineFault.TheVariants.{BadLine, UnknownInterface}
-use Rattle.can_fault.specs.declared.script.ScriptError.TheVariants.{RepeatedAttempt}
+use Rattle.can_fault.specs.declared.script_lines.LineFault.TheVariants as line
+use Rattle.can_fault.specs.declared.script.ScriptError.TheVariants.{BadLine, UnknownInterface, RepeatedAttempt, NoMemory}
 use Rattle.can_fault.specs.declared.verdict.Verdict.{Verdict}
 use Rattle.can_fault.proofs.VerdictMaps.{contains_key-from_tree, from_tree-insert}
 
@@ -22,20 +25,55 @@ said-turn f names lines n line saying h said =
     ∙ ap (λ (l : List ℕ). f (line_spelling names l ∷ rest)) (sym h.1)
     ∙ ap (λ (s : Saying). f (s ∷ rest)) (sym said)
 
+-- what a line leaves, and then the others
+abbrev pub spelled_then : Result VerdictMap ScriptError → ℕ → List Saying → Result VerdictMap ScriptError
+spelled_then (Ok known) n more = spelled_after known n more
+spelled_then (Err why) n more = Err why
+
+either_way : (b : Bool) (why : ScriptError) (known : VerdictMap) (n : ℕ) (more : List Saying) → (if b then Err why else spelled_after known n more) ≡ spelled_then (if b then Err why else Ok known) n more
+either_way true why known n more = refl
+either_way false why known n more = refl
+
+pub spelled_after-turn : (known : VerdictMap) (n : ℕ) (saying : Saying) (more : List Saying) → spelled_after known n (saying ∷ more) ≡ spelled_then (line_after known n saying) (n + 1) more
+spelled_after-turn known n (Err fault) more = refl
+spelled_after-turn known n (Ok None) more = refl
+spelled_after-turn known n (Ok (Some entry)) more = either_way (contains_key known entry.0) (RepeatedAttempt n) (insert known entry.0 entry.1) (n + 1) more
+
+-- a line that says something takes memory first
+pub takes_memory-one : (saying : Saying) (more : List Saying) → IsTrue (takes_memory (saying ∷ [])) → IsTrue (takes_memory (saying ∷ more))
+takes_memory-one (Err fault) more h = h
+takes_memory-one (Ok None) more h = absurd (cc h)
+takes_memory-one (Ok (Some entry)) more h = h
+
+-- so does a later line, after one that was taken
+pub takes_memory-more : (known new : VerdictMap) (n : ℕ) (saying : Saying) (more : List Saying) → line_after known n saying ≡ Ok new → IsTrue (takes_memory more) → IsTrue (takes_memory (saying ∷ more))
+takes_memory-more known new n (Err fault) more taken h = absurd (cc taken)
+takes_memory-more known new n (Ok None) more taken h = h
+takes_memory-more known new n (Ok (Some entry)) more taken h = refl
+
+-- a line that is not taken ends the reading
+pub Reads-turn : (names : List (List ℕ)) (text : List ℕ) (known new : VerdictMap) (n : ℕ) (saying : Saying) (more : List Saying) (why : ScriptError)
+    → script_spelling names text ≡ spelled_after known n (saying ∷ more) → (IsTrue (takes_memory (saying ∷ more)) → IsTrue (takes_memory (sayings names text)))
+    → TakesLine saying n known (Err why) new → Reads names text (Err why)
+Reads-turn names text known new n saying more NoMemory spelled memory h = memory (takes_memory-one saying more h)
+Reads-turn names text known new n saying more (BadLine m) spelled memory h = spelled ∙ spelled_after-turn known n saying more ∙ ap (λ r. spelled_then r (n + 1) more) h
+Reads-turn names text known new n saying more (UnknownInterface m) spelled memory h = spelled ∙ spelled_after-turn known n saying more ∙ ap (λ r. spelled_then r (n + 1) more) h
+Reads-turn names text known new n saying more (RepeatedAttempt m) spelled memory h = spelled ∙ spelled_after-turn known n saying more ∙ ap (λ r. spelled_then r (n + 1) more) h
+
 -- a verdict for an attempt that has none
-pub spelled_after-kept : (old new : BTreeMap ℕ Verdict) (n attempt : ℕ) (verdict : Verdict) (more : List Saying) → None ≡ tree.get nat_cmp old attempt
+pub line_after-kept : (old new : BTreeMap ℕ Verdict) (n attempt : ℕ) (verdict : Verdict) → None ≡ tree.get nat_cmp old attempt
     → tree.Updates nat_cmp old new attempt (Some verdict)
-    → spelled_after (from_entries {R = nat_cmp} old.entries) n (Ok (Some (attempt, verdict)) ∷ more) ≡ spelled_after (from_entries {R = nat_cmp} new.entries) (n + 1) more
-spelled_after-kept old new n attempt verdict more absent updates =
-    ap (λ b. if b then Err (RepeatedAttempt n) else spelled_after (insert (from_entries old.entries) attempt verdict) (n + 1) more) (contains_key-from_tree old attempt ∙ ap is_some (sym absent))
-    ∙ ap (λ known. spelled_after known (n + 1) more) (sym (from_tree-insert old new attempt verdict updates))
+    → line_after (from_entries {R = nat_cmp} old.entries) n (Ok (Some (attempt, verdict))) ≡ Ok (from_entries {R = nat_cmp} new.entries)
+line_after-kept old new n attempt verdict absent updates =
+    ap (λ b. if b then Err (RepeatedAttempt n) else Ok (insert (from_entries old.entries) attempt verdict)) (contains_key-from_tree old attempt ∙ ap is_some (sym absent))
+    ∙ ap Ok (sym (from_tree-insert old new attempt verdict updates))
 
 -- a verdict for an attempt that has one
-pub spelled_after-repeated : (old : BTreeMap ℕ Verdict) (n attempt : ℕ) (had verdict : Verdict) (more : List Saying) → Some had ≡ tree.get nat_cmp old attempt → spelled_after (from_entries {R = nat_cmp} old.entries) n (Ok (Some (attempt, verdict)) ∷ more) ≡ Err (RepeatedAttempt n)
-spelled_after-repeated old n attempt had verdict more there =
-    ap (λ b. if b then Err (RepeatedAttempt n) else spelled_after (insert (from_entries old.entries) attempt verdict) (n + 1) more) (contains_key-from_tree old attempt ∙ ap is_some (sym there))
+pub line_after-repeated : (old : BTreeMap ℕ Verdict) (n attempt : ℕ) (had verdict : Verdict) → Some had ≡ tree.get nat_cmp old attempt → line_after (from_entries {R = nat_cmp} old.entries) n (Ok (Some (attempt, verdict))) ≡ Err (RepeatedAttempt n)
+line_after-repeated old n attempt had verdict there =
+    ap (λ b. if b then Err (RepeatedAttempt n) else Ok (insert (from_entries old.entries) attempt verdict)) (contains_key-from_tree old attempt ∙ ap is_some (sym there))
 
 -- a line's own fault is no want of memory
-pub Reads-at_line : (names : List (List ℕ)) (text : List ℕ) (n : ℕ) (fault : LineFault) → script_spelling names text ≡ Err (at_line n fault) → Reads names text (Err (at_line n fault))
-Reads-at_line names text n BadLine h = h
-Reads-at_line names text n UnknownInterface h = h
+pub TakesLine-at_line : (known new : VerdictMap) (n : ℕ) (fault : LineFault) → TakesLine (Err fault) n known (Err (at_line n fault)) new
+TakesLine-at_line known new n line.BadLine = refl
+TakesLine-at_line known new n line.UnknownInterface = refl

@@ -103,6 +103,12 @@ abbrev pub at_line : ℕ → LineFault → ScriptError
 at_line n line.BadLine = script.BadLine n
 at_line n line.UnknownInterface = script.UnknownInterface n
 
+-- the verdicts after a line with number `n`, where the lines before it gave `known`
+abbrev pub line_after : VerdictMap → ℕ → Saying → Result VerdictMap ScriptError
+line_after known n (Err fault) = Err (at_line n fault)
+line_after known n (Ok None) = Ok known
+line_after known n (Ok (Some entry)) = if contains_key known entry.0 then Err (script.RepeatedAttempt n) else Ok (insert known entry.0 entry.1)
+
 -- what lines spell, the first of them with number `n`, where the lines before them gave `known`
 abbrev pub spelled_after : VerdictMap → ℕ → List Saying → Result VerdictMap ScriptError
 spelled_after known n [] = Ok known
@@ -120,6 +126,12 @@ takes_memory [] = false
 takes_memory (Err fault ∷ more) = false
 takes_memory (Ok None ∷ more) = takes_memory more
 takes_memory (Ok (Some entry) ∷ more) = true
+
+-- taking a line with number `n` gives the verdicts after it, or its fault, or NoMemory where that takes memory
+abbrev pub TakesLine : Saying → ℕ → VerdictMap → Result (Unit {0}) ScriptError → VerdictMap → Type 0
+TakesLine saying n known (Ok done) new = line_after known n saying ≡ Ok new
+TakesLine saying n known (Err script.NoMemory) new = IsTrue (takes_memory (saying ∷ []))
+TakesLine saying n known (Err why) new = line_after known n saying ≡ Err why
 
 -- what reading a text returns: what the text spells, or NoMemory where that takes memory
 abbrev pub Reads : List (List ℕ) → List ℕ → Result VerdictMap ScriptError → Type 0

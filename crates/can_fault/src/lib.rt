@@ -7,7 +7,7 @@
 pub mod fault_source;
 pub mod laws;
 pub mod script;
-mod script_lines;
+pub mod script_lines;
 pub mod verdict;
 
 pub use fault_source::{FaultSource, Perfect};

@@ -60,6 +60,19 @@ impl Model for Script {
 }
 
 impl Script {
+    ghost use Rattle.std.specs.FinMap.{get};
+    ghost use Rattle.can_fault.specs.Sources.{no_verdicts};
+    ghost use Rattle.can_fault.specs.Scripts.{line_spelling, TakesLine};
+
+    /// The script without lines.
+    pub fn new(alloc: Global) -> Script
+        ensures { result ≡ no_verdicts }
+    {
+        Script {
+            verdicts: BTreeMap::new(alloc),
+        }
+    }
+
     /// The script that a text spells, for a bus with these names, or the first fault of the text. The
     /// time grows with the text's length and, for each line, with the logarithm of the lines before.
     ///
@@ -70,22 +83,46 @@ impl Script {
     pub fn read(alloc: Global, text: &str, names: &Names) -> Result<Script, ScriptError>
         ensures { Reads names.now text.now result }
     {
-        let mut verdicts = BTreeMap::new(alloc);
+        let mut script = Script::new(alloc);
         let mut number = 0;
         for line in text.split('\n') {
             number += 1;
-            let (attempt, verdict) = match read_line(line, names) {
-                Ok(Some(entry)) => entry,
-                Ok(None) => continue,
-                Err(fault) => return Err(fault.at(number)),
-            };
-            match verdicts.insert(attempt, verdict) {
-                Ok(None) => {}
-                Ok(Some(_)) => return Err(ScriptError::RepeatedAttempt(number)),
-                Err(_) => return Err(ScriptError::NoMemory),
+            if let Err(fault) = script.take_line(line, number, names) {
+                return Err(fault);
             }
         }
-        Ok(Script { verdicts })
+        Ok(script)
+    }
+
+    /// Takes what a line says, which has this number in its text. After an error the script is not
+    /// meant to be used.
+    pub fn take_line(
+        &mut self,
+        line: &str,
+        number: usize,
+        names: &Names,
+    ) -> Result<(), ScriptError>
+        ensures { TakesLine (line_spelling names.now line.now) number self.old result self.new }
+    {
+        let (attempt, verdict) = match read_line(line, names) {
+            Ok(Some(entry)) => entry,
+            Ok(None) => return Ok(()),
+            Err(fault) => return Err(fault.at(number)),
+        };
+        match self.verdicts.insert(attempt, verdict) {
+            Ok(None) => {}
+            Ok(Some(_)) => return Err(ScriptError::RepeatedAttempt(number)),
+            Err(_) => return Err(ScriptError::NoMemory),
+        }
+        Ok(())
+    }
+
+    /// The verdict that a line gives the attempt with this number, if one does, in a time that grows with
+    /// the logarithm of the lines.
+    pub fn line(&self, attempt: u64) -> Option<Verdict>
+        ensures { result ≡ get self.now attempt }
+    {
+        self.verdicts.get(&attempt).copied()
     }
 }
 
@@ -101,9 +138,6 @@ impl FaultSource for Script {
         ensures answer { result ≡ verdict_in self.old attempt }
         ensures keeps { self.new ≡ self.old }
     {
-        self.verdicts
-            .get(&attempt)
-            .copied()
-            .unwrap_or(Verdict::Good)
+        self.line(attempt).unwrap_or(Verdict::Good)
     }
 }

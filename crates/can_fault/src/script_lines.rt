@@ -6,7 +6,7 @@ ghost use Rattle.can_fault.specs.Scripts.{word, after, number_spelling, set_spel
 use crate::verdict::{GlobalKind, LocalKind, Verdict};
 use can_frame::{IfaceSet, Names, is_name, read_decimal};
 
-/// What is wrong with a line of a script by itself.
+/// What is wrong with a line of a script, or a part of one, by itself.
 #[derive(Debug, Clone, Copy, PartialEq, Eq)]
 pub enum LineFault {
     BadLine,
@@ -33,8 +33,9 @@ fn read_entry(line: &str, names: &Names) -> Result<Option<(u64, Verdict)>, LineF
     Ok(Some((number, verdict)))
 }
 
+/// The verdict that a text spells, for a bus with these names.
 #[tactic(auto, unfolding(crate::specs::Scripts::verdict_spelling))]
-fn read_verdict(text: &str, names: &Names) -> Result<Verdict, LineFault>
+pub fn read_verdict(text: &str, names: &Names) -> Result<Verdict, LineFault>
     ensures { result ≡ verdict_spelling names.now text.now }
 {
     let (first, rest) = cut(text);
@@ -78,8 +79,8 @@ fn read_kind(word: &str) -> Option<LocalKind>
     }
 }
 
-// The interfaces whose names the text joins by commas.
-fn read_set(list: &str, names: &Names) -> Result<IfaceSet, LineFault>
+/// The interfaces whose names a text joins by commas.
+pub fn read_set(list: &str, names: &Names) -> Result<IfaceSet, LineFault>
     ensures { result ≡ set_spelling names.now list.now }
 {
     if !are_good(list) {
@@ -109,8 +110,8 @@ fn read_number(text: &str) -> Option<u64>
     read_decimal(text.as_bytes(), 8)
 }
 
-// The text before the first space, and the text after it; the whole and nothing where there is no space.
-fn cut(text: &str) -> (&str, &str)
+/// The text before the first space, and the text after it; the whole and nothing where there is no space.
+pub fn cut(text: &str) -> (&str, &str)
     ensures word { result.0.now ≡ word text.now }
     ensures after { result.1.now ≡ after text.now }
 {
