@@ -1,0 +1,5 @@
+pub mod Counted
+pub mod Order
+pub mod Planning
+pub mod Turns
+pub mod UsedUp

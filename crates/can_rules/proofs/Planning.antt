@@ -1,0 +1,53 @@
+use Rattle.std.proofs.Common.{◌≡◌, ◌<◌, ◌+◌, ℕ, Bool, true, false, List, ◌∷◌, length, drop, get_or, Ok, Err, Result, ap, refl, sym, ◌∙◌}
+use Rattle.std.specs.Prelude.{IsTrue, ◌||◌}
+use Rattle.std.specs.List.{list_any}
+use Rattle.std.proofs.lemmas.List.{at_drop_more}
+use Rattle.can_fault.specs.Scripts.{lines_in}
+use Rattle.can_fault.specs.declared.script.ScriptError.TheVariants as script
+use Rattle.can_rules.specs.declared.rule.Rule.{Rule}
+use Rattle.can_rules.specs.declared.rules.RuleRefusal.{RuleRefusal}
+use Rattle.can_rules.specs.declared.rules.RuleRefusal.TheVariants as refusal
+use Rattle.can_rules.specs.declared.plan.PlanError.{PlanError}
+use Rattle.can_rules.specs.declared.plan.PlanError.TheVariants as plan
+use Rattle.can_rules.specs.Rules.{Adds}
+use Rattle.can_rules.specs.Plans.{PlanSeen, SpellsRule, Injected, has_bytes, gone_on, lines_taken, plan_spelling, ReadsPlan, TakesPlanLine}
+
+-- Plans that grow, by a rule or by a line.
+
+-- a rule that bytes spell is added
+pub injected : (names : List (List ℕ)) (bytes : List ℕ) (old : PlanSeen) (rule : Rule) (result : Result (Unit {0}) RuleRefusal) (after : List Rule) → SpellsRule names bytes (Ok rule) → Adds rule old.rules result after
+    → Injected names bytes old result (record old { rules = after })
+injected names bytes old rule (Ok done) after spelled h = (rule, spelled, h.0, ap (λ rs. record old { rules = rs }) h.1)
+injected names bytes old rule (Err refusal.TooManyRules) after spelled h = (rule, spelled, h.0, ap (λ rs. record old { rules = rs }) h.1)
+injected names bytes old rule (Err refusal.NoMemory) after spelled h = (rule, spelled, h.0, ap (λ rs. record old { rules = rs }) h.1)
+injected names bytes old rule (Err refusal.BadRule) after spelled h = absurd h
+injected names bytes old rule (Err refusal.UnknownInterface) after spelled h = absurd h
+
+-- the lines from place n on begin with line n
+pub line-turn : {Y : Type 0} (f : List (List ℕ) → Y) (lines : List (List ℕ)) (n : ℕ) (line : List ℕ) → (n < length lines) × (line ≡ get_or lines n line) → f (drop n lines) ≡ f (line ∷ drop (n + 1) lines)
+line-turn f lines n line h = at_drop_more f lines n line h.0 ∙ ap (λ (l : List ℕ). f (l ∷ drop (n + 1) lines)) (sym h.1)
+
+either_true : (a b : Bool) → IsTrue a → IsTrue (a || b)
+either_true true b h = h
+either_true false b h = absurd (cc h)
+
+or_true : (a b : Bool) → IsTrue b → IsTrue (a || b)
+or_true true b h = refl
+or_true false b h = h
+
+-- a line that is not empty, among others
+pub any-first : (line : List ℕ) (more : List (List ℕ)) → IsTrue (has_bytes line) → IsTrue (list_any has_bytes (line ∷ more))
+any-first line more h = either_true (has_bytes line) (list_any has_bytes more) h
+
+pub any-later : (line : List ℕ) (more : List (List ℕ)) → IsTrue (list_any has_bytes more) → IsTrue (list_any has_bytes (line ∷ more))
+any-later line more h = or_true (has_bytes line) (list_any has_bytes more) h
+
+-- a line that is not taken ends the reading
+pub ReadsPlan-turn : (names : List (List ℕ)) (text : List ℕ) (known new : PlanSeen) (n : ℕ) (line : List ℕ) (more : List (List ℕ)) (why : PlanError)
+    → plan_spelling names text ≡ lines_taken names known n (line ∷ more) → (IsTrue (has_bytes line) → IsTrue (list_any has_bytes (lines_in text)))
+    → TakesPlanLine names line n known (Err why) new → ReadsPlan names text (Err why)
+ReadsPlan-turn names text known new n line more (plan.Script script.NoMemory) spelled memory h = memory h
+ReadsPlan-turn names text known new n line more (plan.Script (script.BadLine m)) spelled memory h = spelled ∙ ap (λ r. gone_on r (λ next. lines_taken names next (n + 1) more)) h
+ReadsPlan-turn names text known new n line more (plan.Script (script.UnknownInterface m)) spelled memory h = spelled ∙ ap (λ r. gone_on r (λ next. lines_taken names next (n + 1) more)) h
+ReadsPlan-turn names text known new n line more (plan.Script (script.RepeatedAttempt m)) spelled memory h = spelled ∙ ap (λ r. gone_on r (λ next. lines_taken names next (n + 1) more)) h
+ReadsPlan-turn names text known new n line more (plan.TooManyRules m) spelled memory h = spelled ∙ ap (λ r. gone_on r (λ next. lines_taken names next (n + 1) more)) h

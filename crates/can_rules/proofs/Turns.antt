@@ -1,0 +1,57 @@
+use Rattle.std.proofs.Common.{◌≡◌, ℕ, ◌+◌, ◌<◌, List, [], ◌∷◌, ◌++◌, length, take, drop, get_or, set, true, false, Option, Some, None, is_some, if◌then◌else◌, ap, sym, ◌∙◌, append_assoc, add-one, arith}
+use Rattle.std.proofs.lemmas.List.{drop_more, take_more_set, drop-set-lt, set_split}
+use Rattle.can_rules.specs.Rules.{Head, chosen, after_chosen, asked, gives, given_by}
+use Rattle.can_rules.specs.declared.rule.Rule.{Rule}
+use Rattle.can_fault.specs.declared.verdict.Verdict.{Verdict}
+
+-- The walk over the rules.
+
+-- the rules before place i were looked at and gave nothing
+pub record AreLookedAt (before items : List Rule) (i : ℕ) (head : Head) : Type 0 where
+  pub verdict : chosen before head ≡ chosen (drop i items) head
+  pub counts : after_chosen before head ≡ take i items ++ after_chosen (drop i items) head
+
+-- what was given says whether the rule gives
+pub gives-is_some : (rule : Rule) (head : Head) (given : Option Verdict) → given ≡ given_by rule head → gives rule head ≡ is_some given
+gives-is_some rule head given is = elim (gives rule head) as (λ b. given ≡ (if b then Some rule.verdict else None) → b ≡ is_some given) [
+  | true ↦ λ e. sym (ap is_some e)
+  | false ↦ λ e. sym (ap is_some e)
+] is
+
+-- the rule at place i gave nothing
+pub looked_on : (before items : List Rule) (i : ℕ) (head : Head) (blank : Rule) (given : Option Verdict) (next : Rule) → AreLookedAt before items i head → i < length items
+    → given ≡ given_by (get_or items i blank) head → next ≡ asked (get_or items i blank) head → is_some given ≡ false → AreLookedAt before (set items i next) (i + 1) head
+looked_on before items i head blank given next at below gave is was_none =
+    let rule : Rule = get_or items i blank in
+    let nothing : gives rule head ≡ false = gives-is_some rule head given gave ∙ was_none in
+    let split : drop i items ≡ rule ∷ drop (i + 1) items = drop_more items i blank below in
+    let rest : drop (i + 1) (set items i next) ≡ drop (i + 1) items = drop-set-lt (i + 1) items i next (omega arith) in
+    let front : take (i + 1) (set items i next) ≡ take i items ++ next ∷ [] = take_more_set items i next below in
+    record {
+      verdict = at.verdict ∙ ap (λ rs. chosen rs head) split ∙ ap (λ b. if b then Some rule.verdict else chosen (drop (i + 1) items) head) nothing ∙ ap (λ rs. chosen rs head) (sym rest);
+      counts = at.counts
+          ∙ ap (λ rs. take i items ++ after_chosen rs head) split
+          ∙ ap (λ b. take i items ++ asked rule head ∷ (if b then drop (i + 1) items else after_chosen (drop (i + 1) items) head)) nothing
+          ∙ ap (λ r. take i items ++ r ∷ after_chosen (drop (i + 1) items) head) (sym is)
+          ∙ sym (append_assoc (take i items) (next ∷ []) _)
+          ∙ ap (λ xs. xs ++ after_chosen (drop (i + 1) items) head) (sym front)
+          ∙ ap (λ rs. take (i + 1) (set items i next) ++ after_chosen rs head) (sym rest);
+    }
+
+-- the rule at place i gave its verdict
+pub looked_end : (before items : List Rule) (i : ℕ) (head : Head) (blank : Rule) (given : Option Verdict) (next : Rule) → AreLookedAt before items i head → i < length items
+    → given ≡ given_by (get_or items i blank) head → next ≡ asked (get_or items i blank) head → is_some given ≡ true
+    → (given ≡ chosen before head) × (set items i next ≡ after_chosen before head)
+looked_end before items i head blank given next at below gave is was_some =
+    let rule : Rule = get_or items i blank in
+    let gives_it : gives rule head ≡ true = gives-is_some rule head given gave ∙ was_some in
+    let split : drop i items ≡ rule ∷ drop (i + 1) items = drop_more items i blank below in (
+      gave
+          ∙ ap (λ b. if b then Some rule.verdict else None) gives_it
+          ∙ sym (at.verdict ∙ ap (λ rs. chosen rs head) split ∙ ap (λ b. if b then Some rule.verdict else chosen (drop (i + 1) items) head) gives_it),
+      sym (at.counts
+          ∙ ap (λ rs. take i items ++ after_chosen rs head) split
+          ∙ ap (λ b. take i items ++ asked rule head ∷ (if b then drop (i + 1) items else after_chosen (drop (i + 1) items) head)) gives_it
+          ∙ ap (λ r. take i items ++ r ∷ drop (i + 1) items) (sym is)
+          ∙ rw add-one (sym (set_split items i next below))),
+    )

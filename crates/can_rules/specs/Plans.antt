@@ -1,0 +1,139 @@
+use Rattle.std.specs.Prelude.{◌≡◌, ◌⊎◌, ◌<◌, ◌≤◌, ℕ, ◌+◌, Bool, not, ◌||◌, ◌==◌, nat_le, if◌then◌else◌, IsTrue, List, [], ◌∷◌, ◌++◌, length, Option, Some, None, unwrap_or, Result, Ok, Err, codes}
+use Rattle.std.specs.FinMap.{get}
+use Rattle.std.specs.List.{list_any}
+use Rattle.std.specs.Str.{bytes_eq}
+use Rattle.std.specs.Str.{IsUtf8}
+use Rattle.can_frame.specs.Frames.{CanFrame, word_of}
+use Rattle.can_fault.specs.Sources.{VerdictMap, no_verdicts}
+use Rattle.can_fault.specs.Scripts.{word, lines_in, line_spelling, line_after}
+use Rattle.can_fault.specs.declared.script.ScriptError.{ScriptError}
+use Rattle.can_fault.specs.declared.script.ScriptError.TheVariants as script
+use Rattle.can_fault.specs.declared.verdict.Verdict.{Verdict}
+use Rattle.can_fault.specs.declared.verdict.Verdict.TheVariants.{Good}
+use Rattle.can_rules.specs.declared.rule.Rule.{Rule}
+use Rattle.can_rules.specs.declared.rules.RuleRefusal.{RuleRefusal}
+use Rattle.can_rules.specs.declared.rules.RuleRefusal.TheVariants as refusal
+use Rattle.can_rules.specs.declared.rule_words.WrongWord.{WrongWord}
+use Rattle.can_rules.specs.declared.rule_words.WrongWord.TheVariants as wrong
+use Rattle.can_rules.specs.declared.plan.PlanError.{PlanError}
+use Rattle.can_rules.specs.declared.plan.PlanError.TheVariants as plan
+use Rattle.can_rules.specs.Rules.{Head, head_of, chosen, after_chosen, unused}
+use Rattle.can_rules.specs.RuleWords.{rule_spelling}
+
+-- The plan of a bus: the lines of a script, and rules (own choice).
+
+-- the verdicts that lines give by the numbers of attempts, and the rules, of which none is used up
+pub record PlanSeen : Type 0 where
+  pub lines : VerdictMap
+  pub rules : List Rule
+
+-- no line, no rule
+abbrev pub no_plan : PlanSeen
+no_plan = record { lines = no_verdicts; rules = [] }
+
+-- one rule more, after the others
+abbrev pub with_rule : Rule → PlanSeen → PlanSeen
+with_rule rule plan = record plan { rules = plan.rules ++ rule ∷ [] }
+
+-- the lines without the rules
+abbrev pub without_rules : PlanSeen → PlanSeen
+without_rules plan = record plan { rules = [] }
+
+-- what the next attempt tries, as rules see it: nothing where it is idle
+abbrev pub head_in : Option (ℕ × CanFrame) → Option Head
+head_in None = None
+head_in (Some p) = Some (head_of p.0 (word_of p.1))
+
+-- the verdict of an attempt for which a script has a line, or none: the line's, also a good one; else, where it tries a frame,
+-- a rule's; else good
+abbrev pub planned : Option Verdict → List Rule → Option Head → Verdict
+planned (Some verdict) rules head = verdict
+planned None rules None = Good
+planned None rules (Some head) = unwrap_or (chosen rules head) Good
+
+-- the rules after it: they are not asked where the script has a line, nor of an idle attempt; those that are used up go
+abbrev pub after_planned : Option Verdict → List Rule → Option Head → List Rule
+after_planned (Some verdict) rules head = rules
+after_planned None rules None = rules
+after_planned None rules (Some head) = unused (after_chosen rules head)
+
+-- the verdict of an attempt with a number, under a source and a plan: the source's, if it is a fault, else the plan's
+abbrev pub given : Verdict → PlanSeen → ℕ → Option (ℕ × CanFrame) → Verdict
+given Good plan attempt head = planned (get plan.lines attempt) plan.rules (head_in head)
+given fault plan attempt head = fault
+
+-- the plan after it: a fault of the source counts for no rule
+abbrev pub plan_after : Verdict → PlanSeen → ℕ → Option (ℕ × CanFrame) → PlanSeen
+plan_after Good plan attempt head = record plan { rules = after_planned (get plan.lines attempt) plan.rules (head_in head) }
+plan_after fault plan attempt head = plan
+
+-- how a rule that is none is refused
+abbrev pub refusal_of : WrongWord → RuleRefusal
+refusal_of wrong.UnknownInterface = refusal.UnknownInterface
+refusal_of _ = refusal.BadRule
+
+-- the rule that bytes spell, or why they spell none; a rule is UTF-8
+abbrev pub SpellsRule : List (List ℕ) → List ℕ → Result Rule RuleRefusal → Type 0
+SpellsRule names bytes (Ok rule) = rule_spelling names bytes ≡ Ok rule
+SpellsRule names bytes (Err why) = ((why ≡ refusal.BadRule) × ¬ (IsUtf8 bytes)) ⊎ ((which : WrongWord) × (rule_spelling names bytes ≡ Err which) × (why ≡ refusal_of which))
+
+-- bytes are given to a plan as one rule more: a text that spells no rule is refused first, then a rule where there are 64
+abbrev pub Injected : List (List ℕ) → List ℕ → PlanSeen → Result (Unit {0}) RuleRefusal → PlanSeen → Type 0
+Injected names bytes old (Ok done) new = (rule : Rule) × SpellsRule names bytes (Ok rule) × (length old.rules < 64) × (new ≡ with_rule rule old)
+Injected names bytes old (Err refusal.TooManyRules) new = (rule : Rule) × SpellsRule names bytes (Ok rule) × (64 ≤ length old.rules) × (new ≡ old)
+Injected names bytes old (Err refusal.NoMemory) new = (rule : Rule) × SpellsRule names bytes (Ok rule) × (length old.rules < 64) × (new ≡ old)
+Injected names bytes old (Err why) new = SpellsRule names bytes (Err why) × (new ≡ old)
+
+-- Plans as texts: the lines of a script, and lines that are rules.
+
+-- a line that begins as a rule does
+abbrev pub is_rule : List ℕ → Bool
+is_rule line = bytes_eq (word line) (codes "next") || bytes_eq (word line) (codes "always")
+
+-- how the line with this number is refused, where it is a rule with a wrong word
+abbrev pub at_word : ℕ → WrongWord → PlanError
+at_word n wrong.UnknownInterface = plan.Script (script.UnknownInterface n)
+at_word n _ = plan.Script (script.BadLine n)
+
+-- a plan with these lines, or the script's fault
+abbrev pub with_lines : PlanSeen → Result VerdictMap ScriptError → Result PlanSeen PlanError
+with_lines known (Ok lines) = Ok (record known { lines = lines })
+with_lines known (Err why) = Err (plan.Script why)
+
+-- a plan with one rule more, or the fault of the line with this number
+abbrev pub with_rule_line : PlanSeen → ℕ → Result Rule WrongWord → Result PlanSeen PlanError
+with_rule_line known n (Ok rule) = if nat_le 64 (length known.rules) then Err (plan.TooManyRules n) else Ok (with_rule rule known)
+with_rule_line known n (Err which) = Err (at_word n which)
+
+-- the plan after a line with this number, where the lines before it gave `known`
+abbrev pub line_taken : List (List ℕ) → PlanSeen → ℕ → List ℕ → Result PlanSeen PlanError
+line_taken names known n line = if is_rule line then with_rule_line known n (rule_spelling names line) else with_lines known (line_after known.lines n (line_spelling names line))
+
+-- a plan that is gone on with, or a fault
+abbrev pub gone_on : Result PlanSeen PlanError → (PlanSeen → Result PlanSeen PlanError) → Result PlanSeen PlanError
+gone_on (Ok known) f = f known
+gone_on (Err why) f = Err why
+
+-- the plan after lines, the first of them with this number
+abbrev pub lines_taken : List (List ℕ) → PlanSeen → ℕ → List (List ℕ) → Result PlanSeen PlanError
+lines_taken names known n [] = Ok known
+lines_taken names known n (line ∷ more) = gone_on (line_taken names known n line) (λ next. lines_taken names next (n + 1) more)
+
+-- the plan that a text spells, or its first fault
+abbrev pub plan_spelling : List (List ℕ) → List ℕ → Result PlanSeen PlanError
+plan_spelling names text = lines_taken names no_plan 1 (lines_in text)
+
+-- a line that is not empty
+abbrev pub has_bytes : List ℕ → Bool
+has_bytes line = not (length line == 0)
+
+-- what reading a text returns: what the text spells, or NoMemory, where it has a line
+abbrev pub ReadsPlan : List (List ℕ) → List ℕ → Result PlanSeen PlanError → Type 0
+ReadsPlan names text (Err (plan.Script script.NoMemory)) = IsTrue (list_any has_bytes (lines_in text))
+ReadsPlan names text answer = plan_spelling names text ≡ answer
+
+-- taking a line with this number: the plan after it, or its fault, or NoMemory, where it is not empty
+abbrev pub TakesPlanLine : List (List ℕ) → List ℕ → ℕ → PlanSeen → Result (Unit {0}) PlanError → PlanSeen → Type 0
+TakesPlanLine names line n known (Ok done) new = line_taken names known n line ≡ Ok new
+TakesPlanLine names line n known (Err (plan.Script script.NoMemory)) new = IsTrue (has_bytes line)
+TakesPlanLine names line n known (Err why) new = line_taken names known n line ≡ Err why

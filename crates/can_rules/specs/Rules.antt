@@ -1,0 +1,111 @@
+use Rattle.std.specs.Prelude.{◌≡◌, ℕ, zero, suc, ◌+◌, ◌-◌, ◌==◌, Bool, true, false, not, ◌&&◌, if◌then◌else◌, List, [], ◌∷◌, ◌++◌, filter, length, ◌<◌, ◌≤◌, Option, Some, None, Result, Ok, Err}
+use Rattle.can_frame.specs.Sets.{is_in}
+use Rattle.can_frame.specs.declared.iface.IfaceSet.{IfaceSet}
+use Rattle.can_filter.specs.Filters.{matches as fits}
+use Rattle.can_rules.specs.declared.rule.Rule.{Rule}
+use Rattle.can_rules.specs.declared.rules.RuleRefusal.{RuleRefusal}
+use Rattle.can_rules.specs.declared.rules.RuleRefusal.TheVariants.{TooManyRules, NoMemory}
+use Rattle.can_fault.specs.declared.verdict.Verdict.{Verdict}
+
+-- Rules for the verdicts of attempts (own choice).
+
+-- an attempt, as rules see it: the interface that wins it, and the identifier word of its frame
+pub record Head : Type 0 where
+  pub winner : ℕ
+  pub word : ℕ
+
+abbrev pub head_of : ℕ → ℕ → Head
+head_of winner word = record { winner = winner; word = word }
+
+-- the interface that wins is one of these; where none are named, any
+abbrev pub is_from : Option IfaceSet → Head → Bool
+is_from None head = true
+is_from (Some senders) head = is_in head.winner senders
+
+-- an attempt of the rule's kind: by its sender, and by its frame's identifier word, as a filter of linux/can.h sees it
+abbrev pub matches : Rule → Head → Bool
+matches rule head = is_from rule.senders head && fits rule.filter head.word
+
+-- no verdict is left
+abbrev pub is_spent : Option ℕ → Bool
+is_spent None = false
+is_spent (Some left) = left == 0
+
+-- a rule that gives no verdict any more
+abbrev pub is_used_up : Rule → Bool
+is_used_up rule = is_spent rule.left
+
+-- one verdict fewer, where they are counted
+abbrev pub one_less : Option ℕ → Option ℕ
+one_less None = None
+one_less (Some left) = Some (left - 1)
+
+-- it matches, and is not used up: it gives the verdict, or skips
+abbrev pub is_due : Rule → Head → Bool
+is_due rule head = not (is_used_up rule) && matches rule head
+
+-- it gives the verdict
+abbrev pub gives : Rule → Head → Bool
+gives rule head = is_due rule head && (rule.skip == 0)
+
+-- what it gives
+abbrev pub given_by : Rule → Head → Option Verdict
+given_by rule head = if gives rule head then Some rule.verdict else None
+
+-- the rule after it was looked at: one that does not match, or is used up, is as before; one that still skips
+-- counts that; any other counts the verdict that it gives
+abbrev pub asked : Rule → Head → Rule
+asked rule head =
+    if is_due rule head then (if rule.skip == 0 then record rule { left = one_less rule.left } else record rule { skip = rule.skip - 1 }) else rule
+
+-- the verdict of an attempt: the rules are looked at in their order, up to the first that gives one
+abbrev pub chosen : List Rule → Head → Option Verdict
+chosen [] head = None
+chosen (rule ∷ rules) head = if gives rule head then Some rule.verdict else chosen rules head
+
+-- the rules after that: those after the one that gives are not looked at
+abbrev pub after_chosen : List Rule → Head → List Rule
+after_chosen [] head = []
+after_chosen (rule ∷ rules) head = asked rule head ∷ (if gives rule head then rules else after_chosen rules head)
+
+-- those that are not used up
+abbrev pub unused : List Rule → List Rule
+unused rules = filter (λ rule. not (is_used_up rule)) rules
+
+-- the verdicts of attempts, one after another
+abbrev pub verdicts : List Rule → List Head → List (Option Verdict)
+verdicts rules [] = []
+verdicts rules (head ∷ heads) = chosen rules head ∷ verdicts (after_chosen rules head) heads
+
+-- the rules after attempts
+abbrev pub rules_after : List Rule → List Head → List Rule
+rules_after rules [] = rules
+rules_after rules (head ∷ heads) = rules_after (after_chosen rules head) heads
+
+-- the rule at a place gives the verdict of an attempt
+abbrev pub gives_at : ℕ → List Rule → Head → Bool
+gives_at place [] head = false
+gives_at zero (rule ∷ rules) head = gives rule head
+gives_at (suc place) (rule ∷ rules) head = not (gives rule head) && gives_at place rules head
+
+-- how many of these attempts, one after another, it gives the verdict
+abbrev pub times_given : ℕ → List Rule → List Head → ℕ
+times_given place rules [] = 0
+times_given place rules (head ∷ heads) = (if gives_at place rules head then 1 else 0) + times_given place (after_chosen rules head) heads
+
+-- two lists that differ by two neighbours, no attempt being of the kind of both
+pub record AreSwapped (one other : List Rule) : Type 0 where
+  pub front : List Rule
+  pub first : Rule
+  pub second : Rule
+  pub back : List Rule
+  pub one_is : one ≡ front ++ first ∷ second ∷ back
+  pub other_is : other ≡ front ++ second ∷ first ∷ back
+  pub apart : (head : Head) → (matches first head && matches second head) ≡ false
+
+-- a rule is added after the others, or refused where there are 64, or where memory is
+abbrev pub Adds : Rule → List Rule → Result (Unit {0}) RuleRefusal → List Rule → Type 0
+Adds rule old (Ok done) new = (length old < 64) × (new ≡ old ++ rule ∷ [])
+Adds rule old (Err TooManyRules) new = (64 ≤ length old) × (new ≡ old)
+Adds rule old (Err NoMemory) new = (length old < 64) × (new ≡ old)
+Adds rule old (Err why) new = ⊥

@@ -1,0 +1,16 @@
+//! Rules of faults: verdicts by who sends what, and the plan of a bus, which is a script's lines and rules.
+//!
+//! A rule gives a verdict to the next attempts, or to all, of some senders or with some identifiers. A plan is asked once
+//! for each attempt that tries a frame, and counts what its rules give.
+#![tactic(auto)]
+
+pub mod laws;
+pub mod plan;
+pub mod rule;
+mod rule_words;
+mod rules;
+
+pub use plan::{Plan, PlanError};
+pub use rule::Rule;
+pub use rule_words::{WrongWord, read_rule};
+pub use rules::{MAX_RULES, RuleRefusal};

@@ -1,0 +1,201 @@
+ghost use Rattle.std.specs.Prelude.{◌≡◌, length, true};
+ghost use Rattle.can_rules.specs.Plans.{no_plan, given, plan_after, without_rules, SpellsRule, Injected, ReadsPlan, TakesPlanLine, at_word, refusal_of, is_rule};
+
+use crate::rule::Rule;
+use crate::rule_words::{WrongWord, read_rule};
+use crate::rules::{RuleRefusal, Rules};
+use can_fault::script_lines::cut;
+use can_fault::{Script, ScriptError, Verdict};
+use can_frame::{Frame, Iface, Names};
+use std::alloc::Global;
+use std::marker::Model;
+use std::str;
+use thiserror::Error;
+
+/// Why a text is no plan. Lines are numbered from 1.
+#[derive(Debug, Clone, Copy, PartialEq, Eq, Error)]
+pub enum PlanError {
+    /// A line is none that a script or a rule has, or memory was refused.
+    #[error("{0}")]
+    Script(ScriptError),
+    /// The line of this number is a rule after 64 others.
+    #[error("script line {0}: too many rules")]
+    TooManyRules(usize),
+}
+
+/// The faults that a bus is to have: the verdicts of attempts by their numbers, as the lines of a script, and rules.
+#[derive(Drop)]
+pub struct Plan {
+    script: Script,
+    rules: Rules,
+}
+
+impl Model for Plan {
+    ghost use Rattle.std.specs.Coded.{codes};
+    ghost use Rattle.can_fault.specs.Sources.{verdict_map_code};
+    ghost use Rattle.can_rules.specs.Plans.{PlanSeen};
+
+    ghost Value = { PlanSeen };
+
+    ghost coded = { Prim.hlevel (codes, verdict_map_code) };
+
+    ghost view = { λ p. record { lines = p.script; rules = p.rules } };
+}
+
+impl Plan {
+    /// The plan without lines and rules: each attempt is good.
+    pub fn new(alloc: Global) -> Plan
+        ensures { result ≡ no_plan }
+    {
+        Plan {
+            script: Script::new(alloc),
+            rules: Rules::new(alloc),
+        }
+    }
+
+    /// The plan that a text spells, for a bus with these names, or the first fault of the text: each line is one of
+    /// a script, or a rule. Time as `Script::read`.
+    pub fn read(alloc: Global, text: &str, names: &Names) -> Result<Plan, PlanError>
+        ensures { ReadsPlan names.now text.now result }
+    {
+        let mut plan = Plan::new(alloc);
+        let mut number = 0;
+        for line in text.split('\n') {
+            number += 1;
+            if let Err(fault) = plan.take_line(line, number, names) {
+                return Err(fault);
+            }
+        }
+        Ok(plan)
+    }
+
+    // Takes what a line says, which has this number in its text.
+    fn take_line(&mut self, line: &str, number: usize, names: &Names) -> Result<(), PlanError>
+        ensures { TakesPlanLine names.now line.now number self.old result self.new }
+    {
+        if begins_as_rule(line) {
+            return self.take_rule(line, number, names);
+        }
+        match self.script.take_line(line, number, names) {
+            Ok(()) => Ok(()),
+            Err(fault) => Err(PlanError::Script(fault)),
+        }
+    }
+
+    // Takes the rule that a line with this number is.
+    fn take_rule(&mut self, line: &str, number: usize, names: &Names) -> Result<(), PlanError>
+        requires { is_rule line.now ≡ true }
+        ensures { TakesPlanLine names.now line.now number self.old result self.new }
+    {
+        let rule = match read_rule(line, names) {
+            Ok(rule) => rule,
+            Err(which) => return Err(which.at(number)),
+        };
+        match self.rules.add(rule) {
+            Ok(()) => Ok(()),
+            Err(RuleRefusal::TooManyRules) => Err(PlanError::TooManyRules(number)),
+            Err(_) => Err(PlanError::Script(ScriptError::NoMemory)),
+        }
+    }
+
+    /// The verdict of the attempt with this number, for which a source has another: the source's, if it is a fault;
+    /// else that of the script's line, also a good one; else, where the attempt tries a frame, what the first rule that
+    /// matches gives; else `Good`. Asks each rule at most once. The time grows with the logarithm of the script's lines, and with the rules.
+    pub fn verdict(
+        &mut self,
+        source: Verdict,
+        attempt: u64,
+        head: Option<(Iface, Frame)>,
+    ) -> Verdict
+        ensures verdict { result ≡ given source self.old attempt head }
+        ensures after { self.new ≡ plan_after source self.old attempt head }
+    {
+        match source {
+            Verdict::Good => self.planned(attempt, head),
+            fault => fault,
+        }
+    }
+
+    // The same, where the source has no fault.
+    fn planned(&mut self, attempt: u64, head: Option<(Iface, Frame)>) -> Verdict
+        ensures verdict { result ≡ given Verdict.Good self.old attempt head }
+        ensures after { self.new ≡ plan_after Verdict.Good self.old attempt head }
+    {
+        if let Some(verdict) = self.script.line(attempt) {
+            return verdict;
+        }
+        match head {
+            Some((winner, frame)) => self
+                .rules
+                .verdict(winner, frame.word())
+                .unwrap_or(Verdict::Good),
+            None => Verdict::Good,
+        }
+    }
+
+    /// One rule more, after the others, from the bytes of a text, for a bus with these names. Refusals, in this order, which change nothing:
+    /// `BadRule`, `UnknownInterface`, `TooManyRules` where there are 64, `NoMemory`.
+    pub fn inject(&mut self, text: &[u8], names: &Names) -> Result<(), RuleRefusal>
+        ensures { Injected names.now text.now self.old result self.new }
+    {
+        let rule = rule_in(text, names)?;
+        self.rules.add(rule)
+    }
+
+    /// How many rules are left.
+    pub fn rules(&self) -> usize
+        ensures { result ≡ length self.now.rules }
+    {
+        self.rules.len()
+    }
+
+    /// Ends all rules. The lines stay.
+    pub fn end_rules(&mut self)
+        ensures { self.new ≡ without_rules self.old }
+    {
+        self.rules.clear();
+    }
+}
+
+// Whether a line begins as a rule does.
+fn begins_as_rule(line: &str) -> bool
+    ensures { result ≡ is_rule line.now }
+{
+    let (first, _) = cut(line);
+    first == "next" || first == "always"
+}
+
+// The rule that bytes spell.
+fn rule_in(text: &[u8], names: &Names) -> Result<Rule, RuleRefusal>
+    ensures { SpellsRule names.now text.now result }
+{
+    let Ok(text) = str::from_utf8(text) else {
+        return Err(RuleRefusal::BadRule);
+    };
+    match read_rule(text, names) {
+        Ok(rule) => Ok(rule),
+        Err(which) => Err(which.refusal()),
+    }
+}
+
+impl WrongWord {
+    // How it is refused.
+    fn refusal(self) -> RuleRefusal
+        ensures { result ≡ refusal_of self }
+    {
+        match self {
+            WrongWord::UnknownInterface => RuleRefusal::UnknownInterface,
+            _ => RuleRefusal::BadRule,
+        }
+    }
+
+    // How it is refused in the line of this number.
+    fn at(self, number: usize) -> PlanError
+        ensures { result ≡ at_word number self }
+    {
+        match self {
+            WrongWord::UnknownInterface => PlanError::Script(ScriptError::UnknownInterface(number)),
+            _ => PlanError::Script(ScriptError::BadLine(number)),
+        }
+    }
+}

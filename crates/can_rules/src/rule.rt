@@ -1,0 +1,62 @@
+use can_fault::Verdict;
+use can_filter::Filter;
+use can_frame::{Iface, IfaceSet};
+
+/// A rule, with what is left of its counts.
+#[derive(Debug, Clone, Copy, PartialEq, Eq)]
+pub struct Rule {
+    /// The interfaces whose attempts it is for, or `None` for those of all.
+    pub senders: Option<IfaceSet>,
+    /// What the frame's identifier word has to match.
+    pub filter: Filter,
+    /// How many more such attempts it leaves to the rules after it.
+    pub skip: u32,
+    /// How many verdicts it still gives, or `None` where it is never used up.
+    pub left: Option<u32>,
+    /// What it gives.
+    pub verdict: Verdict,
+}
+
+impl Rule {
+    ghost use Rattle.std.specs.Prelude.{◌≡◌};
+    ghost use Rattle.can_rules.specs.Rules.{is_used_up, matches, given_by, asked, head_of};
+
+    /// Whether it gives no more verdicts.
+    pub fn is_used_up(&self) -> bool
+        ensures { result ≡ is_used_up self.now }
+    {
+        match self.left {
+            Some(left) => left == 0,
+            None => false,
+        }
+    }
+
+    // Whether it is for an attempt at a frame with this identifier word.
+    fn matches(&self, winner: Iface, word: u32) -> bool
+        ensures { result ≡ matches self.now (head_of winner word) }
+    {
+        let is_from = match self.senders {
+            Some(senders) => senders.contains(winner),
+            None => true,
+        };
+        is_from && self.filter.matches(word)
+    }
+
+    /// Asks the rule for the verdict of an attempt, and counts.
+    pub(crate) fn ask(&mut self, winner: Iface, word: u32) -> Option<Verdict>
+        ensures verdict { result ≡ given_by self.old (head_of winner word) }
+        ensures counts { self.new ≡ asked self.old (head_of winner word) }
+    {
+        if self.is_used_up() || !self.matches(winner, word) {
+            return None;
+        }
+        if self.skip > 0 {
+            self.skip -= 1;
+            return None;
+        }
+        if let Some(left) = self.left {
+            self.left = Some(left - 1);
+        }
+        Some(self.verdict)
+    }
+}

@@ -1,0 +1,220 @@
+ghost use Rattle.std.specs.Prelude.{◌≡◌, ◌<◌, IfSome, ◌^◌};
+ghost use Rattle.can_filter.specs.Filters.{everything};
+ghost use Rattle.can_rules.specs.RuleWords.{rule_spelling, with_senders, with_id, skipping, ended, count_spelling, id_spelling, plain_spelling, masked_spelling, small_spelling, of_standard, of_extended, of_words, id_in, mask_in, word_of};
+
+use crate::rule::Rule;
+use can_fault::Verdict;
+use can_fault::script_lines::{LineFault, cut, read_set, read_verdict};
+use can_filter::Filter;
+use can_frame::{Names, read_decimal, read_hexadecimal};
+
+/// Which word of a rule is wrong.
+#[derive(Debug, Clone, Copy, PartialEq, Eq)]
+pub enum WrongWord {
+    /// It begins with neither `next` nor `always`.
+    Beginning,
+    /// The number after `next` is none, or 0.
+    Count,
+    /// The names after `from` are no names.
+    Senders,
+    /// A name is of no interface of the bus.
+    UnknownInterface,
+    /// The identifier after `id` is none.
+    Identifier,
+    /// The number after `skip` is none.
+    Skip,
+    /// What is left is no verdict.
+    Verdict,
+}
+
+/// The rule that a text spells, for a bus with these names.
+///
+/// A rule is `next N` or `always`, then `from NAMES`, `id ID` and `skip K`, each or none, and a verdict as in a
+/// script, with one space between words. `ID` is 3 hexadecimal digits, 8 of them, or 1 to 8 with a colon and a mask of
+/// 1 to 8, as the words of `filter`.
+#[tactic(auto, unfolding(crate::specs::RuleWords::rule_spelling))]
+pub fn read_rule(text: &str, names: &Names) -> Result<Rule, WrongWord>
+    ensures { result ≡ rule_spelling names.now text.now }
+{
+    let (first, rest) = cut(text);
+    if first == "always" {
+        read_senders(rule_of(None), rest, names)
+    } else if first == "next" {
+        let (count, rest) = cut(rest);
+        let count = read_count(count).ok_or(WrongWord::Count)?;
+        read_senders(rule_of(Some(count)), rest, names)
+    } else {
+        Err(WrongWord::Beginning)
+    }
+}
+
+fn rule_of(left: Option<u32>) -> Rule
+    ensures { result ≡ record { senders = None; filter = everything; skip = 0; left = left; verdict = Verdict.Good } }
+{
+    Rule {
+        senders: None,
+        filter: Filter::new(0, 0).unwrap(),
+        skip: 0,
+        left,
+        verdict: Verdict::Good,
+    }
+}
+
+#[tactic(auto, unfolding(crate::specs::RuleWords::with_senders))]
+fn read_senders(mut rule: Rule, text: &str, names: &Names) -> Result<Rule, WrongWord>
+    ensures { result ≡ with_senders names.now rule text.now }
+{
+    let (first, rest) = cut(text);
+    if first != "from" {
+        return read_id(rule, text, names);
+    }
+    let (list, rest) = cut(rest);
+    match read_set(list, names) {
+        Ok(senders) => {
+            rule.senders = Some(senders);
+            read_id(rule, rest, names)
+        }
+        Err(fault) => Err(wrong_word(WrongWord::Senders, fault)),
+    }
+}
+
+#[tactic(auto, unfolding(crate::specs::RuleWords::with_id))]
+fn read_id(mut rule: Rule, text: &str, names: &Names) -> Result<Rule, WrongWord>
+    ensures { result ≡ with_id names.now rule text.now }
+{
+    let (first, rest) = cut(text);
+    if first != "id" {
+        return read_skip(rule, text, names);
+    }
+    let (id, rest) = cut(rest);
+    let filter = read_filter(id).ok_or(WrongWord::Identifier)?;
+    rule.filter = filter;
+    read_skip(rule, rest, names)
+}
+
+#[tactic(auto, unfolding(crate::specs::RuleWords::skipping))]
+fn read_skip(mut rule: Rule, text: &str, names: &Names) -> Result<Rule, WrongWord>
+    ensures { result ≡ skipping names.now rule text.now }
+{
+    let (first, rest) = cut(text);
+    if first != "skip" {
+        return read_end(rule, text, names);
+    }
+    let (number, rest) = cut(rest);
+    let skip = read_small(number).ok_or(WrongWord::Skip)?;
+    rule.skip = skip;
+    read_end(rule, rest, names)
+}
+
+#[tactic(auto, unfolding(crate::specs::RuleWords::ended))]
+fn read_end(mut rule: Rule, text: &str, names: &Names) -> Result<Rule, WrongWord>
+    ensures { result ≡ ended names.now rule text.now }
+{
+    match read_verdict(text, names) {
+        Ok(verdict) => {
+            rule.verdict = verdict;
+            Ok(rule)
+        }
+        Err(fault) => Err(wrong_word(WrongWord::Verdict, fault)),
+    }
+}
+
+// Which word is wrong, where a part has a fault.
+fn wrong_word(which: WrongWord, fault: LineFault) -> WrongWord
+    ensures { result ≡ word_of which fault }
+{
+    match fault {
+        LineFault::BadLine => which,
+        LineFault::UnknownInterface => WrongWord::UnknownInterface,
+    }
+}
+
+// 1 to 8 decimal digits.
+fn read_small(text: &str) -> Option<u32>
+    ensures { result ≡ small_spelling text.now }
+{
+    match read_decimal(text.as_bytes(), 8) {
+        Some(number) => Some(number as u32),
+        None => None,
+    }
+}
+
+// Such a number, and not 0.
+fn read_count(text: &str) -> Option<u32>
+    ensures { result ≡ count_spelling text.now }
+{
+    match read_small(text) {
+        Some(0) | None => None,
+        Some(count) => Some(count),
+    }
+}
+
+fn read_filter(text: &str) -> Option<Filter>
+    ensures { result ≡ id_spelling text.now }
+{
+    let (id, mask) = cut_colon(text);
+    if mask.len() == 0 {
+        read_plain(text)
+    } else {
+        read_masked(id, mask)
+    }
+}
+
+// The text before the first colon, and the text after it; the whole and nothing where there is no colon.
+fn cut_colon(text: &str) -> (&str, &str)
+    ensures id { result.0.now ≡ id_in text.now }
+    ensures mask { result.1.now ≡ mask_in text.now }
+{
+    text.split_once(':').unwrap_or((text, ""))
+}
+
+// 3 hexadecimal digits, or 8.
+#[tactic(auto, unfolding(crate::specs::RuleWords::plain_spelling))]
+fn read_plain(text: &str) -> Option<Filter>
+    ensures { result ≡ plain_spelling text.now }
+{
+    if text.len() == 3 {
+        match read_hexadecimal(text.as_bytes(), 3) {
+            Some(number) => standard(number),
+            None => None,
+        }
+    } else if text.len() == 8 {
+        match read_hexadecimal(text.as_bytes(), 8) {
+            Some(number) => extended(number),
+            None => None,
+        }
+    } else {
+        None
+    }
+}
+
+// The words with an 11-bit identifier.
+fn standard(number: u32) -> Option<Filter>
+    ensures { result ≡ of_standard number }
+{
+    if number < 0x800 {
+        Filter::new(number, 0x8000_07ff).ok()
+    } else {
+        None
+    }
+}
+
+// The words with a 29-bit identifier.
+fn extended(number: u32) -> Option<Filter>
+    ensures { result ≡ of_extended number }
+{
+    if number < 0x2000_0000 {
+        Filter::new(number + 0x8000_0000, 0x9fff_ffff).ok()
+    } else {
+        None
+    }
+}
+
+#[tactic(auto, unfolding(crate::specs::RuleWords::masked_spelling))]
+fn read_masked(id: &str, mask: &str) -> Option<Filter>
+    ensures { result ≡ masked_spelling id.now mask.now }
+{
+    let id = read_hexadecimal(id.as_bytes(), 8)?;
+    let mask = read_hexadecimal(mask.as_bytes(), 8)?;
+    Filter::new(id, mask).ok()
+}
