@@ -96,12 +96,7 @@ impl Script {
 
     /// Takes what a line says, which has this number in its text. After an error the script is not
     /// meant to be used.
-    pub fn take_line(
-        &mut self,
-        line: &str,
-        number: usize,
-        names: &Names,
-    ) -> Result<(), ScriptError>
+    pub fn take_line(&mut self, line: &str, number: usize, names: &Names) -> Result<(), ScriptError>
         ensures { TakesLine (line_spelling names.now line.now) number self.old result self.new }
     {
         let (attempt, verdict) = match read_line(line, names) {

@@ -98,9 +98,9 @@ impl Plan {
         }
     }
 
-    /// The verdict of the attempt with this number, for which a source has another: the source's, if it is a fault;
-    /// else that of the script's line, also a good one; else, where the attempt tries a frame, what the first rule that
-    /// matches gives; else `Good`. Asks each rule at most once. The time grows with the logarithm of the script's lines, and with the rules.
+    /// The verdict of the attempt with this number, for which a source has its own: the source's, if it is a fault; else that
+    /// of the script's line, also a good one; else, where the attempt tries a frame, what the first rule that matches gives;
+    /// else `Good`. Asks each rule at most once. The time grows with the logarithm of the script's lines, and with the rules.
     pub fn verdict(
         &mut self,
         source: Verdict,
@@ -133,8 +133,8 @@ impl Plan {
         }
     }
 
-    /// One rule more, after the others, from the bytes of a text, for a bus with these names. Refusals, in this order, which change nothing:
-    /// `BadRule`, `UnknownInterface`, `TooManyRules` where there are 64, `NoMemory`.
+    /// One rule more, after the others, from the bytes of a text, for a bus with these names. Refusals, in this order, which
+    /// change nothing: `BadRule`, `UnknownInterface`, `TooManyRules` where there are 64, `NoMemory`.
     pub fn inject(&mut self, text: &[u8], names: &Names) -> Result<(), RuleRefusal>
         ensures { Injected names.now text.now self.old result self.new }
     {
