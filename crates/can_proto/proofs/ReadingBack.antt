@@ -12,7 +12,7 @@ use Rattle.can_event.specs.declared.opt.Opt.{Opt}
 use Rattle.can_event.specs.declared.opt.Opt.TheVariants as opt
 use Rattle.can_proto.specs.declared.command.Mode.{Mode}
 use Rattle.can_proto.specs.declared.command.Command.{Command}
-use Rattle.can_proto.specs.declared.command.Command.TheVariants.{Echo, Open, Rawmode, Send, SetFilters, SetOption, ErrData, Stats, Status, Restart, Close}
+use Rattle.can_proto.specs.declared.command.Command.TheVariants.{Echo, Open, Rawmode, Send, SetFilters, SetOption, ErrData, Stats, Status, Restart, Fault, Faults, NoFaults, Close}
 use Rattle.can_proto.specs.declared.fault.ProtoFault.{ProtoFault}
 use Rattle.can_proto.specs.declared.fault.ProtoFault.TheVariants.{BadByte}
 use Rattle.can_proto.specs.declared.verb.Verb.{Verb}
@@ -20,7 +20,7 @@ use Rattle.can_proto.specs.declared.verb.Verb.TheVariants as verb
 use Rattle.can_proto.specs.Words.{is_blank, front, words_after, words_of}
 use Rattle.can_proto.specs.Verbs.{stands_in, mode_has}
 use Rattle.can_frame.specs.Numbers.{hex_digit, in_base, one_more, number_after, number_in}
-use Rattle.can_proto.specs.Commands.{◌>>=◌, or_fault, short_id, long_id, id_of, length_of, fd_length_of, bytes_of, send_of, send_fd_of, remote_of, filter_of, filters_of, set_of, mask_of, switch_of, open_of, arguments_of, command_of, reading}
+use Rattle.can_proto.specs.Commands.{◌>>=◌, or_fault, short_id, long_id, id_of, length_of, fd_length_of, bytes_of, send_of, send_fd_of, remote_of, filter_of, filters_of, set_of, mask_of, switch_of, open_of, fault_of, arguments_of, command_of, reading}
 use Rattle.can_proto.specs.CommandSpelling.{flag_text, frame_words, filter_words, option_words, command_words, command_spelling, IsFilter, IsOption, IsCommand}
 use Rattle.can_proto.proofs.Cuts.{clear, clear_parts}
 use Rattle.can_proto.proofs.Numerals.{IsMark, clear-digits, clear-decimal}
@@ -84,6 +84,25 @@ clear-front : (w : List ℕ) → front w ≡ w → clear is_blank w ≡ true
 clear-front [] h = refl
 clear-front (b ∷ bs) h = let parts = front-parts (is_blank b) b (front bs) bs h in rw (parts.0, clear-front bs parts.1) refl
 
+-- the bytes up to the first blank have none
+clear-up-to : (text : List ℕ) → clear is_blank (front text) ≡ true
+clear-up-to [] = refl
+clear-up-to (b ∷ bs) = by_test (is_blank b) refl (clear-up-to bs)
+  where
+    by_test : (blank : Bool) → is_blank b ≡ blank → clear is_blank (front bs) ≡ true → clear is_blank (if blank then [] else b ∷ front bs) ≡ true
+    by_test true is more = refl
+    by_test false is more = rw (is, more) refl
+
+-- the words of a text are words
+words-after : (was_blank : Bool) (text : List ℕ) → AreWords (words_after was_blank text)
+words-after was_blank [] = tt
+words-after was_blank (b ∷ bs) = by_test was_blank (is_blank b) refl (λ was. words-after was bs)
+  where
+    by_test : (was blank : Bool) → is_blank b ≡ blank → ((before : Bool) → AreWords (words_after before bs)) → AreWords (if blank then words_after true bs else if was then (b ∷ front bs) ∷ words_after false bs else words_after false bs)
+    by_test was true is more = more true
+    by_test true false is more = (rw (is, clear-up-to bs) refl, omega arith, more false)
+    by_test false false is more = more false
+
 words-bytes : (bytes : List ℕ) → AreWords (map (digits 16 2) bytes)
 words-bytes [] = tt
 words-bytes (b ∷ bs) = (clear-digits is_blank no-blank 16 2 b, omega arith, words-bytes bs)
@@ -135,6 +154,9 @@ words-command (ErrData on) h = (refl, omega arith, words-flag on)
 words-command Stats h = (refl, omega arith, tt)
 words-command Status h = (refl, omega arith, tt)
 words-command Restart h = (refl, omega arith, tt)
+words-command (Fault rule) h = (refl, omega arith, words-after true rule)
+words-command Faults h = (refl, omega arith, tt)
+words-command NoFaults h = (refl, omega arith, tt)
 words-command Close h = (refl, omega arith, tt)
 
 -- each word is read back
@@ -263,6 +285,11 @@ mask-again : (word : List ℕ) (mask : ℕ) → number_in 16 8 word ≡ Some mas
 unfolding mask_of
 mask-again word mask h = rw h refl
 
+spaced-rule : (words : List (List ℕ)) (rule : List ℕ) → 0 < length words → join_with_byte 32 words ≡ rule → fault_of words ≡ Ok (Fault rule)
+unfolding fault_of
+spaced-rule [] rule some is = absurd (omega arith)
+spaced-rule (w ∷ ws) rule some is = ap (λ (text : List ℕ). Ok (Fault text)) is
+
 -- and so is each command
 
 tested : {A : Type 0} (b : Bool) (x y : A) → IsTrue b → (if b then x else y) ≡ x
@@ -301,6 +328,9 @@ command-again mode (ErrData on) h may = said mode verb.ErrData _ _ may (ap (λ (
 command-again mode Stats h may = said mode verb.Stats [] Stats may refl
 command-again mode Status h may = said mode verb.Status [] Status may refl
 command-again mode Restart h may = said mode verb.Restart [] Restart may refl
+command-again mode (Fault rule) h may = said mode verb.Fault (words_of rule) (Fault rule) may (spaced-rule (words_of rule) rule h.0 h.1)
+command-again mode Faults h may = said mode verb.Faults [] Faults may refl
+command-again mode NoFaults h may = said mode verb.NoFaults [] NoFaults may refl
 command-again mode Close h may = said mode verb.Close [] Close may refl
 
 pub read-back : (mode : Mode) (c : Command) → IsCommand c → IsTrue (mode_has mode (command_words c)) → reading mode (words_of (command_spelling c)) ≡ Ok c

@@ -32,6 +32,8 @@ cause_in text =
     if is_word text (codes "message too long") then cause.MessageTooLong else
     if is_word text (codes "too many sessions") then cause.TooManySessions else
     if is_word text (codes "wrong station") then cause.WrongStation else
+    if is_word text (codes "bad rule") then cause.BadRule else
+    if is_word text (codes "too many rules") then cause.TooManyRules else
     cause.NoMemory
 
 told : (c : Cause) → cause_in (cause_text c) ≡ c
@@ -60,6 +62,8 @@ told cause.BadNumber = refl
 told cause.MessageTooLong = refl
 told cause.TooManySessions = refl
 told cause.WrongStation = refl
+told cause.BadRule = refl
+told cause.TooManyRules = refl
 
 pub one-cause : (a b : Cause) → cause_text a ≡ cause_text b → a ≡ b
 one-cause a b h = sym (told a) ∙ ap cause_in h ∙ told b

@@ -14,7 +14,7 @@ use Rattle.can_confine.specs.declared.state.State.TheVariants.{Active, Warning, 
 use Rattle.can_event.specs.declared.stats.SocketStats.{SocketStats}
 use Rattle.can_event.specs.declared.stats.IfaceStats.{IfaceStats}
 use Rattle.can_proto.specs.declared.answer.Answer.{Answer}
-use Rattle.can_proto.specs.declared.answer.Answer.TheVariants.{Greeting, Done, Echo, Stats, Status, Closing, Refused}
+use Rattle.can_proto.specs.declared.answer.Answer.TheVariants.{Greeting, Done, Echo, Stats, Status, Faults, Closing, Refused}
 use Rattle.can_proto.specs.declared.answer.Cause.{Cause}
 use Rattle.can_proto.specs.declared.answer.Cause.TheVariants as cause
 use Rattle.can_proto.specs.Causes.{cause_text}
@@ -79,6 +79,7 @@ mark_of Done = 107
 mark_of Echo = 131
 mark_of (Stats s i) = 231
 mark_of (Status c) = 233
+mark_of (Faults left) = 213
 mark_of (Closing c) = 209
 mark_of (Refused why) = 228
 
@@ -88,6 +89,7 @@ marked Done = refl
 marked Echo = refl
 marked (Stats s i) = refl
 marked (Status c) = refl
+marked (Faults left) = refl
 marked (Closing c) = refl
 marked (Refused why) = refl
 
@@ -112,6 +114,7 @@ one-answer Done Done ha hb e = refl
 one-answer Echo Echo ha hb e = refl
 one-answer (Stats s i) (Stats t j) ha hb e = same-stats s t i j ha hb e
 one-answer (Status c) (Status d) ha hb e = ap Status (same-status c d ha hb e)
+one-answer (Faults m) (Faults n) ha hb e = ap (λ (l : List ℕ). Faults (get_or l 0 0)) (same-behind m n [] [] ha hb refl (ap (drop 9) e))
 one-answer (Closing c) (Closing d) ha hb e =
     let h = same-behind c.unread d.unread (c.dropped ∷ []) (d.dropped ∷ []) ha hb refl (ap (drop 9) e) in
     ap (λ (l : List ℕ). Closing (record { unread = get_or l 0 0; dropped = get_or l 1 0 })) h
@@ -139,6 +142,7 @@ clear-answer (Stats s i) h = clear-behind s.queued (s.dropped ∷ s.taken ∷ i.
 clear-answer (Status c) h =
     let word = state_word (state_of c) in
     ap (clear is_point) (row-behind word (c.tec ∷ c.rec ∷ [])) ∙ clear-append is_point word (32 ∷ row (c.tec ∷ c.rec ∷ [])) (clear-state (state_of c)).1 (clear-row (c.tec ∷ c.rec ∷ []) h)
+clear-answer (Faults left) h = clear-behind left [] h
 clear-answer (Closing c) h = clear-behind c.unread (c.dropped ∷ []) h
 clear-answer (Refused why) h = clear-cause why
 

@@ -35,6 +35,8 @@ cause_text cause.BadNumber = codes "bad number"
 cause_text cause.MessageTooLong = codes "message too long"
 cause_text cause.TooManySessions = codes "too many sessions"
 cause_text cause.WrongStation = codes "wrong station"
+cause_text cause.BadRule = codes "bad rule"
+cause_text cause.TooManyRules = codes "too many rules"
 
 -- how a fault of a message is reported
 abbrev pub cause_of_fault : ProtoFault → Cause

@@ -8,8 +8,8 @@ use Rattle.can_filter.specs.Filters.{CanFilter}
 use Rattle.can_event.specs.declared.opt.Opt.{Opt}
 use Rattle.can_event.specs.declared.opt.Opt.TheVariants as opt
 use Rattle.can_proto.specs.declared.command.Command.{Command}
-use Rattle.can_proto.specs.declared.command.Command.TheVariants.{Echo, Open, Rawmode, Send, SetFilters, SetOption, ErrData, Stats, Status, Restart, Close}
-use Rattle.can_proto.specs.Words.{front}
+use Rattle.can_proto.specs.declared.command.Command.TheVariants.{Echo, Open, Rawmode, Send, SetFilters, SetOption, ErrData, Stats, Status, Restart, Fault, Faults, NoFaults, Close}
+use Rattle.can_proto.specs.Words.{front, words_of}
 
 -- How a client may write a command (socketcand's raw mode; filter and the options are own choice). Other spellings of it
 -- are read too: digits in lower case or fewer of them, and more blanks.
@@ -49,6 +49,9 @@ command_words (ErrData on) = codes "errdata" ∷ flag_text on ∷ []
 command_words Stats = codes "stats" ∷ []
 command_words Status = codes "status" ∷ []
 command_words Restart = codes "restart" ∷ []
+command_words (Fault rule) = codes "fault" ∷ words_of rule
+command_words Faults = codes "faults" ∷ []
+command_words NoFaults = codes "nofaults" ∷ []
 command_words Close = codes "close" ∷ []
 
 -- a command's written spelling: its words with one space (32) between each two
@@ -59,6 +62,10 @@ command_spelling command = join_with_byte 32 (command_words command)
 abbrev pub IsWord : List ℕ → Type 0
 IsWord word = (0 < length word) × (front word ≡ word)
 
+-- a word at least, with one space (32) between each two and no other blank
+abbrev pub AreSpaced : List ℕ → Type 0
+AreSpaced text = (0 < length (words_of text)) × (join_with_byte 32 (words_of text) ≡ text)
+
 -- words of 32 bits, with no bit 29 in the mask
 abbrev pub IsFilter : CanFilter → Type 0
 IsFilter f = (f.id < 2 ^ 32) × (f.mask < 2 ^ 32) × (bit_and f.mask (2 ^ 29) ≡ 0)
@@ -68,10 +75,12 @@ abbrev pub IsOption : Opt → Type 0
 IsOption (opt.ErrMask mask) = mask < 2 ^ 32
 IsOption _ = Unit {0}
 
--- a command that can be written: the name is one word, and frame, filters and masks are within their limits
+-- a command that can be written: the name is one word, the words of a rule are spaced, and frame, filters and masks are
+-- within their limits
 abbrev pub IsCommand : Command → Type 0
 IsCommand (Open name) = IsWord name
 IsCommand (Send frame) = IsIdentifier frame.id × IsPayload frame.payload
 IsCommand (SetFilters filters) = (length filters ≤ 512) × All IsFilter filters
 IsCommand (SetOption option) = IsOption option
+IsCommand (Fault rule) = AreSpaced rule
 IsCommand _ = Unit {0}

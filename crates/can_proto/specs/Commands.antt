@@ -1,4 +1,5 @@
 use Rattle.std.specs.Prelude.{◌≡◌, ◌⊎◌, ℕ, ◌-◌, ◌*◌, ◌^◌, Bool, true, false, IsTrue, ◌&&◌, ◌==◌, nat_lt, nat_le, bit_and, if◌then◌else◌, List, [], ◌∷◌, ◌++◌, length, Option, Some, None, Result, Ok, Err}
+use Rattle.std.specs.List.{join_with_byte}
 use Rattle.can_frame.specs.Frames.{Identifier, CanFrame, is_fd_length}
 use Rattle.can_frame.specs.Frames.Payload.{Data, Remote, Fd}
 use Rattle.can_filter.specs.Filters.{CanFilter}
@@ -7,7 +8,7 @@ use Rattle.can_proto.specs.declared.message.Incoming.TheVariants.{Message}
 use Rattle.can_proto.specs.declared.command.Mode.{Mode}
 use Rattle.can_proto.specs.declared.command.Mode.TheVariants.{Raw}
 use Rattle.can_proto.specs.declared.command.Command.{Command}
-use Rattle.can_proto.specs.declared.command.Command.TheVariants.{Echo, Open, Rawmode, Send, SetFilters, SetOption, ErrData, Stats, Status, Restart, Close}
+use Rattle.can_proto.specs.declared.command.Command.TheVariants.{Echo, Open, Rawmode, Send, SetFilters, SetOption, ErrData, Stats, Status, Restart, Fault, Faults, NoFaults, Close}
 use Rattle.can_proto.specs.declared.fault.ProtoFault.{ProtoFault}
 use Rattle.can_proto.specs.declared.fault.ProtoFault.TheVariants.{NoMemory, InvalidFilter, TooManyFilters, EmptyMessage, UnknownCommand, WrongState, ModeNotSupported, BadCount, BadId, BadLength, BadByte, BadNumber}
 use Rattle.can_proto.specs.declared.verb.Verb.{Verb}
@@ -29,6 +30,7 @@ abbrev pub ◌>>=◌ : {A B : Type 0} → Result A ProtoFault → (A → Result 
 abbrev pub takes_memory : Command → Bool
 takes_memory (Open name) = true
 takes_memory (SetFilters filters) = true
+takes_memory (Fault rule) = true
 takes_memory _ = false
 
 -- what was read is kept on the heap
@@ -170,6 +172,11 @@ switch_of words = only words >>= λ word. or_fault BadNumber (flag_of word)
 unfoldable pub open_of : List (List ℕ) → Result Command ProtoFault
 open_of words = only words >>= λ name. Ok (Open name)
 
+-- `fault RULE`: the words of the rule with one space (32) between each two
+unfoldable pub fault_of : List (List ℕ) → Result Command ProtoFault
+fault_of [] = Err BadCount
+fault_of words = Ok (Fault (join_with_byte 32 words))
+
 -- a command of one word
 abbrev pub alone : Command → List (List ℕ) → Result Command ProtoFault
 alone command [] = Ok command
@@ -194,6 +201,9 @@ arguments_of verb.ErrData words = switch_of words >>= λ on. Ok (ErrData on)
 arguments_of verb.Stats words = alone Stats words
 arguments_of verb.Status words = alone Status words
 arguments_of verb.Restart words = alone Restart words
+arguments_of verb.Fault words = fault_of words
+arguments_of verb.Faults words = alone Faults words
+arguments_of verb.NoFaults words = alone NoFaults words
 arguments_of verb.Close words = alone Close words
 
 -- what a verb says with the words after it, in a mode

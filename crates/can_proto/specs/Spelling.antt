@@ -12,7 +12,7 @@ use Rattle.can_confine.specs.declared.state.State.TheVariants.{Active, Warning, 
 use Rattle.can_event.specs.declared.stats.SocketStats.{SocketStats}
 use Rattle.can_event.specs.declared.stats.IfaceStats.{IfaceStats}
 use Rattle.can_proto.specs.declared.answer.Answer.{Answer}
-use Rattle.can_proto.specs.declared.answer.Answer.TheVariants.{Greeting, Done, Echo, Stats, Status, Closing, Refused}
+use Rattle.can_proto.specs.declared.answer.Answer.TheVariants.{Greeting, Done, Echo, Stats, Status, Faults, Closing, Refused}
 use Rattle.can_proto.specs.Causes.{cause_text}
 
 -- How replies and received items are written to a client (socketcand's raw mode; the exact texts are own choice).
@@ -83,6 +83,7 @@ reply_text Done = codes "< ok >"
 reply_text Echo = codes "< echo >"
 reply_text (Stats s i) = stats_text s i
 reply_text (Status c) = status_text c
+reply_text (Faults left) = codes "< faults " ++ decimal left ++ codes " >"
 reply_text (Closing c) = codes "< closed " ++ decimal c.unread ++ codes " " ++ decimal c.dropped ++ codes " >"
 reply_text (Refused why) = codes "< error " ++ cause_text why ++ codes " >"
 
@@ -94,6 +95,7 @@ told_counts s i = s.queued ∷ s.dropped ∷ s.taken ∷ i.sent ∷ i.done ∷ i
 abbrev pub IsAnswer : Answer → Type 0
 IsAnswer (Stats s i) = All (λ n. n < 2 ^ 64) (told_counts s i)
 IsAnswer (Status c) = All (λ n. n < 2 ^ 64) (c.tec ∷ c.rec ∷ [])
+IsAnswer (Faults left) = All (λ n. n < 2 ^ 64) (left ∷ [])
 IsAnswer (Closing c) = All (λ n. n < 2 ^ 64) (c.unread ∷ c.dropped ∷ [])
 IsAnswer _ = Unit {0}
 

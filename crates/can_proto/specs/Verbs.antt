@@ -2,7 +2,7 @@ use Rattle.std.specs.Prelude.{ℕ, Bool, true, false, ◌&&◌, ◌||◌, ◌==�
 use Rattle.can_proto.specs.declared.command.Mode.{Mode}
 use Rattle.can_proto.specs.declared.command.Mode.TheVariants.{NoBus, Opened, Raw}
 use Rattle.can_proto.specs.declared.verb.Verb.{Verb}
-use Rattle.can_proto.specs.declared.verb.Verb.TheVariants.{Echo, Open, Rawmode, OtherMode, Send, SendRtr, SendFd, Filter, Join, Loopback, RecvOwn, FdFrames, ErrMask, ErrData, Stats, Status, Restart, Close}
+use Rattle.can_proto.specs.declared.verb.Verb.TheVariants.{Echo, Open, Rawmode, OtherMode, Send, SendRtr, SendFd, Filter, Join, Loopback, RecvOwn, FdFrames, ErrMask, ErrData, Stats, Status, Restart, Fault, Faults, NoFaults, Close}
 
 -- The commands' first words and the modes that have them (socketcand's raw mode; sendfd, and filter and what follows it, is own choice).
 
@@ -35,11 +35,14 @@ named word =
     if is_word word (codes "stats") then Some Stats else
     if is_word word (codes "status") then Some Status else
     if is_word word (codes "restart") then Some Restart else
+    if is_word word (codes "fault") then Some Fault else
+    if is_word word (codes "faults") then Some Faults else
+    if is_word word (codes "nofaults") then Some NoFaults else
     if is_word word (codes "close") then Some Close else
     if is_other_mode word then Some OtherMode else None
 
--- the mode has the command: `open` before an interface is opened, `echo` always, the modes once it is opened,
--- all others in raw mode; a session that has ended has none
+-- the mode has the command: `open` before an interface is opened, `echo` always, the modes once it is opened, those of
+-- faults then and in raw mode, all others in raw mode; a session that has ended has none
 abbrev pub stands_in : Verb → Mode → Bool
 stands_in Open NoBus = true
 stands_in Open _ = false
@@ -47,6 +50,9 @@ stands_in Echo NoBus = true
 stands_in Echo Opened = true
 stands_in Rawmode Opened = true
 stands_in OtherMode Opened = true
+stands_in Fault Opened = true
+stands_in Faults Opened = true
+stands_in NoFaults Opened = true
 stands_in _ Raw = true
 stands_in _ _ = false
 

@@ -18,6 +18,8 @@ pub enum Answer {
     Stats(SocketStats, IfaceStats),
     /// The error counters of the interface.
     Status(Counters),
+    /// How many rules of faults the bus has.
+    Faults(u64),
     /// The socket was closed.
     Closing(Closed),
     /// Nothing was done.
@@ -52,6 +54,8 @@ pub enum Cause {
     MessageTooLong,
     TooManySessions,
     WrongStation,
+    BadRule,
+    TooManyRules,
 }
 
 impl Cause {
@@ -86,6 +90,8 @@ impl Cause {
             Cause::MessageTooLong => b"message too long",
             Cause::TooManySessions => b"too many sessions",
             Cause::WrongStation => b"wrong station",
+            Cause::BadRule => b"bad rule",
+            Cause::TooManyRules => b"too many rules",
         }
     }
 }

@@ -1,9 +1,9 @@
 ghost use Rattle.std.specs.Prelude.{◌≡◌};
 ghost use Rattle.std.specs.Result.{result_map_both};
 ghost use Rattle.can_proto.specs.Words.{words_of};
-ghost use Rattle.can_proto.specs.Commands.{Gives, GivesBut, takes_memory, only, mask_of, flag_of, switch_of, open_of, alone, arguments_of};
+ghost use Rattle.can_proto.specs.Commands.{Gives, GivesBut, takes_memory, only, mask_of, flag_of, switch_of, open_of, fault_of, alone, arguments_of};
 
-use crate::command::{Command, WantedName};
+use crate::command::{Command, WantedName, WantedRule};
 use crate::fault::ProtoFault;
 use crate::filtering::read_set;
 use crate::sending::{read_remote, read_send, read_send_fd};
@@ -72,6 +72,21 @@ fn read_open(alloc: Global, rest: &[u8]) -> Result<Command, ProtoFault>
     }
 }
 
+/// The words of `fault RULE`.
+#[inline(never)]
+#[tactic(auto, unfolding(crate::specs::Commands::fault_of))]
+fn read_fault(alloc: Global, rest: &[u8]) -> Result<Command, ProtoFault>
+    ensures { GivesBut takes_memory result (fault_of (words_of rest.now)) }
+{
+    let Some((word, rest)) = next_word(rest) else {
+        return Err(ProtoFault::BadCount);
+    };
+    match WantedRule::joined(alloc, word, rest) {
+        Ok(rule) => Ok(Command::Fault(rule)),
+        Err(_) => Err(ProtoFault::NoMemory),
+    }
+}
+
 /// A command without arguments.
 #[inline(always)]
 fn read_alone(command: Command, rest: &[u8]) -> Result<Command, ProtoFault>
@@ -106,6 +121,9 @@ pub fn read_arguments(alloc: Global, verb: Verb, rest: &[u8]) -> Result<Command,
         Verb::Stats => read_alone(Command::Stats, rest),
         Verb::Status => read_alone(Command::Status, rest),
         Verb::Restart => read_alone(Command::Restart, rest),
+        Verb::Fault => read_fault(alloc, rest),
+        Verb::Faults => read_alone(Command::Faults, rest),
+        Verb::NoFaults => read_alone(Command::NoFaults, rest),
         Verb::Close => read_alone(Command::Close, rest),
     }
 }

@@ -1,4 +1,5 @@
-ghost use Rattle.std.specs.Prelude.{◌≡◌, Some, IfOk};
+ghost use Rattle.std.specs.Prelude.{◌≡◌, ◌∷◌, Some, IfOk};
+ghost use Rattle.std.specs.List.{join_with_byte};
 ghost use Rattle.can_proto.specs.Words.{words_of};
 ghost use Rattle.can_proto.specs.Commands.{GivesBut, takes_memory, command_of, reading};
 
@@ -26,13 +27,13 @@ pub enum Mode {
     Ended,
 }
 
-/// The name of an interface as a client wrote it. No interface need have it.
+/// Words of a client.
 #[derive(Debug, Drop)]
-pub struct WantedName {
+pub struct ClientWords {
     bytes: Vec<u8>,
 }
 
-impl Model for WantedName {
+impl Model for ClientWords {
     ghost use Rattle.std.specs.Prelude.{ℕ, List};
 
     ghost Value = { List ℕ };
@@ -40,8 +41,8 @@ impl Model for WantedName {
     ghost view = { λ n. n.bytes.items };
 }
 
-impl WantedName {
-    /// The name's bytes.
+impl ClientWords {
+    /// Their bytes.
     pub fn bytes(&self) -> &[u8]
         ensures { result.now ≡ self.now }
     {
@@ -49,13 +50,34 @@ impl WantedName {
     }
 
     /// A copy of the bytes.
-    pub(crate) fn copied(alloc: Global, bytes: &[u8]) -> Result<WantedName, AllocError>
-        ensures { IfOk result (λ name. name ≡ bytes.now) }
+    pub(crate) fn copied(alloc: Global, bytes: &[u8]) -> Result<ClientWords, AllocError>
+        ensures { IfOk result (λ words. words ≡ bytes.now) }
     {
         let bytes = Vec::from_slice(alloc, bytes)?;
-        Ok(WantedName { bytes })
+        Ok(ClientWords { bytes })
+    }
+
+    /// The first word and those in the text after it, one space between each two.
+    pub(crate) fn joined(alloc: Global, word: &[u8], rest: &[u8]) -> Result<ClientWords, AllocError>
+        ensures { IfOk result (λ words.
+            words ≡ join_with_byte 32 (word.now ∷ words_of rest.now)) }
+    {
+        let mut bytes = Vec::from_slice(alloc, word)?;
+        let mut rest = rest;
+        while let Some((next, after)) = next_word(rest) {
+            bytes.push(b' ')?;
+            bytes.extend_from_slice(next)?;
+            rest = after;
+        }
+        Ok(ClientWords { bytes })
     }
 }
+
+/// The name of an interface as a client wrote it. No interface need have it.
+pub type WantedName = ClientWords;
+
+/// A rule of faults as a client wrote it, with one space between each two words. It need not be one.
+pub type WantedRule = ClientWords;
 
 /// What a client asks for.
 #[derive(Debug, Drop)]
@@ -80,6 +102,12 @@ pub enum Command {
     Status,
     /// To take the interface out of bus off.
     Restart,
+    /// To give the bus one more rule of faults.
+    Fault(WantedRule),
+    /// To get how many rules of faults the bus has.
+    Faults,
+    /// To end all rules of faults.
+    NoFaults,
     /// To close the socket and end.
     Close,
 }

@@ -28,7 +28,7 @@ mod verb;
 mod words;
 
 pub use answer::{Answer, Cause};
-pub use command::{Command, Mode, WantedName};
+pub use command::{ClientWords, Command, Mode, WantedName, WantedRule};
 pub use fault::ProtoFault;
 pub use message::{Incoming, Message};
 pub use reader::Reader;

@@ -2,7 +2,7 @@ ghost use Rattle.std.specs.Prelude.{◌≡◌, ◌≤◌, ◌<◌, ◌+◌, ◌^
 ghost use Rattle.std.specs.Fmt.{decimal};
 ghost use Rattle.can_frame.specs.Frames.{is_remote};
 ghost use Rattle.can_proto.specs.Spelling.{class_width, class_text, body_text, data_text, fd_text, remote_text, error_text, item_text, stats_text, state_word, status_text, reply_text};
-ghost use Rattle.can_proto.specs.declared.answer.Answer.TheVariants.{Refused};
+ghost use Rattle.can_proto.specs.declared.answer.Answer.TheVariants.{Faults, Refused};
 
 use crate::answer::{Answer, Cause};
 use crate::texts::{ItemText, Text, push_next};
@@ -51,6 +51,7 @@ pub fn reply_text(answer: Answer) -> Text
         Answer::Echo => fixed_text(b"< echo >"),
         Answer::Stats(socket, iface) => stats_text(socket, iface),
         Answer::Status(counters) => status_text(counters),
+        Answer::Faults(left) => faults_text(left),
         Answer::Closing(closed) => {
             let mut text = fixed_text(b"< closed");
             push_next(&mut text, closed.unread);
@@ -60,6 +61,16 @@ pub fn reply_text(answer: Answer) -> Text
         }
         Answer::Refused(cause) => fixed_text(refusal_text(cause).as_bytes()),
     }
+}
+
+/// The count of `faults`.
+fn faults_text(left: u64) -> Text
+    ensures { result ≡ reply_text (Faults left) }
+{
+    let mut text = fixed_text(b"< faults");
+    push_next(&mut text, left);
+    text.push_all(b" >");
+    text
 }
 
 /// The text of a refusal: that of `reply_text`, in the room of an item's.

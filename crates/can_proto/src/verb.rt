@@ -25,6 +25,9 @@ pub enum Verb {
     Stats,
     Status,
     Restart,
+    Fault,
+    Faults,
+    NoFaults,
     Close,
 }
 
@@ -71,6 +74,12 @@ pub fn verb_of(word: &[u8]) -> Option<Verb>
         Some(Verb::Status)
     } else if matches(word, b"restart") {
         Some(Verb::Restart)
+    } else if matches(word, b"fault") {
+        Some(Verb::Fault)
+    } else if matches(word, b"faults") {
+        Some(Verb::Faults)
+    } else if matches(word, b"nofaults") {
+        Some(Verb::NoFaults)
     } else if matches(word, b"close") {
         Some(Verb::Close)
     } else if names_other_mode(word) {
@@ -106,6 +115,7 @@ pub fn may_stand(verb: Verb, mode: Mode) -> bool
         (Verb::Echo, Mode::NoBus | Mode::Opened) => true,
         (Verb::Open, mode) => matches!(mode, Mode::NoBus),
         (Verb::Rawmode | Verb::OtherMode, Mode::Opened) => true,
+        (Verb::Fault | Verb::Faults | Verb::NoFaults, Mode::Opened) => true,
         (_, mode) => matches!(mode, Mode::Raw),
     }
 }

@@ -91,7 +91,7 @@ fn has_words_of_its_cause(rt: &(impl Abort + AllocGlobal), fault: ProtoFault) ->
 #[test]
 fn faults_are_told_in_their_order(rt: HostRuntime) {
     let raw = Mode::Raw;
-    let cases: [(Mode, &[u8], ProtoFault); 34] = [
+    let cases: [(Mode, &[u8], ProtoFault); 40] = [
         (raw, b"< >", ProtoFault::EmptyMessage),
         (Mode::Ended, b"<>", ProtoFault::EmptyMessage),
         (raw, b"< statuses >", ProtoFault::UnknownCommand),
@@ -130,6 +130,16 @@ fn faults_are_told_in_their_order(rt: HostRuntime) {
         (raw, b"< filter 1 x 20000000 >", ProtoFault::BadNumber),
         (raw, b"< join 2 >", ProtoFault::BadNumber),
         (raw, b"< errmask 123456789 >", ProtoFault::BadNumber),
+        (
+            Mode::NoBus,
+            b"< fault next 1 good >",
+            ProtoFault::WrongState,
+        ),
+        (Mode::NoBus, b"< faults >", ProtoFault::WrongState),
+        (Mode::Ended, b"< nofaults >", ProtoFault::WrongState),
+        (Mode::Opened, b"< fault >", ProtoFault::BadCount),
+        (raw, b"< faults 1 >", ProtoFault::BadCount),
+        (Mode::Opened, b"< nofaults all >", ProtoFault::BadCount),
     ];
     for (mode, text, fault) in cases {
         same_at(&rt, text, read(&rt, mode, text).err(), Some(fault));
@@ -199,7 +209,9 @@ fn is_command(place: usize, command: &Command) -> bool {
         | (9, Command::Restart)
         | (10, Command::Echo)
         | (11, Command::Rawmode)
-        | (13, Command::Close) => true,
+        | (13, Command::Faults)
+        | (14, Command::NoFaults)
+        | (15, Command::Close) => true,
         (12, Command::SetOption(option)) => *option == Opt::FdFrames(true),
         _ => false,
     }
@@ -220,11 +232,35 @@ fn is_read(alloc: Global, place: usize, incoming: &Incoming) -> bool {
 #[test]
 fn commands_are_read(rt: HostRuntime) {
     let stream =
-        b"< open can0 >< filter 2 123 C00007FF 0 0 >< join 1 >< loopback 0 >< recvown 1 >< errmask 204 >< errdata 1 >< stats >< status >< restart >< echo >< rawmode >< fdframes 1 >< close >";
+        b"< open can0 >< filter 2 123 C00007FF 0 0 >< join 1 >< loopback 0 >< recvown 1 >< errmask 204 >< errdata 1 >< stats >< status >< restart >< echo >< rawmode >< fdframes 1 >< faults >< nofaults >< close >";
     let given = fed(rt.alloc(), stream, b"").expect(&rt, "memory");
-    same(&rt, given.len(), 14);
+    same(&rt, given.len(), 16);
     for (place, incoming) in given.iter().enumerate() {
         same_at(&rt, place, is_read(rt.alloc(), place, incoming), true);
+    }
+}
+
+#[test]
+fn rules_of_faults_are_read_word_by_word(rt: HostRuntime) {
+    let cases: [(Mode, &[u8], &[u8]); 3] = [
+        (
+            Mode::Opened,
+            b"<fault next 32 from ecu global bit>",
+            b"next 32 from ecu global bit",
+        ),
+        (
+            Mode::Raw,
+            b"<\tfault\r\nalways  id\t123 good >",
+            b"always id 123 good",
+        ),
+        (Mode::Raw, b"< fault fault >", b"fault"),
+    ];
+    for (mode, text, words) in cases {
+        let command = read(&rt, mode, text);
+        let Ok(Command::Fault(rule)) = &command else {
+            panic!(rt; "no rule");
+        };
+        same_at(&rt, text, rule.bytes(), words);
     }
 }
 
@@ -298,7 +334,7 @@ fn answers_are_written(rt: HostRuntime) {
         unread: 0,
         dropped: 18_446_744_073_709_551_615,
     };
-    let cases: [(Answer, &[u8]); 7] = [
+    let cases: [(Answer, &[u8]); 11] = [
         (Answer::Greeting, b"< hi >"),
         (Answer::Done, b"< ok >"),
         (Answer::Echo, b"< echo >"),
@@ -317,6 +353,13 @@ fn answers_are_written(rt: HostRuntime) {
         (
             Answer::Refused(Cause::from(Refusal::FdOff)),
             b"< error fd frames off >",
+        ),
+        (Answer::Faults(0), b"< faults 0 >"),
+        (Answer::Faults(64), b"< faults 64 >"),
+        (Answer::Refused(Cause::BadRule), b"< error bad rule >"),
+        (
+            Answer::Refused(Cause::TooManyRules),
+            b"< error too many rules >",
         ),
     ];
     for (answer, text) in cases {
