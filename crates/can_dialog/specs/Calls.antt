@@ -23,7 +23,8 @@ use Rattle.can_dialog.specs.declared.port.PortRefusal.TheVariants as port
 
 -- The calls of a port, and the replies that it may give (own choice).
 
--- a call of a port, with its arguments: interfaces and moments are numbers. No session tries frames
+-- a call of a port, with its arguments: interfaces and moments are numbers, a rule of faults is its text. No session tries
+-- frames
 pub data Call : Type 0 where
   Attach : List ℕ → Call
   Open : ℕ → ℕ → Call
@@ -37,6 +38,9 @@ pub data Call : Type 0 where
   CountsOfSocket : SocketId → Call
   CountsOfIface : ℕ → Call
   CountersOfIface : ℕ → Call
+  Inject : List ℕ → Call
+  CountsRules : Call
+  EndsRules : Call
 
 -- the replies that a call can have
 abbrev pub Reply : Call → Type 0
@@ -52,12 +56,17 @@ Reply (Attempt moment verdict) = Result AnAttempt PortRefusal
 Reply (CountsOfSocket socket) = Option SocketStats
 Reply (CountsOfIface iface) = Option IfaceStats
 Reply (CountersOfIface iface) = ErrorCounts
+Reply (Inject rule) = Result (Unit {0}) PortRefusal
+Reply CountsRules = ℕ
+Reply EndsRules = Unit {0}
 
 -- how a port's refusal is reported to a client
 abbrev pub cause_of_port : PortRefusal → Cause
 cause_of_port (port.Bus why) = cause_of_refusal why
 cause_of_port port.TooManyPasses = cause.TooManyPasses
 cause_of_port port.WrongStation = cause.WrongStation
+cause_of_port port.BadRule = cause.BadRule
+cause_of_port port.TooManyRules = cause.TooManyRules
 
 -- an event that is refused is a step with that refusal
 abbrev pub Refuses : {P : Type 0} → (P → (call : Call) → Reply call → P → Type 0) → P → Event → PortRefusal → P → Type 0

@@ -29,7 +29,7 @@ use Rattle.can_dialog.specs.declared.stage.Stage.TheVariants.{NoBus, Opened, Raw
 use Rattle.can_dialog.specs.declared.stage.RawSocket.{RawSocket}
 use Rattle.can_dialog.specs.declared.stage.Dialog.{Dialog}
 use Rattle.can_dialog.specs.Calls.{cause_of_port}
-use Rattle.can_dialog.specs.Calls.Call.{Attach, Open, Close, SetFilters, SetOption, Send, Receive, Restart, CountsOfSocket, CountsOfIface, CountersOfIface}
+use Rattle.can_dialog.specs.Calls.Call.{Attach, Open, Close, SetFilters, SetOption, Send, Receive, Restart, CountsOfSocket, CountsOfIface, CountersOfIface, Inject, CountsRules, EndsRules}
 use Rattle.can_dialog.specs.Plans.{Plan}
 use Rattle.can_dialog.specs.Plans.Plan.{Tell, Ask}
 
@@ -123,6 +123,22 @@ closed d (Err why) = refused why d
 abbrev pub closing : Dialog → RawSocket → Plan Dialog
 closing d raw = Ask (Close raw.socket) (closed d)
 
+-- a rule of faults is given to the bus
+abbrev pub injecting : Dialog → List ℕ → Plan Dialog
+injecting d rule = Ask (Inject rule) (done d)
+
+-- after the port was asked how many rules of faults the bus has
+abbrev pub told_rules : Dialog → ℕ → Plan Dialog
+told_rules d left = tells (answer.Faults left) d
+
+-- the rules of faults are counted
+abbrev pub counting_rules : Dialog → Plan Dialog
+counting_rules d = Ask CountsRules (told_rules d)
+
+-- the rules of faults are ended
+abbrev pub ending_rules : Dialog → Plan Dialog
+ending_rules d = Ask EndsRules (λ _. tells answer.Done d)
+
 -- a command before an interface is opened
 abbrev pub doing_unopened : Dialog → Command → Plan Dialog
 doing_unopened d command.Echo = tells answer.Echo d
@@ -133,6 +149,9 @@ doing_unopened d _ = misplaced d
 abbrev pub doing_opened : Dialog → ℕ → Command → Plan Dialog
 doing_opened d iface command.Echo = tells answer.Echo d
 doing_opened d iface command.Rawmode = Ask (Open iface d.capacity) (entered d iface)
+doing_opened d iface (command.Fault rule) = injecting d rule
+doing_opened d iface command.Faults = counting_rules d
+doing_opened d iface command.NoFaults = ending_rules d
 doing_opened d iface _ = misplaced d
 
 -- a command in raw mode, at a moment
@@ -147,6 +166,9 @@ doing_raw moment d raw (command.ErrData on) = tells answer.Done (at_stage (Raw (
 doing_raw moment d raw command.Stats = looking_up d raw
 doing_raw moment d raw command.Status = Ask (CountersOfIface raw.iface) (metered d)
 doing_raw moment d raw command.Restart = Ask (Restart raw.iface moment) (done d)
+doing_raw moment d raw (command.Fault rule) = injecting d rule
+doing_raw moment d raw command.Faults = counting_rules d
+doing_raw moment d raw command.NoFaults = ending_rules d
 doing_raw moment d raw command.Close = closing d raw
 
 -- a command, by the stage of the session

@@ -1,7 +1,7 @@
 ghost use Rattle.std.specs.Prelude.{◌≡◌, Some};
 ghost use Rattle.can_dialog.specs.Calls.{cause_of_port};
 ghost use Rattle.can_dialog.specs.Sessions.{Replies};
-ghost use Rattle.can_dialog.specs.Turns.{told as told_of, sending, looking_up, closing, doing, doing_unopened, doing_opened, doing_raw};
+ghost use Rattle.can_dialog.specs.Turns.{told as told_of, sending, looking_up, closing, ending_rules, doing, doing_unopened, doing_opened, doing_raw};
 
 use crate::port::{Port, PortRefusal};
 use crate::stage::{Dialog, RawSocket, Stage};
@@ -24,6 +24,14 @@ fn told(outcome: Result<(), PortRefusal>) -> Option<Answer>
         Ok(()) => Some(Answer::Done),
         Err(refusal) => refused(refusal),
     }
+}
+
+/// Ends all rules of faults.
+fn end_rules<P: Port>(dialog: Dialog, port: &mut P) -> Option<Answer>
+    ensures { Replies P.step (ending_rules dialog) port.old port.new result dialog }
+{
+    port.end_rules();
+    Some(Answer::Done)
 }
 
 /// A command before an interface is opened.
@@ -65,6 +73,9 @@ fn do_opened<P: Port>(
             }
             Err(refusal) => refused(refusal),
         },
+        Command::Fault(rule) => told(port.inject(rule.bytes())),
+        Command::Faults => Some(Answer::Faults(port.rules())),
+        Command::NoFaults => end_rules(*dialog, port),
         _ => Some(Answer::Refused(Cause::WrongState)),
     }
 }
@@ -129,6 +140,9 @@ fn do_raw<P: Port>(
         Command::Stats => look_up(*dialog, raw, port),
         Command::Status => Some(Answer::Status(port.status(raw.iface))),
         Command::Restart => told(port.restart(raw.iface, moment)),
+        Command::Fault(rule) => told(port.inject(rule.bytes())),
+        Command::Faults => Some(Answer::Faults(port.rules())),
+        Command::NoFaults => end_rules(*dialog, port),
         Command::Close => close(dialog, raw, port),
     }
 }

@@ -20,6 +20,12 @@ pub enum PortRefusal {
     /// The pass is another station's.
     #[error("wrong station")]
     WrongStation,
+    /// The text is no rule of faults.
+    #[error("bad rule")]
+    BadRule,
+    /// The bus has 64 rules of faults.
+    #[error("too many rules")]
+    TooManyRules,
 }
 
 impl PortRefusal {
@@ -31,6 +37,8 @@ impl PortRefusal {
             PortRefusal::Bus(refusal) => Cause::from(refusal),
             PortRefusal::TooManyPasses => Cause::TooManyPasses,
             PortRefusal::WrongStation => Cause::WrongStation,
+            PortRefusal::BadRule => Cause::BadRule,
+            PortRefusal::TooManyRules => Cause::TooManyRules,
         }
     }
 }
@@ -39,11 +47,11 @@ impl PortRefusal {
 ///
 /// A port states by `step` how its state before a call, the call, its reply and the state after it belong
 /// together; each call is one such step. A port may take memory. An implementation writes `call`, `attach`, the two
-/// counts and the status; the calls that are named for an event make it by `call`.
+/// counts, the status and the three calls of the rules of faults; the calls that are named for an event make it by `call`.
 pub trait Port {
     ghost use Rattle.can_event.specs.Replies.{received_into};
     ghost use Rattle.can_dialog.specs.Calls.{Call, Reply, Steps};
-    ghost use Rattle.can_dialog.specs.Calls.Call.{Attach, Open, Close, SetFilters, SetOption, Send, Receive, Restart, CountsOfSocket, CountsOfIface, CountersOfIface};
+    ghost use Rattle.can_dialog.specs.Calls.Call.{Attach, Open, Close, SetFilters, SetOption, Send, Receive, Restart, CountsOfSocket, CountsOfIface, CountersOfIface, Inject, CountsRules, EndsRules};
 
     /// The state before, a call, its reply and the state after.
     ghost step: { Self → (call : Call) → Reply call → Self → Type 0 };
@@ -158,4 +166,18 @@ pub trait Port {
     /// The error counters of an interface, as far as the port knows them: 0/0 where it knows of none.
     fn status(&mut self, iface: Iface) -> Counters
         ensures { step self.old (CountersOfIface iface) result self.new };
+
+    /// Gives the bus a rule of faults, after those that it has.
+    ///
+    /// Refusals: `BadRule`, `NoInterface` where the rule names one that the bus does not have, `TooManyRules`, `NoMemory`.
+    fn inject(&mut self, rule: &[u8]) -> Result<(), PortRefusal>
+        ensures { step self.old (Inject rule.now) result self.new };
+
+    /// How many rules of faults the bus has, without those that are used up.
+    fn rules(&mut self) -> u64
+        ensures { step self.old CountsRules result self.new };
+
+    /// Ends all rules of faults.
+    fn end_rules(&mut self)
+        ensures { step self.old EndsRules tt self.new };
 }
