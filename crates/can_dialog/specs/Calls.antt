@@ -10,11 +10,14 @@ use Rattle.can_event.specs.declared.attempt.Attempt.TheVariants as attempt
 use Rattle.can_event.specs.declared.reply.Closed.{Closed}
 use Rattle.can_event.specs.declared.event.Event.{Event}
 use Rattle.can_event.specs.declared.event.Event.TheVariants as event
+use Rattle.can_event.specs.declared.refusal.Refusal.TheVariants as refusal
 use Rattle.can_event.specs.declared.received.Received.{Received}
 use Rattle.can_event.specs.declared.reply.Reply.{Reply as EventReply}
 use Rattle.can_event.specs.declared.reply.Reply.TheVariants as reply
 use Rattle.can_event.specs.declared.stats.SocketStats.{SocketStats}
 use Rattle.can_event.specs.declared.stats.IfaceStats.{IfaceStats}
+use Rattle.can_rules.specs.declared.rules.RuleRefusal.{RuleRefusal}
+use Rattle.can_rules.specs.declared.rules.RuleRefusal.TheVariants as rule
 use Rattle.can_proto.specs.declared.answer.Cause.{Cause}
 use Rattle.can_proto.specs.declared.answer.Cause.TheVariants as cause
 use Rattle.can_proto.specs.Causes.{cause_of_refusal}
@@ -67,6 +70,13 @@ cause_of_port port.TooManyPasses = cause.TooManyPasses
 cause_of_port port.WrongStation = cause.WrongStation
 cause_of_port port.BadRule = cause.BadRule
 cause_of_port port.TooManyRules = cause.TooManyRules
+
+-- how a rule of faults that a plan refuses is refused
+abbrev pub port_of_rule : RuleRefusal → PortRefusal
+port_of_rule rule.BadRule = port.BadRule
+port_of_rule rule.UnknownInterface = port.Bus refusal.NoInterface
+port_of_rule rule.TooManyRules = port.TooManyRules
+port_of_rule rule.NoMemory = port.Bus refusal.NoMemory
 
 -- an event that is refused is a step with that refusal
 abbrev pub Refuses : {P : Type 0} → (P → (call : Call) → Reply call → P → Type 0) → P → Event → PortRefusal → P → Type 0

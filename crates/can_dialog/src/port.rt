@@ -6,6 +6,7 @@ use can_event::{Closed, Event, IfaceStats, Opt, Received, Refusal, Reply, Socket
 use can_filter::FilterSet;
 use can_frame::{Frame, Iface, Moment};
 use can_proto::Cause;
+use can_rules::RuleRefusal;
 use thiserror::Error;
 
 /// Why a port refuses a call.
@@ -39,6 +40,22 @@ impl PortRefusal {
             PortRefusal::WrongStation => Cause::WrongStation,
             PortRefusal::BadRule => Cause::BadRule,
             PortRefusal::TooManyRules => Cause::TooManyRules,
+        }
+    }
+}
+
+impl From<RuleRefusal> for PortRefusal {
+    ghost use Rattle.std.specs.Prelude.{◌≡◌};
+    ghost use Rattle.can_dialog.specs.Calls.{port_of_rule};
+
+    ghost from_gives = { λ refusal port. port ≡ port_of_rule refusal };
+
+    fn from(refusal: RuleRefusal) -> PortRefusal {
+        match refusal {
+            RuleRefusal::BadRule => PortRefusal::BadRule,
+            RuleRefusal::UnknownInterface => PortRefusal::Bus(Refusal::NoInterface),
+            RuleRefusal::TooManyRules => PortRefusal::TooManyRules,
+            RuleRefusal::NoMemory => PortRefusal::Bus(Refusal::NoMemory),
         }
     }
 }

@@ -103,7 +103,9 @@ pub fn commands(alloc: Global) -> Result<(), Stop> {
     let open = message(&mut reader, alloc, b"< open body-control >")?;
     opens_body_control(alloc, &open)?;
     let filter = message(&mut reader, alloc, b"< filter 2 123 7FF 20000124 7FF >")?;
-    sets_two_filters(alloc, &filter)
+    sets_two_filters(alloc, &filter)?;
+    let fault = message(&mut reader, alloc, b"< fault next  32\tfrom can0 lastbit >")?;
+    gives_a_rule(alloc, &fault)
 }
 
 fn opens_body_control(alloc: Global, message: &Message) -> Result<(), Stop> {
@@ -116,6 +118,13 @@ fn opens_body_control(alloc: Global, message: &Message) -> Result<(), Stop> {
 fn sets_two_filters(alloc: Global, message: &Message) -> Result<(), Stop> {
     match Command::read(alloc, Mode::Raw, message)? {
         Command::SetFilters(set) => demand(set.filters().len() == 2),
+        _ => Err(Stop::Wrong),
+    }
+}
+
+fn gives_a_rule(alloc: Global, message: &Message) -> Result<(), Stop> {
+    match Command::read(alloc, Mode::Opened, message)? {
+        Command::Fault(rule) => demand(rule.bytes() == b"next 32 from can0 lastbit".as_slice()),
         _ => Err(Stop::Wrong),
     }
 }

@@ -1,5 +1,5 @@
 -- What a run does keeps the configuration of its bus.
-use Rattle.std.proofs.Common.{◌≡◌, ℕ, zero, suc, Bool, List, [], ◌∷◌, Result, Ok, Err, refl, ap, ◌∙◌}
+use Rattle.std.proofs.Common.{◌≡◌, ℕ, zero, suc, Bool, List, [], ◌∷◌, Result, Ok, Err, ap, ◌∙◌}
 use Rattle.can_fault.specs.Sources.{VerdictMap}
 use Rattle.can_event.specs.declared.bus_config.BusConfig.{BusConfig}
 use Rattle.can_event.specs.declared.event.Event.{Event}
@@ -15,14 +15,14 @@ use Rattle.can_dialog.specs.declared.stage.Stage.TheVariants.{NoBus, Opened, Raw
 use Rattle.can_dialog.specs.declared.stage.Dialog.{Dialog}
 use Rattle.can_dialog.specs.Calls.{Call}
 use Rattle.can_dialog.specs.Calls.{Reply as CallReply}
-use Rattle.can_dialog.specs.Calls.Call.{Attach, Open, Close, SetFilters, SetOption, Send, Receive, Restart, Attempt, CountsOfSocket, CountsOfIface, CountersOfIface}
+use Rattle.can_dialog.specs.Calls.Call.{Attach, Open, Close, SetFilters, SetOption, Send, Receive, Restart, Attempt, CountsOfSocket, CountsOfIface, CountersOfIface, Inject, CountsRules, EndsRules}
 use Rattle.can_dialog.specs.Plans.{Plan, Plays}
 use Rattle.can_dialog.specs.Plans.Plan.{Tell, Ask}
 use Rattle.can_dialog.specs.Sessions.{SessionState, Turns}
 use Rattle.can_dialog.specs.Deliveries.{AreGiven}
-use Rattle.can_session.specs.BusSteps.{NamedBus, BusStep, IsEvent}
+use Rattle.can_session.specs.BusSteps.{NamedBus, BusStep}
 use Rattle.can_session.specs.Orders.{Effect}
-use Rattle.can_session.specs.Orders.Effect.{Does_nothing, Sets, Starts, Feeds, Drains, Ends, Attempts}
+use Rattle.can_session.specs.Orders.Effect.{Does_nothing, Sets, Starts, Feeds, Drains, Ends, Attempts, Injects}
 use Rattle.can_session.specs.Benches.{BenchState, IsFedAt, Does, AreCarriedOut}
 
 -- the configuration of a bus with names, and of a bench
@@ -54,6 +54,9 @@ stepped old (Attempt moment verdict) answer new h = answered _ old.journal _ h.0
 stepped old (CountsOfSocket socket) answer new h = ap of_bus h.1
 stepped old (CountsOfIface iface) answer new h = ap of_bus h.1
 stepped old (CountersOfIface iface) answer new h = ap of_bus h.1
+stepped old (Inject rule) answer new h = ap of_bus h.3
+stepped old CountsRules answer new h = ap of_bus h.1
+stepped old EndsRules answer new h = ap of_bus h
 
 played : {A : Type 0} (plan : Plan A) (p q : NamedBus) (text : List ℕ) (outcome : A) → Plays BusStep plan p q text outcome → of_bus q ≡ of_bus p
 played (Tell said after) p q text outcome h = ap of_bus h.0
@@ -85,6 +88,7 @@ done v (Drains s) b text after h =
     ap of_bench h.after_is ∙ played _ h.done.mid h.bus h.done.last _ h.done.ends ∙ given h.done.items h.old.dialog.stage b.bus h.done.before h.done.mid h.done.given
 done v (Ends s) b text after h = ap of_bench h.after_is ∙ played _ b.bus h.bus h.said _ h.done.ends
 done v Attempts b text after h = ap of_bench h.after_is ∙ answered told_attempt b.bus.journal _ h.outcome h.journal h.answers
+done v (Injects rule) b text after h = ap of_bench h.1.after_is
 
 -- lines that are carried out
 pub carried_out : (v : VerdictMap) (lines : List (List ℕ)) (b : BenchState) (text : List ℕ) (after : BenchState) → AreCarriedOut v lines b text after → of_bench after ≡ of_bench b

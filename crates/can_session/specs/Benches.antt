@@ -1,11 +1,14 @@
-use Rattle.std.specs.Prelude.{◌≡◌, ◌≢◌, ℕ, ◌-◌, Bool, false, List, [], ◌∷◌, ◌++◌, length, slice_get, slice_set, Option, Some, None, Result}
+use Rattle.std.specs.Prelude.{◌≡◌, ◌≢◌, ℕ, ◌-◌, Bool, false, List, [], ◌∷◌, ◌++◌, slice_get, slice_set, Option, Some, None, Result, Ok, Err}
 use Rattle.std.specs.Fmt.{decimal}
 use Rattle.can_fault.specs.Sources.{VerdictMap, verdict_in}
+use Rattle.can_fault.specs.declared.verdict.Verdict.{Verdict}
+use Rattle.can_rules.specs.declared.rules.RuleRefusal.{RuleRefusal}
+use Rattle.can_rules.specs.declared.rules.RuleRefusal.TheVariants as refusal
+use Rattle.can_rules.specs.Plans.{PlanSeen, Injected}
 use Rattle.can_event.specs.declared.event.Event.TheVariants as event
 use Rattle.can_event.specs.declared.refusal.Refusal.{Refusal}
 use Rattle.can_event.specs.declared.attempt.Attempt.{Attempt}
 use Rattle.can_record.specs.Journal.{Journal}
-use Rattle.can_record.specs.Tapes.{tape}
 use Rattle.can_bus.specs.Answer.{Answers}
 use Rattle.can_record.specs.Outcomes.{told_attempt}
 use Rattle.can_proto.specs.Messages.{messages_of, kept_of}
@@ -15,11 +18,11 @@ use Rattle.can_dialog.specs.Plans.{Plays}
 use Rattle.can_dialog.specs.Turns.{ending, delivery, greeting}
 use Rattle.can_dialog.specs.Deliveries.{AreGiven}
 use Rattle.can_dialog.specs.Sessions.{SessionState, Turns, beginning}
-use Rattle.can_session.specs.BusSteps.{NamedBus, BusStep}
+use Rattle.can_session.specs.BusSteps.{NamedBus, BusStep, next_number, verdict_on, plan_left}
 use Rattle.can_session.specs.declared.unheard.Unheard.{Unheard}
 use Rattle.can_session.specs.Unheard.{unheard_then}
 use Rattle.can_session.specs.Orders.{Effect, order_of}
-use Rattle.can_session.specs.Orders.Effect.{Does_nothing, Sets, Starts, Feeds, Drains, Ends, Attempts}
+use Rattle.can_session.specs.Orders.Effect.{Does_nothing, Sets, Starts, Feeds, Drains, Ends, Attempts, Injects}
 use Rattle.can_session.specs.AttemptLines.{attempt_line}
 
 -- What the bench does and writes: its lines, one after another (own choice).
@@ -96,13 +99,29 @@ pub record Speaks (does : SessionState → NamedBus → List ℕ → SessionStat
 abbrev pub IsStarted : ℕ → BenchState → List ℕ → BenchState → Type 0
 IsStarted s b text after = (session_at b s ≡ Some None) × (text ≡ spoken s greeting) × (after ≡ with_session b s (beginning b.capacity) b.bus)
 
--- an attempt at the moment set, with the verdict that the next attempt's number has
+-- the verdict that the source has for the next attempt
+abbrev pub sourced : VerdictMap → NamedBus → Verdict
+sourced verdicts bus = verdict_in verdicts (next_number bus)
+
+-- an attempt at the moment set, with the verdict that source and plan have for the next one
 pub record IsTried (verdicts : VerdictMap) (b : BenchState) (text : List ℕ) (after : BenchState) : Type 0 where
   pub outcome : Result Attempt Refusal
   pub journal : Journal
-  pub answers : Answers told_attempt b.bus.journal (event.Attempt b.moment (verdict_in verdicts (length (tape b.bus.journal.history)))) outcome journal
+  pub answers : Answers told_attempt b.bus.journal (event.Attempt b.moment (verdict_on b.bus (sourced verdicts b.bus))) outcome journal
   pub text_is : text ≡ attempt_line b.bus.names outcome
-  pub after_is : after ≡ record b { bus = record b.bus { journal = journal } }
+  pub after_is : after ≡ record b { bus = record b.bus { journal = journal; plan = plan_left b.bus (sourced verdicts b.bus) } }
+
+-- the bus's plan takes a rule of faults
+pub record IsInjected (rule : List ℕ) (b after : BenchState) : Type 0 where
+  pub plan : PlanSeen
+  pub takes : Injected b.bus.names rule b.bus.plan (Ok tt) plan
+  pub after_is : after ≡ record b { bus = record b.bus { plan = plan } }
+
+-- the bus's plan refuses it, not for want of memory
+pub record IsWrongRule (rule : List ℕ) (b : BenchState) : Type 0 where
+  pub why : RuleRefusal
+  pub refuses : Injected b.bus.names rule b.bus.plan (Err why) b.bus.plan
+  pub fault : why ≢ refusal.NoMemory
 
 -- what a good line does: the bench before it, what is put out, and the bench after it
 abbrev pub Does : VerdictMap → Effect → BenchState → List ℕ → BenchState → Type 0
@@ -113,6 +132,7 @@ Does verdicts (Feeds s bytes) b text after = Speaks (IsFed b.moment bytes) s (wi
 Does verdicts (Drains s) b text after = Speaks IsDrained s b text after
 Does verdicts (Ends s) b text after = Speaks IsEnded s b text after
 Does verdicts Attempts b text after = IsTried verdicts b text after
+Does verdicts (Injects rule) b text after = (text ≡ []) × IsInjected rule b after
 
 -- a line is carried out
 pub record IsCarriedOut (verdicts : VerdictMap) (line : List ℕ) (b : BenchState) (text : List ℕ) (after : BenchState) : Type 0 where
@@ -120,14 +140,15 @@ pub record IsCarriedOut (verdicts : VerdictMap) (line : List ℕ) (b : BenchStat
   pub reads : order_of line ≡ Some effect
   pub does : Does verdicts effect b text after
 
--- a line is refused: it is no good line, it starts a session whose number was used before, or it is of one that was
--- never started
+-- a line is refused: it is no good line, it starts a session whose number was used before, it is of one that was never
+-- started, or it is of a rule that is not taken
 abbrev pub IsRefused : Option Effect → BenchState → Type 0
 IsRefused None b = Unit {0}
 IsRefused (Some (Starts s)) b = session_at b s ≢ Some None
 IsRefused (Some (Feeds s bytes)) b = session_at b s ≡ Some None
 IsRefused (Some (Drains s)) b = session_at b s ≡ Some None
 IsRefused (Some (Ends s)) b = session_at b s ≡ Some None
+IsRefused (Some (Injects rule)) b = IsWrongRule rule b
 IsRefused (Some _) b = ⊥
 
 -- lines are carried out, one after another; the last one is the last step

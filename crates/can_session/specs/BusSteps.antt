@@ -1,4 +1,4 @@
-use Rattle.std.specs.Prelude.{◌≡◌, ℕ, List, Option, Some, None, Result, Ok, Err}
+use Rattle.std.specs.Prelude.{◌≡◌, ℕ, List, length, Option, Some, None, Result, Ok, Err}
 use Rattle.can_frame.specs.Names.{place_of}
 use Rattle.can_confine.specs.Confinement.{ErrorCounts, at_start}
 use Rattle.can_event.specs.declared.event.Event.{Event}
@@ -7,23 +7,46 @@ use Rattle.can_event.specs.declared.reply.Reply.{Reply}
 use Rattle.can_event.specs.declared.reply.Reply.TheVariants as reply
 use Rattle.can_event.specs.declared.refusal.Refusal.{Refusal}
 use Rattle.can_event.specs.declared.refusal.Refusal.TheVariants as refusal
+use Rattle.can_frame.specs.Frames.{CanFrame}
+use Rattle.can_fault.specs.declared.verdict.Verdict.{Verdict}
+use Rattle.can_rules.specs.declared.rules.RuleRefusal.{RuleRefusal}
+use Rattle.can_rules.specs.Plans.{PlanSeen, given, plan_after, without_rules, Injected}
 use Rattle.can_record.specs.Journal.{Journal}
+use Rattle.can_record.specs.Tapes.{tape}
+use Rattle.can_bus.specs.Heads.{next_head}
 use Rattle.can_bus.specs.Answer.{Answers}
 use Rattle.can_record.specs.Outcomes.{done_reply, told_attempt}
 use Rattle.can_event.specs.declared.stats.IfaceStats.{IfaceStats}
 use Rattle.can_bus.specs.Stats.{socket_stats_of, iface_stats_of}
 use Rattle.can_dialog.specs.declared.port.PortRefusal.{PortRefusal}
 use Rattle.can_dialog.specs.declared.port.PortRefusal.TheVariants as port
-use Rattle.can_dialog.specs.Calls.{Call}
+use Rattle.can_dialog.specs.Calls.{Call, port_of_rule}
 use Rattle.can_dialog.specs.Calls.{Reply as CallReply}
-use Rattle.can_dialog.specs.Calls.Call.{Attach, Open, Close, SetFilters, SetOption, Send, Receive, Restart, Attempt, CountsOfSocket, CountsOfIface, CountersOfIface}
+use Rattle.can_dialog.specs.Calls.Call.{Attach, Open, Close, SetFilters, SetOption, Send, Receive, Restart, Attempt, CountsOfSocket, CountsOfIface, CountersOfIface, Inject, CountsRules, EndsRules}
 
--- A bus as a port: each call but the look-ups is one event of the bus.
+-- A bus as a port: each call but the look-ups and those of rules is one event of the bus.
 
--- the names of the interfaces, and the bus
+-- the names of the interfaces, the bus, and the plan of its faults
 pub record NamedBus : Type 0 where
   pub names : List (List ℕ)
   pub journal : Journal
+  pub plan : PlanSeen
+
+-- the number of the next attempt that tries a frame
+abbrev pub next_number : NamedBus → ℕ
+next_number bus = length (tape bus.journal.history)
+
+-- what the next attempt tries
+abbrev pub head_on : NamedBus → Option (ℕ × CanFrame)
+head_on bus = next_head bus.journal.config bus.journal.history
+
+-- the verdict of the next attempt, for which the source has this one
+abbrev pub verdict_on : NamedBus → Verdict → Verdict
+verdict_on bus source = given source bus.plan (next_number bus) (head_on bus)
+
+-- the plan after that attempt
+abbrev pub plan_left : NamedBus → Verdict → PlanSeen
+plan_left bus source = plan_after source bus.plan (next_number bus) (head_on bus)
 
 -- a bus's reply, as a port gives it
 abbrev pub passed_on : {A : Type 0} → Result A Refusal → Result A PortRefusal
@@ -40,9 +63,18 @@ abbrev pub counters_in : Option IfaceStats → ErrorCounts
 counters_in None = at_start
 counters_in (Some counts) = counts.counters
 
+-- how a plan's reply is given
+abbrev pub told_rule : Result (Unit {0}) RuleRefusal → Result (Unit {0}) PortRefusal
+told_rule (Ok done) = Ok done
+told_rule (Err why) = Err (port_of_rule why)
+
 -- one event of the bus, with the bus's reply
 abbrev pub IsEvent : {A : Type 0} → (A → Reply) → NamedBus → Event → Result A PortRefusal → NamedBus → Type 0
-IsEvent {A} told old event answer new = (outcome : Result A Refusal) × (answer ≡ passed_on outcome) × Answers told old.journal event outcome new.journal × (new.names ≡ old.names)
+IsEvent {A} told old event answer new = (outcome : Result A Refusal) × (answer ≡ passed_on outcome) × Answers told old.journal event outcome new.journal × (new.names ≡ old.names) × (new.plan ≡ old.plan)
+
+-- a rule of faults is taken, or refused as the plan refuses it
+abbrev pub IsInjected : NamedBus → List ℕ → Result (Unit {0}) PortRefusal → NamedBus → Type 0
+IsInjected old rule answer new = (outcome : Result (Unit {0}) RuleRefusal) × (answer ≡ told_rule outcome) × Injected old.names rule old.plan outcome new.plan × (new ≡ record old { plan = new.plan })
 
 -- a call on a bus with names
 abbrev pub BusStep : NamedBus → (call : Call) → CallReply call → NamedBus → Type 0
@@ -58,3 +90,6 @@ BusStep old (Attempt moment verdict) answer new = IsEvent told_attempt old (even
 BusStep old (CountsOfSocket socket) answer new = (answer ≡ socket_stats_of old.journal.config old.journal.history socket.0) × (new ≡ old)
 BusStep old (CountsOfIface iface) answer new = (answer ≡ iface_stats_of old.journal.config old.journal.history iface) × (new ≡ old)
 BusStep old (CountersOfIface iface) answer new = (answer ≡ counters_in (iface_stats_of old.journal.config old.journal.history iface)) × (new ≡ old)
+BusStep old (Inject rule) answer new = IsInjected old rule answer new
+BusStep old CountsRules answer new = (answer ≡ length old.plan.rules) × (new ≡ old)
+BusStep old EndsRules answer new = new ≡ record old { plan = without_rules old.plan }

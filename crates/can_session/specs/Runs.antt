@@ -2,6 +2,7 @@ use Rattle.std.specs.Prelude.{◌≡◌, ◌⊎◌, ℕ, ◌+◌, ◌<◌, ◌�
 use Rattle.std.specs.List.{All}
 use Rattle.std.specs.Io.KnownBytes.{Appends, Keeps}
 use Rattle.can_fault.specs.Sources.{VerdictMap}
+use Rattle.can_rules.specs.Plans.{PlanSeen, no_plan}
 use Rattle.can_event.specs.declared.bus_config.BusConfig.{BusConfig}
 use Rattle.can_record.specs.Journal.{Kept}
 use Rattle.can_event.specs.Events.{IsConfig, max_rx_capacity}
@@ -24,9 +25,13 @@ pub record IsBench (names : List (List ℕ)) (config : BusConfig) (capacity : �
   pub some_items : 1 ≤ capacity
   pub few_items : capacity ≤ max_rx_capacity
 
--- a bench before its first line
+-- a bench before its first line, with a plan of faults
+abbrev pub at_start_with : PlanSeen → List (List ℕ) → BusConfig → ℕ → BenchState
+at_start_with plan names config capacity = record { capacity = capacity; bus = record { names = names; journal = record { config = config; history = [] }; plan = plan }; sessions = replicate 64 None; moment = 0; unheard = none_unheard }
+
+-- a bench before its first line, without a plan
 abbrev pub at_start : List (List ℕ) → BusConfig → ℕ → BenchState
-at_start names config capacity = record { capacity = capacity; bus = record { names = names; journal = record { config = config; history = [] } }; sessions = replicate 64 None; moment = 0; unheard = none_unheard }
+at_start names config capacity = at_start_with no_plan names config capacity
 
 -- Of a reader that does not say what its bytes are nothing is said of the lines.
 

@@ -4,7 +4,7 @@ ghost use Rattle.can_bus.specs.Headline.{Headline};
 ghost use Rattle.can_bus.specs.Legal.{IsLegal};
 ghost use Rattle.can_session.specs.Lines.{ComesNext, IsWithin, unread};
 ghost use Rattle.can_session.specs.Benches.{BenchState};
-ghost use Rattle.can_session.specs.Runs.{IsBench, IsRecordOf, at_start, Ends, EndsOver, Notes, EndsAt, StepsOn, fault_of};
+ghost use Rattle.can_session.specs.Runs.{IsBench, IsRecordOf, at_start, at_start_with, Ends, EndsOver, Notes, EndsAt, StepsOn, fault_of};
 
 use crate::bench_state::Bench;
 use crate::lines::{LineFault, Lines};
@@ -12,6 +12,7 @@ use crate::unheard::Unheard;
 use can_bus::{BusConfig, Record};
 use can_fault::FaultSource;
 use can_frame::Names;
+use can_rules::Plan;
 use std::alloc::Global;
 use std::io::{Read, Write};
 use thiserror::Error;
@@ -77,13 +78,16 @@ pub fn bench<F: FaultSource + Drop, R: Read + Drop, W: Write>(
     ensures legal { IfOk result (λ r. IsLegal r.config r.history) }
     ensures headline { IfOk result (λ r. Headline r.config r.history) }
 {
-    bench_noting(alloc, config, input, out, &mut Unheard::none())
+    let plan = Plan::new(alloc);
+    bench_noting(alloc, config, plan, input, out, &mut Unheard::none())
 }
 
-/// As `bench`, and notes what sessions were fed that is in no message, where the run comes to its end.
+/// As `bench`, with a plan of the bus's faults beside the source, and notes what sessions were fed that is in no message,
+/// where the run comes to its end.
 pub fn bench_noting<F: FaultSource + Drop, R: Read + Drop, W: Write>(
     alloc: Global,
     config: BenchConfig<F>,
+    plan: Plan,
     input: R,
     out: &mut W,
     unheard: &mut Unheard,
@@ -93,9 +97,11 @@ pub fn bench_noting<F: FaultSource + Drop, R: Read + Drop, W: Write>(
     ensures untouched { result ≡ Err BenchFault.BadConfig → out.new ≡ out.old }
     ensures runs { result ≢ Err BenchFault.BadConfig →
         EndsOver W.contents (F.verdicts config.script) (R.remaining input)
-        (at_start config.names config.config config.rx_capacity) out.old result out.new }
+        (at_start_with plan config.names config.config config.rx_capacity)
+        out.old result out.new }
     ensures notes { OnOk result (Notes W.contents (F.verdicts config.script) (R.remaining input)
-        (at_start config.names config.config config.rx_capacity) out.old unheard.new out.new) }
+        (at_start_with plan config.names config.config config.rx_capacity)
+        out.old unheard.new out.new) }
     ensures same { OnErr result (unheard.new ≡ unheard.old) }
     ensures good { OnOk result (IsBench config.names config.config config.rx_capacity) }
     ensures config { IfOk result (λ r. r.config ≡ config.config) }
@@ -103,7 +109,7 @@ pub fn bench_noting<F: FaultSource + Drop, R: Read + Drop, W: Write>(
     ensures headline { IfOk result (λ r. Headline r.config r.history) }
 {
     let mut script = config.script;
-    let mut state = Bench::new(alloc, config.names, config.config, config.rx_capacity)?;
+    let mut state = Bench::new(alloc, config.names, config.config, config.rx_capacity, plan)?;
     let Ok(mut lines) = Lines::new(alloc, input) else {
         return Err(BenchFault::NoMemory);
     };
@@ -134,7 +140,8 @@ pub fn bench_lines<F: FaultSource + Drop, R: Read + Drop, W: Write>(
     ensures headline { IfOk result (λ r. Headline r.config r.history) }
 {
     let mut script = config.script;
-    let mut state = Bench::new(alloc, config.names, config.config, config.rx_capacity)?;
+    let plan = Plan::new(alloc);
+    let mut state = Bench::new(alloc, config.names, config.config, config.rx_capacity, plan)?;
     run(alloc, &mut state, &mut script, lines, out)?;
     Ok(state.into_record())
 }

@@ -1,9 +1,9 @@
 ghost use Rattle.std.specs.Prelude.{◌≡◌, ◌≢◌, ◌-◌, ◌<◌, [], ◌↔◌, Some, None, Err, true, OnOk, IfOk, IfErr, MatchBool};
 ghost use Rattle.can_bus.specs.Headline.{Headline};
 ghost use Rattle.can_bus.specs.Legal.{IsLegal};
-ghost use Rattle.can_session.specs.Runs.{IsBench, IsRecordOf, IsStartFault, at_start};
+ghost use Rattle.can_session.specs.Runs.{IsBench, IsRecordOf, IsStartFault, at_start_with};
 ghost use Rattle.can_session.specs.Orders.{order_of};
-ghost use Rattle.can_session.specs.Benches.{session_at, Speaks, IsStarted, IsTried, IsCarriedOut, IsRefused};
+ghost use Rattle.can_session.specs.Benches.{session_at, Speaks, IsStarted, IsTried, IsInjected, IsWrongRule, IsCarriedOut, IsRefused};
 ghost use Rattle.can_session.specs.inner.Acts.{done_by, noted, noted_by};
 
 use crate::attempt_lines::put_attempt;
@@ -19,6 +19,7 @@ use can_dialog::Session;
 use can_event::MAX_RX_CAPACITY;
 use can_fault::FaultSource;
 use can_frame::{Moment, Names};
+use can_rules::{Plan, RuleRefusal};
 use std::alloc::{AllocError, Global};
 use std::marker::Model;
 
@@ -35,9 +36,13 @@ pub struct Bench {
 
 impl Model for Bench {
     ghost use Rattle.std.specs.Prelude.{◌≡◌, length};
+    ghost use Rattle.std.specs.Coded.{codes};
+    ghost use Rattle.can_fault.specs.Sources.{verdict_map_code};
     ghost use Rattle.can_session.specs.Benches.{BenchState};
 
     ghost Value = { BenchState };
+
+    ghost coded = { Prim.hlevel (codes, verdict_map_code) };
 
     ghost view = { λ s. record {
       capacity = s.capacity;
@@ -57,8 +62,9 @@ impl Bench {
         names: Names,
         config: BusConfig,
         capacity: u32,
+        plan: Plan,
     ) -> Result<Bench, BenchFault>
-        ensures made { IfOk result (λ s. s ≡ at_start names config capacity) }
+        ensures made { IfOk result (λ s. s ≡ at_start_with plan names config capacity) }
         ensures good { OnOk result (IsBench names config capacity) }
         ensures bad { (result ≡ Err BenchFault.BadConfig) ↔ (¬ IsBench names config capacity) }
         ensures faults { IfErr result IsStartFault }
@@ -72,7 +78,7 @@ impl Bench {
         };
         Ok(Bench {
             alloc,
-            port: BusPort::new(alloc, names, bus),
+            port: BusPort::with_plan(alloc, names, bus, plan),
             capacity,
             sessions,
             moment: the_start(),
@@ -127,6 +133,7 @@ impl Bench {
                 self.attempt(script, said)?;
                 Ok(true)
             }
+            Order::Fault(rule) => self.inject(rule),
         }
     }
 
@@ -179,7 +186,21 @@ impl Bench {
         self.moment = moment;
     }
 
-    /// Puts the next frame on the bus, with the verdict that the next attempt's number has.
+    /// Gives the bus a rule of faults, if it can be taken: whether it was.
+    pub fn inject(&mut self, rule: &[u8]) -> Result<bool, AllocError>
+        ensures { IfOk result (λ good. MatchBool good
+            (IsInjected rule.now self.old self.new) (IsWrongRule rule.now self.old)) }
+    {
+        let Err(refusal) = self.port.take_rule(rule) else {
+            return Ok(true);
+        };
+        match refusal {
+            RuleRefusal::NoMemory => Err(AllocError),
+            _ => Ok(false),
+        }
+    }
+
+    /// Puts the next frame on the bus, with the verdict that the next attempt has.
     pub fn attempt<F: FaultSource>(
         &mut self,
         script: &mut F,

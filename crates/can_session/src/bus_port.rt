@@ -1,9 +1,9 @@
-ghost use Rattle.std.specs.Prelude.{◌≡◌, length};
+ghost use Rattle.std.specs.Prelude.{◌≡◌};
 ghost use Rattle.can_bus.specs.Answer.{Answers};
 ghost use Rattle.can_record.specs.Outcomes.{told_attempt};
-ghost use Rattle.can_record.specs.Tapes.{tape};
 ghost use Rattle.can_event.specs.declared.event.Event.TheVariants as event;
-ghost use Rattle.can_session.specs.BusSteps.{passed_on};
+ghost use Rattle.can_rules.specs.Plans.{no_plan, Injected};
+ghost use Rattle.can_session.specs.BusSteps.{next_number, verdict_on, plan_left, passed_on, told_rule};
 
 use can_arbiter::Arbiter;
 use can_bus::{
@@ -14,33 +14,51 @@ use can_dialog::{Port, PortRefusal};
 use can_fault::Verdict;
 use can_frame::{Frame, Iface, Moment, Names};
 use can_queue::BoundedQueue;
+use can_rules::{Plan, RuleRefusal};
 use std::alloc::Global;
 use std::marker::Model;
 
-/// A bus as a port: the bus with the names of its interfaces. Each call is one event of the bus, but for the
-/// look-ups of a name, of counts and of error counters, which are none.
+/// A bus as a port: the bus with the names of its interfaces and the plan of its faults. Each call is one event of the bus,
+/// but for the look-ups of a name, of counts and of error counters, and the calls of rules, which are none.
 #[derive(Drop)]
 pub struct BusPort<T: BoundedQueue<Pending>, R: BoundedQueue<Received>, A: Arbiter> {
     alloc: Global,
     names: Names,
     bus: Bus<T, R, A>,
+    plan: Plan,
 }
 
 impl<T: BoundedQueue<Pending>, R: BoundedQueue<Received>, A: Arbiter> Model for BusPort<T, R, A> {
+    ghost use Rattle.std.specs.Coded.{codes};
+    ghost use Rattle.can_fault.specs.Sources.{verdict_map_code};
     ghost use Rattle.can_session.specs.BusSteps.{NamedBus};
 
     ghost Value = { NamedBus };
 
-    ghost view = { λ p. record { names = p.names; journal = p.bus } };
+    ghost coded = { Prim.hlevel (codes, verdict_map_code) };
+
+    ghost view = { λ p. record { names = p.names; journal = p.bus; plan = p.plan } };
 }
 
 impl<T: BoundedQueue<Pending>, R: BoundedQueue<Received>, A: Arbiter> BusPort<T, R, A> {
     /// The port of a bus whose interfaces have these names, the first interface 0. Memory that calls take
     /// is asked of `alloc`.
     pub fn new(alloc: Global, names: Names, bus: Bus<T, R, A>) -> BusPort<T, R, A>
-        ensures { result ≡ record { names = names; journal = bus } }
+        ensures { result ≡ record { names = names; journal = bus; plan = no_plan } }
     {
-        BusPort { alloc, names, bus }
+        BusPort::with_plan(alloc, names, bus, Plan::new(alloc))
+    }
+
+    /// The same, with a plan of the bus's faults.
+    pub fn with_plan(alloc: Global, names: Names, bus: Bus<T, R, A>, plan: Plan) -> BusPort<T, R, A>
+        ensures { result ≡ record { names = names; journal = bus; plan = plan } }
+    {
+        BusPort {
+            alloc,
+            names,
+            bus,
+            plan,
+        }
     }
 
     /// The names of the interfaces.
@@ -59,19 +77,44 @@ impl<T: BoundedQueue<Pending>, R: BoundedQueue<Received>, A: Arbiter> BusPort<T,
 
     /// The number of the next attempt that tries a frame.
     pub fn next_attempt(&self) -> u64
-        ensures { result ≡ length (tape self.now.journal.history) }
+        ensures { result ≡ next_number self.now }
     {
         self.bus.next_attempt()
     }
 
-    /// Tries the frame that wins the bus, under these faults, if a live interface has one to send, and
-    /// restarts the interfaces whose time it is. Refusal: `RecordFull`.
-    pub fn attempt(&mut self, moment: Moment, verdict: Verdict) -> Result<Attempt, Refusal>
-        ensures answer { Answers told_attempt self.old.journal (event.Attempt moment verdict)
-            result self.new.journal }
+    /// Tries the frame that wins the bus, if a live interface has one to send, and restarts the interfaces whose time it
+    /// is. The attempt has the verdict that the source has for it, or where that is good, the plan's. Refusal: `RecordFull`.
+    pub fn attempt(&mut self, moment: Moment, source: Verdict) -> Result<Attempt, Refusal>
+        ensures answer { Answers told_attempt self.old.journal
+            (event.Attempt moment (verdict_on self.old source)) result self.new.journal }
         ensures names { self.new.names ≡ self.old.names }
+        ensures plan { self.new.plan ≡ plan_left self.old source }
     {
+        let verdict = self.next_verdict(source);
         self.bus.attempt(moment, verdict)
+    }
+
+    /// Gives the plan a rule of faults, after those that it has.
+    ///
+    /// Refusals, in this order, which change nothing: `BadRule`, `UnknownInterface`, `TooManyRules`, `NoMemory`.
+    pub fn take_rule(&mut self, rule: &[u8]) -> Result<(), RuleRefusal>
+        ensures takes { Injected self.old.names rule.now self.old.plan result self.new.plan }
+        ensures same { self.new ≡ record self.old { plan = self.new.plan } }
+    {
+        self.plan.inject(rule, &self.names)
+    }
+
+    /// The verdict of the next attempt, for which the source has this one. The plan counts it.
+    fn next_verdict(&mut self, source: Verdict) -> Verdict
+        ensures verdict { result ≡ verdict_on self.old source }
+        ensures after { self.new ≡ record self.old { plan = plan_left self.old source } }
+    {
+        let number = self.bus.next_attempt();
+        // What the attempt tries is looked up for rules alone.
+        if self.plan.rules() == 0 {
+            return self.plan.verdict(source, number, None);
+        }
+        self.plan.verdict(source, number, self.bus.next_head())
     }
 }
 
@@ -82,6 +125,16 @@ fn pass_on<V>(outcome: Result<V, Refusal>) -> Result<V, PortRefusal>
     match outcome {
         Ok(value) => Ok(value),
         Err(refusal) => Err(PortRefusal::Bus(refusal)),
+    }
+}
+
+/// A plan's reply, as a port gives it.
+fn tell_rule(outcome: Result<(), RuleRefusal>) -> Result<(), PortRefusal>
+    ensures { result ≡ told_rule outcome }
+{
+    match outcome {
+        Ok(()) => Ok(()),
+        Err(refusal) => Err(PortRefusal::from(refusal)),
     }
 }
 
@@ -127,5 +180,17 @@ impl<T: BoundedQueue<Pending>, R: BoundedQueue<Received>, A: Arbiter> Port for B
             Some(stats) => stats.counters,
             None => Counters::zero(),
         }
+    }
+
+    fn inject(&mut self, rule: &[u8]) -> Result<(), PortRefusal> {
+        tell_rule(self.take_rule(rule))
+    }
+
+    fn rules(&mut self) -> u64 {
+        self.plan.rules() as u64
+    }
+
+    fn end_rules(&mut self) {
+        self.plan.end_rules();
     }
 }

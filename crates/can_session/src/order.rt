@@ -71,6 +71,8 @@ pub enum Order<'a> {
     End(SessionNumber),
     /// To put a frame on the bus.
     Attempt,
+    /// To give the bus a rule of faults, of which this is the text.
+    Fault(&'a [u8]),
 }
 
 /// The order that a line spells, without its LF, or `None` where it spells none.
@@ -110,6 +112,8 @@ fn read_asked<'a>(word: &[u8], rest: &'a [u8]) -> Option<Order<'a>>
         read_drain(rest)
     } else if matches(word, b"end") {
         Some(Order::End(read_session(rest)?))
+    } else if matches(word, b"fault") {
+        Some(Order::Fault(rest))
     } else {
         None
     }

@@ -3,6 +3,7 @@ mod dialogue;
 mod fd_frames;
 mod lines;
 mod restarts;
+mod rules;
 mod sessions;
 mod unheard;
 

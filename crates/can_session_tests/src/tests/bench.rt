@@ -96,7 +96,7 @@ fn writes(
 }
 
 /// Runs a bench over an input, and compares what is written before the fault that ends it.
-fn stops(
+pub fn stops(
     rt: &(impl Abort + AllocGlobal),
     made: Made,
     input: &str,

@@ -112,7 +112,7 @@ fn whole_lines_come_before_a_read_fault(rt: HostRuntime) -> Result<(), AllocErro
     Ok(())
 }
 
-/// A letter for what a line asks for, with the session or the microseconds, and how many bytes are fed.
+/// A letter for what a line asks for, with the session or the microseconds, and how many bytes are fed or spell a rule.
 fn told(line: &[u8]) -> (char, u64, usize) {
     let order = read_order(line);
     match &order {
@@ -124,12 +124,13 @@ fn told(line: &[u8]) -> (char, u64, usize) {
         Some(Order::Drain(session)) => ('d', u64::from((*session).number()), 0),
         Some(Order::End(session)) => ('e', u64::from((*session).number()), 0),
         Some(Order::Attempt) => ('a', 0, 0),
+        Some(Order::Fault(rule)) => ('r', 0, rule.len()),
     }
 }
 
 #[test]
 fn good_lines_are_read(rt: HostRuntime) {
-    let table: [(&[u8], (char, u64, usize)); 12] = [
+    let table: [(&[u8], (char, u64, usize)); 14] = [
         (b"", ('n', 0, 0)),
         (b"# attempt", ('n', 0, 0)),
         (b"attempt", ('a', 0, 0)),
@@ -142,6 +143,8 @@ fn good_lines_are_read(rt: HostRuntime) {
         (b"feed 10 ", ('f', 10, 0)),
         (b"drain 2", ('d', 2, 0)),
         (b"end 9", ('e', 9, 0)),
+        (b"fault next 1 good", ('r', 0, 11)),
+        (b"fault ", ('r', 0, 0)),
     ];
     for (line, wanted) in table {
         let (kind, number, len) = told(line);
@@ -153,7 +156,7 @@ fn good_lines_are_read(rt: HostRuntime) {
 
 #[test]
 fn other_lines_are_refused(rt: HostRuntime) {
-    let lines: [&[u8]; 22] = [
+    let lines: [&[u8]; 24] = [
         b" ",
         b"\r",
         b"attempt ",
@@ -176,6 +179,8 @@ fn other_lines_are_refused(rt: HostRuntime) {
         b"feed  1 < echo >",
         b"drain  1",
         b"end 256",
+        b"fault",
+        b"faults next 1 good",
     ];
     for line in lines {
         assert!(rt; read_order(line).is_none());

@@ -76,6 +76,23 @@ impl Port for Counting {
         self.count(false);
         Counters::zero()
     }
+
+    fn inject(&mut self, rule: &[u8]) -> Result<(), PortRefusal> {
+        self.count(false);
+        match rule {
+            b"next 1 good" => Ok(()),
+            _ => Err(PortRefusal::BadRule),
+        }
+    }
+
+    fn rules(&mut self) -> u64 {
+        self.count(false);
+        18_446_744_073_709_551_615
+    }
+
+    fn end_rules(&mut self) {
+        self.count(false);
+    }
 }
 
 type ListPort = BusPort<ListQueue<Pending>, ListQueue<Received>, ScanArbiter>;
@@ -274,6 +291,30 @@ fn faults_and_refusals_are_told(rt: HostRuntime) {
     ];
     for (piece, want) in cases {
         says(&rt, &mut session, piece, 0, &mut port, want);
+    }
+}
+
+#[test]
+fn rules_are_asked_of_the_port(rt: HostRuntime) {
+    let cases: [(&[u8], &[u8]); 4] = [
+        (b"< fault next 1\tgood >", b"< ok >"),
+        (b"< fault next 1 >", b"< error bad rule >"),
+        (b"< faults >", b"< faults 18446744073709551615 >"),
+        (b"< nofaults >", b"< ok >"),
+    ];
+    // An opened interface, and raw mode: each piece makes one call more.
+    for (open, called) in [
+        (b"< open can0 >".as_slice(), 1),
+        (b"< open can0 >< rawmode >", 2),
+    ] {
+        let mut port = Counting::new();
+        let mut session = Session::new(rt.alloc(), 256).expect(&rt, "memory");
+        told(&mut session, rt.alloc(), open, 0, &mut port).expect(&rt, "a text");
+        same(&rt, port.calls, called);
+        for (piece, want) in cases {
+            says(&rt, &mut session, piece, 0, &mut port, want);
+        }
+        same(&rt, port.calls, called + 4);
     }
 }
 

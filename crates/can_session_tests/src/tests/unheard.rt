@@ -1,4 +1,5 @@
 use crate::tests::bench::{TWO, config_of};
+use can_rules::Plan;
 use can_session::{SessionNumber, Unheard, bench_noting};
 use std::process::Abort;
 use std::test::Fail;
@@ -17,7 +18,15 @@ fn what_is_in_no_message_is_noted(rt: HostRuntime) -> Result<(), Fail> {
     let mut output = Vec::new(alloc);
     let mut unheard = Unheard::none();
     let config = config_of(alloc, TWO, "")?;
-    let ended = bench_noting(alloc, config, FED.as_bytes(), &mut output, &mut unheard);
+    let plan = Plan::new(alloc);
+    let ended = bench_noting(
+        alloc,
+        config,
+        plan,
+        FED.as_bytes(),
+        &mut output,
+        &mut unheard,
+    );
     assert!(rt; ended.is_ok());
     // Whether a message was begun and not ended, and whether bytes stood outside messages.
     for (number, wanted) in [

@@ -1,9 +1,15 @@
-use Rattle.std.proofs.Common.{◌≡◌, Err, sym, ap, subst, ◌∙◌}
+use Rattle.std.proofs.Common.{◌≡◌, ℕ, List, Err, sym, ap, subst, ◌∙◌}
 use Rattle.can_session.specs.Benches.{BenchState}
-use Rattle.can_session.specs.Runs.{Ran, IsRecordOf, at_start, Ends}
+use Rattle.can_event.specs.declared.bus_config.BusConfig.{BusConfig}
+use Rattle.can_rules.specs.Plans.{PlanSeen, no_plan}
+use Rattle.can_session.specs.Runs.{Ran, IsRecordOf, at_start, at_start_with, Ends}
 use Rattle.can_session.proofs.Configs.{carried_out}
 use Rattle.can_session.proofs.Running.{err_is, ends_unmade, ends_err}
 use Rattle.can_session.proofs.bench_run.bench_lines.Goals as goal
+
+-- a bench that was made without a plan
+without_plan : (names : List (List ℕ)) (config : BusConfig) (capacity : ℕ) (b : BenchState) (plan : PlanSeen) → b ≡ at_start_with plan names config capacity → plan ≡ no_plan → b ≡ at_start names config capacity
+without_plan names config capacity b plan made none = made ∙ ap (λ (p : PlanSeen). at_start_with p names config capacity) none
 
 pub returns-in_err-state-clause-runs : goal.returns-in_err-state-clause-runs
 returns-in_err-state-clause-runs g c =
@@ -26,20 +32,22 @@ returns-in_err-run-clause-runs g c =
     let coming = c.args.lines.now.coming in
     let now = c.run.new.lines in
     let leaves : Unit {0} → BenchState → Type 0 = λ _ after. after ≡ c.run.new.state in
+    let made = without_plan c.args.config.names c.args.config.config c.args.config.rx_capacity c.in_ok-state.state c.new-plan.result c.in_ok-state.ensures.made c.new-plan.ensures in
     let ended = ends_err leaves IsRecordOf contents v coming c.in_ok-state.state c.args.out.now now c.run.new.out fault c.in_err-run.ensures in
     λ _. subst (λ r. Ends IsRecordOf contents v coming start c.args.out.now r now c.run.new.out) (sym is)
-    (subst (λ (b : BenchState). Ends IsRecordOf contents v coming b c.args.out.now (Err fault) now c.run.new.out) c.in_ok-state.ensures.made ended)
+    (subst (λ (b : BenchState). Ends IsRecordOf contents v coming b c.args.out.now (Err fault) now c.run.new.out) made ended)
 
 pub returns-clause-runs : goal.returns-clause-runs
 returns-clause-runs g c =
     let ran = c.in_ok-run.ensures in
+    let made = without_plan c.args.config.names c.args.config.config c.args.config.rx_capacity c.in_ok-state.state c.new-plan.result c.in_ok-state.ensures.made c.new-plan.ensures in
     λ _. (
       ran.0,
       ran.1,
       ran.2,
       ran.3,
       ran.4,
-      subst (λ (b : BenchState). Ran g.W.Write.contents (g.F.FaultSource.verdicts c.args.config.script) ran.0 b c.args.out.now ran.1 c.run.new.out) c.in_ok-state.ensures.made ran.5,
+      subst (λ (b : BenchState). Ran g.W.Write.contents (g.F.FaultSource.verdicts c.args.config.script) ran.0 b c.args.out.now ran.1 c.run.new.out) made ran.5,
       subst (λ (b : BenchState). IsRecordOf c.into_record.result b) (sym ran.6) c.into_record.ensures.record,
     )
 

@@ -6,6 +6,8 @@ use Rattle.can_event.specs.declared.event.Event.TheVariants as event
 use Rattle.can_bus.specs.Answer.{Answers}
 use Rattle.can_record.specs.Outcomes.{told_attempt}
 use Rattle.can_session.specs.AttemptLines.{attempt_line}
+use Rattle.can_rules.specs.Plans.{PlanSeen}
+use Rattle.can_session.specs.BusSteps.{verdict_on, plan_left}
 use Rattle.can_session.specs.Benches.{BenchState, IsTried}
 use Rattle.can_session.proofs.bench_state.Bench.attempt.Goals as goal
 
@@ -28,7 +30,8 @@ returns-clause-tried g c =
     (record {
       outcome = c.attempt-outcome.result;
       journal = new.journal;
-      answers = subst (λ (v : Verdict). Answers told_attempt stood.port.journal (event.Attempt stood.moment v) c.attempt-outcome.result new.journal) verdict c.attempt-outcome.ensures.answer;
+      answers = subst (λ (v : Verdict). Answers told_attempt stood.port.journal (event.Attempt stood.moment (verdict_on stood.port v)) c.attempt-outcome.result new.journal) verdict c.attempt-outcome.ensures.answer;
       text_is = put ∙ ap (λ (said : List ℕ). said ++ attempt_line c.names.result.now c.attempt-outcome.result) c.requires ∙ ap (λ (ns : List (List ℕ)). attempt_line ns c.attempt-outcome.result) names;
-      after_is = ap (λ (ns : List (List ℕ)). record old { bus = record { names = ns; journal = new.journal } }) c.attempt-outcome.ensures.names;
+      after_is = ap (λ (ns : List (List ℕ)). record old { bus = record { names = ns; journal = new.journal; plan = new.plan } }) c.attempt-outcome.ensures.names
+          ∙ ap (λ (p : PlanSeen). record old { bus = record { names = stood.port.names; journal = new.journal; plan = p } }) (c.attempt-outcome.ensures.plan ∙ ap (plan_left stood.port) verdict);
     })) c.put_attempt.ensures
