@@ -6,6 +6,7 @@ use Rattle.can_event.specs.declared.reply.Reply.{Reply}
 use Rattle.can_event.specs.Replies.{enters, entry_of}
 use Rattle.can_record.specs.Journal.{Journal}
 use Rattle.can_bus.specs.Run.{history_after}
+use Rattle.can_rules.specs.Plans.{PlanSeen}
 use Rattle.can_roll.specs.Lists.{added}
 use Rattle.can_roll.specs.Seen.{RollSeen, SlipSeen, roll_seen, slip_seen}
 
@@ -20,12 +21,13 @@ pub record StationSeen : Type 0 where
 abbrev pub station_seen : ℕ → BusConfig → StationSeen
 station_seen number config = record { number = number; config = config }
 
--- the station's number, its bus, the calls of each pass, the source of verdicts, and whether waits end
+-- the station's number, its bus, the calls of each pass, the source of verdicts, the plan of faults, and whether waits end
 pub record Held (F : Type 0) : Type 0 where
   pub number : ℕ
   pub journal : Journal
   pub lists : List (List Entry)
   pub source : F
+  pub plan : PlanSeen
   pub stopped : Bool
 
 -- a bus with this journal has no place for an entry until some are taken
@@ -33,12 +35,12 @@ abbrev pub HasNoPlace : {B : Type 0} → (B → Journal) → (B → ℕ) → Jou
 HasNoPlace {B} journal places j = (bus : B) × (journal bus ≡ j) × (places bus ≡ 0)
 
 -- a station that nobody has entered, and whose waits do not end
-abbrev pub new_held : {F : Type 0} → ℕ → Journal → F → Held F
-new_held number journal source = record { number = number; journal = journal; lists = []; source = source; stopped = false }
+abbrev pub new_held : {F : Type 0} → ℕ → Journal → F → PlanSeen → Held F
+new_held number journal source plan = record { number = number; journal = journal; lists = []; source = source; plan = plan; stopped = false }
 
--- the same with this source of verdicts
-abbrev pub with_source : {F : Type 0} → F → Held F → Held F
-with_source source h = record h { source = source }
+-- the same with this plan of faults
+abbrev pub with_plan : {F : Type 0} → PlanSeen → Held F → Held F
+with_plan plan h = record h { plan = plan }
 
 -- the calls of each pass, after a call of pass p
 abbrev pub lists_after : ℕ → Event → Reply → List (List Entry) → List (List Entry)
@@ -55,6 +57,7 @@ held_after p e r h = record {
   journal = record { config = h.journal.config; history = history_after e r h.journal.history };
   lists = lists_after p e r h.lists;
   source = h.source;
+  plan = h.plan;
   stopped = h.stopped;
 }
 

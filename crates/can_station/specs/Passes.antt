@@ -12,17 +12,20 @@ use Rattle.can_event.specs.declared.attempt.Attempt.{Attempt}
 use Rattle.can_fault.specs.declared.verdict.Verdict.{Verdict}
 use Rattle.can_record.specs.Outcomes.{told_attempt}
 use Rattle.can_record.specs.Journal.{Journal, Kept}
+use Rattle.can_bus.specs.Heads.{next_head}
 use Rattle.can_bus.specs.Legal.{IsLegal}
 use Rattle.can_bus.specs.Run.{IsAnswer, history_after}
 use Rattle.can_record.specs.Tapes.{tape}
 use Rattle.can_fault.specs.Sources.{VerdictMap, verdict_in}
 use Rattle.can_record.specs.Records.{ListedEntries}
+use Rattle.can_rules.specs.Plans.{PlanSeen, Injected, given, plan_after}
+use Rattle.can_rules.specs.declared.rules.RuleRefusal.{RuleRefusal}
 use Rattle.can_event.specs.Events.{IsLongConfig}
 use Rattle.can_event.specs.Replies.{receive_reply}
 pub use Rattle.can_event.specs.Replies.{Suits}
 use Rattle.can_roll.specs.Lists.{row, Distinct, AllBelow}
 use Rattle.can_roll.specs.Seen.{SlipSeen}
-use Rattle.can_station.specs.Held.{Held, StationSeen, NoPassLeft, held_after, slip_after, with_source}
+use Rattle.can_station.specs.Held.{Held, StationSeen, NoPassLeft, held_after, slip_after}
 use Rattle.can_station.specs.Marks.{IsMarked, marked}
 use Rattle.can_station.specs.declared.refusals.StationRefusal.{StationRefusal}
 use Rattle.can_station.specs.declared.refusals.StationRefusal.TheVariants as station
@@ -145,21 +148,44 @@ Made told old pass e (Ok a) new pass' = IsMade old pass e (told a) new pass'
 Made told old pass e (Err (station.Bus why)) new pass' = IsMade old pass e (reply.Refused why) new pass' ⊎ ((why ≡ refusal.NoMemory) × IsUnchanged old pass new pass')
 Made told old pass e (Err station.WrongStation) new pass' = ¬ (pass.number ≡ old.number) × IsUnchanged old pass new pass'
 
--- the verdict that the source has for the number of the next attempt
+-- the number of the next attempt
+abbrev pub next_number : {F : Type 0} → Held F → ℕ
+next_number held = length (tape held.journal.history)
+
+-- the verdict that the source has for it
+abbrev pub source_verdict : {F : Type 0} → (F → VerdictMap) → Held F → Verdict
+source_verdict verdicts held = verdict_in (verdicts held.source) (next_number held)
+
+-- the verdict of the next attempt: the source's where it is a fault, else the plan's
 abbrev pub next_verdict : {F : Type 0} → (F → VerdictMap) → Held F → Verdict
-next_verdict verdicts held = verdict_in (verdicts held.source) (length (tape held.journal.history))
+next_verdict verdicts held = given (source_verdict verdicts held) held.plan (next_number held) (next_head held.journal.config held.journal.history)
+
+-- the plan once it gave that verdict
+abbrev pub next_plan : {F : Type 0} → (F → VerdictMap) → Held F → PlanSeen
+next_plan verdicts held = plan_after (source_verdict verdicts held) held.plan (next_number held) (next_head held.journal.config held.journal.history)
+
+-- what is kept once this source and the plan were asked for the next attempt, before the attempt is made
+abbrev pub asked : {F : Type 0} → (F → VerdictMap) → F → Held F → Held F
+asked verdicts source held = record held { source = source; plan = next_plan verdicts held }
 
 -- an attempt at the moment, with that verdict
 abbrev pub next_attempt : {F : Type 0} → (F → VerdictMap) → Held F → ℕ → Event
 next_attempt verdicts held moment = event.Attempt moment (next_verdict verdicts held)
 
--- such an attempt is carried out for the pass of a slip, once the source was asked
+-- such an attempt is carried out for the pass of a slip, once the source and the plan were asked
 abbrev pub IsStepped : {F : Type 0} → (F → VerdictMap) → Held F → SlipSeen → ℕ → Reply → Held F → SlipSeen → Type 0
-IsStepped verdicts old slip moment r new slip' = IsCarriedOut (with_source new.source old) slip (next_attempt verdicts old moment) r new slip'
+IsStepped verdicts old slip moment r new slip' = IsCarriedOut (asked verdicts new.source old) slip (next_attempt verdicts old moment) r new slip'
 
--- a step in one hold of the lock: such an attempt is made as a call is
+-- the same for a pass
+abbrev pub IsStepMade : {F : Type 0} → (F → VerdictMap) → Held F → PassSeen → ℕ → Reply → Held F → PassSeen → Type 0
+IsStepMade verdicts old pass moment r new pass' = IsMade (asked verdicts new.source old) pass (next_attempt verdicts old moment) r new pass'
+
+-- a step in one hold of the lock: such an attempt is carried out, or nothing changes, since the pass's list can't grow or the
+-- bus has no place for an entry, or the pass is another station's
 abbrev pub MadeStep : {F : Type 0} → (F → VerdictMap) → Held F → PassSeen → ℕ → Result Attempt StationRefusal → Held F → PassSeen → Type 0
-MadeStep verdicts old pass moment outcome new pass' = Made told_attempt (with_source new.source old) pass (next_attempt verdicts old moment) outcome new pass'
+MadeStep verdicts old pass moment (Ok a) new pass' = IsStepMade verdicts old pass moment (told_attempt a) new pass'
+MadeStep verdicts old pass moment (Err (station.Bus why)) new pass' = IsStepMade verdicts old pass moment (reply.Refused why) new pass' ⊎ ((why ≡ refusal.NoMemory) × IsUnchanged old pass new pass')
+MadeStep verdicts old pass moment (Err station.WrongStation) new pass' = ¬ (pass.number ≡ old.number) × IsUnchanged old pass new pass'
 
 -- a state that this station can be in: it has its number and its configuration, which is within the limits; the history is
 -- legal, and its entries can be marked with passes so that the calls of each are the entries marked with it
@@ -205,6 +231,10 @@ Stepped verdicts seen old moment (Ok a) new = StepsIn verdicts seen old moment (
 Stepped verdicts seen old moment (Err (station.Bus refusal.NoMemory)) new = new ≡ old
 Stepped verdicts seen old moment (Err (station.Bus why)) new = StepsIn verdicts seen old moment (reply.Refused why) new
 Stepped verdicts seen old moment (Err station.WrongStation) new = ¬ (old.number ≡ seen.number) × (new ≡ old)
+
+-- a rule came to this in some state of the station, whose interfaces have these names
+abbrev pub InjectsIn : (F : Type 0) → StationSeen → List (List ℕ) → List ℕ → Result (Unit {0}) RuleRefusal → Type 0
+InjectsIn F seen names text outcome = InSome F seen (λ held. (after : PlanSeen) × Injected names text held.plan outcome after)
 
 -- the reply itself, for a call that returns the bus's reply
 abbrev pub same : Reply → Reply

@@ -1,8 +1,9 @@
-ghost use Rattle.std.specs.Prelude.{◌≡◌, ◌≢◌, Ok, Some, true, IfOk, IfSome, IfNone};
+ghost use Rattle.std.specs.Prelude.{◌≡◌, ◌≢◌, Ok, Some, true, length, IfOk, IfSome, IfNone};
 ghost use Rattle.can_bus.specs.Heads.{next_head};
 ghost use Rattle.can_event.specs.Replies.{receive_reply, taken_reply};
 ghost use Rattle.can_event.specs.declared.event.Event.TheVariants as event;
-ghost use Rattle.can_station.specs.Held.{with_source};
+ghost use Rattle.can_rules.specs.Plans.{Injected, without_rules};
+ghost use Rattle.can_station.specs.Held.{with_plan};
 ghost use Rattle.can_station.specs.Passes.{IsCarriedOut, IsReady, IsReadyFor, IsReceived, IsStepped, Keeps, Suits, Called, Made, MadeStep, next_attempt, same};
 ghost use Rattle.can_station.specs.Waits.{has_work};
 
@@ -16,10 +17,11 @@ use crate::station_state::StationState;
 use crate::waits::News;
 use can_bus::{Attempt, Event, Journaled, Received, Refusal, Reply, RingBus, SocketId};
 use can_fault::FaultSource;
-use can_frame::{Frame, Iface, Moment};
+use can_frame::{Frame, Iface, Moment, Names};
 use can_meter::MeterName;
 use can_record::PackedList;
 use can_roll::{RollName, Slip};
+use can_rules::RuleRefusal;
 use std::alloc::Global;
 use std::marker::Model;
 use std::sync::MutexGuard;
@@ -42,10 +44,14 @@ pub struct Hold<
 
 impl<'s, N: RollName + MeterName, F: FaultSource + Drop, G: Gate + Drop, B: Journaled> Model
     for Hold<'s, N, F, G, B> {
+    ghost use Rattle.std.specs.Coded.{codes};
     ghost use Rattle.std.specs.Sync.Mutex.{mutex_guard_value};
+    ghost use Rattle.can_fault.specs.Sources.{verdict_map_code};
     ghost use Rattle.can_station.specs.Held.{Held};
 
     ghost Value = { Held F };
+
+    ghost coded = { Prim.hlevel (codes, verdict_map_code) };
 
     ghost view = { λ h. mutex_guard_value h.state };
 }
@@ -192,7 +198,7 @@ impl<'s, N: RollName + MeterName, F: FaultSource + Drop, G: Gate + Drop, B: Jour
         attempt_in(reply)
     }
 
-    /// Carries out an attempt at a moment, with the source's verdict, for the pass of this slip.
+    /// Carries out an attempt at a moment, with the verdict of the source or the plan, for the pass of this slip.
     pub(crate) fn carry_out_step(
         &mut self,
         alloc: Global,
@@ -206,7 +212,7 @@ impl<'s, N: RollName + MeterName, F: FaultSource + Drop, G: Gate + Drop, B: Jour
         ensures source { F.verdicts self.new.source ≡ F.verdicts self.old.source }
         ensures calls { IfSome result (λ r. Keeps calls.old (next_attempt F.verdicts self.old moment) r calls.new) }
         ensures suits { IfSome result (λ r. Suits (next_attempt F.verdicts self.old moment) r) }
-        ensures none { IfNone result ((self.new ≡ with_source self.new.source self.old) × (slip.new ≡ slip.old) × (calls.new ≡ calls.old)) }
+        ensures none { IfNone result ((self.new ≡ self.old) × (slip.new ≡ slip.old) × (calls.new ≡ calls.old)) }
     {
         let station = self.station;
         station.gate.at(Point::InStep);
@@ -215,6 +221,28 @@ impl<'s, N: RollName + MeterName, F: FaultSource + Drop, G: Gate + Drop, B: Jour
         self.news.add(&event, &reply);
         keep(calls, event, &reply);
         Some(reply)
+    }
+
+    /// Takes the rule that a text spells, as the station's `inject` does.
+    pub fn inject(&mut self, text: &[u8], names: &Names) -> Result<(), RuleRefusal>
+        ensures injected { Injected names.now text.now self.old.plan result self.new.plan }
+        ensures same { self.new ≡ with_plan self.new.plan self.old }
+    {
+        self.state.inject(text, names)
+    }
+
+    /// How many rules are left.
+    pub fn rules(&self) -> usize
+        ensures { result ≡ length self.now.plan.rules }
+    {
+        self.state.rules()
+    }
+
+    /// Ends all rules. The lines of the plan stay.
+    pub fn end_rules(&mut self)
+        ensures { self.new ≡ with_plan (without_rules self.old.plan) self.old }
+    {
+        self.state.end_rules();
     }
 }
 

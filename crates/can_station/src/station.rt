@@ -1,8 +1,8 @@
-ghost use Rattle.std.specs.Prelude.{◌≡◌, ◌<◌, ◌≤◌, IfOk, OnErr, ◌↔◌};
+ghost use Rattle.std.specs.Prelude.{◌≡◌, ◌<◌, ◌≤◌, length, IfOk, OnErr, ◌↔◌};
 ghost use Rattle.std.specs.Sync.Mutex.{mutex_guard_value};
 ghost use Rattle.can_event.specs.Events.{IsConfig};
 ghost use Rattle.can_station.specs.Held.{station_seen};
-ghost use Rattle.can_station.specs.Passes.{HadNoPassLeft, IsNewLightPass, IsNewPass, IsStateOf, SettlesIn, Suits, Answered, Called, Stepped, same};
+ghost use Rattle.can_station.specs.Passes.{HadNoPassLeft, InSome, InjectsIn, IsNewLightPass, IsNewPass, IsStateOf, SettlesIn, Suits, Answered, Called, Stepped, same};
 ghost use Rattle.can_station.specs.Published.{AreTrue, TakesBack};
 
 use crate::attempts::attempt_in;
@@ -15,10 +15,11 @@ use crate::station_state::StationState;
 use crate::waits::{News, ROOM};
 use can_bus::{Attempt, BusConfig, BusFault, Event, Journaled, Refusal, Reply, RingBus};
 use can_fault::FaultSource;
-use can_frame::Moment;
+use can_frame::{Moment, Names};
 use can_meter::{Gauge, MeterBlank, MeterName, meter, meter_blank};
 use can_record::PackedList;
 use can_roll::{RollBlank, RollName, Slip, roll_blank};
+use can_rules::{Plan, RuleRefusal};
 use std::alloc::{AllocError, Global};
 use std::marker::Model;
 use std::sync::atomic::AtomicU8;
@@ -79,7 +80,8 @@ impl<N: RollName + MeterName, F: FaultSource + Drop, G: Gate + Drop, B: Journale
 }
 
 impl<N: RollName + MeterName, F: FaultSource + Drop, G: Gate + Drop> Station<N, F, G> {
-    /// A station with an empty record, named by `N` under this number. It takes memory for all of `limit` entries.
+    /// A station with an empty record, named by `N` under this number, and with no plan of faults: the source's verdicts are
+    /// those of its attempts. It takes memory for all of `limit` entries.
     ///
     /// `BadConfig` exactly where the configuration is outside the limits of a bus, or has another number of
     /// interfaces than the blanks; else `NoMemory` where memory was refused.
@@ -97,6 +99,33 @@ impl<N: RollName + MeterName, F: FaultSource + Drop, G: Gate + Drop> Station<N, 
         ensures bad { (result ≡ Err BusFault.BadConfig)
             ↔ (¬ (IsConfig config × (blanks.meter.words ≡ config.ifaces))) }
     {
+        Station::with_plan(
+            alloc,
+            blanks,
+            number,
+            config,
+            source,
+            Plan::new(alloc),
+            gate,
+        )
+    }
+
+    /// The same with this plan of faults, which gives a verdict wherever the source gives no fault.
+    pub fn with_plan(
+        alloc: Global,
+        blanks: Blanks,
+        number: u8,
+        config: BusConfig,
+        source: F,
+        plan: Plan,
+        gate: G,
+    ) -> Result<Station<N, F, G>, BusFault>
+        requires roll { blanks.roll ≡ N.roll number }
+        requires meter { blanks.meter ≡ N.meter number }
+        ensures made { IfOk result (λ s. s ≡ station_seen number config) }
+        ensures bad { (result ≡ Err BusFault.BadConfig)
+            ↔ (¬ (IsConfig config × (blanks.meter.words ≡ config.ifaces))) }
+    {
         if !config.is_proper() || blanks.meter.ifaces() != usize::from(config.ifaces) {
             return Err(BusFault::BadConfig);
         }
@@ -105,7 +134,7 @@ impl<N: RollName + MeterName, F: FaultSource + Drop, G: Gate + Drop> Station<N, 
         let Ok((keeper, spare)) = meter::<N>(alloc, blank, number) else {
             return Err(BusFault::NoMemory);
         };
-        let state = StationState::new(roll, number, bus, config, source, keeper, spare);
+        let state = StationState::new(roll, number, bus, config, source, plan, keeper, spare);
         Ok(Station {
             state: Mutex::new(state),
             work: Condvar::new(),
@@ -233,8 +262,8 @@ impl<N: RollName + MeterName, F: FaultSource + Drop, G: Gate + Drop, B: Journale
         Ok(reply)
     }
 
-    /// Tries the frame that wins the bus, with the verdict that the source has for the next attempt: `Idle` where no
-    /// live interface has a frame to send. Interfaces whose count has run out are restarted.
+    /// Tries the frame that wins the bus, with the verdict that the source has for the next attempt where that is a fault, else
+    /// with the plan's: `Idle` where no live interface has a frame to send. Interfaces whose count has run out are restarted.
     ///
     /// Refusals, in this order: `NoMemory` where the pass's list of calls can't grow, `WrongStation`, `RecordFull`.
     pub fn step<R: Wait>(
@@ -258,6 +287,29 @@ impl<N: RollName + MeterName, F: FaultSource + Drop, G: Gate + Drop, B: Journale
             return Err(StationRefusal::Bus(Refusal::NoMemory));
         };
         attempt_in(reply)
+    }
+
+    /// Takes the rule that a text spells, whose interfaces have these names: it counts from the next attempt on, after the
+    /// rules that are left. It is no event, and wakes nobody.
+    ///
+    /// Errors, in this order: `BadRule` where a word is wrong, `UnknownInterface` where only a name is of none of these
+    /// interfaces, `TooManyRules` where 64 rules are left, `NoMemory`; after one all is as before.
+    pub fn inject<R: Wait>(&self, rt: &R, text: &[u8], names: &Names) -> Result<(), RuleRefusal>
+        ensures { InjectsIn F self.now names.now text.now result }
+    {
+        self.hold(rt).inject(text, names)
+    }
+
+    /// How many rules are left.
+    pub fn rules<R: Wait>(&self, rt: &R) -> usize
+        ensures { InSome F self.now (λ held. result ≡ length held.plan.rules) }
+    {
+        self.hold(rt).rules()
+    }
+
+    /// Ends all rules. The lines of the plan stay.
+    pub fn end_rules<R: Wait>(&self, rt: &R) {
+        self.hold(rt).end_rules();
     }
 
     /// Takes passes and gauges back, and hands out the record, or what else the bus leaves: a legal history whose entries can be marked with

@@ -5,9 +5,11 @@ ghost use Rattle.can_bus.specs.Heads.{next_head};
 ghost use Rattle.can_bus.specs.Legal.{IsLegal};
 ghost use Rattle.can_event.specs.declared.event.Event.TheVariants as event;
 ghost use Rattle.can_meter.specs.Readings.{readings};
-ghost use Rattle.can_station.specs.Held.{HasEntered, HasNoPlace, NoPassLeft, new_held, roll_after, slip_after, station_seen, with_source};
-ghost use Rattle.can_station.specs.Marks.{IsMarked};
+ghost use Rattle.can_station.specs.Held.{HasEntered, HasNoPlace, NoPassLeft, new_held, roll_after, slip_after, station_seen, with_plan};
+ghost use Rattle.can_rules.specs.Plans.{Injected, without_rules};
+ghost use Rattle.can_station.specs.Marks.{IsBooked, IsMarked};
 ghost use Rattle.can_station.specs.Passes.{IsCarriedOut, IsReceived, IsStateOf, IsStepped, SettlesIn, Suits, next_verdict};
+ghost use Rattle.can_bus.specs.Run.{IsAnswered};
 ghost use Rattle.can_station.specs.Published.{AreTrue, IsPublished, TakesBack};
 ghost use Rattle.can_station.specs.Waits.{AreCounts, frame_wake, has_work, work_wake, stopped_wake, waiting_at};
 
@@ -22,17 +24,19 @@ use can_bus::{
     SocketStats,
 };
 use can_fault::{FaultSource, Verdict};
-use can_frame::{Frame, Iface, Moment};
+use can_frame::{Frame, Iface, Moment, Names};
 use can_meter::{Gauge, Keeper, MeterName};
 use can_record::receive_reply;
 use can_roll::{Roll, RollBlank, RollName, Slip};
+use can_rules::{Plan, RuleRefusal};
 use std::alloc::{AllocError, Global};
 use std::marker::Model;
 
 /// The most passes of a station.
 const MAX_PASSES: u32 = 4096;
 
-/// What a station keeps under its lock: the bus with the source of its verdicts, the roll, and the keeper of its meter.
+/// What a station keeps under its lock: the bus with the source of its verdicts and the plan of its faults, the roll, and the
+/// keeper of its meter.
 ///
 /// Whenever the lock is free the record is a legal history, its entries can be marked with passes so that the roll's
 /// list of each pass is the entries marked with it, and the keeper has published each change of an interface's error
@@ -42,6 +46,7 @@ pub struct StationState<N: RollName + MeterName, F: FaultSource + Drop, B: Journ
     bus: B,
     config: BusConfig,
     source: F,
+    plan: Plan,
     roll: Roll<N>,
     keeper: Keeper<N>,
     spare: Gauge<N>,
@@ -50,18 +55,23 @@ pub struct StationState<N: RollName + MeterName, F: FaultSource + Drop, B: Journ
 }
 
 impl<N: RollName + MeterName, F: FaultSource + Drop, B: Journaled> Model for StationState<N, F, B> {
+    ghost use Rattle.std.specs.Coded.{codes};
     ghost use Rattle.std.specs.Prelude.{◌≡◌};
+    ghost use Rattle.can_fault.specs.Sources.{verdict_map_code};
     ghost use Rattle.can_station.specs.Held.{Held};
     ghost use Rattle.can_station.specs.Marks.{IsBooked};
     ghost use Rattle.can_station.specs.Published.{IsPublished};
 
     ghost Value = { Held F };
 
+    ghost coded = { Prim.hlevel (codes, verdict_map_code) };
+
     ghost view = { λ s. record {
       number = s.roll.number;
       journal = B.journal s.bus;
       lists = s.roll.lists;
       source = s.source;
+      plan = s.plan;
       stopped = s.stopped;
     } };
 
@@ -90,6 +100,7 @@ impl<N: RollName + MeterName, F: FaultSource + Drop, B: Journaled> StationState<
         bus: B,
         config: BusConfig,
         source: F,
+        plan: Plan,
         keeper: Keeper<N>,
         spare: Gauge<N>,
     ) -> StationState<N, F, B>
@@ -98,12 +109,13 @@ impl<N: RollName + MeterName, F: FaultSource + Drop, B: Journaled> StationState<
         requires proper { IsLongConfig config }
         requires keeper { keeper ≡ readings number config.ifaces [] }
         requires spare { spare.number ≡ number }
-        ensures { result ≡ new_held number (B.journal bus) source }
+        ensures { result ≡ new_held number (B.journal bus) source plan }
     {
         StationState {
             bus,
             config,
             source,
+            plan,
             roll: Roll::new(blank, number),
             keeper,
             spare,
@@ -174,16 +186,14 @@ impl<N: RollName + MeterName, F: FaultSource + Drop, B: Journaled> StationState<
         if self.bus.places() == 0 {
             return None;
         }
-        let before = counters_before(&self.bus, event);
-        let reply = self.bus.answer(alloc, event);
-        book(&mut self.roll, slip, event, &reply);
-        let Some(before) = before else {
-            return Some(reply);
-        };
-        let after = self.bus.counters();
-        let at = self.bus.len() as u32;
-        publish_changes(&mut self.keeper, &reply, at, &before, &after);
-        Some(reply)
+        Some(carry_out(
+            alloc,
+            &mut self.bus,
+            &mut self.roll,
+            &mut self.keeper,
+            slip,
+            event,
+        ))
     }
 
     /// Carries out a receive into the caller's room for the pass of this slip, as `call` does: whether there was an item.
@@ -210,8 +220,8 @@ impl<N: RollName + MeterName, F: FaultSource + Drop, B: Journaled> StationState<
         Some(outcome)
     }
 
-    /// Carries out an attempt at a moment, with the verdict that the source has for its number, and returns that verdict
-    /// and the reply. `None` as in `call`; the source was asked.
+    /// Carries out an attempt at a moment, and returns its verdict and the reply. The verdict is the source's for its number
+    /// where that is a fault, else the plan's, whose rules count it. `None` as in `call`: nobody was asked.
     pub fn step(
         &mut self,
         alloc: Global,
@@ -224,11 +234,48 @@ impl<N: RollName + MeterName, F: FaultSource + Drop, B: Journaled> StationState<
         ensures source { F.verdicts self.new.source ≡ F.verdicts self.old.source }
         ensures suits { IfSome result (λ r. Suits (event.Attempt moment r.0) r.1) }
         ensures place { IfNone result (HasNoPlace B.journal B.places_in self.old.journal) }
-        ensures none { IfNone result ((self.new ≡ with_source self.new.source self.old) × (slip.new ≡ slip.old)) }
+        ensures none { IfNone result ((self.new ≡ self.old) × (slip.new ≡ slip.old)) }
     {
-        let verdict = self.source.verdict(self.bus.next_attempt());
-        let reply = self.call(alloc, slip, &Event::Attempt(moment, verdict))?;
+        if self.bus.places() == 0 {
+            return None;
+        }
+        let attempt = self.bus.next_attempt();
+        let sourced = self.source.verdict(attempt);
+        let verdict = self.plan.verdict(sourced, attempt, self.bus.next_head());
+        let event = Event::Attempt(moment, verdict);
+        let reply = carry_out(
+            alloc,
+            &mut self.bus,
+            &mut self.roll,
+            &mut self.keeper,
+            slip,
+            &event,
+        );
         Some((verdict, reply))
+    }
+
+    /// Takes the rule that a text spells, whose interfaces have these names: it counts from the next attempt on, after the
+    /// rules that are left. Errors, in this order: `BadRule`, `UnknownInterface`, `TooManyRules` where 64 are left, `NoMemory`;
+    /// after one all is as before.
+    pub fn inject(&mut self, text: &[u8], names: &Names) -> Result<(), RuleRefusal>
+        ensures injected { Injected names.now text.now self.old.plan result self.new.plan }
+        ensures same { self.new ≡ with_plan self.new.plan self.old }
+    {
+        self.plan.inject(text, names)
+    }
+
+    /// How many rules are left.
+    pub fn rules(&self) -> usize
+        ensures { result ≡ length self.now.plan.rules }
+    {
+        self.plan.rules()
+    }
+
+    /// Ends all rules. The lines of the plan stay.
+    pub fn end_rules(&mut self)
+        ensures { self.new ≡ with_plan (without_rules self.old.plan) self.old }
+    {
+        self.plan.end_rules();
     }
 
     /// The counts of a socket and of an interface.
@@ -366,6 +413,7 @@ impl<N: RollName + MeterName, F: FaultSource + Drop, B: Journaled> StationState<
             bus,
             config: _,
             source: _,
+            plan: _,
             mut roll,
             mut keeper,
             spare: _,
@@ -385,6 +433,38 @@ impl<N: RollName + MeterName, F: FaultSource + Drop, B: Journaled> StationState<
             passes: roll.passes(),
         })
     }
+}
+
+/// Carries out an event for the pass of a slip, on a bus that has a place for it: it is noted in the roll, and what it
+/// changed of the error counters is published.
+fn carry_out<N: RollName + MeterName, B: Journaled>(
+    alloc: Global,
+    bus: &mut B,
+    roll: &mut Roll<N>,
+    keeper: &mut Keeper<N>,
+    slip: &mut Slip<N>,
+    event: &Event,
+) -> Reply
+    requires place { 0 < B.places_in bus.old }
+    requires own { slip.old.number ≡ roll.old.number }
+    requires booked { IsBooked roll.old (B.journal bus.old) }
+    requires published { IsPublished keeper.old roll.old.number (B.journal bus.old) }
+    ensures answered { IsAnswered (B.journal bus.old) event.now result (B.journal bus.new) }
+    ensures roll { roll.new ≡ roll_after slip.old.pass event.now result roll.old }
+    ensures slip { slip.new ≡ slip_after event.now result slip.old }
+    ensures booked { IsBooked roll.new (B.journal bus.new) }
+    ensures published { IsPublished keeper.new roll.new.number (B.journal bus.new) }
+{
+    let before = counters_before(bus, event);
+    let reply = bus.answer(alloc, event);
+    book(roll, slip, event, &reply);
+    let Some(before) = before else {
+        return reply;
+    };
+    let after = bus.counters();
+    let at = bus.len() as u32;
+    publish_changes(keeper, &reply, at, &before, &after);
+    reply
 }
 
 /// Notes a call of a slip's pass, where it left an entry.

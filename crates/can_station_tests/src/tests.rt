@@ -10,6 +10,7 @@ mod passes;
 mod restarts;
 mod rests;
 mod rolls;
+mod rules;
 mod threads;
 mod twins;
 mod waits;

@@ -1,18 +1,64 @@
-use Rattle.std.proofs.Common.{◌≡◌, ℕ, ap, sym, ◌∙◌, subst}
+use Rattle.std.proofs.Common.{◌≡◌, ℕ, length, sym, ap, ◌∙◌, subst}
 use Rattle.can_event.specs.declared.event.Event.{Event}
 use Rattle.can_event.specs.declared.event.Event.TheVariants as event
+use Rattle.can_bus.specs.Heads.{next_head}
 use Rattle.can_fault.specs.Sources.{verdict_in}
-use Rattle.can_station.specs.Held.{Held, with_source}
-use Rattle.can_station.specs.Passes.{IsCarriedOut, next_verdict}
+use Rattle.can_record.specs.Journal.{Journal}
+use Rattle.can_record.specs.Tapes.{tape}
+use Rattle.can_roll.specs.Seen.{RollSeen}
+use Rattle.can_rules.specs.Plans.{given, plan_after}
+use Rattle.can_station.specs.Held.{Held}
+use Rattle.can_station.specs.Passes.{IsCarriedOut, next_plan, next_verdict}
 use Rattle.can_station.proofs.station_state.StationState.step.Goals as goal
+
+pub invariant_of-self : goal.invariant_of-self
+invariant_of-self g c =
+    let done = c.carry_out-reply.ensures in
+    let number : c.carry_out-reply.new.roll.number ≡ c.self.inside.roll.number = ap (λ (r : RollSeen). r.number) done.roll in
+    (done.booked, done.published, c.self.invariant.2 ∙ sym number, ap (λ (j : Journal). j.config) done.answered.after ∙ c.self.invariant.3)
 
 pub returns-clause-carried : goal.returns-clause-carried
 returns-clause-carried g c =
     let verdicts = g.F.FaultSource.verdicts in
-    let carried = c.in_ok-reply.ensures.carried in
+    let inside = c.self.inside in
+    let j : Journal = g.B.Journaled.journal c.self.inside.bus in
+    let attempt : c.next_attempt-attempt.result ≡ length (tape j.history) = c.next_attempt-attempt.ensures in
+    let sourced : c.verdict-sourced.result ≡ verdict_in (verdicts c.self.inside.source) (length (tape j.history)) =
+    c.verdict-sourced.ensures.answer ∙ ap (λ (n : ℕ). verdict_in (verdicts c.self.inside.source) n) attempt in
+    let head : c.next_head.result ≡ next_head j.config j.history = c.next_head.ensures in
     let verdict : c.verdict-verdict.result ≡ next_verdict verdicts c.args.self.now =
-    c.verdict-verdict.ensures.answer ∙ ap (λ (n : ℕ). verdict_in (verdicts c.self.inside.source) n) c.next_attempt.ensures
-    ∙ ap (λ (h : Held g.row.F.Denot). next_verdict verdicts h) c.self.view_is in
-    let source : c.call.new.self.source ≡ c.verdict-verdict.new.self = ap (λ (h : Held g.row.F.Denot). h.source) carried.after in
-    subst (λ (x : Held g.row.F.Denot × Event). IsCarriedOut x.0 c.args.slip.now x.1 c.in_ok-reply.reply c.call.new.self c.call.new.slip)
-    (λ k. (with_source (sym source k) (c.self.view_is k), event.Attempt c.args.moment (verdict k))) carried
+    c.verdict-verdict.ensures.verdict ∙ (λ k. given (sourced k) c.self.inside.plan (attempt k) (head k)) ∙ ap (λ (h : Held g.row.F.Denot). next_verdict verdicts h) c.self.view_is in
+    let plan : c.verdict-verdict.new.self ≡ next_plan verdicts c.args.self.now =
+    c.verdict-verdict.ensures.after ∙ (λ k. plan_after (sourced k) c.self.inside.plan (attempt k) (head k)) ∙ ap (λ (h : Held g.row.F.Denot). next_plan verdicts h) c.self.view_is in
+    let done = c.carry_out-reply.ensures in
+    let now : Held g.row.F.Denot = record {
+      number = inside.roll.number;
+      journal = j;
+      lists = inside.roll.lists;
+      source = c.verdict-sourced.new.self;
+      plan = c.verdict-verdict.new.self;
+      stopped = inside.stopped;
+    } in
+    let new : Held g.row.F.Denot = record {
+      number = c.carry_out-reply.new.roll.number;
+      journal = g.B.Journaled.journal c.carry_out-reply.new.bus;
+      lists = c.carry_out-reply.new.roll.lists;
+      source = c.verdict-sourced.new.self;
+      plan = c.verdict-verdict.new.self;
+      stopped = inside.stopped;
+    } in
+    let carried : IsCarriedOut now c.args.slip.now (event.Attempt c.args.moment c.verdict-verdict.result) c.carry_out-reply.result new c.carry_out-reply.new.slip =
+    record {
+      answer = done.answered.answer;
+      after = λ k. record {
+        number = (done.roll k).number;
+        journal = done.answered.after k;
+        lists = (done.roll k).lists;
+        source = c.verdict-sourced.new.self;
+        plan = c.verdict-verdict.new.self;
+        stopped = inside.stopped;
+      };
+      noted = done.slip;
+    } in
+    subst (λ (x : Held g.row.F.Denot × Event). IsCarriedOut x.0 c.args.slip.now x.1 c.carry_out-reply.result new c.carry_out-reply.new.slip)
+    (λ k. (record (c.self.view_is k) { source = c.verdict-sourced.new.self; plan = plan k }, event.Attempt c.args.moment (verdict k))) carried
