@@ -1,4 +1,4 @@
-use Rattle.std.proofs.Common.{◌≡◌, ℕ, Bool, true, List, Option, Some, Result, Ok, Err, refl, sym, subst, ap, ◌∙◌, inr}
+use Rattle.std.proofs.Common.{◌≡◌, ℕ, Bool, true, List, length, Option, Some, Result, Ok, Err, refl, sym, subst, ap, ◌∙◌, inr}
 use Rattle.can_confine.specs.Confinement.{ErrorCounts}
 use Rattle.can_meter.specs.Readings.{Readings}
 use Rattle.can_event.specs.declared.event.Event.{Event}
@@ -21,8 +21,8 @@ use Rattle.can_station.specs.Passes.{PassSeen, Called, HadNoPassLeft, InSome, Is
 use Rattle.can_station.specs.Waits.{AreCounts}
 use Rattle.can_station.specs.declared.refusals.StationRefusal.{StationRefusal}
 use Rattle.can_station.specs.declared.refusals.StationRefusal.TheVariants as station
-use Rattle.can_hub.specs.Buses.{BusSeen, IsFirstNamed, items_on}
-use Rattle.can_hub.specs.PassSteps.{EnteredSeen, PortSeen, PassStep, CountsSocket, CountsIface, entered_with, passed_on, refused_as, room_in, with_room, is_shared, OnPort, SomeNamed, SomeNamedFull, Attaches, GaugeTells, TellsCounters}
+use Rattle.can_hub.specs.Buses.{BusSeen, IsFirstNamed, items_on, names_on}
+use Rattle.can_hub.specs.PassSteps.{EnteredSeen, PortSeen, PassStep, CountsSocket, CountsIface, entered_with, passed_on, refused_as, room_in, with_room, is_shared, OnPort, SomeNamed, SomeNamedFull, Attaches, GaugeTells, TellsCounters, InjectsNamed, Injects, RulesLeft}
 
 -- the calls of a port over the station that was entered
 abbrev over : List BusSeen → EnteredSeen → PortSeen
@@ -137,3 +137,17 @@ module _ (old : PortSeen) (buses : List BusSeen) (inside : Option EnteredSeen) (
   attached F here gauge pass is metered new =
       subst (λ (o : PortSeen). Attaches F o name (Ok at.1) (over buses (entered_with here gauge pass))) seen
       (here, gauge, pass, subst (λ (n : ℕ). IsFirstNamed buses name (Some (n, at.1))) (sym is) first, metered, new, refl)
+
+-- a rule that the station that was entered took or refused is one of the port
+pub injected : (F : Type 0) (old : PortSeen) (buses : List BusSeen) (inside : Option EnteredSeen) (now : EnteredSeen) (rule : List ℕ) (found : Option (List (List ℕ))) (answer : Result (Unit {0}) PortRefusal)
+    → ◌≡◌ {A = PortSeen} (record { buses = buses; entered = inside }) old → inside ≡ Some now → found ≡ names_on (slice_get buses now.station.number)
+    → InjectsNamed F now.station found rule answer → Injects F old.buses old.entered rule answer
+injected F old buses inside now rule found answer seen is named came =
+    subst (λ (o : PortSeen). Injects F o.buses o.entered rule answer) (ap (λ (i : Option EnteredSeen). record { buses = buses; entered = i }) (sym is) ∙ seen)
+    (subst (λ (ns : Option (List (List ℕ))). InjectsNamed F now.station ns rule answer) named came)
+
+-- how many rules the station that was entered has is how many the port has
+pub rules_left : (F : Type 0) (old : PortSeen) (buses : List BusSeen) (inside : Option EnteredSeen) (now : EnteredSeen) (count : ℕ)
+    → ◌≡◌ {A = PortSeen} (record { buses = buses; entered = inside }) old → inside ≡ Some now → InSome F now.station (λ held. count ≡ length held.plan.rules) → RulesLeft F old.entered count
+rules_left F old buses inside now count seen is left =
+    subst (λ (o : PortSeen). RulesLeft F o.entered count) (ap (λ (i : Option EnteredSeen). record { buses = buses; entered = i }) (sym is) ∙ seen) left

@@ -2,7 +2,7 @@ use Rattle.std.proofs.Common.{◌≡◌, ◌+◌, ◌<◌, ◌≤◌, ℕ, zero,
 use Rattle.std.specs.Prelude.{slice_get, slice_index_or}
 use Rattle.can_frame.specs.Names.{place_of}
 use Rattle.std.proofs.lemmas.Bool.{cases_lt}
-use Rattle.can_hub.specs.Buses.{BusSeen, items_on, NumberedFrom, NoneNamed, IsFirstNamed}
+use Rattle.can_hub.specs.Buses.{BusSeen, items_on, names_on, NumberedFrom, NoneNamed}
 
 -- the element at a place
 pub index_of_get : {X : Type 0} (xs : List X) (k : ℕ) (x d : X) → slice_get xs k ≡ Some x → slice_index_or xs k d ≡ x
@@ -46,6 +46,19 @@ items_past [] zero le = refl
 items_past [] (suc k) le = refl
 items_past (x ∷ xs) zero le = absurd (omega (arith, le))
 items_past (x ∷ xs) (suc k) le = items_past xs k (omega (arith, le))
+
+-- the names of the bus at a place
+pub names_at : (buses : List BusSeen) (k : ℕ) (b d : BusSeen) → k < length buses → b ≡ slice_index_or buses k d → Some b.names ≡ names_on (slice_get buses k)
+names_at [] k b d lt same = absurd (omega (arith, lt))
+names_at (x ∷ xs) zero b d lt same = ap (λ (s : BusSeen). Some s.names) same
+names_at (x ∷ xs) (suc k) b d lt same = names_at xs k b d (omega (arith, lt)) same
+
+-- no names come after those of the last bus
+pub names_past : (buses : List BusSeen) (k : ℕ) → length buses ≤ k → None ≡ names_on (slice_get buses k)
+names_past [] zero le = refl
+names_past [] (suc k) le = refl
+names_past (x ∷ xs) zero le = absurd (omega (arith, le))
+names_past (x ∷ xs) (suc k) le = names_past xs k (omega (arith, le))
 
 -- none before the next bus, where none is before this one and this one has none
 pub none_next : (n : ℕ) (buses : List BusSeen) (name : List ℕ) (found : Option ℕ) → NoneNamed n buses name → ((d : BusSeen) → found ≡ place_of (slice_index_or buses n d).names name) → found ≡ None → NoneNamed (n + 1) buses name

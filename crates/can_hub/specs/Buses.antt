@@ -1,4 +1,4 @@
-use Rattle.std.specs.Prelude.{◌≡◌, ◌<◌, ℕ, suc, List, [], ◌∷◌, length, map, Contains, slice_index_or, Option, Some, None}
+use Rattle.std.specs.Prelude.{◌≡◌, ◌<◌, ℕ, suc, List, [], ◌∷◌, length, map, Contains, slice_index_or, Option, Some, None, option_map}
 use Rattle.can_frame.specs.Names.{place_of}
 
 -- The buses of a hub, and their names.
@@ -15,6 +15,10 @@ pub record BusSeen : Type 0 where
 abbrev pub items_on : Option BusSeen → ℕ
 items_on None = 0
 items_on (Some bus) = bus.rx_capacity
+
+-- the names of the interfaces of a bus, if it is there
+abbrev pub names_on : Option BusSeen → Option (List (List ℕ))
+names_on bus = option_map (λ b. b.names) bus
 
 -- the buses are numbered by their places, the first of them n
 abbrev pub NumberedFrom : ℕ → List BusSeen → Type 0

@@ -1,4 +1,4 @@
-use Rattle.std.specs.Prelude.{◌≡◌, ◌<◌, ◌≤◌, ◌⊎◌, ℕ, Bool, true, false, List, Option, Some, None, Result, Ok, Err, slice_get}
+use Rattle.std.specs.Prelude.{◌≡◌, ◌<◌, ◌≤◌, ◌⊎◌, ℕ, Bool, true, false, List, length, Option, Some, None, Result, Ok, Err, slice_get}
 use mathlib.Core.List.{IsSuffix}
 use Rattle.can_confine.specs.Confinement.{ErrorCounts, at_start}
 use Rattle.can_meter.specs.Publications.{newest, published}
@@ -14,16 +14,17 @@ use Rattle.can_record.specs.Outcomes.{done_reply, told_attempt}
 use Rattle.can_bus.specs.Stats.{socket_stats_of, iface_stats_of}
 use Rattle.can_dialog.specs.declared.port.PortRefusal.{PortRefusal}
 use Rattle.can_dialog.specs.declared.port.PortRefusal.TheVariants as port
-use Rattle.can_dialog.specs.Calls.{Call}
+use Rattle.can_dialog.specs.Calls.{Call, port_of_rule}
 use Rattle.can_dialog.specs.Calls.{Reply as CallReply}
-use Rattle.can_dialog.specs.Calls.Call.{Attach, Open, Close, SetFilters, SetOption, Send, Receive, Restart, Attempt, CountsOfSocket, CountsOfIface, CountersOfIface}
+use Rattle.can_dialog.specs.Calls.Call.{Attach, Open, Close, SetFilters, SetOption, Send, Receive, Restart, Attempt, CountsOfSocket, CountsOfIface, CountersOfIface, Inject, CountsRules, EndsRules}
+use Rattle.can_rules.specs.declared.rules.RuleRefusal.{RuleRefusal}
 use Rattle.can_station.specs.Held.{StationSeen}
-use Rattle.can_station.specs.Passes.{PassSeen, Called, HadNoPassLeft, InSome, IsNewLightPass}
+use Rattle.can_station.specs.Passes.{PassSeen, Called, HadNoPassLeft, InSome, InjectsIn, IsNewLightPass}
 use Rattle.can_station.specs.declared.refusals.StationRefusal.{StationRefusal}
 use Rattle.can_station.specs.declared.refusals.StationRefusal.TheVariants as station
-use Rattle.can_hub.specs.Buses.{BusSeen, IsFirstNamed, items_on}
+use Rattle.can_hub.specs.Buses.{BusSeen, IsFirstNamed, items_on, names_on}
 
--- A pass as a port: each call but the look-ups is the station's.
+-- A pass as a port: each call but the look-ups and those of rules is an event of the station.
 
 -- a station that was entered, what the gauge of its meter has seen, and the pass
 pub record EnteredSeen : Type 0 where
@@ -122,6 +123,26 @@ abbrev pub CountsIface : Type 0 → Option EnteredSeen → ℕ → Option IfaceS
 CountsIface F None iface answer = answer ≡ None
 CountsIface F (Some e) iface answer = InSome F e.station (λ held. answer ≡ iface_stats_of held.journal.config held.journal.history iface)
 
+-- how a station's reply to a rule is given
+abbrev pub told_rule : Result (Unit {0}) RuleRefusal → Result (Unit {0}) PortRefusal
+told_rule (Ok done) = Ok done
+told_rule (Err why) = Err (port_of_rule why)
+
+-- a rule comes to this in some state of a station (which is not said) whose interfaces have these names
+abbrev pub InjectsNamed : Type 0 → StationSeen → Option (List (List ℕ)) → List ℕ → Result (Unit {0}) PortRefusal → Type 0
+InjectsNamed F station None rule answer = answer ≡ Err (port.Bus refusal.NoSocket)
+InjectsNamed F station (Some names) rule answer = (outcome : Result (Unit {0}) RuleRefusal) × InjectsIn F station names rule outcome × (answer ≡ told_rule outcome)
+
+-- the same of the station that was entered; where none was, there is no socket
+abbrev pub Injects : Type 0 → List BusSeen → Option EnteredSeen → List ℕ → Result (Unit {0}) PortRefusal → Type 0
+Injects F buses None rule answer = answer ≡ Err (port.Bus refusal.NoSocket)
+Injects F buses (Some e) rule answer = InjectsNamed F e.station (names_on (slice_get buses e.station.number)) rule answer
+
+-- how many rules are left in some state of the station that was entered (which is not said); where none was, there is none
+abbrev pub RulesLeft : Type 0 → Option EnteredSeen → ℕ → Type 0
+RulesLeft F None answer = answer ≡ 0
+RulesLeft F (Some e) answer = InSome F e.station (λ held. answer ≡ length held.plan.rules)
+
 -- a call on a port over a pass of a station whose verdicts come from an F
 abbrev pub PassStep : Type 0 → PortSeen → (call : Call) → CallReply call → PortSeen → Type 0
 PassStep F old (Attach name) answer new = Attaches F old name answer new
@@ -136,3 +157,6 @@ PassStep F old (Attempt moment verdict) answer new = OnPort told_attempt old (ev
 PassStep F old (CountsOfSocket socket) answer new = CountsSocket F old.entered socket.0 answer × (new ≡ old)
 PassStep F old (CountsOfIface iface) answer new = CountsIface F old.entered iface answer × (new ≡ old)
 PassStep F old (CountersOfIface iface) answer new = TellsCounters old.entered iface answer new.entered × (new.buses ≡ old.buses)
+PassStep F old (Inject rule) answer new = Injects F old.buses old.entered rule answer × (new ≡ old)
+PassStep F old CountsRules answer new = RulesLeft F old.entered answer × (new ≡ old)
+PassStep F old EndsRules answer new = new ≡ old

@@ -6,6 +6,7 @@ use can_bus::BusConfig;
 use can_event::MAX_RX_CAPACITY;
 use can_fault::FaultSource;
 use can_frame::{Iface, Names};
+use can_rules::Plan;
 use can_station::{Blanks, Gate};
 
 /// What a bus of a hub is made of.
@@ -16,8 +17,10 @@ pub struct Bench<F: FaultSource + Drop, G: Gate + Drop> {
     /// Blanks for as many interfaces.
     pub blanks: Blanks,
     pub config: BusConfig,
-    /// The verdicts of its attempts.
+    /// The verdicts of its attempts, wherever they are faults.
     pub source: F,
+    /// The faults of the attempts for which the source has none.
+    pub plan: Plan,
     /// Where a test may hold a thread.
     pub gate: G,
     /// How many milliseconds its driver sleeps after each step.

@@ -131,4 +131,19 @@ impl<'p, 'a, N: RollName + MeterName, F: FaultSource + Drop, G: Gate + Drop, R: 
         self.hold = None;
         self.port.status(iface)
     }
+
+    fn inject(&mut self, rule: &[u8]) -> Result<(), PortRefusal> {
+        self.hold = None;
+        self.port.inject(rule)
+    }
+
+    fn rules(&mut self) -> u64 {
+        self.hold = None;
+        self.port.rules()
+    }
+
+    fn end_rules(&mut self) {
+        self.hold = None;
+        self.port.end_rules();
+    }
 }

@@ -1,6 +1,6 @@
-ghost use Rattle.std.specs.Prelude.{◌≡◌, ◌<◌, ◌≤◌, length, IfOk, IfErr, MatchResult, All, ◌↔◌, slice_index_or, slice_get};
+ghost use Rattle.std.specs.Prelude.{◌≡◌, ◌<◌, ◌≤◌, length, IfOk, IfErr, MatchResult, All, ◌↔◌, option_map, slice_index_or, slice_get};
 ghost use Rattle.can_frame.specs.Names.{place_of};
-ghost use Rattle.can_hub.specs.Buses.{BusSeen, IsFirstNamed, items_on};
+ghost use Rattle.can_hub.specs.Buses.{BusSeen, IsFirstNamed, items_on, names_on};
 ghost use Rattle.can_hub.specs.Benches.{IsProper, MakeHub, NamedFrom, bus_of, buses_from};
 ghost use Rattle.can_hub.specs.Settling.{AllOwn, AllSettle, FirstForeign};
 
@@ -59,13 +59,14 @@ impl<N: RollName + MeterName, F: FaultSource + Drop, G: Gate + Drop> Wire<N, F, 
             blanks,
             config,
             source,
+            plan,
             gate,
             pace_ms,
             rx_capacity,
         } = bench;
         Ok(Wire {
             names,
-            station: Station::new(alloc, blanks, number, config, source, gate)?,
+            station: Station::with_plan(alloc, blanks, number, config, source, plan, gate)?,
             pace_ms,
             rx_capacity,
         })
@@ -178,6 +179,18 @@ impl<N: RollName + MeterName, F: FaultSource + Drop, G: Gate + Drop> Hub<N, F, G
             self.wires[bus].rx_capacity
         } else {
             0
+        }
+    }
+
+    /// The names of the interfaces of a bus, if there is one with this number.
+    #[tactic(auto, using(crate::proofs::Places::names_at, crate::proofs::Places::names_past))]
+    pub fn names(&self, bus: usize) -> Option<&Names>
+        ensures { option_map (λ n. n.now) result ≡ names_on (slice_get self.now bus) }
+    {
+        if bus < self.wires.len() {
+            Some(&self.wires[bus].names)
+        } else {
+            None
         }
     }
 

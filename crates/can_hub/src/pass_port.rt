@@ -1,6 +1,6 @@
 ghost use Rattle.std.specs.Prelude.{◌≡◌};
 ghost use Rattle.can_hub.specs.Buses.{IsFirstNamed};
-ghost use Rattle.can_hub.specs.PassSteps.{GaugeTells, passed_on, with_room};
+ghost use Rattle.can_hub.specs.PassSteps.{GaugeTells, passed_on, told_rule, with_room};
 
 use crate::hub::Hub;
 use crate::tally::{Counted, Tally};
@@ -11,6 +11,7 @@ use can_fault::FaultSource;
 use can_frame::Iface;
 use can_meter::{Gauge, MeterName};
 use can_roll::RollName;
+use can_rules::RuleRefusal;
 use can_station::{Gate, Pass, Station, StationRefusal};
 use std::alloc::Global;
 use std::marker::Model;
@@ -37,9 +38,9 @@ impl<'a, N: RollName + MeterName, F: FaultSource + Drop, G: Gate + Drop> Model
 ///
 /// `attach` takes a gauge of the station whose bus has the name and enters it; a pass that was entered before is
 /// lost to `settle`. Refusals, in this order: `NoInterface`; `NoMemory` where it is refused to the gauge;
-/// `TooManyPasses`. Each other call but the two counts and the status is that call of the station, made with the
-/// pass, and may wait for its lock; a socket holds as many items as its bus says, whatever is asked. Where no station
-/// was entered there is no socket.
+/// `TooManyPasses`. Each other call but the two counts, the status and those of rules is that call of the station, made with
+/// the pass, and may wait for its lock; a socket holds as many items as its bus says, whatever is asked. Where no station
+/// was entered there is no socket, and no rule.
 ///
 /// `status` returns the error counters that were published last, as the gauge reads them: it takes no lock and waits
 /// for nobody. They are 0/0 where no station was entered, or where its bus has no such interface.
@@ -138,6 +139,16 @@ pub(crate) fn pass_on<V>(outcome: Result<V, StationRefusal>) -> Result<V, PortRe
     }
 }
 
+/// A station's reply to a rule, as a port gives it.
+fn tell_rule(outcome: Result<(), RuleRefusal>) -> Result<(), PortRefusal>
+    ensures { result ≡ told_rule outcome }
+{
+    match outcome {
+        Ok(()) => Ok(()),
+        Err(refusal) => Err(PortRefusal::from(refusal)),
+    }
+}
+
 /// The error counters that a gauge reads of an interface: 0/0 where its meter has none.
 fn read_gauge<N: MeterName>(gauge: &mut Gauge<N>, iface: Iface) -> Counters
     ensures { GaugeTells gauge.old iface result gauge.new }
@@ -203,5 +214,29 @@ impl<'a, N: RollName + MeterName, F: FaultSource + Drop, G: Gate + Drop, R: Wait
             return Counters::zero();
         };
         read_gauge(&mut entered.gauge, iface)
+    }
+
+    fn inject(&mut self, rule: &[u8]) -> Result<(), PortRefusal> {
+        let Some(entered) = &self.entered else {
+            return Err(PortRefusal::Bus(Refusal::NoSocket));
+        };
+        let number = usize::from(entered.station.number());
+        let Some(names) = self.hub.names(number) else {
+            return Err(PortRefusal::Bus(Refusal::NoSocket));
+        };
+        tell_rule(entered.station.inject(self.rt, rule, names))
+    }
+
+    fn rules(&mut self) -> u64 {
+        let Some(entered) = &self.entered else {
+            return 0;
+        };
+        entered.station.rules(self.rt) as u64
+    }
+
+    fn end_rules(&mut self) {
+        if let Some(entered) = &self.entered {
+            entered.station.end_rules(self.rt);
+        }
     }
 }

@@ -15,6 +15,7 @@ mod peers;
 mod ports;
 mod restarts;
 mod rows;
+mod rules;
 mod statuses;
 
 use can_attempt::AckMode;
@@ -24,6 +25,7 @@ use can_fault::{FaultSource, Perfect, Script};
 use can_frame::{Iface, IfaceSet, Moment, Names};
 use can_meter::{Gauge, MeterName, Status};
 use can_roll::RollName;
+use can_rules::Plan;
 use can_server::{Bench, Hub, PassPort};
 use can_station::{Blanks, Gate, Open, Pass};
 use std::alloc::Global;
@@ -80,6 +82,7 @@ fn held_bench<F: FaultSource + Drop, G: Gate + Drop, R: Abort>(
         blanks: blanks(rt, alloc),
         config: config(),
         source,
+        plan: Plan::new(alloc),
         gate,
         pace_ms: 0,
         rx_capacity: 16,

@@ -90,7 +90,16 @@ fn counts<N: RollName + MeterName, R: Wait + Abort>(
     second.is_told(alloc, "< stats >", "< stats 1 1 0 0 0 0 0 0 >");
     second.is_given(alloc);
     second.is_told(alloc, "< stats >", "< stats 1 1 1 0 0 0 0 0 >");
-    first.is_told(alloc, "< send 123 0 >< close >", "< closed 0 0 >");
+    first.is_told(
+        alloc,
+        "< send 123 0 >< fault next 1 good >< send 123 0 >< faults >< send 123 0 >< nofaults >",
+        "< ok >< error no buffers >< faults 1 >< error no buffers >< ok >",
+    );
+    first.is_told(
+        alloc,
+        "< send 123 0 >< close >",
+        "< error no buffers >< closed 0 0 >",
+    );
 }
 
 #[test]
