@@ -31,14 +31,8 @@ fn gives_rules<N: RollName + MeterName, R: Wait + Abort>(
     far.ask("< send 123 0 >", "");
     second.driver().try_frame();
     far.driver().try_frame();
-    second.ask(
-        "< status >< faults >",
-        "< status active 8 0 >< faults 1 >",
-    );
-    far.ask(
-        "< status >< faults >",
-        "< status active 0 0 >< faults 0 >",
-    );
+    second.ask("< status >< faults >", "< status active 8 0 >< faults 1 >");
+    far.ask("< status >< faults >", "< status active 0 0 >< faults 0 >");
     second.ask("< nofaults >< faults >", "< ok >< faults 0 >");
 }
 
