@@ -255,7 +255,11 @@ impl<N: RollName + MeterName, F: FaultSource + Drop, G: Gate + Drop, B: Journale
             news,
         } = self;
         let woken = news.woken(&mut state);
+        let is_awaited = state.take_awaited();
         drop(state);
         station.wake(news, woken);
+        if is_awaited {
+            station.written.notify_all();
+        }
     }
 }

@@ -6,7 +6,8 @@
 //! legal history in which each pass's calls are in the order that it made them.
 //!
 //! A station is over any bus that is [`Journaled`](can_bus::Journaled), and if none is named over one with its whole
-//! record.
+//! record. Over the bus of a long run (`new_long`) another thread takes the entries in a [`Block`] at a time, and calls
+//! wait where it is late.
 //!
 //! What the lock keeps is a [`StationState`]. Its calls carry the proofs; a [`Station`] adds the lock and the
 //! waiting. Who waits sleeps, and is woken only by a call that can matter to it.
@@ -19,6 +20,7 @@ mod calls;
 pub mod gate;
 mod gauges;
 pub mod hold;
+pub mod long;
 pub mod pass;
 mod publishing;
 mod receives;
@@ -26,10 +28,12 @@ pub mod refusals;
 mod rooms;
 pub mod station;
 pub mod station_state;
+mod taking;
 mod waits;
 
 pub use gate::{Gate, Open, Point};
 pub use hold::Hold;
+pub use long::Block;
 pub use pass::{Pass, Settled};
 pub use refusals::{StationRefusal, TooManyPasses, WrongStation};
 pub use station::{Blanks, Station};

@@ -1,6 +1,6 @@
-ghost use Rattle.std.specs.Prelude.{◌≡◌, ◌<◌, ◌≤◌, length, IfOk, OnErr, ◌↔◌};
+ghost use Rattle.std.specs.Prelude.{◌≡◌, ◌≢◌, ◌<◌, ◌≤◌, [], length, IfOk, OnErr, ◌↔◌};
 ghost use Rattle.std.specs.Sync.Mutex.{mutex_guard_value};
-ghost use Rattle.can_event.specs.Events.{IsConfig};
+ghost use Rattle.can_event.specs.Events.{IsConfig, IsLongConfig};
 ghost use Rattle.can_station.specs.Held.{station_seen};
 ghost use Rattle.can_station.specs.Passes.{HadNoPassLeft, InSome, InjectsIn, IsNewLightPass, IsNewPass, IsStateOf, SettlesIn, Suits, Answered, Called, Stepped, same};
 ghost use Rattle.can_station.specs.Published.{AreTrue, TakesBack};
@@ -63,6 +63,10 @@ pub struct Station<
     pub(crate) items: Rooms,
     /// Where rests wait for the end.
     pub(crate) ends: Condvar,
+    /// Where calls wait for a place in the bus's tail.
+    pub(crate) room: Condvar,
+    /// Where those wait who take entries.
+    pub(crate) written: Condvar,
     pub(crate) gate: G,
     pub(crate) number: u8,
     config: BusConfig,
@@ -130,6 +134,35 @@ impl<N: RollName + MeterName, F: FaultSource + Drop, G: Gate + Drop> Station<N, 
             return Err(BusFault::BadConfig);
         }
         let bus = RingBus::new(alloc, config)?;
+        Station::over(alloc, blanks, number, bus, config, source, plan, gate)
+    }
+}
+
+impl<N: RollName + MeterName, F: FaultSource + Drop, G: Gate + Drop, B: Journaled> Station<
+    N,
+    F,
+    G,
+    B,
+> {
+    /// A station over a bus with this configuration, on which nothing was done. `NoMemory` where memory was refused.
+    pub(crate) fn over(
+        alloc: Global,
+        blanks: Blanks,
+        number: u8,
+        bus: B,
+        config: BusConfig,
+        source: F,
+        plan: Plan,
+        gate: G,
+    ) -> Result<Station<N, F, G, B>, BusFault>
+        requires roll { blanks.roll ≡ N.roll number }
+        requires meter { blanks.meter ≡ N.meter number }
+        requires bus { B.journal bus ≡ record { config = config; history = [] } }
+        requires proper { IsLongConfig config }
+        requires ifaces { blanks.meter.words ≡ config.ifaces }
+        ensures made { IfOk result (λ s. s ≡ station_seen number config) }
+        ensures err { result ≢ Err BusFault.BadConfig }
+    {
         let Blanks { roll, meter: blank } = blanks;
         let Ok((keeper, spare)) = meter::<N>(alloc, blank, number) else {
             return Err(BusFault::NoMemory);
@@ -140,20 +173,15 @@ impl<N: RollName + MeterName, F: FaultSource + Drop, G: Gate + Drop> Station<N, 
             work: Condvar::new(),
             items: Rooms::new(),
             ends: Condvar::new(),
+            room: Condvar::new(),
+            written: Condvar::new(),
             gate,
             number,
             config,
             fullness: AtomicU8::new(ROOM),
         })
     }
-}
 
-impl<N: RollName + MeterName, F: FaultSource + Drop, G: Gate + Drop, B: Journaled> Station<
-    N,
-    F,
-    G,
-    B,
-> {
     /// The number of the station.
     pub fn number(&self) -> u8
         ensures { result ≡ self.now.number }
@@ -193,12 +221,18 @@ impl<N: RollName + MeterName, F: FaultSource + Drop, G: Gate + Drop, B: Journale
     }
 
     /// Takes the lock for several calls. Until the hold is dropped, all other calls of the station wait.
+    ///
+    /// Over the bus of a long run it waits first for places in the tail: 512, or half of a tail that is smaller. A call of
+    /// the hold that finds none all the same is refused with `NoMemory`.
     pub fn lock<R: Wait>(&self, rt: &R) -> Hold<'_, N, F, G, B>
         ensures { IsStateOf self.now result }
     {
+        let state = self
+            .room
+            .wait_while(rt, self.state.lock(rt), |state| state.is_short());
         Hold {
             station: self,
-            state: self.hold(rt),
+            state: self.own(rt, state),
             news: News::none(),
         }
     }
@@ -332,6 +366,8 @@ impl<N: RollName + MeterName, F: FaultSource + Drop, G: Gate + Drop, B: Journale
             work: _,
             items: _,
             ends: _,
+            room: _,
+            written: _,
             gate: _,
             number,
             config: _,

@@ -18,6 +18,7 @@ use crate::pass::{Pass, Settled, are_all_of, recall_all};
 use crate::publishing::{counters_before, publish_changes};
 use crate::refusals::{TooManyPasses, WrongStation};
 use crate::rooms::{ROOMS, RoomSet, Sleeper, Sleepers};
+use crate::taking::Taking;
 use crate::waits::Wake;
 use can_bus::{
     BusConfig, Event, IfaceStats, Journaled, Received, Record, Refusal, Reply, RingBus, SocketId,
@@ -43,7 +44,7 @@ const MAX_PASSES: u32 = 4096;
 /// counters.
 #[derive(Drop)]
 pub struct StationState<N: RollName + MeterName, F: FaultSource + Drop, B: Journaled = RingBus> {
-    bus: B,
+    pub(crate) bus: B,
     config: BusConfig,
     source: F,
     plan: Plan,
@@ -52,6 +53,7 @@ pub struct StationState<N: RollName + MeterName, F: FaultSource + Drop, B: Journ
     spare: Gauge<N>,
     stopped: bool,
     sleepers: Sleepers,
+    pub(crate) taking: Taking,
 }
 
 impl<N: RollName + MeterName, F: FaultSource + Drop, B: Journaled> Model for StationState<N, F, B> {
@@ -121,6 +123,7 @@ impl<N: RollName + MeterName, F: FaultSource + Drop, B: Journaled> StationState<
             spare,
             stopped: false,
             sleepers: Sleepers::none(),
+            taking: Taking::none(),
         }
     }
 
@@ -419,6 +422,7 @@ impl<N: RollName + MeterName, F: FaultSource + Drop, B: Journaled> StationState<
             spare: _,
             stopped: _,
             sleepers: _,
+            taking: _,
         } = self;
         if !are_all_of(&passes, roll.number()) {
             return Err(WrongStation);

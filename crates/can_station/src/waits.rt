@@ -1,4 +1,4 @@
-ghost use Rattle.std.specs.Prelude.{◌≡◌, true, Some, IfSome, IfNone, is_none};
+ghost use Rattle.std.specs.Prelude.{◌≡◌, true, false, Some, IfSome, IfNone, is_none};
 ghost use Rattle.can_station.specs.Passes.{InSome, IsStateOf};
 ghost use Rattle.can_station.specs.Waits.{AreCounts, EndsItemWait, IsIdleAndStopped, frame_wake, has_work, work_wake};
 
@@ -163,6 +163,7 @@ impl<N: RollName + MeterName, F: FaultSource + Drop, G: Gate + Drop, B: Journale
     }
 
     /// Waits as `wait_work` does, and keeps the lock for the driver's steps: `None` after `stop`, where there is no work.
+    /// Where there is, it waits for places in the bus's tail as well, as `lock` does.
     pub fn hold_work<R: Wait>(&self, rt: &R) -> Option<Hold<'_, N, F, G, B>>
         ensures state { IfSome result (λ h. IsStateOf self.now h) }
         ensures work { IfSome result (λ h. has_work h.journal ≡ true) }
@@ -173,8 +174,8 @@ impl<N: RollName + MeterName, F: FaultSource + Drop, G: Gate + Drop, B: Journale
             rt,
             self.state.lock(rt),
             |state|
-                ensures { is_none (work_wake state.new) ≡ result }
-            { state.work_wake().is_none() },
+                ensures { result ≡ false → is_none (work_wake state.new) ≡ false }
+            { state.is_idle_or_short() },
         );
         let state = self.own(rt, state);
         if !state.has_work() {

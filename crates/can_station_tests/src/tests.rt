@@ -5,6 +5,7 @@ mod fd_frames;
 mod full_records;
 mod gates;
 mod gauges;
+mod long_stations;
 mod meters;
 mod passes;
 mod restarts;
@@ -16,7 +17,9 @@ mod twins;
 mod waits;
 
 use can_attempt::AckMode;
-use can_bus::{Attempt, BusConfig, Closed, Event, Opt, Received, Reply, SocketId};
+use can_bus::{
+    Attempt, BusConfig, Closed, Event, Journaled, Opt, Received, Reply, RingBus, SocketId,
+};
 use can_fault::{FaultSource, Script, Verdict};
 use can_frame::{CanId, Frame, Iface, IfaceSet, Moment, Names};
 use can_meter::{Gauge, MeterName, Status};
@@ -82,11 +85,14 @@ fn made<N: RollName + MeterName, F: FaultSource + Drop, G: Gate + Drop, R: Abort
     station
 }
 
-fn entered<'s, N: RollName + MeterName, F: FaultSource + Drop, G: Gate + Drop, R: Wait + Abort>(
-    rt: &'s R,
-    alloc: Global,
-    station: &'s Station<N, F, G>,
-) -> Caller<'s, N, F, G, R> {
+fn entered<
+    's,
+    N: RollName + MeterName,
+    F: FaultSource + Drop,
+    G: Gate + Drop,
+    R: Wait + Abort,
+    B: Journaled,
+>(rt: &'s R, alloc: Global, station: &'s Station<N, F, G, B>) -> Caller<'s, N, F, G, R, B> {
     let Ok(pass) = station.enter(rt, alloc) else {
         panic!(rt; "no pass");
     };
@@ -100,20 +106,27 @@ fn entered<'s, N: RollName + MeterName, F: FaultSource + Drop, G: Gate + Drop, R
 
 /// A caller of a station, with its pass.
 #[derive(Drop)]
-struct Caller<'s, N: RollName + MeterName, F: FaultSource + Drop, G: Gate + Drop, R: Wait + Abort> {
+struct Caller<
+    's,
+    N: RollName + MeterName,
+    F: FaultSource + Drop,
+    G: Gate + Drop,
+    R: Wait + Abort,
+    B: Journaled = RingBus,
+> {
     rt: &'s R,
     alloc: Global,
-    station: &'s Station<N, F, G>,
+    station: &'s Station<N, F, G, B>,
     pass: Pass<N>,
 }
 
-impl<N: RollName + MeterName, F: FaultSource + Drop, G: Gate + Drop, R: Wait + Abort> Caller<
-    '_,
-    N,
-    F,
-    G,
-    R,
-> {
+impl<
+    N: RollName + MeterName,
+    F: FaultSource + Drop,
+    G: Gate + Drop,
+    R: Wait + Abort,
+    B: Journaled,
+> Caller<'_, N, F, G, R, B> {
     fn open(&mut self, number: u8, capacity: u32) -> SocketId {
         let iface = iface(self.rt, number);
         let opened = self
@@ -208,12 +221,18 @@ impl<N: RollName + MeterName, F: FaultSource + Drop, G: Gate + Drop, R: Wait + A
 }
 
 /// Settles with these two passes and these gauges.
-fn settled<N: RollName + MeterName, F: FaultSource + Drop, G: Gate + Drop, R: Wait + Abort>(
+fn settled<
+    N: RollName + MeterName,
+    F: FaultSource + Drop,
+    G: Gate + Drop,
+    R: Wait + Abort,
+    B: Journaled,
+>(
     rt: &R,
-    station: Station<N, F, G>,
+    station: Station<N, F, G, B>,
     passes: Vec<Pass<N>>,
     gauges: Vec<Gauge<N>>,
-) -> Settled {
+) -> Settled<B::Left> {
     let Ok(settled) = station.settle(rt, passes, gauges) else {
         panic!(rt; "not settled");
     };
@@ -221,10 +240,13 @@ fn settled<N: RollName + MeterName, F: FaultSource + Drop, G: Gate + Drop, R: Wa
 }
 
 /// Another gauge of a station.
-fn gauge<N: RollName + MeterName, F: FaultSource + Drop, G: Gate + Drop, R: Wait + Abort>(
-    rt: &R,
-    station: &Station<N, F, G>,
-) -> Gauge<N> {
+fn gauge<
+    N: RollName + MeterName,
+    F: FaultSource + Drop,
+    G: Gate + Drop,
+    R: Wait + Abort,
+    B: Journaled,
+>(rt: &R, station: &Station<N, F, G, B>) -> Gauge<N> {
     let Ok(gauge) = station.gauge(rt) else {
         panic!(rt; "no gauge");
     };

@@ -3,7 +3,7 @@
 ghost use Rattle.std.specs.Prelude.{◌≡◌};
 
 use super::*;
-use can_bus::{Event, Record, Reply, RingBus};
+use can_bus::{Event, IfaceStats, Record, Reply, RingBus};
 use can_filter::{Filter, FilterSet};
 use can_station::{Open, Wake};
 use can_test_support::{DESTROYED, joined};
@@ -13,14 +13,14 @@ use std::test::Fail;
 /// Three attempts after the first 32, which are destroyed, go wrong in other ways.
 const LATER: &str = "36 lastbit\n40 local crc can1\n44 global form\n";
 
-fn faults<R: Abort>(rt: &R, alloc: Global) -> Script {
+pub fn faults<R: Abort>(rt: &R, alloc: Global) -> Script {
     let text = joined(alloc, &[DESTROYED, LATER]).expect(rt, "memory");
     script(rt, alloc, &text)
 }
 
 /// How the calls are made.
 #[derive(Clone, Copy)]
-struct Run {
+pub struct Run {
     /// How many attempts after it went bus off an interface is restarted.
     auto_restart: u32,
     /// Whether a call restarts it, one attempt after it went off.
@@ -30,21 +30,21 @@ struct Run {
 }
 
 /// Interfaces are restarted by calls alone.
-const PLAIN: Run = Run {
+pub const PLAIN: Run = Run {
     auto_restart: 0,
     by_call: true,
     is_stopped: false,
 };
 
 /// Interfaces are restarted by the third attempt after they went off.
-const RESTARTING: Run = Run {
+pub const RESTARTING: Run = Run {
     auto_restart: 3,
     by_call: false,
     is_stopped: false,
 };
 
 /// A bus of three interfaces with short transmit queues, which reports each fault at can1.
-fn busy(run: Run) -> BusConfig {
+pub fn busy(run: Run) -> BusConfig {
     BusConfig {
         ifaces: 3,
         reporting: IfaceSet(2),
@@ -102,8 +102,8 @@ fn filters<R: Abort>(rt: &R, alloc: Global) -> FilterSet {
 }
 
 /// Makes the call on the station.
-fn call<N: RollName + MeterName, R: Wait + Abort>(
-    caller: &mut Caller<'_, N, Script, Open, R>,
+fn call<N: RollName + MeterName, R: Wait + Abort, B: Journaled>(
+    caller: &mut Caller<'_, N, Script, Open, R, B>,
     event: &Event,
 ) {
     let (rt, alloc, station) = (caller.rt, caller.alloc, caller.station);
@@ -185,9 +185,9 @@ fn waiting(bus: &RingBus, socket: SocketId) -> u64 {
 }
 
 /// The station reports what the bus reports, of sockets and interfaces that are there and of others.
-fn agree<N: RollName + MeterName, R: Wait + Abort>(
+fn agree<N: RollName + MeterName, R: Wait + Abort, B: Journaled>(
     rt: &R,
-    station: &Station<N, Script, Open>,
+    station: &Station<N, Script, Open, B>,
     bus: &RingBus,
     run: Run,
 ) {
@@ -206,7 +206,53 @@ fn agree<N: RollName + MeterName, R: Wait + Abort>(
     }
 }
 
-/// All 200 calls on both, and a look at both after each.
+/// A gauge reads the counters that the bus reports.
+fn are_read<N: MeterName, R: Abort>(rt: &R, gauge: &mut Gauge<N>, bus: &RingBus) {
+    for number in 0..3 {
+        if let Some(counts) = bus.iface_stats(iface(rt, number)) {
+            is_read(rt, gauge, usize::from(number), &counts);
+        }
+    }
+}
+
+fn is_read<N: MeterName, R: Abort>(
+    rt: &R,
+    gauge: &mut Gauge<N>,
+    place: usize,
+    counts: &IfaceStats,
+) {
+    assert!(rt; place < gauge.ifaces());
+    assert!(rt; gauge.status(place).counters == counts.counters);
+}
+
+/// All 200 calls on the station and on a plain bus, and a look at both after each. Returns the pass of the calls, and the
+/// bus.
+pub fn run_beside<N: RollName + MeterName, R: Wait + Abort, B: Journaled>(
+    rt: &R,
+    alloc: Global,
+    station: &Station<N, Script, Open, B>,
+    run: Run,
+) -> (Pass<N>, RingBus) {
+    let Ok(mut bus) = RingBus::new(alloc, busy(run)) else {
+        panic!(rt; "no bus");
+    };
+    let mut source = faults(rt, alloc);
+    if run.is_stopped {
+        station.stop(rt);
+    }
+    let mut gauge = gauge(rt, station);
+    let mut caller = entered(rt, alloc, station);
+    for turn in 0..200 {
+        let event = event_at(rt, alloc, turn, run);
+        call(&mut caller, &event);
+        call_bus(&mut bus, &mut source, alloc, event);
+        agree(rt, station, &bus, run);
+        are_read(rt, &mut gauge, &bus);
+    }
+    (caller.leave(), bus)
+}
+
+/// All 200 calls on both.
 fn run_both<N: RollName + MeterName, R: Wait + Abort>(
     rt: &R,
     alloc: Global,
@@ -217,32 +263,14 @@ fn run_both<N: RollName + MeterName, R: Wait + Abort>(
 {
     let followed = faults(rt, alloc);
     let station = made::<N, _, _, _>(rt, alloc, blanks, 0, busy(run), followed, Open);
-    let Ok(mut bus) = RingBus::new(alloc, busy(run)) else {
-        panic!(rt; "no bus");
-    };
-    let mut source = faults(rt, alloc);
-    if run.is_stopped {
-        station.stop(rt);
-    }
-    let mut caller = entered(rt, alloc, &station);
-    for turn in 0..200 {
-        let event = event_at(rt, alloc, turn, run);
-        call(&mut caller, &event);
-        call_bus(&mut bus, &mut source, alloc, event);
-        agree(rt, &station, &bus, run);
-    }
-    assert!(rt; bus.record().len() == 200 && caller.calls() == 200);
-    are_answered_alike(&caller, &bus, run);
+    let (pass, bus) = run_beside(rt, alloc, &station, run);
+    are_answered_alike(rt, &pass, &bus, run);
 }
 
 /// Each call had the same answer on both. Call 39 takes can0 off. Where no call restarts it, calls 41 to 43 are idle
 /// attempts, the third of which does.
-fn are_answered_alike<N: RollName + MeterName, R: Wait + Abort>(
-    caller: &Caller<'_, N, Script, Open, R>,
-    bus: &RingBus,
-    run: Run,
-) {
-    let (rt, pass, record) = (caller.rt, &caller.pass, bus.record());
+pub fn are_answered_alike<N: RollName, R: Abort>(rt: &R, pass: &Pass<N>, bus: &RingBus, run: Run) {
+    let record = bus.record();
     assert!(rt; pass.len() == 200 && record.len() == 200);
     for place in 0..200 {
         let answered = is_answered(pass, place, record);

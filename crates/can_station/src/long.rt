@@ -1,0 +1,113 @@
+ghost use Rattle.std.specs.Prelude.{◌≡◌, [], Err, IfOk, ◌↔◌};
+ghost use Rattle.can_bus.specs.Long.{HasTail};
+ghost use Rattle.can_event.specs.Events.{IsLongConfig};
+ghost use Rattle.can_station.specs.Held.{station_seen};
+ghost use Rattle.can_station.specs.Passes.{InSome};
+
+use crate::gate::Gate;
+use crate::station::{Blanks, Station};
+use crate::waits::Wake;
+use can_bus::{BusConfig, BusFault, Journaled, LongRingBus, PackedRecord};
+use can_fault::FaultSource;
+use can_meter::MeterName;
+use can_roll::RollName;
+use can_rules::Plan;
+use std::alloc::{AllocError, Global};
+use std::sync::Wait;
+use std::time::{Clock, Duration};
+
+/// Entries that a station handed out, in order.
+#[derive(Drop)]
+pub struct Block {
+    /// How many entries of the station came before these.
+    pub start: u64,
+    pub entries: PackedRecord,
+}
+
+impl Block {
+    /// A block without entries, which has memory for this many: 32 bytes for each, and 76 for its FD frame. `AllocError`
+    /// where there is none.
+    pub fn new(alloc: Global, size: u32) -> Result<Block, AllocError>
+        ensures { IfOk result (λ b. b.entries.entries ≡ []) }
+    {
+        Ok(Block {
+            start: 0,
+            entries: PackedRecord::with_capacity(alloc, size)?,
+        })
+    }
+}
+
+impl<N: RollName + MeterName, F: FaultSource + Drop, G: Gate + Drop> Station<N, F, G, LongRingBus> {
+    /// A station over the bus of a long run, which keeps in memory only the entries that were not taken yet. It takes
+    /// memory for this many: `TAIL_SIZE`, but for tests.
+    ///
+    /// `BadConfig` exactly where the configuration is outside the limits of a long run, or has another number of
+    /// interfaces than the blanks; else `NoMemory` where memory was refused.
+    pub fn new_long(
+        alloc: Global,
+        blanks: Blanks,
+        number: u8,
+        config: BusConfig,
+        size: u32,
+        source: F,
+        gate: G,
+    ) -> Result<Station<N, F, G, LongRingBus>, BusFault>
+        requires roll { blanks.roll ≡ N.roll number }
+        requires meter { blanks.meter ≡ N.meter number }
+        ensures made { IfOk result (λ s. s ≡ station_seen number config) }
+        ensures bad { (result ≡ Err BusFault.BadConfig)
+            ↔ (¬ (IsLongConfig config × (blanks.meter.words ≡ config.ifaces))) }
+    {
+        if !config.is_long_proper() || blanks.meter.ifaces() != usize::from(config.ifaces) {
+            return Err(BusFault::BadConfig);
+        }
+        let bus = LongRingBus::new(alloc, config, size)?;
+        let plan = Plan::new(alloc);
+        Station::over(alloc, blanks, number, bus, config, source, plan, gate)
+    }
+
+    /// Takes the entries that were not taken yet, in order, into a block, whose own are let go. Calls that wait for a
+    /// place go on.
+    ///
+    /// The lock is held while two pointers are swapped, and no memory is taken: from then on the station's entries go
+    /// where the block had memory for its own. Where that is none, each call is refused with `NoMemory`.
+    pub fn take_entries<R: Wait>(&self, rt: &R, block: &mut Block)
+        ensures { InSome F self.now (λ held.
+            HasTail held.journal.history block.new.entries.entries block.new.start) }
+    {
+        block.entries.clear();
+        self.hold(rt).take_entries(block);
+        self.room.notify_all();
+        self.work.notify_all();
+    }
+}
+
+impl<N: RollName + MeterName, F: FaultSource + Drop, G: Gate + Drop, B: Journaled> Station<
+    N,
+    F,
+    G,
+    B,
+> {
+    /// Waits until there are this many entries that were not taken yet, or too few places for a call, or so long.
+    /// `Stopped` after `end_entries`, else `Ready`. A bus with its whole record always has places.
+    pub fn wait_entries<R: Wait + Clock>(&self, rt: &R, many: u64, duration: Duration) -> Wake {
+        let state = self.state.lock(rt);
+        let (state, _) = self
+            .written
+            .wait_timeout_while(rt, state, duration, |state| state.waits_for(many));
+        if state.are_entries_over() {
+            Wake::Stopped
+        } else {
+            Wake::Ready
+        }
+    }
+
+    /// Ends the waits for entries, now and from now on, once no calls are made any more. A call that is made all the same
+    /// waits for no place: where there is none it is refused with `NoMemory`.
+    pub fn end_entries<R: Wait>(&self, rt: &R) {
+        self.state.lock(rt).end_entries();
+        self.written.notify_all();
+        self.room.notify_all();
+        self.work.notify_all();
+    }
+}

@@ -1,0 +1,120 @@
+ghost use Rattle.std.specs.Prelude.{◌≡◌, [], false, is_none};
+ghost use Rattle.can_bus.specs.Long.{HasTail};
+ghost use Rattle.can_station.specs.Waits.{work_wake};
+
+use crate::long::Block;
+use crate::station_state::StationState;
+use crate::waits::Wake;
+use can_bus::{Journaled, LongRingBus};
+use can_fault::FaultSource;
+use can_meter::MeterName;
+use can_roll::RollName;
+
+/// How many places a call waits for: a hold of a server makes fewer entries.
+const HOLD_PLACES: usize = 512;
+
+/// What a station knows of those who take its entries.
+#[derive(Drop)]
+pub(crate) struct Taking {
+    /// How many entries were taken.
+    taken: u64,
+    /// How many entries the thread wants that waits for the fewest, if one waits.
+    wanted: Option<u64>,
+    /// Whether nobody takes entries any more.
+    is_over: bool,
+}
+
+impl Taking {
+    /// Nothing was taken, and nobody waits.
+    pub(crate) fn none() -> Taking {
+        Taking {
+            taken: 0,
+            wanted: None,
+            is_over: false,
+        }
+    }
+
+    /// Notes that a thread is about to wait for this many entries.
+    fn want(&mut self, many: u64) {
+        self.wanted = Some(match self.wanted {
+            None => many,
+            Some(fewer) => fewer.min(many),
+        });
+    }
+}
+
+// Places for entries, and those who take entries. None of this is seen by contracts.
+impl<N: RollName + MeterName, F: FaultSource + Drop, B: Journaled> StationState<N, F, B> {
+    /// How many entries were not taken yet.
+    fn held_back(&self) -> u64 {
+        self.bus.len().saturating_sub(self.taking.taken)
+    }
+
+    /// Whether calls wait for a place: there are fewer than 512, and fewer than entries that can be taken.
+    pub(crate) fn is_short(&self) -> bool {
+        let places = self.bus.places();
+        places < HOLD_PLACES && (places as u64) < self.held_back() && !self.taking.is_over
+    }
+
+    /// Whether a driver goes on waiting: there is no work, or there are too few places for it.
+    pub(crate) fn is_idle_or_short(&self) -> bool
+        ensures { result ≡ false → is_none (work_wake self.now) ≡ false }
+    {
+        match self.work_wake() {
+            None => true,
+            Some(Wake::Ready) => self.is_short(),
+            Some(_) => false,
+        }
+    }
+
+    /// Whether a thread goes on waiting for this many entries; then it is noted as one who does.
+    pub(crate) fn waits_for(&mut self, many: u64) -> bool
+        ensures { self.new ≡ self.old }
+    {
+        let waits = self.held_back() < many && !self.is_short() && !self.taking.is_over;
+        if waits {
+            self.taking.want(many);
+        }
+        waits
+    }
+
+    /// Whether to wake those who wait for entries. Nobody counts as waiting any more then.
+    pub(crate) fn take_awaited(&mut self) -> bool
+        ensures { self.new ≡ self.old }
+    {
+        let Some(many) = self.taking.wanted else {
+            return false;
+        };
+        let is_over = self.held_back() >= many || self.is_short();
+        if is_over {
+            self.taking.wanted = None;
+        }
+        is_over
+    }
+
+    /// Whether nobody takes entries any more.
+    pub(crate) fn are_entries_over(&self) -> bool {
+        self.taking.is_over
+    }
+
+    /// Nobody takes entries any more.
+    pub(crate) fn end_entries(&mut self)
+        ensures { self.new ≡ self.old }
+    {
+        self.taking.is_over = true;
+    }
+}
+
+impl<N: RollName + MeterName, F: FaultSource + Drop> StationState<N, F, LongRingBus> {
+    /// Hands out the entries that were not handed out yet, in order, for a block without entries.
+    pub(crate) fn take_entries(&mut self, block: &mut Block)
+        requires { block.old.entries.entries ≡ [] }
+        ensures taken { HasTail self.old.journal.history block.new.entries.entries block.new.start }
+        ensures same { self.new ≡ self.old }
+    {
+        self.bus.take_entries(&mut block.entries);
+        let count = self.bus.len();
+        block.start = count - block.entries.len() as u64;
+        self.taking.taken = count;
+    }
+}

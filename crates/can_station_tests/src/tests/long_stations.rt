@@ -1,0 +1,414 @@
+// A station over the bus of a long run: another thread takes blocks of its entries, and calls wait for places.
+
+ghost use Rattle.std.specs.Prelude.{◌≡◌};
+
+use super::twins::{PLAIN, RESTARTING, Run, are_answered_alike, busy, faults, run_beside};
+use super::*;
+use can_bus::{BusFault, LongRingBus, PackedRecord, Record, Refusal};
+use can_fault::Perfect;
+use can_station::{Block, Open, Wake};
+use std::marker::Brand;
+use std::test::Fail;
+use std::thread::{Threads, join};
+
+type LongStation<N, F> = Station<N, F, Open, LongRingBus>;
+
+type Party<'s, N, R> = Caller<'s, N, Perfect, Open, R, LongRingBus>;
+
+/// The refusal of a call that finds no place.
+const NO_PLACE: StationRefusal = StationRefusal::Bus(Refusal::NoMemory);
+
+/// How many entries a short tail holds.
+const SHORT: u32 = 4;
+
+/// So long nothing may happen that has to wait.
+fn pause<C: Clock>(clock: &C) {
+    thread::sleep(clock, Duration::from_millis(10));
+}
+
+fn made_long<N: RollName + MeterName, F: FaultSource + Drop, R: Abort>(
+    rt: &R,
+    alloc: Global,
+    blanks: Blanks,
+    config: BusConfig,
+    size: u32,
+    source: F,
+) -> LongStation<N, F>
+    requires { (blanks.roll ≡ N.roll 0) × (blanks.meter ≡ N.meter 0) }
+{
+    let station = Station::new_long(alloc, blanks, 0, config, size, source, Open);
+    let Ok(station) = station else {
+        panic!(rt; "no station");
+    };
+    station
+}
+
+fn new_block<R: Abort>(rt: &R, alloc: Global, size: u32) -> Block {
+    let Ok(block) = Block::new(alloc, size) else {
+        panic!(rt; "no block");
+    };
+    block
+}
+
+// ---- A thread that takes blocks beside 200 calls.
+
+/// How many entries the tail holds beside the 200 calls.
+const SIZE: u32 = 16;
+
+/// Numbers by chance.
+#[derive(Drop)]
+struct Chance(u64);
+
+impl Chance {
+    /// The next number, below this one.
+    fn next(&mut self, end: u64) -> u64 {
+        let next = self.0.wrapping_mul(6_364_136_223_846_793_005);
+        self.0 = next.wrapping_add(1_442_695_040_888_963_407);
+        (self.0 >> 33).checked_rem(end).unwrap_or(0)
+    }
+}
+
+/// Takes blocks of about as many entries as come by chance, until there will be no more.
+fn takes<N: RollName + MeterName, R: Wait + Abort + Clock>(
+    rt: &R,
+    alloc: Global,
+    station: &LongStation<N, Script>,
+    seed: u64,
+) -> Vec<Block> {
+    let mut chance = Chance(seed);
+    let mut blocks = Vec::new(alloc);
+    let mut block = new_block(rt, alloc, SIZE);
+    for _ in rt.forever() {
+        let duration = Duration::from_micros(chance.next(300));
+        if station.wait_entries(rt, chance.next(20), duration) == Wake::Stopped {
+            break;
+        }
+        station.take_entries(rt, &mut block);
+        if block.entries.len() > 0 {
+            assert!(rt; blocks.push(block).is_ok());
+            block = new_block(rt, alloc, SIZE);
+        }
+    }
+    blocks
+}
+
+/// These are the record's entries from a place on. Returns the place after them.
+fn follow<R: Abort>(rt: &R, entries: &PackedRecord, from: u64, record: &Record) -> u64 {
+    let mut place = from;
+    for at in 0..entries.len() {
+        assert!(rt; is_entry(entries, at, record, place), "at entry {place}");
+        place = place.saturating_add(1);
+    }
+    place
+}
+
+fn is_entry(entries: &PackedRecord, at: usize, record: &Record, place: u64) -> bool {
+    match (entries.look(at), record.entry(place as usize)) {
+        (Some(looked), Some(entry)) => looked.entry() == entry.entry(),
+        _ => false,
+    }
+}
+
+/// The calls of `run_beside` on a long run's station, and the end of its entries.
+fn runs_long<N: RollName + MeterName, R: Wait + Abort>(
+    rt: &R,
+    alloc: Global,
+    station: &LongStation<N, Script>,
+    run: Run,
+) -> (Pass<N>, RingBus) {
+    let ran = run_beside(rt, alloc, station, run);
+    station.end_entries(rt);
+    ran
+}
+
+/// 200 calls on a long run's station and on a plain bus, while another thread takes blocks: the blocks and what is left are
+/// the bus's entries, each once and in order.
+fn run_both_long<N: RollName + MeterName + Send + Sync, R: Threads + Wait + Abort + Clock + Sync>(
+    rt: &R,
+    alloc: Global,
+    blanks: Blanks,
+    run: Run,
+    seed: u64,
+)
+    requires { (blanks.roll ≡ N.roll 0) × (blanks.meter ≡ N.meter 0) }
+{
+    let followed = faults(rt, alloc);
+    let station = made_long::<N, _, _>(rt, alloc, blanks, busy(run), SIZE, followed);
+    let ((pass, bus), blocks) = join(
+        rt,
+        || runs_long(rt, alloc, &station, run),
+        || takes(rt, alloc, &station, seed),
+    );
+    are_answered_alike(rt, &pass, &bus, run);
+    let settled = settled(rt, station, one(rt, alloc, pass), Vec::new(alloc));
+    let mut place = 0;
+    for block in &blocks {
+        assert!(rt; block.start == place);
+        place = follow(rt, &block.entries, place, bus.record());
+    }
+    assert!(rt; settled.history.handed() == place);
+    assert!(rt; follow(rt, settled.history.entries(), place, bus.record()) == 200);
+}
+
+#[test]
+fn a_long_station_tells_what_a_bus_tells(rt: HostRuntime) -> Result<(), Fail> {
+    let blanks = Blanks::new(rt.alloc(), 3)?;
+    run_both_long::<Brand, _>(&rt, rt.alloc(), blanks, PLAIN, 1);
+    Ok(())
+}
+
+#[test]
+fn a_long_station_restarts_as_a_bus_does(rt: HostRuntime) -> Result<(), Fail> {
+    let blanks = Blanks::new(rt.alloc(), 3)?;
+    run_both_long::<Brand, _>(&rt, rt.alloc(), blanks, RESTARTING, 2);
+    Ok(())
+}
+
+// ---- Places in a short tail.
+
+/// A station whose tail is short.
+fn made_short<N: RollName + MeterName, R: Abort>(
+    rt: &R,
+    alloc: Global,
+    blanks: Blanks,
+) -> LongStation<N, Perfect>
+    requires { (blanks.roll ≡ N.roll 0) × (blanks.meter ≡ N.meter 0) }
+{
+    made_long::<N, _, _>(rt, alloc, blanks, config(2), SHORT, Perfect)
+}
+
+/// The next block, which has this many entries and begins at this one.
+fn takes_block<N: RollName + MeterName, R: Wait + Abort>(
+    caller: &Party<'_, N, R>,
+    start: u64,
+    count: usize,
+) {
+    let rt = caller.rt;
+    let mut block = new_block(rt, caller.alloc, SHORT);
+    caller.station.take_entries(rt, &mut block);
+    assert!(rt; block.start == start && block.entries.len() == count);
+}
+
+/// Sends so often in one hold of the lock, until one is refused. Returns why.
+fn send_held<N: RollName + MeterName, R: Wait + Abort>(
+    caller: &mut Party<'_, N, R>,
+    socket: SocketId,
+    many: u32,
+) -> Option<StationRefusal> {
+    let mut hold = caller.station.lock(caller.rt);
+    for _ in 0..many {
+        let send = Event::Send(socket, frame(caller.rt, 0x123));
+        if let Err(why) = hold.call(caller.alloc, &mut caller.pass, send) {
+            return Some(why);
+        }
+    }
+    None
+}
+
+/// After an open and a send a hold has places for two sends more. The third finds none, and changes nothing: the next send
+/// gets its number.
+fn finds_no_place<N: RollName + MeterName, R: Wait + Abort>(rt: &R, alloc: Global, blanks: Blanks)
+    requires { (blanks.roll ≡ N.roll 0) × (blanks.meter ≡ N.meter 0) }
+{
+    let station = made_short::<N, _>(rt, alloc, blanks);
+    let mut caller = entered(rt, alloc, &station);
+    let socket = caller.open(0, 4);
+    caller.sends(socket, 0x123, 0);
+    assert!(rt; send_held(&mut caller, socket, 3) == Some(NO_PLACE));
+    assert!(rt; caller.calls() == 4);
+    takes_block(&caller, 0, 4);
+    assert!(rt; caller.receive_held(socket) == Ok(None));
+    caller.tries(1);
+    caller.sends(socket, 0x123, 3);
+    takes_block(&caller, 4, 3);
+    takes_block(&caller, 7, 0);
+}
+
+/// Sends eight frames, and counts them.
+fn sends_eight<N: RollName + MeterName, R: Wait + Abort>(
+    mut caller: Party<'_, N, R>,
+    socket: SocketId,
+    sent: &AtomicU64,
+) -> Pass<N> {
+    for number in 0..8 {
+        caller.sends(socket, 0x123, number);
+        sent.store(number + 1, Ordering::SeqCst);
+    }
+    caller.leave()
+}
+
+/// So many frames are sent, and no more until a block is taken. A wait for more entries than the tail holds ends then.
+fn lets_some_by<N: RollName + MeterName, R: Wait + Abort + Clock>(
+    taker: &Party<'_, N, R>,
+    sent: &AtomicU64,
+    count: u64,
+) {
+    let (rt, station) = (taker.rt, taker.station);
+    assert!(rt; station.wait_entries(rt, 100, Duration::from_secs(100)) == Wake::Ready);
+    assert!(rt; reaches(rt, sent, count));
+    pause(rt);
+    assert!(rt; sent.load(Ordering::SeqCst) == count);
+}
+
+/// A call waits while the tail has three entries, and goes on once they are taken.
+fn waits_for_places<
+    N: RollName + MeterName + Send + Sync,
+    R: Threads + Wait + Abort + Clock + Sync,
+>(rt: &R, alloc: Global, blanks: Blanks)
+    requires { (blanks.roll ≡ N.roll 0) × (blanks.meter ≡ N.meter 0) }
+{
+    let station = made_short::<N, _>(rt, alloc, blanks);
+    let (mut caller, taker) = (entered(rt, alloc, &station), entered(rt, alloc, &station));
+    let socket = caller.open(0, 4);
+    let sent = AtomicU64::new(0);
+    let (pass, _) = join(
+        rt,
+        || sends_eight(caller, socket, &sent),
+        || {
+            lets_some_by(&taker, &sent, 2);
+            takes_block(&taker, 0, 3);
+            lets_some_by(&taker, &sent, 5);
+            takes_block(&taker, 3, 3);
+            lets_some_by(&taker, &sent, 8);
+        },
+    );
+    let passes = two(rt, alloc, pass, taker.leave());
+    let settled = settled(rt, station, passes, Vec::new(alloc));
+    assert!(rt; settled.history.handed() == 6 && settled.history.entries().len() == 3);
+}
+
+/// A driver takes the lock for its step, and sets a flag.
+fn drives_once<N: RollName + MeterName, R: Wait + Abort>(
+    caller: &mut Party<'_, N, R>,
+    driven: &AtomicU64,
+) {
+    let rt = caller.rt;
+    let Some(mut hold) = caller.station.hold_work(rt) else {
+        panic!(rt; "no work");
+    };
+    driven.store(1, Ordering::SeqCst);
+    let tried = hold.step(caller.alloc, &mut caller.pass, moment(rt, 1));
+    assert!(rt; matches!(tried, Ok(Attempt::Tried(_))));
+}
+
+/// A driver waits for places as well, but not where there is no work and the station was stopped.
+fn driver_waits<N: RollName + MeterName + Send + Sync, R: Threads + Wait + Abort + Clock + Sync>(
+    rt: &R,
+    alloc: Global,
+    blanks: Blanks,
+)
+    requires { (blanks.roll ≡ N.roll 0) × (blanks.meter ≡ N.meter 0) }
+{
+    let station = made_short::<N, _>(rt, alloc, blanks);
+    let (mut caller, mut driver) = (entered(rt, alloc, &station), entered(rt, alloc, &station));
+    let socket = caller.open(0, 4);
+    assert!(rt; caller.open(1, 4) == SocketId(1));
+    caller.sends(socket, 0x123, 0);
+    let driven = AtomicU64::new(0);
+    join(
+        rt,
+        || drives_once(&mut driver, &driven),
+        || {
+            pause(rt);
+            assert!(rt; driven.load(Ordering::SeqCst) == 0);
+            takes_block(&caller, 0, 3);
+            assert!(rt; reaches(rt, &driven, 1));
+        },
+    );
+    assert!(rt; matches!(caller.receive(SocketId(1)), Ok(Some(_))));
+    assert!(rt; caller.set_option(socket, Opt::Join(true)).is_ok());
+    station.stop(rt);
+    assert!(rt; station.hold_work(rt).is_none());
+    takes_block(&caller, 3, 3);
+}
+
+/// Once nobody takes entries any more no call waits for a place, and nobody for entries.
+fn goes_on_to_the_end<N: RollName + MeterName, R: Wait + Abort + Clock>(
+    rt: &R,
+    alloc: Global,
+    blanks: Blanks,
+)
+    requires { (blanks.roll ≡ N.roll 0) × (blanks.meter ≡ N.meter 0) }
+{
+    let station = made_short::<N, _>(rt, alloc, blanks);
+    let mut caller = entered(rt, alloc, &station);
+    assert!(rt; station.wait_entries(rt, 1, Duration::from_millis(1)) == Wake::Ready);
+    let socket = caller.open(0, 4);
+    assert!(rt; station.wait_entries(rt, 1, Duration::from_secs(100)) == Wake::Ready);
+    station.end_entries(rt);
+    assert!(rt; station.wait_entries(rt, 100, Duration::from_secs(100)) == Wake::Stopped);
+    for number in 0..3 {
+        caller.sends(socket, 0x123, number);
+    }
+    assert!(rt; caller.send(socket, 0x123) == Err(NO_PLACE));
+    assert!(rt; caller.close(socket) == Err(NO_PLACE));
+    assert!(rt; caller.calls() == 4);
+    takes_block(&caller, 0, 4);
+}
+
+/// Whether a station over the bus of a long run may have this configuration.
+fn accepts<N: RollName + MeterName>(alloc: Global, blanks: Blanks, config: BusConfig) -> bool
+    requires { (blanks.roll ≡ N.roll 0) × (blanks.meter ≡ N.meter 0) }
+{
+    let made = Station::<N, _, _, LongRingBus>::new_long(
+        alloc, blanks, 0, config, SHORT, Perfect, Open,
+    );
+    match made {
+        Ok(_) => true,
+        Err(why) => why != BusFault::BadConfig,
+    }
+}
+
+/// A bus of two interfaces that is made for so many entries.
+fn limited(limit: u32) -> BusConfig {
+    BusConfig { limit, ..config(2) }
+}
+
+#[test]
+fn a_hold_finds_no_place_in_a_full_tail(rt: HostRuntime) -> Result<(), Fail> {
+    let blanks = Blanks::new(rt.alloc(), 2)?;
+    finds_no_place::<Brand, _>(&rt, rt.alloc(), blanks);
+    Ok(())
+}
+
+#[test]
+fn a_call_waits_until_a_block_is_taken(rt: HostRuntime) -> Result<(), Fail> {
+    let blanks = Blanks::new(rt.alloc(), 2)?;
+    waits_for_places::<Brand, _>(&rt, rt.alloc(), blanks);
+    Ok(())
+}
+
+#[test]
+fn a_driver_waits_until_a_block_is_taken(rt: HostRuntime) -> Result<(), Fail> {
+    let blanks = Blanks::new(rt.alloc(), 2)?;
+    driver_waits::<Brand, _>(&rt, rt.alloc(), blanks);
+    Ok(())
+}
+
+#[test]
+fn no_call_waits_once_nobody_takes_entries(rt: HostRuntime) -> Result<(), Fail> {
+    let blanks = Blanks::new(rt.alloc(), 2)?;
+    goes_on_to_the_end::<Brand, _>(&rt, rt.alloc(), blanks);
+    Ok(())
+}
+
+#[test]
+fn the_greatest_limit_is_that_of_a_long_run(rt: HostRuntime) -> Result<(), Fail> {
+    let blanks = Blanks::new(rt.alloc(), 2)?;
+    assert!(&rt; accepts::<Brand>(rt.alloc(), blanks, limited(4_294_967_294)));
+    Ok(())
+}
+
+#[test]
+fn no_limit_is_greater_than_that(rt: HostRuntime) -> Result<(), Fail> {
+    let blanks = Blanks::new(rt.alloc(), 2)?;
+    assert!(&rt; !accepts::<Brand>(rt.alloc(), blanks, limited(4_294_967_295)));
+    Ok(())
+}
+
+#[test]
+fn blanks_are_for_as_many_interfaces(rt: HostRuntime) -> Result<(), Fail> {
+    let blanks = Blanks::new(rt.alloc(), 3)?;
+    assert!(&rt; !accepts::<Brand>(rt.alloc(), blanks, limited(1000)));
+    Ok(())
+}
