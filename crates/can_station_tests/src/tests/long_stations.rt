@@ -258,7 +258,8 @@ fn waits_for_places<
     requires { (blanks.roll ≡ N.roll 0) × (blanks.meter ≡ N.meter 0) }
 {
     let station = made_short::<N, _>(rt, alloc, blanks);
-    let (mut caller, taker) = (entered(rt, alloc, &station), entered(rt, alloc, &station));
+    let mut caller = entered(rt, alloc, &station);
+    let taker = entered(rt, alloc, &station);
     let socket = caller.open(0, 4);
     let sent = AtomicU64::new(0);
     let (pass, _) = join(
@@ -300,7 +301,8 @@ fn driver_waits<N: RollName + MeterName + Send + Sync, R: Threads + Wait + Abort
     requires { (blanks.roll ≡ N.roll 0) × (blanks.meter ≡ N.meter 0) }
 {
     let station = made_short::<N, _>(rt, alloc, blanks);
-    let (mut caller, mut driver) = (entered(rt, alloc, &station), entered(rt, alloc, &station));
+    let mut caller = entered(rt, alloc, &station);
+    let mut driver = entered(rt, alloc, &station);
     let socket = caller.open(0, 4);
     assert!(rt; caller.open(1, 4) == SocketId(1));
     caller.sends(socket, 0x123, 0);
