@@ -4,6 +4,7 @@ ghost use Rattle.std.specs.Prelude.{◌≡◌};
 
 use super::twins::{PLAIN, RESTARTING, Run, are_answered_alike, busy, faults, run_beside};
 use super::*;
+use can_attempt::Class;
 use can_bus::{BusFault, LongRingBus, PackedRecord, Record, Refusal};
 use can_fault::Perfect;
 use can_station::{Block, Open, Wake};
@@ -222,6 +223,49 @@ fn finds_no_place<N: RollName + MeterName, R: Wait + Abort>(rt: &R, alloc: Globa
     caller.sends(socket, 0x123, 3);
     takes_block(&caller, 4, 3);
     takes_block(&caller, 7, 0);
+}
+
+/// Two sends in one hold of the lock, and a step that finds no place. Returns how many rules are left then.
+fn step_held<N: RollName + MeterName, R: Wait + Abort>(
+    caller: &mut Party<'_, N, R>,
+    socket: SocketId,
+) -> usize {
+    let rt = caller.rt;
+    let mut hold = caller.station.lock(rt);
+    for _ in 0..2 {
+        let send = Event::Send(socket, frame(rt, 0x123));
+        assert!(rt; hold.call(caller.alloc, &mut caller.pass, send).is_ok());
+    }
+    let stepped = hold.step(caller.alloc, &mut caller.pass, moment(rt, 1));
+    assert!(rt; stepped == Err(NO_PLACE));
+    hold.rules()
+}
+
+/// A step that finds no place asks nobody: the rule is left, and the next step has its verdict.
+fn keeps_its_rules<N: RollName + MeterName, R: Wait + Abort>(rt: &R, alloc: Global, blanks: Blanks)
+    requires { (blanks.roll ≡ N.roll 0) × (blanks.meter ≡ N.meter 0) }
+{
+    let station = made_short::<N, _>(rt, alloc, blanks);
+    let mut caller = entered(rt, alloc, &station);
+    let Ok(names) = Names::read(alloc, "can0,can1") else {
+        panic!(rt; "no names");
+    };
+    assert!(rt; station.inject(rt, b"next 1 lastbit", &names).is_ok());
+    let socket = caller.open(0, 4);
+    caller.sends(socket, 0x123, 0);
+    assert!(rt; step_held(&mut caller, socket) == 1);
+    takes_block(&caller, 0, 4);
+    let Ok(Attempt::Tried(tried)) = caller.step(1) else {
+        panic!(rt; "no frame");
+    };
+    assert!(rt; tried.class == Class::LastBit && station.rules(rt) == 0);
+}
+
+#[test]
+fn a_step_without_a_place_counts_for_no_rule(rt: HostRuntime) -> Result<(), Fail> {
+    let blanks = Blanks::new(rt.alloc(), 2)?;
+    keeps_its_rules::<Brand, _>(&rt, rt.alloc(), blanks);
+    Ok(())
 }
 
 /// Sends eight frames, and counts them.

@@ -79,11 +79,11 @@ fn plays<N: RollName + MeterName, F: FaultSource + Drop, R: Wait + Abort>(
     let Ok(plan) = Plan::read(alloc, text, &names) else {
         panic!(rt; "no plan");
     };
-    let made = Station::with_plan(alloc, blanks, 0, config(2), source, plan, Open);
+    let made = Station::<N, F, Open>::with_plan(alloc, blanks, 0, config(2), source, plan, Open);
     let Ok(station) = made else {
         panic!(rt; "no station");
     };
-    let mut caller = entered::<N, _, _, _>(rt, alloc, &station);
+    let mut caller = entered(rt, alloc, &station);
     assert!(rt; caller.open(0, 4) == SocketId(0) && caller.open(1, 4) == SocketId(1));
     let mut micros = 0;
     for act in acts {
