@@ -3,7 +3,7 @@
 import pytest
 
 from canbusd.bench import Bench
-from canbusd.faults import Faults, script_text, verdicts_of
+from canbusd.faults import Faults, plan_of, rules_of, script_text
 
 SCRIPT = """\
 0 global bit
@@ -28,9 +28,97 @@ def test_the_script_of_faults():
 
 def test_a_fault_by_its_attempt():
     assert [script().of(number) for number in (1, 2, 7)] == ["global bit", "good", "local stuff can0,can1"]
-    assert verdicts_of("# a comment\n\n" + SCRIPT) == {
-        int(line.split()[0]): line.split(" ", 1)[1] for line in SCRIPT.splitlines()
-    }
+    plan = plan_of("# a comment\n\n" + SCRIPT)
+    given = [plan.verdict("can0", 0x123)[0] for _ in range(42)]
+    assert given == [script().of(number) for number in range(42)]
+
+
+RULES = """\
+next 32 from ecu global bit
+next 1 id 123 skip 2 lastbit
+always id 7DF local crc tester
+always from ecu,gateway id 00000123 global form
+next 99999999 id 12345678 skip 99999999 good
+next 2 id 100:80000700 local stuff a,b
+next 3 id 98DA0000:9FFF0000 lastbit
+5 good
+"""
+
+
+def rules():
+    faults = Faults().next(32, sender="ecu").destroyed().good(5)
+    faults = faults.next(1, id=0x123, skip=2).last_bit().always(id=0x7DF, mask=0x7FF).local("crc", ["tester"])
+    faults = faults.always(sender=["ecu", "gateway"], id=0x123, extended=True).destroyed("form")
+    faults = faults.next(99999999, id=0x12345678, skip=99999999).good()
+    return faults.next(2, id=0x100, mask=0x700).local("stuff", "a,b").next(3, id=0x18DA0000, mask=0x1FFF0000).last_bit()
+
+
+def test_the_script_of_rules():
+    assert str(rules()) == RULES
+    assert rules().rules == RULES.splitlines()[:-1]
+    assert rules().of(5) == rules().of(0) == "good"
+    assert rules() == rules() != Faults()
+    assert Faults().next(1).last_bit().next(2).last_bit() != Faults().next(2).last_bit().next(1).last_bit()
+
+
+def test_rules_show_themselves_as_code():
+    text = (
+        "Faults().next(32, sender='ecu').destroyed().next(1, id=0x123, skip=2).last_bit()"
+        ".always(id=0x7df).local('crc', ['tester']).always(sender=['ecu', 'gateway'], id=0x123, extended=True)"
+        ".destroyed('form').next(99999999, id=0x12345678, skip=99999999).good()"
+        ".next(2, id=0x100, mask=0x700).local('stuff', ['a', 'b']).next(3, id=0x18da0000, mask=0x1fff0000).last_bit()"
+        ".good(5)"
+    )
+    assert repr(rules()) == text and eval(text) == rules()
+    assert repr(Faults().always().good()) == "Faults().always().good()"
+    assert repr(Faults().next(32, sender="ecu")) == "<the rule `next 32 from ecu` without its fault>"
+
+
+@pytest.mark.parametrize(
+    "wrong, said",
+    [
+        (lambda: Faults().next(0), "^count is a number from 1 to 99999999, not 0$"),
+        (lambda: Faults().next(100000000), "^count is"),
+        (lambda: Faults().next(True), "^count is"),
+        (lambda: Faults().next(range(3)), "^count is"),
+        (lambda: Faults().next(1, skip=-1), "^skip is a number from 0 to 99999999, not -1$"),
+        (lambda: Faults().always(sender=""), "^senders are names of interfaces, not ''$"),
+        (lambda: Faults().always(sender=[]), "^senders are"),
+        (lambda: Faults().always(sender=3), "^senders are"),
+        (lambda: Faults().always(sender="e c u"), "^senders are"),
+        (lambda: Faults().always(id=-1), "^id is a number from 0 to 0x1FFFFFFF, not -1$"),
+        (lambda: Faults().always(id=0x20000000), "^id is"),
+        (lambda: Faults().always(id="123"), "^id is"),
+        (lambda: Faults().always(id=0x800, extended=False), "^id is a number from 0 to 0x7FF, not 2048$"),
+        (lambda: Faults().always(id=1, mask=0x20000000), "^mask is a number from 0 to 0x1FFFFFFF"),
+        (lambda: Faults().always(mask=0x7FF), "^mask and extended belong to an id"),
+        (lambda: Faults().always(extended=True), "^mask and extended belong to an id"),
+        (lambda: Faults().next(1).destroyed("crc"), "^kind"),
+        (lambda: Faults().next(1).local("bit", "can0"), "^kind"),
+        (lambda: Faults().next(1).local("crc", []), "^names"),
+        (lambda: script_text(Faults().next(1)), "^<the rule `next 1` without its fault>: .destroyed"),
+    ],
+)
+def test_what_is_wrong_with_a_rule_is_named(wrong, said):
+    with pytest.raises(ValueError, match=said):
+        wrong()
+
+
+def test_a_bus_has_at_most_64_rules():
+    faults = Faults()
+    for _ in range(64):
+        faults.always().good()
+    with pytest.raises(ValueError, match="^a bus has at most 64 rules$"):
+        faults.next(1).last_bit()
+    assert len(faults.rules) == 64
+
+
+def test_only_rules_are_injected():
+    assert [str(rule) for rule in rules_of("# a comment\n\n" + RULES.replace("5 good\n", ""))] == RULES.splitlines()[:-1]
+    assert rules_of(Faults()) == []
+    for other in (rules(), "5 good", RULES):
+        with pytest.raises(ValueError, match="^'5 good' is of an attempt by its number, so of the start"):
+            rules_of(other)
 
 
 def test_a_text_of_one_line_is_a_text():
@@ -74,7 +162,9 @@ def test_a_script_is_faults_a_text_or_a_path(tmp_path):
     assert script_text(None) == script_text("") == ""
     assert script_text("0 lastbit") == "0 lastbit"
     assert script_text("7 local crc can1/can2") == "7 local crc can1/can2"
-    for path in ("no such file", "0lastbit", "lastbit"):
+    assert script_text("next 1 lastbit") == "next 1 lastbit"
+    assert script_text("always good") == "always good"
+    for path in ("no such file", "0lastbit", "lastbit", "next", "always"):
         with pytest.raises(
             FileNotFoundError, match=f"a text begins with the number of an attempt, as '0 lastbit' .*{path}"
         ):

@@ -24,6 +24,8 @@ from canbusd._protocol import LONGEST_MESSAGE
 from canbusd.frames import MESSAGE
 
 DEFAULT_ADDRESS = "127.0.0.1:29536"
+# What an address is where nobody listens: of TCP, and a Unix path that is not there.
+NO_SERVER = (ConnectionRefusedError, FileNotFoundError)
 # HOST:PORT or [V6]:PORT.
 HOST_PORT = re.compile(r"(?:\[([^][]+)\]|([^][:]+)):([0-9]{1,5})")
 # The most bytes that are read at once.
@@ -65,6 +67,19 @@ def parse_address(text: str) -> tuple[Optional[str], Optional[tuple[str, int]]]:
     if not words or not 0 < int(words[3]) < 65536:
         raise ValueError(f"address is HOST:PORT, [V6]:PORT, or a Unix path that begins with / or ., not {text!r}")
     return None, (words[1] or words[2], int(words[3]))
+
+
+def server_address(given: Optional[str] = None) -> str:
+    """Returns the address of the server: this one, else that of $CANBUSD_ADDRESS, else the default; ValueError if it is none."""
+    address = str(given or os.environ.get("CANBUSD_ADDRESS") or DEFAULT_ADDRESS)
+    parse_address(address)
+    return address
+
+
+def reason_of(fault: Exception) -> str:
+    """Returns why there is no session, in words."""
+    hint = " (is `canbusd serve` running there?)" if isinstance(fault, NO_SERVER) else ""
+    return f"{getattr(fault, 'strerror', None) or fault}{hint}"
 
 
 def connect(address: str, timeout: float) -> socket.socket:

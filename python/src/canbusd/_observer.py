@@ -9,7 +9,6 @@ from typing import Optional
 
 from can.message import Message
 
-from canbusd._protocol import ErrorCounters
 from canbusd.bus import CanbusdBus
 from canbusd.commands import NOTHING
 from canbusd.frames import described_line, frame_like
@@ -34,12 +33,12 @@ class Observer:
         self._seen: deque[str] = deque(maxlen=MOST_SHOWN)
         self._asked: dict[str, CanbusdBus] = {}
 
-    def error_counters(self, name: str) -> ErrorCounters:
-        """Returns the state of an interface and its error counts."""
+    def bus(self, name: str) -> CanbusdBus:
+        """Returns a session on an interface, which receives nothing unless the interface is observed."""
         bus = self._observed.get(name) or self._asked.get(name)
         if bus is None:
             bus = self._asked[name] = self._opened(name, can_filters=NOTHING, error_frames=False)
-        return bus.error_counters()
+        return bus
 
     def find(self, matches: Callable[[Message], bool], channel: Optional[str], within: float) -> Optional[Message]:
         """Takes the first frame that matches, of those that came since the last that was taken and within seconds."""

@@ -65,6 +65,14 @@ def stats_of(answer: str) -> Optional[Stats]:
     return Stats(*map(int, words[1:]))
 
 
+def rules_left_of(answer: str) -> Optional[int]:
+    """Returns how many rules of faults are left, as the answer `faults 3` says; None for another message."""
+    words = answer.split()
+    if len(words) != 2 or words[0] != "faults":
+        return None
+    return int(words[1])
+
+
 def options(
     *,
     fd: bool = False,

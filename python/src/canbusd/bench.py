@@ -19,6 +19,7 @@ from collections.abc import Sequence
 from pathlib import Path
 from typing import TYPE_CHECKING, Optional, Union
 
+from canbusd._injection import InjectsFaults, Refused as Refused
 from canbusd._program import audited
 from canbusd._protocol import (
     LONGEST_MESSAGE,
@@ -32,10 +33,11 @@ from canbusd._protocol import (
 )
 from canbusd._process import RUNNING, ProgramRun, check_names, option_words
 from canbusd._summary import write_page
-from canbusd.faults import Script, script_text, verdicts_of
-from canbusd.frames import Frame, MessageLike, command_of, frame_of, frame_like
+from canbusd.faults import Script, plan_of, rules_of, script_text
+from canbusd.frames import Frame, MessageLike, command_of, frame_of, frame_like, identifier_word
 from canbusd.log import read_log
 from canbusd.record import Attempt, Record, read_record
+from canbusd.rules import MOST_RULES, check_rules, parse_rule
 
 if TYPE_CHECKING:
     from can.message import Message
@@ -58,10 +60,6 @@ class BenchError(RuntimeError):
     """The bench ended with a fault; the text is what canbusd said of it."""
 
 
-class Refused(RuntimeError):
-    """The bus or the session refused what it was asked; the text is canbusd's, such as `no buffers` or `bus off`."""
-
-
 def moment_text(at: Union[str, float]) -> str:
     """Returns a moment as the bench reads it: seconds with six digits after the point."""
     text = at if isinstance(at, str) else f"{at:.6f}"
@@ -75,7 +73,7 @@ def set_of(names: Optional[str]) -> tuple[str, ...]:
     return tuple(names.split(",")) if names and names != "-" else ()
 
 
-class Session:
+class Session(InjectsFaults):
     """A client of the bus with a raw socket on one interface, made by `Bench.open`."""
 
     def __init__(self, bench: "Bench", number: int, channel: str) -> None:
@@ -155,7 +153,10 @@ class Session:
         if len(text.encode()) > LONGEST_MESSAGE:
             # As the session says of one that is not too long for a line of the bench.
             raise Refused("message too long")
-        return self._bench._ask(f"feed {self._live()} <{text}>< echo >")
+        with self._bench._turn:
+            answers = self._bench._ask(f"feed {self._live()} <{text}>< echo >")
+            self._bench._follow(message)
+        return answers
 
     def close(self) -> tuple[int, int]:
         """Closes the socket; returns how many frames it had not read, and how many it dropped."""
@@ -165,6 +166,10 @@ class Session:
             raise Refused(line.partition("< error ")[2].rstrip(" >") or line)
         self._closed = True
         return int(counts[1]), int(counts[2])
+
+    def _answer(self, message: str) -> str:
+        answer = self.call(message)[0]
+        return "" if answer == "ok" else answer
 
     def _live(self) -> int:
         if self._closed:
@@ -205,8 +210,7 @@ class Bench(ProgramRun):
         check_names(self.names)
         script = script_text(faults)
         super().__init__(out)
-        self._verdicts = verdicts_of(script)
-        self._attempts = self._sessions = 0
+        self._sessions = 0
         self._sent: dict[str, list[Frame]] = {name: [] for name in self.names}
         self._moment = "0.000000"
         # One call at a time. Where one was interrupted, its answer is still to come, and would be taken for that of the next.
@@ -222,6 +226,7 @@ class Bench(ProgramRun):
         self._start("bench", *words, bus)
         # What is wrong with the words shows before the first session is used.
         self._greet()
+        self._plan = plan_of(script)
 
     def open(
         self,
@@ -260,6 +265,23 @@ class Bench(ProgramRun):
                 raise
             self._greet()
             return session
+
+    def inject(self, faults: Script) -> None:
+        """Gives the bus these rules of faults, after those that it has, from the next attempt on.
+
+        All of them are in force then, or none: Refused where they would be more than 64 with those that are left, and
+        ValueError where one is wrong.
+        """
+        rules = rules_of(faults)
+        check_rules(rules, self.names)
+        with self._turn:
+            if len(self._plan.rules) + len(rules) > MOST_RULES:
+                raise Refused("too many rules")
+            for rule in rules:
+                # Such a line has no answer.
+                self._write(f"fault {rule}")
+                self._in_step = True
+                self._plan.add(rule)
 
     def attempt(self, at: Union[str, float, None] = None) -> Optional[Attempt]:
         """Puts the frame that wins arbitration on the bus, at this moment if one is given; None if no frame waits.
@@ -326,18 +348,27 @@ class Bench(ProgramRun):
         if words["winner"] is None:
             return Attempt(float(self._moment), "", 0, "", "idle", "good", (), (), restarted) if restarted else None
         number, winner = int(words["number"]), words["winner"]
-        self._attempts += 1
+        frame = self._sent[winner][number]
+        verdict, _ = self._plan.verdict(winner, identifier_word(frame))
         return Attempt(
             float(self._moment),
             winner,
             number,
-            str(self._sent[winner][number]),
+            str(frame),
             words["outcome"],
-            self._verdicts.get(self._attempts - 1, "good"),
+            verdict,
             set_of(words["accepted"]),
             set_of(words["off"]),
             restarted,
         )
+
+    def _follow(self, message: str) -> None:
+        """Keeps up with the rules that a message of a session, which was not refused, has given or ended."""
+        command, _, rule = " ".join(message.split()).partition(" ")
+        if command == "fault":
+            self._plan.add(parse_rule(rule))
+        elif command == "nofaults":
+            self._plan.end_rules()
 
     def _greet(self) -> None:
         """Starts the session of the next `open`, while there is room for one."""

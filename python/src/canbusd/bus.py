@@ -7,10 +7,9 @@
 import errno
 import functools
 import logging
-import os
 import threading
 import time
-from collections.abc import Iterable, Mapping, Sequence
+from collections.abc import Iterable, Sequence
 from math import isfinite
 from typing import Any, Optional, TypeVar, Union, cast
 
@@ -23,14 +22,15 @@ from can.exceptions import CanInitializationError, CanOperationError, CanTimeout
 from can.message import Message
 
 from canbusd._connection import (
-    DEFAULT_ADDRESS,
     LONGEST_POLL,
     POLL,
     Connection,
     NoAnswer,
     SessionRefused,
-    parse_address,
+    reason_of,
+    server_address,
 )
+from canbusd._injection import InjectsFaults
 from canbusd._protocol import (
     ErrorCounters,
     Filters,
@@ -42,7 +42,7 @@ from canbusd._protocol import (
     stats_of,
 )
 from canbusd._text import NAME
-from canbusd.frames import EXTENDED, REMOTE, command_of, passes_filters, received
+from canbusd.frames import command_of, identifier_word, passes_filters, received
 
 Self = TypeVar("Self", bound="CanbusdBus")
 
@@ -62,8 +62,6 @@ BUS_STATES = {
     "off": BusState.ERROR,
 }
 TRUTHS = {"1": True, "true": True, "yes": True, "on": True, "0": False, "false": False, "no": False, "off": False}
-# What an address is where nobody listens: of TCP, and a Unix path that is not there.
-NO_SERVER = (ConnectionRefusedError, FileNotFoundError)
 
 
 def truth(name: str, value: object) -> bool:
@@ -98,15 +96,6 @@ def seconds(name: str, value: object) -> float:
     return found
 
 
-def server_address(given: Optional[str], others: Mapping[str, Any]) -> str:
-    """Returns the address of the server; ValueError if it is none, or is given as other interfaces take it."""
-    if "host" in others or "port" in others:
-        raise ValueError("host and port are not taken; give address='HOST:PORT'")
-    address = str(given or os.environ.get("CANBUSD_ADDRESS") or DEFAULT_ADDRESS)
-    parse_address(address)
-    return address
-
-
 def refusal(text: str, after: str = "") -> CanOperationError:
     """The exception for what the server refused; its `error_code` is that of the system's own CAN sockets."""
     return CanOperationError(f"{text}{after}{CURES.get(text, '')}", ERROR_CODES.get(text))
@@ -117,7 +106,7 @@ def goes_on(fault: Exception) -> bool:
     return isinstance(fault, CanOperationError) and fault.error_code in ERROR_CODES.values()
 
 
-class CanbusdBus(BusABC):
+class CanbusdBus(InjectsFaults, BusABC):
     """A raw socket on an interface of a canbusd server.
 
     :param channel: the name of the interface, such as ``can0``
@@ -154,7 +143,9 @@ class CanbusdBus(BusABC):
         self.channel = str(channel)
         if not NAME.fullmatch(self.channel):
             raise ValueError(f"channel is the name of an interface, such as can0, not {channel!r}")
-        self.address = server_address(address, kwargs)
+        if "host" in kwargs or "port" in kwargs:
+            raise ValueError("host and port are not taken; give address='HOST:PORT'")
+        self.address = server_address(address)
         self._fd = truth("fd", fd)
         self._join = truth("join_filters", join_filters)
         self._timeout = seconds("timeout", timeout)
@@ -352,9 +343,7 @@ class CanbusdBus(BusABC):
             self._unfiltered -= 1
         if message.is_error_frame:
             return True
-        word = message.arbitration_id
-        word |= EXTENDED * message.is_extended_id | REMOTE * message.is_remote_frame
-        return passes_filters(word, self._pairs, self._join)
+        return passes_filters(identifier_word(message), self._pairs, self._join)
 
     def _command(self, msg: Message) -> str:
         """The command that sends this message; ValueError where none does."""
@@ -379,9 +368,7 @@ class CanbusdBus(BusABC):
         except (OSError, SessionRefused) as fault:
             if connection is not None:
                 connection.close()
-            reason = getattr(fault, "strerror", None) or fault
-            hint = " (is `canbusd serve` running there?)" if isinstance(fault, NO_SERVER) else ""
-            raise CanInitializationError(f"{self.channel_info}: {reason}{hint}") from None
+            raise CanInitializationError(f"{self.channel_info}: {reason_of(fault)}") from None
         return connection
 
     def _calls(self, commands: Sequence[str]) -> list[str]:
@@ -396,6 +383,12 @@ class CanbusdBus(BusABC):
 
     def _call(self, command: str) -> str:
         return self._calls([command])[0]
+
+    def _answer(self, message: str) -> str:
+        return self._call(message)
+
+    def _refusal(self, text: str) -> Exception:
+        return refusal(text)
 
     def _stats(self, answer: str) -> Stats:
         stats = stats_of(answer)

@@ -13,13 +13,18 @@ from collections.abc import Callable
 from typing import TYPE_CHECKING, Optional, TypeVar
 
 from canbusd._connection import LONGEST_POLL, POLL
-from canbusd._protocol import STATES, ErrorCounters
+from canbusd._protocol import STATES, ErrorCounters, Stats
+from canbusd.faults import Faults
 from canbusd.frames import described_line, frame_like
 
 if TYPE_CHECKING:
     from can.message import Message
 
     from canbusd._observer import Observer
+    from canbusd.bus import CanbusdBus
+
+#: The transmit error count from which an interface is bus off, and what a destroyed frame adds to it.
+OFF, DESTROYED = 256, 8
 
 T = TypeVar("T")
 
@@ -74,11 +79,24 @@ class Expectations:
 
         The first question about an interface that is not observed opens a session there, which the record shows.
         """
-        return self._observing().error_counters(name)
+        return self._observing().bus(name).error_counters()
 
     def state(self, name: str) -> str:
         """Returns the state of an interface while the server runs: `active`, `warning`, `passive` or `off`."""
         return self.error_counters(name).state
+
+    def bus_off(self, name: str, timeout: float = 5.0) -> ErrorCounters:
+        """Drives an interface bus off, whatever the others send; returns once it is.
+
+        The next attempts in which it sends are destroyed, 32 where it had no errors, so it has to send: a rule for them is
+        injected. AssertionError where it is not off after these seconds; its text says where it sent nothing.
+        """
+        __tracebackhide__ = True
+        drive = Drive(self._observing().bus(name), name)
+        counters = wait_for(drive.off, timeout)
+        if counters is None:
+            raise AssertionError(f"{drive.failure(timeout)}{self._observing().shown()}")
+        return counters
 
     def wait_for(self, predicate: Callable[[], T], timeout: float = 1.0) -> T:
         """Calls the predicate until it returns something true, and returns that; TimeoutError after these seconds."""
@@ -141,6 +159,44 @@ class Expectations:
                 f"{within:g} seconds{self._observing().shown()}"
             )
         return counters
+
+
+class Drive:
+    """Destroys the next frames of an interface until it is bus off, and no frame after that."""
+
+    def __init__(self, bus: "CanbusdBus", name: str) -> None:
+        self._bus, self._name = bus, name
+        self._counters, self._stats = bus.error_counters(), bus.stats()
+        # When the last rule was injected: how many others there were, and how many frames the interface had done.
+        self._injected: Optional[tuple[int, int]] = None
+
+    def off(self) -> Optional[ErrorCounters]:
+        """Returns the counts of the interface once it is off, or was, where it restarts by itself."""
+        left = self._bus.rules_left()
+        counters, stats = self._bus.error_counters(), self._bus.stats()
+        if counters.state == "off" or stats.lost > self._stats.lost:
+            return counters
+        if self._injected is None or (left <= self._injected[0] and stats.done > self._injected[1]):
+            # The first rule, or one for what frames have taken off the count that went through before it.
+            missing = -(-(OFF - counters.tec) // DESTROYED)
+            self._bus.inject(Faults().next(missing, sender=self._name).destroyed())
+            self._injected = left, stats.done
+        return None
+
+    def failure(self, timeout: float) -> str:
+        """Returns why the interface is not off after so many seconds."""
+        counters, stats = self._bus.error_counters(), self._bus.stats()
+        return (
+            f"{self._name} is {counters.state} (transmit count {counters.tec}, receive count {counters.rec}), and did not "
+            f"go bus off within {timeout:g} seconds: {self._reason(counters, stats)}"
+        )
+
+    def _reason(self, counters: ErrorCounters, stats: Stats) -> str:
+        if counters.tec > self._counters.tec:
+            return "fewer frames of it were tried than that takes"
+        if stats.done > self._stats.done:
+            return "its frames went through, by an earlier rule or a line of the script"
+        return "its frames wait, and none was tried" if stats.waiting else "it sent nothing in that time"
 
 
 def counters_in(counters: ErrorCounters, state: str) -> Optional[ErrorCounters]:

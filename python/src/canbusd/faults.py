@@ -1,55 +1,185 @@
-"""Fault scripts: which attempts of a bus fail, and how.
+"""Faults of a bus: which attempts fail, and how.
 
+    faults = Faults().next(32, sender="ecu").destroyed().always(id=0x7DF).local("crc", ["tester"])
     faults = Faults().destroyed(range(32)).last_bit(40).local("crc", ["can1"], 41)
 
-Attempts are counted from 0, and only those in which a frame was tried. An attempt that no line names is good.
+The first are rules, which say who sends and what; `canbusd.rules` has what they mean. The others are lines by the numbers
+of attempts, which are counted from 0, and only where a frame was tried. A line goes before the rules, and a rule before
+those after it. Any other attempt is good.
 """
 
 import os
 import re
-from collections.abc import Iterable, Sequence
+from collections.abc import Callable, Iterable, Sequence
 from typing import Optional, Union
 
-from canbusd._text import NAME
+from canbusd._text import NAME, shown
+from canbusd.frames import EXTENDED
+from canbusd.rules import MOST, MOST_RULES, Plan, Rule, is_rule, parse_rule
 
-MOST = 99999999
 # What no path is.
-IS_TEXT = re.compile(r"\A\Z|\n|\A[0-9]+ ")
+IS_TEXT = re.compile(r"\A\Z|\n|\A(?:[0-9]+|next|always) ")
+
+# The most that an identifier of 11 bits is, and one of 29.
+SHORT, LONG = 0x7FF, 0x1FFFFFFF
 
 Attempts = Union[int, Iterable[int]]
+Names = Union[str, Sequence[str]]
+
+
+def global_fault(kind: str) -> str:
+    """The verdict of a frame that is destroyed."""
+    if kind not in ("bit", "form"):
+        raise ValueError(f"kind of a destroyed frame is bit or form, not {kind!r}")
+    return f"global {kind}"
+
+
+def local_fault(kind: str, names: Names) -> str:
+    """The verdict that only these interfaces see."""
+    if kind not in ("stuff", "crc", "form"):
+        raise ValueError(f"kind of a local fault is stuff, crc or form, not {kind!r}")
+    return f"local {kind} {','.join(listed(names, 'names of a local fault'))}"
+
+
+def listed(names: Names, what: str) -> list[str]:
+    """The names of interfaces, at least one; a fault says what they are."""
+    found = names.split(",") if isinstance(names, str) else list(names) if isinstance(names, Iterable) else []
+    if not found or not all(isinstance(name, str) and NAME.fullmatch(name) for name in found):
+        raise ValueError(f"{what} are names of interfaces, not {names!r}")
+    return found
+
+
+def whole_number(value: object, what: str, least: int = 0) -> int:
+    """A number of a rule; a fault says which."""
+    if isinstance(value, bool) or not isinstance(value, int) or not least <= value <= MOST:
+        raise ValueError(f"{what} is a number from {least} to {MOST}, not {value!r}")
+    return value
+
+
+def some_bits(value: object, what: str, most: int) -> int:
+    """An identifier or a mask of a rule; a fault says which."""
+    if isinstance(value, bool) or not isinstance(value, int) or not 0 <= value <= most:
+        raise ValueError(f"{what} is a number from 0 to 0x{most:X}, not {value!r}")
+    return value
+
+
+def identifier_words(id: Optional[int], mask: Optional[int], extended: Optional[bool]) -> Optional[tuple[int, int]]:
+    """The identifier word and the mask of a rule, which takes frames of 11 bits or those of 29, and not both."""
+    if id is None:
+        if mask is not None or extended is not None:
+            raise ValueError("mask and extended belong to an id, and none is given")
+        return None
+    is_extended = some_bits(id, "id", LONG) > SHORT if extended is None else bool(extended)
+    width = LONG if is_extended else SHORT
+    bits = width if mask is None else some_bits(mask, "mask", LONG)
+    return some_bits(id, "id", width) | EXTENDED * is_extended, EXTENDED | bits
+
+
+class Chosen:
+    """The attempts that a rule takes; each method says what happens in them, and returns the faults with the rule."""
+
+    def __init__(self, head: Rule, add: Callable[[Rule], "Faults"]) -> None:
+        self._head, self._add = head, add
+
+    def good(self) -> "Faults":
+        """No fault: the rule shields its attempts from the rules after it."""
+        return self._given("good")
+
+    def destroyed(self, kind: str = "bit") -> "Faults":
+        """All nodes see a fault, and the frame is destroyed: a `bit` or a `form` error."""
+        return self._given(global_fault(kind))
+
+    def last_bit(self) -> "Faults":
+        """The sender sees a fault in the last bit: the others accept the frame, and it is sent again."""
+        return self._given("lastbit")
+
+    def local(self, kind: str, names: Names) -> "Faults":
+        """Only these interfaces see a fault: a `stuff`, a `crc` or a `form` error."""
+        return self._given(local_fault(kind, names))
+
+    def __repr__(self) -> str:
+        return f"<the rule `{self._head.head}` without its fault>"
+
+    def _given(self, verdict: str) -> "Faults":
+        head = self._head
+        return self._add(Rule(head.count, verdict, head.senders, head.identifier, head.skip))
 
 
 class Faults:
-    """The lines of a fault script; each method adds the faults of some attempts and returns the script itself."""
+    """Rules and lines of a fault script; each method adds to them, and returns the faults themselves."""
 
     def __init__(self) -> None:
         self._verdicts: dict[int, str] = {}
+        self._rules: list[Rule] = []
+
+    def next(
+        self,
+        count: int,
+        *,
+        sender: Optional[Names] = None,
+        id: Optional[int] = None,
+        mask: Optional[int] = None,
+        extended: Optional[bool] = None,
+        skip: int = 0,
+    ) -> Chosen:
+        """A rule for the next `count` attempts of these; what is called on it says their fault.
+
+        `sender` names one or more interfaces: who sends. `id` is the frame's identifier, of 29 bits from 0x800 on or with
+        `extended=True`, and with a `mask` those whose bits of the mask are the same. Data, remote and FD frames are taken
+        alike. The first `skip` attempts of these are left to the rules after it. A retransmission is an attempt like any
+        other.
+        """
+        return self._chosen(whole_number(count, "count", 1), sender, id, mask, extended, skip)
+
+    def always(
+        self,
+        *,
+        sender: Optional[Names] = None,
+        id: Optional[int] = None,
+        mask: Optional[int] = None,
+        extended: Optional[bool] = None,
+        skip: int = 0,
+    ) -> Chosen:
+        """A rule for all attempts of these, as `next` has them."""
+        return self._chosen(None, sender, id, mask, extended, skip)
+
+    def _chosen(
+        self,
+        count: Optional[int],
+        sender: Optional[Names],
+        id: Optional[int],
+        mask: Optional[int],
+        extended: Optional[bool],
+        skip: int,
+    ) -> Chosen:
+        senders = () if sender is None else tuple(listed(sender, "senders"))
+        words = identifier_words(id, mask, extended)
+        return Chosen(Rule(count, "", senders, words, whole_number(skip, "skip")), self._add_rule)
+
+    def _add_rule(self, rule: Rule) -> "Faults":
+        if len(self._rules) == MOST_RULES:
+            raise ValueError(f"a bus has at most {MOST_RULES} rules")
+        self._rules.append(rule)
+        return self
 
     def good(self, attempts: Attempts) -> "Faults":
-        """No fault, as without a line."""
+        """No fault, also where a rule would give one."""
         return self._add("good", attempts)
 
     def destroyed(self, attempts: Attempts, kind: str = "bit") -> "Faults":
         """All nodes see a fault, and the frame is destroyed: a `bit` or a `form` error."""
-        if kind not in ("bit", "form"):
-            raise ValueError(f"kind of a destroyed frame is bit or form, not {kind!r}")
-        return self._add(f"global {kind}", attempts)
+        return self._add(global_fault(kind), attempts)
 
     def last_bit(self, attempts: Attempts) -> "Faults":
         """The sender sees a fault in the last bit: the others accept the frame, and it is sent again."""
         return self._add("lastbit", attempts)
 
-    def local(self, kind: str, names: Union[str, Sequence[str]], attempts: Attempts) -> "Faults":
+    def local(self, kind: str, names: Names, attempts: Attempts) -> "Faults":
         """Only these interfaces see a fault: a `stuff`, a `crc` or a `form` error.
 
         The frame is destroyed if one of them is error active. If all are error passive, they miss the frame.
         """
-        if kind not in ("stuff", "crc", "form"):
-            raise ValueError(f"kind of a local fault is stuff, crc or form, not {kind!r}")
-        listed = names.split(",") if isinstance(names, str) else list(names)
-        if not listed or not all(isinstance(name, str) and NAME.fullmatch(name) for name in listed):
-            raise ValueError(f"names of a local fault are names of interfaces, not {names!r}")
-        return self._add(f"local {kind} {','.join(listed)}", attempts)
+        return self._add(local_fault(kind, names), attempts)
 
     def _add(self, verdict: str, attempts: Attempts) -> "Faults":
         added: dict[int, str] = {}
@@ -63,33 +193,68 @@ class Faults:
         return self
 
     def of(self, attempt: int) -> str:
-        """Returns the verdict of the attempt of this number, such as `good` or `local crc can1`."""
+        """Returns the verdict of the line of this attempt, such as `local crc can1`; `good` without one.
+
+        What rules give depends on the run.
+        """
         return self._verdicts.get(attempt, "good")
 
+    @property
+    def rules(self) -> list[str]:
+        """The rules in their order, each as a line of the script: `next 32 from ecu global bit`."""
+        return [str(rule) for rule in self._rules]
+
     def __str__(self) -> str:
-        return "".join(f"{number} {verdict}\n" for number, verdict in sorted(self._verdicts.items()))
+        lines = [f"{number} {verdict}" for number, verdict in sorted(self._verdicts.items())]
+        return "".join(f"{line}\n" for line in [*self.rules, *lines])
 
     def __eq__(self, other: object) -> bool:
-        return isinstance(other, Faults) and self._verdicts == other._verdicts
+        return isinstance(other, Faults) and (self._verdicts, self._rules) == (other._verdicts, other._rules)
 
     def __repr__(self) -> str:
+        calls = [f".{head_call(rule)}.{call_of(rule.verdict)}" for rule in self._rules]
         attempts: dict[str, list[int]] = {}
         for number, verdict in sorted(self._verdicts.items()):
             attempts.setdefault(verdict, []).append(number)
-        return "Faults()" + "".join(f".{call_of(verdict, numbers)}" for verdict, numbers in attempts.items())
+        calls += [f".{call_of(verdict, attempts_text(numbers))}" for verdict, numbers in attempts.items()]
+        return "Faults()" + "".join(calls)
 
 
-def call_of(verdict: str, numbers: list[int]) -> str:
-    """The call that adds a fault to these attempts, which rise."""
-    kind, *words = verdict.split()
+def attempts_text(numbers: list[int]) -> str:
+    """The argument that names these attempts, which rise."""
     first, last = numbers[0], numbers[-1]
-    is_range = len(numbers) > 2 and last - first == len(numbers) - 1
-    attempts = f"range({first}, {last + 1})" if is_range else str(numbers if len(numbers) > 1 else first)
+    if len(numbers) > 2 and last - first == len(numbers) - 1:
+        return f"range({first}, {last + 1})"
+    return str(numbers if len(numbers) > 1 else first)
+
+
+def call_of(verdict: str, attempts: str = "") -> str:
+    """The call that adds a fault, with the argument that names its attempts where it has one."""
+    kind, *words = verdict.split()
+    given = [attempts] if attempts else []
     if kind == "global":
-        return f"destroyed({attempts})" if words == ["bit"] else f"destroyed({attempts}, {words[0]!r})"
+        return f"destroyed({', '.join([*given, *([] if words == ['bit'] else [repr(words[0])])])})"
     if kind == "local":
-        return f"local({words[0]!r}, {words[1].split(',')!r}, {attempts})"
+        return f"local({', '.join([repr(words[0]), repr(words[1].split(',')), *given])})"
     return f"{'last_bit' if kind == 'lastbit' else kind}({attempts})"
+
+
+def head_call(rule: Rule) -> str:
+    """The call that begins a rule: `next(32, sender='ecu')`."""
+    senders = list(rule.senders)
+    given = [] if rule.count is None else [str(rule.count)]
+    given += [f"sender={senders[0]!r}" if len(senders) == 1 else f"sender={senders!r}"] if senders else []
+    given += identifier_arguments(*rule.identifier) if rule.identifier else []
+    given += [f"skip={rule.skip}"] if rule.skip else []
+    return f"{'always' if rule.count is None else 'next'}({', '.join(given)})"
+
+
+def identifier_arguments(word: int, mask: int) -> list[str]:
+    """The arguments that name the identifier of a rule, without what goes without saying."""
+    identifier, bits, extended = word & ~EXTENDED, mask & ~EXTENDED, bool(word & EXTENDED)
+    arguments = [f"id={identifier:#x}"]
+    arguments += [] if bits == (LONG if extended else SHORT) else [f"mask={bits:#x}"]
+    return arguments + (["extended=True"] if extended and identifier <= SHORT else [])
 
 
 #: What names a fault script: the path of one, its text, or Faults.
@@ -99,13 +264,15 @@ Script = Union[str, "os.PathLike[str]", Faults]
 def script_text(script: Optional[Script]) -> str:
     """Returns the text of a fault script.
 
-    A `str` is the text if it is empty, has a line feed, or begins with a number and a space, as `0 lastbit` does; else it
-    is a path.
+    A `str` is the text if it is empty, has a line feed, or begins with a number and a space, as `0 lastbit` does, or as a
+    rule does, such as `next 1 lastbit`; else it is a path.
     """
     if script is None:
         return ""
     if isinstance(script, Faults):
         return str(script)
+    if isinstance(script, Chosen):
+        raise ValueError(f"{script!r}: .destroyed(), .last_bit(), .local(..) or .good() says which")
     if isinstance(script, str) and IS_TEXT.search(script):
         return script
     if not isinstance(script, (str, os.PathLike)):
@@ -114,11 +281,31 @@ def script_text(script: Optional[Script]) -> str:
         with open(script, encoding="utf-8") as file:
             return file.read()
     except FileNotFoundError as fault:
-        hint = f"{fault.strerror}; a text begins with the number of an attempt, as '0 lastbit' does"
+        hint = (
+            f"{fault.strerror}; a text begins with the number of an attempt, as '0 lastbit' does, or with a rule, as "
+            "'next 1 lastbit' does"
+        )
         raise FileNotFoundError(fault.errno, hint, os.fspath(script)) from None
 
 
-def verdicts_of(text: str) -> dict[int, str]:
-    """Returns the verdicts of a script that the program accepts, by the numbers of their attempts."""
-    lines: list[str] = [line for line in text.split("\n") if line and not line.startswith("#")]
-    return {int(number): verdict for number, _, verdict in (line.partition(" ") for line in lines)}
+def lines_of(text: str) -> list[str]:
+    """The lines of a script that say something."""
+    return [line for line in text.split("\n") if line and not line.startswith("#")]
+
+
+def plan_of(text: str) -> Plan:
+    """Returns the plan of a script that the program accepts."""
+    lines = lines_of(text)
+    pairs = (line.partition(" ") for line in lines if not is_rule(line))
+    return Plan({int(number): verdict for number, _, verdict in pairs}, map(parse_rule, filter(is_rule, lines)))
+
+
+def rules_of(faults: Script) -> list[Rule]:
+    """Returns the rules of these faults; ValueError where there are others, which nobody can give a bus that runs."""
+    lines = lines_of(script_text(faults))
+    other = next((line for line in lines if line[:1].isdigit()), None)
+    if other is not None:
+        raise ValueError(
+            f"'{shown(other)}' is of an attempt by its number, so of the start: only rules can be injected"
+        )
+    return [parse_rule(line) for line in lines]

@@ -273,6 +273,11 @@ def fault_words(data: bytes) -> list[str]:
     return [" ".join(words)] if words else []
 
 
+def identifier_word(frame: MessageLike) -> int:
+    """Returns the word of a frame that filters are about: its identifier, and whether it has 29 bits and is remote."""
+    return frame.arbitration_id | EXTENDED * frame.is_extended_id | REMOTE * frame.is_remote_frame
+
+
 def passes_filters(word: int, filters: Sequence[tuple[int, int]], join: bool) -> bool:
     """Whether a frame with this identifier word passes filters, as pairs of identifier word and mask (linux/can/raw.h).
 

@@ -16,12 +16,15 @@ from collections.abc import Mapping, Sequence
 from pathlib import Path
 from typing import TYPE_CHECKING, Any, NamedTuple, Optional, Union
 
+from canbusd._connection import SessionRefused, reason_of
+from canbusd._injection import RuleSession
 from canbusd._program import audited, find_program
 from canbusd._process import RUNNING, ProgramRun, check_names, option_words
 from canbusd.expectations import Expectations
-from canbusd.faults import Script, script_text
+from canbusd.faults import Script, rules_of, script_text
 from canbusd.log import read_log
 from canbusd.record import Record, read_record
+from canbusd.rules import check_rules
 
 if TYPE_CHECKING:
     from can.message import Message
@@ -150,6 +153,28 @@ class Server(Expectations, ProgramRun):
         bus.window = self._txqueue
         return bus
 
+    def inject(self, faults: Script, interface: Optional[str] = None) -> None:
+        """Gives a bus these rules of faults while it runs, after those that it has, from the next attempt on.
+
+        `faults` are rules of Faults, such as ``Faults().next(32, sender="ecu").destroyed()``, or their text, and
+        `interface` is one of the bus; it may be left out where there is one bus. Refused where the bus would have more
+        than 64 rules: those before the one that is named are in force.
+        """
+        rules = rules_of(faults)
+        check_rules(rules, self._by_bus[self._first(interface, "interface")][:-1])
+        with self._rule_session(interface) as session:
+            session.inject(faults)
+
+    def rules_left(self, interface: Optional[str] = None) -> int:
+        """Returns how many rules of faults a bus has that are not used up, those without end too."""
+        with self._rule_session(interface) as session:
+            return session.rules_left()
+
+    def end_rules(self, interface: Optional[str] = None) -> None:
+        """Ends all rules of faults of a bus; lines of its script by the numbers of attempts stay."""
+        with self._rule_session(interface) as session:
+            session.end_rules()
+
     def run(self, words: Sequence[str], wait: bool = False, **kwargs: Any) -> "subprocess.CompletedProcess[Any]":
         """Runs a program whose CAN sockets are those of this server, such as ``["cansend", "can0", "123#"]``, to its end.
 
@@ -224,6 +249,16 @@ class Server(Expectations, ProgramRun):
 
         return Path(write_page(self.record(name), self._file(name, "html")))
 
+    def _rule_session(self, interface: Optional[str]) -> RuleSession:
+        """A session for the rules of the bus of this interface."""
+        first = self._first(interface, "interface")
+        if self._result is not None:
+            raise ServerError("the server has ended, and its rules with it")
+        try:
+            return RuleSession(self.address, first)
+        except (OSError, SessionRefused) as fault:
+            raise ServerError(f"no session on {first}: {reason_of(fault)}") from None
+
     def _observing(self, observed: Sequence[str] = ()) -> "Observer":
         """The sessions of the server's own, of which those on these interfaces receive frames."""
         from canbusd._observer import Observer
@@ -236,12 +271,12 @@ class Server(Expectations, ProgramRun):
         if self._observer is not None:
             self._observer.close()
 
-    def _first(self, name: Optional[str]) -> str:
-        """The first interface of the bus that has this one."""
+    def _first(self, name: Optional[str], what: str = "name") -> str:
+        """The first interface of the bus that has this one; a fault says what it was given as."""
         found = [first for first, names in self._by_bus.items() if name in names[:-1] or name is None]
         if len(found) != 1:
             known = ", ".join(one for names in self._by_bus.values() for one in names[:-1])
-            raise ValueError(f"name is that of an interface of the server, one of {known}, not {name!r}")
+            raise ValueError(f"{what} is that of an interface of the server, one of {known}, not {name!r}")
         return found[0]
 
     def _file(self, name: Optional[str], ending: str) -> Path:

@@ -1,0 +1,78 @@
+"""Rules of faults for a bus that runs: what every session can do, and a session that is opened for nothing else."""
+
+from types import TracebackType
+from typing import Optional
+
+from canbusd._connection import Connection
+from canbusd._protocol import rules_left_of
+from canbusd.faults import Script, rules_of
+
+#: Seconds in which a server has to answer.
+TIMEOUT = 5.0
+
+
+class Refused(RuntimeError):
+    """The bus or the session refused what it was asked; the text is canbusd's, such as `no buffers` or `bus off`."""
+
+
+class InjectsFaults:
+    """What gives rules to the bus of its interface, and ends them."""
+
+    def _answer(self, message: str) -> str:
+        """What a message gets: the empty text for `ok`, an answer, or the text of a refusal."""
+        raise NotImplementedError
+
+    def _refusal(self, text: str) -> Exception:
+        """What is raised for a refusal."""
+        return Refused(text)
+
+    def inject(self, faults: Script) -> None:
+        """Gives the bus of the interface these rules, after those that it has, from the next attempt on.
+
+        `faults` are rules of Faults, such as ``Faults().next(32, sender="ecu").destroyed()``, or their text. Where one is
+        refused, as the 65th is, the exception ends with it; those before it are in force.
+        """
+        for rule in rules_of(faults):
+            answer = self._answer(f"fault {rule}")
+            if answer:
+                raise self._refusal(f"{answer}: {rule}")
+
+    def rules_left(self) -> int:
+        """Returns how many rules the bus of the interface has that are not used up, those without end too."""
+        answer = self._answer("faults")
+        left = rules_left_of(answer)
+        if left is None:
+            raise self._refusal(answer)
+        return left
+
+    def end_rules(self) -> None:
+        """Ends all rules of the bus, whoever gave them; lines of a script by the numbers of attempts stay."""
+        answer = self._answer("nofaults")
+        if answer:
+            raise self._refusal(answer)
+
+
+class RuleSession(InjectsFaults):
+    """A session of a server on this interface, without a socket there: the record has no entry of it.
+
+    OSError where there is no server, SessionRefused where it takes no session, Refused where it has no such interface.
+    """
+
+    def __init__(self, address: str, channel: str) -> None:
+        self._connection = Connection(address, TIMEOUT)
+        answer = self._answer(f"open {channel}")
+        if answer:
+            self._connection.close()
+            raise Refused(f"{answer}: {channel}")
+
+    def __enter__(self) -> "RuleSession":
+        return self
+
+    def __exit__(
+        self, kind: Optional[type[BaseException]], fault: Optional[BaseException], _: Optional[TracebackType]
+    ) -> None:
+        self._connection.close()
+
+    def _answer(self, message: str) -> str:
+        answer = self._connection.ask([message])[0]
+        return "" if answer == "ok" else answer.replace("error ", "", 1)

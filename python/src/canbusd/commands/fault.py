@@ -1,0 +1,52 @@
+"""Gives the bus of an interface a rule of faults, while its server runs."""
+
+import argparse
+
+from canbusd._connection import SessionRefused, reason_of, server_address
+from canbusd._injection import Refused, RuleSession
+from canbusd.commands import add_address
+
+EPILOG = """\
+rules, whose words come in this order:
+  next N [from NAMES] [id ID | id ID:MASK] [skip K] VERDICT      the next N attempts of these
+  always [from NAMES] [id ID | id ID:MASK] [skip K] VERDICT      all of them
+  VERDICT is `global bit`, `global form`, `lastbit`, `local crc NAMES`, `local stuff NAMES`, `local form NAMES` or `good`
+
+A rule holds from the next attempt on, after those that the bus has, which has at most 64. ID has 3 digits for 11 bits or 8
+for 29; with a mask both are words as of a filter.
+
+  python3 -m canbusd fault can0 "next 32 from ecu global bit"
+  python3 -m canbusd fault can0 next 1 id 123 skip 2 lastbit
+  python3 -m canbusd fault --left can0
+  python3 -m canbusd fault --end can0
+"""
+
+
+def add_arguments(parser: argparse.ArgumentParser) -> None:
+    """Adds the words of the command."""
+    parser.add_argument("interface", metavar="INTERFACE", help="an interface of the bus")
+    parser.add_argument("rule", nargs="*", metavar="RULE", help="a rule, as one word or several")
+    parser.add_argument("--left", action="store_true", help="print how many rules the bus has that are not used up")
+    parser.add_argument("--end", action="store_true", help="end all its rules, before RULE if there is one")
+    add_address(parser)
+
+
+def run(options: argparse.Namespace) -> None:
+    """Ends rules, gives one, and prints how many are left."""
+    rule = " ".join(options.rule)
+    if not (rule or options.left or options.end):
+        raise ValueError("a rule is missing, such as 'next 32 from ecu global bit', or --left or --end")
+    address = server_address(options.address)
+    try:
+        with RuleSession(address, options.interface) as session:
+            if options.end:
+                session.end_rules()
+            if rule:
+                # With a line feed it is a text, whatever its words are.
+                session.inject(f"{rule}\n")
+            if options.left:
+                print(session.rules_left())
+    except (OSError, SessionRefused) as fault:
+        raise ValueError(f"{address}: {reason_of(fault)}") from None
+    except Refused as fault:
+        raise ValueError(f"{fault}") from None
