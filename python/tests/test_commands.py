@@ -298,7 +298,7 @@ def test_send_refuses_in_one_line(words, fault):
 
 
 def test_no_server(tmp_path):
-    for words in (("send", "can0", "123#"), ("dump", "can0"), ("status", "can0")):
+    for words in (("send", "can0", "123#"), ("dump", "can0"), ("status", "can0"), ("fault", "can0", "--left")):
         status, written, said = call(*words, "--address", str(tmp_path / "socket"))
         assert (status, written) == (1, "") and said.startswith(f"canbusd {words[0]}: ") and said.count("\n") == 1
 
@@ -330,6 +330,40 @@ def test_status_that_watches():
         child.stderr.close()
     assert lines[::2] == [lines[0]] * 3 and lines[1].startswith("can0")
     assert said == ""
+
+
+def test_fault_of_a_bus_that_runs():
+    with Server("can0,can1") as server, server.bus("can0") as sender, server.bus("can1") as receiver:
+        for words in (["next 1 from can0 id 123 lastbit"], ["always", "from", "can1", "global", "bit"]):
+            assert call("fault", "can0", *words, server=server) == (0, "", "")
+        assert call("fault", "can1", "--left", server=server) == (0, "2\n", "")
+        sender.send(message(0x123))
+        assert [receiver.recv(WAIT).arbitration_id for _ in range(2)] == [0x123, 0x123]
+        assert call("fault", "--left", "can0", server=server) == (0, "1\n", "")
+        assert call("fault", "--end", "--left", "can1", "next 1 good", server=server) == (0, "1\n", "")
+        assert call("fault", "can1", "--end", server=server) == (0, "", "")
+        assert server.rules_left() == 0
+
+
+@pytest.mark.parametrize(
+    "words, fault",
+    [
+        (["can0"], "a rule is missing, such as 'next 32 from ecu global bit', or --left or --end"),
+        (["can0", "next 1 bad"], "rule 'next 1 bad': its verdict is .*, not 'bad'"),
+        (["can0", "5 lastbit"], "'5 lastbit' is of an attempt by its number, .*"),
+        (["can0", "next 1 from can9 good"], "no such interface: next 1 from can9 good"),
+        (["can9", "next 1 good"], "no such interface: can9"),
+        (
+            ["-a", "./no.socket", "can0", "--left"],
+            r"./no.socket: No such file .* \(is `canbusd serve` running there\?\)",
+        ),
+    ],
+)
+def test_fault_refuses_in_one_line(words, fault):
+    with Server("can0,can1") as server:
+        status, written, said = call("fault", *words, server=server)
+        assert server.rules_left() == 0
+    assert (status, written) == (1, "") and re.fullmatch(f"canbusd fault: {fault}\n", said), said
 
 
 @pytest.fixture
@@ -378,8 +412,8 @@ def test_commands_and_their_help():
     status, written, _ = call("--help")
     assert status == 0
     names = re.findall(r"^  (\w+) +\w", written.split("commands:")[1], re.M)
-    assert {"dump", "send", "status", "report", "replay"} <= set(names)
-    for name in ("dump", "send", "status", "report", "replay"):
+    assert {"dump", "send", "status", "fault", "report", "replay"} <= set(names)
+    for name in ("dump", "send", "status", "fault", "report", "replay"):
         assert call(name, "--help")[0] == 0
     assert call("dance")[0] == 2
     assert call("--version") == (0, f"canbusd {canbusd.__version__}\n", "")

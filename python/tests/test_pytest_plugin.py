@@ -127,9 +127,16 @@ def test_the_marker_and_the_factory(run):
 
     def test_a_bench_without_a_marker(canbusd_bench):
         assert canbusd_bench.names == ("can0", "can1")
+
+    @pytest.mark.canbusd("a,b", faults="next 1 lastbit")
+    def test_rules(canbusd):
+        canbusd.inject("next 1 from a lastbit")
+        with canbusd.bus("a") as a, canbusd.bus("b") as b:
+            a.send(can.Message(arbitration_id=0x123, is_extended_id=False))
+            assert [b.recv(10).arbitration_id for _ in range(3)] == [0x123] * 3
     """,
         "--strict-markers",
-    ).assert_outcomes(passed=4)
+    ).assert_outcomes(passed=5)
 
 
 def test_a_server_that_dies(run):

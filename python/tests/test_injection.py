@@ -1,0 +1,234 @@
+"""Rules that are given while a bus runs: to servers, benches and buses of python-can."""
+
+import can
+import pytest
+
+from canbusd.bench import Bench, Refused
+from canbusd.faults import Faults
+from canbusd.server import Server, ServerError
+from conftest import WAIT, message
+
+TESTER, ECU = 0x100, 0x200
+# Whatever gives a rule that is wrong.
+BAD_NAME = Faults().next(1, sender="ecu").local("crc", "can9")
+
+
+def faults_of(server):
+    return [attempt.fault for attempt in server.record().attempts]
+
+
+def test_rules_of_the_start():
+    with Server("can0,can1", faults=Faults().next(1, id=0x124).destroyed().last_bit(0)) as server:
+        with server.bus("can0") as can0, server.bus("can1") as can1:
+            can0.send_many([message(0x123), message(0x124)])
+            assert [can1.recv(WAIT).arbitration_id for _ in range(3)] == [0x123, 0x123, 0x124]
+    assert faults_of(server) == ["lastbit", "good", "global bit", "good"]
+
+
+def test_rules_for_a_server_that_runs():
+    with Server("can0,can1") as server, server.bus("can0") as can0, server.bus("can1") as can1:
+        can0.send(message(0x123))
+        assert can1.recv(WAIT).arbitration_id == 0x123
+        server.inject(Faults().next(1, sender="can1").destroyed().next(1, sender="can0", id=0x123).last_bit())
+        assert server.rules_left() == 2
+        can0.send(message(0x123, [1]))
+        assert [can1.recv(WAIT).data for _ in range(2)] == [b"\1", b"\1"]
+        server.inject("always from can0 global form\nnext 3 good")
+        assert server.rules_left("can1") == 3
+        server.end_rules()
+        assert server.rules_left("can0") == 0
+        can0.send(message(0x124))
+        assert can1.recv(WAIT).arbitration_id == 0x124
+    assert faults_of(server) == ["good", "lastbit", "good", "good"]
+    assert server.audit()["can0"].startswith("ok ")
+
+
+def test_a_rule_is_no_entry_of_the_record():
+    with Server("can0,can1") as server:
+        server.inject("next 1 lastbit")
+        assert server.rules_left() == 1
+        server.end_rules()
+    assert server.stop().entries == {"can0": 0}
+
+
+def test_the_bus_is_named_where_there_are_several():
+    with Server("can0,can1", "car0") as server:
+        server.inject(Faults().always().last_bit(), interface="can1")
+        assert [server.rules_left(name) for name in ("can0", "car0")] == [1, 0]
+        for wrong in (None, "can9"):
+            with pytest.raises(ValueError, match=f"^interface is .* one of can0, can1, car0, not {wrong!r}$"):
+                server.inject("next 1 lastbit", wrong)
+        with pytest.raises(ValueError, match="car0 is no interface of its bus, can0,can1$"):
+            server.inject("next 1 from car0 lastbit", interface="can0")
+
+
+def test_what_a_server_does_not_take():
+    with Server("can0,can1") as server:
+        for wrong, text in (
+            (Faults().last_bit(0), "'0 lastbit' is of an attempt by its number"),
+            ("next 1 bad\n", "its verdict is .* not 'bad'"),
+            (Faults().next(1), "without its fault"),
+            (BAD_NAME, "can9|ecu"),
+            (3, "faults are"),
+        ):
+            with pytest.raises(ValueError, match=text):
+                server.inject(wrong)
+        assert server.rules_left() == 0
+        server.inject("always good\n" * 63)
+        with pytest.raises(Refused, match="^too many rules: next 2 lastbit$"):
+            server.inject("next 1 lastbit\nnext 2 lastbit")
+        assert server.rules_left() == 64
+    for call in (lambda: server.inject("next 1 lastbit"), server.rules_left, server.end_rules):
+        with pytest.raises(ServerError, match="^the server has ended"):
+            call()
+
+
+def test_rules_by_a_bus_of_python_can(pair):
+    can0, can1 = pair
+    can1.inject(Faults().next(1, sender="can0").last_bit())
+    assert can0.rules_left() == 1
+    can0.send(message(0x123))
+    assert [can1.recv(WAIT).arbitration_id for _ in range(2)] == [0x123, 0x123]
+    can0.inject("always good\n" * 64)
+    with pytest.raises(can.CanOperationError, match="^too many rules: next 1 lastbit$"):
+        can0.inject("next 1 lastbit")
+    can0.end_rules()
+    assert can1.rules_left() == 0
+    with pytest.raises(can.CanOperationError, match="^no such interface: next 1 from ecu local crc can9$"):
+        can0.inject(BAD_NAME)
+    with pytest.raises(ValueError, match="only rules can be injected"):
+        can0.inject("0 lastbit")
+    can0.shutdown()
+    for call in (lambda: can0.inject("next 1 lastbit"), can0.rules_left, can0.end_rules):
+        with pytest.raises(can.CanOperationError, match="shut down"):
+            call()
+
+
+def test_rules_in_a_bench():
+    with Bench("ecu,tester", faults="next 1 from tester global form\n1 lastbit") as bench:
+        ecu, tester = bench.open("ecu"), bench.open("tester")
+        ecu.send(ECU)
+        bench.inject(Faults().next(2, id=ECU).destroyed())
+        assert [attempt.fault for attempt in bench.run()] == ["global bit", "lastbit", "global bit", "good"]
+        tester.send(TESTER)
+        assert tester.rules_left() == 1
+        assert bench.attempt().fault == "global form"
+        ecu.inject("always from tester lastbit")
+        assert bench.attempt().fault == "lastbit"
+        tester.end_rules()
+        assert bench.attempt().fault == "good"
+        ecu.call("  fault\tnext 1   good ")
+        bench.inject("next 1 global bit")
+        ecu.send(ECU)
+        ecu.send(ECU)
+        assert [(attempt.fault, attempt.outcome) for attempt in bench.run()] == [
+            ("good", "done"), ("global bit", "destroyed"), ("good", "done"),
+        ]  # fmt: skip
+        attempts = bench.record().attempts
+    assert [attempt.fault for attempt in attempts] == [
+        "global bit", "lastbit", "global bit", "good", "global form", "lastbit", "good", "good", "global bit", "good",
+    ]  # fmt: skip
+
+
+def test_what_a_bench_does_not_take():
+    with Bench("can0,can1") as bench:
+        can0 = bench.open("can0")
+        for wrong in ("next 1 bad\n", "next 1 from ecu good", "0 good"):
+            with pytest.raises(ValueError):
+                bench.inject(wrong)
+        with pytest.raises(Refused, match="^no such interface$"):
+            can0.inject("next 1 from ecu good")
+        with pytest.raises(Refused, match="^bad rule$"):
+            can0.call("fault next 0 good")
+        bench.inject("always good\n" * 63)
+        with pytest.raises(Refused, match="^too many rules$"):
+            bench.inject("next 1 lastbit\nnext 1 lastbit")
+        # All of them or none.
+        assert can0.rules_left() == 63
+        can0.inject("next 1 lastbit")
+        with pytest.raises(Refused, match="^too many rules$"):
+            can0.inject("next 1 lastbit")
+        assert can0.rules_left() == 64
+        can0.send(0x123)
+        assert bench.attempt().fault == "good"
+    with pytest.raises(ValueError, match="ended"):
+        bench.inject("next 1 good")
+
+
+@pytest.fixture
+def traffic():
+    """A server on whose bus a tester sends each 4 ms and an ECU each 5 ms, and the bus of the ECU."""
+    with Server("ecu,tester") as server, server.bus("ecu") as ecu, server.bus("tester") as tester:
+        tester.send_periodic(message(TESTER), 0.004)
+        ecu.send_periodic(message(ECU), 0.005)
+        server.wait_for(lambda: ecu.stats().done and tester.stats().done, WAIT)
+        yield server, ecu
+
+
+@pytest.mark.parametrize("run", range(10))
+def test_the_ecu_goes_bus_off_and_the_tester_never(traffic, run):
+    server, _ = traffic
+    server.inject("next 32 from ecu global bit")
+    server.expect_state("ecu", "off", within=WAIT)
+    attempts = server.record().attempts
+    assert {name for attempt in attempts for name in attempt.off} == {"ecu"}
+    assert [attempt.winner for attempt in attempts if attempt.outcome == "destroyed"] == ["ecu"] * 32
+
+
+def test_a_cable_that_breaks(traffic):
+    server, ecu = traffic
+    server.inject(Faults().always(sender="ecu").destroyed())
+    server.expect_state("ecu", "off", within=WAIT)
+    server.end_rules()
+    done = ecu.stats().done
+    ecu.restart()
+    server.wait_for(lambda: ecu.stats().done > done, WAIT)
+    assert server.state("tester") == "active"
+
+
+def test_bus_off_on_demand(traffic):
+    server, ecu = traffic
+    for _ in range(3):
+        done = ecu.stats().done
+        assert server.bus_off("ecu", timeout=WAIT).state == "off"
+        assert server.rules_left() == 0
+        # At once where it is off already, and nothing is left for later.
+        server.bus_off("ecu", timeout=0.1)
+        assert server.rules_left() == 0
+        ecu.restart()
+        server.wait_for(lambda: ecu.stats().done > done, WAIT)
+        assert server.error_counters("ecu") == ("active", 0, 0)
+
+
+def test_bus_off_of_one_with_errors(server):
+    with server.bus("can0") as can0, server.bus("can1") as can1:
+        server.inject("next 3 from can0 global bit")
+        can0.send(message(0x123))
+        assert can1.recv(WAIT)
+        can0.send_periodic(message(0x123), 0.002)
+        server.bus_off("can0", timeout=WAIT)
+        assert server.rules_left() == 0
+
+
+def test_bus_off_of_one_that_restarts_by_itself():
+    with Server("can0,can1", auto_restart=1) as server, server.bus("can0") as can0:
+        can0.send_periodic(message(0x123), 0.002)
+        server.bus_off("can0", timeout=WAIT)
+    assert sum("can0" in attempt.off for attempt in server.record().attempts) == 1
+
+
+def test_bus_off_of_one_that_sends_nothing(server):
+    with server.bus("can0") as can0, server.bus("can1"):
+        with pytest.raises(AssertionError) as failure:
+            server.bus_off("can1", timeout=0.05)
+        assert str(failure.value) == (
+            "can1 is active (transmit count 0, receive count 0), and did not go bus off within 0.05 seconds: it sent "
+            "nothing in that time"
+        )
+        server.end_rules()
+        server.inject("always good")
+        can0.send_periodic(message(0x123), 0.002)
+        with pytest.raises(
+            AssertionError, match="its frames went through, by an earlier rule or a line of the script$"
+        ):
+            server.bus_off("can0", timeout=0.5)

@@ -1,0 +1,279 @@
+"""Rules of faults: the program gives what canbusd.rules does, on random runs and texts; and each way to say a rule.
+
+The model is of the design, and knows nothing of the program. It is asked for the verdict of each attempt of a record, and
+for the answer to each message.
+"""
+
+import itertools
+import re
+import shlex
+import subprocess
+
+import pytest
+
+from canbusd.faults import lines_of, plan_of
+from canbusd.frames import Frame, identifier_word
+from canbusd.record import read_record
+from canbusd.rules import MOST_RULES, Plan, check_rules, is_rule, parse_rule
+from random_rules import RECORD, RuleMaker
+from serving import Plain, plain, serving
+
+LASTBIT = "next 1 lastbit"
+
+
+def said(text, names, plan):
+    """The rule that a text is, and the fault of giving it to a bus: one of both is None."""
+    try:
+        rule = parse_rule(text)
+    except ValueError:
+        return None, "bad rule"
+    try:
+        check_rules([rule], names)
+    except ValueError:
+        return None, "no such interface"
+    return (None, "too many rules") if len(plan.rules) == MOST_RULES else (rule, None)
+
+
+def answer(text, names, plan):
+    """What a message about rules gets, after which the plan is as it is then."""
+    command, _, words = " ".join(text.split()).partition(" ")
+    if command == "faults":
+        return f"< faults {len(plan.rules)} >"
+    if command == "nofaults":
+        plan.end_rules()
+        return "< ok >"
+    rule, fault = said(words, names, plan)
+    if rule:
+        plan.add(rule)
+    return f"< error {fault} >" if fault else "< ok >"
+
+
+def in_order(verdict, names):
+    """A verdict as a record has it: each interface once, in the order of the bus."""
+    *words, hit = verdict.split(" ")
+    if words[:1] != ["local"]:
+        return verdict
+    return " ".join([*words, ",".join(name for name in names if name in hit.split(","))])
+
+
+def run(program, words, text, folder):
+    """A run of the program on this input."""
+    return subprocess.run(
+        [program, *words], input=text.encode(), cwd=folder, capture_output=True, timeout=60, check=False
+    )
+
+
+def difference(program, case, folder):
+    """What differs first between a run and the model, or None."""
+    case.write_to(folder)
+    done = run(program, case.words, case.text, folder)
+    if done.returncode:
+        return f"status {done.returncode}: {done.stderr!r}"
+    lines = done.stdout.decode().splitlines()
+    answers = [line[2:] for line in lines if line.startswith("1 <")][2:]
+    tried = [line for line in lines if line.startswith(("tried ", "idle"))]
+    record = read_record(folder / RECORD, case.names)
+    attempts = [attempt for attempt in record.attempts if attempt.outcome != "idle"]
+    plan = plan_of(case.script)
+    for kind, text in case.operations:
+        if kind == "line":
+            rule, fault = said(text, case.names, plan)
+            if fault:
+                return f"the bench took `fault {text}`, which is {fault}"
+            plan.add(rule)
+        elif kind == "message":
+            wanted, got = answer(text, case.names, plan), answers.pop(0)
+            if got != wanted:
+                return f"{text!r}: {got}, and not {wanted}"
+        elif kind == "attempt" and tried.pop(0).startswith("tried "):
+            attempt = attempts.pop(0)
+            verdict, rule = plan.verdict(attempt.winner, identifier_word(Frame.parse(attempt.frame)))
+            if attempt.fault != in_order(verdict, case.names):
+                return f"{attempt}: and not {verdict} of {rule}"
+    return f"{answers} {tried} {attempts}" if answers or tried or attempts else None
+
+
+@pytest.mark.parametrize("count", [200, pytest.param(2000, marks=pytest.mark.slow)])
+def test_random_runs(request, program, tmp_path, count):
+    """the verdict of each attempt, the answer to each message; the files of a run that differs are kept"""
+    maker, faults = RuleMaker(request.config.getoption("seed")), []
+    # Lines that fault a bench are tried below: here the 65th rule of a bus comes by a message.
+    cases = filter(lambda case: not overfull(case), iter(maker.case, None))
+    for number, case in enumerate(itertools.islice(cases, count)):
+        differs = difference(program, case, tmp_path / str(number % 2))
+        if differs:
+            case.write_to(tmp_path / f"differs{number}")
+            faults.append(f"{tmp_path}/differs{number}: {shlex.join(case.words)}: {differs}")
+    assert not faults, "\n".join(faults[:10])
+
+
+def overfull(case):
+    """Whether a line might be one rule too many."""
+    given = sum(kind in ("line", "message") for kind, _ in case.operations) + len(lines_of(case.script))
+    return given > MOST_RULES and any(kind == "line" for kind, _ in case.operations)
+
+
+def test_the_same_input_gives_the_same_output(request, program, tmp_path):
+    maker = RuleMaker(request.config.getoption("seed"))
+    for _ in range(5):
+        case = maker.case()
+        case.write_to(tmp_path)
+        first, again = (run(program, case.words, case.text, tmp_path) for _ in range(2))
+        assert first == again
+
+
+def test_random_texts_in_messages(program, rng, cases, tmp_path):
+    """whether a text is a rule, and why not"""
+    maker, names = RuleMaker(rng.random()), ["can0", "can1"]
+    rules = [maker.rule(names) for _ in range(cases)]
+    texts = [text.encode("ascii", "ignore").decode() for text in map(maker.changed, rules)]
+    lines = ["session 1", "feed 1 < open can0 >", *(f"feed 1 < nofaults >< fault {text} >" for text in texts)]
+    done = run(program, ["bench", "can0,can1"], "\n".join(lines), tmp_path)
+    assert done.returncode == 0, done.stderr
+    answers = done.stdout.decode().splitlines()[2:]
+    assert len(answers) == len(texts)
+    for text, line in zip(texts, answers):
+        assert line == f"1 < ok >{answer(f'fault {text}', names, Plan({}))}", text
+
+
+@pytest.mark.parametrize("count", [50, pytest.param(1000, marks=pytest.mark.slow)])
+def test_random_texts_in_scripts_and_lines(program, rng, tmp_path, count):
+    """each one that is wrong is reported with the number of its line, and a note"""
+    maker, names = RuleMaker(rng.random()), ["can0", "can1"]
+    for _ in range(count):
+        text = maker.changed(maker.rule(names))
+        _, fault = said(text, names, Plan({}))
+        reported = {"bad rule": "bad line", "no such interface": "unknown interface"}.get(fault)
+        if is_rule(text):
+            (tmp_path / "my.script").write_text(f"# one line before\n{text}\n")
+            done = run(program, ["bench", "can0,can1@my.script"], "", tmp_path)
+            check_report(done, reported and f"script line 2: {reported}", text)
+        done = run(program, ["bench", "can0,can1"], f"session 1\nfault {text}\n", tmp_path)
+        check_report(done, fault and "line 2: bad line", text)
+
+
+def check_report(done, reported, text):
+    """Whether a run ended as it has to: with this fault and a note, or without one."""
+    first, *notes = done.stderr.decode().splitlines() or [""]
+    assert (done.returncode, first) == ((1, f"canbusd: {reported}") if reported else (0, "")), text
+    assert bool(notes) is bool(reported) and all(note.startswith("  ") for note in notes), notes
+
+
+def test_64_rules(program, tmp_path):
+    """one more is refused in each way, and changes nothing"""
+    (tmp_path / "full.script").write_text("always good\n" * 64)
+    (tmp_path / "more.script").write_text("always good\n" * 64 + "\n" + LASTBIT)
+    done = run(program, ["bench", "can0@more.script"], "", tmp_path)
+    check_report(done, "script line 66: too many rules", "more.script")
+    asks = "session 1\nfeed 1 < open can0 >\n"
+    message = "feed 1 < fault next 1 lastbit >< faults >\n"
+    done = run(program, ["bench", "can0@full.script"], f"{asks}{message}", tmp_path)
+    assert done.stdout.decode().splitlines()[-1] == "1 < error too many rules >< faults 64 >"
+    done = run(program, ["bench", "can0@full.script"], f"{asks}fault {LASTBIT}\n", tmp_path)
+    check_report(done, "line 3: bad line", "full.script")
+    done = run(program, ["bench", "can0@full.script"], f"{asks}feed 1 < nofaults >\n{message}", tmp_path)
+    assert done.stdout.decode().splitlines()[-1] == "1 < ok >< faults 1 >"
+
+
+# What a session is, and what a rule gets there.
+MODES = {
+    "": "wrong state",
+    "< open can0 >": "",
+    "< open can0 >< rawmode >": "",
+    "< open can0 >< rawmode >< close >": None,
+}
+
+
+@pytest.mark.parametrize("opening, fault", MODES.items())
+def test_when_a_session_may_give_rules(program, tmp_path, opening, fault):
+    """once it has opened an interface"""
+    lines = f"session 1\nfeed 1 {opening}< echo >\nfeed 1 < fault {LASTBIT} >< faults >< nofaults >< faults >\n"
+    done = run(program, ["bench", "can0"], lines, tmp_path)
+    got = done.stdout.decode().splitlines()[2:]
+    wanted = [f"1 {f'< error {fault} >' * 4}" if fault else "1 < ok >< faults 1 >< ok >< faults 0 >"]
+    assert got == ([] if fault is None else wanted), done.stderr
+
+
+@pytest.mark.parametrize("message", ["faults 1", "nofaults 1", "faults ok"])
+def test_words_too_many(program, tmp_path, message):
+    done = run(program, ["bench", "can0"], f"session 1\nfeed 1 < open can0 >< {message} >\n", tmp_path)
+    assert done.stdout.decode().splitlines()[-1] == "1 < ok >< error bad word count >"
+
+
+def test_a_rule_without_words(program, tmp_path):
+    done = run(program, ["bench", "can0"], "session 1\nfeed 1 < open can0 >< fault >< Fault next 1 good >\n", tmp_path)
+    assert re.fullmatch(
+        "1 < ok >< error bad (rule|word count) >< error unknown command >", done.stdout.decode().split("\n")[1]
+    )
+
+
+# Each verdict of a rule, and what two receivers get of a frame.
+VERDICTS = {
+    "global bit": (1, 1),
+    "global form": (1, 1),
+    "lastbit": (2, 2),
+    "good": (1, 1),
+    "local crc can1": (1, 1),
+}
+
+
+@pytest.mark.parametrize("verdict, copies", VERDICTS.items())
+def test_a_rule_from_a_socket(verdict, copies):
+    """from the next attempt on, for the bus of the session's interface and no other"""
+    with serving("can0,can1,can2", "car0,car1") as server:
+        giver, sender, *receivers = [Plain(server), *(plain(server, name) for name in ("can0", "can1", "can2"))]
+        assert [giver.text(), giver.answer("< open can1 >")] == ["< hi >", "< ok >"]
+        assert giver.answer(f"< fault next 1 from can0 {verdict} >") == "< ok >"
+        assert giver.answer("< faults >") == "< faults 1 >"
+        other, car1 = plain(server, "car0"), plain(server, "car1")
+        assert other.answer("< faults >") == "< faults 0 >"
+        other.tell("< send 123 0 >")
+        assert car1.frame() == ("123", b"")
+        for number in range(2):
+            sender.tell(f"< send 123 1 {number} >")
+        for receiver, count in zip(receivers, copies):
+            wanted = [("123", b"\0")] * count + [("123", b"\1")]
+            assert [receiver.frame() for _ in wanted] == wanted
+        assert giver.answer("< faults >") == "< faults 0 >"
+        server.end()
+        record = read_record(server.path("can0.rec"), "can0,can1,can2")
+        assert [attempt.fault for attempt in record.attempts][0] == verdict
+        assert server.audited("can0") and server.audited("car0")
+
+
+def test_refusals_to_a_socket():
+    with serving("can0,can1", "car0") as server:
+        client = plain(server, "can0")
+        for text, fault in (
+            ("next 1", "bad rule"),
+            ("5 good", "bad rule"),
+            ("next 0 good", "bad rule"),
+            ("next 1 from car0 good", "no such interface"),
+            ("next 1 local crc can0,car0", "no such interface"),
+            ("next 1 from car0 bad", "bad rule"),
+        ):
+            assert client.answer(f"< fault {text} >") == f"< error {fault} >", text
+            assert client.answer("< faults >") == "< faults 0 >"
+
+
+def test_no_rules_keeps_the_script(program, tmp_path):
+    """lines by numbers are there after `nofaults`, and go before rules"""
+    (tmp_path / "my.script").write_text("1 global form\nalways lastbit\n2 good\n")
+    asks = ["session 1", "feed 1 < open can0 >< rawmode >< send 123 0 >", "attempt", "feed 1 < nofaults >"]
+    words = ["bench", "--record", RECORD, "can0@my.script"]
+    done = run(program, words, "\n".join([*asks, "fault always global bit", *["attempt"] * 3, ""]), tmp_path)
+    assert done.returncode == 0, done.stderr
+    faults = [attempt.fault for attempt in read_record(tmp_path / RECORD, "can0").attempts]
+    assert faults == ["lastbit", "global form", "good"]
+
+
+def test_one_node_of_two_goes_bus_off(program, tmp_path):
+    """whatever the other sends between, by one frame of it"""
+    opening = "".join(f"session {n}\nfeed {n} < open {name} >< rawmode >\n" for n, name in ((1, "ecu"), (2, "tester")))
+    turns = "feed 2 < send 100 0 >\nfeed 1 < send 200 0 >\nattempt\nattempt\n" * 40
+    done = run(program, ["bench", "ecu,tester"], f"{opening}fault next 32 from ecu global bit\n{turns}", tmp_path)
+    tried = [line for line in done.stdout.decode().splitlines() if line.startswith("tried")]
+    assert [line for line in tried if " destroyed " in line] == [
+        *["tried ecu 0 destroyed - -"] * 31, "tried ecu 0 destroyed - ecu",
+    ]  # fmt: skip
+    assert sum(line.startswith("tried tester ") and " done " in line for line in tried) == 40
