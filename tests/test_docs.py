@@ -189,7 +189,7 @@ def test_the_test_of_readme(clone, python_can):
     """it passes, and fails where its faults are left out"""
     code = re.search(r"^```python\n(.*?)^```$", clone.read("README.md"), re.M | re.S)[1]
     commands = next(block for block in clone.blocks("README.md") if "test_bus_off.py" in block[-1])
-    for text, passes in ((code, True), (code.replace("range(32)", "[]"), False)):
+    for text, passes in ((code, True), (code.replace('canbusd.bus_off("ecu")', "pass"), False)):
         with open(os.path.join(clone.folder, "test_bus_off.py"), "w", encoding="utf-8") as file:
             file.write(text)
         status, written = clone.shell("\n".join(commands))
@@ -304,6 +304,8 @@ REFUSED = {
     "bus off": ("", RAW + "feed 1 < send 123 0 >\n" + "attempt\n" * 32 + "feed 1 < send 123 0 >"),
     "not bus off": ("", RAW + "feed 1 < restart >"),
     "record full": ("--limit 1 ", RAW + "feed 1 < close >"),
+    "bad rule": ("", RAW + "feed 1 < fault next 0 good >"),
+    "too many rules": ("", RAW + "feed 1 " + "< fault always good >" * 65),
 }
 # A server says the one to a 65th client, and nobody can ask for the other.
 NOT_TRIED = {"too many sessions", "no memory"}

@@ -15,8 +15,8 @@ COMMANDS = {
     "dump": ("canbusd.commands.dump", "print frames as they come"),
     "send": ("canbusd.commands.send", "send frames"),
     "status": ("canbusd.commands.status", "print the state and the counts of interfaces"),
-    "fault": ("canbusd.commands.fault", "give a running bus a rule of faults"),
     "watch": ("canbusd.commands.watch", "show a running server in the browser"),
+    "fault": ("canbusd.commands.fault", "give a running bus a rule of faults"),
     "report": ("canbusd.commands.report", "show the run of a record as a page, or as text"),
     "replay": ("canbusd.commands.replay", "replay a record, and list what happened in it"),
 }
