@@ -127,6 +127,16 @@ def test_idle_attempts_are_steps_between_the_others():
     assert header["first"] == 31
 
 
+def test_the_rule_of_an_attempt():
+    rules = ["next 31 from can0 global bit"] * 31 + [""]
+    header, column = data_of(page(bus_off(), NAMES, "run.rec", rules=rules))
+    faults = [header["verdicts"][place] for place in column(header["steps"]["verdict"])]
+    assert faults[:32] == ["global bit, by `next 31 from can0 global bit`"] * 31 + ["global bit"]
+    # A run that was cut off has fewer.
+    header, _ = data_of(page(bus_off(), NAMES, "run.rec", rules=rules[:1]))
+    assert header["verdicts"][:2] == ["global bit, by `next 31 from can0 global bit`", "global bit"]
+
+
 def test_what_bus_off_took_and_refused():
     header, _ = data_of(page(bus_off(), NAMES, "run.rec"))
     lost = {

@@ -3,7 +3,8 @@ this in tests/test_rules.py of the clone."""
 
 import pytest
 
-from canbusd.rules import Plan, Rule, check_rules, parse_rule
+from canbusd.record import Attempt
+from canbusd.rules import Plan, Rule, check_rules, deciders, parse_rule
 
 EXTENDED, REMOTE = 0x80000000, 0x40000000
 
@@ -145,3 +146,31 @@ def test_which_rule_it_was():
     assert plan.verdict("a", 1) == ("lastbit", None)
     assert plan.verdict("a", 1) == ("lastbit", parse_rule("next 1 lastbit"))
     assert plan.verdict("a", 1) == ("good", None)
+
+
+def attempt(winner, frame, fault, outcome="destroyed"):
+    return Attempt(0.0, winner, 0, frame, outcome, fault, (), (), ())
+
+
+def test_which_rule_decided_an_attempt_of_a_record():
+    attempts = [
+        attempt("a", "123#", "global bit"),
+        attempt("", "", "good", "idle"),
+        attempt("a", "123#", "local crc a,b"),
+        attempt("b", "00000123#R4", "lastbit"),
+        attempt("a", "123#", "global form"),
+        attempt("a", "124##0", "good"),
+        attempt("a", "124#", "good"),
+    ]
+    plan = plan_of("next 1 from a local crc b,a,b", "next 1 id 124 good", lines={0: "global bit"})
+    injected = [parse_rule(rule) for rule in ("always id 00000123 lastbit", "next 2 global form", "always global form")]
+    assert deciders(attempts, plan, injected) == [
+        "",
+        "next 1 from a local crc b,a,b",
+        "always id 00000123 lastbit",
+        # Two of those that were injected may have given it.
+        "",
+        "next 1 id 124 good",
+        "",
+    ]
+    assert deciders(attempts, plan_of(lines={0: "global bit"})) == []

@@ -62,10 +62,11 @@ def end_of_log(path: Path) -> list[str]:
     return [f"{path} ends:" if last else f"{path} is empty", *(f"  {line}" for line in last)]
 
 
-def write_page(record: Record, path: "os.PathLike[str]") -> Path:
-    """Writes the page of a run, and returns its path."""
+def write_page(record: Record, path: "os.PathLike[str]", rules: Sequence[str] = ()) -> Path:
+    """Writes the page of a run, with the rule of each attempt if they are given, and returns its path."""
     from canbusd.report import page
 
     target = Path(path)
-    target.write_text(page(record.replay, record.names, target.with_suffix(".rec").name, 1000000), encoding="utf-8")
+    name = target.with_suffix(".rec").name
+    target.write_text(page(record.replay, record.names, name, rules=rules), encoding="utf-8")
     return target

@@ -227,6 +227,8 @@ class Bench(ProgramRun):
         # What is wrong with the words shows before the first session is used.
         self._greet()
         self._plan = plan_of(script)
+        # The rule of each attempt, where one gave its fault.
+        self._rules: list[str] = []
 
     def open(
         self,
@@ -332,12 +334,16 @@ class Bench(ProgramRun):
 
     def report(self) -> Path:
         """Ends the run, writes its page, and returns the path of that."""
-        return write_page(self.record(), self._path("html"))
+        return self._page(self.record(), self._path("html"))
 
     def audit(self) -> str:
         """Ends the run and has its record audited by the program; returns what that said, `ok 7 entries`."""
         self.stop()
         return audited(self._path("rec"))
+
+    def _page(self, record: Record, path: Path) -> Path:
+        """Writes the page of the run there."""
+        return write_page(record, path, self._rules)
 
     def _path(self, ending: str) -> Path:
         return self._out / f"{self.names[0]}.{ending}"
@@ -349,7 +355,8 @@ class Bench(ProgramRun):
             return Attempt(float(self._moment), "", 0, "", "idle", "good", (), (), restarted) if restarted else None
         number, winner = int(words["number"]), words["winner"]
         frame = self._sent[winner][number]
-        verdict, _ = self._plan.verdict(winner, identifier_word(frame))
+        verdict, rule = self._plan.verdict(winner, identifier_word(frame))
+        self._rules.append(str(rule or ""))
         return Attempt(
             float(self._moment),
             winner,

@@ -143,7 +143,9 @@ class Runs:
         faults = [*self._stop(), *self._audit()]
         failed = bool(faults) or self._item.stash.get(FAILED, False)
         if failed:
-            sections = [self._section(path, names) for path, (_, names) in self._records.items() if path.exists()]
+            sections = [
+                self._section(path, run, names) for path, (run, names) in self._records.items() if path.exists()
+            ]
             self._item.add_report_section("teardown", "canbusd", "\n\n".join(sections))
         if self._keep == "none" or (self._keep == "failed" and not failed):
             shutil.rmtree(self._folder, ignore_errors=True)
@@ -178,7 +180,7 @@ class Runs:
             if not re.fullmatch(r"ok \d+ entries", said):
                 yield f"the record {path}: {said}"
 
-    def _section(self, path: Path, names: list[str]) -> str:
+    def _section(self, path: Path, run: Union["Server", Bench], names: list[str]) -> str:
         """What a failed test shows of a bus: the end of its log, states and counts, and the path of the page."""
         lines = _summary.end_of_log(path.with_suffix(".log"))
         try:
@@ -186,7 +188,7 @@ class Runs:
             lines[:0] = _summary.story(record)
             lines += _summary.table(_summary.interfaces(record))
             if self._keep != "none":
-                page = _summary.write_page(record, path.with_suffix(".html"))
+                page = run._page(record, path.with_suffix(".html"))
                 lines.append(f"page: {page}")
         except BadRecord as fault:
             lines.append(f"{path}: {fault}")

@@ -86,20 +86,27 @@ def members(numbers: Iterable[int]) -> int:
 class Timeline:
     """The steps of a run with its idle attempts between them, in columns."""
 
-    def __init__(self, run: Replay) -> None:
+    def __init__(self, run: Replay, rules: Sequence[str]) -> None:
         self.ifaces = len(run.ifaces)
         # How many idle attempts in a row it is, shown as one step; for 0 the step itself. Those go with the step after
         # them.
         self.rows: list[tuple[int, Step]] = []
+        # Of each row the verdict, and after a line feed the rule that gave it where it is known.
+        self.faults: list[str] = []
         # Where each step of the run is among the rows.
         self.places: list[int] = []
         for step in run.steps:
             if step.idle:
                 self.rows.append((step.idle, step))
+                self.faults.append("")
             self.places.append(len(self.rows))
             self.rows.append((0, step))
+            is_ruled = step.kind != "restart" and step.attempt < len(rules)
+            rule = rules[step.attempt] if is_ruled else ""
+            self.faults.append(f"{step.verdict}\n{rule}" if rule else step.verdict)
         if run.idle_since:
             self.rows.append((run.idle_since, run.steps[-1] if run.steps else blank_step(self.ifaces)))
+            self.faults.append("")
         self.kinds = bytes(KINDS.index("idle" if idle else step.kind) for idle, step in self.rows)
         self.counts = self.counts_of()
         self.waiting = [[0 if idle else step.waiting[i] for idle, step in self.rows] for i in range(self.ifaces)]
@@ -124,7 +131,9 @@ class Timeline:
             "iface": block.column("B", (step.iface if step else 0 for step in tried)),
             "number": block.column("I", (idle or step.number for idle, step in rows)),
             "frame": block.column("I", (texts.place(step.text) if step else 0 for step in tried)),
-            "verdict": block.column("I", (verdicts.place(step.verdict) if step else 0 for step in tried)),
+            "verdict": block.column(
+                "I", (verdicts.place(fault) if step else 0 for fault, step in zip(self.faults, tried))
+            ),
             "accepted": block.column("H", (members(step.accepted) if step else 0 for step in tried)),
             "hit": block.column("H", (members(step.hit) if step else 0 for step in tried)),
             "off": block.column("H", (members(step.off) if step else 0 for step in tried)),
@@ -255,12 +264,25 @@ def lost_frames(run: Replay, places: Sequence[int], texts: Texts) -> Json:
     }
 
 
-def data_of(run: Replay, names: Sequence[str], title: str, most_items: int, database: Optional[Database] = None) -> str:
+def fault_of(fault: str, names: Sequence[str]) -> str:
+    """A verdict in words, and the rule that gave it: ``global bit, by `next 32 from ecu global bit` ``."""
+    verdict, _, rule = fault.partition("\n")
+    return verdict_words(verdict, names) + (f", by `{rule}`" if rule else "")
+
+
+def data_of(
+    run: Replay,
+    names: Sequence[str],
+    title: str,
+    most_items: int,
+    database: Optional[Database] = None,
+    rules: Sequence[str] = (),
+) -> str:
     """The data of a page, as its script reads it."""
     block, texts, verdicts = Block(), Texts(), Texts()
     # Place 0 is no error message frame.
     texts.place("")
-    timeline = Timeline(run)
+    timeline = Timeline(run, rules)
     events = events_of(run, names)
     heading, first = heading_of(run, names, events)
     worst = max(run.sockets, key=lambda socket: (socket.dropped, socket.queued), default=None)
@@ -284,16 +306,21 @@ def data_of(run: Replay, names: Sequence[str], title: str, most_items: int, data
         "texts": texts.all(),
         "meanings": {place: meaning(text) for place, text in enumerate(texts.all()) if text and meaning(text)},
         **decoded_of(texts.all(), database),
-        "verdicts": [verdict_words(verdict, names) for verdict in verdicts.all()],
+        "verdicts": [fault_of(fault, names) for fault in verdicts.all()],
     }
     return block.packed(header)
 
 
 def page(
-    run: Replay, names: Sequence[str], title: str, most_items: int = 1000000, database: Optional[Database] = None
+    run: Replay,
+    names: Sequence[str],
+    title: str,
+    most_items: int = 1000000,
+    database: Optional[Database] = None,
+    rules: Sequence[str] = (),
 ) -> str:
-    """Returns the page of a run, with its first items."""
-    data = data_of(run, names, title, most_items, database)
+    """Returns the page of a run, with its first items, and with the rule of each attempt, if they are given."""
+    data = data_of(run, names, title, most_items, database, rules)
     return filled("page.html", ["core.js", "lanes.js", "lists.js", "page.js"]).replace("/*RUN*/", data)
 
 

@@ -10,10 +10,13 @@ A bench asks here what its rules give, and so does the page of a run, since no r
 import re
 from collections.abc import Iterable, Mapping, Sequence
 from dataclasses import dataclass
-from typing import Optional
+from typing import TYPE_CHECKING, Optional
 
 from canbusd._text import NAME, shown
-from canbusd.frames import EXTENDED, INVERTED, passes_filters
+from canbusd.frames import EXTENDED, INVERTED, Frame, identifier_word, passes_filters
+
+if TYPE_CHECKING:
+    from canbusd.record import Attempt
 
 #: How many rules a bus has at most.
 MOST_RULES = 64
@@ -218,3 +221,31 @@ class Plan:
                 self._active.remove(active)
             return active.rule.verdict, active.rule
         return "good", None
+
+
+def deciders(attempts: Iterable["Attempt"], plan: Plan, injected: Sequence[Rule] = ()) -> list[str]:
+    """Returns the rule that gave each attempt of a run its fault, as far as it is known; the empty text where it is not.
+
+    `plan` is that of the start, and is used up here. When the rules were injected no record says, so a fault that the plan
+    does not give is of the only one of them that fits it, if there is one. Without any rule the list is empty.
+    """
+    found: list[str] = []
+    if not (plan.rules or injected):
+        return found
+    for attempt in attempts:
+        if attempt.outcome == "idle":
+            continue
+        word = identifier_word(Frame.parse(attempt.frame))
+        verdict, rule = plan.verdict(attempt.winner, word)
+        fits = {rule} if rule else set()
+        if not is_same(verdict, attempt.fault):
+            fits = {
+                one for one in injected if is_same(one.verdict, attempt.fault) and one.matches(attempt.winner, word)
+            }
+        found.append(str(fits.pop()) if len(fits) == 1 else "")
+    return found
+
+
+def is_same(verdict: str, other: str) -> bool:
+    """Whether two verdicts are the same, in whatever order they name interfaces."""
+    return verdict.split(" ")[:2] == other.split(" ")[:2] and {*seen_by(verdict)} == {*seen_by(other)}

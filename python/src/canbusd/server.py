@@ -21,10 +21,10 @@ from canbusd._injection import RuleSession
 from canbusd._program import audited, find_program
 from canbusd._process import RUNNING, ProgramRun, check_names, option_words
 from canbusd.expectations import Expectations
-from canbusd.faults import Script, rules_of, script_text
+from canbusd.faults import Script, plan_of, rules_of, script_text
 from canbusd.log import read_log
 from canbusd.record import Record, read_record
-from canbusd.rules import check_rules
+from canbusd.rules import Rule, check_rules, deciders
 
 if TYPE_CHECKING:
     from can.message import Message
@@ -81,6 +81,12 @@ def bus_words(
     return by_bus
 
 
+def script_of(bus: str) -> str:
+    """The text of the script of a bus, as the program was given it; the empty text where it is gone since."""
+    _, _, file = bus.partition("@")
+    return Path(file).read_text(encoding="utf-8") if os.path.isfile(file) else ""
+
+
 class Server(Expectations, ProgramRun):
     """`canbusd serve` with these buses, each the names of its interfaces: ``Server("can0,can1", "car0")``.
 
@@ -123,6 +129,8 @@ class Server(Expectations, ProgramRun):
         super().__init__(out)
         self._txqueue = txqueue
         self._by_bus = bus_words(buses, faults, self._folder)
+        # The rules that were injected here, by the first interface of their bus.
+        self._injected: dict[str, list[Rule]] = {}
         self._observer: Optional[Observer] = None
         for name in observed:
             self._first(name)
@@ -160,10 +168,11 @@ class Server(Expectations, ProgramRun):
         `interface` is one of the bus; it may be left out where there is one bus. Refused where the bus would have more
         than 64 rules: those before the one that is named are in force.
         """
-        rules = rules_of(faults)
-        check_rules(rules, self._by_bus[self._first(interface, "interface")][:-1])
+        rules, first = rules_of(faults), self._first(interface, "interface")
+        check_rules(rules, self._by_bus[first][:-1])
         with self._rule_session(interface) as session:
             session.inject(faults)
+        self._injected.setdefault(first, []).extend(rules)
 
     def rules_left(self, interface: Optional[str] = None) -> int:
         """Returns how many rules of faults a bus has that are not used up, those without end too."""
@@ -245,9 +254,15 @@ class Server(Expectations, ProgramRun):
 
     def report(self, name: Optional[str] = None) -> Path:
         """Ends the server, and returns the path of a page for the browser that shows the run of the bus."""
+        return self._page(self.record(name), self._file(name, "html"))
+
+    def _page(self, record: Record, path: Path) -> Path:
+        """Writes the page of the bus with this record there."""
         from canbusd._summary import write_page
 
-        return Path(write_page(self.record(name), self._file(name, "html")))
+        first = record.names[0]
+        plan = plan_of(script_of(self._by_bus[first][-1]))
+        return write_page(record, path, deciders(record.attempts, plan, self._injected.get(first, [])))
 
     def _rule_session(self, interface: Optional[str]) -> RuleSession:
         """A session for the rules of the bus of this interface."""

@@ -5,15 +5,19 @@ import io
 import os
 import sys
 from collections.abc import Iterable
+from pathlib import Path
 
 from canbusd import _summary, drawings
 from canbusd._command import add_record, replayed
 from canbusd.commands import add_database, database_of
+from canbusd.faults import plan_of, script_text
+from canbusd.rules import deciders
 
 EPILOG = """\
 The page is one file, which needs no network. It has a time line with a lane for each interface: its attempts, state,
 error counters and queue; the chosen attempt in detail, with its arbitration bit by bit; and lists of events, attempts
-and items, which follow it. The record is replayed by the rules of the bus, and one that breaks them is refused.
+and items, which follow it. The record is replayed by the rules of the bus, and one that breaks them is refused. With the
+script of faults of the run the page says which of its rules gave an attempt its fault.
 
   canbusd bench --record run.rec can0,can1 < first_frame.bench
   python3 -m canbusd report --names can0,can1 run.rec > run.html
@@ -29,6 +33,7 @@ def add_arguments(parser: argparse.ArgumentParser) -> None:
     parser.add_argument(
         "--items", type=int, default=1000000, metavar="N", help="items on the page at most (default 1000000)"
     )
+    parser.add_argument("--faults", metavar="FILE", help="the script of faults that the run had")
     parser.add_argument("--text", action="store_true", help="write events as text, and both of the following")
     parser.add_argument(
         "--counters", action="store_true", help="draw the error counters after each attempt and restart"
@@ -53,11 +58,13 @@ def run(options: argparse.Namespace) -> None:
         return
     from canbusd.report import page
 
+    rules: list[str] = []
+    if options.faults is not None:
+        rules = deciders(record.attempts, plan_of(script_text(Path(options.faults))))
+    title = os.path.basename(options.record)
     if isinstance(sys.stdout, io.TextIOWrapper):
         sys.stdout.reconfigure(encoding="utf-8")
-    sys.stdout.write(
-        page(record.replay, record.names, os.path.basename(options.record), max(options.items, 0), database_of(options))
-    )
+    sys.stdout.write(page(record.replay, record.names, title, max(options.items, 0), database_of(options), rules))
 
 
 def write(lines: Iterable[str]) -> None:

@@ -446,7 +446,7 @@ function attemptCells(step) {
   const kind = steps.kind[step];
   if (kind === IDLE) return ["idle", "", "", "", times(steps.number[step], "idle attempt"), "", "", ""];
   if (kind === RESTART) return ["restart", momentOf(step), names[steps.iface[step]], "", "", outcome(kind), "", ""];
-  const fault = faultOf(step) === "none" ? "" : faultOf(step);
+  const fault = faultOf(step).replace(/, by .*/, "").replace(/^none$/, "");
   return [grouped(attemptOf[step]), momentOf(step), names[steps.iface[step]], grouped(steps.number[step]),
     [textOf(step), messageOf(steps.frame[step])], outcome(kind), fault,
     steps.accepted[step] ? listed(steps.accepted[step]) : ""];
