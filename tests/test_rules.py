@@ -14,11 +14,13 @@ import pytest
 from canbusd.faults import lines_of, plan_of
 from canbusd.frames import Frame, identifier_word
 from canbusd.record import read_record
-from canbusd.rules import MOST_RULES, Plan, check_rules, is_rule, parse_rule
+from canbusd.rules import MOST_RULES, NAMES, Plan, check_rules, is_rule, parse_rule
 from random_rules import RECORD, RuleMaker
 from serving import Plain, plain, serving
 
 LASTBIT = "next 1 lastbit"
+# What is before the names of senders, and these.
+SENDERS = re.compile(f"(?:next (?!0+ )[0-9]{{1,8}}|always) from ({NAMES})(?: |$)")
 
 
 def said(text, names, plan):
@@ -26,7 +28,10 @@ def said(text, names, plan):
     try:
         rule = parse_rule(text)
     except ValueError:
-        return None, "bad rule"
+        # The first word that is wrong decides, and so does an unknown sender before another fault.
+        senders = SENDERS.match(text)
+        known = not senders or {*senders[1].split(",")} <= {*names}
+        return None, "bad rule" if known else "no such interface"
     try:
         check_rules([rule], names)
     except ValueError:
@@ -201,10 +206,9 @@ def test_words_too_many(program, tmp_path, message):
 
 
 def test_a_rule_without_words(program, tmp_path):
-    done = run(program, ["bench", "can0"], "session 1\nfeed 1 < open can0 >< fault >< Fault next 1 good >\n", tmp_path)
-    assert re.fullmatch(
-        "1 < ok >< error bad (rule|word count) >< error unknown command >", done.stdout.decode().split("\n")[1]
-    )
+    lines = "session 1\nfeed 1 < open can0 >< fault >< Fault next 1 good >\n"
+    done = run(program, ["bench", "can0"], lines, tmp_path)
+    assert done.stdout.decode().splitlines()[-1] == "1 < ok >< error bad word count >< error unknown command >"
 
 
 # Each verdict of a rule, and what two receivers get of a frame.
