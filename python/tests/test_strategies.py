@@ -45,10 +45,23 @@ def test_the_program_takes_plans(plan):
         assert [attempt.fault for attempt in bench.run()][0] == plan.of(0)
 
 
+@quiet
+@given(fault_plans(NAMES, most_rules=4))
+def test_the_program_takes_rules(plan):
+    assert eval(repr(plan)) == plan
+    with Bench(NAMES, faults=plan) as bench:
+        bench.open("can0").send(0x123)
+        bench.open("can1").send(0x124)
+        faults = [attempt.fault for attempt in bench.run()]
+        assert [attempt.fault for attempt in bench.record().attempts] == faults
+
+
 def test_plans_shrink():
     assert find(fault_plans(NAMES), lambda plan: True, settings=quiet) == Faults()
     found = find(fault_plans(NAMES), lambda plan: plan.of(3).startswith("local"), settings=quiet)
     assert repr(found) == "Faults().local('crc', ['can0'], 3)"
+    found = find(fault_plans(NAMES, most_rules=2), lambda plan: plan.rules, settings=quiet)
+    assert repr(found) == "Faults().next(1).last_bit()"
 
 
 @quiet

@@ -17,6 +17,7 @@ from hypothesis.strategies import SearchStrategy
 
 from canbusd.faults import Faults
 from canbusd.frames import FD_LENGTHS, Frame
+from canbusd.rules import Rule
 
 Names = Union[str, Sequence[str]]
 
@@ -77,18 +78,28 @@ def faults_of_one(names: Names) -> SearchStrategy[str]:
     return st.one_of(st.sampled_from(["lastbit", "global bit", "global form"]), local)
 
 
-def fault_plans(names: Names, attempts: int = 32, most: int = 8) -> SearchStrategy[Faults]:
-    """Fault plans of a bus with these interfaces: at most so many faults, in the first attempts.
+def rules(names: Names, attempts: int = 32) -> SearchStrategy[Rule]:
+    """Rules for the next attempts of one interface or of any, which may skip some; neither is more than `attempts`."""
+    known = listed(names)
+    senders = st.one_of(st.just(()), st.sampled_from(known).map(lambda name: (name,)))
+    counts, skips = st.integers(1, attempts), st.integers(0, attempts)
+    return st.builds(Rule, counts, faults_of_one(names), senders, st.none(), skips)
+
+
+def fault_plans(names: Names, attempts: int = 32, most: int = 8, most_rules: int = 0) -> SearchStrategy[Faults]:
+    """Fault plans of a bus with these interfaces: at most so many faults, in the first attempts, and at most so many rules.
 
     They shrink to few faults in early attempts, of which one in the last bit is the simplest.
     """
-    numbers = st.integers(0, attempts - 1)
-    return st.dictionaries(numbers, faults_of_one(names), max_size=most).map(plan_of)
+    verdicts = st.dictionaries(st.integers(0, attempts - 1), faults_of_one(names), max_size=most)
+    return st.builds(plan_of, verdicts, st.lists(rules(names, attempts), max_size=most_rules))
 
 
-def plan_of(verdicts: dict[int, str]) -> Faults:
-    """The plan with these faults, by the numbers of attempts."""
+def plan_of(verdicts: dict[int, str], given: Sequence[Rule] = ()) -> Faults:
+    """The plan with these faults, by the numbers of attempts, and these rules."""
     plan = Faults()
+    for rule in given:
+        plan._add_rule(rule)
     for attempt, verdict in sorted(verdicts.items()):
         plan._add(verdict, attempt)
     return plan
