@@ -14,7 +14,7 @@ from typing import TYPE_CHECKING, Optional, TypeVar
 
 from canbusd._connection import LONGEST_POLL, POLL
 from canbusd._protocol import STATES, ErrorCounters, Stats
-from canbusd.faults import Faults
+from canbusd.faults import Faults, Script
 from canbusd.frames import described_line, frame_like
 
 if TYPE_CHECKING:
@@ -74,6 +74,10 @@ class Expectations:
         """The observer of the server."""
         raise NotImplementedError
 
+    def inject(self, faults: Script, interface: Optional[str] = None) -> None:
+        """Gives the bus of an interface rules of faults."""
+        raise NotImplementedError
+
     def error_counters(self, name: str) -> ErrorCounters:
         """Returns the state of an interface and its error counts, while the server runs.
 
@@ -92,7 +96,7 @@ class Expectations:
         injected. AssertionError where it is not off after these seconds; its text says where it sent nothing.
         """
         __tracebackhide__ = True
-        drive = Drive(self._observing().bus(name), name)
+        drive = Drive(self._observing().bus(name), name, self.inject)
         counters = wait_for(drive.off, timeout)
         if counters is None:
             raise AssertionError(f"{drive.failure(timeout)}{self._observing().shown()}")
@@ -164,8 +168,8 @@ class Expectations:
 class Drive:
     """Destroys the next frames of an interface until it is bus off, and no frame after that."""
 
-    def __init__(self, bus: "CanbusdBus", name: str) -> None:
-        self._bus, self._name = bus, name
+    def __init__(self, bus: "CanbusdBus", name: str, inject: Callable[[Faults, str], None]) -> None:
+        self._bus, self._name, self._inject = bus, name, inject
         self._counters, self._stats = bus.error_counters(), bus.stats()
         # When the last rule was injected: how many others there were, and how many frames the interface had done.
         self._injected: Optional[tuple[int, int]] = None
@@ -179,7 +183,7 @@ class Drive:
         if self._injected is None or (left <= self._injected[0] and stats.done > self._injected[1]):
             # The first rule, or one for what frames have taken off the count that went through before it.
             missing = -(-(OFF - counters.tec) // DESTROYED)
-            self._bus.inject(Faults().next(missing, sender=self._name).destroyed())
+            self._inject(Faults().next(missing, sender=self._name).destroyed(), self._name)
             self._injected = left, stats.done
         return None
 
