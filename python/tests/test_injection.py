@@ -151,6 +151,7 @@ def test_what_a_bench_does_not_take():
         assert can0.rules_left() == 64
         can0.send(0x123)
         assert bench.attempt().fault == "good"
+        can0.end_rules()
     with pytest.raises(ValueError, match="ended"):
         bench.inject("next 1 good")
 
