@@ -314,7 +314,7 @@ fn rules_are_asked_of_the_port(rt: HostRuntime) {
         for (piece, want) in cases {
             says(&rt, &mut session, piece, 0, &mut port, want);
         }
-        same(&rt, port.calls, called + 4);
+        same(&rt, port.calls, called.saturating_add(4));
     }
 }
 
