@@ -1,4 +1,4 @@
-use crate::conn::{Conn, Out};
+use crate::conn::Conn;
 use crate::door::Door;
 use crate::guests::NotAdmitted;
 use crate::notice::Notice;
@@ -8,11 +8,10 @@ use can_fault::FaultSource;
 use can_frame::Moment;
 use can_hub::Tally;
 use can_meter::MeterName;
-use can_proto::{Cause, refusal_text};
+use can_proto::Cause;
 use can_roll::RollName;
 use can_station::Gate;
 use std::alloc::Global;
-use std::io::Write;
 use std::sync::{Arc, Wait};
 use std::thread::Threads;
 use std::time::Duration;
@@ -134,8 +133,7 @@ impl<
             }
             Err(NotAdmitted::Closed) => Next::Closed,
             Err(NotAdmitted::Full) => {
-                let text = refusal_text(Cause::TooManySessions);
-                let _ = Out(&conn).write_all(text.as_bytes());
+                conn.refuse(Cause::TooManySessions);
                 conn.shutdown();
                 self.host.tell(Notice::TurnedAway { session, from });
                 Next::Nobody

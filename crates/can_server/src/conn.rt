@@ -1,5 +1,6 @@
 ghost use Rattle.std.specs.Prelude.{◌≤◌, length, IfOk};
 
+use can_proto::{Cause, refusal_text};
 use std::io;
 use std::io::{Read, Write};
 use std::net::{Shutdown, SocketAddr, TcpStream};
@@ -35,6 +36,12 @@ impl Conn {
             return None;
         };
         stream.peer_addr().ok()
+    }
+
+    /// Writes why the client is refused, as far as it goes out.
+    pub fn refuse(&self, cause: Cause) {
+        let text = refusal_text(cause);
+        let _ = Out(self).write_all(text.as_bytes());
     }
 
     /// Ends both directions: a thread that reads or writes here returns.

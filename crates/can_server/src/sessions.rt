@@ -8,6 +8,7 @@ use can_fault::FaultSource;
 use can_frame::Iface;
 use can_hub::Tally;
 use can_meter::MeterName;
+use can_proto::Cause;
 use can_roll::RollName;
 use can_station::{Gate, Station, Wake};
 use std::sync::{Mutex, Wait};
@@ -61,6 +62,7 @@ impl<
     fn converse(&self, admitted: &Admitted) -> Tally {
         let most = self.host.write_bytes();
         let Ok(mut talk) = Talk::new(self.rt, self.alloc, self.hub, most) else {
+            admitted.conn.refuse(Cause::NoMemory);
             return Tally::none();
         };
         if !talk.greet(&admitted.conn) {
