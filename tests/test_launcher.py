@@ -110,6 +110,15 @@ def test_few_file_descriptors(copy):
     assert "`ulimit -n 20`" in copy.run("bash", "-c", "ulimit -n 14; exec ./canbusd --version").stderr
 
 
+def test_file_past_its_limit(copy):
+    """a write fault, and no end by SIGXFSZ"""
+    assert copy.status("./canbusd", "--version") == 0
+    line = "ulimit -f 0; printf '' | ./canbusd bench --record run.rec can0"
+    done = copy.run("bash", "-c", line)
+    assert done.returncode == 1 and done.stderr.startswith("canbusd: write fault\n"), done
+    assert not (copy.folder / "run.rec").exists()
+
+
 def test_changed_proof(copy):
     """a change of a proof makes no other program"""
     assert copy.status("./canbusd", "--version") == 0
