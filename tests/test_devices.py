@@ -146,11 +146,14 @@ def test_record_of_a_bench(tmp_path):
         saw = run("bench", "--record", f"/dev/fd/{writer}", "can0,can1", pass_fds=[writer])
         faults = [["canbusd: write fault"], [f"canbusd: cannot open /dev/fd/{writer}"]]
         assert saw[:2] == (1, OUTPUT) and saw[2] in faults, f"{saw}"
+    path = os.path.join(tmp_path, "run.rec")
+    with open(path, "w", encoding="ascii") as file:
+        file.write("of another run\n")
     for most in (0, 1, 100):
-        path = os.path.join(tmp_path, "run.rec")
         expect(f"{most} bytes", grown("bench", "--record", path, "can0,can1", most=most), 1, OUTPUT, "write fault")
-        saw = run("audit", path)
-        assert saw[:2] == (1, ""), f"the audit of {most} bytes: {saw}"
+        with open(path, encoding="ascii") as file:
+            assert file.read() == "of another run\n", f"the old record, after {most} bytes of a new one"
+        assert os.listdir(tmp_path) == ["run.rec"]
 
 
 def test_log_of_a_bench(tmp_path):

@@ -3,7 +3,8 @@ use Rattle.std.specs.Prelude.{IsErrAnd}
 use Rattle.std.specs.Io.KnownBytes.{Appends, Keeps}
 use Rattle.std.proofs.KnownBytes.{Keeps-refl}
 use Rattle.can_frame.specs.Names.{AreNames, names_in}
-use Rattle.can_fault.specs.Sources.{VerdictMap}
+use Rattle.can_fault.specs.Sources.{VerdictMap, no_verdicts}
+use Rattle.can_rules.specs.Plans.{PlanSeen}
 use Rattle.can_event.specs.declared.bus_config.BusConfig.{BusConfig}
 use Rattle.can_event.specs.Events.{IsConfig}
 use Rattle.can_record.specs.Journal.{Kept}
@@ -11,11 +12,11 @@ use Rattle.can_bus.specs.Legal.{IsLegal}
 use Rattle.can_session.specs.declared.bench_run.BenchFault.{BenchFault}
 use Rattle.can_session.specs.declared.bench_run.BenchFault.TheVariants.{BadConfig, BadLine, TooLong, Read, Write, NoMemory}
 use Rattle.can_session.specs.Benches.{BenchState}
-use Rattle.can_session.specs.Runs.{EndsOver, IsBench, Ran, at_start}
+use Rattle.can_session.specs.Runs.{EndsOver, IsBench, Ran, at_start_with}
 use Rattle.canbusd_options.specs.declared.bench_options.BenchOptions.{BenchOptions}
 use Rattle.canbusd_faults.specs.declared.fault.Fault.{Fault}
 use Rattle.canbusd_faults.specs.declared.fault.Fault.TheVariants as fault
-use Rattle.canbusd_files.specs.Buses.{AreVerdicts, config_of}
+use Rattle.canbusd_files.specs.Buses.{IsPlan, config_of}
 use Rattle.canbusd_bench.specs.Benched.{FailsBy, IsBenched, IsRun, IsStopped, MeetsRefusal, StopsBy, begun}
 use Rattle.canbusd_bench.specs.Refusals.{GrowsByRefusal, GrowsQuietly}
 use Rattle.canbusd_bench.specs.inner.Watched.{told}
@@ -24,42 +25,42 @@ use Rattle.canbusd_bench.proofs.Watching.{Watching, loudly, nothing, quiet_if, s
 -- A run of the bench over the configuration that options describe.
 
 -- what a bench of this configuration replied
-pub record Answered {W : Type 0} (contents : W → Option (List ℕ)) (c : BusConfig) (capacity : ℕ) (names : List (List ℕ)) (verdicts : VerdictMap) (input : Option (List ℕ)) (out : W) (r : Result Kept BenchFault) (new : W) : Type 0 where
+pub record Answered {W : Type 0} (contents : W → Option (List ℕ)) (c : BusConfig) (capacity : ℕ) (names : List (List ℕ)) (plan : PlanSeen) (input : Option (List ℕ)) (out : W) (r : Result Kept BenchFault) (new : W) : Type 0 where
   pub bad : (r ≡ Err BadConfig) ↔ (IsBench names c capacity → ⊥)
   pub untouched : r ≡ Err BadConfig → new ≡ out
-  pub runs : r ≢ Err BadConfig → EndsOver contents verdicts input (at_start names c capacity) out r new
+  pub runs : r ≢ Err BadConfig → EndsOver contents no_verdicts input (at_start_with plan names c capacity) out r new
 
 -- a run that came to its end
-pub ended : {W : Type 0} (contents : W → Option (List ℕ)) (c : BusConfig) (o : BenchOptions) (names : List (List ℕ)) (verdicts : VerdictMap) (input : Option (List ℕ)) (out new : W) (r : Kept)
-    → c ≡ config_of o.settings (length names) → Answered contents c o.settings.rx_capacity names verdicts input out (Ok r) new
-    → EndsOver contents verdicts input (begun o names) out (Ok r) new
-ended contents c o names verdicts input out new r is a = subst (λ (k : BusConfig). EndsOver contents verdicts input (at_start names k o.settings.rx_capacity) out (Ok r) new) is (a.runs (search rules))
+pub ended : {W : Type 0} (contents : W → Option (List ℕ)) (c : BusConfig) (o : BenchOptions) (names : List (List ℕ)) (plan : PlanSeen) (input : Option (List ℕ)) (out new : W) (r : Kept)
+    → c ≡ config_of o.settings (length names) → Answered contents c o.settings.rx_capacity names plan input out (Ok r) new
+    → EndsOver contents no_verdicts input (begun plan o names) out (Ok r) new
+ended contents c o names plan input out new r is a = subst (λ (k : BusConfig). EndsOver contents no_verdicts input (at_start_with plan names k o.settings.rx_capacity) out (Ok r) new) is (a.runs (search rules))
 
-stops : {W : Type 0} (contents : W → Option (List ℕ)) (o : BenchOptions) (names : List (List ℕ)) (verdicts : VerdictMap) (input : Option (List ℕ)) (out new : W) (why : BenchFault)
-    → Answered contents (config_of o.settings (length names)) o.settings.rx_capacity names verdicts input out (Err why) new
-    → StopsBy contents o names verdicts input out (fault.Bench why) new
-stops contents o names verdicts input out new BadConfig a = (a.bad.0 refl, a.untouched refl)
-stops contents o names verdicts input out new (BadLine n) a = a.runs (search rules)
-stops contents o names verdicts input out new TooLong a = a.runs (search rules)
-stops contents o names verdicts input out new Read a = a.runs (search rules)
-stops contents o names verdicts input out new Write a = a.runs (search rules)
-stops contents o names verdicts input out new NoMemory a = a.runs (search rules)
+stops : {W : Type 0} (contents : W → Option (List ℕ)) (o : BenchOptions) (names : List (List ℕ)) (plan : PlanSeen) (input : Option (List ℕ)) (out new : W) (why : BenchFault)
+    → Answered contents (config_of o.settings (length names)) o.settings.rx_capacity names plan input out (Err why) new
+    → StopsBy contents o names plan input out (fault.Bench why) new
+stops contents o names plan input out new BadConfig a = (a.bad.0 refl, a.untouched refl)
+stops contents o names plan input out new (BadLine n) a = a.runs (search rules)
+stops contents o names plan input out new TooLong a = a.runs (search rules)
+stops contents o names plan input out new Read a = a.runs (search rules)
+stops contents o names plan input out new Write a = a.runs (search rules)
+stops contents o names plan input out new NoMemory a = a.runs (search rules)
 
 -- a run that ended in a fault
-pub stopped : {W : Type 0} (contents : W → Option (List ℕ)) (c : BusConfig) (o : BenchOptions) (names : List (List ℕ)) (verdicts : VerdictMap) (input : Option (List ℕ)) (out new : W) (why : BenchFault) (f : Fault)
-    → c ≡ config_of o.settings (length names) → f ≡ fault.Bench why → Answered contents c o.settings.rx_capacity names verdicts input out (Err why) new
-    → StopsBy contents o names verdicts input out f new
-stopped contents c o names verdicts input out new why f is told a =
-    subst (λ (x : Fault). StopsBy contents o names verdicts input out x new) (sym told)
-    (stops contents o names verdicts input out new why (subst (λ (k : BusConfig). Answered contents k o.settings.rx_capacity names verdicts input out (Err why) new) is a))
+pub stopped : {W : Type 0} (contents : W → Option (List ℕ)) (c : BusConfig) (o : BenchOptions) (names : List (List ℕ)) (plan : PlanSeen) (input : Option (List ℕ)) (out new : W) (why : BenchFault) (f : Fault)
+    → c ≡ config_of o.settings (length names) → f ≡ fault.Bench why → Answered contents c o.settings.rx_capacity names plan input out (Err why) new
+    → StopsBy contents o names plan input out f new
+stopped contents c o names plan input out new why f is told a =
+    subst (λ (x : Fault). StopsBy contents o names plan input out x new) (sym told)
+    (stops contents o names plan input out new why (subst (λ (k : BusConfig). Answered contents k o.settings.rx_capacity names plan input out (Err why) new) is a))
 
--- the same with the verdicts of the script that the options name
-pub ran : {W : Type 0} (E : Type 0) (contents : W → Option (List ℕ)) (o : BenchOptions) (names : List (List ℕ)) (verdicts : VerdictMap) (input : Option (List ℕ)) (out new : W) (r : Result Kept E)
-    → AreVerdicts o.bus.script names verdicts → IfOk r (λ k. EndsOver contents verdicts input (begun o names) out (Ok k) new)
+-- the same under the faults of the script that the options name
+pub ran : {W : Type 0} (E : Type 0) (contents : W → Option (List ℕ)) (o : BenchOptions) (names : List (List ℕ)) (plan : PlanSeen) (input : Option (List ℕ)) (out new : W) (r : Result Kept E)
+    → IsPlan o.bus.script names plan → IfOk r (λ k. EndsOver contents no_verdicts input (begun plan o names) out (Ok k) new)
     → IfOk r (λ k. k.config ≡ config_of o.settings (length names)) → IfOk r (λ k. IsConfig k.config) → IfOk r (λ k. IsLegal k.config k.history)
     → IfOk r (λ k. IsRun contents o names input out k new)
-ran E contents o names verdicts input out new (Ok k) scripted ends config proper legal = record { verdicts = verdicts; scripted = scripted; ends = ends; config = config; proper = proper; legal = legal }
-ran E contents o names verdicts input out new (Err why) scripted ends config proper legal = tt
+ran E contents o names plan input out new (Ok k) scripted ends config proper legal = record { plan = plan; scripted = scripted; ends = ends; config = config; proper = proper; legal = legal }
+ran E contents o names plan input out new (Err why) scripted ends config proper legal = tt
 
 -- the writer that took what a watcher was given, where its bytes are known: the one that was flushed
 pub record Taken {W : Type 0} (contents : W → Option (List ℕ)) (old behind new : W) (text : List ℕ) : Type 0 where
@@ -93,9 +94,9 @@ moved outer contents verdicts input b v w old new r (now, (lines, after, all, ov
     (now, (lines, after, all, over, none, record { text = out.text; short = out.short; carried = out.carried; wrote = a }, leaves))
 
 run_over : {V W : Type 0} (outer : V → Option (List ℕ)) (contents : W → Option (List ℕ)) (o : BenchOptions) (names : List (List ℕ)) (input : Option (List ℕ)) (v w : V) (old new : W) (r : Kept)
-    (run : IsRun outer o names input v r w) → Appends (contents old) (contents new) (text_in outer run.verdicts input (begun o names) v w r run.ends).0 → IsRun contents o names input old r new
+    (run : IsRun outer o names input v r w) → Appends (contents old) (contents new) (text_in outer no_verdicts input (begun run.plan o names) v w r run.ends).0 → IsRun contents o names input old r new
 run_over outer contents o names input v w old new r run a =
-    record { verdicts = run.verdicts; scripted = run.scripted; ends = moved outer contents run.verdicts input (begun o names) v w old new r run.ends a; config = run.config; proper = run.proper; legal = run.legal }
+    record { plan = run.plan; scripted = run.scripted; ends = moved outer contents no_verdicts input (begun run.plan o names) v w old new r run.ends a; config = run.config; proper = run.proper; legal = run.legal }
 
 -- known bytes that did not grow quietly, or by a refusal, are known
 unless_known : {W : Type 0} (contents : W → Option (List ℕ)) (P : Option (List ℕ) → Option (List ℕ) → Type 0) (old behind written : W)
@@ -109,7 +110,7 @@ pub benched : {V W : Type 0} (outer : V → Option (List ℕ)) (contents : W →
     → IsRun outer o (names_in o.bus.names.now) input v r w → IsBenched contents o input old new
 benched outer contents o input v w old behind flushed new r named seen none run =
     let names = names_in o.bus.names.now in
-    let text = text_in outer run.verdicts input (begun o names) v w r run.ends in
+    let text = text_in outer no_verdicts input (begun run.plan o names) v w r run.ends in
     let whole = seen_whole contents (outer v) (outer w) o.is_strict old behind flushed new seen text.0 text.1 in
     let t = taken contents (outer v) (outer w) o.is_strict old behind flushed new seen text.0 text.1 in
     record {
@@ -128,7 +129,7 @@ pub refused : {V W : Type 0} (outer : V → Option (List ℕ)) (contents : W →
     → IsRun outer o (names_in o.bus.names.now) input v r w → MeetsRefusal contents o input old new
 refused outer contents o input v w old behind flushed new r named seen some run =
     let names = names_in o.bus.names.now in
-    let text = text_in outer run.verdicts input (begun o names) v w r run.ends in
+    let text = text_in outer no_verdicts input (begun run.plan o names) v w r run.ends in
     let whole = seen_whole contents (outer v) (outer w) o.is_strict old behind flushed new seen text.0 text.1 in
     let t = taken contents (outer v) (outer w) o.is_strict old behind flushed new seen text.0 text.1 in
     record {
@@ -176,17 +177,17 @@ untouched : {W : Type 0} (contents : W → Option (List ℕ)) (before after : Op
 untouched contents before after strict old behind flushed new seen (is, same) =
     subst (λ x. Keeps (contents old) (contents x)) (sym (seen.back is)) (subst (λ x. Keeps (contents x) (contents flushed)) same seen.kept)
 
-fails_so : {V W : Type 0} (outer : V → Option (List ℕ)) (contents : W → Option (List ℕ)) (o : BenchOptions) (names : List (List ℕ)) (verdicts : VerdictMap) (input : Option (List ℕ)) (v w : V) (old behind flushed new : W) (why : Fault)
+fails_so : {V W : Type 0} (outer : V → Option (List ℕ)) (contents : W → Option (List ℕ)) (o : BenchOptions) (names : List (List ℕ)) (plan : PlanSeen) (input : Option (List ℕ)) (v w : V) (old behind flushed new : W) (why : Fault)
     → (seen : Watching contents (outer v) (outer w) o.is_strict old behind flushed new) → (w ≡ v → (seen.is ≡ seen.name) × (behind ≡ old))
-    → StopsBy outer o names verdicts input v why w → Stopped (λ x. StopsBy contents o names verdicts input old why x) contents new
-fails_so outer contents o names verdicts input v w old behind flushed new (fault.Bench BadConfig) seen same (bad, is) =
+    → StopsBy outer o names plan input v why w → Stopped (λ x. StopsBy contents o names plan input old why x) contents new
+fails_so outer contents o names plan input v w old behind flushed new (fault.Bench BadConfig) seen same (bad, is) =
     record { written = old; stops = (bad, refl); kept = untouched contents (outer v) (outer w) o.is_strict old behind flushed new seen (same is) }
-fails_so outer contents o names verdicts input v w old behind flushed new (fault.Bench (BadLine n)) seen same ends = stopped_over outer contents verdicts input (begun o names) v w o.is_strict old behind flushed new (BadLine n) seen ends
-fails_so outer contents o names verdicts input v w old behind flushed new (fault.Bench TooLong) seen same ends = stopped_over outer contents verdicts input (begun o names) v w o.is_strict old behind flushed new TooLong seen ends
-fails_so outer contents o names verdicts input v w old behind flushed new (fault.Bench Read) seen same ends = stopped_over outer contents verdicts input (begun o names) v w o.is_strict old behind flushed new Read seen ends
-fails_so outer contents o names verdicts input v w old behind flushed new (fault.Bench NoMemory) seen same ends = stopped_over outer contents verdicts input (begun o names) v w o.is_strict old behind flushed new NoMemory seen ends
-fails_so outer contents o names verdicts input v w old behind flushed new (fault.Bench Write) seen same ends = stopped_over outer contents verdicts input (begun o names) v w o.is_strict old behind flushed new Write seen ends
-fails_so outer contents o names verdicts input v w old behind flushed new _ seen same stops = absurd stops
+fails_so outer contents o names plan input v w old behind flushed new (fault.Bench (BadLine n)) seen same ends = stopped_over outer contents no_verdicts input (begun plan o names) v w o.is_strict old behind flushed new (BadLine n) seen ends
+fails_so outer contents o names plan input v w old behind flushed new (fault.Bench TooLong) seen same ends = stopped_over outer contents no_verdicts input (begun plan o names) v w o.is_strict old behind flushed new TooLong seen ends
+fails_so outer contents o names plan input v w old behind flushed new (fault.Bench Read) seen same ends = stopped_over outer contents no_verdicts input (begun plan o names) v w o.is_strict old behind flushed new Read seen ends
+fails_so outer contents o names plan input v w old behind flushed new (fault.Bench NoMemory) seen same ends = stopped_over outer contents no_verdicts input (begun plan o names) v w o.is_strict old behind flushed new NoMemory seen ends
+fails_so outer contents o names plan input v w old behind flushed new (fault.Bench Write) seen same ends = stopped_over outer contents no_verdicts input (begun plan o names) v w o.is_strict old behind flushed new Write seen ends
+fails_so outer contents o names plan input v w old behind flushed new _ seen same stops = absurd stops
 
 -- a run that failed, whose output went through a watcher
 pub failed : {V W : Type 0} (outer : V → Option (List ℕ)) (contents : W → Option (List ℕ)) (o : BenchOptions) (input : Option (List ℕ)) (v w : V) (old behind flushed new : W) (why : Fault)
@@ -194,9 +195,9 @@ pub failed : {V W : Type 0} (outer : V → Option (List ℕ)) (contents : W → 
     → FailsBy outer o (names_in o.bus.names.now) input v why w → IsStopped contents o input old why new
 failed outer contents o input v w old behind flushed new why named seen same (inl (source, is)) =
     inr (inr (named, old, inl (source, refl), untouched contents (outer v) (outer w) o.is_strict old behind flushed new seen (same is)))
-failed outer contents o input v w old behind flushed new why named seen same (inr (verdicts, scripted, stops)) =
-    let s = fails_so outer contents o (names_in o.bus.names.now) verdicts input v w old behind flushed new why seen same stops in
-    inr (inr (named, s.written, inr (verdicts, scripted, s.stops), s.kept))
+failed outer contents o input v w old behind flushed new why named seen same (inr (plan, scripted, stops)) =
+    let s = fails_so outer contents o (names_in o.bus.names.now) plan input v w old behind flushed new why seen same stops in
+    inr (inr (named, s.written, inr (plan, scripted, s.stops), s.kept))
 
 -- a run that came to its end, by whether a refusal was seen
 pub by_refusal : {A : Type 0} (r : Option A) (N P S R : Type 0) (Q : A → Type 0) → IfNone r N → IfSome r Q → (IsSome r → S) → (N → P) → (S → R) → MatchOption r P (λ a. Q a × R)

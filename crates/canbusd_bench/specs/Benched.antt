@@ -1,16 +1,17 @@
 use Rattle.std.specs.Prelude.{◌≡◌, ◌⊎◌, ℕ, true, List, length, Option, Ok, Err, IsSomeAnd, MatchOption}
 use Rattle.std.specs.Io.KnownBytes.{Keeps}
 use Rattle.can_frame.specs.Names.{AreNames, names_in}
-use Rattle.can_fault.specs.Sources.{VerdictMap}
+use Rattle.can_fault.specs.Sources.{no_verdicts}
+use Rattle.can_rules.specs.Plans.{PlanSeen}
 use Rattle.can_event.specs.Events.{IsConfig}
 use Rattle.can_record.specs.Journal.{Kept}
 use Rattle.can_bus.specs.Legal.{IsLegal}
 use Rattle.can_session.specs.declared.bench_run.BenchFault.TheVariants.{BadConfig}
 use Rattle.can_session.specs.Benches.{BenchState}
-use Rattle.can_session.specs.Runs.{EndsOver, IsBench, at_start}
+use Rattle.can_session.specs.Runs.{EndsOver, IsBench, at_start_with}
 use Rattle.canbusd_options.specs.declared.bench_options.BenchOptions.{BenchOptions}
-use Rattle.canbusd_files.specs.Buses.{AreVerdicts, config_of}
-use Rattle.canbusd_files.specs.Files.{IsOfLogFile, IsOfNames, IsOfRecordFile, IsOfSource}
+use Rattle.canbusd_files.specs.Buses.{IsPlan, config_of}
+use Rattle.canbusd_files.specs.Files.{IsOfLogFile, IsOfNames, IsOfRecordFile, IsOfPlan}
 use Rattle.canbusd_bench.specs.declared.bench_job.Ran.{Ran}
 use Rattle.canbusd_bench.specs.Refusals.{GrowsByRefusal, GrowsQuietly}
 use Rattle.canbusd_faults.specs.declared.fault.Fault.{Fault}
@@ -18,28 +19,28 @@ use Rattle.canbusd_faults.specs.declared.fault.Fault.TheVariants as fault
 
 -- What the options of a bench ask for (own choice).
 
--- the bench that options describe, with these names, before its first line
-abbrev pub begun : BenchOptions → List (List ℕ) → BenchState
-begun o names = at_start names (config_of o.settings (length names)) o.settings.rx_capacity
+-- the bench that options describe, with these faults and names, before its first line
+abbrev pub begun : PlanSeen → BenchOptions → List (List ℕ) → BenchState
+begun plan o names = at_start_with plan names (config_of o.settings (length names)) o.settings.rx_capacity
 
 -- how a run that options describe ends in a fault: nothing was read or written where a number is outside its limits
-abbrev pub StopsBy : {W : Type 0} → (W → Option (List ℕ)) → BenchOptions → List (List ℕ) → VerdictMap → Option (List ℕ) → W → Fault → W → Type 0
-StopsBy contents o names verdicts input out (fault.Bench BadConfig) new = (IsBench names (config_of o.settings (length names)) o.settings.rx_capacity → ⊥) × (new ≡ out)
-StopsBy contents o names verdicts input out (fault.Bench why) new = EndsOver contents verdicts input (begun o names) out (Err why) new
-StopsBy contents o names verdicts input out _ new = ⊥
+abbrev pub StopsBy : {W : Type 0} → (W → Option (List ℕ)) → BenchOptions → List (List ℕ) → PlanSeen → Option (List ℕ) → W → Fault → W → Type 0
+StopsBy contents o names plan input out (fault.Bench BadConfig) new = (IsBench names (config_of o.settings (length names)) o.settings.rx_capacity → ⊥) × (new ≡ out)
+StopsBy contents o names plan input out (fault.Bench why) new = EndsOver contents no_verdicts input (begun plan o names) out (Err why) new
+StopsBy contents o names plan input out _ new = ⊥
 
--- how a run that options describe ends in a fault of its script, before anything was written, or over the verdicts of one
+-- how a run that options describe ends in a fault of its script, before anything was written, or under the faults of one
 abbrev pub FailsBy : {W : Type 0} → (W → Option (List ℕ)) → BenchOptions → List (List ℕ) → Option (List ℕ) → W → Fault → W → Type 0
 FailsBy contents o names input out why new =
-    (IsOfSource o.bus.script names why × (new ≡ out))
-    ⊎ ((verdicts : VerdictMap) × AreVerdicts o.bus.script names verdicts × StopsBy contents o names verdicts input out why new)
+    (IsOfPlan o.bus.script names why × (new ≡ out))
+    ⊎ ((plan : PlanSeen) × IsPlan o.bus.script names plan × StopsBy contents o names plan input out why new)
 
 -- a run that options describe came to its end, with these names and this record of the bus that they describe, which is
 -- within the limits
 pub record IsRun {W : Type 0} (contents : W → Option (List ℕ)) (o : BenchOptions) (names : List (List ℕ)) (input : Option (List ℕ)) (old : W) (r : Kept) (new : W) : Type 0 where
-  pub verdicts : VerdictMap
-  pub scripted : AreVerdicts o.bus.script names verdicts
-  pub ends : EndsOver contents verdicts input (begun o names) old (Ok r) new
+  pub plan : PlanSeen
+  pub scripted : IsPlan o.bus.script names plan
+  pub ends : EndsOver contents no_verdicts input (begun plan o names) old (Ok r) new
   pub config : r.config ≡ config_of o.settings (length names)
   pub proper : IsConfig r.config
   pub legal : IsLegal r.config r.history

@@ -1,4 +1,5 @@
 ghost use Rattle.std.specs.Prelude.{◌≡◌, length, IfErr, IfOk, Ok, OnOk};
+ghost use Rattle.can_fault.specs.Sources.{no_verdicts};
 ghost use Rattle.can_event.specs.Events.{IsConfig};
 ghost use Rattle.can_bus.specs.Legal.{IsLegal};
 ghost use Rattle.can_session.specs.Runs.{EndsOver};
@@ -9,12 +10,13 @@ use crate::input_notes::input_note;
 use crate::recent::Recent;
 use crate::watch::Watch;
 use can_bus::Record;
-use can_fault::FaultSource;
+use can_fault::Perfect;
 use can_frame::Names;
+use can_rules::Plan;
 use can_session::{BenchConfig, BenchFault, Unheard, bench_noting};
 use canbusd_faults::{Failure, Fault, fixed_note, reason_note};
 use canbusd_files::{
-    INPUT, OUTPUT, bus_config, limits_note, read_names, read_source, save_log, save_record,
+    INPUT, OUTPUT, bus_config, limits_note, read_names, read_plan, save_log, save_record,
     without, write_failure,
 };
 use canbusd_options::BenchOptions;
@@ -144,38 +146,38 @@ fn run_scripted<'a, H: Files, R: Read + Drop, W: Write>(
         FailsBy W.contents options.entry names (R.remaining input) output.old failure.fault
         output.new) }
 {
-    let source = read_source(rt, alloc, options.bus, &names)?;
-    run_on(alloc, options, names, source, input, output, unheard)
+    let plan = read_plan(rt, alloc, options.bus, &names)?;
+    run_on(alloc, options, names, plan, input, output, unheard)
 }
 
 // Runs the bench of these names and faults.
-fn run_on<'a, F: FaultSource + Drop, R: Read + Drop, W: Write>(
+fn run_on<'a, R: Read + Drop, W: Write>(
     alloc: Global,
     options: BenchOptions<'_>,
     names: Names,
-    script: F,
+    plan: Plan,
     input: R,
     output: &mut W,
     unheard: &mut Unheard,
 ) -> Result<Record, Failure<'a>>
     ensures ends { IfOk result (λ r.
-        EndsOver W.contents (F.verdicts script) (R.remaining input) (begun options.entry names)
+        EndsOver W.contents no_verdicts (R.remaining input) (begun plan options.entry names)
         output.old (Ok r) output.new) }
     ensures config { IfOk result (λ r. r.config ≡ config_of options.entry.settings (length names)) }
     ensures proper { IfOk result (λ r. IsConfig r.config) }
     ensures legal { IfOk result (λ r. IsLegal r.config r.history) }
     ensures fault { IfErr result (λ failure.
-        StopsBy W.contents options.entry names (F.verdicts script) (R.remaining input)
+        StopsBy W.contents options.entry names plan (R.remaining input)
         output.old failure.fault output.new) }
 {
     let config = BenchConfig {
         config: bus_config(options.settings, &names),
         names,
-        script,
+        script: Perfect,
         rx_capacity: options.settings.rx_capacity,
     };
     let mut input = Recent::new(alloc, input);
-    match bench_noting(alloc, config, &mut input, output, unheard) {
+    match bench_noting(alloc, config, plan, &mut input, output, unheard) {
         Ok(record) => Ok(record),
         Err(fault) => {
             let notes = bench_note(alloc, fault, &options, &input);
@@ -194,7 +196,7 @@ fn bench_note<R: Read + Drop>(
     match fault {
         BenchFault::BadConfig => limits_note(alloc, &options.settings),
         BenchFault::BadLine(number) => match input.line(number) {
-            Some(line) => input_note(alloc, INPUT, number, line),
+            Some(line) => input_note(alloc, INPUT, options.bus.names, number, line),
             None => Ok(String::new(alloc)),
         },
         BenchFault::TooLong => fixed_note(

@@ -2,12 +2,15 @@
 use can_session::lines::LONGEST_LINE;
 use can_session::{Order, SessionNumber, read_order};
 use canbusd_faults::{Line, WITH_CR, fixed_note};
+use canbusd_files::rule_note;
 use std::alloc::{AllocError, Global};
+use std::str;
 
-/// The line of the bench's input that is wrong, and why.
+/// The line of the bench's input that is wrong, and why, for a bus with these names.
 pub fn input_note(
     alloc: Global,
     place: &str,
+    bus: &str,
     number: u32,
     line: &[u8],
 ) -> Result<String, AllocError> {
@@ -21,6 +24,7 @@ pub fn input_note(
         Some(Order::Feed(session, _) | Order::Drain(session) | Order::End(session)) => {
             missing_note(alloc, *session)?
         }
+        Some(Order::Fault(rule)) => rule_note(alloc, str::from_utf8(rule).unwrap_or(""), bus)?,
         _ => fixed_note(alloc, form_of(line))?,
     };
     let line = Line::new(place, u64::from(number), line);
@@ -53,6 +57,7 @@ fn form_of(line: &[u8]) -> &'static str {
         b"feed" =>
             "feed S BYTES: S is 1 to 64 without leading zeros, and one space comes before BYTES",
         b"attempt" => "nothing may follow attempt: each line makes one attempt",
-        _ => "a line begins with at, session, feed, drain, end or attempt; see canbusd help bench",
+        b"fault" => "fault RULE: one space comes before RULE",
+        _ => "a line begins with at, session, feed, drain, end, fault or attempt; see canbusd help bench",
     }
 }

@@ -1,8 +1,8 @@
 ghost use Rattle.std.specs.Prelude.{◌≡◌, IfErr, IsTrue, OnOk, false};
 
 use can_bus::BusFault;
-use can_fault::ScriptError;
 use can_record_text::ReadFault;
+use can_rules::PlanError;
 use can_session::BenchFault;
 use std::alloc::{AllocError, Global};
 use std::io::Write;
@@ -21,7 +21,7 @@ pub enum Fault<'a> {
     #[error("read fault")]
     Read,
     #[error("{0}")]
-    Script(ScriptError),
+    Script(PlanError),
     #[error("{0}")]
     Bench(BenchFault),
     /// A message of a session was refused in a run of the bench, which is strict.

@@ -3,9 +3,10 @@ use denote.Ref.{Bor}
 use Rattle.std.specs.Io.KnownBytes.{Appends}
 use Rattle.can_record.specs.Journal.{Kept}
 use Rattle.can_logfile.specs.Log.{joined, log_lines}
-use Rattle.can_fault.specs.declared.script.ScriptError.{ScriptError}
 use Rattle.can_fault.specs.declared.script.ScriptError.TheVariants as script
-use Rattle.can_fault.specs.Scripts.{Reads as Spells}
+use Rattle.can_rules.specs.declared.plan.PlanError.{PlanError}
+use Rattle.can_rules.specs.declared.plan.PlanError.TheVariants as plan
+use Rattle.can_rules.specs.Plans.{ReadsPlan}
 use Rattle.can_frame.specs.Names.{AreNames, names_in}
 use Rattle.canbusd_options.specs.declared.bus_word.BusWord.{BusWord}
 use Rattle.canbusd_options.specs.BusWords.{first_name_of}
@@ -57,19 +58,19 @@ IsOfLogFile bus path (fault.Log name lines) = name.now ≡ first_name_of bus.nam
 IsOfLogFile bus path why = IsOfNames bus.names.now why
 
 -- how a fault of a script is reported
-abbrev pub fault_of : ScriptError → Fault
-fault_of script.NoMemory = fault.NoMemory
+abbrev pub fault_of : PlanError → Fault
+fault_of (plan.Script script.NoMemory) = fault.NoMemory
 fault_of why = fault.Script why
 
--- the fault of a text that is no script for a bus with these names
+-- the fault of a text that spells no faults for a bus with these names
 abbrev pub IsOfScript : List (List ℕ) → List ℕ → Fault → Type 0
-IsOfScript names text why = (error : ScriptError) × (why ≡ fault_of error) × Spells names text (Err error)
+IsOfScript names text why = (error : PlanError) × (why ≡ fault_of error) × ReadsPlan names text (Err error)
 
 -- a fault of a script: of the file with this path, or of a text that it may hold
 abbrev pub IsOfScriptFile : List ℕ → List (List ℕ) → Fault → Type 0
 IsOfScriptFile path names why = IsOfFile path why ⊎ ((text : List ℕ) × IsOfScript names text why)
 
 -- a fault of the script of a bus: there is none where no script is named
-abbrev pub IsOfSource : Option (Bor (List ℕ)) → List (List ℕ) → Fault → Type 0
-IsOfSource None names why = ⊥
-IsOfSource (Some path) names why = IsOfScriptFile path.now names why
+abbrev pub IsOfPlan : Option (Bor (List ℕ)) → List (List ℕ) → Fault → Type 0
+IsOfPlan None names why = ⊥
+IsOfPlan (Some path) names why = IsOfScriptFile path.now names why

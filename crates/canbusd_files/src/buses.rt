@@ -1,54 +1,32 @@
 //! A bus as the words of a command line describe it: its faults and its configuration.
 ghost use Rattle.std.specs.Prelude.{◌≡◌, ◌≤◌, length, IfErr, IfOk};
-ghost use Rattle.canbusd_files.specs.Buses.{AreVerdicts, config_of, verdicts_of};
-ghost use Rattle.canbusd_files.specs.Files.{IsOfSource};
+ghost use Rattle.canbusd_files.specs.Buses.{IsPlan, config_of};
+ghost use Rattle.canbusd_files.specs.Files.{IsOfPlan};
 ghost use Rattle.canbusd_files.specs.Buses.{first_ifaces as first_ifaces_of};
 
 use crate::scripts::read_script;
 use can_bus::BusConfig;
 use can_event::{MAX_AUTO_RESTART, MAX_LIMIT, MAX_RX_CAPACITY, MAX_TX_CAPACITY};
-use can_fault::{FaultSource, Perfect, Script, Verdict};
 use can_frame::{IfaceSet, Names};
+use can_rules::Plan;
 use canbusd_faults::Failure;
 use canbusd_options::{BusSettings, BusWord};
 use std::alloc::{AllocError, Global};
 use std::rt::Files;
 
-/// Where the verdicts of a bus's attempts come from.
-#[derive(Drop)]
-pub enum Source {
-    /// A script of faults.
-    Script(Script),
-    /// No fault: each attempt is good.
-    Perfect(Perfect),
-}
-
-impl FaultSource for Source {
-    ghost use Rattle.canbusd_files.specs.Buses.{verdicts_of};
-
-    ghost verdicts = { verdicts_of };
-
-    fn verdict(&mut self, attempt: u64) -> Verdict {
-        match self {
-            Source::Script(script) => script.verdict(attempt),
-            Source::Perfect(perfect) => perfect.verdict(attempt),
-        }
-    }
-}
-
 /// The faults of a bus that has these names: those of the script that its word names, if it names one.
-pub fn read_source<'a, H: Files>(
+pub fn read_plan<'a, H: Files>(
     rt: &H,
     alloc: Global,
     bus: BusWord<'a>,
     names: &Names,
-) -> Result<Source, Failure<'a>>
-    ensures verdicts { IfOk result (λ s. AreVerdicts bus.entry.script names.now (verdicts_of s)) }
-    ensures fault { IfErr result (λ failure. IsOfSource bus.entry.script names.now failure.fault) }
+) -> Result<Plan, Failure<'a>>
+    ensures plan { IfOk result (λ p. IsPlan bus.entry.script names.now p) }
+    ensures fault { IfErr result (λ failure. IsOfPlan bus.entry.script names.now failure.fault) }
 {
     match bus.script {
-        Some(path) => Ok(Source::Script(read_script(rt, alloc, path, bus.names, names)?)),
-        None => Ok(Source::Perfect(Perfect)),
+        Some(path) => read_script(rt, alloc, path, bus.names, names),
+        None => Ok(Plan::new(alloc)),
     }
 }
 

@@ -4,6 +4,7 @@ ghost use Rattle.can_record_text.specs.Texts.{text_of};
 ghost use Rattle.canbusd_faults.specs.declared.fault.Fault.TheVariants as fault;
 ghost use Rattle.canbusd_files.specs.Files.{IsOfLogFile, IsOfRecordFile, IsOfWriting, Took, log_text};
 
+use crate::draft::Draft;
 use crate::files::{open_failure, write_failure};
 use crate::names::read_names;
 use can_bus::Record;
@@ -20,7 +21,8 @@ use std::rt::Files;
 /// How many bytes of a log go out in one write.
 const LOG_BLOCK: usize = 65_536;
 
-/// Writes the text of a record to the file with this path.
+/// Writes the text of a record to the file with this path. A file that is there stays as it is until the new one is whole: it is
+/// written beside it, with `.new` after the name, unless that is no plain file.
 pub fn save_record<'a, H: Files>(
     rt: &H,
     alloc: Global,
@@ -29,7 +31,20 @@ pub fn save_record<'a, H: Files>(
 ) -> Result<(), Failure<'a>>
     ensures { IfErr result (λ failure. IsOfRecordFile path.now failure.fault) }
 {
-    save_record_at(rt, alloc, path, path, record)
+    let no_memory = |_| Failure::new(alloc, Fault::NoMemory);
+    let draft = String::from_str(alloc, path)
+        .and_then(|path| Draft::at(rt, alloc, path))
+        .map_err(no_memory)?;
+    draft.clear(rt);
+    match save_record_at(rt, alloc, path, draft.draft(), record) {
+        Ok(()) => draft
+            .take_name(rt)
+            .map_err(|error| open_failure(alloc, path, &error)),
+        Err(failure) => {
+            draft.clear(rt);
+            Err(failure)
+        }
+    }
 }
 
 /// The same, to the file `at`: its faults are reported for `path`, whose file it will be.

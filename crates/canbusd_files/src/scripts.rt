@@ -1,25 +1,26 @@
 //! Scripts of faults: a file, and what is reported of a wrong line of it.
 ghost use Rattle.std.specs.Prelude.{List, ℕ, IfErr, IfOk, Ok};
-ghost use Rattle.can_fault.specs.Scripts.{Reads as Spells};
+ghost use Rattle.can_rules.specs.Plans.{ReadsPlan};
 ghost use Rattle.canbusd_files.specs.Files.{IsOfScript, IsOfScriptFile};
 
 use crate::files::read_file;
-use crate::names::has_name;
-use can_fault::{Script, ScriptError};
+use crate::rule_notes::{begins_as_rule, rule_note, unknown_name_note};
+use can_fault::ScriptError;
 use can_frame::Names;
-use canbusd_faults::{Failure, Fault, Line, Shown, WITH_CR, fixed_note, line_of};
+use can_rules::{Plan, PlanError};
+use canbusd_faults::{Failure, Fault, Line, WITH_CR, fixed_note, line_of};
 use std::alloc::{AllocError, Global};
 use std::rt::Files;
 
-/// The script of faults in the file with this path, for a bus with these names, which are given as they are read too.
+/// What the script of faults in the file with this path says, for a bus with these names, which are given as they are read too.
 pub fn read_script<'a, H: Files>(
     rt: &H,
     alloc: Global,
     path: &'a str,
     bus: &str,
     names: &Names,
-) -> Result<Script, Failure<'a>>
-    ensures script { IfOk result (λ script. (text : List ℕ) × Spells names.now text (Ok script)) }
+) -> Result<Plan, Failure<'a>>
+    ensures plan { IfOk result (λ plan. (text : List ℕ) × ReadsPlan names.now text (Ok plan)) }
     ensures fault { IfErr result (λ failure. IsOfScriptFile path.now names.now failure.fault) }
 {
     let text = read_file(rt, alloc, path).map_err(|failure| failure.and(path_note(path)))?;
@@ -37,20 +38,20 @@ fn path_note(path: &str) -> &'static str {
     }
 }
 
-// The script that the text of a file spells.
+// What the text of a file says.
 fn script_in<'a>(
     alloc: Global,
     path: &str,
     text: &str,
     bus: &str,
     names: &Names,
-) -> Result<Script, Failure<'a>>
-    ensures script { IfOk result (λ script. Spells names.now text.now (Ok script)) }
+) -> Result<Plan, Failure<'a>>
+    ensures plan { IfOk result (λ plan. ReadsPlan names.now text.now (Ok plan)) }
     ensures fault { IfErr result (λ failure. IsOfScript names.now text.now failure.fault) }
 {
-    match Script::read(alloc, text, names) {
-        Ok(script) => Ok(script),
-        Err(ScriptError::NoMemory) => Err(Failure::new(alloc, Fault::NoMemory)),
+    match Plan::read(alloc, text, names) {
+        Ok(plan) => Ok(plan),
+        Err(PlanError::Script(ScriptError::NoMemory)) => Err(Failure::new(alloc, Fault::NoMemory)),
         Err(fault) => {
             let notes = script_note(alloc, path, text, bus, fault);
             Err(Failure::with(alloc, Fault::Script(fault), notes))
@@ -64,19 +65,48 @@ fn script_note(
     path: &str,
     text: &str,
     names: &str,
-    fault: ScriptError,
+    fault: PlanError,
 ) -> Result<String, AllocError> {
-    let (number, note) = match fault {
-        ScriptError::BadLine(number) => (number, bad_verdict_note(alloc, line_of(text, number))?),
-        ScriptError::UnknownInterface(number) => {
-            let line = line_of(text, number);
-            (number, unknown_note(alloc, line, names)?)
-        }
-        ScriptError::RepeatedAttempt(number) => (number, repeated_note(alloc, text, number)?),
-        ScriptError::NoMemory => return Ok(String::new(alloc)),
+    let (PlanError::Script(
+        ScriptError::BadLine(number)
+        | ScriptError::UnknownInterface(number)
+        | ScriptError::RepeatedAttempt(number),
+    )
+    | PlanError::TooManyRules(number)) = fault
+    else {
+        return Ok(String::new(alloc));
     };
-    let line = Line::new(path, number as u64, line_of(text, number).as_bytes());
+    let line = line_of(text, number);
+    let note = if begins_as_rule(line) {
+        rule_note(alloc, line, names)?
+    } else {
+        numbered_note(alloc, text, names, fault)?
+    };
+    let line = Line::new(path, number as u64, line.as_bytes());
     format!(in alloc; "  {line}\n{note}")
+}
+
+// Why a line that is no rule is wrong.
+fn numbered_note(
+    alloc: Global,
+    text: &str,
+    names: &str,
+    fault: PlanError,
+) -> Result<String, AllocError> {
+    match fault {
+        PlanError::Script(ScriptError::BadLine(number)) => {
+            bad_verdict_note(alloc, line_of(text, number))
+        }
+        PlanError::Script(ScriptError::UnknownInterface(number)) => {
+            unknown_note(alloc, line_of(text, number), names)
+        }
+        PlanError::Script(ScriptError::RepeatedAttempt(number)) => {
+            repeated_note(alloc, text, number)
+        }
+        PlanError::Script(ScriptError::NoMemory) | PlanError::TooManyRules(_) => {
+            Ok(String::new(alloc))
+        }
+    }
 }
 
 fn bad_verdict_note(alloc: Global, line: &str) -> Result<String, AllocError> {
@@ -86,7 +116,7 @@ fn bad_verdict_note(alloc: Global, line: &str) -> Result<String, AllocError> {
     if !has_number(line) {
         return fixed_note(
             alloc,
-            "a line is NUMBER VERDICT, as 0 lastbit: NUMBER has 1 to 8 digits, and one space follows it",
+            "a line is NUMBER VERDICT, as 0 lastbit, or a rule, as next 32 from can0 global bit: NUMBER has 1 to 8 digits, and one space follows it",
         );
     }
     let verdict = line.split_once(' ').map_or("", |(_, verdict)| verdict);
@@ -130,16 +160,10 @@ fn has_number(line: &str) -> bool {
 // The first name after the last space that the bus does not have.
 fn unknown_note(alloc: Global, line: &str, names: &str) -> Result<String, AllocError> {
     let list = line.rsplit(' ').next().unwrap_or("");
-    match list.split(',').find(|name| !has_name(names, name)) {
-        Some(name) => {
-            let name = Shown::cut(name.as_bytes());
-            format!(in alloc; "  {name} is none of {names}\n")
-        }
-        None => Ok(String::new(alloc)),
-    }
+    unknown_name_note(alloc, list, names)
 }
 
-// Where the attempt of this line stood first.
+// Where the attempt of this line comes first.
 fn repeated_note(alloc: Global, text: &str, number: usize) -> Result<String, AllocError> {
     let attempt = attempt_of(line_of(text, number));
     let place = text

@@ -19,6 +19,7 @@ pub const BENCH_HELP: &str = "Lines of standard input, carried out one after the
   drain S            Write what the socket of session S received
   end S              End session S
   attempt            Put the frame that wins arbitration on the bus, and write what became of it
+  fault RULE         Add a rule of faults, as in a script, from here on
 Empty lines and lines that begin with # do nothing. A line has at most 4096 bytes, and all lines 16777216.
 
 Messages of a session (socketcand's raw mode), in the order of a first run:
@@ -38,6 +39,10 @@ Messages of a session (socketcand's raw mode), in the order of a first run:
   < status >                 Write < status STATE TEC REC >, from the error counters of the interface
   < restart >                Bring the interface back that is bus off, before --auto-restart does
   < close >                  Close the socket, and write < closed UNREAD DROPPED >
+Once an interface is taken, with a socket or without:
+  < fault RULE >             Add a rule of faults to its bus, as in a script
+  < faults >                 Write < faults LEFT >: how many rules are left
+  < nofaults >               End all rules of its bus
 A command that was carried out gets < ok >, an accepted send nothing, a refusal < error TEXT >. < echo > always gets < echo >.
 
 What is received: < frame ID MOMENT DATA >, < remote ID MOMENT LEN >, < fdframe ID MOMENT DATA >,
@@ -48,7 +53,11 @@ the interfaces that accepted it and that went bus off, or -. Where --auto-restar
 in restarted and their names.
 
 Lines of a script: NUMBER VERDICT, for the attempt of that number, from 0. VERDICT is good, lastbit,
-global bit, global form, local stuff NAMES, local crc NAMES or local form NAMES. Other attempts are good.
+global bit, global form, local stuff NAMES, local crc NAMES or local form NAMES. Or a RULE, in this order:
+  next N | always  [from NAMES]  [id ID | id ID:MASK]  [skip K]  VERDICT
+for the next N attempts, or all, which one of NAMES wins, with a frame of this identifier; the first K of them it leaves to the
+rules after it. As `next 32 from can0 global bit`, which takes can0 to bus off. A line with a NUMBER goes before rules, an
+earlier rule before those after it, and at most 64 are kept. Other attempts are good.
 
 Example, with what it writes:
   $ printf '%s\\n' 'session 1' 'feed 1 < open can0 >< rawmode >' 'session 2' 'feed 2 < open can1 >< rawmode >' \\
@@ -71,9 +80,8 @@ writes DIR/NAME.log, which candump's readers take, and DIR/NAME.rec, which `canb
 With --verbose standard error has a line for each client that comes, opens an interface or goes, and for each bus off.
 
 --limit is for each bus, and it is how long a run can be. Each send, each attempt and each receive of a session is an
-entry. It takes 32 bytes in the record, and up to 64 in the list of the session that made it; with an FD frame 76 more
-in the record, and up to 152 more in the list. 1000 frames a second to 4 sessions fill 1000000 entries in less than
-3 minutes. Once a bus is full each of its calls returns `record full`, and standard error says so once. With
+entry, and takes 32 bytes of memory, 108 with an FD frame. 1000 frames a second to 4 sessions fill 1000000 entries in
+less than 3 minutes. Once a bus is full each of its calls returns `record full`, and standard error says so once. With
 --auto-restart attempts go on, MS milliseconds apart, while an interface waits for its restart, and each is an entry.
 
 Example, with a client in Python (the package canbusd, and python3-can):

@@ -16,46 +16,46 @@ use Rattle.canbusd_faults.specs.declared.fault.Failure.{Failure}
 use Rattle.canbusd_faults.specs.declared.fault.Fault.{Fault}
 use Rattle.canbusd_faults.specs.declared.fault.Fault.TheVariants as fault
 use Rattle.canbusd_options.specs.declared.bus_word.BusWord.{BusWord}
-use Rattle.canbusd_files.specs.declared.buses.Source.{Source}
+use Rattle.can_fault.specs.declared.fault_source.Perfect.{Perfect}
 use Rattle.canbusd_options.specs.declared.serve_options.ServeOptions.{ServeOptions}
 use Rattle.canbusd_serve.specs.Served.{AreAllBenches, AreBenches, IsBenchOf, IsLegalEnd, IsOfBus, IsOfBuses, IsOfHub, IsOfServer, IsOfServing, MakeBenches}
 
 -- The buses of a server, one after the other.
 
 -- one more bus
-benches-push : (o : ServeOptions) (buses : List BusWord) (bs : List (Bench Source Open)) (bus : BusWord) (b : Bench Source Open) → AreBenches o buses bs → IsBenchOf o bus b → AreBenches o (buses ++ bus ∷ []) (bs ++ b ∷ [])
+benches-push : (o : ServeOptions) (buses : List BusWord) (bs : List (Bench Perfect Open)) (bus : BusWord) (b : Bench Perfect Open) → AreBenches o buses bs → IsBenchOf o bus b → AreBenches o (buses ++ bus ∷ []) (bs ++ b ∷ [])
 benches-push o [] [] bus b are is = (is, tt)
 benches-push o (x ∷ xs) (y ∷ ys) bus b are is = (are.0, benches-push o xs ys bus b are.1 is)
 benches-push o [] (y ∷ ys) bus b are is = absurd are
 benches-push o (x ∷ xs) [] bus b are is = absurd are
 
 -- the bus of the next word
-pub benches-more : (o : ServeOptions) (buses : List BusWord) (bs : List (Bench Source Open)) (i : ℕ) (bus : BusWord) (b : Bench Source Open) → i < length buses → bus ≡ get_or buses i bus → AreBenches o (take i buses) bs → IsBenchOf o bus b → AreBenches o (take (i + 1) buses) (bs ++ b ∷ [])
+pub benches-more : (o : ServeOptions) (buses : List BusWord) (bs : List (Bench Perfect Open)) (i : ℕ) (bus : BusWord) (b : Bench Perfect Open) → i < length buses → bus ≡ get_or buses i bus → AreBenches o (take i buses) bs → IsBenchOf o bus b → AreBenches o (take (i + 1) buses) (bs ++ b ∷ [])
 benches-more o buses bs i bus b below here are is =
     subst (λ l. AreBenches o l (bs ++ b ∷ [])) (ap (λ z. take i buses ++ z ∷ []) here ∙ sym (take_more buses i bus below)) (benches-push o (take i buses) bs bus b are is)
 
 -- the bus of the next word is at fault
-of-next : (o : ServeOptions) (buses : List BusWord) (bs : List (Bench Source Open)) (i : ℕ) (d : BusWord) (why : Fault) → buses ≡ o.buses.items → i < length buses → AreBenches o (take i buses) bs → IsOfBus (get_or buses i d) why → IsOfBuses o why
+of-next : (o : ServeOptions) (buses : List BusWord) (bs : List (Bench Perfect Open)) (i : ℕ) (d : BusWord) (why : Fault) → buses ≡ o.buses.items → i < length buses → AreBenches o (take i buses) bs → IsOfBus (get_or buses i d) why → IsOfBuses o why
 of-next o buses bs i d why same below are is =
     subst (λ (l : List BusWord). (k : ℕ) × MakeBenches o (take k l) × IsSomeAnd (slice_get l k) (λ bus. IsOfBus bus why)) same
     (i, (bs, are), subst (λ (b : Option BusWord). IsSomeAnd b (λ bus. IsOfBus bus why)) (sym (slice_get-get_or buses i d below)) is)
 
 -- and its fault is passed on
-pub next-fails : {T : Type 0} (o : ServeOptions) (buses : List BusWord) (bs : List (Bench Source Open)) (i : ℕ) (d : BusWord) (failure : Failure) (r : Result T Failure) → buses ≡ o.buses.items → i < length buses → AreBenches o (take i buses) bs
+pub next-fails : {T : Type 0} (o : ServeOptions) (buses : List BusWord) (bs : List (Bench Perfect Open)) (i : ℕ) (d : BusWord) (failure : Failure) (r : Result T Failure) → buses ≡ o.buses.items → i < length buses → AreBenches o (take i buses) bs
     → IsOfBus (get_or buses i d) failure.fault → IsErrAnd r (λ x. x ≡ failure) → IfErr r (λ x. IsOfServer o x.fault)
 next-fails o buses bs i d failure (Ok t) same below are is passed = tt
 next-fails o buses bs i d failure (Err x) same below are is passed =
     inl (of-next o buses bs i d x.fault same below are (subst (λ (f : Failure). IsOfBus (get_or buses i d) f.fault) (sym passed) is))
 
 -- there is one for each word
-pub benches-length : (o : ServeOptions) (buses : List BusWord) (bs : List (Bench Source Open)) → AreBenches o buses bs → length bs ≡ length buses
+pub benches-length : (o : ServeOptions) (buses : List BusWord) (bs : List (Bench Perfect Open)) → AreBenches o buses bs → length bs ≡ length buses
 benches-length o [] [] are = refl
 benches-length o (x ∷ xs) (y ∷ ys) are = ap suc (benches-length o xs ys are.1)
 benches-length o [] (y ∷ ys) are = absurd are
 benches-length o (x ∷ xs) [] are = absurd are
 
 -- their names are good
-pub benches-named : (o : ServeOptions) (buses : List BusWord) (bs : List (Bench Source Open)) → AreBenches o buses bs → All (λ bus. AreNames (names_in bus.names.now)) buses
+pub benches-named : (o : ServeOptions) (buses : List BusWord) (bs : List (Bench Perfect Open)) → AreBenches o buses bs → All (λ bus. AreNames (names_in bus.names.now)) buses
 benches-named o [] [] are = λ k d low. absurd (omega arith)
 benches-named o (x ∷ xs) (y ∷ ys) are = All-cons (λ bus. AreNames (names_in bus.names.now)) x xs (subst AreNames are.0.names are.0.good) (benches-named o xs ys are.1)
 benches-named o [] (y ∷ ys) are = absurd are
@@ -86,20 +86,20 @@ not-told P (Ok a) told if_bad if_good quiet = if_good
 not-told P (Err e) told if_bad if_good quiet = absurd (search rules)
 
 -- no hub was made of these buses
-pub hub-fails : (benches : List (Bench Source Open)) (found : BusFault) (why : Fault) → why ≡ fault.Buses found → (found ≡ BadConfig → MakeHub benches → ⊥) → IsOfHub benches why
+pub hub-fails : (benches : List (Bench Perfect Open)) (found : BusFault) (why : Fault) → why ≡ fault.Buses found → (found ≡ BadConfig → MakeHub benches → ⊥) → IsOfHub benches why
 hub-fails benches BadConfig why is bad = subst (IsOfHub benches) (sym is) (bad refl)
 hub-fails benches NoMemory why is bad = subst (IsOfHub benches) (sym is) tt
 
 -- a hub was not served to its end
-pub serving-fails : (benches : List (Bench Source Open)) (why : Fault) → IsOfServing why → IsOfHub benches why
+pub serving-fails : (benches : List (Bench Perfect Open)) (why : Fault) → IsOfServing why → IsOfHub benches why
 serving-fails benches (fault.Buses found) is = absurd is
 serving-fails benches why is = is
 
 -- and the fault is passed on
-pub serving-passed : {T : Type 0} (benches : List (Bench Source Open)) (failure : Failure) (r : Result T Failure) → IsOfServing failure.fault → IsErrAnd r (λ x. x ≡ failure) → IfErr r (λ x. IsOfHub benches x.fault)
+pub serving-passed : {T : Type 0} (benches : List (Bench Perfect Open)) (failure : Failure) (r : Result T Failure) → IsOfServing failure.fault → IsErrAnd r (λ x. x ≡ failure) → IfErr r (λ x. IsOfHub benches x.fault)
 serving-passed benches failure (Ok t) is passed = tt
 serving-passed benches failure (Err x) is passed = serving-fails benches x.fault (subst (λ (f : Failure). IsOfServing f.fault) (sym passed) is)
 
-pub hub-passed : {T : Type 0} (o : ServeOptions) (benches : List (Bench Source Open)) (failure : Failure) (r : Result T Failure) → AreAllBenches o benches → IsOfHub benches failure.fault → IsErrAnd r (λ x. x ≡ failure) → IfErr r (λ x. IsOfServer o x.fault)
+pub hub-passed : {T : Type 0} (o : ServeOptions) (benches : List (Bench Perfect Open)) (failure : Failure) (r : Result T Failure) → AreAllBenches o benches → IsOfHub benches failure.fault → IsErrAnd r (λ x. x ≡ failure) → IfErr r (λ x. IsOfServer o x.fault)
 hub-passed o benches failure (Ok t) are is passed = tt
 hub-passed o benches failure (Err x) are is passed = inr (inr (benches, are, subst (λ (f : Failure). IsOfHub benches f.fault) (sym passed) is))

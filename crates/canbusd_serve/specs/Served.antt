@@ -10,10 +10,10 @@ use Rattle.can_bus.specs.declared.bus.BusFault.TheVariants.{BadConfig, NoMemory}
 use Rattle.can_hub.specs.declared.bench.Bench.{Bench}
 use Rattle.can_hub.specs.Benches.{MakeHub}
 use Rattle.canbusd_options.specs.declared.bus_word.BusWord.{BusWord}
-use Rattle.canbusd_files.specs.declared.buses.Source.{Source}
+use Rattle.can_fault.specs.declared.fault_source.Perfect.{Perfect}
 use Rattle.canbusd_options.specs.declared.serve_options.ServeOptions.{ServeOptions}
-use Rattle.canbusd_files.specs.Buses.{AreVerdicts, config_of, verdicts_of}
-use Rattle.canbusd_files.specs.Files.{IsOfNames, IsOfSource}
+use Rattle.canbusd_files.specs.Buses.{IsPlan, config_of}
+use Rattle.canbusd_files.specs.Files.{IsOfNames, IsOfPlan}
 use Rattle.canbusd_faults.specs.declared.fault.Fault.{Fault}
 use Rattle.canbusd_faults.specs.declared.fault.Fault.TheVariants as fault
 use Rattle.canbusd_options.specs.BusWords.{first_name_of}
@@ -21,30 +21,30 @@ use Rattle.canbusd_options.specs.BusWords.{first_name_of}
 -- A server's buses, and what it puts out at its end (own choice).
 
 -- a bus of a server is what its word and the options describe
-pub record IsBenchOf (o : ServeOptions) (bus : BusWord) (b : Bench Source Open) : Type 0 where
+pub record IsBenchOf (o : ServeOptions) (bus : BusWord) (b : Bench Perfect Open) : Type 0 where
   pub names : b.names ≡ names_in bus.names.now
   pub good : AreNames b.names
   pub config : b.config ≡ config_of o.settings (length b.names)
   pub words : b.blanks.meter.words ≡ length b.names
-  pub verdicts : AreVerdicts bus.script b.names (verdicts_of b.source)
+  pub plan : IsPlan bus.script b.names b.plan
   pub pace_ms : b.pace_ms ≡ o.pace_ms
   pub rx_capacity : b.rx_capacity ≡ o.settings.rx_capacity
 
 -- each bus of a server is what its word describes
-abbrev pub AreBenches : ServeOptions → List BusWord → List (Bench Source Open) → Type 0
+abbrev pub AreBenches : ServeOptions → List BusWord → List (Bench Perfect Open) → Type 0
 AreBenches o buses benches = AllZip (λ bus b. IsBenchOf o bus b) buses benches
 
 -- each bus of a server is what its options describe
-abbrev pub AreAllBenches : ServeOptions → List (Bench Source Open) → Type 0
+abbrev pub AreAllBenches : ServeOptions → List (Bench Perfect Open) → Type 0
 AreAllBenches o benches = AreBenches o o.buses.items benches
 
 -- there can be buses that are what these words describe
 abbrev pub MakeBenches : ServeOptions → List BusWord → Type 0
-MakeBenches o buses = (benches : List (Bench Source Open)) × AreBenches o buses benches
+MakeBenches o buses = (benches : List (Bench Perfect Open)) × AreBenches o buses benches
 
 -- a fault of a bus of a server: of its names, or of its script
 abbrev pub IsOfBus : BusWord → Fault → Type 0
-IsOfBus bus why = IsOfNames bus.names.now why ⊎ (AreNames (names_in bus.names.now) × IsOfSource bus.script (names_in bus.names.now) why)
+IsOfBus bus why = IsOfNames bus.names.now why ⊎ (AreNames (names_in bus.names.now) × IsOfPlan bus.script (names_in bus.names.now) why)
 
 -- a fault of serving: the server cannot listen or write, its folder takes no files, a bus got the pass of another, or memory was
 -- refused
@@ -57,7 +57,7 @@ IsOfServing fault.NoMemory = Unit {0}
 IsOfServing why = ⊥
 
 -- a fault of a server with these buses: no hub can be made of them, or memory for it was refused; or of serving
-abbrev pub IsOfHub : List (Bench Source Open) → Fault → Type 0
+abbrev pub IsOfHub : List (Bench Perfect Open) → Fault → Type 0
 IsOfHub benches (fault.Buses BadConfig) = MakeHub benches → ⊥
 IsOfHub benches (fault.Buses NoMemory) = Unit {0}
 IsOfHub benches why = IsOfServing why
@@ -68,7 +68,7 @@ IsOfBuses o why = (i : ℕ) × MakeBenches o (take i o.buses.items) × IsSomeAnd
 
 -- a fault of a server: of one of its buses, of serving, or with the buses that its options describe
 abbrev pub IsOfServer : ServeOptions → Fault → Type 0
-IsOfServer o why = IsOfBuses o why ⊎ (IsOfServing why ⊎ ((benches : List (Bench Source Open)) × AreAllBenches o benches × IsOfHub benches why))
+IsOfServer o why = IsOfBuses o why ⊎ (IsOfServing why ⊎ ((benches : List (Bench Perfect Open)) × AreAllBenches o benches × IsOfHub benches why))
 
 -- the record is of a legal history
 abbrev pub IsLegalEnd : Settled Kept → Type 0

@@ -6,7 +6,6 @@
 #![tactic(auto)]
 
 mod buses_notes;
-mod draft;
 mod host;
 mod listening;
 mod notices;

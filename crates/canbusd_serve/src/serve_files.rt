@@ -2,11 +2,10 @@
 ghost use Rattle.std.specs.Prelude.{IfErr, IsTrue};
 ghost use Rattle.canbusd_serve.specs.Served.{IsOfServing};
 
-use crate::draft::Draft;
 use can_bus::Record;
 use can_station::Settled;
 use canbusd_faults::{Failure, Fault, Telling, reason_note};
-use canbusd_files::{save_log_at, save_record_at};
+use canbusd_files::{Draft, save_log_at, save_record_at};
 use canbusd_options::BusWord;
 use std::alloc::Global;
 use std::io::Write;

@@ -9,12 +9,13 @@ use crate::host::Host;
 use crate::listening::{Listening, leave, listen, listen_failure};
 use crate::serve_files::{look_at_folder, save_all};
 use can_bus::BusFault;
+use can_fault::Perfect;
 use can_meter::MeterName;
 use can_roll::RollName;
 use can_server::{Bench, Door, Hub, serve};
 use can_station::{Blanks, Open, Pass, Settled};
 use canbusd_faults::{Failure, Fault, Telling, fixed_note};
-use canbusd_files::{INPUT, OUTPUT, Source, bus_config, read_names, read_source, write_failure};
+use canbusd_files::{INPUT, OUTPUT, bus_config, read_names, read_plan, write_failure};
 use canbusd_options::{BusWord, ServeOptions};
 use std::alloc::Global;
 use std::fs::File;
@@ -95,7 +96,7 @@ struct ServerRun<'r, 'a, H: ServerRuntime> {
 
 impl<'r, 'a, H: ServerRuntime> ServerRun<'r, 'a, H> {
     // What the buses of the options are made of.
-    fn read_benches(&self) -> Result<Vec<Bench<Source, Open>>, Failure<'a>>
+    fn read_benches(&self) -> Result<Vec<Bench<Perfect, Open>>, Failure<'a>>
         ensures made { IfOk result (λ benches. AreAllBenches self.now.options.now benches.items) }
         ensures fault { IfErr result (λ failure. IsOfServer self.now.options.now failure.fault) }
     {
@@ -109,12 +110,12 @@ impl<'r, 'a, H: ServerRuntime> ServerRun<'r, 'a, H> {
         Ok(benches)
     }
 
-    fn read_bench(&self, bus: BusWord<'a>) -> Result<Bench<Source, Open>, Failure<'a>>
+    fn read_bench(&self, bus: BusWord<'a>) -> Result<Bench<Perfect, Open>, Failure<'a>>
         ensures made { IfOk result (λ bench. IsBenchOf self.now.options.now bus.entry bench) }
         ensures fault { IfErr result (λ failure. IsOfBus bus.entry failure.fault) }
     {
         let names = read_names(self.alloc, bus.names)?;
-        let source = read_source(self.rt, self.alloc, bus, &names)?;
+        let plan = read_plan(self.rt, self.alloc, bus, &names)?;
         let Ok(blanks) = Blanks::new(self.alloc, usize::from(names.count())) else {
             return Err(Failure::new(self.alloc, Fault::NoMemory));
         };
@@ -122,7 +123,8 @@ impl<'r, 'a, H: ServerRuntime> ServerRun<'r, 'a, H> {
             config: bus_config(self.options.settings, &names),
             names,
             blanks,
-            source,
+            source: Perfect,
+            plan,
             gate: Open,
             pace_ms: self.options.pace_ms,
             rx_capacity: self.options.settings.rx_capacity,
@@ -137,7 +139,7 @@ impl<'r, 'a, H: ServerRuntime> ServerRun<'r, 'a, H> {
         E: Write + Send,
     >(
         &self,
-        benches: Vec<Bench<Source, Open>>,
+        benches: Vec<Bench<Perfect, Open>>,
         input: R,
         output: &mut W,
         errors: &mut E,
@@ -148,7 +150,7 @@ impl<'r, 'a, H: ServerRuntime> ServerRun<'r, 'a, H> {
         ensures listening { OnOk result (IsListening W.contents output.old output.new) }
         ensures fault { IfErr result (λ failure. IsOfHub benches.items failure.fault) }
     {
-        let hub = match Hub::<N, Source, Open>::new(self.alloc, benches) {
+        let hub = match Hub::<N, Perfect, Open>::new(self.alloc, benches) {
             Ok(hub) => hub,
             Err(fault) => return Err(self.hub_failure(fault)),
         };
@@ -168,7 +170,7 @@ impl<'r, 'a, H: ServerRuntime> ServerRun<'r, 'a, H> {
             }
             BusFault::NoMemory => fixed_note(
                 self.alloc,
-                "each bus reserves 112 bytes of memory for each event of --limit",
+                "each bus reserves 108 bytes of memory for each event of --limit",
             ),
         };
         Failure::with(self.alloc, Fault::Buses(found), notes)
@@ -193,7 +195,7 @@ impl<'r, 'a, H: ServerRuntime> ServerRun<'r, 'a, H> {
         E: Write + Send,
     >(
         &self,
-        hub: &Hub<N, Source, Open>,
+        hub: &Hub<N, Perfect, Open>,
         input: R,
         output: &mut W,
         errors: &mut E,
@@ -219,7 +221,7 @@ impl<'r, 'a, H: ServerRuntime> ServerRun<'r, 'a, H> {
         E: Write + Send,
     >(
         &self,
-        hub: &Hub<N, Source, Open>,
+        hub: &Hub<N, Perfect, Open>,
         doors: &[Door],
         heard: &str,
         input: R,
@@ -244,7 +246,7 @@ impl<'r, 'a, H: ServerRuntime> ServerRun<'r, 'a, H> {
 
     fn serve_until<N: RollName + MeterName + Send + Sync, E: Write + Send>(
         &self,
-        hub: &Hub<N, Source, Open>,
+        hub: &Hub<N, Perfect, Open>,
         doors: &[Door],
         until: Option<UnixStream>,
         errors: &mut E,

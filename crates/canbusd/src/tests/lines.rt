@@ -207,7 +207,7 @@ const MISSING: &str = "  no line before it starts session 3\n";
 const WITH_CR: &str = "  this line ends with CR and LF: lines end with LF alone\n";
 
 const OTHER: &str =
-    "  a line begins with at, session, feed, drain, end or attempt; see canbusd help bench\n";
+    "  a line begins with at, session, feed, drain, end, fault or attempt; see canbusd help bench\n";
 
 #[test]
 fn refuses_lines(rt: HostRuntime) -> Result<(), Fail> {

@@ -50,6 +50,21 @@ fn follows_scripts(rt: HostRuntime) -> Result<(), Fail> {
             "feed 1 < send 123 0 >\nattempt\n",
             "tried can0 0 done can1 -\n",
         ),
+        (
+            "# Each frame of can1 is good.\nnext 2 from can0 global bit\n",
+            "feed 1 < send 123 0 >\nfeed 2 < send 122 0 >\nattempt\nattempt\nattempt\nattempt\n",
+            "tried can1 0 done can0 -\ntried can0 0 destroyed - -\ntried can0 0 destroyed - -\ntried can0 0 done can1 -\n",
+        ),
+        (
+            "1 good\nalways id 123 skip 1 lastbit\n",
+            "feed 1 < send 123 0 >< send 123 0 >< send 123 0 >\nattempt\nattempt\nattempt\nattempt\n",
+            "tried can0 0 done can1 -\ntried can0 1 done can1 -\ntried can0 2 lastbit can1 -\ntried can0 2 lastbit can1 -\n",
+        ),
+        (
+            "",
+            "fault next 1 lastbit\nfeed 1 < fault next 1 from can1 global bit >< faults >< send 123 0 >\nattempt\nfeed 2 < nofaults >< faults >< send 1 0 >\nattempt\n",
+            "1 < ok >< faults 2 >\ntried can0 0 lastbit can1 -\n2 < ok >< faults 0 >\ntried can1 0 done can0 -\n",
+        ),
     ];
     for (script, rest, wanted) in table {
         fs::write(&rt, SCRIPT, script.as_bytes())?;
@@ -132,6 +147,26 @@ fn tells_faults_of_scripts(rt: HostRuntime) -> Result<(), Fail> {
             b"0 local bit can0",
             "canbusd bench can0,can1@faulty.script",
             "canbusd: script line 1: bad line\n  faulty.script:1: 0 local bit can0\n  VERDICT is good, lastbit, global bit, global form, local stuff NAMES, local crc NAMES or local form NAMES\n",
+        ),
+        (
+            b"next 0 good",
+            "canbusd bench can0,can1@faulty.script",
+            "canbusd: script line 1: bad line\n  faulty.script:1: next 0 good\n  next N: N has 1 to 8 digits and is not 0\n",
+        ),
+        (
+            b"0 lastbit\nalways from can1,can2 good",
+            "canbusd bench can0,can1@faulty.script",
+            "canbusd: script line 2: unknown interface\n  faulty.script:2: always from can1,can2 good\n  can2 is none of can0,can1\n",
+        ),
+        (
+            b"next 3 local crc can2",
+            "canbusd bench can0,can1@faulty.script",
+            "canbusd: script line 1: unknown interface\n  faulty.script:1: next 3 local crc can2\n  can2 is none of can0,can1\n",
+        ),
+        (
+            b"always id 12 good",
+            "canbusd bench can0,can1@faulty.script",
+            "canbusd: script line 1: bad line\n  faulty.script:1: always id 12 good\n  id ID: 3 hexadecimal digits up to 7FF or 8 up to 1FFFFFFF; or ID:MASK, 1 to 8 digits each, without bit 29 in MASK\n",
         ),
         (
             b"0 good\r\n",

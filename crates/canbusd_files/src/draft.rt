@@ -7,7 +7,7 @@ use std::io::Error;
 use std::rt::Files;
 use std::{fs, io};
 
-/// A file of a folder, and where it is written: beside it with `.new` after the name. Where something is there that is no
+/// A file, and where it is written: beside it with `.new` after the name. Where something is there that is no
 /// plain file, as a device or a folder, it is written in place.
 #[derive(Drop)]
 pub struct Draft {
@@ -25,6 +25,11 @@ impl Draft {
         kind: &str,
     ) -> Result<Draft, AllocError> {
         let path = format!(in alloc; "{folder}/{name}.{kind}")?;
+        Draft::at(rt, alloc, path)
+    }
+
+    /// The file with this path. Nothing is written.
+    pub fn at<H: Files>(rt: &H, alloc: Global, path: String) -> Result<Draft, AllocError> {
         let is_plain = match fs::symlink_metadata(rt, &path) {
             Ok(found) => found.is_file(),
             Err(_) => true,
@@ -72,9 +77,7 @@ impl Draft {
         match saved {
             Ok(()) => self.rename(rt, alloc),
             Err(failure) => {
-                if self.is_apart() {
-                    let _ = fs::remove_file(rt, &self.draft);
-                }
+                self.clear(rt);
                 Err(failure)
             }
         }
@@ -111,10 +114,15 @@ impl Draft {
     }
 
     fn rename<H: Files>(&self, rt: &H, alloc: Global) -> Result<(), Failure<'_>> {
+        self.take_name(rt).map_err(|error| self.failure(alloc, &error))
+    }
+
+    /// Gives the file its name.
+    pub fn take_name<H: Files>(&self, rt: &H) -> io::Result<()> {
         if !self.is_apart() {
             return Ok(());
         }
-        fs::rename(rt, &self.draft, &self.path).map_err(|error| self.failure(alloc, &error))
+        fs::rename(rt, &self.draft, &self.path)
     }
 
     fn failure(&self, alloc: Global, error: &Error) -> Failure<'_> {
