@@ -134,7 +134,8 @@ impl Plan {
     }
 
     /// One rule more, after the others, from the bytes of a text, for a bus with these names. Refusals, in this order, which
-    /// change nothing: `BadRule`, `UnknownInterface`, `TooManyRules` where there are 64, `NoMemory`.
+    /// change nothing: `BadRule` or `UnknownInterface`, by the first word that is wrong, `TooManyRules` where there are 64,
+    /// `NoMemory`.
     pub fn inject(&mut self, text: &[u8], names: &Names) -> Result<(), RuleRefusal>
         ensures { Injected names.now text.now self.old result self.new }
     {
