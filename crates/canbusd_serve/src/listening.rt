@@ -9,9 +9,12 @@ use canbusd_faults::{Failure, Fault, reason_note};
 use std::alloc::{AllocError, Global};
 use std::fs::File;
 use std::io;
-use std::io::Error;
+use std::io::{Error, ErrorKind};
 use std::net::{Net, TcpListener, TcpStream};
 use std::rt::Files;
+
+/// What is reported where somebody listens at the port.
+const FREE_PORT: &str = "  with port 0, as in --listen 127.0.0.1:0, the system picks a free one\n";
 
 /// A door where a server listens, and the text of its address.
 #[derive(Drop)]
@@ -70,7 +73,11 @@ fn open<'a>(
 pub fn listen_failure<'a>(alloc: Global, place: &str, error: &Error) -> Failure<'a>
     ensures { result.fault ≡ fault.CannotListen }
 {
-    Failure::with(alloc, Fault::CannotListen, reason_note(alloc, place, error))
+    let failure = Failure::with(alloc, Fault::CannotListen, reason_note(alloc, place, error));
+    if error.kind() == ErrorKind::AddrInUse && !is_path(place) {
+        return failure.and(FREE_PORT);
+    }
+    failure
 }
 
 /// Removes the file that listening made.

@@ -58,8 +58,13 @@ fn refuses_buses_and_addresses(rt: HostRuntime) -> Result<(), Fail> {
 /// A server does not listen where something is already.
 fn is_taken(rt: &(impl Abort + ServerRuntime), alloc: Global, address: &str) -> Result<(), Fail> {
     let line = format!(in alloc; "canbusd serve --listen {address} can0")?;
+    let note = if address.contains(':') {
+        "  with port 0, as in --listen 127.0.0.1:0, the system picks a free one\n"
+    } else {
+        ""
+    };
     let told = format!(in alloc;
-        "canbusd: cannot listen\n  {address}: Address already in use (os error 98)\n"
+        "canbusd: cannot listen\n  {address}: Address already in use (os error 98)\n{note}"
     )?;
     runs(rt, alloc, &line, NOTHING, ("", &told, 1))
 }
