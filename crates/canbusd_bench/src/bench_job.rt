@@ -16,8 +16,8 @@ use can_rules::Plan;
 use can_session::{BenchConfig, BenchFault, Unheard, bench_noting};
 use canbusd_faults::{Failure, Fault, fixed_note, reason_note};
 use canbusd_files::{
-    INPUT, OUTPUT, bus_config, limits_note, read_names, read_plan, save_log, save_record,
-    without, write_failure,
+    INPUT, OUTPUT, bus_config, limits_note, read_names, read_plan, save_log, save_record, without,
+    write_failure,
 };
 use canbusd_options::BenchOptions;
 use std::alloc::{AllocError, Global};

@@ -58,6 +58,7 @@ fn form_of(line: &[u8]) -> &'static str {
             "feed S BYTES: S is 1 to 64 without leading zeros, and one space comes before BYTES",
         b"attempt" => "nothing may follow attempt: each line makes one attempt",
         b"fault" => "fault RULE: one space comes before RULE",
-        _ => "a line begins with at, session, feed, drain, end, fault or attempt; see canbusd help bench",
+        _ =>
+            "a line begins with at, session, feed, drain, end, fault or attempt; see canbusd help bench",
     }
 }

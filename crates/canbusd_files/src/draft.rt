@@ -114,7 +114,8 @@ impl Draft {
     }
 
     fn rename<H: Files>(&self, rt: &H, alloc: Global) -> Result<(), Failure<'_>> {
-        self.take_name(rt).map_err(|error| self.failure(alloc, &error))
+        self.take_name(rt)
+            .map_err(|error| self.failure(alloc, &error))
     }
 
     /// Gives the file its name.

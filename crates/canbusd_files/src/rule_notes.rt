@@ -28,7 +28,8 @@ pub fn rule_note(alloc: Global, rule: &str, bus: &str) -> Result<String, AllocEr
 // How a word should look.
 fn form_of(which: WrongWord) -> &'static str {
     match which {
-        WrongWord::Beginning => "a rule begins with next N or always, as next 32 from can0 global bit",
+        WrongWord::Beginning =>
+            "a rule begins with next N or always, as next 32 from can0 global bit",
         WrongWord::Count => "next N: N has 1 to 8 digits and is not 0",
         WrongWord::Senders | WrongWord::UnknownInterface => {
             "from NAMES: names of 1 to 15 bytes are joined by commas, without spaces"
@@ -49,14 +50,21 @@ fn unknown_note(alloc: Global, rule: &str, bus: &str) -> Result<String, AllocErr
         Some((_, rest)) => rest.split(' ').next().unwrap_or(""),
         None => "",
     };
-    if senders.split(',').any(|name| !name.is_empty() && !has_name(bus, name)) {
+    if senders
+        .split(',')
+        .any(|name| !name.is_empty() && !has_name(bus, name))
+    {
         return unknown_name_note(alloc, senders, bus);
     }
     unknown_name_note(alloc, rule.rsplit(' ').next().unwrap_or(""), bus)
 }
 
 /// The first name of a list that the bus does not have.
-pub(crate) fn unknown_name_note(alloc: Global, list: &str, bus: &str) -> Result<String, AllocError> {
+pub(crate) fn unknown_name_note(
+    alloc: Global,
+    list: &str,
+    bus: &str,
+) -> Result<String, AllocError> {
     match list.split(',').find(|name| !has_name(bus, name)) {
         Some(name) => {
             let name = Shown::cut(name.as_bytes());
