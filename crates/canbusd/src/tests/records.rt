@@ -3,6 +3,7 @@ use super::support::{NOTHING, Sockets, carries_out, leaves, leaves_record, runs,
 use canbusd_serve::ServerRuntime;
 use std::alloc::Global;
 use std::fs;
+use std::os::unix::fs::symlink;
 use std::process::Abort;
 use std::test::Fail;
 
@@ -94,7 +95,7 @@ fn never_writes_a_log_where_the_record_is(rt: HostRuntime) -> Result<(), Fail> {
     let _sockets: Sockets = None;
     let alloc = rt.alloc();
     fs::write(&rt, "one.rec", b"old")?;
-    fs::hard_link(&rt, "one.rec", "one.log")?;
+    symlink(&rt, "one.rec", "one.log")?;
     let line = "canbusd bench --record one.rec --log one.log can0";
     let told = "canbusd: cannot open one.log\n  --record names this file too\n";
     let input = b"attempt\n".as_slice();
