@@ -281,6 +281,19 @@ fn sends_eight<N: RollName + MeterName, R: Wait + Abort>(
     caller.leave()
 }
 
+/// Takes blocks of three entries twice, each time once the sender waits, and sees it go on to its end.
+fn takes_twice<N: RollName + MeterName, R: Wait + Abort + Clock>(
+    taker: Party<'_, N, R>,
+    sent: &AtomicU64,
+) -> Pass<N> {
+    lets_some_by(&taker, sent, 2);
+    takes_block(&taker, 0, 3);
+    lets_some_by(&taker, sent, 5);
+    takes_block(&taker, 3, 3);
+    lets_some_by(&taker, sent, 8);
+    taker.leave()
+}
+
 /// So many frames are sent, and no more until a block is taken. A wait for more entries than the tail holds ends then.
 fn lets_some_by<N: RollName + MeterName, R: Wait + Abort + Clock>(
     taker: &Party<'_, N, R>,
@@ -306,27 +319,21 @@ fn waits_for_places<
     let taker = entered(rt, alloc, &station);
     let socket = caller.open(0, 4);
     let sent = AtomicU64::new(0);
-    let (pass, _) = join(
+    let (pass, other) = join(
         rt,
         || sends_eight(caller, socket, &sent),
-        || {
-            lets_some_by(&taker, &sent, 2);
-            takes_block(&taker, 0, 3);
-            lets_some_by(&taker, &sent, 5);
-            takes_block(&taker, 3, 3);
-            lets_some_by(&taker, &sent, 8);
-        },
+        || takes_twice(taker, &sent),
     );
-    let passes = two(rt, alloc, pass, taker.leave());
+    let passes = two(rt, alloc, pass, other);
     let settled = settled(rt, station, passes, Vec::new(alloc));
     assert!(rt; settled.history.handed() == 6 && settled.history.entries().len() == 3);
 }
 
 /// A driver takes the lock for its step, and sets a flag.
 fn drives_once<N: RollName + MeterName, R: Wait + Abort>(
-    caller: &mut Party<'_, N, R>,
+    mut caller: Party<'_, N, R>,
     driven: &AtomicU64,
-) {
+) -> Pass<N> {
     let rt = caller.rt;
     let Some(mut hold) = caller.station.hold_work(rt) else {
         panic!(rt; "no work");
@@ -334,6 +341,21 @@ fn drives_once<N: RollName + MeterName, R: Wait + Abort>(
     driven.store(1, Ordering::SeqCst);
     let tried = hold.step(caller.alloc, &mut caller.pass, moment(rt, 1));
     assert!(rt; matches!(tried, Ok(Attempt::Tried(_))));
+    drop(hold);
+    caller.leave()
+}
+
+/// Takes a block once the driver waits, and sees it go on.
+fn lets_drive<'s, N: RollName + MeterName, R: Wait + Abort + Clock>(
+    taker: Party<'s, N, R>,
+    driven: &AtomicU64,
+) -> Party<'s, N, R> {
+    let rt = taker.rt;
+    pause(rt);
+    assert!(rt; driven.load(Ordering::SeqCst) == 0);
+    takes_block(&taker, 0, 3);
+    assert!(rt; reaches(rt, driven, 1));
+    taker
 }
 
 /// A driver waits for places as well, but not where there is no work and the station was stopped.
@@ -346,20 +368,15 @@ fn driver_waits<N: RollName + MeterName + Send + Sync, R: Threads + Wait + Abort
 {
     let station = made_short::<N, _>(rt, alloc, blanks);
     let mut caller = entered(rt, alloc, &station);
-    let mut driver = entered(rt, alloc, &station);
+    let driver = entered(rt, alloc, &station);
     let socket = caller.open(0, 4);
     assert!(rt; caller.open(1, 4) == SocketId(1));
     caller.sends(socket, 0x123, 0);
     let driven = AtomicU64::new(0);
-    join(
+    let (_, mut caller) = join(
         rt,
-        || drives_once(&mut driver, &driven),
-        || {
-            pause(rt);
-            assert!(rt; driven.load(Ordering::SeqCst) == 0);
-            takes_block(&caller, 0, 3);
-            assert!(rt; reaches(rt, &driven, 1));
-        },
+        || drives_once(driver, &driven),
+        || lets_drive(caller, &driven),
     );
     assert!(rt; matches!(caller.receive(SocketId(1)), Ok(Some(_))));
     assert!(rt; caller.set_option(socket, Opt::Join(true)).is_ok());

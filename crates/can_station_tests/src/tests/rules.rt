@@ -85,9 +85,9 @@ fn plays<N: RollName + MeterName, F: FaultSource + Drop, R: Wait + Abort>(
     };
     let mut caller = entered(rt, alloc, &station);
     assert!(rt; caller.open(0, 4) == SocketId(0) && caller.open(1, 4) == SocketId(1));
-    let mut micros = 0;
+    let mut micros = 0_u64;
     for act in acts {
-        micros += 1;
+        micros = micros.saturating_add(1);
         caller.act(*act, micros, &names);
     }
 }
