@@ -11,7 +11,6 @@ mod passes;
 mod restarts;
 mod rests;
 mod rolls;
-mod rules;
 mod threads;
 mod twins;
 mod waits;
@@ -21,7 +20,7 @@ use can_bus::{
     Attempt, BusConfig, Closed, Event, Journaled, Opt, Received, Reply, RingBus, SocketId,
 };
 use can_fault::{FaultSource, Script, Verdict};
-use can_frame::{CanId, Frame, Iface, IfaceSet, Moment, Names};
+use can_frame::{CanId, Frame, Iface, IfaceSet, Moment};
 use can_meter::{Gauge, MeterName, Status};
 use can_roll::RollName;
 use can_station::{Blanks, Gate, Pass, Settled, Station, StationRefusal};
