@@ -1,11 +1,13 @@
 """Rules of faults for a bus that runs: what every session can do, and a session that is opened for nothing else."""
 
+from collections.abc import Iterable
 from types import TracebackType
 from typing import Optional
 
 from canbusd._connection import Connection
-from canbusd._protocol import rules_left_of
+from canbusd._protocol import refusal_in, rules_left_of
 from canbusd.faults import Script, rules_of
+from canbusd.rules import Rule
 
 #: Seconds in which a server has to answer.
 TIMEOUT = 5.0
@@ -32,7 +34,10 @@ class InjectsFaults:
         `faults` are rules of Faults, such as ``Faults().next(32, sender="ecu").destroyed()``, or their text. Where one is
         refused, as the 65th is, the exception ends with it; those before it are in force.
         """
-        for rule in rules_of(faults):
+        self._give(rules_of(faults))
+
+    def _give(self, rules: Iterable[Rule]) -> None:
+        for rule in rules:
             answer = self._answer(f"fault {rule}")
             if answer:
                 raise self._refusal(f"{answer}: {rule}")
@@ -74,5 +79,4 @@ class RuleSession(InjectsFaults):
         self._connection.close()
 
     def _answer(self, message: str) -> str:
-        answer = self._connection.ask([message])[0]
-        return "" if answer == "ok" else answer.replace("error ", "", 1)
+        return refusal_in(self._connection.ask([message])[0])

@@ -49,6 +49,11 @@ class Stats(NamedTuple):
     refused: int
 
 
+def refusal_in(answer: str) -> str:
+    """Returns the text of a refusal, the empty text for `ok`, and any other answer as it is."""
+    return "" if answer == "ok" else answer.removeprefix("error ")
+
+
 def counters_of(answer: str) -> Optional[ErrorCounters]:
     """Returns what the answer `status passive 128 0` says; None for another message."""
     words = answer.split()

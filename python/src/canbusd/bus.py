@@ -39,6 +39,7 @@ from canbusd._protocol import (
     filter_message,
     filter_words,
     options,
+    refusal_in,
     stats_of,
 )
 from canbusd._text import NAME
@@ -364,7 +365,7 @@ class CanbusdBus(InjectsFaults, BusABC):
             answers = connection.ask([f"open {self.channel}", "rawmode", *messages])
             faults = [answer for answer in answers if answer != "ok"]
             if faults:
-                raise SessionRefused(faults[0].replace("error ", "", 1))
+                raise SessionRefused(refusal_in(faults[0]))
         except (OSError, SessionRefused) as fault:
             if connection is not None:
                 connection.close()
@@ -379,7 +380,7 @@ class CanbusdBus(InjectsFaults, BusABC):
             raise CanTimeoutError(str(fault)) from None
         except ConnectionError as fault:
             raise CanOperationError(str(fault)) from None
-        return ["" if answer == "ok" else answer.replace("error ", "", 1) for answer in answers]
+        return [refusal_in(answer) for answer in answers]
 
     def _call(self, command: str) -> str:
         return self._calls([command])[0]

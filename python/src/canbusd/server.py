@@ -171,7 +171,7 @@ class Server(Expectations, ProgramRun):
         rules, first = rules_of(faults), self._first(interface, "interface")
         check_rules(rules, self._by_bus[first][:-1])
         with self._rule_session(interface) as session:
-            session.inject(faults)
+            session._give(rules)
         self._injected.setdefault(first, []).extend(rules)
 
     def rules_left(self, interface: Optional[str] = None) -> int:
