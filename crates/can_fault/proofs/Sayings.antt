@@ -1,8 +1,8 @@
-use Rattle.std.proofs.Common.{◌≡◌, ◌<◌, ◌+◌, ℕ, Bool, true, false, List, [], ◌∷◌, map, length, drop, get_or, Some, None, Result, Ok, Err, is_some, refl, sym, ap, ◌∙◌, if◌then◌else◌}
+use Rattle.std.proofs.Common.{◌≡◌, ◌<◌, ◌+◌, ℕ, Bool, true, false, List, [], ◌∷◌, map, length, drop, get_or, Some, None, Result, Ok, Err, is_some, nat_eq, refl, sym, ap, ◌∙◌, if◌then◌else◌}
 use Rattle.std.specs.Prelude.{IsTrue}
 use Rattle.std.specs.Ordering.{nat_cmp}
-use Rattle.std.specs.BTreeMap.{BTreeMap}
-use Rattle.std.specs.BTreeMap as tree
+use Rattle.std.specs.HashMap.{HashMap}
+use Rattle.std.specs.HashMap as table
 use Rattle.std.specs.FinMap.{from_entries, insert, contains_key}
 use Rattle.std.proofs.lemmas.List.{at_drop_more}
 use Rattle.can_fault.specs.Sources.{VerdictMap}
@@ -12,7 +12,7 @@ use Rattle.can_fault.specs.declared.script_lines.LineFault.{LineFault}
 use Rattle.can_fault.specs.declared.script_lines.LineFault.TheVariants as line
 use Rattle.can_fault.specs.declared.script.ScriptError.TheVariants.{BadLine, UnknownInterface, RepeatedAttempt, NoMemory}
 use Rattle.can_fault.specs.declared.verdict.Verdict.{Verdict}
-use Rattle.can_fault.proofs.VerdictMaps.{contains_key-from_tree, from_tree-insert}
+use Rattle.can_fault.proofs.VerdictMaps.{contains_key-from_table, from_table-insert}
 
 -- The lines of a script, one after another.
 
@@ -61,17 +61,17 @@ Reads-turn names text known new n saying more (UnknownInterface m) spelled memor
 Reads-turn names text known new n saying more (RepeatedAttempt m) spelled memory h = spelled ∙ spelled_after-turn known n saying more ∙ ap (λ r. spelled_then r (n + 1) more) h
 
 -- a verdict for an attempt that has none
-pub line_after-kept : (old new : BTreeMap ℕ Verdict) (n attempt : ℕ) (verdict : Verdict) → None ≡ tree.get nat_cmp old attempt
-    → tree.Updates nat_cmp old new attempt (Some verdict)
+pub line_after-kept : {S : Type 0} (old new : HashMap ℕ Verdict S) (n attempt : ℕ) (verdict : Verdict) → None ≡ table.get nat_eq old attempt
+    → table.Updates nat_eq old new attempt (Some verdict)
     → line_after (from_entries {R = nat_cmp} old.entries) n (Ok (Some (attempt, verdict))) ≡ Ok (from_entries {R = nat_cmp} new.entries)
 line_after-kept old new n attempt verdict absent updates =
-    ap (λ b. if b then Err (RepeatedAttempt n) else Ok (insert (from_entries old.entries) attempt verdict)) (contains_key-from_tree old attempt ∙ ap is_some (sym absent))
-    ∙ ap Ok (sym (from_tree-insert old new attempt verdict updates))
+    ap (λ b. if b then Err (RepeatedAttempt n) else Ok (insert (from_entries old.entries) attempt verdict)) (contains_key-from_table old attempt ∙ ap is_some (sym absent))
+    ∙ ap Ok (sym (from_table-insert old new attempt verdict updates))
 
 -- a verdict for an attempt that has one
-pub line_after-repeated : (old : BTreeMap ℕ Verdict) (n attempt : ℕ) (had verdict : Verdict) → Some had ≡ tree.get nat_cmp old attempt → line_after (from_entries {R = nat_cmp} old.entries) n (Ok (Some (attempt, verdict))) ≡ Err (RepeatedAttempt n)
+pub line_after-repeated : {S : Type 0} (old : HashMap ℕ Verdict S) (n attempt : ℕ) (had verdict : Verdict) → Some had ≡ table.get nat_eq old attempt → line_after (from_entries {R = nat_cmp} old.entries) n (Ok (Some (attempt, verdict))) ≡ Err (RepeatedAttempt n)
 line_after-repeated old n attempt had verdict there =
-    ap (λ b. if b then Err (RepeatedAttempt n) else Ok (insert (from_entries old.entries) attempt verdict)) (contains_key-from_tree old attempt ∙ ap is_some (sym there))
+    ap (λ b. if b then Err (RepeatedAttempt n) else Ok (insert (from_entries old.entries) attempt verdict)) (contains_key-from_table old attempt ∙ ap is_some (sym there))
 
 -- a line's own fault is no want of memory
 pub TakesLine-at_line : (known new : VerdictMap) (n : ℕ) (fault : LineFault) → TakesLine (Err fault) n known (Err (at_line n fault)) new

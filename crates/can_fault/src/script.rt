@@ -7,7 +7,7 @@ use crate::script_lines::{LineFault, read_line};
 use crate::verdict::Verdict;
 use can_frame::Names;
 use std::alloc::Global;
-use std::collections::BTreeMap;
+use std::collections::HashMap;
 use std::marker::Model;
 use thiserror::Error;
 
@@ -45,7 +45,7 @@ impl LineFault {
 /// `Good` for every other.
 #[derive(Debug, Drop)]
 pub struct Script {
-    verdicts: BTreeMap<u64, Verdict>,
+    verdicts: HashMap<u64, Verdict>,
 }
 
 impl Model for Script {
@@ -69,12 +69,12 @@ impl Script {
         ensures { result ≡ no_verdicts }
     {
         Script {
-            verdicts: BTreeMap::new(alloc),
+            verdicts: HashMap::new(alloc),
         }
     }
 
     /// The script that a text spells, for a bus with these names, or the first fault of the text. The
-    /// time grows with the text's length and, for each line, with the logarithm of the lines before.
+    /// time grows with the text's length.
     ///
     /// A line is `NUMBER VERDICT`, with one space between words: `NUMBER` is 1 to 8 decimal digits, and
     /// `VERDICT` is `good`, `lastbit`, `global bit`, `global form`, or one of `local stuff NAMES`,
@@ -112,8 +112,7 @@ impl Script {
         Ok(())
     }
 
-    /// The verdict that a line gives the attempt with this number, if one does, in a time that grows with
-    /// the logarithm of the lines.
+    /// The verdict that a line gives the attempt with this number, if one does.
     pub fn line(&self, attempt: u64) -> Option<Verdict>
         ensures { result ≡ get self.now attempt }
     {
@@ -127,8 +126,7 @@ impl FaultSource for Script {
 
     ghost verdicts = { λ script. script };
 
-    /// The verdict of the attempt with this number, in a time that grows with the logarithm of the
-    /// script's lines.
+    /// The verdict of the attempt with this number.
     fn verdict(&mut self, attempt: u64) -> Verdict
         ensures answer { result ≡ verdict_in self.old attempt }
         ensures keeps { self.new ≡ self.old }
