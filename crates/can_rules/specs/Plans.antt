@@ -1,11 +1,10 @@
-use Rattle.std.specs.Prelude.{◌≡◌, ◌⊎◌, ◌<◌, ◌≤◌, ℕ, ◌+◌, Bool, not, ◌||◌, ◌==◌, nat_le, if◌then◌else◌, IsTrue, List, [], ◌∷◌, ◌++◌, length, Option, Some, None, unwrap_or, Result, Ok, Err, codes}
+use Rattle.std.specs.Prelude.{◌≡◌, ◌⊎◌, ◌<◌, ◌≤◌, ℕ, ◌+◌, Bool, not, ◌==◌, nat_le, if◌then◌else◌, IsTrue, List, [], ◌∷◌, ◌++◌, length, Option, Some, None, unwrap_or, Result, Ok, Err}
 use Rattle.std.specs.FinMap.{get}
 use Rattle.std.specs.List.{list_any}
-use Rattle.std.specs.Str.{bytes_eq}
 use Rattle.std.specs.Str.{IsUtf8}
 use Rattle.can_frame.specs.Frames.{CanFrame, word_of}
 use Rattle.can_fault.specs.Sources.{VerdictMap, no_verdicts}
-use Rattle.can_fault.specs.Scripts.{word, lines_in, line_spelling, line_after}
+use Rattle.can_fault.specs.Scripts.{lines_in, line_spelling, line_after}
 use Rattle.can_fault.specs.declared.script.ScriptError.{ScriptError}
 use Rattle.can_fault.specs.declared.script.ScriptError.TheVariants as script
 use Rattle.can_fault.specs.declared.verdict.Verdict.{Verdict}
@@ -18,7 +17,7 @@ use Rattle.can_rules.specs.declared.rule_words.WrongWord.TheVariants as wrong
 use Rattle.can_rules.specs.declared.plan.PlanError.{PlanError}
 use Rattle.can_rules.specs.declared.plan.PlanError.TheVariants as plan
 use Rattle.can_rules.specs.Rules.{Head, head_of, chosen, after_chosen, unused}
-use Rattle.can_rules.specs.RuleWords.{rule_spelling}
+use Rattle.can_rules.specs.RuleWords.{is_rule, rule_spelling}
 
 -- The plan of a bus: the lines of a script, and rules (own choice).
 
@@ -35,6 +34,10 @@ no_plan = record { lines = no_verdicts; rules = [] }
 abbrev pub with_rule : Rule → PlanSeen → PlanSeen
 with_rule rule plan = record plan { rules = plan.rules ++ rule ∷ [] }
 
+-- the lines with these rules
+abbrev pub with_rules : List Rule → PlanSeen → PlanSeen
+with_rules rules plan = record plan { rules = rules }
+
 -- the lines without the rules
 abbrev pub without_rules : PlanSeen → PlanSeen
 without_rules plan = record plan { rules = [] }
@@ -44,18 +47,25 @@ abbrev pub head_in : Option (ℕ × CanFrame) → Option Head
 head_in None = None
 head_in (Some p) = Some (head_of p.0 (word_of p.1))
 
--- the verdict of an attempt for which a script has a line, or none: the line's, also a good one; else, where it tries a frame,
--- a rule's; else good
+-- the verdict that rules give an attempt, where it tries a frame; else good
+abbrev pub ruled : List Rule → Option Head → Verdict
+ruled rules None = Good
+ruled rules (Some head) = unwrap_or (chosen rules head) Good
+
+-- the rules after it: they are not asked of an idle attempt, and those that are used up go
+abbrev pub after_ruled : List Rule → Option Head → List Rule
+after_ruled rules None = rules
+after_ruled rules (Some head) = unused (after_chosen rules head)
+
+-- the verdict of an attempt for which a script has a line, or none: the line's, also a good one; else that of the rules
 abbrev pub planned : Option Verdict → List Rule → Option Head → Verdict
 planned (Some verdict) rules head = verdict
-planned None rules None = Good
-planned None rules (Some head) = unwrap_or (chosen rules head) Good
+planned None rules head = ruled rules head
 
--- the rules after it: they are not asked where the script has a line, nor of an idle attempt; those that are used up go
+-- the rules after it: they are not asked where the script has a line
 abbrev pub after_planned : Option Verdict → List Rule → Option Head → List Rule
 after_planned (Some verdict) rules head = rules
-after_planned None rules None = rules
-after_planned None rules (Some head) = unused (after_chosen rules head)
+after_planned None rules head = after_ruled rules head
 
 -- the verdict of an attempt with a number, under a source and a plan: the source's, if it is a fault, else the plan's
 abbrev pub given : Verdict → PlanSeen → ℕ → Option (ℕ × CanFrame) → Verdict
@@ -66,6 +76,17 @@ given fault plan attempt head = fault
 abbrev pub plan_after : Verdict → PlanSeen → ℕ → Option (ℕ × CanFrame) → PlanSeen
 plan_after Good plan attempt head = record plan { rules = after_planned (get plan.lines attempt) plan.rules (head_in head) }
 plan_after fault plan attempt head = plan
+
+-- whatever an attempt tries, it has this verdict, and no rule is asked
+abbrev pub IsSettled : Verdict → PlanSeen → ℕ → Verdict → Type 0
+IsSettled source plan attempt verdict = (head : Option (ℕ × CanFrame)) → (given source plan attempt head ≡ verdict) × (plan_after source plan attempt head ≡ plan)
+
+-- there are rules, and they decide the verdict of an attempt, by what it tries
+abbrev pub IsUpToRules : Verdict → PlanSeen → ℕ → Type 0
+IsUpToRules source plan attempt =
+    (0 < length plan.rules)
+    × ((head : Option (ℕ × CanFrame)) → (given source plan attempt head ≡ ruled plan.rules (head_in head))
+    × (plan_after source plan attempt head ≡ with_rules (after_ruled plan.rules (head_in head)) plan))
 
 -- how a rule that is none is refused
 abbrev pub refusal_of : WrongWord → RuleRefusal
@@ -85,10 +106,6 @@ Injected names bytes old (Err refusal.NoMemory) new = (rule : Rule) × SpellsRul
 Injected names bytes old (Err why) new = SpellsRule names bytes (Err why) × (new ≡ old)
 
 -- Plans as texts: the lines of a script, and lines that are rules.
-
--- a line that begins as a rule does
-abbrev pub is_rule : List ℕ → Bool
-is_rule line = bytes_eq (word line) (codes "next") || bytes_eq (word line) (codes "always")
 
 -- how the line with this number is refused, where it is a rule with a wrong word
 abbrev pub at_word : ℕ → WrongWord → PlanError

@@ -1,4 +1,4 @@
-use Rattle.std.specs.Prelude.{ℕ, ◌+◌, ◌^◌, ◌==◌, nat_lt, if◌then◌else◌, List, Option, Some, None, length, Result, Ok, Err, codes, bit_and}
+use Rattle.std.specs.Prelude.{ℕ, ◌+◌, ◌^◌, Bool, ◌||◌, ◌==◌, nat_lt, if◌then◌else◌, List, Option, Some, None, length, Result, Ok, Err, codes, bit_and}
 use Rattle.std.specs.List.{before_first, after_first}
 use Rattle.std.specs.Option.{ok_or, option_and_then}
 use Rattle.std.specs.Str.{bytes_eq}
@@ -118,3 +118,7 @@ rule_spelling names text =
       count ← ok_or (count_spelling (second text)) wrong.Count
       with_senders names (rule_of (Some count)) (beyond text))
     else Err wrong.Beginning
+
+-- a line that begins as a rule does
+abbrev pub is_rule : List ℕ → Bool
+is_rule line = bytes_eq (word line) (codes "next") || bytes_eq (word line) (codes "always")

@@ -12,5 +12,5 @@ mod rules;
 
 pub use plan::{Plan, PlanError};
 pub use rule::Rule;
-pub use rule_words::{WrongWord, read_rule};
+pub use rule_words::{WrongWord, begins_as_rule, read_rule};
 pub use rules::{MAX_RULES, RuleRefusal};

@@ -1,10 +1,10 @@
-ghost use Rattle.std.specs.Prelude.{◌≡◌, length, true};
-ghost use Rattle.can_rules.specs.Plans.{no_plan, given, plan_after, without_rules, SpellsRule, Injected, ReadsPlan, TakesPlanLine, at_word, refusal_of, is_rule};
+ghost use Rattle.std.specs.Prelude.{◌≡◌, length, true, IfSome, IfNone};
+ghost use Rattle.can_rules.specs.Plans.{no_plan, IsSettled, IsUpToRules, head_in, ruled, after_ruled, with_rules, without_rules, SpellsRule, Injected, ReadsPlan, TakesPlanLine, at_word, refusal_of};
+ghost use Rattle.can_rules.specs.RuleWords.{is_rule};
 
 use crate::rule::Rule;
-use crate::rule_words::{WrongWord, read_rule};
+use crate::rule_words::{WrongWord, begins_as_rule, read_rule};
 use crate::rules::{RuleRefusal, Rules};
-use can_fault::script_lines::cut;
 use can_fault::{Script, ScriptError, Verdict};
 use can_frame::{Frame, Iface, Names};
 use std::alloc::Global;
@@ -98,32 +98,36 @@ impl Plan {
         }
     }
 
-    /// The verdict of the attempt with this number, for which a source has its own: the source's, if it is a fault; else that
-    /// of the script's line, also a good one; else, where the attempt tries a frame, what the first rule that matches gives;
-    /// else `Good`. Asks each rule at most once. The time grows with the logarithm of the script's lines, and with the rules.
-    pub fn verdict(
-        &mut self,
-        source: Verdict,
-        attempt: u64,
-        head: Option<(Iface, Frame)>,
-    ) -> Verdict
-        ensures verdict { result ≡ given source self.old attempt head }
-        ensures after { self.new ≡ plan_after source self.old attempt head }
+    /// The verdict of the attempt with this number, for which a source has its own, where no rule is asked: the source's,
+    /// if it is a fault; else that of the script's line, also a good one; else `Good`, where there are no rules. `None`
+    /// where the rules decide.
+    pub fn verdict_without_rules(&self, source: Verdict, attempt: u64) -> Option<Verdict>
+        ensures settled { IfSome result (λ v. IsSettled source self.now attempt v) }
+        ensures open { IfNone result (IsUpToRules source self.now attempt) }
     {
         match source {
-            Verdict::Good => self.planned(attempt, head),
-            fault => fault,
+            Verdict::Good => self.line_or_good(attempt),
+            fault => Some(fault),
         }
     }
 
     // The same, where the source has no fault.
-    fn planned(&mut self, attempt: u64, head: Option<(Iface, Frame)>) -> Verdict
-        ensures verdict { result ≡ given Verdict.Good self.old attempt head }
-        ensures after { self.new ≡ plan_after Verdict.Good self.old attempt head }
+    fn line_or_good(&self, attempt: u64) -> Option<Verdict>
+        ensures settled { IfSome result (λ v. IsSettled Verdict.Good self.now attempt v) }
+        ensures open { IfNone result (IsUpToRules Verdict.Good self.now attempt) }
     {
-        if let Some(verdict) = self.script.line(attempt) {
-            return verdict;
+        let line = self.script.line(attempt);
+        if line.is_none() && self.rules.is_empty() {
+            return Some(Verdict::Good);
         }
+        line
+    }
+
+    /// The verdict that the first rule to give one gives an attempt that tries this, or `Good`. Asks each rule at most once.
+    pub fn verdict_of_rules(&mut self, head: Option<(Iface, Frame)>) -> Verdict
+        ensures verdict { result ≡ ruled self.old.rules (head_in head) }
+        ensures after { self.new ≡ with_rules (after_ruled self.old.rules (head_in head)) self.old }
+    {
         match head {
             Some((winner, frame)) => self
                 .rules
@@ -156,14 +160,6 @@ impl Plan {
     {
         self.rules.clear();
     }
-}
-
-// Whether a line begins as a rule does.
-fn begins_as_rule(line: &str) -> bool
-    ensures { result ≡ is_rule line.now }
-{
-    let (first, _) = cut(line);
-    first == "next" || first == "always"
 }
 
 // The rule that bytes spell.

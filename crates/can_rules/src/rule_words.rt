@@ -1,30 +1,45 @@
 ghost use Rattle.std.specs.Prelude.{◌≡◌, ◌<◌, IfSome, ◌^◌};
-ghost use Rattle.can_filter.specs.Filters.{everything};
-ghost use Rattle.can_rules.specs.RuleWords.{rule_spelling, with_senders, with_id, skipping, ended, count_spelling, id_spelling, plain_spelling, masked_spelling, small_spelling, of_standard, of_extended, of_words, id_in, mask_in, word_of};
+ghost use Rattle.can_rules.specs.RuleWords.{is_rule, rule_of, rule_spelling, with_senders, with_id, skipping, ended, count_spelling, id_spelling, plain_spelling, masked_spelling, small_spelling, of_standard, of_extended, of_words, id_in, mask_in, word_of};
 
 use crate::rule::Rule;
 use can_fault::Verdict;
 use can_fault::script_lines::{LineFault, cut, read_set, read_verdict};
 use can_filter::Filter;
 use can_frame::{Names, read_decimal, read_hexadecimal};
+use thiserror::Error;
 
-/// Which word of a rule is wrong.
-#[derive(Debug, Clone, Copy, PartialEq, Eq)]
+/// Which word of a rule is wrong: its text is the form that the word has.
+#[derive(Debug, Clone, Copy, PartialEq, Eq, Error)]
 pub enum WrongWord {
     /// It begins with neither `next` nor `always`.
+    #[error("a rule begins with next N or always, as next 32 from can0 global bit")]
     Beginning,
     /// The number after `next` is none, or 0.
+    #[error("next N: N has 1 to 8 digits and is not 0")]
     Count,
     /// The names after `from` are no names.
+    #[error("from NAMES: names of 1 to 15 bytes are joined by commas, without spaces")]
     Senders,
     /// A name is of no interface of the bus.
+    #[error("NAMES: each is an interface of the bus")]
     UnknownInterface,
     /// The identifier after `id` is none.
+    #[error("id ID: 3 hexadecimal digits up to 7FF or 8 up to 1FFFFFFF; or ID:MASK, 1 to 8 digits each, without bit 29 in MASK")]
     Identifier,
     /// The number after `skip` is none.
+    #[error("skip K: K has 1 to 8 digits")]
     Skip,
     /// What is left is no verdict.
+    #[error("after next N or always come from NAMES, id ID and skip K, in this order, each or none, and then VERDICT, with one space between words: good, lastbit, global bit, global form, local stuff NAMES, local crc NAMES or local form NAMES")]
     Verdict,
+}
+
+/// Whether a line begins as a rule does.
+pub fn begins_as_rule(line: &str) -> bool
+    ensures { result ≡ is_rule line.now }
+{
+    let (first, _) = cut(line);
+    first == "next" || first == "always"
 }
 
 /// The rule that a text spells, for a bus with these names.
@@ -49,7 +64,7 @@ pub fn read_rule(text: &str, names: &Names) -> Result<Rule, WrongWord>
 }
 
 fn rule_of(left: Option<u32>) -> Rule
-    ensures { result ≡ record { senders = None; filter = everything; skip = 0; left = left; verdict = Verdict.Good } }
+    ensures { result ≡ rule_of left }
 {
     Rule {
         senders: None,

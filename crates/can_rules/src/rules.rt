@@ -1,4 +1,4 @@
-ghost use Rattle.std.specs.Prelude.{◌≡◌, [], ◌≤◌, length};
+ghost use Rattle.std.specs.Prelude.{◌≡◌, ◌==◌, [], ◌≤◌, length};
 ghost use Rattle.can_rules.specs.Rules.{chosen, after_chosen, head_of, unused, Adds};
 
 use crate::rule::Rule;
@@ -82,6 +82,13 @@ impl Rules {
         ensures { result ≡ length self.now }
     {
         self.rules.len()
+    }
+
+    /// Whether there are none.
+    pub fn is_empty(&self) -> bool
+        ensures { result ≡ (length self.now == 0) }
+    {
+        self.rules.is_empty()
     }
 
     /// Ends all rules.
