@@ -346,9 +346,9 @@ impl<N: RollName + MeterName, F: FaultSource + Drop, G: Gate + Drop, B: Journale
         self.hold(rt).end_rules();
     }
 
-    /// Takes passes and gauges back, and hands out the record, or what else the bus leaves: a legal history whose entries can be marked with
-    /// passes so that the calls of each of these passes are its entries, in order. What the gauges have seen are
-    /// publications of that history.
+    /// Takes passes and gauges back, and hands out the record, or what else the bus leaves: a legal history of the
+    /// station's configuration, whose entries can be marked with passes so that the calls of each of these passes are its
+    /// entries, in order. What the gauges have seen are publications of that history.
     ///
     /// `WrongStation` exactly where some pass or gauge is another station's; then nothing is handed back.
     pub fn settle<R: Wait>(
@@ -358,6 +358,7 @@ impl<N: RollName + MeterName, F: FaultSource + Drop, G: Gate + Drop, B: Journale
         gauges: Vec<Gauge<N>>,
     ) -> Result<Settled<B::Left>, WrongStation>
         ensures settled { IfOk result (λ s. SettlesIn (B.left s.history) s.passes passes.items) }
+        ensures config { IfOk result (λ s. (B.left s.history).config ≡ self.config) }
         ensures gauges { IfOk result (λ s. AreTrue (B.left s.history) gauges.items) }
         ensures refused { TakesBack self.number passes.items gauges.items result }
     {
@@ -370,11 +371,11 @@ impl<N: RollName + MeterName, F: FaultSource + Drop, G: Gate + Drop, B: Journale
             written: _,
             gate: _,
             number,
-            config: _,
+            config,
             fullness: _,
         } = self;
         let state = state.into_inner();
-        if state.number() != number {
+        if !state.is_of(number, &config) {
             for _ in rt.forever() {}
             unreachable!()
         }
