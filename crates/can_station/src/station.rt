@@ -144,8 +144,9 @@ impl<N: RollName + MeterName, F: FaultSource + Drop, G: Gate + Drop, B: Journale
     G,
     B,
 > {
-    /// A station over a bus with this configuration, on which nothing was done. `NoMemory` where memory was refused.
-    pub(crate) fn over(
+    /// A station over a bus with this configuration, on which nothing was done, with this plan of faults. `NoMemory` where
+    /// memory was refused.
+    pub fn over(
         alloc: Global,
         blanks: Blanks,
         number: u8,
