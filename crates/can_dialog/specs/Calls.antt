@@ -78,6 +78,11 @@ port_of_rule rule.UnknownInterface = port.Bus refusal.NoInterface
 port_of_rule rule.TooManyRules = port.TooManyRules
 port_of_rule rule.NoMemory = port.Bus refusal.NoMemory
 
+-- a plan's reply to a rule of faults, as a port gives it
+abbrev pub reply_to_rule : Result (Unit {0}) RuleRefusal → Result (Unit {0}) PortRefusal
+reply_to_rule (Ok done) = Ok done
+reply_to_rule (Err why) = Err (port_of_rule why)
+
 -- an event that is refused is a step with that refusal
 abbrev pub Refuses : {P : Type 0} → (P → (call : Call) → Reply call → P → Type 0) → P → Event → PortRefusal → P → Type 0
 Refuses step old (event.Open iface capacity) why new = step old (Open iface capacity) (Err why) new

@@ -17,6 +17,6 @@ pub mod session;
 pub mod stage;
 
 pub use delivery::Delivery;
-pub use port::{Port, PortRefusal};
+pub use port::{Port, PortRefusal, rule_reply};
 pub use session::{Session, SessionFault};
 pub use stage::{Dialog, RawSocket, Stage};

@@ -1,5 +1,5 @@
 ghost use Rattle.std.specs.Prelude.{◌≡◌};
-ghost use Rattle.can_dialog.specs.Calls.{cause_of_port};
+ghost use Rattle.can_dialog.specs.Calls.{cause_of_port, reply_to_rule};
 
 use can_confine::Counters;
 use can_event::{Closed, Event, IfaceStats, Opt, Received, Refusal, Reply, SocketId, SocketStats};
@@ -57,6 +57,16 @@ impl From<RuleRefusal> for PortRefusal {
             RuleRefusal::TooManyRules => PortRefusal::TooManyRules,
             RuleRefusal::NoMemory => PortRefusal::Bus(Refusal::NoMemory),
         }
+    }
+}
+
+/// A plan's reply to a rule of faults, as a port gives it.
+pub fn rule_reply(outcome: Result<(), RuleRefusal>) -> Result<(), PortRefusal>
+    ensures { result ≡ reply_to_rule outcome }
+{
+    match outcome {
+        Ok(()) => Ok(()),
+        Err(refusal) => Err(PortRefusal::from(refusal)),
     }
 }
 

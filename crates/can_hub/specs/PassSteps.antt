@@ -14,7 +14,7 @@ use Rattle.can_record.specs.Outcomes.{done_reply, told_attempt}
 use Rattle.can_bus.specs.Stats.{socket_stats_of, iface_stats_of}
 use Rattle.can_dialog.specs.declared.port.PortRefusal.{PortRefusal}
 use Rattle.can_dialog.specs.declared.port.PortRefusal.TheVariants as port
-use Rattle.can_dialog.specs.Calls.{Call, port_of_rule}
+use Rattle.can_dialog.specs.Calls.{Call, reply_to_rule}
 use Rattle.can_dialog.specs.Calls.{Reply as CallReply}
 use Rattle.can_dialog.specs.Calls.Call.{Attach, Open, Close, SetFilters, SetOption, Send, Receive, Restart, Attempt, CountsOfSocket, CountsOfIface, CountersOfIface, Inject, CountsRules, EndsRules}
 use Rattle.can_rules.specs.declared.rules.RuleRefusal.{RuleRefusal}
@@ -123,15 +123,10 @@ abbrev pub CountsIface : Type 0 → Option EnteredSeen → ℕ → Option IfaceS
 CountsIface F None iface answer = answer ≡ None
 CountsIface F (Some e) iface answer = InSome F e.station (λ held. answer ≡ iface_stats_of held.journal.config held.journal.history iface)
 
--- how a station's reply to a rule is given
-abbrev pub told_rule : Result (Unit {0}) RuleRefusal → Result (Unit {0}) PortRefusal
-told_rule (Ok done) = Ok done
-told_rule (Err why) = Err (port_of_rule why)
-
 -- a rule comes to this in some state of a station (which is not said) whose interfaces have these names
 abbrev pub InjectsNamed : Type 0 → StationSeen → Option (List (List ℕ)) → List ℕ → Result (Unit {0}) PortRefusal → Type 0
 InjectsNamed F station None rule answer = answer ≡ Err (port.Bus refusal.NoSocket)
-InjectsNamed F station (Some names) rule answer = (outcome : Result (Unit {0}) RuleRefusal) × InjectsIn F station names rule outcome × (answer ≡ told_rule outcome)
+InjectsNamed F station (Some names) rule answer = (outcome : Result (Unit {0}) RuleRefusal) × InjectsIn F station names rule outcome × (answer ≡ reply_to_rule outcome)
 
 -- the same of the station that was entered; where none was, there is no socket
 abbrev pub Injects : Type 0 → List BusSeen → Option EnteredSeen → List ℕ → Result (Unit {0}) PortRefusal → Type 0

@@ -1,17 +1,16 @@
 ghost use Rattle.std.specs.Prelude.{◌≡◌};
 ghost use Rattle.can_hub.specs.Buses.{IsFirstNamed};
-ghost use Rattle.can_hub.specs.PassSteps.{GaugeTells, passed_on, told_rule, with_room};
+ghost use Rattle.can_hub.specs.PassSteps.{GaugeTells, passed_on, with_room};
 
 use crate::hub::Hub;
 use crate::tally::{Counted, Tally};
 use can_bus::{Event, IfaceStats, Refusal, Reply, SocketId, SocketStats};
 use can_confine::Counters;
-use can_dialog::{Port, PortRefusal};
+use can_dialog::{Port, PortRefusal, rule_reply};
 use can_fault::FaultSource;
 use can_frame::Iface;
 use can_meter::{Gauge, MeterName};
 use can_roll::RollName;
-use can_rules::RuleRefusal;
 use can_station::{Gate, Pass, Station, StationRefusal};
 use std::alloc::Global;
 use std::marker::Model;
@@ -139,16 +138,6 @@ pub(crate) fn pass_on<V>(outcome: Result<V, StationRefusal>) -> Result<V, PortRe
     }
 }
 
-/// A station's reply to a rule, as a port gives it.
-fn tell_rule(outcome: Result<(), RuleRefusal>) -> Result<(), PortRefusal>
-    ensures { result ≡ told_rule outcome }
-{
-    match outcome {
-        Ok(()) => Ok(()),
-        Err(refusal) => Err(PortRefusal::from(refusal)),
-    }
-}
-
 /// The error counters that a gauge reads of an interface: 0/0 where its meter has none.
 fn read_gauge<N: MeterName>(gauge: &mut Gauge<N>, iface: Iface) -> Counters
     ensures { GaugeTells gauge.old iface result gauge.new }
@@ -224,7 +213,7 @@ impl<'a, N: RollName + MeterName, F: FaultSource + Drop, G: Gate + Drop, R: Wait
         let Some(names) = self.hub.names(number) else {
             return Err(PortRefusal::Bus(Refusal::NoSocket));
         };
-        tell_rule(entered.station.inject(self.rt, rule, names))
+        rule_reply(entered.station.inject(self.rt, rule, names))
     }
 
     fn rules(&mut self) -> u64 {

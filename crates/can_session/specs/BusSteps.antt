@@ -20,7 +20,7 @@ use Rattle.can_event.specs.declared.stats.IfaceStats.{IfaceStats}
 use Rattle.can_bus.specs.Stats.{socket_stats_of, iface_stats_of}
 use Rattle.can_dialog.specs.declared.port.PortRefusal.{PortRefusal}
 use Rattle.can_dialog.specs.declared.port.PortRefusal.TheVariants as port
-use Rattle.can_dialog.specs.Calls.{Call, port_of_rule}
+use Rattle.can_dialog.specs.Calls.{Call, reply_to_rule}
 use Rattle.can_dialog.specs.Calls.{Reply as CallReply}
 use Rattle.can_dialog.specs.Calls.Call.{Attach, Open, Close, SetFilters, SetOption, Send, Receive, Restart, Attempt, CountsOfSocket, CountsOfIface, CountersOfIface, Inject, CountsRules, EndsRules}
 
@@ -63,18 +63,13 @@ abbrev pub counters_in : Option IfaceStats → ErrorCounts
 counters_in None = at_start
 counters_in (Some counts) = counts.counters
 
--- how a plan's reply is given
-abbrev pub told_rule : Result (Unit {0}) RuleRefusal → Result (Unit {0}) PortRefusal
-told_rule (Ok done) = Ok done
-told_rule (Err why) = Err (port_of_rule why)
-
 -- one event of the bus, with the bus's reply
 abbrev pub IsEvent : {A : Type 0} → (A → Reply) → NamedBus → Event → Result A PortRefusal → NamedBus → Type 0
 IsEvent {A} told old event answer new = (outcome : Result A Refusal) × (answer ≡ passed_on outcome) × Answers told old.journal event outcome new.journal × (new.names ≡ old.names) × (new.plan ≡ old.plan)
 
 -- a rule of faults is taken, or refused as the plan refuses it
 abbrev pub IsInjected : NamedBus → List ℕ → Result (Unit {0}) PortRefusal → NamedBus → Type 0
-IsInjected old rule answer new = (outcome : Result (Unit {0}) RuleRefusal) × (answer ≡ told_rule outcome) × Injected old.names rule old.plan outcome new.plan × (new ≡ record old { plan = new.plan })
+IsInjected old rule answer new = (outcome : Result (Unit {0}) RuleRefusal) × (answer ≡ reply_to_rule outcome) × Injected old.names rule old.plan outcome new.plan × (new ≡ record old { plan = new.plan })
 
 -- a call on a bus with names
 abbrev pub BusStep : NamedBus → (call : Call) → CallReply call → NamedBus → Type 0

@@ -3,14 +3,14 @@ ghost use Rattle.can_bus.specs.Answer.{Answers};
 ghost use Rattle.can_record.specs.Outcomes.{told_attempt};
 ghost use Rattle.can_event.specs.declared.event.Event.TheVariants as event;
 ghost use Rattle.can_rules.specs.Plans.{no_plan, Injected};
-ghost use Rattle.can_session.specs.BusSteps.{next_number, verdict_on, plan_left, passed_on, told_rule};
+ghost use Rattle.can_session.specs.BusSteps.{next_number, verdict_on, plan_left, passed_on};
 
 use can_arbiter::Arbiter;
 use can_bus::{
     Attempt, Bus, Event, IfaceStats, Pending, Received, Refusal, Reply, SocketId, SocketStats,
 };
 use can_confine::Counters;
-use can_dialog::{Port, PortRefusal};
+use can_dialog::{Port, PortRefusal, rule_reply};
 use can_fault::Verdict;
 use can_frame::{Frame, Iface, Moment, Names};
 use can_queue::BoundedQueue;
@@ -110,11 +110,10 @@ impl<T: BoundedQueue<Pending>, R: BoundedQueue<Received>, A: Arbiter> BusPort<T,
         ensures after { self.new ≡ record self.old { plan = plan_left self.old source } }
     {
         let number = self.bus.next_attempt();
-        // What the attempt tries is looked up for rules alone.
-        if self.plan.rules() == 0 {
-            return self.plan.verdict(source, number, None);
+        match self.plan.verdict_without_rules(source, number) {
+            Some(verdict) => verdict,
+            None => self.plan.verdict_of_rules(self.bus.next_head()),
         }
-        self.plan.verdict(source, number, self.bus.next_head())
     }
 }
 
@@ -125,16 +124,6 @@ fn pass_on<V>(outcome: Result<V, Refusal>) -> Result<V, PortRefusal>
     match outcome {
         Ok(value) => Ok(value),
         Err(refusal) => Err(PortRefusal::Bus(refusal)),
-    }
-}
-
-/// A plan's reply, as a port gives it.
-fn tell_rule(outcome: Result<(), RuleRefusal>) -> Result<(), PortRefusal>
-    ensures { result ≡ told_rule outcome }
-{
-    match outcome {
-        Ok(()) => Ok(()),
-        Err(refusal) => Err(PortRefusal::from(refusal)),
     }
 }
 
@@ -183,7 +172,7 @@ impl<T: BoundedQueue<Pending>, R: BoundedQueue<Received>, A: Arbiter> Port for B
     }
 
     fn inject(&mut self, rule: &[u8]) -> Result<(), PortRefusal> {
-        tell_rule(self.take_rule(rule))
+        rule_reply(self.take_rule(rule))
     }
 
     fn rules(&mut self) -> u64 {

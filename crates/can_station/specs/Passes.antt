@@ -9,6 +9,7 @@ use Rattle.can_event.specs.declared.refusal.Refusal.{Refusal}
 use Rattle.can_event.specs.declared.refusal.Refusal.TheVariants as refusal
 use Rattle.can_event.specs.declared.socket_id.SocketId.{SocketId}
 use Rattle.can_event.specs.declared.attempt.Attempt.{Attempt}
+use Rattle.can_frame.specs.Frames.{CanFrame}
 use Rattle.can_fault.specs.declared.verdict.Verdict.{Verdict}
 use Rattle.can_record.specs.Outcomes.{told_attempt}
 use Rattle.can_record.specs.Journal.{Journal, Kept}
@@ -121,6 +122,10 @@ pub record IsCarriedOut {F : Type 0} (old : Held F) (slip : SlipSeen) (e : Event
 abbrev pub IsReceived : {F : Type 0} → Held F → SlipSeen → SocketId → Received → Result Bool Refusal → Held F → SlipSeen → Type 0
 IsReceived old slip socket room outcome new slip' = IsCarriedOut old slip (event.Receive socket) (receive_reply room outcome) new slip'
 
+-- nothing changes: what a station keeps, a slip, and the list of its pass
+abbrev pub ChangesNothing : {F : Type 0} → Held F → SlipSeen → Option ListedEntries → Held F → SlipSeen → Option ListedEntries → Type 0
+ChangesNothing old slip calls new slip' calls' = (new ≡ old) × (slip' ≡ slip) × (calls' ≡ calls)
+
 -- what is in a pass's list after a call: it is kept with its reply, unless the record was full or memory was refused
 abbrev pub listed_after : Event → Reply → Option (List Entry) → Option (List Entry)
 listed_after e r None = None
@@ -156,13 +161,17 @@ next_number held = length (tape held.journal.history)
 abbrev pub source_verdict : {F : Type 0} → (F → VerdictMap) → Held F → Verdict
 source_verdict verdicts held = verdict_in (verdicts held.source) (next_number held)
 
+-- what the next attempt on a bus tries
+abbrev pub head_on : Journal → Option (ℕ × CanFrame)
+head_on journal = next_head journal.config journal.history
+
 -- the verdict of the next attempt: the source's where it is a fault, else the plan's
 abbrev pub next_verdict : {F : Type 0} → (F → VerdictMap) → Held F → Verdict
-next_verdict verdicts held = given (source_verdict verdicts held) held.plan (next_number held) (next_head held.journal.config held.journal.history)
+next_verdict verdicts held = given (source_verdict verdicts held) held.plan (next_number held) (head_on held.journal)
 
 -- the plan once it gave that verdict
 abbrev pub next_plan : {F : Type 0} → (F → VerdictMap) → Held F → PlanSeen
-next_plan verdicts held = plan_after (source_verdict verdicts held) held.plan (next_number held) (next_head held.journal.config held.journal.history)
+next_plan verdicts held = plan_after (source_verdict verdicts held) held.plan (next_number held) (head_on held.journal)
 
 -- what is kept once this source and the plan were asked for the next attempt, before the attempt is made
 abbrev pub asked : {F : Type 0} → (F → VerdictMap) → F → Held F → Held F

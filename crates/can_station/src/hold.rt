@@ -4,7 +4,7 @@ ghost use Rattle.can_event.specs.Replies.{receive_reply, taken_reply};
 ghost use Rattle.can_event.specs.declared.event.Event.TheVariants as event;
 ghost use Rattle.can_rules.specs.Plans.{Injected, without_rules};
 ghost use Rattle.can_station.specs.Held.{with_plan};
-ghost use Rattle.can_station.specs.Passes.{IsCarriedOut, IsReady, IsReadyFor, IsReceived, IsStepped, Keeps, Suits, Called, Made, MadeStep, next_attempt, same};
+ghost use Rattle.can_station.specs.Passes.{ChangesNothing, IsCarriedOut, IsReady, IsReadyFor, IsReceived, IsStepped, Keeps, Suits, Called, Made, MadeStep, next_attempt, same};
 ghost use Rattle.can_station.specs.Waits.{has_work};
 
 use crate::attempts::attempt_in;
@@ -119,7 +119,8 @@ impl<'s, N: RollName + MeterName, F: FaultSource + Drop, G: Gate + Drop, B: Jour
         ensures carried { IfSome result (λ r. IsCarriedOut self.old slip.old event r self.new slip.new) }
         ensures calls { IfSome result (λ r. Keeps calls.old event r calls.new) }
         ensures suits { IfSome result (λ r. Suits event r) }
-        ensures none { IfNone result ((self.new ≡ self.old) × (slip.new ≡ slip.old) × (calls.new ≡ calls.old)) }
+        ensures none { IfNone result
+            (ChangesNothing self.old slip.old calls.old self.new slip.new calls.new) }
     {
         let reply = self.state.call(alloc, slip, &event)?;
         self.news.add(&event, &reply);
@@ -166,7 +167,8 @@ impl<'s, N: RollName + MeterName, F: FaultSource + Drop, G: Gate + Drop, B: Jour
         ensures carried { IfSome result (λ r. IsReceived self.old slip.old socket room.new r self.new slip.new) }
         ensures calls { IfSome result (λ r. Keeps calls.old (event.Receive socket) (receive_reply room.new r) calls.new) }
         ensures stays { result ≢ Some (Ok true) → room.new ≡ room.old }
-        ensures none { IfNone result ((self.new ≡ self.old) × (slip.new ≡ slip.old) × (calls.new ≡ calls.old)) }
+        ensures none { IfNone result
+            (ChangesNothing self.old slip.old calls.old self.new slip.new calls.new) }
     {
         let outcome = self.state.receive_into(slip, socket, room)?;
         if let Err(why) = outcome {
@@ -212,7 +214,8 @@ impl<'s, N: RollName + MeterName, F: FaultSource + Drop, G: Gate + Drop, B: Jour
         ensures source { F.verdicts self.new.source ≡ F.verdicts self.old.source }
         ensures calls { IfSome result (λ r. Keeps calls.old (next_attempt F.verdicts self.old moment) r calls.new) }
         ensures suits { IfSome result (λ r. Suits (next_attempt F.verdicts self.old moment) r) }
-        ensures none { IfNone result ((self.new ≡ self.old) × (slip.new ≡ slip.old) × (calls.new ≡ calls.old)) }
+        ensures none { IfNone result
+            (ChangesNothing self.old slip.old calls.old self.new slip.new calls.new) }
     {
         let station = self.station;
         station.gate.at(Point::InStep);

@@ -6,9 +6,9 @@ ghost use Rattle.can_bus.specs.Legal.{IsLegal};
 ghost use Rattle.can_event.specs.declared.event.Event.TheVariants as event;
 ghost use Rattle.can_meter.specs.Readings.{readings};
 ghost use Rattle.can_station.specs.Held.{HasEntered, HasNoPlace, NoPassLeft, new_held, roll_after, slip_after, station_seen, with_plan};
-ghost use Rattle.can_rules.specs.Plans.{Injected, without_rules};
+ghost use Rattle.can_rules.specs.Plans.{Injected, given, plan_after, without_rules};
 ghost use Rattle.can_station.specs.Marks.{IsBooked, IsMarked};
-ghost use Rattle.can_station.specs.Passes.{IsCarriedOut, IsReceived, IsStateOf, IsStepped, SettlesIn, Suits, next_verdict};
+ghost use Rattle.can_station.specs.Passes.{IsCarriedOut, IsReceived, IsStateOf, IsStepped, SettlesIn, Suits, head_on, next_verdict};
 ghost use Rattle.can_bus.specs.Run.{IsAnswered};
 ghost use Rattle.can_station.specs.Published.{AreTrue, IsPublished, TakesBack};
 ghost use Rattle.can_station.specs.Waits.{AreCounts, frame_wake, has_work, work_wake, stopped_wake, waiting_at};
@@ -244,7 +244,7 @@ impl<N: RollName + MeterName, F: FaultSource + Drop, B: Journaled> StationState<
         }
         let attempt = self.bus.next_attempt();
         let sourced = self.source.verdict(attempt);
-        let verdict = self.plan.verdict(sourced, attempt, self.bus.next_head());
+        let verdict = next_verdict(&mut self.plan, &self.bus, attempt, sourced);
         let event = Event::Attempt(moment, verdict);
         let reply = carry_out(
             alloc,
@@ -436,6 +436,17 @@ impl<N: RollName + MeterName, F: FaultSource + Drop, B: Journaled> StationState<
             history: bus.into_left(),
             passes: roll.passes(),
         })
+    }
+}
+
+/// The verdict of a bus's next attempt, which has this number and for which the source has this verdict. The plan counts it.
+fn next_verdict<B: Journaled>(plan: &mut Plan, bus: &B, attempt: u64, source: Verdict) -> Verdict
+    ensures verdict { result ≡ given source plan.old attempt (head_on (B.journal bus.now)) }
+    ensures after { plan.new ≡ plan_after source plan.old attempt (head_on (B.journal bus.now)) }
+{
+    match plan.verdict_without_rules(source, attempt) {
+        Some(verdict) => verdict,
+        None => plan.verdict_of_rules(bus.next_head()),
     }
 }
 

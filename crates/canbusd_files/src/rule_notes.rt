@@ -4,12 +4,6 @@ use can_rules::{WrongWord, read_rule};
 use canbusd_faults::{Shown, WITH_CR, fixed_note};
 use std::alloc::{AllocError, Global};
 
-/// Whether a line begins as a rule does.
-pub(crate) fn begins_as_rule(line: &str) -> bool {
-    let word = line.split(' ').next().unwrap_or("");
-    word == "next" || word == "always"
-}
-
 /// Why a rule was not taken, for a bus whose names are given as a word of the command line has them.
 pub fn rule_note(alloc: Global, rule: &str, bus: &str) -> Result<String, AllocError> {
     if rule.ends_with('\r') {
@@ -21,26 +15,7 @@ pub fn rule_note(alloc: Global, rule: &str, bus: &str) -> Result<String, AllocEr
     match read_rule(rule, &names) {
         Ok(_) => fixed_note(alloc, "a bus has at most 64 rules"),
         Err(WrongWord::UnknownInterface) => unknown_note(alloc, rule, bus),
-        Err(which) => fixed_note(alloc, form_of(which)),
-    }
-}
-
-// How a word should look.
-fn form_of(which: WrongWord) -> &'static str {
-    match which {
-        WrongWord::Beginning =>
-            "a rule begins with next N or always, as next 32 from can0 global bit",
-        WrongWord::Count => "next N: N has 1 to 8 digits and is not 0",
-        WrongWord::Senders | WrongWord::UnknownInterface => {
-            "from NAMES: names of 1 to 15 bytes are joined by commas, without spaces"
-        }
-        WrongWord::Identifier => {
-            "id ID: 3 hexadecimal digits up to 7FF or 8 up to 1FFFFFFF; or ID:MASK, 1 to 8 digits each, without bit 29 in MASK"
-        }
-        WrongWord::Skip => "skip K: K has 1 to 8 digits",
-        WrongWord::Verdict => {
-            "after next N or always come from NAMES, id ID and skip K, in this order, each or none, and then VERDICT, with one space between words: good, lastbit, global bit, global form, local stuff NAMES, local crc NAMES or local form NAMES"
-        }
+        Err(which) => format!(in alloc; "  {which}\n"),
     }
 }
 

@@ -4,10 +4,10 @@ ghost use Rattle.can_rules.specs.Plans.{ReadsPlan};
 ghost use Rattle.canbusd_files.specs.Files.{IsOfScript, IsOfScriptFile};
 
 use crate::files::read_file;
-use crate::rule_notes::{begins_as_rule, rule_note, unknown_name_note};
+use crate::rule_notes::{rule_note, unknown_name_note};
 use can_fault::ScriptError;
 use can_frame::Names;
-use can_rules::{Plan, PlanError};
+use can_rules::{Plan, PlanError, begins_as_rule};
 use canbusd_faults::{Failure, Fault, Line, WITH_CR, fixed_note, line_of};
 use std::alloc::{AllocError, Global};
 use std::rt::Files;

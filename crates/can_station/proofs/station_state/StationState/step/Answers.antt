@@ -1,14 +1,13 @@
 use Rattle.std.proofs.Common.{◌≡◌, ℕ, length, sym, ap, ◌∙◌, subst}
 use Rattle.can_event.specs.declared.event.Event.{Event}
 use Rattle.can_event.specs.declared.event.Event.TheVariants as event
-use Rattle.can_bus.specs.Heads.{next_head}
 use Rattle.can_fault.specs.Sources.{verdict_in}
 use Rattle.can_record.specs.Journal.{Journal}
 use Rattle.can_record.specs.Tapes.{tape}
 use Rattle.can_roll.specs.Seen.{RollSeen}
 use Rattle.can_rules.specs.Plans.{given, plan_after}
 use Rattle.can_station.specs.Held.{Held}
-use Rattle.can_station.specs.Passes.{IsCarriedOut, next_plan, next_verdict}
+use Rattle.can_station.specs.Passes.{IsCarriedOut, head_on, next_plan, next_verdict}
 use Rattle.can_station.proofs.station_state.StationState.step.Goals as goal
 
 pub invariant_of-self : goal.invariant_of-self
@@ -25,18 +24,17 @@ returns-clause-carried g c =
     let attempt : c.next_attempt-attempt.result ≡ length (tape j.history) = c.next_attempt-attempt.ensures in
     let sourced : c.verdict-sourced.result ≡ verdict_in (verdicts c.self.inside.source) (length (tape j.history)) =
     c.verdict-sourced.ensures.answer ∙ ap (λ (n : ℕ). verdict_in (verdicts c.self.inside.source) n) attempt in
-    let head : c.next_head.result ≡ next_head j.config j.history = c.next_head.ensures in
-    let verdict : c.verdict-verdict.result ≡ next_verdict verdicts c.args.self.now =
-    c.verdict-verdict.ensures.verdict ∙ (λ k. given (sourced k) c.self.inside.plan (attempt k) (head k)) ∙ ap (λ (h : Held g.row.F.Denot). next_verdict verdicts h) c.self.view_is in
-    let plan : c.verdict-verdict.new.self ≡ next_plan verdicts c.args.self.now =
-    c.verdict-verdict.ensures.after ∙ (λ k. plan_after (sourced k) c.self.inside.plan (attempt k) (head k)) ∙ ap (λ (h : Held g.row.F.Denot). next_plan verdicts h) c.self.view_is in
+    let verdict : c.next_verdict-verdict.result ≡ next_verdict verdicts c.args.self.now =
+    c.next_verdict-verdict.ensures.verdict ∙ (λ k. given (sourced k) c.self.inside.plan (attempt k) (head_on j)) ∙ ap (λ (h : Held g.row.F.Denot). next_verdict verdicts h) c.self.view_is in
+    let plan : c.next_verdict-verdict.new.plan ≡ next_plan verdicts c.args.self.now =
+    c.next_verdict-verdict.ensures.after ∙ (λ k. plan_after (sourced k) c.self.inside.plan (attempt k) (head_on j)) ∙ ap (λ (h : Held g.row.F.Denot). next_plan verdicts h) c.self.view_is in
     let done = c.carry_out-reply.ensures in
     let now : Held g.row.F.Denot = record {
       number = inside.roll.number;
       journal = j;
       lists = inside.roll.lists;
       source = c.verdict-sourced.new.self;
-      plan = c.verdict-verdict.new.self;
+      plan = c.next_verdict-verdict.new.plan;
       stopped = inside.stopped;
     } in
     let new : Held g.row.F.Denot = record {
@@ -44,10 +42,10 @@ returns-clause-carried g c =
       journal = g.B.Journaled.journal c.carry_out-reply.new.bus;
       lists = c.carry_out-reply.new.roll.lists;
       source = c.verdict-sourced.new.self;
-      plan = c.verdict-verdict.new.self;
+      plan = c.next_verdict-verdict.new.plan;
       stopped = inside.stopped;
     } in
-    let carried : IsCarriedOut now c.args.slip.now (event.Attempt c.args.moment c.verdict-verdict.result) c.carry_out-reply.result new c.carry_out-reply.new.slip =
+    let carried : IsCarriedOut now c.args.slip.now (event.Attempt c.args.moment c.next_verdict-verdict.result) c.carry_out-reply.result new c.carry_out-reply.new.slip =
     record {
       answer = done.answered.answer;
       after = λ k. record {
@@ -55,7 +53,7 @@ returns-clause-carried g c =
         journal = done.answered.after k;
         lists = (done.roll k).lists;
         source = c.verdict-sourced.new.self;
-        plan = c.verdict-verdict.new.self;
+        plan = c.next_verdict-verdict.new.plan;
         stopped = inside.stopped;
       };
       noted = done.slip;
