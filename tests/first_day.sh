@@ -3,7 +3,7 @@
 # at the top of a clone, as root. test_first_day.py runs it in such a Debian. ROUTE is
 #   path   README's route: a clone, PYTHONPATH, and Debian's packages
 #   venv   that of docs/PYTHON.md: a virtual environment with Debian's packages, without a network
-#   pip    a virtual environment into which pip installs the package and what it needs
+#   pip    a virtual environment into which pip installs the package and what it needs; status 77 where it finds no packages
 #   check  the tests of the program
 set -eu
 export DEBIAN_FRONTEND=noninteractive
@@ -81,13 +81,14 @@ path)
     ;;
 venv)
     install "$(packages_of docs/PYTHON.md python3-venv) python3-pytest"
-    printed docs/PYTHON.md "/usr/bin/python3 -m venv --system-site-packages venv" "pip install --no-build-isolation"
+    printed docs/PYTHON.md "make wheel" "/usr/bin/python3 -m venv --system-site-packages venv" "pip install --no-index"
     try_package true
     ;;
 pip)
     install python3-venv
     python3 -m venv venv
     . venv/bin/activate
+    pip download -q --no-deps -d wheels setuptools || exit 77
     pip install -q pytest ./python
     try_package true
     ;;

@@ -36,6 +36,7 @@ def base(tmp_path_factory):
 def test_first_day(base, route, tmp_path):
     debian = tmp_path / "debian"
     subprocess.run(["cp", "-a", base, debian], check=True)
+    (debian / "etc" / "hosts").write_text("127.0.0.1 localhost\n", encoding="ascii")
     Clone(debian / "root" / "canbusd").put_program(program())
     environment = ["PATH=/usr/sbin:/usr/bin:/sbin:/bin", "HOME=/root", "LC_ALL=C.UTF-8"]
     script = ["sh", "-c", "cd /root/canbusd && exec tests/first_day.sh $0", route]
@@ -48,4 +49,6 @@ def test_first_day(base, route, tmp_path):
         check=False,
     )
     shutil.rmtree(debian, ignore_errors=True)
+    if done.returncode == 77:
+        pytest.skip("pip finds no packages")
     assert done.returncode == 0 and done.stdout.endswith("the first day went well\n"), done.stdout
