@@ -4,7 +4,7 @@ import textwrap
 
 import pytest
 
-from running import passes, server, settled, started, written  # noqa: F401  the fixture
+from running import needs, passes, server, settled, started, written  # noqa: F401  the fixture
 from serving import ROOT, serving
 
 pytest.importorskip("can", reason="no python-can: apt-get install python3-can")
@@ -222,6 +222,7 @@ def test_no_interface(server):
     )
 
 
+@needs("candump")
 def test_logger_and_player(server, tmp_path):
     """python-can's own programs write a log, and play it"""
     log = tmp_path / "run.log"
