@@ -41,6 +41,8 @@ WORDS = [
     b"errmask",
     b"FFFFFFFF",
     b"errdata",
+    b"ack",
+    b"origin",
     b"1",
     b"stats",
     b"status",

@@ -1,13 +1,13 @@
 use Rattle.std.specs.Prelude.{◌≡◌, ◌<◌, ℕ, zero, suc, Bool, true, false, List, [], ◌++◌}
 use Rattle.can_event.specs.declared.received.Received.{Received}
 use Rattle.can_proto.specs.declared.answer.Answer.TheVariants as answer
-use Rattle.can_proto.specs.Spelling.{reply_text, item_text}
+use Rattle.can_proto.specs.Spelling.{reply_text, item_text, item_text_from}
 use Rattle.can_dialog.specs.declared.delivery.Delivery.{Delivery}
-use Rattle.can_dialog.specs.declared.delivery.Delivery.TheVariants.{Nothing, Item, Refused}
+use Rattle.can_dialog.specs.declared.delivery.Delivery.TheVariants.{Nothing, Item, ItemFrom, Refused}
 use Rattle.can_dialog.specs.declared.stage.Stage.{Stage}
 use Rattle.can_dialog.specs.Calls.{Call, Reply}
 use Rattle.can_dialog.specs.Plans.{Plays}
-use Rattle.can_dialog.specs.Turns.{delivery}
+use Rattle.can_dialog.specs.Turns.{delivery, origin_of}
 
 -- What receives give a client (own choice).
 
@@ -15,11 +15,13 @@ use Rattle.can_dialog.specs.Turns.{delivery}
 abbrev pub delivery_text : Delivery → Received → List ℕ
 delivery_text Nothing room = []
 delivery_text (Item errdata) room = item_text errdata room.item room.moment
+delivery_text (ItemFrom errdata same) room = item_text_from errdata (origin_of same room.number) room.item room.moment
 delivery_text (Refused why) room = reply_text (answer.Refused why)
 
 -- whether it is an item
 abbrev pub is_item : Delivery → Bool
 is_item (Item errdata) = true
+is_item (ItemFrom errdata same) = true
 is_item _ = false
 
 -- the port goes through a delivery, which gives this, where an item is in this room

@@ -1,4 +1,4 @@
-use Rattle.std.specs.Prelude.{ℕ, Bool, true, false, if◌then◌else◌, List, [], Option, Some, None, Result, Ok, Err}
+use Rattle.std.specs.Prelude.{ℕ, ◌==◌, Bool, true, false, if◌then◌else◌, List, [], Option, Some, None, Result, Ok, Err}
 use Rattle.can_confine.specs.Confinement.{ErrorCounts}
 use Rattle.can_frame.specs.Frames.{CanFrame}
 use Rattle.can_event.specs.declared.socket_id.SocketId.{SocketId}
@@ -17,11 +17,13 @@ use Rattle.can_proto.specs.declared.fault.ProtoFault.{ProtoFault}
 use Rattle.can_proto.specs.declared.fault.ProtoFault.TheVariants as fault
 use Rattle.can_proto.specs.declared.answer.Answer.{Answer}
 use Rattle.can_proto.specs.declared.answer.Answer.TheVariants as answer
+use Rattle.can_proto.specs.declared.answer.Origin.{Origin}
+use Rattle.can_proto.specs.declared.answer.Origin.TheVariants as origin
 use Rattle.can_proto.specs.declared.answer.Cause.TheVariants as cause
 use Rattle.can_proto.specs.Words.{words_of}
 use Rattle.can_proto.specs.Commands.{reading, takes_memory}
 use Rattle.can_proto.specs.Causes.{cause_of_fault}
-use Rattle.can_proto.specs.Spelling.{reply_text, item_text}
+use Rattle.can_proto.specs.Spelling.{reply_text, item_text, item_text_from}
 use Rattle.can_dialog.specs.declared.port.PortRefusal.{PortRefusal}
 use Rattle.can_dialog.specs.declared.port.PortRefusal.TheVariants as port
 use Rattle.can_dialog.specs.declared.stage.Stage.{Stage}
@@ -73,19 +75,20 @@ abbrev pub attached : Dialog → Result ℕ PortRefusal → Plan Dialog
 attached d (Ok iface) = tells answer.Done (at_stage (Opened iface) d)
 attached d (Err why) = refused why d
 
--- after the port was asked for a socket; the data of error message frames are left out at first
+-- after the port was asked for a socket; at first the client gets no data of error message frames, no numbers of sent
+-- frames and no origins
 abbrev pub entered : Dialog → ℕ → Result SocketId PortRefusal → Plan Dialog
-entered d iface (Ok socket) = tells answer.Done (at_stage (Raw (record { iface = iface; socket = socket; errdata = false })) d)
+entered d iface (Ok socket) = tells answer.Done (at_stage (Raw (record { iface = iface; socket = socket; errdata = false; acks = false; origins = false })) d)
 entered d iface (Err why) = refused why d
 
--- after a frame was sent: only a refusal is reported
-abbrev pub sent : Dialog → Result ℕ PortRefusal → Plan Dialog
-sent d (Ok number) = silent d
-sent d (Err why) = refused why d
+-- after a frame was sent: its number is reported where the client asked for that, and a refusal in any case
+abbrev pub sent : Dialog → RawSocket → Result ℕ PortRefusal → Plan Dialog
+sent d raw (Ok number) = if raw.acks then tells (answer.Sent number) d else silent d
+sent d raw (Err why) = refused why d
 
 -- a frame is sent
 abbrev pub sending : Dialog → RawSocket → CanFrame → Plan Dialog
-sending d raw frame = Ask (Send raw.socket frame) (sent d)
+sending d raw frame = Ask (Send raw.socket frame) (sent d raw)
 
 -- the text of a call that was done and has nothing else to say
 abbrev pub told : Result (Unit {0}) PortRefusal → Answer
@@ -163,6 +166,8 @@ doing_raw moment d raw (command.Send frame) = sending d raw frame
 doing_raw moment d raw (command.SetFilters filters) = Ask (SetFilters raw.socket filters) (done d)
 doing_raw moment d raw (command.SetOption option) = Ask (SetOption raw.socket option) (done d)
 doing_raw moment d raw (command.ErrData on) = tells answer.Done (at_stage (Raw (record raw { errdata = on })) d)
+doing_raw moment d raw (command.Ack on) = tells answer.Done (at_stage (Raw (record raw { acks = on })) d)
+doing_raw moment d raw (command.Origin on) = tells answer.Done (at_stage (Raw (record raw { origins = on })) d)
 doing_raw moment d raw command.Stats = looking_up d raw
 doing_raw moment d raw command.Status = Ask (CountersOfIface raw.iface) (metered d)
 doing_raw moment d raw command.Restart = Ask (Restart raw.iface moment) (done d)
@@ -216,15 +221,24 @@ abbrev pub ending : Stage → Dialog → Plan Dialog
 ending (Raw raw) d = Ask (Close raw.socket) (ended_by d)
 ending _ d = silent (at_stage Ended d)
 
+-- the origin of a frame of this number: from the same interface, or from another one
+abbrev pub origin_of : Bool → ℕ → Origin
+origin_of true number = origin.Same number
+origin_of false number = origin.Other number
+
+-- the text of what was received, with its origin where the client asked for that
+abbrev pub received_text : RawSocket → Received → List ℕ
+received_text raw r = if raw.origins then item_text_from raw.errdata (origin_of (r.from == raw.iface) r.number) r.item r.moment else item_text raw.errdata r.item r.moment
+
 -- after one receive: an item is written, and there may be more
-abbrev pub delivered : Bool → Result (Option Received) PortRefusal → Plan Bool
-delivered errdata (Ok (Some r)) = Tell (item_text errdata r.item r.moment) true
-delivered errdata (Ok None) = Tell [] false
-delivered errdata (Err why) = Tell (reply_text (answer.Refused (cause_of_port why))) false
+abbrev pub delivered : RawSocket → Result (Option Received) PortRefusal → Plan Bool
+delivered raw (Ok (Some r)) = Tell (received_text raw r) true
+delivered raw (Ok None) = Tell [] false
+delivered raw (Err why) = Tell (reply_text (answer.Refused (cause_of_port why))) false
 
 -- a delivery: one receive in raw mode, and no call elsewhere
 abbrev pub delivery : Stage → Plan Bool
-delivery (Raw raw) = Ask (Receive raw.socket) (delivered raw.errdata)
+delivery (Raw raw) = Ask (Receive raw.socket) (delivered raw)
 delivery _ = Tell [] false
 
 -- the first text of a session

@@ -68,6 +68,8 @@ fn do_opened<P: Port>(
                     iface,
                     socket,
                     errdata: false,
+                    acks: false,
+                    origins: false,
                 });
                 Some(Answer::Done)
             }
@@ -80,11 +82,12 @@ fn do_opened<P: Port>(
     }
 }
 
-/// Sends a frame: only a refusal is reported.
+/// Sends a frame: its number is reported where the client asked for that, and a refusal in any case.
 pub fn send<P: Port>(dialog: Dialog, raw: RawSocket, frame: Frame, port: &mut P) -> Option<Answer>
     ensures { Replies P.step (sending dialog raw frame) port.old port.new result dialog }
 {
     match port.send(raw.socket, frame) {
+        Ok(number) if raw.acks => Some(Answer::Sent(number)),
         Ok(_) => None,
         Err(refusal) => refused(refusal),
     }
@@ -135,6 +138,14 @@ fn do_raw<P: Port>(
         Command::SetOption(option) => told(port.set_option(raw.socket, option)),
         Command::ErrData(on) => {
             dialog.stage = Stage::Raw(RawSocket { errdata: on, ..raw });
+            Some(Answer::Done)
+        }
+        Command::Ack(on) => {
+            dialog.stage = Stage::Raw(RawSocket { acks: on, ..raw });
+            Some(Answer::Done)
+        }
+        Command::Origin(on) => {
+            dialog.stage = Stage::Raw(RawSocket { origins: on, ..raw });
             Some(Answer::Done)
         }
         Command::Stats => look_up(*dialog, raw, port),

@@ -3,12 +3,14 @@ ghost use Rattle.can_proto.specs.Spelling.{reply_text};
 ghost use Rattle.can_proto.specs.declared.answer.Answer.TheVariants.{Refused};
 ghost use Rattle.can_dialog.specs.Sessions.{Wrote};
 ghost use Rattle.can_dialog.specs.Deliveries.{Receives, delivery_text, is_item};
+ghost use Rattle.can_dialog.specs.Turns.{origin_of};
+ghost use Rattle.can_dialog.specs.declared.delivery.Delivery.TheVariants.{ItemFrom};
 
 use crate::output::put;
 use crate::port::Port;
 use crate::stage::Stage;
 use can_event::Received;
-use can_proto::{Cause, ItemText, push_item, refusal_text};
+use can_proto::{Cause, ItemText, Origin, push_item, push_item_from, refusal_text};
 use std::io::Write;
 
 /// What one receive into a room gives a client.
@@ -18,6 +20,8 @@ pub enum Delivery {
     Nothing,
     /// The item in the room, and whether the data of an error message frame are written.
     Item(bool),
+    /// The same with a frame's origin, which is the interface of the socket or not.
+    ItemFrom { errdata: bool, is_same: bool },
     /// The port refused it.
     Refused(Cause),
 }
@@ -27,7 +31,7 @@ impl Delivery {
     pub fn is_item(self) -> bool
         ensures { result ≡ is_item self }
     {
-        matches!(self, Delivery::Item(_))
+        matches!(self, Delivery::Item(_) | Delivery::ItemFrom { .. })
     }
 
     /// Writes the text of it, if there is one, in one call. Returns whether the writer took it.
@@ -43,9 +47,39 @@ impl Delivery {
                 push_item(&mut text, &room.item, room.moment, errdata);
                 put(out, text.as_bytes())
             }
+            Delivery::ItemFrom { errdata, is_same } => write_from(room, errdata, is_same, out),
             Delivery::Refused(cause) => write_refusal(cause, out),
         }
     }
+}
+
+/// The origin of a frame of this number.
+fn origin_of(is_same: bool, number: u64) -> Origin
+    ensures { result ≡ origin_of is_same number }
+{
+    if is_same {
+        Origin::Same(number)
+    } else {
+        Origin::Other(number)
+    }
+}
+
+/// Writes the text of an item with its origin. Returns whether the writer took it.
+#[inline(never)]
+fn write_from<W: Write>(room: &Received, errdata: bool, is_same: bool, out: &mut W) -> bool
+    ensures wrote { IsTrue result →
+        Wrote W.contents out.old (delivery_text (ItemFrom errdata is_same) room.now) out.new }
+    ensures some { result ≡ false → delivery_text (ItemFrom errdata is_same) room.now ≢ [] }
+{
+    let mut text = ItemText::new();
+    push_item_from(
+        &mut text,
+        &room.item,
+        room.moment,
+        errdata,
+        origin_of(is_same, room.number),
+    );
+    put(out, text.as_bytes())
 }
 
 /// Writes the text of a refusal. Returns whether the writer took it.
@@ -66,6 +100,10 @@ pub fn take_delivery<P: Port>(stage: Stage, port: &mut P, room: &mut Received) -
         return Delivery::Nothing;
     };
     match port.receive_into(raw.socket, room) {
+        Ok(true) if raw.origins => Delivery::ItemFrom {
+            errdata: raw.errdata,
+            is_same: room.from == raw.iface,
+        },
         Ok(true) => Delivery::Item(raw.errdata),
         Ok(false) => Delivery::Nothing,
         Err(refusal) => Delivery::Refused(refusal.cause()),

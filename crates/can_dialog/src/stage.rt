@@ -5,13 +5,15 @@ use can_event::SocketId;
 use can_frame::Iface;
 use can_proto::Mode;
 
-/// The socket of a session in raw mode, its interface, and whether the data of error message frames are
-/// sent.
+/// The socket of a session in raw mode, its interface, and what its client gets: the data of error message frames, the
+/// number of each frame that it sends, and the origin of each that it receives.
 #[derive(Debug, Clone, Copy, PartialEq, Eq)]
 pub struct RawSocket {
     pub iface: Iface,
     pub socket: SocketId,
     pub errdata: bool,
+    pub acks: bool,
+    pub origins: bool,
 }
 
 /// How far a session has come, with what it has there.

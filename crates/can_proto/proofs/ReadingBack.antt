@@ -12,7 +12,7 @@ use Rattle.can_event.specs.declared.opt.Opt.{Opt}
 use Rattle.can_event.specs.declared.opt.Opt.TheVariants as opt
 use Rattle.can_proto.specs.declared.command.Mode.{Mode}
 use Rattle.can_proto.specs.declared.command.Command.{Command}
-use Rattle.can_proto.specs.declared.command.Command.TheVariants.{Echo, Open, Rawmode, Send, SetFilters, SetOption, ErrData, Stats, Status, Restart, Fault, Faults, NoFaults, Close}
+use Rattle.can_proto.specs.declared.command.Command.TheVariants.{Echo, Open, Rawmode, Send, SetFilters, SetOption, ErrData, Ack, Origin, Stats, Status, Restart, Fault, Faults, NoFaults, Close}
 use Rattle.can_proto.specs.declared.fault.ProtoFault.{ProtoFault}
 use Rattle.can_proto.specs.declared.fault.ProtoFault.TheVariants.{BadByte}
 use Rattle.can_proto.specs.declared.verb.Verb.{Verb}
@@ -151,6 +151,8 @@ words-command (SetFilters filters) h =
     (refl, omega arith, (clear-decimal is_blank no-blank (length filters) (omega arith), decimal_nonempty (length filters) (omega arith), words-filters filters))
 words-command (SetOption o) h = words-option o
 words-command (ErrData on) h = (refl, omega arith, words-flag on)
+words-command (Ack on) h = (refl, omega arith, words-flag on)
+words-command (Origin on) h = (refl, omega arith, words-flag on)
 words-command Stats h = (refl, omega arith, tt)
 words-command Status h = (refl, omega arith, tt)
 words-command Restart h = (refl, omega arith, tt)
@@ -325,6 +327,8 @@ command-again mode (Send frame) h may = frame-again mode frame.id frame.payload 
 command-again mode (SetFilters filters) h may = said mode verb.Filter _ _ may (set-again (decimal (length filters)) (flat_map filter_words filters) (length filters) filters (count-again (length filters) h.0) h.0 (two-each filters) (filters-again filters h.1))
 command-again mode (SetOption o) h may = option-again mode o h may
 command-again mode (ErrData on) h may = said mode verb.ErrData _ _ may (ap (λ (r : Result Bool ProtoFault). r >>= λ x. Ok (ErrData x)) (flag-again on))
+command-again mode (Ack on) h may = said mode verb.Ack _ _ may (ap (λ (r : Result Bool ProtoFault). r >>= λ x. Ok (Ack x)) (flag-again on))
+command-again mode (Origin on) h may = said mode verb.Origin _ _ may (ap (λ (r : Result Bool ProtoFault). r >>= λ x. Ok (Origin x)) (flag-again on))
 command-again mode Stats h may = said mode verb.Stats [] Stats may refl
 command-again mode Status h may = said mode verb.Status [] Status may refl
 command-again mode Restart h may = said mode verb.Restart [] Restart may refl

@@ -1,9 +1,9 @@
-use Rattle.std.proofs.Common.{◌≡◌, ℕ, suc, ◌+◌, ◌/◌, ◌%◌, ◌^◌, ◌<◌, Bool, true, false, List, [], ◌∷◌, ◌++◌, length, get_or, drop, refl, sym, ap, ◌∙◌, arith, append_assoc, codes}
+use Rattle.std.proofs.Common.{◌≡◌, ℕ, suc, ◌+◌, ◌/◌, ◌%◌, ◌^◌, ◌<◌, ◌==◌, if◌then◌else◌, Bool, true, false, List, [], ◌∷◌, ◌++◌, length, get_or, drop, refl, sym, ap, ◌∙◌, arith, append_assoc, codes}
 use Rattle.std.specs.Fmt.{decimal}
 use Rattle.std.specs.List.{All}
 use Rattle.std.proofs.lemmas.Fmt.{decimal_injective}
 use Rattle.std.proofs.lemmas.List.{append_cancel_right}
-use Rattle.can_frame.specs.Frames.{Identifier, Payload}
+use Rattle.can_frame.specs.Frames.{Identifier, Payload, ErrorMessage}
 use Rattle.can_frame.specs.Frames.Payload.{Data, Remote, Fd}
 use Rattle.can_frame.specs.FrameText.{digits, pairs, id_text}
 use Rattle.can_frame.specs.declared.item.Item.{Item}
@@ -14,12 +14,13 @@ use Rattle.can_confine.specs.declared.state.State.TheVariants.{Active, Warning, 
 use Rattle.can_event.specs.declared.stats.SocketStats.{SocketStats}
 use Rattle.can_event.specs.declared.stats.IfaceStats.{IfaceStats}
 use Rattle.can_proto.specs.declared.answer.Answer.{Answer}
-use Rattle.can_proto.specs.declared.answer.Answer.TheVariants.{Greeting, Done, Echo, Stats, Status, Faults, Closing, Refused}
+use Rattle.can_proto.specs.declared.answer.Answer.TheVariants.{Greeting, Done, Echo, Sent, Stats, Status, Faults, Closing, Refused}
+use Rattle.can_proto.specs.declared.answer.Origin.{Origin}
 use Rattle.can_proto.specs.declared.answer.Cause.{Cause}
 use Rattle.can_proto.specs.declared.answer.Cause.TheVariants as cause
 use Rattle.can_proto.specs.Causes.{cause_text}
 use Rattle.can_frame.specs.Moments.{moment_text}
-use Rattle.can_proto.specs.Spelling.{class_text, item_text, stats_text, state_word, status_text, reply_text, told_counts, IsAnswer, AreAlike}
+use Rattle.can_proto.specs.Spelling.{class_text, body_text, frame_front, error_text, item_text, origin_text, item_text_from, stats_text, state_word, status_text, reply_text, told_counts, IsAnswer, AreAlike}
 use Rattle.can_proto.proofs.Cuts.{clear, clear-append, marked-left, marked-right, cut}
 use Rattle.can_proto.proofs.Numerals.{clear-decimal}
 use Rattle.can_proto.proofs.Telling.{one-cause}
@@ -69,14 +70,15 @@ clear-state Warning = (refl, refl)
 clear-state Passive = (refl, refl)
 clear-state Off = (refl, refl)
 
--- the fourth and the seventh byte say what kind of reply it is
+-- the fourth and the seventh byte say what kind of reply it is, but for `ack`, which the third one says
 abbrev kind : List ℕ → ℕ
-kind text = get_or text 3 0 + get_or text 6 0
+kind text = if get_or text 2 0 == 97 then 0 else get_or text 3 0 + get_or text 6 0
 
 abbrev mark_of : Answer → ℕ
 mark_of Greeting = 105
 mark_of Done = 107
 mark_of Echo = 131
+mark_of (Sent number) = 0
 mark_of (Stats s i) = 231
 mark_of (Status c) = 233
 mark_of (Faults left) = 213
@@ -87,6 +89,7 @@ marked : (a : Answer) → kind (reply_text a) ≡ mark_of a
 marked Greeting = refl
 marked Done = refl
 marked Echo = refl
+marked (Sent number) = refl
 marked (Stats s i) = refl
 marked (Status c) = refl
 marked (Faults left) = refl
@@ -112,6 +115,7 @@ pub one-answer : (one other : Answer) → IsAnswer one → IsAnswer other → re
 one-answer Greeting Greeting ha hb e = refl
 one-answer Done Done ha hb e = refl
 one-answer Echo Echo ha hb e = refl
+one-answer (Sent m) (Sent n) ha hb e = ap (λ (l : List ℕ). Sent (get_or l 0 0)) (same-behind m n [] [] ha hb refl (ap (drop 6) e))
 one-answer (Stats s i) (Stats t j) ha hb e = same-stats s t i j ha hb e
 one-answer (Status c) (Status d) ha hb e = ap Status (same-status c d ha hb e)
 one-answer (Faults m) (Faults n) ha hb e = ap (λ (l : List ℕ). Faults (get_or l 0 0)) (same-behind m n [] [] ha hb refl (ap (drop 9) e))
@@ -138,6 +142,7 @@ clear-answer : (a : Answer) → IsAnswer a → clear is_point (reply_text a) ≡
 clear-answer Greeting h = refl
 clear-answer Done h = refl
 clear-answer Echo h = refl
+clear-answer (Sent number) h = clear-behind number [] h
 clear-answer (Stats s i) h = clear-behind s.queued (s.dropped ∷ s.taken ∷ i.sent ∷ i.done ∷ i.waiting ∷ i.lost ∷ i.refused ∷ []) h
 clear-answer (Status c) h =
     let word = state_word (state_of c) in
@@ -153,25 +158,37 @@ pointed front m rest =
     (marked-right is_point front (moment_text m)
     (marked-right is_point (decimal (m / 1000000)) (46 ∷ digits 10 6 (m % 1000000)) refl))
 
--- the same with two words more
-pointed-more : (front : List ℕ) (m : ℕ) (one two three : List ℕ) → clear is_point ((((front ++ moment_text m) ++ one) ++ two) ++ three) ≡ false
-pointed-more front m one two three =
-    marked-left is_point (((front ++ moment_text m) ++ one) ++ two) three
-    (marked-left is_point ((front ++ moment_text m) ++ one) two (pointed front m one))
+-- the same with a word more
+pointed-more : (front : List ℕ) (m : ℕ) (word : List ℕ) → clear is_point (((front ++ moment_text m) ++ 32 ∷ []) ++ word) ≡ false
+pointed-more front m word = marked-left is_point ((front ++ moment_text m) ++ 32 ∷ []) word (pointed front m (32 ∷ []))
 
-pointed-frame : (errdata : Bool) (id : Identifier) (p : Payload) (m : ℕ) → clear is_point (item_text errdata (item.Data (record { id = id; payload = p })) m) ≡ false
-pointed-frame errdata id (Data bytes) m = pointed-more (id_text id ++ 32 ∷ []) m (32 ∷ []) (pairs bytes) (codes " >")
-pointed-frame errdata id (Fd bytes) m = pointed-more (id_text id ++ 32 ∷ []) m (32 ∷ []) (pairs bytes) (codes " >")
-pointed-frame errdata id (Remote len) m = pointed-more (id_text id ++ 32 ∷ []) m (32 ∷ []) (decimal len) (codes " >")
+pointed-front : (id : Identifier) (p : Payload) (m : ℕ) (rest : List ℕ) → clear is_point (frame_front (record { id = id; payload = p }) m ++ rest) ≡ false
+pointed-front id (Data bytes) m rest = marked-left is_point (body_text (record { id = id; payload = Data bytes }) m) rest (pointed-more (id_text id ++ 32 ∷ []) m (pairs bytes))
+pointed-front id (Fd bytes) m rest = marked-left is_point (body_text (record { id = id; payload = Fd bytes }) m) rest (pointed-more (id_text id ++ 32 ∷ []) m (pairs bytes))
+pointed-front id (Remote len) m rest = marked-left is_point ((((id_text id ++ 32 ∷ []) ++ moment_text m) ++ 32 ∷ []) ++ decimal len) rest (pointed-more (id_text id ++ 32 ∷ []) m (decimal len))
+
+pointed-error : (errdata : Bool) (e : ErrorMessage) (m : ℕ) → clear is_point (error_text errdata e m) ≡ false
+pointed-error true e m = marked-left is_point ((((class_text e.class ++ 32 ∷ []) ++ moment_text m) ++ 32 ∷ []) ++ pairs e.bytes) (codes " >") (pointed-more (class_text e.class ++ 32 ∷ []) m (pairs e.bytes))
+pointed-error false e m = pointed (class_text e.class ++ 32 ∷ []) m (codes " >")
 
 pointed-item : (errdata : Bool) (i : Item) (m : ℕ) → clear is_point (item_text errdata i m) ≡ false
-pointed-item errdata (item.Data f) m = pointed-frame errdata f.id f.payload m
-pointed-item true (item.Error e) m = pointed-more (class_text e.class ++ 32 ∷ []) m (32 ∷ []) (pairs e.bytes) (codes " >")
-pointed-item false (item.Error e) m = pointed (class_text e.class ++ 32 ∷ []) m (codes " >")
+pointed-item errdata (item.Data f) m = pointed-front f.id f.payload m (codes " >")
+pointed-item errdata (item.Error e) m = pointed-error errdata e m
+
+pointed-from : (errdata : Bool) (o : Origin) (i : Item) (m : ℕ) → clear is_point (item_text_from errdata o i m) ≡ false
+pointed-from errdata o (item.Data f) m = marked-left is_point (frame_front f m ++ origin_text o) (codes " >") (pointed-front f.id f.payload m (origin_text o))
+pointed-from errdata o (item.Error e) m = pointed-error errdata e m
 
 pub no-item : (answer : Answer) (errdata : Bool) (i : Item) (m : ℕ) → IsAnswer answer → reply_text answer ≡ item_text errdata i m → ⊥
 no-item answer errdata i m h e =
     let one = clear-answer answer h in
     let other = pointed-item errdata i m in
+    let both = ap (clear is_point) e in
+    cc
+
+pub no-item-from : (answer : Answer) (errdata : Bool) (o : Origin) (i : Item) (m : ℕ) → IsAnswer answer → reply_text answer ≡ item_text_from errdata o i m → ⊥
+no-item-from answer errdata o i m h e =
+    let one = clear-answer answer h in
+    let other = pointed-from errdata o i m in
     let both = ap (clear is_point) e in
     cc

@@ -7,7 +7,9 @@ use Rattle.can_frame.specs.declared.item.Item.{Item}
 use Rattle.can_frame.specs.declared.item.Item.TheVariants as item
 use Rattle.can_frame.specs.FrameText.{digits, pairs, id_text, IsPayload, IsItem}
 use Rattle.can_frame.specs.Moments.{moment_text}
-use Rattle.can_proto.specs.Spelling.{class_width, class_text, item_text, without_data}
+use Rattle.can_proto.specs.declared.answer.Origin.{Origin}
+use Rattle.can_proto.specs.declared.answer.Origin.TheVariants.{Same, Other}
+use Rattle.can_proto.specs.Spelling.{class_width, class_text, frame_front, error_text, item_text, origin_text, item_text_from, without_data, shown_origin, IsOrigin}
 use Rattle.can_frame.specs.Numbers.{number_after}
 use Rattle.can_proto.proofs.Cuts.{clear, clear-append, cut}
 use Rattle.can_proto.proofs.Numerals.{IsMark, clear-digits, clear-pairs, clear-decimal}
@@ -118,41 +120,45 @@ third text = get_or text 2 0
 fourth : List ℕ → ℕ
 fourth text = get_or text 3 0
 
-one-frame : (errdata : Bool) (a b : Identifier) (p q : Payload) (m n : ℕ) → IsIdentifier a → IsIdentifier b → IsPayload p → IsPayload q → m < 10 ^ 16 → n < 10 ^ 16 →
-    item_text errdata (item.Data (record { id = a; payload = p })) m ≡ item_text errdata (item.Data (record { id = b; payload = q })) n →
-    (a ≡ b) × (p ≡ q) × (m ≡ n)
+-- two frames whose texts are followed by a space and more
+one-front : (a b : Identifier) (p q : Payload) (m n : ℕ) (rest last : List ℕ) → IsIdentifier a → IsIdentifier b → IsPayload p → IsPayload q → m < 10 ^ 16 → n < 10 ^ 16 →
+    frame_front (record { id = a; payload = p }) m ++ 32 ∷ rest ≡ frame_front (record { id = b; payload = q }) n ++ 32 ∷ last →
+    (a ≡ b) × (p ≡ q) × (m ≡ n) × (rest ≡ last)
 unfolding third fourth
-one-frame errdata a b (Data xs) (Data ys) m n ha hb hp hq hm hn e =
-    let parts = same-parts (id_text a) (id_text b) (pairs xs ++ codes " >") (pairs ys ++ codes " >") m n (clear-id a) (clear-id b) hm hn
-    (between _ _ _ _ (regroup-all (id_text a) (moment_text m) (pairs xs) (codes " >")) (regroup-all (id_text b) (moment_text n) (pairs ys) (codes " >")) (ap (drop 8) e)) in
-    let ends = cut is_space 32 (pairs xs) (pairs ys) (62 ∷ []) (62 ∷ []) refl (clear-pairs is_space no-space xs) (clear-pairs is_space no-space ys) parts.2 in
-    (same-identifier a b ha hb parts.0, ap (λ (bytes : List ℕ). Data bytes) (same-bytes xs ys hp.1 hq.1 ends.0), parts.1)
-one-frame errdata a b (Remote k) (Remote l) m n ha hb hp hq hm hn e =
-    let parts = same-parts (id_text a) (id_text b) (decimal k ++ codes " >") (decimal l ++ codes " >") m n (clear-id a) (clear-id b) hm hn
-    (between _ _ _ _ (regroup-all (id_text a) (moment_text m) (decimal k) (codes " >")) (regroup-all (id_text b) (moment_text n) (decimal l) (codes " >")) (ap (drop 9) e)) in
-    let ends = cut is_space 32 (decimal k) (decimal l) (62 ∷ []) (62 ∷ []) refl (clear-decimal is_space no-space k (omega arith)) (clear-decimal is_space no-space l (omega arith)) parts.2 in
-    (same-identifier a b ha hb parts.0, ap (λ (len : ℕ). Remote len) (decimal_injective k l (omega arith) (omega arith) ends.0), parts.1)
-one-frame errdata a b (Fd xs) (Fd ys) m n ha hb hp hq hm hn e =
-    let parts = same-parts (id_text a) (id_text b) (pairs xs ++ codes " >") (pairs ys ++ codes " >") m n (clear-id a) (clear-id b) hm hn
-    (between _ _ _ _ (regroup-all (id_text a) (moment_text m) (pairs xs) (codes " >")) (regroup-all (id_text b) (moment_text n) (pairs ys) (codes " >")) (ap (drop 10) e)) in
-    let ends = cut is_space 32 (pairs xs) (pairs ys) (62 ∷ []) (62 ∷ []) refl (clear-pairs is_space no-space xs) (clear-pairs is_space no-space ys) parts.2 in
-    (same-identifier a b ha hb parts.0, ap (λ (bytes : List ℕ). Fd bytes) (same-bytes xs ys hp.1 hq.1 ends.0), parts.1)
-one-frame errdata a b (Data xs) (Fd ys) m n ha hb hp hq hm hn e = let k : 114 ≡ 100 = ap fourth e in absurd (omega (arith, k))
-one-frame errdata a b (Fd xs) (Data ys) m n ha hb hp hq hm hn e = let k : 100 ≡ 114 = ap fourth e in absurd (omega (arith, k))
-one-frame errdata a b (Fd xs) (Remote l) m n ha hb hp hq hm hn e = let k : 102 ≡ 114 = ap third e in absurd (omega (arith, k))
-one-frame errdata a b (Remote k) (Fd ys) m n ha hb hp hq hm hn e = let k : 114 ≡ 102 = ap third e in absurd (omega (arith, k))
-one-frame errdata a b (Data xs) (Remote l) m n ha hb hp hq hm hn e = let k : 102 ≡ 114 = ap third e in absurd (omega (arith, k))
-one-frame errdata a b (Remote k) (Data ys) m n ha hb hp hq hm hn e = let k : 114 ≡ 102 = ap third e in absurd (omega (arith, k))
+one-front a b (Data xs) (Data ys) m n rest last ha hb hp hq hm hn e =
+    let parts = same-parts (id_text a) (id_text b) (pairs xs ++ 32 ∷ rest) (pairs ys ++ 32 ∷ last) m n (clear-id a) (clear-id b) hm hn
+    (between _ _ _ _ (regroup-all (id_text a) (moment_text m) (pairs xs) (32 ∷ rest)) (regroup-all (id_text b) (moment_text n) (pairs ys) (32 ∷ last)) (ap (drop 8) e)) in
+    let ends = cut is_space 32 (pairs xs) (pairs ys) rest last refl (clear-pairs is_space no-space xs) (clear-pairs is_space no-space ys) parts.2 in
+    (same-identifier a b ha hb parts.0, ap (λ (bytes : List ℕ). Data bytes) (same-bytes xs ys hp.1 hq.1 ends.0), parts.1, ends.1)
+one-front a b (Remote k) (Remote l) m n rest last ha hb hp hq hm hn e =
+    let parts = same-parts (id_text a) (id_text b) (decimal k ++ 32 ∷ rest) (decimal l ++ 32 ∷ last) m n (clear-id a) (clear-id b) hm hn
+    (between _ _ _ _ (regroup-all (id_text a) (moment_text m) (decimal k) (32 ∷ rest)) (regroup-all (id_text b) (moment_text n) (decimal l) (32 ∷ last)) (ap (drop 9) e)) in
+    let ends = cut is_space 32 (decimal k) (decimal l) rest last refl (clear-decimal is_space no-space k (omega arith)) (clear-decimal is_space no-space l (omega arith)) parts.2 in
+    (same-identifier a b ha hb parts.0, ap (λ (len : ℕ). Remote len) (decimal_injective k l (omega arith) (omega arith) ends.0), parts.1, ends.1)
+one-front a b (Fd xs) (Fd ys) m n rest last ha hb hp hq hm hn e =
+    let parts = same-parts (id_text a) (id_text b) (pairs xs ++ 32 ∷ rest) (pairs ys ++ 32 ∷ last) m n (clear-id a) (clear-id b) hm hn
+    (between _ _ _ _ (regroup-all (id_text a) (moment_text m) (pairs xs) (32 ∷ rest)) (regroup-all (id_text b) (moment_text n) (pairs ys) (32 ∷ last)) (ap (drop 10) e)) in
+    let ends = cut is_space 32 (pairs xs) (pairs ys) rest last refl (clear-pairs is_space no-space xs) (clear-pairs is_space no-space ys) parts.2 in
+    (same-identifier a b ha hb parts.0, ap (λ (bytes : List ℕ). Fd bytes) (same-bytes xs ys hp.1 hq.1 ends.0), parts.1, ends.1)
+one-front a b (Data xs) (Fd ys) m n rest last ha hb hp hq hm hn e = let k : 114 ≡ 100 = ap fourth e in absurd (omega (arith, k))
+one-front a b (Fd xs) (Data ys) m n rest last ha hb hp hq hm hn e = let k : 100 ≡ 114 = ap fourth e in absurd (omega (arith, k))
+one-front a b (Fd xs) (Remote l) m n rest last ha hb hp hq hm hn e = let k : 102 ≡ 114 = ap third e in absurd (omega (arith, k))
+one-front a b (Remote k) (Fd ys) m n rest last ha hb hp hq hm hn e = let k : 114 ≡ 102 = ap third e in absurd (omega (arith, k))
+one-front a b (Data xs) (Remote l) m n rest last ha hb hp hq hm hn e = let k : 102 ≡ 114 = ap third e in absurd (omega (arith, k))
+one-front a b (Remote k) (Data ys) m n rest last ha hb hp hq hm hn e = let k : 114 ≡ 102 = ap third e in absurd (omega (arith, k))
 
 -- a frame's text is no error message frame's
-two-kinds : (errdata : Bool) (id : Identifier) (p : Payload) (error : ErrorMessage) (m n : ℕ) → item_text errdata (item.Data (record { id = id; payload = p })) m ≡ item_text errdata (item.Error error) n → ⊥
+frame-no-error : (id : Identifier) (p : Payload) (rest : List ℕ) (error : ErrorMessage) (m n : ℕ) → frame_front (record { id = id; payload = p }) m ++ rest ≡ error_text true error n → ⊥
 unfolding third
-two-kinds true id (Data xs) error m n e = let k : 102 ≡ 101 = ap third e in omega (arith, k)
-two-kinds false id (Data xs) error m n e = let k : 102 ≡ 101 = ap third e in omega (arith, k)
-two-kinds true id (Fd xs) error m n e = let k : 102 ≡ 101 = ap third e in omega (arith, k)
-two-kinds false id (Fd xs) error m n e = let k : 102 ≡ 101 = ap third e in omega (arith, k)
-two-kinds true id (Remote len) error m n e = let k : 114 ≡ 101 = ap third e in omega (arith, k)
-two-kinds false id (Remote len) error m n e = let k : 114 ≡ 101 = ap third e in omega (arith, k)
+frame-no-error id (Data xs) rest error m n e = let k : 102 ≡ 101 = ap third e in omega (arith, k)
+frame-no-error id (Fd xs) rest error m n e = let k : 102 ≡ 101 = ap third e in omega (arith, k)
+frame-no-error id (Remote len) rest error m n e = let k : 114 ≡ 101 = ap third e in omega (arith, k)
+
+frame-no-class : (id : Identifier) (p : Payload) (rest : List ℕ) (error : ErrorMessage) (m n : ℕ) → frame_front (record { id = id; payload = p }) m ++ rest ≡ error_text false error n → ⊥
+unfolding third
+frame-no-class id (Data xs) rest error m n e = let k : 102 ≡ 101 = ap third e in omega (arith, k)
+frame-no-class id (Fd xs) rest error m n e = let k : 102 ≡ 101 = ap third e in omega (arith, k)
+frame-no-class id (Remote len) rest error m n e = let k : 114 ≡ 101 = ap third e in omega (arith, k)
 
 one-error : (a b : ℕ) (xs ys : List ℕ) (m n : ℕ) → a < 2 ^ 29 → b < 2 ^ 29 → AreBytes xs → AreBytes ys → m < 10 ^ 16 → n < 10 ^ 16 → item_text true (item.Error (record { class = a; bytes = xs })) m ≡ item_text true (item.Error (record { class = b; bytes = ys })) n → (a ≡ b) × (xs ≡ ys) × (m ≡ n)
 one-error a b xs ys m n ha hb hx hy hm hn e =
@@ -174,20 +180,59 @@ whole-error a b h k = ap (λ (x : ℕ). item.Error (record { class = x; bytes = 
 
 pub one-item : (i j : Item) (m n : ℕ) → IsItem i → IsItem j → m < 10 ^ 16 → n < 10 ^ 16 → item_text true i m ≡ item_text true j n → (i ≡ j) × (m ≡ n)
 one-item (item.Data f) (item.Data g) m n hi hj hm hn e =
-    let h = one-frame true f.id g.id f.payload g.payload m n hi.0 hj.0 hi.1 hj.1 hm hn e in
+    let h = one-front f.id g.id f.payload g.payload m n (62 ∷ []) (62 ∷ []) hi.0 hj.0 hi.1 hj.1 hm hn e in
     (whole-frame f g h.0 h.1, h.2)
-one-item (item.Data f) (item.Error g) m n hi hj hm hn e = absurd (two-kinds true f.id f.payload g m n e)
-one-item (item.Error f) (item.Data g) m n hi hj hm hn e = absurd (two-kinds true g.id g.payload f n m (sym e))
+one-item (item.Data f) (item.Error g) m n hi hj hm hn e = absurd (frame-no-error f.id f.payload (codes " >") g m n e)
+one-item (item.Error f) (item.Data g) m n hi hj hm hn e = absurd (frame-no-error g.id g.payload (codes " >") f n m (sym e))
 one-item (item.Error f) (item.Error g) m n hi hj hm hn e =
     let h = one-error f.class g.class f.bytes g.bytes m n hi.0 hj.0 hi.2 hj.2 hm hn e in
     (whole-error f g h.0 h.1, h.2)
 
 pub one-item-without : (i j : Item) (m n : ℕ) → IsItem i → IsItem j → m < 10 ^ 16 → n < 10 ^ 16 → item_text false i m ≡ item_text false j n → (without_data i ≡ without_data j) × (m ≡ n)
 one-item-without (item.Data f) (item.Data g) m n hi hj hm hn e =
-    let h = one-frame false f.id g.id f.payload g.payload m n hi.0 hj.0 hi.1 hj.1 hm hn e in
+    let h = one-front f.id g.id f.payload g.payload m n (62 ∷ []) (62 ∷ []) hi.0 hj.0 hi.1 hj.1 hm hn e in
     (whole-frame f g h.0 h.1, h.2)
-one-item-without (item.Data f) (item.Error g) m n hi hj hm hn e = absurd (two-kinds false f.id f.payload g m n e)
-one-item-without (item.Error f) (item.Data g) m n hi hj hm hn e = absurd (two-kinds false g.id g.payload f n m (sym e))
+one-item-without (item.Data f) (item.Error g) m n hi hj hm hn e = absurd (frame-no-class f.id f.payload (codes " >") g m n e)
+one-item-without (item.Error f) (item.Data g) m n hi hj hm hn e = absurd (frame-no-class g.id g.payload (codes " >") f n m (sym e))
 one-item-without (item.Error f) (item.Error g) m n hi hj hm hn e =
     let h = one-class f.class g.class f.bytes g.bytes m n hi.0 hj.0 hm hn e in
     (ap (λ (x : ℕ). item.Error (record { class = x; bytes = [] })) h.0, h.1)
+
+-- origins: what follows the space before them
+origin-tail : Origin → List ℕ
+origin-tail (Same number) = codes "same " ++ decimal number ++ codes " >"
+origin-tail (Other number) = codes "other " ++ decimal number ++ codes " >"
+
+tailed : (o : Origin) → origin_text o ++ codes " >" ≡ 32 ∷ origin-tail o
+unfolding origin-tail
+tailed (Same number) = refl
+tailed (Other number) = refl
+
+first-byte : List ℕ → ℕ
+first-byte text = get_or text 0 0
+
+same-number : (m n : ℕ) → m < 2 ^ 64 → n < 2 ^ 64 → decimal m ++ codes " >" ≡ decimal n ++ codes " >" → m ≡ n
+same-number m n hm hn e =
+    let parts = cut is_space 32 (decimal m) (decimal n) (62 ∷ []) (62 ∷ []) refl (clear-decimal is_space no-space m hm) (clear-decimal is_space no-space n hn) e in
+    decimal_injective m n hm hn parts.0
+
+one-origin : (o p : Origin) → IsOrigin o → IsOrigin p → origin-tail o ≡ origin-tail p → o ≡ p
+unfolding origin-tail first-byte
+one-origin (Same m) (Same n) ho hp e = ap Same (same-number m n ho hp (ap (drop 5) e))
+one-origin (Other m) (Other n) ho hp e = ap Other (same-number m n ho hp (ap (drop 6) e))
+one-origin (Same m) (Other n) ho hp e = let k : 115 ≡ 111 = ap first-byte e in absurd (omega (arith, k))
+one-origin (Other m) (Same n) ho hp e = let k : 111 ≡ 115 = ap first-byte e in absurd (omega (arith, k))
+
+-- a frame's text with its origin
+ends-with : (f : CanFrame) (m : ℕ) (o : Origin) → (frame_front f m ++ origin_text o) ++ codes " >" ≡ frame_front f m ++ 32 ∷ origin-tail o
+ends-with f m o = append_assoc (frame_front f m) (origin_text o) (codes " >") ∙ ap (λ (rest : List ℕ). frame_front f m ++ rest) (tailed o)
+
+pub one-item-from : (i j : Item) (o p : Origin) (m n : ℕ) → IsItem i → IsItem j → IsOrigin o → IsOrigin p → m < 10 ^ 16 → n < 10 ^ 16 → item_text_from true o i m ≡ item_text_from true p j n → (i ≡ j) × (m ≡ n) × (shown_origin i o ≡ shown_origin j p)
+one-item-from (item.Data f) (item.Data g) o p m n hi hj ho hp hm hn e =
+    let h = one-front f.id g.id f.payload g.payload m n (origin-tail o) (origin-tail p) hi.0 hj.0 hi.1 hj.1 hm hn (sym (ends-with f m o) ∙ e ∙ ends-with g n p) in
+    (whole-frame f g h.0 h.1, h.2, ap Some (one-origin o p ho hp h.3))
+one-item-from (item.Data f) (item.Error g) o p m n hi hj ho hp hm hn e = absurd (frame-no-error f.id f.payload (origin_text o ++ codes " >") g m n (sym (append_assoc (frame_front f m) (origin_text o) (codes " >")) ∙ e))
+one-item-from (item.Error f) (item.Data g) o p m n hi hj ho hp hm hn e = absurd (frame-no-error g.id g.payload (origin_text p ++ codes " >") f n m (sym (append_assoc (frame_front g n) (origin_text p) (codes " >")) ∙ sym e))
+one-item-from (item.Error f) (item.Error g) o p m n hi hj ho hp hm hn e =
+    let h = one-error f.class g.class f.bytes g.bytes m n hi.0 hj.0 hi.2 hj.2 hm hn e in
+    (whole-error f g h.0 h.1, h.2, refl)

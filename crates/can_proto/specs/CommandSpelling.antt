@@ -8,7 +8,7 @@ use Rattle.can_filter.specs.Filters.{CanFilter}
 use Rattle.can_event.specs.declared.opt.Opt.{Opt}
 use Rattle.can_event.specs.declared.opt.Opt.TheVariants as opt
 use Rattle.can_proto.specs.declared.command.Command.{Command}
-use Rattle.can_proto.specs.declared.command.Command.TheVariants.{Echo, Open, Rawmode, Send, SetFilters, SetOption, ErrData, Stats, Status, Restart, Fault, Faults, NoFaults, Close}
+use Rattle.can_proto.specs.declared.command.Command.TheVariants.{Echo, Open, Rawmode, Send, SetFilters, SetOption, ErrData, Ack, Origin, Stats, Status, Restart, Fault, Faults, NoFaults, Close}
 use Rattle.can_proto.specs.Words.{front, words_of}
 
 -- How a client may write a command (socketcand's raw mode; filter and the options are own choice). Other spellings of it
@@ -46,6 +46,8 @@ command_words (Send frame) = frame_words frame.id frame.payload
 command_words (SetFilters filters) = codes "filter" ∷ decimal (length filters) ∷ flat_map filter_words filters
 command_words (SetOption option) = option_words option
 command_words (ErrData on) = codes "errdata" ∷ flag_text on ∷ []
+command_words (Ack on) = codes "ack" ∷ flag_text on ∷ []
+command_words (Origin on) = codes "origin" ∷ flag_text on ∷ []
 command_words Stats = codes "stats" ∷ []
 command_words Status = codes "status" ∷ []
 command_words Restart = codes "restart" ∷ []

@@ -8,7 +8,7 @@ use Rattle.can_proto.specs.declared.message.Incoming.TheVariants.{Message}
 use Rattle.can_proto.specs.declared.command.Mode.{Mode}
 use Rattle.can_proto.specs.declared.command.Mode.TheVariants.{Raw}
 use Rattle.can_proto.specs.declared.command.Command.{Command}
-use Rattle.can_proto.specs.declared.command.Command.TheVariants.{Echo, Open, Rawmode, Send, SetFilters, SetOption, ErrData, Stats, Status, Restart, Fault, Faults, NoFaults, Close}
+use Rattle.can_proto.specs.declared.command.Command.TheVariants.{Echo, Open, Rawmode, Send, SetFilters, SetOption, ErrData, Ack, Origin, Stats, Status, Restart, Fault, Faults, NoFaults, Close}
 use Rattle.can_proto.specs.declared.fault.ProtoFault.{ProtoFault}
 use Rattle.can_proto.specs.declared.fault.ProtoFault.TheVariants.{NoMemory, InvalidFilter, TooManyFilters, EmptyMessage, UnknownCommand, WrongState, ModeNotSupported, BadCount, BadId, BadLength, BadByte, BadNumber}
 use Rattle.can_proto.specs.declared.verb.Verb.{Verb}
@@ -198,6 +198,8 @@ arguments_of verb.RecvOwn words = switch_of words >>= λ on. Ok (SetOption (opt.
 arguments_of verb.ErrMask words = mask_of words
 arguments_of verb.FdFrames words = switch_of words >>= λ on. Ok (SetOption (opt.FdFrames on))
 arguments_of verb.ErrData words = switch_of words >>= λ on. Ok (ErrData on)
+arguments_of verb.Ack words = switch_of words >>= λ on. Ok (Ack on)
+arguments_of verb.Origin words = switch_of words >>= λ on. Ok (Origin on)
 arguments_of verb.Stats words = alone Stats words
 arguments_of verb.Status words = alone Status words
 arguments_of verb.Restart words = alone Restart words

@@ -1,4 +1,4 @@
-use Rattle.std.specs.Prelude.{◌≡◌, ◌<◌, ℕ, ◌^◌, nat_lt, Bool, true, false, if◌then◌else◌, List, [], ◌∷◌, ◌++◌, codes}
+use Rattle.std.specs.Prelude.{◌≡◌, ◌<◌, ℕ, ◌^◌, nat_lt, Bool, true, false, if◌then◌else◌, List, [], ◌∷◌, ◌++◌, Option, Some, None, codes}
 use Rattle.std.specs.Fmt.{decimal}
 use Rattle.std.specs.List.{All}
 use Rattle.can_frame.specs.Frames.{CanFrame, ErrorMessage, is_remote, is_fd, payload_len, payload_bytes}
@@ -12,7 +12,9 @@ use Rattle.can_confine.specs.declared.state.State.TheVariants.{Active, Warning, 
 use Rattle.can_event.specs.declared.stats.SocketStats.{SocketStats}
 use Rattle.can_event.specs.declared.stats.IfaceStats.{IfaceStats}
 use Rattle.can_proto.specs.declared.answer.Answer.{Answer}
-use Rattle.can_proto.specs.declared.answer.Answer.TheVariants.{Greeting, Done, Echo, Stats, Status, Faults, Closing, Refused}
+use Rattle.can_proto.specs.declared.answer.Answer.TheVariants.{Greeting, Done, Echo, Sent, Stats, Status, Faults, Closing, Refused}
+use Rattle.can_proto.specs.declared.answer.Origin.{Origin}
+use Rattle.can_proto.specs.declared.answer.Origin.TheVariants.{Same, Other}
 use Rattle.can_proto.specs.Causes.{cause_text}
 
 -- How replies and received items are written to a client (socketcand's raw mode; the exact texts are own choice).
@@ -34,17 +36,21 @@ class_text class = digits 16 (class_width class) class
 abbrev pub body_text : CanFrame → ℕ → List ℕ
 body_text frame micros = id_text frame.id ++ codes " " ++ moment_text micros ++ codes " " ++ pairs (payload_bytes frame.payload)
 
--- a data frame with its moment; without data there are two spaces
-abbrev pub data_text : CanFrame → ℕ → List ℕ
-data_text frame micros = codes "< frame " ++ body_text frame micros ++ codes " >"
+-- a data frame with its moment, up to the end of the text: without data there are two spaces
+abbrev pub data_front : CanFrame → ℕ → List ℕ
+data_front frame micros = codes "< frame " ++ body_text frame micros
 
 -- an FD frame, in the same way
-abbrev pub fd_text : CanFrame → ℕ → List ℕ
-fd_text frame micros = codes "< fdframe " ++ body_text frame micros ++ codes " >"
+abbrev pub fd_front : CanFrame → ℕ → List ℕ
+fd_front frame micros = codes "< fdframe " ++ body_text frame micros
 
--- a remote frame with its moment
-abbrev pub remote_text : CanFrame → ℕ → List ℕ
-remote_text frame micros = codes "< remote " ++ id_text frame.id ++ codes " " ++ moment_text micros ++ codes " " ++ decimal (payload_len frame.payload) ++ codes " >"
+-- a remote frame with its moment and the length that it asks for
+abbrev pub remote_front : CanFrame → ℕ → List ℕ
+remote_front frame micros = codes "< remote " ++ id_text frame.id ++ codes " " ++ moment_text micros ++ codes " " ++ decimal (payload_len frame.payload)
+
+-- a frame of any kind
+abbrev pub frame_front : CanFrame → ℕ → List ℕ
+frame_front frame micros = if is_remote frame.payload then remote_front frame micros else if is_fd frame.payload then fd_front frame micros else data_front frame micros
 
 -- an error message frame with its moment, and with its data where these are asked for
 abbrev pub error_text : Bool → ErrorMessage → ℕ → List ℕ
@@ -53,8 +59,28 @@ error_text true e micros = codes "< error " ++ class_text e.class ++ codes " " +
 
 -- the text of an item that a client's socket received
 abbrev pub item_text : Bool → Item → ℕ → List ℕ
-item_text errdata (item.Data frame) micros = if is_remote frame.payload then remote_text frame micros else if is_fd frame.payload then fd_text frame micros else data_text frame micros
+item_text errdata (item.Data frame) micros = frame_front frame micros ++ codes " >"
 item_text errdata (item.Error e) micros = error_text errdata e micros
+
+-- a frame's origin: the receiving socket's own interface or another one, and the frame's number there
+abbrev pub origin_text : Origin → List ℕ
+origin_text (Same number) = codes " same " ++ decimal number
+origin_text (Other number) = codes " other " ++ decimal number
+
+-- the text of an item where origins are asked for: a frame's is at its end, and an error message frame has none
+abbrev pub item_text_from : Bool → Origin → Item → ℕ → List ℕ
+item_text_from errdata origin (item.Data frame) micros = frame_front frame micros ++ origin_text origin ++ codes " >"
+item_text_from errdata origin (item.Error e) micros = error_text errdata e micros
+
+-- the origin that such a text has
+abbrev pub shown_origin : Item → Origin → Option Origin
+shown_origin (item.Data frame) origin = Some origin
+shown_origin (item.Error e) origin = None
+
+-- a number of 64 bits
+abbrev pub IsOrigin : Origin → Type 0
+IsOrigin (Same number) = number < 2 ^ 64
+IsOrigin (Other number) = number < 2 ^ 64
 
 -- the text of an item where the data of error message frames are not asked for: of these only the class
 abbrev pub without_data : Item → Item
@@ -81,6 +107,7 @@ abbrev pub reply_text : Answer → List ℕ
 reply_text Greeting = codes "< hi >"
 reply_text Done = codes "< ok >"
 reply_text Echo = codes "< echo >"
+reply_text (Sent number) = codes "< ack " ++ decimal number ++ codes " >"
 reply_text (Stats s i) = stats_text s i
 reply_text (Status c) = status_text c
 reply_text (Faults left) = codes "< faults " ++ decimal left ++ codes " >"
@@ -93,6 +120,7 @@ told_counts s i = s.queued ∷ s.dropped ∷ s.taken ∷ i.sent ∷ i.done ∷ i
 
 -- counts of 64 bits
 abbrev pub IsAnswer : Answer → Type 0
+IsAnswer (Sent number) = All (λ n. n < 2 ^ 64) (number ∷ [])
 IsAnswer (Stats s i) = All (λ n. n < 2 ^ 64) (told_counts s i)
 IsAnswer (Status c) = All (λ n. n < 2 ^ 64) (c.tec ∷ c.rec ∷ [])
 IsAnswer (Faults left) = All (λ n. n < 2 ^ 64) (left ∷ [])

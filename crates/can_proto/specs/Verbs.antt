@@ -2,7 +2,7 @@ use Rattle.std.specs.Prelude.{ℕ, Bool, true, false, ◌&&◌, ◌||◌, ◌==�
 use Rattle.can_proto.specs.declared.command.Mode.{Mode}
 use Rattle.can_proto.specs.declared.command.Mode.TheVariants.{NoBus, Opened, Raw}
 use Rattle.can_proto.specs.declared.verb.Verb.{Verb}
-use Rattle.can_proto.specs.declared.verb.Verb.TheVariants.{Echo, Open, Rawmode, OtherMode, Send, SendRtr, SendFd, Filter, Join, Loopback, RecvOwn, FdFrames, ErrMask, ErrData, Stats, Status, Restart, Fault, Faults, NoFaults, Close}
+use Rattle.can_proto.specs.declared.verb.Verb.TheVariants.{Echo, Open, Rawmode, OtherMode, Send, SendRtr, SendFd, Filter, Join, Loopback, RecvOwn, FdFrames, ErrMask, ErrData, Ack, Origin, Stats, Status, Restart, Fault, Faults, NoFaults, Close}
 
 -- The commands' first words and the modes that have them (socketcand's raw mode; sendfd, and filter and what follows it, is own choice).
 
@@ -32,6 +32,8 @@ named word =
     if is_word word (codes "fdframes") then Some FdFrames else
     if is_word word (codes "errmask") then Some ErrMask else
     if is_word word (codes "errdata") then Some ErrData else
+    if is_word word (codes "ack") then Some Ack else
+    if is_word word (codes "origin") then Some Origin else
     if is_word word (codes "stats") then Some Stats else
     if is_word word (codes "status") then Some Status else
     if is_word word (codes "restart") then Some Restart else

@@ -14,6 +14,8 @@ pub enum Answer {
     Done,
     /// The reply to `echo`.
     Echo,
+    /// The frame was sent. Its number at its interface.
+    Sent(u64),
     /// What became of the items offered to the socket and of the frames of its interface.
     Stats(SocketStats, IfaceStats),
     /// The error counters of the interface.
@@ -24,6 +26,15 @@ pub enum Answer {
     Closing(Closed),
     /// Nothing was done.
     Refused(Cause),
+}
+
+/// Where a frame comes from, seen from the interface of the socket that received it, and its number there.
+#[derive(Debug, Clone, Copy, PartialEq, Eq)]
+pub enum Origin {
+    /// From the same interface.
+    Same(u64),
+    /// From another one.
+    Other(u64),
 }
 
 /// Why a client's message was not carried out.

@@ -96,6 +96,10 @@ pub enum Command {
     SetOption(Opt),
     /// To get the data of error message frames, or only their classes.
     ErrData(bool),
+    /// To get the number of each frame that is sent, or nothing.
+    Ack(bool),
+    /// To get the origin of each frame that is received, or not.
+    Origin(bool),
     /// To get the counts of frames and items.
     Stats,
     /// To get the error counters of the interface, and the state that they give.

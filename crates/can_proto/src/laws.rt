@@ -9,8 +9,9 @@ ghost use Rattle.can_proto.specs.Commands.{reading};
 ghost use Rattle.can_proto.specs.CommandSpelling.{command_spelling, command_words, IsCommand};
 ghost use Rattle.can_proto.specs.declared.command.Mode.{Mode as AMode};
 ghost use Rattle.can_proto.specs.declared.command.Command.{Command as ACommand};
-ghost use Rattle.can_proto.specs.Spelling.{item_text, reply_text, without_data, IsAnswer, AreAlike};
+ghost use Rattle.can_proto.specs.Spelling.{item_text, item_text_from, reply_text, without_data, shown_origin, IsOrigin, IsAnswer, AreAlike};
 ghost use Rattle.can_proto.specs.declared.answer.Answer.{Answer as AnAnswer};
+ghost use Rattle.can_proto.specs.declared.answer.Origin.{Origin as AnOrigin};
 
 use crate::answer::Cause;
 use crate::message::Incoming;
@@ -35,7 +36,8 @@ pub fn words_tell_one_cause()
 {}
 
 /// Different items, or moments, have different texts. Where the data of error message
-/// frames are not asked for they are left out, and only their classes and moments differ in the text.
+/// frames are not asked for they are left out, and only their classes and moments differ in the text. With origins,
+/// frames of different origins have different texts too.
 pub fn texts_tell_items_apart()
     ensures whole { (i j : AnItem) (m n : ℕ) →
         IsItem i → IsItem j → m < 10 ^ 16 → n < 10 ^ 16 →
@@ -43,6 +45,10 @@ pub fn texts_tell_items_apart()
     ensures without_data { (i j : AnItem) (m n : ℕ) →
         IsItem i → IsItem j → m < 10 ^ 16 → n < 10 ^ 16 →
         item_text false i m ≡ item_text false j n → (without_data i ≡ without_data j) × (m ≡ n) }
+    ensures origins { (i j : AnItem) (o p : AnOrigin) (m n : ℕ) →
+        IsItem i → IsItem j → IsOrigin o → IsOrigin p → m < 10 ^ 16 → n < 10 ^ 16 →
+        item_text_from true o i m ≡ item_text_from true p j n →
+        (i ≡ j) × (m ≡ n) × (shown_origin i o ≡ shown_origin j p) }
 {}
 
 /// What is written of a command is read back, in each mode that has the command, also with a space on
@@ -57,10 +63,12 @@ pub fn written_commands_are_read()
 {}
 
 /// No text belongs to two replies, except that those to `stats` leave the error counters out; and none to
-/// a reply and an item.
+/// a reply and an item, with its origin or without.
 pub fn answers_tell_apart()
     ensures one_answer { (one other : AnAnswer) →
         IsAnswer one → IsAnswer other → reply_text one ≡ reply_text other → AreAlike one other }
     ensures no_item { (answer : AnAnswer) (errdata : Bool) (i : AnItem) (m : ℕ) →
         IsAnswer answer → reply_text answer ≡ item_text errdata i m → ⊥ }
+    ensures no_item_from { (answer : AnAnswer) (errdata : Bool) (o : AnOrigin) (i : AnItem) (m : ℕ) →
+        IsAnswer answer → reply_text answer ≡ item_text_from errdata o i m → ⊥ }
 {}

@@ -27,10 +27,10 @@ mod usual_sends;
 mod verb;
 mod words;
 
-pub use answer::{Answer, Cause};
+pub use answer::{Answer, Cause, Origin};
 pub use command::{ClientWords, Command, Mode, WantedName, WantedRule};
 pub use fault::ProtoFault;
 pub use message::{Incoming, Message};
 pub use reader::Reader;
-pub use spelling::{item_text, push_item, refusal_text, reply_text};
+pub use spelling::{item_text, push_item, push_item_from, refusal_text, reply_text};
 pub use texts::{ItemText, Text};

@@ -1,10 +1,10 @@
-ghost use Rattle.std.specs.Prelude.{◌≡◌, ◌≤◌, ◌<◌, ◌+◌, ◌^◌, ◌++◌, [], length, true};
+ghost use Rattle.std.specs.Prelude.{◌≡◌, ◌≤◌, ◌<◌, ◌+◌, ◌^◌, ◌++◌, [], length, true, codes};
 ghost use Rattle.std.specs.Fmt.{decimal};
 ghost use Rattle.can_frame.specs.Frames.{is_remote};
-ghost use Rattle.can_proto.specs.Spelling.{class_width, class_text, body_text, data_text, fd_text, remote_text, error_text, item_text, stats_text, state_word, status_text, reply_text};
-ghost use Rattle.can_proto.specs.declared.answer.Answer.TheVariants.{Faults, Refused};
+ghost use Rattle.can_proto.specs.Spelling.{class_width, class_text, body_text, data_front, fd_front, remote_front, frame_front, error_text, item_text, origin_text, item_text_from, stats_text, state_word, status_text, reply_text};
+ghost use Rattle.can_proto.specs.declared.answer.Answer.TheVariants.{Refused};
 
-use crate::answer::{Answer, Cause};
+use crate::answer::{Answer, Cause, Origin};
 use crate::texts::{ItemText, Text, push_next};
 use can_confine::{Counters, State};
 use can_event::{IfaceStats, SocketStats};
@@ -29,15 +29,51 @@ pub fn push_item(text: &mut ItemText, item: &Item, moment: Moment, errdata: bool
 {
     match item {
         Item::Data(frame) => {
-            if frame.is_remote() {
-                push_remote(text, frame, moment);
-            } else if frame.is_fd() {
-                push_fd(text, frame, moment);
-            } else {
-                push_classic(text, frame, moment);
-            }
+            push_frame(text, frame, moment);
+            text.push_all(b" >");
         }
         Item::Error(error) => push_error(text, *error, moment, errdata),
+    }
+}
+
+/// Puts what `item_text` says of an item into an empty text, with the origin of a frame before its end.
+#[inline(never)]
+pub fn push_item_from(
+    text: &mut ItemText,
+    item: &Item,
+    moment: Moment,
+    errdata: bool,
+    origin: Origin,
+)
+    requires { text.old ≡ [] }
+    ensures text { text.new ≡ item_text_from errdata origin item.now moment }
+    ensures short { length text.new ≤ 194 }
+{
+    match item {
+        Item::Data(frame) => {
+            push_frame(text, frame, moment);
+            push_origin(text, origin);
+            text.push_all(b" >");
+        }
+        Item::Error(error) => push_error(text, *error, moment, errdata),
+    }
+}
+
+/// Adds a frame's origin.
+fn push_origin(text: &mut ItemText, origin: Origin)
+    requires { length text.old + 27 ≤ 200 }
+    ensures text { text.new ≡ text.old ++ origin_text origin }
+    ensures len { length text.new ≤ length text.old + 27 }
+{
+    match origin {
+        Origin::Same(number) => {
+            text.push_all(b" same ");
+            text.push_count(number);
+        }
+        Origin::Other(number) => {
+            text.push_all(b" other ");
+            text.push_count(number);
+        }
     }
 }
 
@@ -51,7 +87,8 @@ pub fn reply_text(answer: Answer) -> Text
         Answer::Echo => fixed_text(b"< echo >"),
         Answer::Stats(socket, iface) => stats_text(socket, iface),
         Answer::Status(counters) => status_text(counters),
-        Answer::Faults(left) => faults_text(left),
+        Answer::Sent(number) => count_text(b"< ack", number),
+        Answer::Faults(left) => count_text(b"< faults", left),
         Answer::Closing(closed) => {
             let mut text = fixed_text(b"< closed");
             push_next(&mut text, closed.unread);
@@ -63,12 +100,13 @@ pub fn reply_text(answer: Answer) -> Text
     }
 }
 
-/// The count of `faults`.
-fn faults_text(left: u64) -> Text
-    ensures { result ≡ reply_text (Faults left) }
+/// A word and a number.
+fn count_text(word: &[u8], number: u64) -> Text
+    requires { length word.now ≤ 200 }
+    ensures { result ≡ word.now ++ codes " " ++ decimal number ++ codes " >" }
 {
-    let mut text = fixed_text(b"< faults");
-    push_next(&mut text, left);
+    let mut text = fixed_text(word);
+    push_next(&mut text, number);
     text.push_all(b" >");
     text
 }
@@ -116,38 +154,52 @@ fn class_width(class: u32) -> usize
 
 /// Adds an error class.
 fn push_class(text: &mut ItemText, class: u32)
-    requires { length text.old + 8 ≤ 192 }
+    requires { length text.old + 8 ≤ 200 }
     ensures text { text.new ≡ text.old ++ class_text class }
     ensures len { length text.new ≤ length text.old + 8 }
 {
     text.push_hex(class_width(class), u64::from(class));
 }
 
-/// Adds a data frame. Without data there are two spaces.
+/// Adds the text of a frame, up to its end.
+#[inline(always)]
+fn push_frame(text: &mut ItemText, frame: &Frame, moment: Moment)
+    requires { length text.old + 165 ≤ 200 }
+    ensures text { text.new ≡ text.old ++ frame_front frame.now moment }
+    ensures len { length text.new ≤ length text.old + 165 }
+{
+    if frame.is_remote() {
+        push_remote(text, frame, moment);
+    } else if frame.is_fd() {
+        push_fd(text, frame, moment);
+    } else {
+        push_classic(text, frame, moment);
+    }
+}
+
+/// Adds a data frame, up to the end of its text. Without data a space is the last byte.
 fn push_classic(text: &mut ItemText, frame: &Frame, moment: Moment)
-    requires { length text.old + 167 ≤ 192 }
-    ensures text { text.new ≡ text.old ++ data_text frame.now moment }
-    ensures len { length text.new ≤ length text.old + 167 }
+    requires { length text.old + 165 ≤ 200 }
+    ensures text { text.new ≡ text.old ++ data_front frame.now moment }
+    ensures len { length text.new ≤ length text.old + 165 }
 {
     text.push_all(b"< frame ");
     push_data(text, frame, moment);
-    text.push_all(b" >");
 }
 
 /// Adds an FD frame, in the same way.
 fn push_fd(text: &mut ItemText, frame: &Frame, moment: Moment)
-    requires { length text.old + 167 ≤ 192 }
-    ensures text { text.new ≡ text.old ++ fd_text frame.now moment }
-    ensures len { length text.new ≤ length text.old + 167 }
+    requires { length text.old + 165 ≤ 200 }
+    ensures text { text.new ≡ text.old ++ fd_front frame.now moment }
+    ensures len { length text.new ≤ length text.old + 165 }
 {
     text.push_all(b"< fdframe ");
     push_data(text, frame, moment);
-    text.push_all(b" >");
 }
 
 /// Adds the identifier, the moment and the data of a frame.
 fn push_data(text: &mut ItemText, frame: &Frame, moment: Moment)
-    requires { length text.old + 155 ≤ 192 }
+    requires { length text.old + 155 ≤ 200 }
     ensures text { text.new ≡ text.old ++ body_text frame.now moment }
     ensures len { length text.new ≤ length text.old + 155 }
 {
@@ -159,12 +211,12 @@ fn push_data(text: &mut ItemText, frame: &Frame, moment: Moment)
     text.push_pairs(frame.bytes());
 }
 
-/// Adds a remote frame.
+/// Adds a remote frame, up to the end of its text.
 fn push_remote(text: &mut ItemText, frame: &Frame, moment: Moment)
     requires remote { is_remote frame.now.payload ≡ true }
-    requires room { length text.old + 53 ≤ 192 }
-    ensures text { text.new ≡ text.old ++ remote_text frame.now moment }
-    ensures len { length text.new ≤ length text.old + 53 }
+    requires room { length text.old + 51 ≤ 200 }
+    ensures text { text.new ≡ text.old ++ remote_front frame.now moment }
+    ensures len { length text.new ≤ length text.old + 51 }
 {
     text.push_all(b"< remote ");
     text.push_id(frame.id());
@@ -172,13 +224,12 @@ fn push_remote(text: &mut ItemText, frame: &Frame, moment: Moment)
     text.push_moment(moment);
     text.push_all(b" ");
     push_length(text, frame.len());
-    text.push_all(b" >");
 }
 
 /// Adds the length that a remote frame asks for.
 fn push_length(text: &mut ItemText, len: u8)
     requires small { len ≤ 8 }
-    requires room { length text.old < 192 }
+    requires room { length text.old < 200 }
     ensures text { text.new ≡ text.old ++ decimal len }
     ensures len { length text.new ≡ length text.old + 1 }
 {
@@ -187,7 +238,7 @@ fn push_length(text: &mut ItemText, len: u8)
 
 /// Adds an error message frame.
 fn push_error(text: &mut ItemText, error: ErrorFrame, moment: Moment, errdata: bool)
-    requires { length text.old + 53 ≤ 192 }
+    requires { length text.old + 53 ≤ 200 }
     ensures text { text.new ≡ text.old ++ error_text errdata error moment }
     ensures len { length text.new ≤ length text.old + 53 }
 {

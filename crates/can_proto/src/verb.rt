@@ -22,6 +22,8 @@ pub enum Verb {
     FdFrames,
     ErrMask,
     ErrData,
+    Ack,
+    Origin,
     Stats,
     Status,
     Restart,
@@ -68,6 +70,10 @@ pub fn verb_of(word: &[u8]) -> Option<Verb>
         Some(Verb::ErrMask)
     } else if matches(word, b"errdata") {
         Some(Verb::ErrData)
+    } else if matches(word, b"ack") {
+        Some(Verb::Ack)
+    } else if matches(word, b"origin") {
+        Some(Verb::Origin)
     } else if matches(word, b"stats") {
         Some(Verb::Stats)
     } else if matches(word, b"status") {

@@ -2,6 +2,7 @@ mod bench;
 mod dialogue;
 mod fd_frames;
 mod lines;
+mod own_frames;
 mod restarts;
 mod rules;
 mod sessions;

@@ -35,6 +35,8 @@ Messages of a session (socketcand's raw mode), in the order of a first run:
   < fdframes 0|1 >           Send and receive FD frames too (0)
   < errmask HEX >            Receive error message frames of these classes (0)
   < errdata 0|1 >            Write error message frames with their data (0)
+  < ack 0|1 >                Write < ack NUMBER > for each accepted send (0)
+  < origin 0|1 >             End frames with `same NUMBER` if their sender has this interface, or `other NUMBER` (0)
   < stats >                  Write < stats QUEUED DROPPED TAKEN SENT DONE WAITING LOST REFUSED >
   < status >                 Write < status STATE TEC REC >, from the error counters of the interface
   < restart >                Bring the interface back that is bus off, before --auto-restart does
@@ -43,7 +45,8 @@ Once an interface is taken, with a socket or without:
   < fault RULE >             Add a rule of faults to its bus, as in a script
   < faults >                 Write < faults LEFT >: how many rules are left
   < nofaults >               End all rules of its bus
-A command that was carried out gets < ok >, an accepted send nothing, a refusal < error TEXT >. < echo > always gets < echo >.
+A command that was carried out gets < ok >, an accepted send nothing unless ack is on, a refusal < error TEXT >.
+< echo > always gets < echo >.
 
 What is received: < frame ID MOMENT DATA >, < remote ID MOMENT LEN >, < fdframe ID MOMENT DATA >,
 < error CLASS MOMENT > or with DATA.

@@ -23,6 +23,11 @@ fn dialogue<N: RollName + MeterName, R: Wait + Abort>(
     first.ask(sends, "< ok >< ok >");
     first.driver().try_frame();
     second.hear("< frame 123 23.424242 11223344 >");
+    // From now on the one has the numbers of its frames, and the other sees whose they are.
+    second.ask("< origin 1 >", "< ok >");
+    first.ask("< ack 1 >< send 124 0 >", "< ok >< ack 1 >");
+    first.driver().try_frame();
+    second.hear("< frame 124 23.424242  other 1 >");
 }
 
 /// A frame goes from a session on can0 to one on can1.

@@ -3,7 +3,8 @@ use can_bus::{Closed, Opt, Refusal};
 use can_confine::Counters;
 use can_frame::{CanId, ErrorFrame, Frame, Item, Moment};
 use can_proto::{
-    Answer, Cause, Command, Incoming, Message, Mode, ProtoFault, Reader, item_text, reply_text,
+    Answer, Cause, Command, Incoming, ItemText, Message, Mode, Origin, ProtoFault, Reader,
+    item_text, push_item_from, reply_text,
 };
 use std::alloc::{AllocError, AllocGlobal, Global};
 use std::process::Abort;
@@ -91,7 +92,7 @@ fn has_words_of_its_cause(rt: &(impl Abort + AllocGlobal), fault: ProtoFault) ->
 #[test]
 fn faults_are_told_in_their_order(rt: HostRuntime) {
     let raw = Mode::Raw;
-    let cases: [(Mode, &[u8], ProtoFault); 40] = [
+    let cases: [(Mode, &[u8], ProtoFault); 44] = [
         (raw, b"< >", ProtoFault::EmptyMessage),
         (Mode::Ended, b"<>", ProtoFault::EmptyMessage),
         (raw, b"< statuses >", ProtoFault::UnknownCommand),
@@ -140,6 +141,10 @@ fn faults_are_told_in_their_order(rt: HostRuntime) {
         (Mode::Opened, b"< fault >", ProtoFault::BadCount),
         (raw, b"< faults 1 >", ProtoFault::BadCount),
         (Mode::Opened, b"< nofaults all >", ProtoFault::BadCount),
+        (raw, b"< ack >", ProtoFault::BadCount),
+        (raw, b"< origin on >", ProtoFault::BadNumber),
+        (Mode::NoBus, b"< ack 1 >", ProtoFault::WrongState),
+        (Mode::Opened, b"< origin 1 >", ProtoFault::WrongState),
     ];
     for (mode, text, fault) in cases {
         same_at(&rt, text, read(&rt, mode, text).err(), Some(fault));
@@ -211,7 +216,9 @@ fn is_command(place: usize, command: &Command) -> bool {
         | (11, Command::Rawmode)
         | (13, Command::Faults)
         | (14, Command::NoFaults)
-        | (15, Command::Close) => true,
+        | (17, Command::Close) => true,
+        (15, Command::Ack(on)) => *on,
+        (16, Command::Origin(on)) => !*on,
         (12, Command::SetOption(option)) => *option == Opt::FdFrames(true),
         _ => false,
     }
@@ -232,9 +239,9 @@ fn is_read(alloc: Global, place: usize, incoming: &Incoming) -> bool {
 #[test]
 fn commands_are_read(rt: HostRuntime) {
     let stream =
-        b"< open can0 >< filter 2 123 C00007FF 0 0 >< join 1 >< loopback 0 >< recvown 1 >< errmask 204 >< errdata 1 >< stats >< status >< restart >< echo >< rawmode >< fdframes 1 >< faults >< nofaults >< close >";
+        b"< open can0 >< filter 2 123 C00007FF 0 0 >< join 1 >< loopback 0 >< recvown 1 >< errmask 204 >< errdata 1 >< stats >< status >< restart >< echo >< rawmode >< fdframes 1 >< faults >< nofaults >< ack 1 >< origin 0 >< close >";
     let given = fed(rt.alloc(), stream, b"").expect(&rt, "memory");
-    same(&rt, given.len(), 16);
+    same(&rt, given.len(), 18);
     for (place, incoming) in given.iter().enumerate() {
         same_at(&rt, place, is_read(rt.alloc(), place, incoming), true);
     }
@@ -315,6 +322,41 @@ fn frames_are_written(rt: HostRuntime) {
 }
 
 #[test]
+fn origins_are_written(rt: HostRuntime) {
+    let short = CanId::standard(0x123).expect(&rt, "an id");
+    let long = CanId::extended(0x1FFF_FFFF).expect(&rt, "an id");
+    let cases: [(Option<Frame>, Origin, &[u8]); 4] = [
+        (
+            Frame::data(short, b"\x11\x22").ok(),
+            Origin::Same(17),
+            b"< frame 123 1.000000 1122 same 17 >",
+        ),
+        (
+            Frame::data(short, b"").ok(),
+            Origin::Other(0),
+            b"< frame 123 1.000000  other 0 >",
+        ),
+        (
+            Frame::remote(long, 8).ok(),
+            Origin::Other(u64::MAX),
+            b"< remote 1FFFFFFF 1.000000 8 other 18446744073709551615 >",
+        ),
+        (
+            Frame::fd(long, b"\xA5").ok(),
+            Origin::Same(10_000),
+            b"< fdframe 1FFFFFFF 1.000000 A5 same 10000 >",
+        ),
+    ];
+    let moment = Moment::new(1_000_000).expect(&rt, "a moment");
+    for (frame, origin, wanted) in cases {
+        let item = Item::Data(frame.expect(&rt, "a frame"));
+        let mut text = ItemText::new();
+        push_item_from(&mut text, &item, moment, false, origin);
+        same(&rt, text.as_bytes(), wanted);
+    }
+}
+
+#[test]
 fn error_message_frames_are_written(rt: HostRuntime) {
     let state = ErrorFrame::new(0x204, [0, 8, 0, 0, 0, 0, 0x60, 0]).expect(&rt, "a class");
     let off = ErrorFrame::new(0x40, [0; 8]).expect(&rt, "a class");
@@ -334,7 +376,7 @@ fn answers_are_written(rt: HostRuntime) {
         unread: 0,
         dropped: 18_446_744_073_709_551_615,
     };
-    let cases: [(Answer, &[u8]); 11] = [
+    let cases: [(Answer, &[u8]); 12] = [
         (Answer::Greeting, b"< hi >"),
         (Answer::Done, b"< ok >"),
         (Answer::Echo, b"< echo >"),
@@ -353,6 +395,10 @@ fn answers_are_written(rt: HostRuntime) {
         (
             Answer::Refused(Cause::from(Refusal::FdOff)),
             b"< error fd frames off >",
+        ),
+        (
+            Answer::Sent(u64::MAX),
+            b"< ack 18446744073709551615 >",
         ),
         (Answer::Faults(0), b"< faults 0 >"),
         (Answer::Faults(64), b"< faults 64 >"),
