@@ -43,6 +43,7 @@ WORDS = [
     b"errdata",
     b"ack",
     b"origin",
+    b"interfaces",
     b"1",
     b"stats",
     b"status",

@@ -1,7 +1,8 @@
 -- A message that was refused: the turn is the one that says so.
-use Rattle.std.proofs.Common.{◌≡◌, ℕ, Bool, true, false, List, Result, Ok, Err, refl, sym, ap, subst, ◌∙◌, arith}
+use Rattle.std.proofs.Common.{◌≡◌, ℕ, Bool, true, false, IsTrue, List, Result, Ok, Err, refl, sym, ap, subst, ◌∙◌, arith}
 use Rattle.can_proto.specs.declared.message.Incoming.TheVariants.{Message}
 use Rattle.can_proto.specs.declared.command.Command.{Command}
+use Rattle.can_proto.specs.declared.command.Command.TheVariants as command
 use Rattle.can_proto.specs.declared.fault.ProtoFault.{ProtoFault}
 use Rattle.can_proto.specs.declared.fault.ProtoFault.TheVariants.{NoMemory, InvalidFilter, TooManyFilters, EmptyMessage, UnknownCommand, WrongState, ModeNotSupported, BadCount, BadId, BadLength, BadByte, BadNumber}
 use Rattle.can_proto.specs.declared.answer.Answer.TheVariants as answer
@@ -14,10 +15,17 @@ use Rattle.can_dialog.specs.declared.stage.Stage.TheVariants.{NoBus, Opened, Raw
 use Rattle.can_dialog.specs.declared.stage.Dialog.{Dialog}
 use Rattle.can_dialog.specs.Calls.{Call, Reply}
 use Rattle.can_dialog.specs.Plans.{Plan, Plays}
-use Rattle.can_dialog.specs.Turns.{mode_of, without_memory, read_as, answering, heard, unless_over, turn}
+use Rattle.can_dialog.specs.Turns.{mode_of, may_lack_memory, without_memory, read_as, answering, heard, unless_over, turn}
+
+-- what is kept on the heap may lack memory
+lacking : (c : Command) → IsTrue (takes_memory c) → may_lack_memory c ≡ true
+lacking (command.Open name) h = refl
+lacking (command.SetFilters filters) h = refl
+lacking (command.Fault rule) h = refl
+lacking c h = absurd cc
 
 lost : (r : Result Command ProtoFault) → GivesBut takes_memory (Err NoMemory) r → without_memory r ≡ Err NoMemory
-lost (Ok c) h = grind (arith, h)
+lost (Ok c) h = rw (lacking c h) refl
 lost (Err e) h = absurd h
 
 -- a fault is that of the message, or it is want of memory for a command that is kept on the heap

@@ -4,3 +4,4 @@ pub mod Room
 pub mod Cuts
 pub mod Living
 pub mod LoneSends
+pub mod Naming

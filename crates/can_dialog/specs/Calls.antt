@@ -26,9 +26,10 @@ use Rattle.can_dialog.specs.declared.port.PortRefusal.TheVariants as port
 
 -- The calls of a port, and the replies that it may give (own choice).
 
--- a call of a port, with its arguments: interfaces and moments are numbers, a rule of faults is its text. No session tries
--- frames
+-- a call of a port, with its arguments: interfaces and moments are numbers, a rule of faults is its text. `Names` asks for
+-- the names of all interfaces that may be attached, in order. No session tries frames
 pub data Call : Type 0 where
+  Names : Call
   Attach : List ℕ → Call
   Open : ℕ → ℕ → Call
   Close : SocketId → Call
@@ -47,6 +48,7 @@ pub data Call : Type 0 where
 
 -- the replies that a call can have
 abbrev pub Reply : Call → Type 0
+Reply Names = List (List ℕ)
 Reply (Attach name) = Result ℕ PortRefusal
 Reply (Open iface capacity) = Result SocketId PortRefusal
 Reply (Close socket) = Result Closed PortRefusal

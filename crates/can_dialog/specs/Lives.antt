@@ -29,7 +29,7 @@ abbrev pub first_text : Stage → List ℕ
 first_text Ended = []
 first_text _ = greeting
 
--- what a turn does and says; `forgot`: memory was refused while its command was read
+-- what a turn does and says; `forgot`: memory was refused for its command
 abbrev pub TurnDoes : {P : Type 0} → (P → (call : Call) → Reply call → P → Type 0) → Bool → Dialog → Act Incoming → P → P → List ℕ → Dialog → Type 0
 TurnDoes {P} step forgot d Greet p q text after = (q ≡ p) × (text ≡ first_text d.stage) × (after ≡ d)
 TurnDoes {P} step forgot d (Hear moment item) p q text after = Plays step (turn forgot moment d item) p q text after

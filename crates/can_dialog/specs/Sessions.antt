@@ -1,7 +1,11 @@
-use Rattle.std.specs.Prelude.{◌≡◌, ◌≢◌, ℕ, Bool, List, [], ◌∷◌, ◌++◌, count_by, Option}
+use Rattle.std.specs.Prelude.{◌≡◌, ◌≢◌, ◌⊎◌, ℕ, Bool, Ok, List, [], ◌∷◌, ◌++◌, count_by, Option}
 use Rattle.std.specs.Io.KnownBytes.{Appends}
 use Rattle.can_proto.specs.declared.message.Incoming.{Incoming}
 use Rattle.can_proto.specs.declared.answer.Answer.{Answer}
+use Rattle.can_proto.specs.declared.answer.Answer.TheVariants.{Refused}
+use Rattle.can_proto.specs.declared.answer.Cause.TheVariants.{NoMemory}
+use Rattle.can_proto.specs.declared.command.Command.{Command}
+use Rattle.can_proto.specs.Spelling.{reply_text, interfaces_text}
 use Rattle.can_proto.specs.Messages.{is_open_mark, messages_of, kept_of}
 use Rattle.can_dialog.specs.declared.stage.Stage.{Stage}
 use Rattle.can_dialog.specs.declared.stage.Stage.TheVariants.{NoBus, Raw, Ended}
@@ -9,8 +13,9 @@ use Rattle.can_dialog.specs.declared.stage.RawSocket.{RawSocket}
 use Rattle.can_frame.specs.Frames.{CanFrame}
 use Rattle.can_dialog.specs.declared.stage.Dialog.{Dialog}
 use Rattle.can_dialog.specs.Calls.{Call, Reply}
+use Rattle.can_dialog.specs.Calls.Call.{Names}
 use Rattle.can_dialog.specs.Plans.{Plan, Plays}
-use Rattle.can_dialog.specs.Turns.{voiced, turn, at_stage, sending, ending, delivery}
+use Rattle.can_dialog.specs.Turns.{voiced, read_as, answering, turn, at_stage, sending, ending, delivery}
 
 -- What a session says, over any port.
 
@@ -40,15 +45,23 @@ IsNotRaw _ = Unit {0}
 abbrev pub Replies : {P : Type 0} → (P → (call : Call) → Reply call → P → Type 0) → Plan Dialog → P → P → Option Answer → Dialog → Type 0
 Replies {P} step plan p q answer after = Plays step plan p q (voiced answer) after
 
--- the turn of one item, and the reply to it, if there is one; memory may be refused while its command is read
-abbrev pub TakesTurn : {P : Type 0} → (P → (call : Call) → Reply call → P → Type 0) → ℕ → Dialog → Incoming → P → P → Option Answer → Dialog → Type 0
-TakesTurn {P} step moment d item p q answer after = (forgot : Bool) × Replies step (turn forgot moment d item) p q answer after
+-- the turn of one item, and its text; memory may be refused for its command
+abbrev pub TakesTurn : {P : Type 0} → (P → (call : Call) → Reply call → P → Type 0) → ℕ → Dialog → Incoming → P → P → List ℕ → Dialog → Type 0
+TakesTurn {P} step moment d item p q text after = (forgot : Bool) × Plays step (turn forgot moment d item) p q text after
+
+-- a command is carried out, with this text; memory may be refused for it
+abbrev pub CarriesOut : {P : Type 0} → (P → (call : Call) → Reply call → P → Type 0) → ℕ → Dialog → Command → P → P → List ℕ → Dialog → Type 0
+CarriesOut {P} step moment d command p q text after = (forgot : Bool) × Plays step (answering moment d (read_as forgot (Ok command))) p q text after
+
+-- a list of names is told, with this text, or memory was refused for that
+abbrev pub TellsNames : {P : Type 0} → (P → (call : Call) → Reply call → P → Type 0) → P → List ℕ → Type 0
+TellsNames {P} step p text = ((names : List (List ℕ)) × step p Names names p × (text ≡ interfaces_text names)) ⊎ (text ≡ reply_text (Refused NoMemory))
 
 -- the session ends over the port, and says nothing
 abbrev pub Finishes : {P : Type 0} → (P → (call : Call) → Reply call → P → Type 0) → Dialog → P → P → Dialog → Type 0
 Finishes {P} step d p q after = Plays step (ending d.stage d) p q [] after
 
--- the turns of items, one after another, with the places where memory was refused while a command was read
+-- the turns of items, one after another, with the places where memory was refused for a command
 abbrev pub Turns : {P : Type 0} → (P → (call : Call) → Reply call → P → Type 0) → ℕ → Dialog → List Bool → List Incoming → P → P → List ℕ → Dialog → Type 0
 Turns {P} step moment d [] [] p q text after = (q ≡ p) × (text ≡ []) × (after ≡ d)
 Turns {P} step moment d (forgot ∷ more) (item ∷ items) p q text after =
@@ -56,7 +69,7 @@ Turns {P} step moment d (forgot ∷ more) (item ∷ items) p q text after =
     × Plays step (turn forgot moment d item) p port first mid × Turns step moment mid more items port q others after × (text ≡ first ++ others)
 Turns {P} step moment d _ _ p q text after = ⊥
 
--- the turns of items, one after another; memory may be refused while a command is read
+-- the turns of items, one after another; memory may be refused for a command
 abbrev pub TakesTurns : {P : Type 0} → (P → (call : Call) → Reply call → P → Type 0) → ℕ → Dialog → List Incoming → P → P → List ℕ → Dialog → Type 0
 TakesTurns {P} step moment d items p q text after = (forgotten : List Bool) × Turns step moment d forgotten items p q text after
 

@@ -23,7 +23,7 @@ use Rattle.can_proto.specs.declared.answer.Cause.TheVariants as cause
 use Rattle.can_proto.specs.Words.{words_of}
 use Rattle.can_proto.specs.Commands.{reading, takes_memory}
 use Rattle.can_proto.specs.Causes.{cause_of_fault}
-use Rattle.can_proto.specs.Spelling.{reply_text, item_text, item_text_from}
+use Rattle.can_proto.specs.Spelling.{reply_text, interfaces_text, item_text, item_text_from}
 use Rattle.can_dialog.specs.declared.port.PortRefusal.{PortRefusal}
 use Rattle.can_dialog.specs.declared.port.PortRefusal.TheVariants as port
 use Rattle.can_dialog.specs.declared.stage.Stage.{Stage}
@@ -31,7 +31,7 @@ use Rattle.can_dialog.specs.declared.stage.Stage.TheVariants.{NoBus, Opened, Raw
 use Rattle.can_dialog.specs.declared.stage.RawSocket.{RawSocket}
 use Rattle.can_dialog.specs.declared.stage.Dialog.{Dialog}
 use Rattle.can_dialog.specs.Calls.{cause_of_port}
-use Rattle.can_dialog.specs.Calls.Call.{Attach, Open, Close, SetFilters, SetOption, Send, Receive, Restart, CountsOfSocket, CountsOfIface, CountersOfIface, Inject, CountsRules, EndsRules}
+use Rattle.can_dialog.specs.Calls.Call.{Names, Attach, Open, Close, SetFilters, SetOption, Send, Receive, Restart, CountsOfSocket, CountsOfIface, CountersOfIface, Inject, CountsRules, EndsRules}
 use Rattle.can_dialog.specs.Plans.{Plan}
 use Rattle.can_dialog.specs.Plans.Plan.{Tell, Ask}
 
@@ -142,6 +142,10 @@ counting_rules d = Ask CountsRules (told_rules d)
 abbrev pub ending_rules : Dialog → Plan Dialog
 ending_rules d = Ask EndsRules (λ _. tells answer.Done d)
 
+-- the names of all interfaces are asked for
+abbrev pub naming : Dialog → Plan Dialog
+naming d = Ask Names (λ names. Tell (interfaces_text names) d)
+
 -- a command before an interface is opened
 abbrev pub doing_unopened : Dialog → Command → Plan Dialog
 doing_unopened d command.Echo = tells answer.Echo d
@@ -161,6 +165,7 @@ doing_opened d iface _ = misplaced d
 abbrev pub doing_raw : ℕ → Dialog → RawSocket → Command → Plan Dialog
 doing_raw moment d raw command.Echo = tells answer.Echo d
 doing_raw moment d raw (command.Open name) = misplaced d
+doing_raw moment d raw command.Interfaces = misplaced d
 doing_raw moment d raw command.Rawmode = tells answer.Done d
 doing_raw moment d raw (command.Send frame) = sending d raw frame
 doing_raw moment d raw (command.SetFilters filters) = Ask (SetFilters raw.socket filters) (done d)
@@ -183,18 +188,25 @@ doing moment d (Opened iface) c = doing_opened d iface c
 doing moment d (Raw raw) c = doing_raw moment d raw c
 doing moment d Ended c = silent d
 
--- what was read, where memory was refused for it: only a command that is kept on the heap is lost by that
+-- memory may be refused for the command, which is kept on the heap, or for its reply
+abbrev pub may_lack_memory : Command → Bool
+may_lack_memory command.Interfaces = true
+may_lack_memory c = takes_memory c
+
+-- what was read, where memory was refused for it: only such a command is lost by that
 abbrev pub without_memory : Result Command ProtoFault → Result Command ProtoFault
-without_memory (Ok c) = if takes_memory c then Err fault.NoMemory else Ok c
+without_memory (Ok c) = if may_lack_memory c then Err fault.NoMemory else Ok c
 without_memory (Err e) = Err e
 
--- what a message is read as; `forgot`: memory was refused while it was read
+-- what a message is read as; `forgot`: memory was refused for it
 abbrev pub read_as : Bool → Result Command ProtoFault → Result Command ProtoFault
 read_as false read = read
 read_as true read = without_memory read
 
--- a fault of a message is reported, and nothing is done
+-- what was read is done: names are asked for at each stage, all else is by the stage. A fault of a message is reported, and
+-- nothing is done
 abbrev pub answering : ℕ → Dialog → Result Command ProtoFault → Plan Dialog
+answering moment d (Ok command.Interfaces) = naming d
 answering moment d (Ok c) = doing moment d d.stage c
 answering moment d (Err e) = tells (answer.Refused (cause_of_fault e)) d
 

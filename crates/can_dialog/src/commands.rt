@@ -131,7 +131,7 @@ fn do_raw<P: Port>(
 {
     match command {
         Command::Echo => Some(Answer::Echo),
-        Command::Open(_) => Some(Answer::Refused(Cause::WrongState)),
+        Command::Open(_) | Command::Interfaces => Some(Answer::Refused(Cause::WrongState)),
         Command::Rawmode => Some(Answer::Done),
         Command::Send(frame) => send(*dialog, raw, frame, port),
         Command::SetFilters(filters) => told(port.set_filters(raw.socket, filters)),
@@ -158,7 +158,7 @@ fn do_raw<P: Port>(
     }
 }
 
-/// Carries out a command, and returns the text for the client, if any.
+/// Carries out a command other than `interfaces`, and returns the reply to the client, if any.
 pub fn carry_out<P: Port>(
     dialog: &mut Dialog,
     command: Command,

@@ -11,12 +11,14 @@ mod commands;
 pub mod delivery;
 mod dialog;
 pub mod laws;
+pub mod names;
 mod output;
 pub mod port;
 pub mod session;
 pub mod stage;
 
 pub use delivery::Delivery;
+pub use names::put_names;
 pub use port::{Port, PortRefusal, rule_reply};
 pub use session::{Session, SessionFault};
 pub use stage::{Dialog, RawSocket, Stage};

@@ -1,13 +1,15 @@
-ghost use Rattle.std.specs.Prelude.{◌≡◌, ◌≢◌, ◌+◌, ◌*◌, ◌≤◌, ◌++◌, [], length, vec_capacity, IsTrue, false, OnOk};
-ghost use Rattle.can_proto.specs.Spelling.{reply_text};
-ghost use Rattle.can_dialog.specs.Sessions.{begun, Wrote};
+ghost use Rattle.std.specs.Prelude.{◌≡◌, ◌≢◌, ◌+◌, ◌*◌, ◌≤◌, ◌++◌, [], List, ℕ, length, vec_capacity, IsTrue, false, OnOk, OnErr, IfOk};
+ghost use Rattle.can_proto.specs.Spelling.{reply_text, interfaces_text};
+ghost use Rattle.can_dialog.specs.Calls.Call.{Names};
+ghost use Rattle.can_dialog.specs.Sessions.{begun, TellsNames, Wrote};
 
+use crate::port::Port;
 use can_frame::count_of;
-use can_proto::{Answer, reply_text};
-use std::alloc::AllocError;
+use can_proto::{Answer, Cause, reply_text};
+use std::alloc::{AllocError, Global};
 use std::io::Write;
 
-/// The most bytes that a reply takes.
+/// The most bytes that a reply takes, but that with the names of interfaces.
 const LONGEST: usize = 256;
 
 /// Empties the text, and makes room for the replies to all messages that a piece can end: those that it
@@ -35,6 +37,49 @@ pub fn say(said: &mut Vec<u8>, answer: Answer)
         Ok(()) => {}
         Err(_) => unreachable!(),
     }
+}
+
+/// Adds the names of a port's interfaces, and leaves room for this many replies after them. Where memory is refused for that,
+/// this is said.
+pub fn say_names<P: Port>(said: &mut Vec<u8>, alloc: Global, port: &P, left: usize)
+    requires { length said.old.items + (left + 1) * 256 ≤ vec_capacity said.old }
+    ensures names { (text : List ℕ) × TellsNames P.step port.now text
+        × (said.new.items ≡ said.old.items ++ text) }
+    ensures room { length said.new.items + left * 256 ≤ vec_capacity said.new }
+{
+    if add_names(said, alloc, port, left).is_err() {
+        say(said, Answer::Refused(Cause::NoMemory));
+    }
+}
+
+/// Adds the names of a port's interfaces, and makes room for this many replies after them.
+fn add_names<P: Port>(
+    said: &mut Vec<u8>,
+    alloc: Global,
+    port: &P,
+    left: usize,
+) -> Result<(), AllocError>
+    ensures names { OnOk result ((names : List (List ℕ)) × P.step port.now Names names port.now
+        × (said.new.items ≡ said.old.items ++ interfaces_text names)) }
+    ensures room { OnOk result (length said.new.items + left * 256 ≤ vec_capacity said.new) }
+    ensures same { OnErr result (said.new.items ≡ said.old.items) }
+    ensures capacity { vec_capacity said.old ≤ vec_capacity said.new }
+{
+    let text = names_text(alloc, port)?;
+    said.reserve(left.saturating_mul(LONGEST).saturating_add(text.len()))?;
+    said.extend_from_slice(&text)
+}
+
+/// The reply with the names of a port's interfaces.
+fn names_text<P: Port>(alloc: Global, port: &P) -> Result<Vec<u8>, AllocError>
+    ensures { IfOk result (λ text. (names : List (List ℕ)) × P.step port.now Names names port.now
+        × (text.items ≡ interfaces_text names)) }
+{
+    let mut text = Vec::new(alloc);
+    text.extend_from_slice(b"< interfaces")?;
+    port.put_names(&mut text)?;
+    text.extend_from_slice(b" >")?;
+    Ok(text)
 }
 
 /// Writes a text in one call, an empty one in none. Returns whether the writer took it.

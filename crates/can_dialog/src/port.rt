@@ -7,6 +7,7 @@ use can_filter::FilterSet;
 use can_frame::{Frame, Iface, Moment};
 use can_proto::Cause;
 use can_rules::RuleRefusal;
+use std::alloc::AllocError;
 use thiserror::Error;
 
 /// Why a port refuses a call.
@@ -73,12 +74,15 @@ pub fn rule_reply(outcome: Result<(), RuleRefusal>) -> Result<(), PortRefusal>
 /// What a session calls: a bus, or a way to one.
 ///
 /// A port states by `step` how its state before a call, the call, its reply and the state after it belong
-/// together; each call is one such step. A port may take memory. An implementation writes `call`, `attach`, the two
-/// counts, the status and the three calls of the rules of faults; the calls that are named for an event make it by `call`.
+/// together; each call is one such step. A port may take memory. An implementation writes `call`, `put_names`, `attach`,
+/// the two counts, the status and the three calls of the rules of faults; the calls that are named for an event make it by
+/// `call`.
 pub trait Port {
     ghost use Rattle.can_event.specs.Replies.{received_into};
     ghost use Rattle.can_dialog.specs.Calls.{Call, Reply, Steps};
-    ghost use Rattle.can_dialog.specs.Calls.Call.{Attach, Open, Close, SetFilters, SetOption, Send, Receive, Restart, CountsOfSocket, CountsOfIface, CountersOfIface, Inject, CountsRules, EndsRules};
+    ghost use Rattle.std.specs.Prelude.{◌≡◌, ◌++◌, ℕ, List, OnOk};
+    ghost use Rattle.can_proto.specs.Spelling.{spaced};
+    ghost use Rattle.can_dialog.specs.Calls.Call.{Names, Attach, Open, Close, SetFilters, SetOption, Send, Receive, Restart, CountsOfSocket, CountsOfIface, CountersOfIface, Inject, CountsRules, EndsRules};
 
     /// The state before, a call, its reply and the state after.
     ghost step: { Self → (call : Call) → Reply call → Self → Type 0 };
@@ -87,6 +91,12 @@ pub trait Port {
     /// not come to the bus.
     fn call(&mut self, event: Event) -> Result<Reply, PortRefusal>
         ensures { Steps step self.old event result self.new };
+
+    /// Adds a space and the name of each interface that may be attached, in order. `AllocError` where memory is refused;
+    /// then some of them may have been added.
+    fn put_names(&self, text: &mut Vec<u8>) -> Result<(), AllocError>
+        ensures { OnOk result ((names : List (List ℕ)) × step self.now Names names self.now
+            × (text.new.items ≡ text.old.items ++ spaced names)) };
 
     /// The interface with this name.
     fn attach(&mut self, name: &[u8]) -> Result<Iface, PortRefusal>

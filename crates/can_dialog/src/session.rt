@@ -7,7 +7,7 @@ ghost use Rattle.can_dialog.specs.Deliveries.{Receives};
 use crate::commands::send;
 use crate::delivery::{Delivery, take_delivery};
 use crate::dialog::{finish, take_turn};
-use crate::output::{make_room, put, say};
+use crate::output::{make_room, put};
 use crate::port::Port;
 use crate::stage::{Dialog, RawSocket, Stage};
 use can_event::Received;
@@ -68,10 +68,10 @@ fn take_turns<P: Port>(
     requires room { length items.now * 256 ≤ vec_capacity said.old }
     ensures { TakesTurns P.step moment dialog.old items.now port.old port.new said.new.items dialog.new }
 {
+    let mut left = items.len();
     for item in items {
-        if let Some(answer) = take_turn(dialog, alloc, item, moment, port) {
-            say(said, answer);
-        }
+        left -= 1;
+        take_turn(dialog, alloc, item, moment, port, said, left);
     }
 }
 
@@ -131,8 +131,8 @@ impl Session {
     /// the messages of the piece were carried out. Where memory is refused while a command is read or by the
     /// port, this is reported to the client and the piece goes on.
     ///
-    /// The time grows with the piece. It takes 256 bytes for each `<` of the piece and 256 more, and keeps
-    /// this room for the next call.
+    /// The time grows with the piece. It takes 256 bytes for each `<` of the piece and 256 more, what the names take that
+    /// `interfaces` asks for, and keeps this room for the next call.
     pub fn feed<P: Port, W: Write>(
         &mut self,
         alloc: Global,

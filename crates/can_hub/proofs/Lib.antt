@@ -3,3 +3,4 @@ pub mod Places
 pub mod Making
 pub mod Ending
 pub mod Naming
+pub mod AllNames

@@ -1,4 +1,4 @@
-use Rattle.std.specs.Prelude.{◌≡◌, ◌<◌, ℕ, suc, List, [], ◌∷◌, length, map, Contains, slice_index_or, Option, Some, None, option_map}
+use Rattle.std.specs.Prelude.{◌≡◌, ◌<◌, ℕ, suc, List, [], ◌∷◌, length, map, Contains, slice_index_or, flat_map, Option, Some, None, option_map}
 use Rattle.can_frame.specs.Names.{place_of}
 
 -- The buses of a hub, and their names.
@@ -42,6 +42,10 @@ AllApart (names ∷ more) = ApartFrom names more × AllApart more
 -- the names of each bus
 abbrev pub names_of : List BusSeen → List (List (List ℕ))
 names_of buses = map (λ b. b.names) buses
+
+-- the names of all interfaces, in order
+abbrev pub all_names : List BusSeen → List (List ℕ)
+all_names buses = flat_map (λ b. b.names) buses
 
 -- none of the buses before the n-th has an interface of this name
 abbrev pub NoneNamed : ℕ → List BusSeen → List ℕ → Type 0

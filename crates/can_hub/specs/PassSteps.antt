@@ -16,13 +16,13 @@ use Rattle.can_dialog.specs.declared.port.PortRefusal.{PortRefusal}
 use Rattle.can_dialog.specs.declared.port.PortRefusal.TheVariants as port
 use Rattle.can_dialog.specs.Calls.{Call, reply_to_rule}
 use Rattle.can_dialog.specs.Calls.{Reply as CallReply}
-use Rattle.can_dialog.specs.Calls.Call.{Attach, Open, Close, SetFilters, SetOption, Send, Receive, Restart, Attempt, CountsOfSocket, CountsOfIface, CountersOfIface, Inject, CountsRules, EndsRules}
+use Rattle.can_dialog.specs.Calls.Call.{Names, Attach, Open, Close, SetFilters, SetOption, Send, Receive, Restart, Attempt, CountsOfSocket, CountsOfIface, CountersOfIface, Inject, CountsRules, EndsRules}
 use Rattle.can_rules.specs.declared.rules.RuleRefusal.{RuleRefusal}
 use Rattle.can_station.specs.Held.{StationSeen}
 use Rattle.can_station.specs.Passes.{PassSeen, Called, HadNoPassLeft, InSome, InjectsIn, IsNewLightPass}
 use Rattle.can_station.specs.declared.refusals.StationRefusal.{StationRefusal}
 use Rattle.can_station.specs.declared.refusals.StationRefusal.TheVariants as station
-use Rattle.can_hub.specs.Buses.{BusSeen, IsFirstNamed, items_on, names_on}
+use Rattle.can_hub.specs.Buses.{BusSeen, IsFirstNamed, items_on, names_on, all_names}
 
 -- A pass as a port: each call but the look-ups and those of rules is an event of the station.
 
@@ -140,6 +140,7 @@ RulesLeft F (Some e) answer = InSome F e.station (λ held. answer ≡ length hel
 
 -- a call on a port over a pass of a station whose verdicts come from an F
 abbrev pub PassStep : Type 0 → PortSeen → (call : Call) → CallReply call → PortSeen → Type 0
+PassStep F old Names answer new = (answer ≡ all_names old.buses) × (new ≡ old)
 PassStep F old (Attach name) answer new = Attaches F old name answer new
 PassStep F old (Open iface asked) answer new = OnPort reply.Opened old (event.Open iface (room_in old.buses old.entered)) answer new
 PassStep F old (Close socket) answer new = OnPort reply.Closed old (event.Close socket) answer new

@@ -11,6 +11,7 @@ use can_frame::Iface;
 use can_meter::MeterName;
 use can_roll::RollName;
 use can_station::{Gate, Hold, Station};
+use std::alloc::AllocError;
 use std::marker::Model;
 use std::sync::Wait;
 
@@ -110,6 +111,11 @@ impl<'p, 'a, N: RollName + MeterName, F: FaultSource + Drop, G: Gate + Drop, R: 
         };
         let hold = hold_of(port.rt, entered.station, &mut self.hold);
         pass_on(hold.receive_into(port.alloc, &mut entered.pass, socket, room))
+    }
+
+    // No lock is needed for it.
+    fn put_names(&self, text: &mut Vec<u8>) -> Result<(), AllocError> {
+        self.port.put_names(text)
     }
 
     fn attach(&mut self, name: &[u8]) -> Result<Iface, PortRefusal> {

@@ -1,11 +1,13 @@
-ghost use Rattle.std.specs.Prelude.{◌≡◌, ◌<◌, ◌≤◌, length, IfOk, IfErr, MatchResult, All, ◌↔◌, option_map, slice_index_or, slice_get};
+ghost use Rattle.std.specs.Prelude.{◌≡◌, ◌<◌, ◌≤◌, ◌++◌, length, OnOk, IfOk, IfErr, MatchResult, All, ◌↔◌, option_map, slice_index_or, slice_get};
 ghost use Rattle.can_frame.specs.Names.{place_of};
-ghost use Rattle.can_hub.specs.Buses.{BusSeen, IsFirstNamed, items_on, names_on};
+ghost use Rattle.can_proto.specs.Spelling.{spaced};
+ghost use Rattle.can_hub.specs.Buses.{BusSeen, IsFirstNamed, items_on, names_on, all_names};
 ghost use Rattle.can_hub.specs.Benches.{IsProper, MakeHub, NamedFrom, bus_of, buses_from};
 ghost use Rattle.can_hub.specs.Settling.{AllOwn, AllSettle, FirstForeign};
 
 use crate::bench::{Bench, make_hub};
 use can_bus::BusFault;
+use can_dialog::put_names;
 use can_fault::FaultSource;
 use can_frame::{Iface, Names};
 use can_meter::{Gauge, MeterName};
@@ -192,6 +194,16 @@ impl<N: RollName + MeterName, F: FaultSource + Drop, G: Gate + Drop> Hub<N, F, G
         } else {
             None
         }
+    }
+
+    /// Adds a space and a name for each interface of each bus, in order. `AllocError` where memory is refused.
+    pub fn put_names(&self, text: &mut Vec<u8>) -> Result<(), AllocError>
+        ensures { OnOk result (text.new.items ≡ text.old.items ++ spaced (all_names self.now)) }
+    {
+        for wire in &self.wires {
+            put_names(text, &wire.names)?;
+        }
+        Ok(())
     }
 
     /// Stops the stations of all buses.

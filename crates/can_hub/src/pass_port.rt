@@ -12,7 +12,7 @@ use can_frame::Iface;
 use can_meter::{Gauge, MeterName};
 use can_roll::RollName;
 use can_station::{Gate, Pass, Station, StationRefusal};
-use std::alloc::Global;
+use std::alloc::{AllocError, Global};
 use std::marker::Model;
 use std::sync::Wait;
 
@@ -166,6 +166,10 @@ impl<'a, N: RollName + MeterName, F: FaultSource + Drop, G: Gate + Drop, R: Wait
             .call(self.rt, self.alloc, &mut entered.pass, sized(event, room));
         self.tally.add(counted, &outcome);
         pass_on(outcome)
+    }
+
+    fn put_names(&self, text: &mut Vec<u8>) -> Result<(), AllocError> {
+        self.hub.put_names(text)
     }
 
     fn attach(&mut self, name: &[u8]) -> Result<Iface, PortRefusal> {

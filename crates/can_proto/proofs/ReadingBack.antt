@@ -12,7 +12,7 @@ use Rattle.can_event.specs.declared.opt.Opt.{Opt}
 use Rattle.can_event.specs.declared.opt.Opt.TheVariants as opt
 use Rattle.can_proto.specs.declared.command.Mode.{Mode}
 use Rattle.can_proto.specs.declared.command.Command.{Command}
-use Rattle.can_proto.specs.declared.command.Command.TheVariants.{Echo, Open, Rawmode, Send, SetFilters, SetOption, ErrData, Ack, Origin, Stats, Status, Restart, Fault, Faults, NoFaults, Close}
+use Rattle.can_proto.specs.declared.command.Command.TheVariants.{Echo, Interfaces, Open, Rawmode, Send, SetFilters, SetOption, ErrData, Ack, Origin, Stats, Status, Restart, Fault, Faults, NoFaults, Close}
 use Rattle.can_proto.specs.declared.fault.ProtoFault.{ProtoFault}
 use Rattle.can_proto.specs.declared.fault.ProtoFault.TheVariants.{BadByte}
 use Rattle.can_proto.specs.declared.verb.Verb.{Verb}
@@ -50,11 +50,11 @@ last-word : (w : List ℕ) → clear is_blank w ≡ true → 0 < length w → wo
 last-word [] h some = absurd (omega arith)
 last-word (b ∷ bs) h some = let parts = clear_parts (is_blank b) (clear is_blank bs) h in rw (parts.0, front-whole bs parts.1, after-whole bs parts.1) refl
 
-next-word : (w rest : List ℕ) → clear is_blank w ≡ true → 0 < length w → words_of (w ++ 32 ∷ rest) ≡ w ∷ words_of rest
+pub next-word : (w rest : List ℕ) → clear is_blank w ≡ true → 0 < length w → words_of (w ++ 32 ∷ rest) ≡ w ∷ words_of rest
 next-word [] rest h some = absurd (omega arith)
 next-word (b ∷ bs) rest h some = let parts = clear_parts (is_blank b) (clear is_blank bs) h in rw (parts.0, front-cut bs rest parts.1, after-cut bs rest parts.1) refl
 
-abbrev AreWords : List (List ℕ) → Type 0
+abbrev pub AreWords : List (List ℕ) → Type 0
 AreWords [] = Unit {0}
 AreWords (w ∷ ws) = (clear is_blank w ≡ true) × (0 < length w) × AreWords ws
 
@@ -80,7 +80,7 @@ front-parts : (x : Bool) (b : ℕ) (xs bs : List ℕ) → (if x then [] else b �
 front-parts true b xs bs e = absurd cc
 front-parts false b xs bs e = (refl, cc)
 
-clear-front : (w : List ℕ) → front w ≡ w → clear is_blank w ≡ true
+pub clear-front : (w : List ℕ) → front w ≡ w → clear is_blank w ≡ true
 clear-front [] h = refl
 clear-front (b ∷ bs) h = let parts = front-parts (is_blank b) b (front bs) bs h in rw (parts.0, clear-front bs parts.1) refl
 
@@ -143,6 +143,7 @@ words-option (opt.ErrMask mask) = (refl, omega arith, (clear-digits is_blank no-
 
 words-command : (c : Command) → IsCommand c → AreWords (command_words c)
 words-command Echo h = (refl, omega arith, tt)
+words-command Interfaces h = (refl, omega arith, tt)
 words-command (Open name) h = (refl, omega arith, (clear-front name h.1, h.0, tt))
 words-command Rawmode h = (refl, omega arith, tt)
 words-command (Send frame) h = words-frame frame.id frame.payload h.1
@@ -321,6 +322,7 @@ option-again mode (opt.ErrMask mask) h may = said mode verb.ErrMask _ _ may (mas
 command-again : (mode : Mode) (c : Command) → IsCommand c → IsTrue (mode_has mode (command_words c)) → reading mode (command_words c) ≡ Ok c
 unfolding arguments_of open_of
 command-again mode Echo h may = said mode verb.Echo [] Echo may refl
+command-again mode Interfaces h may = said mode verb.Interfaces [] Interfaces may refl
 command-again mode (Open name) h may = said mode verb.Open (name ∷ []) (Open name) may refl
 command-again mode Rawmode h may = said mode verb.Rawmode [] Rawmode may refl
 command-again mode (Send frame) h may = frame-again mode frame.id frame.payload h.0 h.1 may

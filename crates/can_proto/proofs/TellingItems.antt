@@ -113,7 +113,7 @@ same-identifier a b ha hb e =
     ap (λ (x : Bool). record { extended = x; number = a.number }) h.0 ∙ ap (λ (k : ℕ). record { extended = b.extended; number = k }) h.1
 
 -- the third byte says what kind of text it is
-third : List ℕ → ℕ
+unfoldable pub third : List ℕ → ℕ
 third text = get_or text 2 0
 
 -- and the fourth, where the third is that of a data frame

@@ -8,7 +8,7 @@ use Rattle.can_filter.specs.Filters.{CanFilter}
 use Rattle.can_event.specs.declared.opt.Opt.{Opt}
 use Rattle.can_event.specs.declared.opt.Opt.TheVariants as opt
 use Rattle.can_proto.specs.declared.command.Command.{Command}
-use Rattle.can_proto.specs.declared.command.Command.TheVariants.{Echo, Open, Rawmode, Send, SetFilters, SetOption, ErrData, Ack, Origin, Stats, Status, Restart, Fault, Faults, NoFaults, Close}
+use Rattle.can_proto.specs.declared.command.Command.TheVariants.{Echo, Interfaces, Open, Rawmode, Send, SetFilters, SetOption, ErrData, Ack, Origin, Stats, Status, Restart, Fault, Faults, NoFaults, Close}
 use Rattle.can_proto.specs.Words.{front, words_of}
 
 -- How a client may write a command (socketcand's raw mode; filter and the options are own choice). Other spellings of it
@@ -40,6 +40,7 @@ option_words (opt.FdFrames on) = codes "fdframes" ∷ flag_text on ∷ []
 -- the words of a command
 abbrev pub command_words : Command → List (List ℕ)
 command_words Echo = codes "echo" ∷ []
+command_words Interfaces = codes "interfaces" ∷ []
 command_words (Open name) = codes "open" ∷ name ∷ []
 command_words Rawmode = codes "rawmode" ∷ []
 command_words (Send frame) = frame_words frame.id frame.payload

@@ -8,7 +8,7 @@ use Rattle.can_proto.specs.declared.message.Incoming.TheVariants.{Message}
 use Rattle.can_proto.specs.declared.command.Mode.{Mode}
 use Rattle.can_proto.specs.declared.command.Mode.TheVariants.{Raw}
 use Rattle.can_proto.specs.declared.command.Command.{Command}
-use Rattle.can_proto.specs.declared.command.Command.TheVariants.{Echo, Open, Rawmode, Send, SetFilters, SetOption, ErrData, Ack, Origin, Stats, Status, Restart, Fault, Faults, NoFaults, Close}
+use Rattle.can_proto.specs.declared.command.Command.TheVariants.{Echo, Interfaces, Open, Rawmode, Send, SetFilters, SetOption, ErrData, Ack, Origin, Stats, Status, Restart, Fault, Faults, NoFaults, Close}
 use Rattle.can_proto.specs.declared.fault.ProtoFault.{ProtoFault}
 use Rattle.can_proto.specs.declared.fault.ProtoFault.TheVariants.{NoMemory, InvalidFilter, TooManyFilters, EmptyMessage, UnknownCommand, WrongState, ModeNotSupported, BadCount, BadId, BadLength, BadByte, BadNumber}
 use Rattle.can_proto.specs.declared.verb.Verb.{Verb}
@@ -185,6 +185,7 @@ alone command _ = Err BadCount
 -- what the words after the first one say
 unfoldable pub arguments_of : Verb → List (List ℕ) → Result Command ProtoFault
 arguments_of verb.Echo words = alone Echo words
+arguments_of verb.Interfaces words = alone Interfaces words
 arguments_of verb.Open words = open_of words
 arguments_of verb.Rawmode words = alone Rawmode words
 arguments_of verb.OtherMode words = Err ModeNotSupported

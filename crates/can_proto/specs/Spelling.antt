@@ -1,6 +1,6 @@
 use Rattle.std.specs.Prelude.{◌≡◌, ◌<◌, ℕ, ◌^◌, nat_lt, Bool, true, false, if◌then◌else◌, List, [], ◌∷◌, ◌++◌, Option, Some, None, codes}
 use Rattle.std.specs.Fmt.{decimal}
-use Rattle.std.specs.List.{All}
+use Rattle.std.specs.List.{All, flat_map}
 use Rattle.can_frame.specs.Frames.{CanFrame, ErrorMessage, is_remote, is_fd, payload_len, payload_bytes}
 use Rattle.can_frame.specs.FrameText.{digits, pairs, id_text}
 use Rattle.can_frame.specs.Moments.{moment_text}
@@ -113,6 +113,14 @@ reply_text (Status c) = status_text c
 reply_text (Faults left) = codes "< faults " ++ decimal left ++ codes " >"
 reply_text (Closing c) = codes "< closed " ++ decimal c.unread ++ codes " " ++ decimal c.dropped ++ codes " >"
 reply_text (Refused why) = codes "< error " ++ cause_text why ++ codes " >"
+
+-- names with a space (32) before each
+abbrev pub spaced : List (List ℕ) → List ℕ
+spaced names = flat_map (λ name. 32 ∷ name) names
+
+-- the reply to `interfaces`: all their names
+abbrev pub interfaces_text : List (List ℕ) → List ℕ
+interfaces_text names = codes "< interfaces" ++ spaced names ++ codes " >"
 
 -- the eight counts of `stats` that are shown; an interface's error counters are not
 abbrev pub told_counts : SocketStats → IfaceStats → List ℕ

@@ -2,7 +2,7 @@ use Rattle.std.specs.Prelude.{ℕ, Bool, true, false, ◌&&◌, ◌||◌, ◌==�
 use Rattle.can_proto.specs.declared.command.Mode.{Mode}
 use Rattle.can_proto.specs.declared.command.Mode.TheVariants.{NoBus, Opened, Raw}
 use Rattle.can_proto.specs.declared.verb.Verb.{Verb}
-use Rattle.can_proto.specs.declared.verb.Verb.TheVariants.{Echo, Open, Rawmode, OtherMode, Send, SendRtr, SendFd, Filter, Join, Loopback, RecvOwn, FdFrames, ErrMask, ErrData, Ack, Origin, Stats, Status, Restart, Fault, Faults, NoFaults, Close}
+use Rattle.can_proto.specs.declared.verb.Verb.TheVariants.{Echo, Interfaces, Open, Rawmode, OtherMode, Send, SendRtr, SendFd, Filter, Join, Loopback, RecvOwn, FdFrames, ErrMask, ErrData, Ack, Origin, Stats, Status, Restart, Fault, Faults, NoFaults, Close}
 
 -- The commands' first words and the modes that have them (socketcand's raw mode; sendfd, and filter and what follows it, is own choice).
 
@@ -23,6 +23,7 @@ named word =
     if is_word word (codes "sendrtr") then Some SendRtr else
     if is_word word (codes "sendfd") then Some SendFd else
     if is_word word (codes "echo") then Some Echo else
+    if is_word word (codes "interfaces") then Some Interfaces else
     if is_word word (codes "open") then Some Open else
     if is_word word (codes "rawmode") then Some Rawmode else
     if is_word word (codes "filter") then Some Filter else
@@ -43,13 +44,15 @@ named word =
     if is_word word (codes "close") then Some Close else
     if is_other_mode word then Some OtherMode else None
 
--- the mode has the command: `open` before an interface is opened, `echo` always, the modes once it is opened, those of
--- faults then and in raw mode, all others in raw mode; a session that has ended has none
+-- the mode has the command: `open` before an interface is opened, `echo` and `interfaces` always, the modes once it is
+-- opened, those of faults then and in raw mode, all others in raw mode; a session that has ended has none
 abbrev pub stands_in : Verb → Mode → Bool
 stands_in Open NoBus = true
 stands_in Open _ = false
 stands_in Echo NoBus = true
 stands_in Echo Opened = true
+stands_in Interfaces NoBus = true
+stands_in Interfaces Opened = true
 stands_in Rawmode Opened = true
 stands_in OtherMode Opened = true
 stands_in Fault Opened = true

@@ -105,6 +105,7 @@ pub fn read_arguments(alloc: Global, verb: Verb, rest: &[u8]) -> Result<Command,
 {
     match verb {
         Verb::Echo => read_alone(Command::Echo, rest),
+        Verb::Interfaces => read_alone(Command::Interfaces, rest),
         Verb::Open => read_open(alloc, rest),
         Verb::Rawmode => read_alone(Command::Rawmode, rest),
         Verb::OtherMode => Err(ProtoFault::ModeNotSupported),

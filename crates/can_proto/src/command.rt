@@ -84,6 +84,8 @@ pub type WantedRule = ClientWords;
 pub enum Command {
     /// To get a reply.
     Echo,
+    /// To get the names of all interfaces that may be opened.
+    Interfaces,
     /// To open the interface of this name.
     Open(WantedName),
     /// To enter raw mode.

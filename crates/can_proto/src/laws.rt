@@ -1,4 +1,4 @@
-ghost use Rattle.std.specs.Prelude.{◌≡◌, ◌≤◌, ◌<◌, ◌^◌, ◌++◌, ◌∷◌, [], List, ℕ, Bool, Ok, IsTrue, true, false, length, flat_map, codes};
+ghost use Rattle.std.specs.Prelude.{◌≡◌, ◌≤◌, ◌<◌, ◌^◌, ◌++◌, ◌∷◌, [], List, ℕ, Bool, Ok, All, IsTrue, true, false, length, flat_map, codes};
 ghost use Rattle.can_frame.specs.FrameText.{IsItem};
 ghost use Rattle.can_frame.specs.declared.item.Item.{Item as AnItem};
 ghost use Rattle.can_proto.specs.Messages.{messages_of, given_from, has_mark};
@@ -6,10 +6,10 @@ ghost use Rattle.can_proto.specs.Causes.{cause_text};
 ghost use Rattle.can_proto.specs.Words.{words_of};
 ghost use Rattle.can_proto.specs.Verbs.{mode_has};
 ghost use Rattle.can_proto.specs.Commands.{reading};
-ghost use Rattle.can_proto.specs.CommandSpelling.{command_spelling, command_words, IsCommand};
+ghost use Rattle.can_proto.specs.CommandSpelling.{command_spelling, command_words, IsCommand, IsWord};
 ghost use Rattle.can_proto.specs.declared.command.Mode.{Mode as AMode};
 ghost use Rattle.can_proto.specs.declared.command.Command.{Command as ACommand};
-ghost use Rattle.can_proto.specs.Spelling.{item_text, item_text_from, reply_text, without_data, shown_origin, IsOrigin, IsAnswer, AreAlike};
+ghost use Rattle.can_proto.specs.Spelling.{item_text, item_text_from, interfaces_text, reply_text, without_data, shown_origin, IsOrigin, IsAnswer, AreAlike};
 ghost use Rattle.can_proto.specs.declared.answer.Answer.{Answer as AnAnswer};
 ghost use Rattle.can_proto.specs.declared.answer.Origin.{Origin as AnOrigin};
 
@@ -49,6 +49,18 @@ pub fn texts_tell_items_apart()
         IsItem i → IsItem j → IsOrigin o → IsOrigin p → m < 10 ^ 16 → n < 10 ^ 16 →
         item_text_from true o i m ≡ item_text_from true p j n →
         (i ≡ j) × (m ≡ n) × (shown_origin i o ≡ shown_origin j p) }
+{}
+
+/// Different lists of names have different texts, and none of these is the text of another reply or of an item.
+pub fn names_tell_apart()
+    ensures one_list { (one other : List (List ℕ)) →
+        All IsWord one → All IsWord other → interfaces_text one ≡ interfaces_text other → one ≡ other }
+    ensures no_answer { (answer : AnAnswer) (names : List (List ℕ)) →
+        reply_text answer ≡ interfaces_text names → ⊥ }
+    ensures no_item { (errdata : Bool) (i : AnItem) (m : ℕ) (names : List (List ℕ)) →
+        item_text errdata i m ≡ interfaces_text names → ⊥ }
+    ensures no_item_from { (errdata : Bool) (o : AnOrigin) (i : AnItem) (m : ℕ) (names : List (List ℕ)) →
+        item_text_from errdata o i m ≡ interfaces_text names → ⊥ }
 {}
 
 /// What is written of a command is read back, in each mode that has the command, also with a space on

@@ -8,6 +8,7 @@ use crate::command::Mode;
 #[derive(Debug, Clone, Copy, PartialEq, Eq)]
 pub enum Verb {
     Echo,
+    Interfaces,
     Open,
     Rawmode,
     /// A mode of socketcand that is left out.
@@ -52,6 +53,8 @@ pub fn verb_of(word: &[u8]) -> Option<Verb>
         Some(Verb::SendFd)
     } else if matches(word, b"echo") {
         Some(Verb::Echo)
+    } else if matches(word, b"interfaces") {
+        Some(Verb::Interfaces)
     } else if matches(word, b"open") {
         Some(Verb::Open)
     } else if matches(word, b"rawmode") {
@@ -118,7 +121,7 @@ pub fn may_stand(verb: Verb, mode: Mode) -> bool
     ensures { result ≡ stands_in verb mode }
 {
     match (verb, mode) {
-        (Verb::Echo, Mode::NoBus | Mode::Opened) => true,
+        (Verb::Echo | Verb::Interfaces, Mode::NoBus | Mode::Opened) => true,
         (Verb::Open, mode) => matches!(mode, Mode::NoBus),
         (Verb::Rawmode | Verb::OtherMode, Mode::Opened) => true,
         (Verb::Fault | Verb::Faults | Verb::NoFaults, Mode::Opened) => true,

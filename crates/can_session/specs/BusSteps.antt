@@ -22,7 +22,7 @@ use Rattle.can_dialog.specs.declared.port.PortRefusal.{PortRefusal}
 use Rattle.can_dialog.specs.declared.port.PortRefusal.TheVariants as port
 use Rattle.can_dialog.specs.Calls.{Call, reply_to_rule}
 use Rattle.can_dialog.specs.Calls.{Reply as CallReply}
-use Rattle.can_dialog.specs.Calls.Call.{Attach, Open, Close, SetFilters, SetOption, Send, Receive, Restart, Attempt, CountsOfSocket, CountsOfIface, CountersOfIface, Inject, CountsRules, EndsRules}
+use Rattle.can_dialog.specs.Calls.Call.{Names, Attach, Open, Close, SetFilters, SetOption, Send, Receive, Restart, Attempt, CountsOfSocket, CountsOfIface, CountersOfIface, Inject, CountsRules, EndsRules}
 
 -- A bus as a port: each call but the look-ups and those of rules is one event of the bus.
 
@@ -73,6 +73,7 @@ IsInjected old rule answer new = (outcome : Result (Unit {0}) RuleRefusal) × (a
 
 -- a call on a bus with names
 abbrev pub BusStep : NamedBus → (call : Call) → CallReply call → NamedBus → Type 0
+BusStep old Names answer new = (answer ≡ old.names) × (new ≡ old)
 BusStep old (Attach name) answer new = (answer ≡ interface_at (place_of old.names name)) × (new ≡ old)
 BusStep old (Open iface capacity) answer new = IsEvent reply.Opened old (event.Open iface capacity) answer new
 BusStep old (Close socket) answer new = IsEvent reply.Closed old (event.Close socket) answer new

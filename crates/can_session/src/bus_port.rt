@@ -10,12 +10,12 @@ use can_bus::{
     Attempt, Bus, Event, IfaceStats, Pending, Received, Refusal, Reply, SocketId, SocketStats,
 };
 use can_confine::Counters;
-use can_dialog::{Port, PortRefusal, rule_reply};
+use can_dialog::{Port, PortRefusal, put_names, rule_reply};
 use can_fault::Verdict;
 use can_frame::{Frame, Iface, Moment, Names};
 use can_queue::BoundedQueue;
 use can_rules::{Plan, RuleRefusal};
-use std::alloc::Global;
+use std::alloc::{AllocError, Global};
 use std::marker::Model;
 
 /// A bus as a port: the bus with the names of its interfaces and the plan of its faults. Each call is one event of the bus,
@@ -134,6 +134,10 @@ impl<T: BoundedQueue<Pending>, R: BoundedQueue<Received>, A: Arbiter> Port for B
 
     fn call(&mut self, event: Event) -> Result<Reply, PortRefusal> {
         Ok(self.bus.answer(self.alloc, &event))
+    }
+
+    fn put_names(&self, text: &mut Vec<u8>) -> Result<(), AllocError> {
+        put_names(text, &self.names)
     }
 
     fn attach(&mut self, name: &[u8]) -> Result<Iface, PortRefusal> {

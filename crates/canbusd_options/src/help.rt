@@ -46,7 +46,7 @@ Once an interface is taken, with a socket or without:
   < faults >                 Write < faults LEFT >: how many rules are left
   < nofaults >               End all rules of its bus
 A command that was carried out gets < ok >, an accepted send nothing unless ack is on, a refusal < error TEXT >.
-< echo > always gets < echo >.
+< echo > always gets < echo >, and < interfaces > gets < interfaces NAME .. >, with the names of all buses.
 
 What is received: < frame ID MOMENT DATA >, < remote ID MOMENT LEN >, < fdframe ID MOMENT DATA >,
 < error CLASS MOMENT > or with DATA.

@@ -152,6 +152,15 @@ pub fn two_write_parts(
 }
 
 #[test]
+fn names_are_told_at_each_stage(rt: HostRuntime) -> Result<(), Fail> {
+    let rest =
+        "session 3\nfeed 3 < interfaces >< interfaces all >< open can1 >< interfaces >\nfeed 1 < interfaces >\nfeed 1 < close >< interfaces >\n";
+    let wanted =
+        "3 < hi >\n3 < interfaces can0 can1 >< error bad word count >< ok >< interfaces can0 can1 >\n1 < interfaces can0 can1 >\n1 < closed 0 0 >\n";
+    two_write(&rt, "", rest, wanted)
+}
+
+#[test]
 fn frames_go_from_one_session_to_another(rt: HostRuntime) -> Result<(), Fail> {
     // The script, what follows the two sessions, and what is written then.
     let table = [

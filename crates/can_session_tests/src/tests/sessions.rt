@@ -57,6 +57,11 @@ impl Port for Counting {
         }
     }
 
+    fn put_names(&self, text: &mut Vec<u8>) -> Result<(), AllocError> {
+        text.extend_from_slice(b" can0")?;
+        Err(AllocError)
+    }
+
     fn attach(&mut self, _name: &[u8]) -> Result<Iface, PortRefusal> {
         self.count(false);
         Iface::new(0).ok_or(PortRefusal::TooManyPasses)
@@ -316,6 +321,29 @@ fn rules_are_asked_of_the_port(rt: HostRuntime) {
         }
         same(&rt, port.calls, called.saturating_add(4));
     }
+}
+
+#[test]
+fn names_for_which_memory_is_refused_are_told_so(rt: HostRuntime) {
+    let mut port = Counting::new();
+    let mut session = Session::new(rt.alloc(), 256).expect(&rt, "memory");
+    let want = b"< echo >< error no memory >< error no memory >< echo >";
+    let piece = b"< echo >< interfaces >< interfaces >< echo >";
+    says(&rt, &mut session, piece, 0, &mut port, want);
+    same(&rt, port.calls, 0);
+}
+
+#[test]
+fn sixteen_long_names_are_told_among_other_replies(rt: HostRuntime) {
+    let names =
+        "name-of-can-000,name-of-can-001,name-of-can-002,name-of-can-003,name-of-can-004,name-of-can-005,name-of-can-006,name-of-can-007,name-of-can-008,name-of-can-009,name-of-can-010,name-of-can-011,name-of-can-012,name-of-can-013,name-of-can-014,name-of-can-015";
+    let want =
+        b"< echo >< interfaces name-of-can-000 name-of-can-001 name-of-can-002 name-of-can-003 name-of-can-004 name-of-can-005 name-of-can-006 name-of-can-007 name-of-can-008 name-of-can-009 name-of-can-010 name-of-can-011 name-of-can-012 name-of-can-013 name-of-can-014 name-of-can-015 >< error wrong state >< interfaces name-of-can-000 name-of-can-001 name-of-can-002 name-of-can-003 name-of-can-004 name-of-can-005 name-of-can-006 name-of-can-007 name-of-can-008 name-of-can-009 name-of-can-010 name-of-can-011 name-of-can-012 name-of-can-013 name-of-can-014 name-of-can-015 >< ok >< echo >";
+    let mut port = bus_of(rt.alloc(), names, AckMode::Always).expect(&rt, "a bus");
+    let mut session = Session::new(rt.alloc(), 256).expect(&rt, "memory");
+    let piece =
+        b"< echo >< interfaces >< rawmode >< interfaces >< open name-of-can-015 >< echo >";
+    says(&rt, &mut session, piece, 0, &mut port, want);
 }
 
 #[test]

@@ -92,7 +92,7 @@ fn has_words_of_its_cause(rt: &(impl Abort + AllocGlobal), fault: ProtoFault) ->
 #[test]
 fn faults_are_told_in_their_order(rt: HostRuntime) {
     let raw = Mode::Raw;
-    let cases: [(Mode, &[u8], ProtoFault); 44] = [
+    let cases: [(Mode, &[u8], ProtoFault); 46] = [
         (raw, b"< >", ProtoFault::EmptyMessage),
         (Mode::Ended, b"<>", ProtoFault::EmptyMessage),
         (raw, b"< statuses >", ProtoFault::UnknownCommand),
@@ -145,6 +145,8 @@ fn faults_are_told_in_their_order(rt: HostRuntime) {
         (raw, b"< origin on >", ProtoFault::BadNumber),
         (Mode::NoBus, b"< ack 1 >", ProtoFault::WrongState),
         (Mode::Opened, b"< origin 1 >", ProtoFault::WrongState),
+        (Mode::Ended, b"< interfaces >", ProtoFault::WrongState),
+        (Mode::NoBus, b"< interfaces can0 >", ProtoFault::BadCount),
     ];
     for (mode, text, fault) in cases {
         same_at(&rt, text, read(&rt, mode, text).err(), Some(fault));
@@ -216,7 +218,8 @@ fn is_command(place: usize, command: &Command) -> bool {
         | (11, Command::Rawmode)
         | (13, Command::Faults)
         | (14, Command::NoFaults)
-        | (17, Command::Close) => true,
+        | (17, Command::Interfaces)
+        | (18, Command::Close) => true,
         (15, Command::Ack(on)) => *on,
         (16, Command::Origin(on)) => !*on,
         (12, Command::SetOption(option)) => *option == Opt::FdFrames(true),
@@ -239,9 +242,9 @@ fn is_read(alloc: Global, place: usize, incoming: &Incoming) -> bool {
 #[test]
 fn commands_are_read(rt: HostRuntime) {
     let stream =
-        b"< open can0 >< filter 2 123 C00007FF 0 0 >< join 1 >< loopback 0 >< recvown 1 >< errmask 204 >< errdata 1 >< stats >< status >< restart >< echo >< rawmode >< fdframes 1 >< faults >< nofaults >< ack 1 >< origin 0 >< close >";
+        b"< open can0 >< filter 2 123 C00007FF 0 0 >< join 1 >< loopback 0 >< recvown 1 >< errmask 204 >< errdata 1 >< stats >< status >< restart >< echo >< rawmode >< fdframes 1 >< faults >< nofaults >< ack 1 >< origin 0 >< interfaces >< close >";
     let given = fed(rt.alloc(), stream, b"").expect(&rt, "memory");
-    same(&rt, given.len(), 18);
+    same(&rt, given.len(), 19);
     for (place, incoming) in given.iter().enumerate() {
         same_at(&rt, place, is_read(rt.alloc(), place, incoming), true);
     }

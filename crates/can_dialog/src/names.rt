@@ -1,0 +1,33 @@
+//! The names of interfaces in a reply.
+ghost use Rattle.std.specs.Prelude.{◌≡◌, ◌<◌, ◌++◌, ◌∷◌, [], length, slice_index_or, OnOk};
+ghost use Rattle.can_proto.specs.Spelling.{spaced};
+
+use can_frame::{Iface, Names};
+use std::alloc::AllocError;
+
+/// Adds a space and a name, for each of the names. `AllocError` where memory is refused.
+pub fn put_names(text: &mut Vec<u8>, names: &Names) -> Result<(), AllocError>
+    ensures { OnOk result (text.new.items ≡ text.old.items ++ spaced names.now) }
+{
+    for number in 0..names.count() {
+        put_name(text, names, number)?;
+    }
+    Ok(())
+}
+
+/// Adds a space and the name of an interface.
+fn put_name(text: &mut Vec<u8>, names: &Names, number: u8) -> Result<(), AllocError>
+    requires { number < length names.now }
+    ensures { OnOk result (text.new.items ≡ text.old.items ++ 32 ∷ slice_index_or names.now number []) }
+{
+    // The proof learns here that there are at most 16 names.
+    let _ = names.count();
+    let Some(iface) = Iface::new(number) else {
+        unreachable!()
+    };
+    let Some(name) = names.name(iface) else {
+        unreachable!()
+    };
+    text.push(b' ')?;
+    text.extend_from_slice(name.as_bytes())
+}
