@@ -3,7 +3,9 @@ ghost use Rattle.can_hub.specs.PassSteps.{is_shared};
 
 use crate::pass_port::{PassPort, pass_on};
 use crate::tally::Counted;
-use can_bus::{Event, IfaceStats, Received, Refusal, Reply, SocketId, SocketStats};
+use can_bus::{
+    Event, IfaceStats, Journaled, Received, Record, Refusal, Reply, RingBus, SocketId, SocketStats,
+};
 use can_confine::Counters;
 use can_dialog::{Port, PortRefusal};
 use can_fault::FaultSource;
@@ -25,13 +27,23 @@ pub struct HeldPort<
     F: FaultSource + Drop,
     G: Gate + Drop,
     R: Wait,
+    B: Journaled<Left = L> = RingBus,
+    L: Drop = Record,
 > {
-    port: &'p mut PassPort<'a, N, F, G, R>,
-    hold: Option<Hold<'a, N, F, G>>,
+    port: &'p mut PassPort<'a, N, F, G, R, B, L>,
+    hold: Option<Hold<'a, N, F, G, B>>,
 }
 
-impl<'p, 'a, N: RollName + MeterName, F: FaultSource + Drop, G: Gate + Drop, R: Wait> Model
-    for HeldPort<'p, 'a, N, F, G, R> {
+impl<
+    'p,
+    'a,
+    N: RollName + MeterName,
+    F: FaultSource + Drop,
+    G: Gate + Drop,
+    R: Wait,
+    B: Journaled<Left = L>,
+    L: Drop,
+> Model for HeldPort<'p, 'a, N, F, G, R, B, L> {
     ghost use Rattle.can_hub.specs.PassSteps.{PortSeen};
 
     ghost Value = { PortSeen };
@@ -39,16 +51,18 @@ impl<'p, 'a, N: RollName + MeterName, F: FaultSource + Drop, G: Gate + Drop, R: 
     ghost view = { λ p. p.port.now };
 }
 
-impl<'p, 'a, N: RollName + MeterName, F: FaultSource + Drop, G: Gate + Drop, R: Wait> HeldPort<
+impl<
     'p,
     'a,
-    N,
-    F,
-    G,
-    R,
-> {
+    N: RollName + MeterName,
+    F: FaultSource + Drop,
+    G: Gate + Drop,
+    R: Wait,
+    B: Journaled<Left = L>,
+    L: Drop,
+> HeldPort<'p, 'a, N, F, G, R, B, L> {
     /// The same port; no lock is taken.
-    pub fn new(port: &'p mut PassPort<'a, N, F, G, R>) -> HeldPort<'p, 'a, N, F, G, R>
+    pub fn new(port: &'p mut PassPort<'a, N, F, G, R, B, L>) -> HeldPort<'p, 'a, N, F, G, R, B, L>
         ensures { result ≡ port.old }
     {
         HeldPort { port, hold: None }
@@ -56,11 +70,19 @@ impl<'p, 'a, N: RollName + MeterName, F: FaultSource + Drop, G: Gate + Drop, R: 
 }
 
 /// The hold of this station. Where there is none it takes the lock, after a hold of another station is dropped.
-fn hold_of<'h, 'a, N: RollName + MeterName, F: FaultSource + Drop, G: Gate + Drop, R: Wait>(
+fn hold_of<
+    'h,
+    'a,
+    N: RollName + MeterName,
+    F: FaultSource + Drop,
+    G: Gate + Drop,
+    R: Wait,
+    B: Journaled,
+>(
     rt: &R,
-    station: &'a Station<N, F, G>,
-    taken: &'h mut Option<Hold<'a, N, F, G>>,
-) -> &'h mut Hold<'a, N, F, G>
+    station: &'a Station<N, F, G, B>,
+    taken: &'h mut Option<Hold<'a, N, F, G, B>>,
+) -> &'h mut Hold<'a, N, F, G, B>
     ensures { result.now.number ≡ station.now.number }
 {
     let is_own = match taken {
@@ -81,8 +103,16 @@ fn is_shared(event: &Event) -> bool
     matches!(event, Event::Send(_, _) | Event::Receive(_))
 }
 
-impl<'p, 'a, N: RollName + MeterName, F: FaultSource + Drop, G: Gate + Drop, R: Wait> Port
-    for HeldPort<'p, 'a, N, F, G, R> {
+impl<
+    'p,
+    'a,
+    N: RollName + MeterName,
+    F: FaultSource + Drop,
+    G: Gate + Drop,
+    R: Wait,
+    B: Journaled<Left = L>,
+    L: Drop,
+> Port for HeldPort<'p, 'a, N, F, G, R, B, L> {
     ghost use Rattle.can_hub.specs.PassSteps.{PassStep};
 
     ghost step = { PassStep F };

@@ -2,11 +2,12 @@ ghost use Rattle.std.specs.Prelude.{◌≡◌, ◌<◌, ◌≤◌, ◌++◌, len
 ghost use Rattle.can_frame.specs.Names.{place_of};
 ghost use Rattle.can_proto.specs.Spelling.{spaced};
 ghost use Rattle.can_hub.specs.Buses.{BusSeen, IsFirstNamed, items_on, names_on, all_names};
-ghost use Rattle.can_hub.specs.Benches.{IsProper, MakeHub, NamedFrom, bus_of, buses_from};
-ghost use Rattle.can_hub.specs.Settling.{AllOwn, AllSettle, FirstForeign};
+ghost use Rattle.can_hub.specs.Benches.{IsWithin, MakeHub, MakeHubWithin, MakeLongHub, NamedFrom, bus_of, buses_from};
+ghost use Rattle.can_hub.specs.Settling.{AllOwn, AllSettleIn, FirstForeign};
 
 use crate::bench::{Bench, make_hub};
-use can_bus::BusFault;
+use crate::bench_bus::BenchBus;
+use can_bus::{BusFault, Journaled, LongEnd, LongRingBus, Record, RingBus};
 use can_dialog::put_names;
 use can_fault::FaultSource;
 use can_frame::{Iface, Names};
@@ -27,14 +28,20 @@ pub struct SettleFault {
 
 /// A bus of a hub: its station, and the names of its interfaces.
 #[derive(Drop)]
-pub struct Wire<N: RollName + MeterName, F: FaultSource + Drop, G: Gate + Drop> {
+pub struct Wire<
+    N: RollName + MeterName,
+    F: FaultSource + Drop,
+    G: Gate + Drop,
+    B: Journaled = RingBus,
+> {
     names: Names,
-    station: Station<N, F, G>,
+    station: Station<N, F, G, B>,
     pace_ms: u32,
     rx_capacity: u32,
 }
 
-impl<N: RollName + MeterName, F: FaultSource + Drop, G: Gate + Drop> Model for Wire<N, F, G> {
+impl<N: RollName + MeterName, F: FaultSource + Drop, G: Gate + Drop, B: Journaled> Model
+    for Wire<N, F, G, B> {
     ghost use Rattle.can_hub.specs.Buses.{BusSeen};
 
     ghost Value = { BusSeen };
@@ -47,12 +54,18 @@ impl<N: RollName + MeterName, F: FaultSource + Drop, G: Gate + Drop> Model for W
     } };
 }
 
-impl<N: RollName + MeterName, F: FaultSource + Drop, G: Gate + Drop> Wire<N, F, G> {
-    /// The bus that a bench makes under a number. `NoMemory` where memory was refused.
-    fn new(alloc: Global, number: u8, bench: Bench<F, G>) -> Result<Wire<N, F, G>, BusFault>
+impl<N: RollName + MeterName, F: FaultSource + Drop, G: Gate + Drop, B: BenchBus> Wire<N, F, G, B> {
+    /// The bus that a bench makes under a number, in a long run with memory for this many entries at once. `NoMemory`
+    /// where memory was refused.
+    fn new(
+        alloc: Global,
+        number: u8,
+        bench: Bench<F, G>,
+        size: u32,
+    ) -> Result<Wire<N, F, G, B>, BusFault>
         requires roll { bench.blanks.roll ≡ N.roll number }
         requires meter { bench.blanks.meter ≡ N.meter number }
-        requires proper { IsProper bench }
+        requires proper { IsWithin B.limits bench }
         ensures made { IfOk result (λ w. w ≡ bus_of number bench) }
         ensures fault { IfErr result (λ e. e ≡ BusFault.NoMemory) }
     {
@@ -66,9 +79,10 @@ impl<N: RollName + MeterName, F: FaultSource + Drop, G: Gate + Drop> Wire<N, F, 
             pace_ms,
             rx_capacity,
         } = bench;
+        let bus = B::with_room(alloc, config, size)?;
         Ok(Wire {
             names,
-            station: Station::with_plan(alloc, blanks, number, config, source, plan, gate)?,
+            station: Station::over(alloc, blanks, number, bus, config, source, plan, gate)?,
             pace_ms,
             rx_capacity,
         })
@@ -77,13 +91,25 @@ impl<N: RollName + MeterName, F: FaultSource + Drop, G: Gate + Drop> Wire<N, F, 
 
 /// Buses, each with a station of its own. A bus's number is its place.
 #[derive(Drop)]
-pub struct Hub<N: RollName + MeterName, F: FaultSource + Drop, G: Gate + Drop> {
-    wires: Vec<Wire<N, F, G>>,
+pub struct Hub<
+    N: RollName + MeterName,
+    F: FaultSource + Drop,
+    G: Gate + Drop,
+    B: Journaled<Left = L> = RingBus,
+    L: Drop = Record,
+> {
+    wires: Vec<Wire<N, F, G, B>>,
     // Room for what each bus leaves at its end.
-    settled: Vec<Settled>,
+    settled: Vec<Settled<L>>,
 }
 
-impl<N: RollName + MeterName, F: FaultSource + Drop, G: Gate + Drop> Model for Hub<N, F, G> {
+impl<
+    N: RollName + MeterName,
+    F: FaultSource + Drop,
+    G: Gate + Drop,
+    B: Journaled<Left = L>,
+    L: Drop,
+> Model for Hub<N, F, G, B, L> {
     ghost use Rattle.std.specs.Prelude.{◌≡◌, ◌≤◌, [], List, length, vec_capacity};
     ghost use Rattle.can_hub.specs.Buses.{BusSeen, NumberedFrom, AllApart, names_of};
 
@@ -109,14 +135,68 @@ impl<N: RollName + MeterName, F: FaultSource + Drop, G: Gate + Drop> Hub<N, F, G
         ensures made { IfOk result (λ h. h ≡ buses_from 0 benches.items) }
         ensures bad { (result ≡ Err BusFault.BadConfig) ↔ (¬ MakeHub benches.items) }
     {
-        if !make_hub(&benches) {
+        Hub::make(alloc, benches, 0)
+    }
+}
+
+impl<N: RollName + MeterName, F: FaultSource + Drop, G: Gate + Drop> Hub<
+    N,
+    F,
+    G,
+    LongRingBus,
+    LongEnd,
+> {
+    /// The same with buses of long runs, each of which keeps in memory only the entries that were not taken yet. It takes
+    /// memory for this many of each: `TAIL_SIZE`, but for tests.
+    ///
+    /// `BadConfig` as by `new`, but for configurations outside the limits of a long run.
+    pub fn new_long(
+        alloc: Global,
+        benches: Vec<Bench<F, G>>,
+        size: u32,
+    ) -> Result<Hub<N, F, G, LongRingBus, LongEnd>, BusFault>
+        requires { NamedFrom N.roll N.meter 0 benches.items }
+        ensures made { IfOk result (λ h. h ≡ buses_from 0 benches.items) }
+        ensures bad { (result ≡ Err BusFault.BadConfig) ↔ (¬ MakeLongHub benches.items) }
+    {
+        Hub::make(alloc, benches, size)
+    }
+}
+
+impl<
+    N: RollName + MeterName,
+    F: FaultSource + Drop,
+    G: Gate + Drop,
+    B: BenchBus<Left = L>,
+    L: Drop,
+> Hub<N, F, G, B, L> {
+    /// A station for each bench over a bus on which nothing was done, in a long run with memory for this many entries at
+    /// once.
+    fn make(
+        alloc: Global,
+        benches: Vec<Bench<F, G>>,
+        size: u32,
+    ) -> Result<Hub<N, F, G, B, L>, BusFault>
+        requires { NamedFrom N.roll N.meter 0 benches.items }
+        ensures made { IfOk result (λ h. h ≡ buses_from 0 benches.items) }
+        ensures bad { (result ≡ Err BusFault.BadConfig) ↔ (¬ MakeHubWithin B.limits benches.items) }
+    {
+        if !make_hub::<B, F, G>(&benches) {
             return Err(BusFault::BadConfig);
         }
         let settled = Vec::with_capacity(alloc, benches.len())?;
-        let wires = wires_of::<N, F, G>(alloc, benches)?;
+        let wires = wires_of::<N, F, G, B>(alloc, benches, size)?;
         Ok(Hub { wires, settled })
     }
+}
 
+impl<
+    N: RollName + MeterName,
+    F: FaultSource + Drop,
+    G: Gate + Drop,
+    B: Journaled<Left = L>,
+    L: Drop,
+> Hub<N, F, G, B, L> {
     /// The bus that has an interface of this name, and that interface. No other bus has the name. `None` exactly
     /// where no bus has it. It reads the names of the buses up to that one.
     pub fn find(&self, name: &str) -> Option<(usize, Iface)>
@@ -156,7 +236,7 @@ impl<N: RollName + MeterName, F: FaultSource + Drop, G: Gate + Drop> Hub<N, F, G
 
     /// The station of a bus.
     #[tactic(auto, using(crate::proofs::Places::number_at))]
-    pub fn station(&self, bus: usize) -> &Station<N, F, G>
+    pub fn station(&self, bus: usize) -> &Station<N, F, G, B>
         requires { bus < length self.now }
         ensures { result.now.number ≡ bus }
     {
@@ -213,6 +293,13 @@ impl<N: RollName + MeterName, F: FaultSource + Drop, G: Gate + Drop> Hub<N, F, G
         }
     }
 
+    /// Ends the waits for entries of all buses, once no calls are made any more.
+    pub fn end_entries<R: Wait>(&self, rt: &R) {
+        for wire in &self.wires {
+            wire.station.end_entries(rt);
+        }
+    }
+
     /// Another gauge of a bus's meter, which reads the error counters without the lock. `AllocError` where there
     /// is no memory. It may wait for the lock.
     pub fn gauge<R: Wait>(&self, rt: &R, bus: usize) -> Result<Gauge<N>, AllocError>
@@ -232,9 +319,9 @@ impl<N: RollName + MeterName, F: FaultSource + Drop, G: Gate + Drop> Hub<N, F, G
         rt: &R,
         alloc: Global,
         passes: Vec<Vec<Pass<N>>>,
-    ) -> Result<Vec<Settled>, SettleFault>
+    ) -> Result<Vec<Settled<L>>, SettleFault>
         requires { length passes.items ≡ length self }
-        ensures settled { IfOk result (λ v. AllSettle passes.items v.items) }
+        ensures settled { IfOk result (λ v. AllSettleIn B.left passes.items v.items) }
         ensures refused { MatchResult result (λ _. AllOwn 0 passes.items)
             (λ f. FirstForeign passes.items f.bus) }
     {
@@ -256,20 +343,21 @@ impl<N: RollName + MeterName, F: FaultSource + Drop, G: Gate + Drop> Hub<N, F, G
 }
 
 /// The buses that these benches make, numbered from 0.
-fn wires_of<N: RollName + MeterName, F: FaultSource + Drop, G: Gate + Drop>(
+fn wires_of<N: RollName + MeterName, F: FaultSource + Drop, G: Gate + Drop, B: BenchBus>(
     alloc: Global,
     benches: Vec<Bench<F, G>>,
-) -> Result<Vec<Wire<N, F, G>>, BusFault>
+    size: u32,
+) -> Result<Vec<Wire<N, F, G, B>>, BusFault>
     requires few { length benches.items ≤ 16 }
     requires named { NamedFrom N.roll N.meter 0 benches.items }
-    requires proper { All (λ b. IsProper b) benches.items }
+    requires proper { All (λ b. IsWithin B.limits b) benches.items }
     ensures made { IfOk result (λ v. v.items ≡ buses_from 0 benches.items) }
     ensures fault { IfErr result (λ e. e ≡ BusFault.NoMemory) }
 {
     let mut wires = Vec::with_capacity(alloc, benches.len())?;
     for bench in benches {
         let number = wires.len() as u8;
-        wires.push_reserved(Wire::new(alloc, number, bench)?);
+        wires.push_reserved(Wire::new(alloc, number, bench, size)?);
     }
     Ok(wires)
 }

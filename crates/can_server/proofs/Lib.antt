@@ -1,2 +1,3 @@
 pub mod Rooms
+pub mod Scribing
 pub mod Batching

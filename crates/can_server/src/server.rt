@@ -2,6 +2,7 @@ use crate::door::Door;
 use crate::guests::Guests;
 use crate::returned::Returned;
 use crate::serving::Clock;
+use can_bus::Journaled;
 use can_fault::FaultSource;
 use can_hub::Hub;
 use can_meter::MeterName;
@@ -18,10 +19,19 @@ use std::{thread, time};
 
 /// What all threads of a server share.
 #[derive(Drop)]
-pub struct Server<'a, N: RollName + MeterName, F: FaultSource + Drop, G: Gate + Drop, C, R> {
+pub struct Server<
+    'a,
+    N: RollName + MeterName,
+    F: FaultSource + Drop,
+    G: Gate + Drop,
+    C,
+    R,
+    B: Journaled<Left = L>,
+    L: Drop,
+> {
     pub rt: &'a R,
     pub alloc: Global,
-    pub hub: &'a Hub<N, F, G>,
+    pub hub: &'a Hub<N, F, G, B, L>,
     pub host: &'a C,
     pub guests: &'a Mutex<Guests>,
     pub returned: &'a Mutex<Returned<N>>,
@@ -36,7 +46,9 @@ impl<
     G: Gate + Drop + Send + Sync,
     C: Clock + Sync,
     R: Threads + Wait + time::Clock + Sync,
-> Server<'a, N, F, G, C, R> {
+    B: Journaled<Left = L> + Send,
+    L: Drop + Sync,
+> Server<'a, N, F, G, C, R, B, L> {
     /// Serves to the end: the drivers run until all sessions are over.
     pub fn run(&self, doors: &[Door], until: Option<&UnixStream>) -> Result<(), AllocError> {
         thread::scope(thread::scope_env(), self.rt, |scope| {
@@ -81,7 +93,9 @@ impl<
     G: Gate + Drop,
     C: Clock,
     R: Wait + time::Clock,
-> Server<'a, N, F, G, C, R> {
+    B: Journaled<Left = L>,
+    L: Drop,
+> Server<'a, N, F, G, C, R, B, L> {
     /// Ends all other threads: no session is at work any more.
     fn finish(&self, until: Option<&UnixStream>) {
         let _ = self.guests.lock(self.rt).close();

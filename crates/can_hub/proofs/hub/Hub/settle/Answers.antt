@@ -1,10 +1,8 @@
 use Rattle.std.proofs.Common.{◌≡◌, ◌+◌, ◌∷◌, ◌++◌, ◌∙◌, ℕ, suc, List, [], Vec, Global, length, length-append, append_assoc, append-nil, inl, inr, arith, sym, subst, ap}
 use Rattle.std.specs.Vec.Iter.{into_iter_items}
-use Rattle.can_record.specs.Journal.{Kept}
-use Rattle.can_station.specs.declared.pass.Settled.{Settled}
 use Rattle.can_hub.specs.Buses.{BusSeen, NumberedFrom}
 use Rattle.can_station.specs.Passes.{PassSeen, AllOf, SomeOther}
-use Rattle.can_hub.specs.Settling.{AllSettle}
+use Rattle.can_hub.specs.Settling.{AllSettleIn}
 use Rattle.can_hub.proofs.Making.{emptied}
 use Rattle.can_hub.proofs.Ending.{settle_none, own_push, settle_push}
 use Rattle.can_hub.proofs.hub.Hub.settle.Goals as goal
@@ -23,9 +21,9 @@ loop-wire-init g c =
       record {
         lists = lists.rest;
         own = tt;
-        settled = settle_none Global c.self.inside.settled.items own.3;
+        settled = settle_none Global g.B.Journaled.left c.self.inside.settled.items own.3;
         place = sym zero;
-        numbered = subst (λ (ds : List (Settled Kept)). NumberedFrom (length ds) items) (sym own.3) (subst (λ (ws : List BusSeen). NumberedFrom 0 ws) (sym given.0) own.0);
+        numbered = subst (λ (ds : List _). NumberedFrom (length ds) items) (sym own.3) (subst (λ (ws : List BusSeen). NumberedFrom 0 ws) (sym given.0) own.0);
         wires = omega (arith, given.1, wires, c.self.inside.wires.ok.0);
         passes = omega (arith, lists.len, passes, c.args.passes.ok.0);
         same = omega (arith, given.1, c.self.inside.wires.ok.0, lists.len, c.args.passes.ok.0, c.requires, buses);
@@ -78,7 +76,7 @@ loop-wire-preserved g c =
       record {
         lists = append_assoc before (own ∷ []) (into_iter_items c.next-in-loop-wire.new.self) ∙ ap (λ (r : List (Vec PassSeen Global)). before ++ r) (sym lists.items) ∙ i.lists;
         own = own_push 0 (length done) before own i.own (omega (arith, i.place)) (subst (λ (k : ℕ). AllOf k own.items) bus c.in-Ok.ensures.refused.0);
-        settled = subst (λ (ds : List (Settled Kept)). AllSettle (before ++ own ∷ []) ds) (sym c.push_reserved.ensures.items) (settle_push before done own c.in-Ok.left i.settled c.in-Ok.ensures.settled);
+        settled = subst (λ (ds : List _). AllSettleIn g.B.Journaled.left (before ++ own ∷ []) ds) (sym c.push_reserved.ensures.items) (settle_push g.B.Journaled.left before done own c.in-Ok.left i.settled c.in-Ok.ensures.settled);
         place = omega (arith, grown, longer, i.place);
         numbered = subst (λ (k : ℕ). NumberedFrom k more) next numbered.1;
         wires = omega (arith, steps.1, i.wires, wires);
@@ -94,4 +92,4 @@ returns-clause-settled g c =
     let i = c.loop-wire.invariant.1 in
     let none = emptied (into_iter_items c.loop-wire.lists) (omega (arith, c.in-None.ensures.steps.0, i.same, i.passes)) in
     let all : before ≡ c.args.passes.items = sym (append-nil before) ∙ ap (λ (r : List (Vec PassSeen Global)). before ++ r) (sym none) ∙ i.lists in
-    subst (λ (ps : List (Vec PassSeen Global)). AllSettle ps c.loop-wire.settled.items) all i.settled
+    subst (λ (ps : List (Vec PassSeen Global)). AllSettleIn g.B.Journaled.left ps c.loop-wire.settled.items) all i.settled
