@@ -21,7 +21,7 @@ use Rattle.can_station.specs.Passes.{PassSeen, Called, HadNoPassLeft, InSome, Is
 use Rattle.can_station.specs.Waits.{AreCounts}
 use Rattle.can_station.specs.declared.refusals.StationRefusal.{StationRefusal}
 use Rattle.can_station.specs.declared.refusals.StationRefusal.TheVariants as station
-use Rattle.can_hub.specs.Buses.{BusSeen, IsFirstNamed, items_on, names_on}
+use Rattle.can_hub.specs.Buses.{BusSeen, IsFirstNamed, config_on, items_on, names_on}
 use Rattle.can_hub.specs.PassSteps.{EnteredSeen, PortSeen, PassStep, CountsSocket, CountsIface, entered_with, passed_on, refused_as, room_in, with_room, is_shared, OnPort, SomeNamed, SomeNamedFull, Attaches, GaugeTells, TellsCounters, InjectsNamed, Injects, RulesLeft}
 
 -- the calls of a port over the station that was entered
@@ -129,14 +129,17 @@ module _ (old : PortSeen) (buses : List BusSeen) (inside : Option EnteredSeen) (
   some_named = subst (λ (o : PortSeen). SomeNamed o.buses name) seen (at.0, at.1, first)
 
   -- and its station had no pass left
-  pub some_named_full : (F : Type 0) (here : StationSeen) → here.number ≡ at.0 → HadNoPassLeft F here → SomeNamedFull F old.buses name
-  some_named_full F here is full = subst (λ (o : PortSeen). SomeNamedFull F o.buses name) seen (here, at.1, subst (λ (n : ℕ). IsFirstNamed buses name (Some (n, at.1))) (sym is) first, full)
+  pub some_named_full : (F : Type 0) (here : StationSeen) → here.number ≡ at.0 → config_on (slice_get buses at.0) ≡ Some here.config → HadNoPassLeft F here → SomeNamedFull F old.buses name
+  some_named_full F here is config full =
+      subst (λ (o : PortSeen). SomeNamedFull F o.buses name) seen
+      (here, at.1, subst (λ (n : ℕ). IsFirstNamed buses name (Some (n, at.1))) (sym is) first, subst (λ (n : ℕ). config_on (slice_get buses n) ≡ Some here.config) (sym is) config, full)
 
   -- and its station was entered
-  pub attached : (F : Type 0) (here : StationSeen) (gauge : Readings) (pass : PassSeen) → here.number ≡ at.0 → gauge.number ≡ here.number → IsNewLightPass F here pass → Attaches F old name (Ok at.1) (over buses (entered_with here gauge pass))
-  attached F here gauge pass is metered new =
+  pub attached : (F : Type 0) (here : StationSeen) (gauge : Readings) (pass : PassSeen) → here.number ≡ at.0 → config_on (slice_get buses at.0) ≡ Some here.config → gauge.number ≡ here.number → IsNewLightPass F here pass
+      → Attaches F old name (Ok at.1) (over buses (entered_with here gauge pass))
+  attached F here gauge pass is config metered new =
       subst (λ (o : PortSeen). Attaches F o name (Ok at.1) (over buses (entered_with here gauge pass))) seen
-      (here, gauge, pass, subst (λ (n : ℕ). IsFirstNamed buses name (Some (n, at.1))) (sym is) first, metered, new, refl)
+      (here, gauge, pass, subst (λ (n : ℕ). IsFirstNamed buses name (Some (n, at.1))) (sym is) first, subst (λ (n : ℕ). config_on (slice_get buses n) ≡ Some here.config) (sym is) config, metered, new, refl)
 
 -- a rule that the station that was entered took or refused is one of the port
 pub injected : (F : Type 0) (old : PortSeen) (buses : List BusSeen) (inside : Option EnteredSeen) (now : EnteredSeen) (rule : List ℕ) (found : Option (List (List ℕ))) (answer : Result (Unit {0}) PortRefusal)

@@ -2,7 +2,7 @@ use Rattle.std.proofs.Common.{◌≡◌, ◌+◌, ◌<◌, ◌≤◌, ℕ, zero,
 use Rattle.std.specs.Prelude.{slice_get, slice_index_or}
 use Rattle.can_frame.specs.Names.{place_of}
 use Rattle.std.proofs.lemmas.Bool.{cases_lt}
-use Rattle.can_hub.specs.Buses.{BusSeen, items_on, names_on, NumberedFrom, NoneNamed}
+use Rattle.can_hub.specs.Buses.{BusSeen, config_on, items_on, names_on, NumberedFrom, NoneNamed}
 
 -- the element at a place
 pub index_of_get : {X : Type 0} (xs : List X) (k : ℕ) (x d : X) → slice_get xs k ≡ Some x → slice_index_or xs k d ≡ x
@@ -52,6 +52,12 @@ pub names_at : (buses : List BusSeen) (k : ℕ) (b d : BusSeen) → k < length b
 names_at [] k b d lt same = absurd (omega (arith, lt))
 names_at (x ∷ xs) zero b d lt same = ap (λ (s : BusSeen). Some s.names) same
 names_at (x ∷ xs) (suc k) b d lt same = names_at xs k b d (omega (arith, lt)) same
+
+-- the configuration of the bus at a place
+pub config_at : (buses : List BusSeen) (k : ℕ) (b d : BusSeen) → k < length buses → b ≡ slice_index_or buses k d → config_on (slice_get buses k) ≡ Some b.config
+config_at [] k b d lt same = absurd (omega (arith, lt))
+config_at (x ∷ xs) zero b d lt same = ap (λ (s : BusSeen). Some s.config) (sym same)
+config_at (x ∷ xs) (suc k) b d lt same = config_at xs k b d (omega (arith, lt)) same
 
 -- no names come after those of the last bus
 pub names_past : (buses : List BusSeen) (k : ℕ) → length buses ≤ k → None ≡ names_on (slice_get buses k)

@@ -1,12 +1,15 @@
-use Rattle.std.specs.Prelude.{◌≡◌, ◌<◌, ℕ, suc, List, [], ◌∷◌, length, map, Contains, slice_index_or, flat_map, Option, Some, None, option_map}
+use Rattle.std.specs.Prelude.{◌≡◌, ◌<◌, ℕ, suc, List, [], ◌∷◌, length, map, Contains, slice_get, slice_index_or, flat_map, Option, Some, None, option_map}
+use Rattle.can_event.specs.declared.bus_config.BusConfig.{BusConfig}
 use Rattle.can_frame.specs.Names.{place_of}
+use Rattle.can_station.specs.Held.{StationSeen}
 
 -- The buses of a hub, and their names.
 
--- a bus: its number, the names of its interfaces, how many milliseconds its driver sleeps after each step, and how
--- many items a socket of its holds
+-- a bus: its number, its configuration, the names of its interfaces, how many milliseconds its driver sleeps after each
+-- step, and how many items a socket of its holds
 pub record BusSeen : Type 0 where
   pub number : ℕ
+  pub config : BusConfig
   pub names : List (List ℕ)
   pub pace_ms : ℕ
   pub rx_capacity : ℕ
@@ -19,6 +22,14 @@ items_on (Some bus) = bus.rx_capacity
 -- the names of the interfaces of a bus, if it is there
 abbrev pub names_on : Option BusSeen → Option (List (List ℕ))
 names_on bus = option_map (λ b. b.names) bus
+
+-- the configuration of a bus, if it is there
+abbrev pub config_on : Option BusSeen → Option BusConfig
+config_on bus = option_map (λ b. b.config) bus
+
+-- a station is that of the bus with its number
+abbrev pub IsStationOn : List BusSeen → StationSeen → Type 0
+IsStationOn buses station = config_on (slice_get buses station.number) ≡ Some station.config
 
 -- the buses are numbered by their places, the first of them n
 abbrev pub NumberedFrom : ℕ → List BusSeen → Type 0

@@ -22,7 +22,7 @@ use Rattle.can_station.specs.Held.{StationSeen}
 use Rattle.can_station.specs.Passes.{PassSeen, Called, HadNoPassLeft, InSome, InjectsIn, IsNewLightPass}
 use Rattle.can_station.specs.declared.refusals.StationRefusal.{StationRefusal}
 use Rattle.can_station.specs.declared.refusals.StationRefusal.TheVariants as station
-use Rattle.can_hub.specs.Buses.{BusSeen, IsFirstNamed, items_on, names_on, all_names}
+use Rattle.can_hub.specs.Buses.{BusSeen, IsFirstNamed, IsStationOn, items_on, names_on, all_names}
 
 -- A pass as a port: each call but the look-ups and those of rules is an event of the station.
 
@@ -84,14 +84,15 @@ SomeNamed buses name = (bus : ℕ) × (iface : ℕ) × IsFirstNamed buses name (
 
 -- some bus that has an interface of this name had no pass left
 abbrev pub SomeNamedFull : Type 0 → List BusSeen → List ℕ → Type 0
-SomeNamedFull F buses name = (at : StationSeen) × (iface : ℕ) × IsFirstNamed buses name (Some (at.number, iface)) × HadNoPassLeft F at
+SomeNamedFull F buses name =
+    (at : StationSeen) × (iface : ℕ) × IsFirstNamed buses name (Some (at.number, iface)) × IsStationOn buses at × HadNoPassLeft F at
 
 -- the station of the bus that has the name is entered, with a gauge of its meter and its next pass; else nothing changes:
 -- no bus has the name, or it has one and memory was refused to the gauge or no pass was left
 abbrev pub Attaches : Type 0 → PortSeen → List ℕ → Result ℕ PortRefusal → PortSeen → Type 0
 Attaches F old name (Ok iface) new =
-    (at : StationSeen) × (gauge : Readings) × (pass : PassSeen) × IsFirstNamed old.buses name (Some (at.number, iface)) × (gauge.number ≡ at.number)
-    × IsNewLightPass F at pass × (new ≡ record { buses = old.buses; entered = Some (entered_with at gauge pass) })
+    (at : StationSeen) × (gauge : Readings) × (pass : PassSeen) × IsFirstNamed old.buses name (Some (at.number, iface)) × IsStationOn old.buses at
+    × (gauge.number ≡ at.number) × IsNewLightPass F at pass × (new ≡ record { buses = old.buses; entered = Some (entered_with at gauge pass) })
 Attaches F old name (Err (port.Bus refusal.NoInterface)) new = IsFirstNamed old.buses name None × (new ≡ old)
 Attaches F old name (Err (port.Bus refusal.NoMemory)) new = SomeNamed old.buses name × (new ≡ old)
 Attaches F old name (Err port.TooManyPasses) new = SomeNamedFull F old.buses name × (new ≡ old)

@@ -1,5 +1,7 @@
 use Rattle.std.specs.Prelude.{◌≡◌, ℕ, suc, List, [], ◌∷◌, ◌++◌, length, Vec}
+use Rattle.std.specs.List.{AllZip}
 use Rattle.can_record.specs.Journal.{Journal, Kept}
+use Rattle.can_hub.specs.Buses.{BusSeen}
 use Rattle.can_station.specs.declared.pass.Settled.{Settled}
 use Rattle.can_station.specs.Passes.{PassSeen, AllOf, SomeOther, SettlesIn}
 
@@ -20,6 +22,10 @@ AllSettleIn left (own ∷ more) [] = ⊥
 -- each bus leaves a record that does
 abbrev pub AllSettle : {A : Type 0} → List (Vec PassSeen A) → List (Settled Kept) → Type 0
 AllSettle passes settled = AllSettleIn (λ (r : Kept). record { config = r.config; history = r.history }) passes settled
+
+-- each bus leaves a history of its configuration
+abbrev pub AllConfigured : {L : Type 0} → (L → Journal) → List BusSeen → List (Settled L) → Type 0
+AllConfigured left buses settled = AllZip (λ bus s. (left s.history).config ≡ bus.config) buses settled
 
 -- the list of this bus is the first with a pass of another station
 pub record FirstForeign {A : Type 0} (passes : List (Vec PassSeen A)) (bus : ℕ) : Type 0 where

@@ -1,9 +1,9 @@
 ghost use Rattle.std.specs.Prelude.{◌≡◌, ◌<◌, ◌≤◌, ◌++◌, length, OnOk, IfOk, IfErr, MatchResult, All, ◌↔◌, option_map, slice_index_or, slice_get};
 ghost use Rattle.can_frame.specs.Names.{place_of};
 ghost use Rattle.can_proto.specs.Spelling.{spaced};
-ghost use Rattle.can_hub.specs.Buses.{BusSeen, IsFirstNamed, items_on, names_on, all_names};
+ghost use Rattle.can_hub.specs.Buses.{BusSeen, IsFirstNamed, config_on, items_on, names_on, all_names};
 ghost use Rattle.can_hub.specs.Benches.{IsWithin, MakeHub, MakeHubWithin, MakeLongHub, NamedFrom, bus_of, buses_from};
-ghost use Rattle.can_hub.specs.Settling.{AllOwn, AllSettleIn, FirstForeign};
+ghost use Rattle.can_hub.specs.Settling.{AllConfigured, AllOwn, AllSettleIn, FirstForeign};
 
 use crate::bench::{Bench, make_hub};
 use crate::bench_bus::BenchBus;
@@ -48,6 +48,7 @@ impl<N: RollName + MeterName, F: FaultSource + Drop, G: Gate + Drop, B: Journale
 
     ghost view = { λ w. record {
       number = w.station.number;
+      config = w.station.config;
       names = w.names;
       pace_ms = w.pace_ms;
       rx_capacity = w.rx_capacity;
@@ -235,10 +236,11 @@ impl<
     }
 
     /// The station of a bus.
-    #[tactic(auto, using(crate::proofs::Places::number_at))]
+    #[tactic(auto, using(crate::proofs::Places::number_at, crate::proofs::Places::config_at))]
     pub fn station(&self, bus: usize) -> &Station<N, F, G, B>
         requires { bus < length self.now }
-        ensures { result.now.number ≡ bus }
+        ensures number { result.now.number ≡ bus }
+        ensures config { config_on (slice_get self.now bus) ≡ Some result.now.config }
     {
         &self.wires[bus].station
     }
@@ -309,8 +311,9 @@ impl<
         self.station(bus).gauge(rt)
     }
 
-    /// Takes the passes of each bus back, and hands out what each bus leaves: a legal history whose entries can be
-    /// marked with passes so that the calls of each of its passes are its entries, in order. It takes no memory.
+    /// Takes the passes of each bus back, and hands out what each bus leaves: a legal history of its configuration, whose
+    /// entries can be marked with passes so that the calls of each of its passes are its entries, in order. It takes no
+    /// memory.
     ///
     /// `SettleFault` exactly where some list has a pass of another station, with the first such bus; then nothing is
     /// handed back.
@@ -322,6 +325,7 @@ impl<
     ) -> Result<Vec<Settled<L>>, SettleFault>
         requires { length passes.items ≡ length self }
         ensures settled { IfOk result (λ v. AllSettleIn B.left passes.items v.items) }
+        ensures configured { IfOk result (λ v. AllConfigured B.left self v.items) }
         ensures refused { MatchResult result (λ _. AllOwn 0 passes.items)
             (λ f. FirstForeign passes.items f.bus) }
     {

@@ -62,19 +62,6 @@ module _ {P : Type 0} (step : P → (call : Call) → Reply call → P → Type 
         let n : items + 1 ≡ used = omega (arith, uses, low) in
         subst (λ (rs : List Room). Gives step most stage p (texts_of (take used rs)) q false) (sym same) (subst (λ (k : ℕ). Gives step most stage p (texts_of (take k rooms)) q false) n (few low))
 
-    -- one of the two
-    pub used_some : (more : Bool) × Gives step most stage p (texts_of (take used seen)) q more
-    used_some = elim (cases_lt items most) [
-      | inl low ↦ (false, used_few low)
-      | inr high ↦ (let is : items ≡ most = omega (arith, high, within) in (true, used_all is))
-    ]
-
--- texts that have some in them are some
-pub some_text : (a b c all : List ℕ) → a ≢ [] → (b ++ a) ++ c ≡ all → all ≢ []
-some_text [] b c all some is = λ none. some refl
-some_text (x ∷ a) [] c all some is = λ none. absurd (cc (is, none))
-some_text (x ∷ a) (y ∷ b) c all some is = λ none. absurd (cc (is, none))
-
 module _ {W : Type 0} (contents : W → Option (List ℕ)) (old : W) (rooms : List Room) where
   -- the texts of some rooms: those that a writer took, and those that wait for it
   abbrev pub Waits : ℕ → W → List ℕ → Type 0
@@ -84,6 +71,14 @@ module _ {W : Type 0} (contents : W → Option (List ℕ)) (old : W) (rooms : Li
   pub gone_out : (i : ℕ) (out new : W) (text none : List ℕ) → Waits i out text → Appends (contents out) (contents new) text → none ≡ [] → Waits i new none
   gone_out i out new text none (gone, took, is) more empty =
       (gone ++ text, Appends-trans (contents old) (contents out) (contents new) gone text took more, ap (λ (t : List ℕ). (gone ++ text) ++ t) empty ∙ append-nil (gone ++ text) ∙ is)
+
+  -- it took the first of them
+  pub front_out : (i n : ℕ) (out new : W) (text rest : List ℕ) → Waits i out text → Appends (contents out) (contents new) (take n text) → rest ≡ drop n text → Waits i new rest
+  front_out i n out new text rest (gone, took, is) more left = (
+    gone ++ take n text,
+    Appends-trans (contents old) (contents out) (contents new) gone (take n text) took more,
+    ap (λ (t : List ℕ). (gone ++ take n text) ++ t) left ∙ sym (append_assoc gone (take n text) (drop n text)) ∙ ap (λ (t : List ℕ). gone ++ t) (take-append-drop n text) ∙ is,
+  )
 
   -- one text more waits
   pub added : (i : ℕ) (out : W) (text more : List ℕ) (room : Room) → i < length rooms → room ≡ get_or rooms i room → Waits i out text → more ≡ text ++ text_of room → Waits (i + 1) out more

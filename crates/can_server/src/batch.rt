@@ -1,10 +1,10 @@
-//! What goes out to a client: it is made while the bus is called, and written after it.
-ghost use Rattle.std.specs.Prelude.{◌≡◌, ◌≢◌, ◌+◌, ◌++◌, ◌<◌, ◌≤◌, [], length, take, min, vec_len, IsTrue, false, true, OnOk, IfOk};
+//! What goes out to a client: it is made while the bus is called, and written once the bus is let go.
+ghost use Rattle.std.specs.Prelude.{◌≡◌, ◌+◌, ◌++◌, ◌<◌, ◌≤◌, [], length, take, drop, min, vec_len, IsTrue, false, true, OnOk, IfOk};
 ghost use Rattle.std.specs.Io.KnownBytes.{Appends};
 ghost use Rattle.can_proto.specs.Messages.{messages_of, kept_of};
-ghost use Rattle.can_dialog.specs.Sessions.{Wrote};
+ghost use Rattle.can_dialog.specs.Sessions.{TakesTurns, Wrote};
 ghost use Rattle.can_dialog.specs.Deliveries.{Gives};
-ghost use Rattle.can_server.specs.Batches.{HandsOver, Tells, texts_of};
+ghost use Rattle.can_server.specs.Batches.{texts_of};
 
 use can_bus::Received;
 use can_dialog::{Delivery, Port, Session, SessionFault};
@@ -15,18 +15,16 @@ use std::io::Write;
 /// The most items of a batch.
 const MOST_ITEMS: usize = 256;
 
-/// The most bytes of an item's text.
+/// How many bytes an item's text has at most.
 const LONGEST: usize = 256;
 
-/// What became of a batch.
+/// What was received at once.
 #[derive(Debug, Clone, Copy, PartialEq, Eq)]
-pub enum Handed {
-    /// So many items, as many as were asked for or as a batch has, were written. There may be more.
-    Items(u64),
-    /// A receive gave no item; the items before it, and the text of its refusal, were written.
-    Last,
-    /// The writer failed, and what it did not take is lost.
-    Cut,
+pub struct Taken {
+    /// How many receives are in the rooms.
+    pub rooms: usize,
+    /// Whether each of them gave an item: as many as were asked for, or as a batch has. There may be more.
+    pub are_items: bool,
 }
 
 /// A room for one receive, and what it gave.
@@ -60,7 +58,7 @@ pub struct Batch {
 impl Batch {
     /// A batch that writes at most this many bytes at once, but that one item goes out whole.
     pub fn new(alloc: Global, most_bytes: usize) -> Result<Batch, AllocError> {
-        let text = Vec::with_capacity(alloc, most_bytes)?;
+        let text = Vec::with_capacity(alloc, most_bytes.saturating_add(LONGEST))?;
         let rooms = rooms_of(alloc, Room::empty())?;
         Ok(Batch {
             rooms,
@@ -69,58 +67,59 @@ impl Batch {
         })
     }
 
-    /// Feeds a session a piece of what its client says; then the port is let go, and the session's texts are written.
+    /// Feeds a session a piece of what its client says. What the session says waits for `write`, and nothing else does.
     ///
-    /// Refusals: those of `Session::feed`; `Write` also where the writer fails.
-    pub fn feed<P: Port + Drop, W: Write>(
+    /// Refusals: those of `Session::feed`.
+    pub fn hear<P: Port>(
         &mut self,
         session: &mut Session,
         alloc: Global,
         piece: &[u8],
         moment: Moment,
-        port: P,
-        out: &mut W,
+        port: &mut P,
     ) -> Result<(), SessionFault>
-        ensures said { OnOk result (Tells P.step W.contents moment session.old.dialog
-            (messages_of (session.old.kept ++ piece.now)) port out.old out.new session.new.dialog) }
+        ensures said { OnOk result (TakesTurns P.step moment session.old.dialog
+            (messages_of (session.old.kept ++ piece.now)) port.old port.new self.new.text.items session.new.dialog) }
         ensures keeps { OnOk result (session.new.kept ≡ kept_of (session.old.kept ++ piece.now)) }
     {
         self.text.clear();
-        let mut port = port;
-        let fed = session.feed(alloc, piece, moment, &mut port, &mut self.text);
-        drop(port);
-        fed?;
-        if !write_out(&mut self.text, out) {
-            return Err(SessionFault::Write);
-        }
-        Ok(())
+        session.feed(alloc, piece, moment, port, &mut self.text)
     }
 
-    /// Gives a session's client up to this many of the items that wait for it, at most 256. They are received one after
-    /// another, up to the first receive that gives none; then the port is let go, and the texts are written in this order.
-    pub fn hand_over<P: Port + Drop, W: Write>(
-        &mut self,
-        session: &Session,
-        waiting: u64,
-        port: P,
-        out: &mut W,
-    ) -> Handed
-        ensures { HandsOver P.step W.contents (min waiting 256) session.now.dialog.stage
-            port out.old result out.new }
+    /// Writes what waits: whether the writer took it.
+    pub fn write<W: Write>(&mut self, out: &mut W) -> bool
+        ensures wrote { IsTrue result → Wrote W.contents out.old self.old.text.items out.new }
+    {
+        write_out(&mut self.text, out)
+    }
+
+    /// Takes up to this many of the items that wait for a session's client, at most 256. They are received into rooms, one
+    /// after another, up to the first receive that gives none.
+    pub fn take<P: Port>(&mut self, session: &Session, waiting: u64, port: &mut P) -> Taken
+        ensures within { result.rooms ≤ 256 }
+        ensures takes { Gives P.step (min waiting 256) session.now.dialog.stage port.old
+            (texts_of (take result.rooms self.new.rooms.items)) port.new result.are_items }
     {
         let most = waiting.min(MOST_ITEMS as u64) as usize;
-        let mut port = port;
-        let items = receive(session, &mut port, self.rooms.as_mut_slice(), most);
-        drop(port);
-        let used = most.min(items + 1);
-        if !write_texts(&self.rooms[..used], &mut self.text, self.most_bytes, out) {
-            return Handed::Cut;
+        let items = receive(session, port, self.rooms.as_mut_slice(), most);
+        Taken {
+            rooms: most.min(items + 1),
+            are_items: items == most,
         }
-        if items == most {
-            Handed::Items(items as u64)
-        } else {
-            Handed::Last
-        }
+    }
+
+    /// Writes the texts of what the first rooms have, in order: whether the writer took them.
+    pub fn write_items<W: Write>(&mut self, taken: Taken, out: &mut W) -> bool
+        requires { taken.rooms ≤ 256 }
+        ensures wrote { IsTrue result → Appends (W.contents out.old) (W.contents out.new)
+            (texts_of (take taken.rooms self.old.rooms.items)) }
+    {
+        write_texts(
+            &self.rooms[..taken.rooms],
+            &mut self.text,
+            self.most_bytes,
+            out,
+        )
     }
 }
 
@@ -156,25 +155,40 @@ fn receive<P: Port>(session: &Session, port: &mut P, rooms: &mut [Room], most: u
 fn write_texts<W: Write>(rooms: &[Room], text: &mut Vec<u8>, most_bytes: usize, out: &mut W) -> bool
     ensures wrote { IsTrue result →
         Appends (W.contents out.old) (W.contents out.new) (texts_of rooms.now) }
-    ensures some { result ≡ false → texts_of rooms.now ≢ [] }
 {
-    let full = most_bytes.saturating_sub(LONGEST);
     text.clear();
     for room in rooms {
-        if text.len() > full && !write_out(text, out) {
+        let before = text.len();
+        if !room.delivery.write(&room.item, text) {
             return false;
         }
-        if !room.delivery.write(&room.item, text) {
+        if text.len() > most_bytes && !write_front(text, before, out) {
             return false;
         }
     }
     write_out(text, out)
 }
 
+/// Writes this many bytes of the texts, and keeps the others: whether the writer took them.
+#[inline(never)]
+fn write_front<W: Write>(text: &mut Vec<u8>, len: usize, out: &mut W) -> bool
+    requires { len ≤ length text.old.items }
+    ensures wrote { IsTrue result → Wrote W.contents out.old (take len text.old.items) out.new }
+    ensures rest { IsTrue result → text.new.items ≡ drop len text.old.items }
+{
+    let is_taken = len == 0 || out.write_all(&text[..len]).is_ok();
+    if !is_taken {
+        return false;
+    }
+    let rest = text.len() - len;
+    text.copy_within(len.., 0);
+    text.truncate(rest);
+    true
+}
+
 /// Writes the texts, if there are any, and empties them: whether the writer took them.
 fn write_out<W: Write>(text: &mut Vec<u8>, out: &mut W) -> bool
     ensures wrote { IsTrue result → Wrote W.contents out.old text.old.items out.new }
-    ensures some { result ≡ false → text.old.items ≢ [] }
     ensures empty { text.new.items ≡ [] }
 {
     let is_taken = text.is_empty() || out.write_all(text).is_ok();

@@ -30,7 +30,7 @@ pub mod serving;
 mod sessions;
 mod talk;
 
-pub use batch::{Batch, Handed};
+pub use batch::{Batch, Taken};
 pub use can_hub::{Bench, HeldPort, Hub, PassPort, SettleFault};
 pub use conn::Conn;
 pub use door::{Door, Listener};

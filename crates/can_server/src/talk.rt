@@ -1,10 +1,10 @@
 ghost use Rattle.std.specs.Prelude.{◌≡◌};
 
-use crate::batch::{Batch, Handed};
+use crate::batch::Batch;
 use crate::conn::{Conn, Out};
 use crate::opening::{FirstBytes, Opening};
 use can_bus::{Journaled, SocketId};
-use can_dialog::{Session, SessionFault, Stage};
+use can_dialog::{Session, Stage};
 use can_fault::FaultSource;
 use can_frame::{Iface, Moment};
 use can_hub::{HeldPort, Hub, PassPort, Tally};
@@ -85,40 +85,32 @@ impl<
         if self.opening == Opening::Request {
             return false;
         }
-        let port = HeldPort::new(&mut self.port);
-        let fed = self.batch.feed(
-            &mut self.session,
-            alloc,
-            piece,
-            moment,
-            port,
-            &mut Out(conn),
-        );
-        match fed {
-            Ok(()) => !self.is_over(),
-            Err(SessionFault::Write) => {
-                self.cut(conn);
-                false
-            }
-            Err(_) => false,
+        let mut port = HeldPort::new(&mut self.port);
+        let fed = self
+            .batch
+            .hear(&mut self.session, alloc, piece, moment, &mut port);
+        drop(port);
+        if fed.is_err() {
+            return false;
         }
+        if !self.batch.write(&mut Out(conn)) {
+            self.cut(conn);
+            return false;
+        }
+        !self.is_over()
     }
 
     /// Gives the client up to this many items: how many it took, or `None` where there can be no more. They are
     /// received in one hold of the bus's lock, and their texts are written after it.
     pub fn deliver(&mut self, waiting: u64, conn: &Conn) -> Option<u64> {
-        let port = HeldPort::new(&mut self.port);
-        match self
-            .batch
-            .hand_over(&self.session, waiting, port, &mut Out(conn))
-        {
-            Handed::Items(count) => Some(count),
-            Handed::Last => None,
-            Handed::Cut => {
-                self.cut(conn);
-                None
-            }
+        let mut port = HeldPort::new(&mut self.port);
+        let taken = self.batch.take(&self.session, waiting, &mut port);
+        drop(port);
+        if !self.batch.write_items(taken, &mut Out(conn)) {
+            self.cut(conn);
+            return None;
         }
+        taken.are_items.then_some(taken.rooms as u64)
     }
 
     /// Ends the session, whose client did not take what was written.

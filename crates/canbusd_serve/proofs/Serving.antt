@@ -4,21 +4,23 @@ use Rattle.std.proofs.lemmas.List.Elements.{All-cons}
 use Rattle.std.proofs.lemmas.Option.{slice_get-get_or}
 use Rattle.can_frame.specs.Names.{AreNames, names_in}
 use Rattle.can_station.specs.declared.gate.Open.{Open}
-use Rattle.can_record.specs.Journal.{Kept}
+use Rattle.can_record.specs.Journal.{Journal, Kept}
 use Rattle.can_station.specs.declared.pass.Settled.{Settled}
 use Rattle.can_station.specs.Passes.{PassSeen}
 use Rattle.can_hub.specs.declared.bench.Bench.{Bench}
 use Rattle.can_bus.specs.declared.bus.BusFault.{BusFault}
 use Rattle.can_bus.specs.declared.bus.BusFault.TheVariants.{BadConfig, NoMemory}
 use Rattle.can_hub.specs.Benches.{MakeHub, buses_from}
-use Rattle.can_hub.specs.Settling.{AllSettle}
+use Rattle.can_hub.specs.Settling.{AllConfigured, AllSettle}
+use Rattle.std.specs.List.{AllZip}
+use Rattle.canbusd_files.specs.Buses.{config_of}
 use Rattle.canbusd_faults.specs.declared.fault.Failure.{Failure}
 use Rattle.canbusd_faults.specs.declared.fault.Fault.{Fault}
 use Rattle.canbusd_faults.specs.declared.fault.Fault.TheVariants as fault
 use Rattle.canbusd_options.specs.declared.bus_word.BusWord.{BusWord}
 use Rattle.can_fault.specs.declared.fault_source.Perfect.{Perfect}
 use Rattle.canbusd_options.specs.declared.serve_options.ServeOptions.{ServeOptions}
-use Rattle.canbusd_serve.specs.Served.{AreAllBenches, AreBenches, IsBenchOf, IsLegalEnd, IsOfBus, IsOfBuses, IsOfHub, IsOfServer, IsOfServing, MakeBenches}
+use Rattle.canbusd_serve.specs.Served.{AreAllBenches, AreBenches, AreConfigured, IsBenchOf, IsLegalEnd, IsOfBus, IsOfBuses, IsOfHub, IsOfServer, IsOfServing, MakeBenches}
 
 -- The buses of a server, one after the other.
 
@@ -79,6 +81,23 @@ settles-legal [] [] all = λ k d low. absurd (omega arith)
 settles-legal (p ∷ ps) (s ∷ ss) all = All-cons (λ s. IsLegalEnd s) s ss all.0.legal (settles-legal ps ss all.1)
 settles-legal [] (s ∷ ss) all = absurd all
 settles-legal (p ∷ ps) [] all = absurd all
+
+-- and have the configurations of the benches
+pub settles-configured : {F G L : Type 0} (left : L → Journal) (n : ℕ) (benches : List (Bench F G)) (ends : List (Settled L)) → AllConfigured left (buses_from n benches) ends → AllZip (λ b s. (left s.history).config ≡ b.config) benches ends
+settles-configured left n [] [] all = tt
+settles-configured left n (b ∷ bs) (s ∷ ss) all = (all.0, settles-configured left (suc n) bs ss all.1)
+settles-configured left n [] (s ∷ ss) all = absurd all
+settles-configured left n (b ∷ bs) [] all = absurd all
+
+-- which are those that the words and the options give
+pub served-configured : (o : ServeOptions) (buses : List BusWord) (benches : List (Bench Perfect Open)) (ends : List (Settled Kept)) → AreBenches o buses benches → AllZip (λ b s. s.history.config ≡ b.config) benches ends → AreConfigured o buses ends
+served-configured o [] [] [] are all = tt
+served-configured o (x ∷ xs) (b ∷ bs) (s ∷ ss) are all =
+    (all.0 ∙ are.0.config ∙ ap (λ (ns : List (List ℕ)). config_of o.settings (length ns)) are.0.names, served-configured o xs bs ss are.1 all.1)
+served-configured o [] (b ∷ bs) ends are all = absurd are
+served-configured o (x ∷ xs) [] ends are all = absurd are
+served-configured o [] [] (s ∷ ss) are all = absurd all
+served-configured o (x ∷ xs) (b ∷ bs) [] are all = absurd all
 
 -- if nothing was reported, the outcome was good
 pub not-told : {A E : Type 0} (P : Type 0) (r : Result A E) (told : Bool) → IfErr r (λ _. IsTrue told) → OnOk r P → told ≡ false → P

@@ -88,15 +88,30 @@ end_lines (bus ∷ buses) (s ∷ settled) = end_line bus s ++ end_lines buses se
 abbrev pub listening_line : List ℕ → List ℕ
 listening_line heard = codes "listening " ++ heard ++ 10 ∷ []
 
--- it was reported where a server listens
-abbrev pub IsListening : {W : Type 0} → (W → Option (List ℕ)) → W → W → Type 0
-IsListening contents old new = (heard : List ℕ) × Appends (contents old) (contents new) (listening_line heard)
+-- an address leaves the port to the system: its port is 0
+abbrev pub LeavesPort : List ℕ → Type 0
+LeavesPort address = (host : List ℕ) × (address ≡ host ++ codes ":0")
 
--- a server reported where it listens, and at its end how many entries the legal record of each bus has
+-- a server listens at the address that it was given, or its port was left to the system
+abbrev pub IsHeardAt : List ℕ → List ℕ → Type 0
+IsHeardAt address heard = LeavesPort address ⊎ (heard ≡ address)
+
+-- it was reported where a server listens that was given this address
+abbrev pub IsListening : {W : Type 0} → (W → Option (List ℕ)) → List ℕ → W → W → Type 0
+IsListening contents address old new = (heard : List ℕ) × IsHeardAt address heard × Appends (contents old) (contents new) (listening_line heard)
+
+-- each bus leaves a record of the configuration that its word and the options give
+abbrev pub AreConfigured : ServeOptions → List BusWord → List (Settled Kept) → Type 0
+AreConfigured o buses settled = AllZip (λ bus s. s.history.config ≡ config_of o.settings (length (names_in bus.names.now))) buses settled
+
+-- a server reported where it listens, and at its end how many entries the record of each bus has, which is legal and of the
+-- bus's configuration
 pub record IsServed {W : Type 0} (contents : W → Option (List ℕ)) (o : ServeOptions) (old new : W) : Type 0 where
   pub named : All (λ bus. AreNames (names_in bus.names.now)) o.buses.items
   pub settled : List (Settled Kept)
   pub each : length settled ≡ length o.buses.items
+  pub configured : AreConfigured o o.buses.items settled
   pub legal : All (λ s. IsLegalEnd s) settled
   pub heard : List ℕ
+  pub address : IsHeardAt o.address.now heard
   pub wrote : Appends (contents old) (contents new) (listening_line heard ++ end_lines o.buses.items settled)

@@ -1,7 +1,7 @@
 //! Where a server listens: a Unix path, or a host and a port.
-ghost use Rattle.std.specs.Prelude.{◌≡◌, IfErr};
+ghost use Rattle.std.specs.Prelude.{◌≡◌, IfErr, IfOk, IsTrue, string_bytes};
 ghost use Rattle.canbusd_faults.specs.declared.fault.Fault.TheVariants as fault;
-ghost use Rattle.canbusd_serve.specs.Served.{IsOfServing};
+ghost use Rattle.canbusd_serve.specs.Served.{IsHeardAt, IsOfServing, LeavesPort};
 
 use crate::socket_file::SocketFile;
 use can_server::{Door, Listener};
@@ -33,7 +33,8 @@ pub fn listen<'a, H: Files<File = File> + Net<Listener = TcpListener, Stream = T
     address: &str,
     sessions: u32,
 ) -> Result<Listening, Failure<'a>>
-    ensures { IfErr result (λ failure. IsOfServing failure.fault) }
+    ensures heard { IfOk result (λ listening. IsHeardAt address.now (string_bytes listening.heard)) }
+    ensures fault { IfErr result (λ failure. IsOfServing failure.fault) }
 {
     let (listener, file) = match bind(rt, alloc, address) {
         Ok(bound) => bound,
@@ -58,7 +59,8 @@ fn open<'a>(
     listener: Listener,
     sessions: u32,
 ) -> Result<(Door, String), Failure<'a>>
-    ensures { IfErr result (λ failure. IsOfServing failure.fault) }
+    ensures heard { IfOk result (λ opened. IsHeardAt address.now (string_bytes opened.1)) }
+    ensures fault { IfErr result (λ failure. IsOfServing failure.fault) }
 {
     let Ok(heard) = heard_at(alloc, address, &listener) else {
         return Err(Failure::new(alloc, Fault::NoMemory));
@@ -100,7 +102,9 @@ fn bind<H: Files<File = File> + Net<Listener = TcpListener, Stream = TcpStream>>
     }
 }
 
-fn heard_at(alloc: Global, address: &str, listener: &Listener) -> Result<String, AllocError> {
+fn heard_at(alloc: Global, address: &str, listener: &Listener) -> Result<String, AllocError>
+    ensures { IfOk result (λ heard. IsHeardAt address.now (string_bytes heard)) }
+{
     if let Listener::Tcp(listener) = listener {
         if is_port_open(address) {
             if let Ok(got) = listener.local_addr() {
@@ -116,9 +120,8 @@ fn is_path(address: &str) -> bool {
 }
 
 // Whether the port is left to the system.
-fn is_port_open(address: &str) -> bool {
-    match address.rsplit_once(':') {
-        Some((_, port)) => port.parse::<u16>() == Ok(0),
-        None => false,
-    }
+fn is_port_open(address: &str) -> bool
+    ensures { IsTrue result → LeavesPort address.now }
+{
+    address.ends_with(":0")
 }

@@ -1,8 +1,9 @@
+ghost use Rattle.std.specs.List.{AllZip};
 ghost use Rattle.std.specs.Prelude.{◌≡◌, length, All, IfErr, IfOk, IsTrue, OnOk};
 ghost use Rattle.can_hub.specs.Benches.{NamedFrom};
 ghost use Rattle.canbusd_faults.specs.declared.fault.Fault.TheVariants as fault;
 ghost use Rattle.canbusd_files.specs.Files.{Took};
-ghost use Rattle.canbusd_serve.specs.Served.{AreAllBenches, IsBenchOf, IsLegalEnd, IsListening, IsOfBus, IsOfHub, IsOfServer, IsOfServing, IsServed, end_line, end_lines, listening_line};
+ghost use Rattle.canbusd_serve.specs.Served.{AreAllBenches, IsBenchOf, IsHeardAt, IsLegalEnd, IsListening, IsOfBus, IsOfHub, IsOfServer, IsOfServing, IsServed, end_line, end_lines, listening_line};
 
 use crate::buses_notes::buses_note;
 use crate::host::Host;
@@ -147,7 +148,10 @@ impl<'r, 'a, H: ServerRuntime> ServerRun<'r, 'a, H> {
         requires { NamedFrom N.roll N.meter 0 benches.items }
         ensures each { IfOk result (λ settled. length settled.items ≡ length benches.items) }
         ensures legal { IfOk result (λ settled. All (λ s. IsLegalEnd s) settled.items) }
-        ensures listening { OnOk result (IsListening W.contents output.old output.new) }
+        ensures configured { IfOk result (λ settled.
+            AllZip (λ b s. s.history.config ≡ b.config) benches.items settled.items) }
+        ensures listening { OnOk result
+            (IsListening W.contents self.now.options.now.address.now output.old output.new) }
         ensures fault { IfErr result (λ failure. IsOfHub benches.items failure.fault) }
     {
         let hub = match Hub::<N, Perfect, Open>::new(self.alloc, benches) {
@@ -201,7 +205,8 @@ impl<'r, 'a, H: ServerRuntime> ServerRun<'r, 'a, H> {
         errors: &mut E,
     ) -> Result<Vec<Vec<Pass<N>>>, Failure<'a>>
         ensures passes { IfOk result (λ passes. length passes.items ≡ length hub.now) }
-        ensures listening { OnOk result (IsListening W.contents output.old output.new) }
+        ensures listening { OnOk result
+            (IsListening W.contents self.now.options.now.address.now output.old output.new) }
         ensures fault { IfErr result (λ failure. IsOfServing failure.fault) }
     {
         let address = self.options.address;
@@ -228,8 +233,10 @@ impl<'r, 'a, H: ServerRuntime> ServerRun<'r, 'a, H> {
         output: &mut W,
         errors: &mut E,
     ) -> Result<Vec<Vec<Pass<N>>>, Failure<'a>>
+        requires { IsHeardAt self.now.options.now.address.now heard.now }
         ensures passes { IfOk result (λ passes. length passes.items ≡ length hub.now) }
-        ensures listening { OnOk result (IsListening W.contents output.old output.new) }
+        ensures listening { OnOk result
+            (IsListening W.contents self.now.options.now.address.now output.old output.new) }
         ensures fault { IfErr result (λ failure. IsOfServing failure.fault) }
     {
         let until = if self.options.is_until_eof {

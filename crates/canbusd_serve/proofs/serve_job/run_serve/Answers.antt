@@ -3,7 +3,7 @@ use Rattle.can_hub.proofs.Naming.{named}
 use Rattle.std.specs.Io.KnownBytes.{Appends}
 use Rattle.std.proofs.KnownBytes.{Appends-trans}
 use Rattle.canbusd_serve.specs.Served.{end_lines}
-use Rattle.canbusd_serve.proofs.Serving.{benches-length, benches-named, hub-passed, not-told}
+use Rattle.canbusd_serve.proofs.Serving.{benches-length, benches-named, hub-passed, not-told, served-configured}
 use Rattle.canbusd_serve.proofs.serve_job.run_serve.Goals as goal
 use Rattle.canbusd_serve.proofs.serve_job.run_serve.Goals.{in-Some, in_default}
 
@@ -31,7 +31,9 @@ returns-clause-served g c = λ whole.
       named = benches-named _ _ _ c.in_ok-benches.ensures.made;
       settled = c.in_ok-settled.settled.items;
       each = c.in_ok-settled.ensures.each ∙ benches-length _ _ _ c.in_ok-benches.ensures.made;
+      configured = served-configured _ _ _ _ c.in_ok-benches.ensures.made c.in_ok-settled.ensures.configured;
       legal = c.in_ok-settled.ensures.legal;
       heard = c.in_ok-settled.ensures.listening.0;
-      wrote = Appends-trans _ _ _ _ _ c.in_ok-settled.ensures.listening.1 all;
+      address = c.in_ok-settled.ensures.listening.1.0;
+      wrote = Appends-trans _ _ _ _ _ c.in_ok-settled.ensures.listening.1.1 all;
     }

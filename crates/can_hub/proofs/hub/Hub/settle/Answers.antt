@@ -2,9 +2,9 @@ use Rattle.std.proofs.Common.{◌≡◌, ◌+◌, ◌∷◌, ◌++◌, ◌∙◌
 use Rattle.std.specs.Vec.Iter.{into_iter_items}
 use Rattle.can_hub.specs.Buses.{BusSeen, NumberedFrom}
 use Rattle.can_station.specs.Passes.{PassSeen, AllOf, SomeOther}
-use Rattle.can_hub.specs.Settling.{AllSettleIn}
+use Rattle.can_hub.specs.Settling.{AllConfigured, AllSettleIn}
 use Rattle.can_hub.proofs.Making.{emptied}
-use Rattle.can_hub.proofs.Ending.{settle_none, own_push, settle_push}
+use Rattle.can_hub.proofs.Ending.{configured_push, settle_none, own_push, settle_push}
 use Rattle.can_hub.proofs.hub.Hub.settle.Goals as goal
 
 pub loop-wire-init : goal.loop-wire-init
@@ -18,7 +18,10 @@ loop-wire-init g c =
     let passes = ap length lists.rest in
     let buses = ap length c.self.view_is in (
       [],
+      [],
       record {
+        buses = given.0 ∙ c.self.view_is;
+        configured = subst (λ (ds : List _). AllConfigured g.B.Journaled.left [] ds) (sym own.3) tt;
         lists = lists.rest;
         own = tt;
         settled = settle_none Global g.B.Journaled.left c.self.inside.settled.items own.3;
@@ -34,7 +37,7 @@ loop-wire-init g c =
 pub returns-in_default-settle-clause-refused : goal.returns-in_default-settle-clause-refused
 returns-in_default-settle-clause-refused g c =
     let before = c.loop-wire.invariant.0 in
-    let i = c.loop-wire.invariant.1 in
+    let i = c.loop-wire.invariant.1.1 in
     let own = c.in-Some-next.own in
     let done = c.loop-wire.settled.items in
     let numbered = subst (λ (ws : List BusSeen). NumberedFrom (length done) ws) c.in-Some.ensures.steps.0 i.numbered in
@@ -57,7 +60,8 @@ returns-in_default-settle-clause-refused g c =
 pub loop-wire-preserved : goal.loop-wire-preserved
 loop-wire-preserved g c =
     let before = c.loop-wire.invariant.0 in
-    let i = c.loop-wire.invariant.1 in
+    let gone = c.loop-wire.invariant.1.0 in
+    let i = c.loop-wire.invariant.1.1 in
     let own = c.in-Some-next.own in
     let done = c.loop-wire.settled.items in
     let new = c.push_reserved.new.self.items in
@@ -73,7 +77,11 @@ loop-wire-preserved g c =
     let passes = ap length lists.items in
     let next : suc (length done) ≡ length new = omega (arith, grown) in (
       before ++ own ∷ [],
+      gone ++ c.in-Some.wire ∷ [],
       record {
+        buses = append_assoc gone (c.in-Some.wire ∷ []) (into_iter_items c.next.new.self) ∙ ap (λ (r : List BusSeen). gone ++ r) (sym steps.0) ∙ i.buses;
+        configured = subst (λ (ds : List _). AllConfigured g.B.Journaled.left (gone ++ c.in-Some.wire ∷ []) ds) (sym c.push_reserved.ensures.items)
+            (configured_push g.B.Journaled.left gone done c.in-Some.wire c.in-Ok.left i.configured (c.in-Ok.ensures.config ∙ ap (λ (b : BusSeen). b.config) c.wire.view_is));
         lists = append_assoc before (own ∷ []) (into_iter_items c.next-in-loop-wire.new.self) ∙ ap (λ (r : List (Vec PassSeen Global)). before ++ r) (sym lists.items) ∙ i.lists;
         own = own_push 0 (length done) before own i.own (omega (arith, i.place)) (subst (λ (k : ℕ). AllOf k own.items) bus c.in-Ok.ensures.refused.0);
         settled = subst (λ (ds : List _). AllSettleIn g.B.Journaled.left (before ++ own ∷ []) ds) (sym c.push_reserved.ensures.items) (settle_push g.B.Journaled.left before done own c.in-Ok.left i.settled c.in-Ok.ensures.settled);
@@ -89,7 +97,15 @@ loop-wire-preserved g c =
 pub returns-clause-settled : goal.returns-clause-settled
 returns-clause-settled g c =
     let before = c.loop-wire.invariant.0 in
-    let i = c.loop-wire.invariant.1 in
+    let i = c.loop-wire.invariant.1.1 in
     let none = emptied (into_iter_items c.loop-wire.lists) (omega (arith, c.in-None.ensures.steps.0, i.same, i.passes)) in
     let all : before ≡ c.args.passes.items = sym (append-nil before) ∙ ap (λ (r : List (Vec PassSeen Global)). before ++ r) (sym none) ∙ i.lists in
     subst (λ (ps : List (Vec PassSeen Global)). AllSettleIn g.B.Journaled.left ps c.loop-wire.settled.items) all i.settled
+
+pub returns-clause-configured : goal.returns-clause-configured
+returns-clause-configured g c =
+    let gone = c.loop-wire.invariant.1.0 in
+    let i = c.loop-wire.invariant.1.1 in
+    let none = emptied (into_iter_items c.loop-wire.wire-iterator) (omega (arith, c.in-None.ensures.steps.0, i.wires)) in
+    let all : gone ≡ c.args.self = sym (append-nil gone) ∙ ap (λ (r : List BusSeen). gone ++ r) (sym none) ∙ i.buses in
+    subst (λ (bs : List BusSeen). AllConfigured g.B.Journaled.left bs c.loop-wire.settled.items) all i.configured

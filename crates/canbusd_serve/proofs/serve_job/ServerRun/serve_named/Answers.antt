@@ -1,5 +1,7 @@
-use Rattle.std.proofs.Common.{length, Err, ap, ◌∙◌}
-use Rattle.canbusd_serve.proofs.Serving.{buses-length, hub-fails, serving-fails, serving-passed, settles-length, settles-legal}
+use Rattle.std.proofs.Common.{List, length, Err, ap, subst, ◌∙◌}
+use Rattle.can_hub.specs.Buses.{BusSeen}
+use Rattle.can_hub.specs.Settling.{AllConfigured}
+use Rattle.canbusd_serve.proofs.Serving.{buses-length, hub-fails, serving-fails, serving-passed, settles-configured, settles-length, settles-legal}
 use Rattle.canbusd_serve.proofs.serve_job.ServerRun.serve_named.Goals as goal
 
 pub returns-in-Err-clause-fault : goal.returns-in-Err-clause-fault
@@ -18,3 +20,7 @@ returns-in-Ok-settle-clause-each g c =
 
 pub returns-in-Ok-settle-clause-legal : goal.returns-in-Ok-settle-clause-legal
 returns-in-Ok-settle-clause-legal g c = settles-legal _ _ c.in-Ok-settle.ensures.settled
+
+pub returns-in-Ok-settle-clause-configured : goal.returns-in-Ok-settle-clause-configured
+returns-in-Ok-settle-clause-configured g c =
+    settles-configured _ 0 c.args.benches.items _ (subst (λ (buses : List BusSeen). AllConfigured _ buses c.in-Ok-settle.settled.items) c.in-Ok.ensures.made c.in-Ok-settle.ensures.configured)
