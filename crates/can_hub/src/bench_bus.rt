@@ -19,7 +19,7 @@ pub trait BenchBus: Journaled {
     /// `NoMemory` where that was refused.
     fn with_room(alloc: Global, config: BusConfig, size: u32) -> Result<Self, BusFault>
         requires { limits config }
-        ensures made { IfOk result (λ b. journal b ≡ record { config = config; history = [] }) }
+        ensures made { IfOk result (λ b. Self.journal b ≡ record { config = config; history = [] }) }
         ensures proper { OnOk result (IsLongConfig config) }
         ensures fault { IfErr result (λ e. e ≡ BusFault.NoMemory) };
 }
