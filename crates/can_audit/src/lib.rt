@@ -8,4 +8,4 @@ pub use can_record_text::{
 };
 pub use can_reference::{ReplayFault, candidates, projected, queued, replies_of};
 pub use can_replay::{AuditFault, audit};
-pub use can_text_audit::{TextAudit, TextFault, WrongLine};
+pub use can_text_audit::{Cut, TextAudit, TextFault, WrongLine};

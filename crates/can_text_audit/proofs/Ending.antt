@@ -19,11 +19,15 @@ use Rattle.can_record_text.proofs.LineLists.{lines-rest}
 use Rattle.can_record_text.proofs.Versioning.{version_is}
 use Rattle.can_record_text.proofs.Whole.{first_is_wrong, front-then, needs_no_three}
 use Rattle.can_text_audit.specs.declared.body.Body.{Body}
+use Rattle.can_text_audit.specs.declared.fault.Cut.{Cut}
+use Rattle.can_text_audit.specs.declared.fault.Cut.TheVariants as cut
+use Rattle.can_text_audit.specs.declared.fault.TextFault.{TextFault}
+use Rattle.can_text_audit.specs.declared.fault.TextFault.TheVariants as found
 use Rattle.can_text_audit.specs.declared.fault.WrongLine.{WrongLine}
-use Rattle.can_text_audit.specs.TextAudits.{IsLegalText, IsLine, IsWrongText, MayFollow}
+use Rattle.can_text_audit.specs.TextAudits.{EndsNoLine, IsCutText, IsFrontOf, IsLegalText, IsLine, IsWrongCut, IsWrongText, MayFollow, Tells, TellsCut}
 use Rattle.can_text_audit.specs.inner.Bodies.{IsGoing, IsSettled, so_far}
 use Rattle.can_text_audit.specs.inner.Steps.{IsUnended, StandsEnd}
-use Rattle.can_text_audit.proofs.LineEnds.{cut_bus, cut_end, lacks_bus, lacks_end, lacks_entry}
+use Rattle.can_text_audit.proofs.LineEnds.{cut_bus, cut_end, lacks_bus, lacks_end, lacks_entry, torn_bus, torn_first}
 
 -- ---- the bus's line
 
@@ -64,17 +68,20 @@ some_more [] ys some is = some refl
 some_more (x ∷ xs) ys some is = absurd cc
 
 -- behind the end
-pub goes_on : (text line after : List ℕ) (b : Body) → IsGoing text b → b.is_ended ≡ true → IsLine line → IsFirstWrong (text ++ (line ++ after)) (b.count + 4)
-goes_on text line after b g ended is = inr (inr (record {
+pub more_there : (text rest : List ℕ) (b : Body) → IsGoing text b → b.is_ended ≡ true → rest ≢ [] → IsFirstWrong (text ++ rest) (b.count + 4)
+more_there text rest b g ended some = inr (inr (record {
   version = b.version;
   config = b.config;
   entries = g.read.entries;
-  rest = line ++ after;
+  rest = rest;
   whole = g.read.good;
-  begins = ap (λ (x : List ℕ). x ++ (line ++ after)) (g.read.begins ∙ ended_text b.is_ended b.version b.config g.read.entries ended);
+  begins = ap (λ (x : List ℕ). x ++ rest) (g.read.begins ∙ ended_text b.is_ended b.version b.config g.read.entries ended);
   behind = ap (λ (n : ℕ). n + 4) g.read.counted;
-  more = some_more line after is.some;
+  more = some;
 }))
+
+pub goes_on : (text line after : List ℕ) (b : Body) → IsGoing text b → b.is_ended ≡ true → IsLine line → IsFirstWrong (text ++ (line ++ after)) (b.count + 4)
+goes_on text line after b g ended is = more_there text (line ++ after) b g ended (some_more line after is.some)
 
 -- neither an entry's line nor the end
 unended : (text line after : List ℕ) (b : Body) (why : ReadFault) → IsGoing text b → b.is_ended ≡ false → b.count < 2 ^ 64 → MayFollow line after → LacksEntry b.version b.config line → IsUnended b.count line why → Reads (text ++ (line ++ after)) (Err why)
@@ -178,3 +185,49 @@ one_wrong text b w g end needed some = record {
   whole = is_text text b g end needed;
   wrong = subst (IsSettled b.config g.read.entries) some g.read.settled;
 }
+
+-- ---- the text has ended, maybe cut off
+
+front_is : (text torn : List ℕ) (b : Body) (g : IsGoing text b) → b.is_ended ≡ false → EndsNoLine torn → IsFrontOf (text ++ torn) b.config g.read.entries
+front_is text torn b g going h = record {
+  version = b.version;
+  torn = torn;
+  good = g.read.good;
+  begins = ap (λ (x : List ℕ). x ++ torn) g.read.begins ∙ open_text b.is_ended b.version b.config g.read.entries torn going;
+  unended = h;
+}
+
+pub cut_legal : (text torn : List ℕ) (b : Body) → IsGoing text b → b.is_ended ≡ false → EndsNoLine torn → b.wrong ≡ None → IsCutText (text ++ torn) b.count
+cut_legal text torn b g going h none = record {
+  config = b.config;
+  entries = g.read.entries;
+  front = front_is text torn b g going h;
+  legal = subst (IsSettled b.config g.read.entries) none g.read.settled;
+  counted = g.read.counted;
+}
+
+pub cut_wrong : (text torn : List ℕ) (b : Body) (w : WrongLine) → IsGoing text b → b.is_ended ≡ false → EndsNoLine torn → b.wrong ≡ Some w → IsWrongCut (text ++ torn) w
+cut_wrong text torn b w g going h some = record {
+  config = b.config;
+  entries = g.read.entries;
+  front = front_is text torn b g going h;
+  wrong = subst (IsSettled b.config g.read.entries) some g.read.settled;
+}
+
+-- a text that has its end is what it is
+pub whole_legal : (text torn : List ℕ) (count : ℕ) → torn ≡ [] → IsLegalText text count → IsLegalText (text ++ torn) count
+whole_legal text torn count none h = subst (λ (x : List ℕ). IsLegalText x count) (sym (ap (λ (x : List ℕ). text ++ x) none ∙ append-nil text)) h
+
+pub whole_fault : (text torn : List ℕ) (why : TextFault) → torn ≡ [] → Tells text (Err why) → TellsCut (text ++ torn) (Err why)
+whole_fault text torn why none h = subst (λ (x : List ℕ). TellsCut x (Err why)) (sym (ap (λ (x : List ℕ). text ++ x) none ∙ append-nil text)) (same why h)
+  where
+    same : (why : TextFault) → Tells text (Err why) → TellsCut text (Err why)
+    same (found.Read what) h = h
+    same (found.Wrong w) h = inl h
+
+-- within its first two lines
+pub cut_first : (text torn : List ℕ) → text ≡ [] → EndsNoLine torn → IsOfNoVersion (text ++ torn)
+cut_first text torn none h = subst IsOfNoVersion (ap (λ (x : List ℕ). x ++ torn) (sym none)) (inl (torn_first torn h))
+
+pub cut_second : (v : Version) (text torn : List ℕ) → text ≡ first_line v → EndsNoLine torn → IsFirstWrong (text ++ torn) 2
+cut_second v text torn is h = first_is_wrong v (text ++ torn) torn (ap (λ (x : List ℕ). x ++ torn) is) (torn_bus v torn h)

@@ -15,7 +15,7 @@ use Rattle.can_record_text.specs.RecordFaults.{LacksBus, LacksEnd, LacksEntry, L
 use Rattle.can_record_text.specs.Spelling.{bus_words, end_words, entry_line, entry_words, event_words, first_line, reply_words, spell}
 use Rattle.can_record_text.specs.Values.{HasBusLine, HasLine}
 use Rattle.can_record_text.proofs.Again.{spell-rest}
-use Rattle.can_text_audit.specs.TextAudits.{IsLine, MayFollow}
+use Rattle.can_text_audit.specs.TextAudits.{EndsNoLine, IsLine, MayFollow}
 use Rattle.can_text_audit.proofs.PlainWords.{AreWords, bus_are_words, end_are_words, entry_are_words}
 
 -- no byte of a word ends a line
@@ -111,3 +111,29 @@ lacks_end n line after small may lacks more is = lacks [] (same_line line after 
 
 pub lacks_first : (line after : List ℕ) → MayFollow line after → LacksFirst line → LacksFirst (line ++ after)
 lacks_first line after may lacks v rest is = lacks v [] (same_line line after (first_line v ++ rest) (first_line v) may is (first_through v rest) ∙ sym (append-nil (first_line v)))
+
+-- ---- bytes that end no line
+
+line_ends : (xs rest : List ℕ) → EndsNoLine (xs ++ 10 ∷ rest) → ⊥
+line_ends [] rest h = All-head (λ b. b ≢ 10) 10 rest h refl
+line_ends (x ∷ xs) rest h = line_ends xs rest (All-tail (λ b. b ≢ 10) x (xs ++ 10 ∷ rest) h)
+
+behind_part : (xs ys : List ℕ) → EndsNoLine (xs ++ ys) → EndsNoLine ys
+behind_part [] ys h = h
+behind_part (x ∷ xs) ys h = behind_part xs ys (All-tail (λ b. b ≢ 10) x (xs ++ ys) h)
+
+spell_ends : (w : List ℕ) (ws : List (List ℕ)) (rest : List ℕ) → EndsNoLine (spell (w ∷ ws) rest) → ⊥
+spell_ends w [] rest h = line_ends w rest h
+spell_ends w (v ∷ vs) rest h = spell_ends v vs rest (All-tail (λ b. b ≢ 10) 32 (spell (v ∷ vs) rest) (behind_part w (32 ∷ spell (v ∷ vs) rest) h))
+
+first_ends : (v : Version) (rest : List ℕ) → EndsNoLine (first_line v ++ rest) → ⊥
+first_ends version.One rest h = line_ends (codes "canbus record 1") rest h
+first_ends version.Two rest h = line_ends (codes "canbus record 2") rest h
+first_ends version.Three rest h = line_ends (codes "canbus record 3") rest h
+
+-- no line of theirs stands there
+pub torn_first : (torn : List ℕ) → EndsNoLine torn → LacksFirst torn
+torn_first torn h v rest is = first_ends v rest (subst EndsNoLine is h)
+
+pub torn_bus : (v : Version) (torn : List ℕ) → EndsNoLine torn → LacksBus v torn
+torn_bus v torn h c more good is = spell_ends (codes "bus") _ more (subst EndsNoLine is h)

@@ -1,12 +1,16 @@
-use Rattle.std.specs.Prelude.{◌≡◌, ◌≢◌, ℕ, List, [], ◌++◌, length, reverse, Result, Ok, Err}
+use Rattle.std.specs.Prelude.{◌≡◌, ◌≢◌, ◌⊎◌, ℕ, Bool, false, All, List, [], ◌++◌, length, reverse, Result, Ok, Err}
 use Rattle.std.specs.Io.{StopsAt}
 use Rattle.std.specs.Io.BufRead.{take_through}
 use Rattle.can_event.specs.declared.bus_config.BusConfig.{BusConfig}
 use Rattle.can_event.specs.declared.entry.Entry.{Entry}
 use Rattle.can_bus.specs.Legal.{IsLegal}
 use Rattle.can_record_text.specs.declared.fault.ReadFault.{ReadFault}
+use Rattle.can_record_text.specs.declared.version.Version.{Version}
 use Rattle.can_record_text.specs.RecordFaults.{IsTextOf, Reads}
-use Rattle.can_record_text.specs.Spelling.{first_line}
+use Rattle.can_record_text.specs.Spelling.{entry_lines, first_line, front_lines}
+use Rattle.can_record_text.specs.Values.{HasLines}
+use Rattle.can_text_audit.specs.declared.fault.Cut.{Cut}
+use Rattle.can_text_audit.specs.declared.fault.Cut.TheVariants as cut
 use Rattle.can_text_audit.specs.declared.fault.TextFault.{TextFault}
 use Rattle.can_text_audit.specs.declared.fault.TextFault.TheVariants as fault
 use Rattle.can_text_audit.specs.declared.fault.WrongLine.{WrongLine}
@@ -37,6 +41,40 @@ abbrev pub Tells : List ℕ → Result ℕ TextFault → Type 0
 Tells text (Ok count) = IsLegalText text count
 Tells text (Err (fault.Read why)) = Reads text (Err why)
 Tells text (Err (fault.Wrong w)) = IsWrongText text w
+
+-- these bytes end no line
+abbrev pub EndsNoLine : List ℕ → Type 0
+EndsNoLine bytes = All (λ b. b ≢ 10) bytes
+
+-- the text is the front of that of a record: the lines of the bus and of these entries, and bytes that end no line
+pub record IsFrontOf (text : List ℕ) (config : BusConfig) (entries : List Entry) : Type 0 where
+  pub version : Version
+  pub torn : List ℕ
+  pub good : HasLines version config entries
+  pub begins : text ≡ front_lines version config (entry_lines entries torn)
+  pub unended : EndsNoLine torn
+
+-- the text is cut off: it is the front of that of a legal record, up to the lines of so many entries
+pub record IsCutText (text : List ℕ) (count : ℕ) : Type 0 where
+  pub config : BusConfig
+  pub entries : List Entry
+  pub front : IsFrontOf text config entries
+  pub legal : IsLegal config (reverse entries)
+  pub counted : count ≡ length entries
+
+-- the text is cut off, and the first wrong entry before its end is this one
+pub record IsWrongCut (text : List ℕ) (w : WrongLine) : Type 0 where
+  pub config : BusConfig
+  pub entries : List Entry
+  pub front : IsFrontOf text config entries
+  pub wrong : IsWrongIn config entries w
+
+-- what is told of a text that has ended, maybe cut off
+abbrev pub TellsCut : List ℕ → Result Cut TextFault → Type 0
+TellsCut text (Ok (cut.Whole count)) = IsLegalText text count
+TellsCut text (Ok (cut.Off count)) = IsCutText text count
+TellsCut text (Err (fault.Read why)) = Reads text (Err why)
+TellsCut text (Err (fault.Wrong w)) = IsWrongText text w ⊎ IsWrongCut text w
 
 -- a line: LF stands at its end alone, or nowhere
 pub record IsLine (line : List ℕ) : Type 0 where
@@ -73,3 +111,8 @@ AreTaken text audit = HasCome text audit.course
 -- this fault was told
 abbrev pub HasFailed : ReadFault → TextAudit → Type 0
 HasFailed why audit = audit.course ≡ course.Failed why
+
+-- the line of the end was taken
+abbrev pub has_ended : Course → Bool
+has_ended (course.Body b) = b.is_ended
+has_ended _ = false

@@ -1,11 +1,11 @@
 ghost use Rattle.std.specs.Prelude.{◌≡◌, ◌≢◌, ◌↔◌, ◌+◌, ◌-◌, ◌^◌, ◌<◌, ◌||◌, ◌++◌, Err, IfErr, IfOk, IsSome, IsTrue, List, None, OnOk, Some, false, true, ℕ};
 ghost use Rattle.can_record_text.specs.Spelling.{first_line};
 ghost use Rattle.can_record_text.specs.inner.Reading.{SeemsToBe};
-ghost use Rattle.can_text_audit.specs.TextAudits.{FailsAfter, FailsNext, IsLine, TakesOn, Tells};
+ghost use Rattle.can_text_audit.specs.TextAudits.{EndsNoLine, FailsAfter, FailsNext, IsLine, TakesOn, Tells, TellsCut};
 ghost use Rattle.can_text_audit.specs.inner.Bodies.{IsGoing};
 ghost use Rattle.can_text_audit.specs.inner.Steps.{Blames, IsUnended, StandsEnd, Takes};
 
-use crate::fault::{TextFault, WrongLine};
+use crate::fault::{Cut, TextFault, WrongLine};
 use can_bus::{BusConfig, Event, LeanRingBus, Refusal, Reply};
 use can_record_text::ReadFault;
 use can_record_text::event_reading::{attempt_front, guess_event, receive_front, send_front};
@@ -291,6 +291,13 @@ impl Body {
         Ok(())
     }
 
+    /// Whether the line of the end was taken.
+    pub fn has_ended(&self) -> bool
+        ensures { result ≡ self.now.is_ended }
+    {
+        self.is_ended
+    }
+
     /// The text has ended.
     pub fn finish(self) -> Result<usize, TextFault>
         ensures { (text : List ℕ) → IsGoing text self → Tells text result }
@@ -312,6 +319,45 @@ impl Body {
         match wrong {
             None => Ok(count as usize),
             Some(wrong) => Err(TextFault::Wrong(wrong)),
+        }
+    }
+
+    /// The text has ended, maybe before its end: these bytes follow the lines that were taken, and end no line.
+    pub fn finish_cut(self, torn: &[u8]) -> Result<Cut, TextFault>
+        ensures { (text : List ℕ) →
+            IsGoing text self → EndsNoLine torn.now → TellsCut (text ++ torn.now) result }
+    {
+        if self.is_ended {
+            self.finish_whole(torn)
+        } else {
+            self.finish_off(torn)
+        }
+    }
+
+    // The same of a text that has its end, which nothing may follow.
+    fn finish_whole(self, torn: &[u8]) -> Result<Cut, TextFault>
+        requires { self.is_ended ≡ true }
+        ensures { (text : List ℕ) → IsGoing text self → TellsCut (text ++ torn.now) result }
+    {
+        if !torn.is_empty() {
+            return Err(TextFault::Read(ReadFault::BadLine(u64::from(self.count) + 4)));
+        }
+        match self.finish() {
+            Ok(count) => Ok(Cut::Whole(count)),
+            Err(why) => Err(why),
+        }
+    }
+
+    // The same of a text without its end.
+    fn finish_off(self, torn: &[u8]) -> Result<Cut, TextFault>
+        requires { self.is_ended ≡ false }
+        ensures { (text : List ℕ) →
+            IsGoing text self → EndsNoLine torn.now → TellsCut (text ++ torn.now) result }
+    {
+        let Body { count, wrong, .. } = self;
+        match wrong {
+            None => Ok(Cut::Off(count as usize)),
+            Some(first) => Err(TextFault::Wrong(first)),
         }
     }
 }

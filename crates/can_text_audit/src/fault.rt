@@ -32,3 +32,12 @@ pub enum TextFault {
     #[error("{0}")]
     Wrong(WrongLine),
 }
+
+/// How far a text reaches that may be cut off, of a record that is legal so far.
+#[derive(Debug, Clone, Copy, PartialEq, Eq)]
+pub enum Cut {
+    /// It is whole, and its record has this many entries.
+    Whole(usize),
+    /// It ends before its last line, after the lines of this many entries.
+    Off(usize),
+}

@@ -3,11 +3,12 @@
 //!
 //! `TextAudit` takes the lines as they come. It answers what `read_record` and then `audit` would of the whole text:
 //! the first line that is wrong, and where there is none the first entry that is, with the reply that would be legal.
+//! Of a text that is cut off, as a run that was killed leaves it, it says how many entries it has.
 #![tactic(auto)]
 
 mod body;
 pub mod fault;
 pub mod text_audit;
 
-pub use fault::{TextFault, WrongLine};
+pub use fault::{Cut, TextFault, WrongLine};
 pub use text_audit::TextAudit;

@@ -3,10 +3,10 @@ ghost use Rattle.can_record_text.specs.declared.fault.ReadFault.{ReadFault as AF
 ghost use Rattle.can_record_text.specs.RecordFaults.{LacksFirst};
 ghost use Rattle.can_record_text.specs.Spelling.{first_line};
 ghost use Rattle.can_record_text.specs.Texts.{StartsWith};
-ghost use Rattle.can_text_audit.specs.TextAudits.{AreTaken, FailsAfter, FailsNext, HasFailed, IsLine, TakesOn, Tells};
+ghost use Rattle.can_text_audit.specs.TextAudits.{AreTaken, EndsNoLine, FailsAfter, FailsNext, HasFailed, IsLine, TakesOn, Tells, TellsCut, has_ended};
 
 use crate::body::Body;
-use crate::fault::TextFault;
+use crate::fault::{Cut, TextFault};
 use can_record_text::ReadFault;
 use can_record_text::lines::read_version;
 use can_record_text::version::Version;
@@ -121,6 +121,34 @@ impl TextAudit {
             Course::Front(_) => Err(TextFault::Read(ReadFault::BadLine(2))),
             Course::Body(body) => body.finish(),
             Course::Failed(why) => Err(TextFault::Read(why)),
+        }
+    }
+
+    /// The text has ended, maybe cut off: how far it reaches, where its record is a legal one so far. The bytes after
+    /// its last LF, which were not taken, are `torn`: where the text is cut off they are not looked at.
+    ///
+    /// A text that is cut off within its first two lines is at fault.
+    pub fn finish_cut(self, torn: &[u8]) -> Result<Cut, TextFault>
+        ensures told { (text : List ℕ) →
+            AreTaken text self → EndsNoLine torn.now → TellsCut (text ++ torn.now) result }
+        ensures again { (why : AFault) → HasFailed why self → result ≡ Err (TextFault.Read why) }
+    {
+        let TextAudit { course, .. } = self;
+        match course {
+            Course::Start => Err(TextFault::Read(ReadFault::BadVersion)),
+            Course::Front(_) => Err(TextFault::Read(ReadFault::BadLine(2))),
+            Course::Body(body) => body.finish_cut(torn),
+            Course::Failed(why) => Err(TextFault::Read(why)),
+        }
+    }
+
+    /// Whether the line of the end was taken, which nothing may follow.
+    pub fn has_ended(&self) -> bool
+        ensures { result ≡ has_ended self.now.course }
+    {
+        match &self.course {
+            Course::Body(body) => body.has_ended(),
+            _ => false,
         }
     }
 }
