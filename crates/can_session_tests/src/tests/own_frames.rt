@@ -62,14 +62,18 @@ fn frames_are_delivered_with_their_origins(rt: HostRuntime) -> Result<(), Fail> 
 #[test]
 fn error_message_frames_have_no_origin(rt: HostRuntime) -> Result<(), Fail> {
     let rest = [
-        Part::Text("fault next 12 from can0 global bit\nfeed 1 < errmask 204 >< errdata 1 >< origin 1 >< recvown 1 >< send 100 0 >\n"),
+        Part::Text(
+            "fault next 12 from can0 global bit\nfeed 1 < errmask 204 >< errdata 1 >< origin 1 >< recvown 1 >< send 100 0 >\n",
+        ),
         Part::Attempts(1, 12),
         Part::Text("attempt\ndrain 1\n"),
     ];
     let wanted = [
         Part::Text("1 < ok >< ok >< ok >< ok >\n"),
         Part::Times(12, "tried can0 0 destroyed - -\n"),
-        Part::Text("tried can0 0 done can1 -\n1 < error 204 0.000012 0008000000006000 >< frame 100 0.000012  same 0 >< error 204 0.000012 0040000000005F00 >\n"),
+        Part::Text(
+            "tried can0 0 done can1 -\n1 < error 204 0.000012 0008000000006000 >< frame 100 0.000012  same 0 >< error 204 0.000012 0040000000005F00 >\n",
+        ),
     ];
     two_write_parts(&rt, TWO, &[], &rest, &wanted)
 }

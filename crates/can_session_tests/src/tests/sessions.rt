@@ -341,8 +341,7 @@ fn sixteen_long_names_are_told_among_other_replies(rt: HostRuntime) {
         b"< echo >< interfaces name-of-can-000 name-of-can-001 name-of-can-002 name-of-can-003 name-of-can-004 name-of-can-005 name-of-can-006 name-of-can-007 name-of-can-008 name-of-can-009 name-of-can-010 name-of-can-011 name-of-can-012 name-of-can-013 name-of-can-014 name-of-can-015 >< error wrong state >< interfaces name-of-can-000 name-of-can-001 name-of-can-002 name-of-can-003 name-of-can-004 name-of-can-005 name-of-can-006 name-of-can-007 name-of-can-008 name-of-can-009 name-of-can-010 name-of-can-011 name-of-can-012 name-of-can-013 name-of-can-014 name-of-can-015 >< ok >< echo >";
     let mut port = bus_of(rt.alloc(), names, AckMode::Always).expect(&rt, "a bus");
     let mut session = Session::new(rt.alloc(), 256).expect(&rt, "memory");
-    let piece =
-        b"< echo >< interfaces >< rawmode >< interfaces >< open name-of-can-015 >< echo >";
+    let piece = b"< echo >< interfaces >< rawmode >< interfaces >< open name-of-can-015 >< echo >";
     says(&rt, &mut session, piece, 0, &mut port, want);
 }
 

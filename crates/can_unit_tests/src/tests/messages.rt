@@ -399,10 +399,7 @@ fn answers_are_written(rt: HostRuntime) {
             Answer::Refused(Cause::from(Refusal::FdOff)),
             b"< error fd frames off >",
         ),
-        (
-            Answer::Sent(u64::MAX),
-            b"< ack 18446744073709551615 >",
-        ),
+        (Answer::Sent(u64::MAX), b"< ack 18446744073709551615 >"),
         (Answer::Faults(0), b"< faults 0 >"),
         (Answer::Faults(64), b"< faults 64 >"),
         (Answer::Refused(Cause::BadRule), b"< error bad rule >"),
