@@ -16,6 +16,7 @@ mod peers;
 mod ports;
 mod restarts;
 mod rows;
+mod rules;
 mod statuses;
 
 use can_attempt::AckMode;

@@ -11,6 +11,7 @@ mod passes;
 mod restarts;
 mod rests;
 mod rolls;
+mod rules;
 mod threads;
 mod twins;
 mod waits;
@@ -20,7 +21,7 @@ use can_bus::{
     Attempt, BusConfig, Closed, Event, Journaled, Opt, Received, Reply, RingBus, SocketId,
 };
 use can_fault::{FaultSource, Script, Verdict};
-use can_frame::{CanId, Frame, Iface, IfaceSet, Moment};
+use can_frame::{CanId, Frame, Iface, IfaceSet, Moment, Names};
 use can_meter::{Gauge, MeterName, Status};
 use can_roll::RollName;
 use can_station::{Blanks, Gate, Pass, Settled, Station, StationRefusal};

@@ -4,6 +4,7 @@ ghost use Rattle.std.specs.Prelude.{◌≡◌};
 
 use super::twins::{PLAIN, RESTARTING, Run, are_answered_alike, busy, faults, run_beside};
 use super::*;
+use can_attempt::Class;
 use can_bus::{BusFault, LongRingBus, PackedRecord, Record, Refusal};
 use can_fault::Perfect;
 use can_station::{Block, Open, Wake};
@@ -20,6 +21,11 @@ const NO_PLACE: StationRefusal = StationRefusal::Bus(Refusal::NoMemory);
 
 /// How many entries a short tail holds.
 const SHORT: u32 = 4;
+
+/// So long nothing may happen that has to wait.
+fn pause<C: Clock>(clock: &C) {
+    thread::sleep(clock, Duration::from_millis(10));
+}
 
 fn made_long<N: RollName + MeterName, F: FaultSource + Drop, R: Abort>(
     rt: &R,
@@ -219,6 +225,166 @@ fn finds_no_place<N: RollName + MeterName, R: Wait + Abort>(rt: &R, alloc: Globa
     takes_block(&caller, 7, 0);
 }
 
+/// Two sends in one hold of the lock, and a step that finds no place. Returns how many rules are left then.
+fn step_held<N: RollName + MeterName, R: Wait + Abort>(
+    caller: &mut Party<'_, N, R>,
+    socket: SocketId,
+) -> usize {
+    let rt = caller.rt;
+    let mut hold = caller.station.lock(rt);
+    for _ in 0..2 {
+        let send = Event::Send(socket, frame(rt, 0x123));
+        assert!(rt; hold.call(caller.alloc, &mut caller.pass, send).is_ok());
+    }
+    let stepped = hold.step(caller.alloc, &mut caller.pass, moment(rt, 1));
+    assert!(rt; stepped == Err(NO_PLACE));
+    hold.rules()
+}
+
+/// A step that finds no place asks nobody: the rule is left, and the next step has its verdict.
+fn keeps_its_rules<N: RollName + MeterName, R: Wait + Abort>(rt: &R, alloc: Global, blanks: Blanks)
+    requires { (blanks.roll ≡ N.roll 0) × (blanks.meter ≡ N.meter 0) }
+{
+    let station = made_short::<N, _>(rt, alloc, blanks);
+    let mut caller = entered(rt, alloc, &station);
+    let Ok(names) = Names::read(alloc, "can0,can1") else {
+        panic!(rt; "no names");
+    };
+    assert!(rt; station.inject(rt, b"next 1 lastbit", &names).is_ok());
+    let socket = caller.open(0, 4);
+    caller.sends(socket, 0x123, 0);
+    assert!(rt; step_held(&mut caller, socket) == 1);
+    takes_block(&caller, 0, 4);
+    let Ok(Attempt::Tried(tried)) = caller.step(1) else {
+        panic!(rt; "no frame");
+    };
+    assert!(rt; tried.class == Class::LastBit && station.rules(rt) == 0);
+}
+
+#[test]
+fn a_step_without_a_place_counts_for_no_rule(rt: HostRuntime) -> Result<(), Fail> {
+    let blanks = Blanks::new(rt.alloc(), 2)?;
+    keeps_its_rules::<Brand, _>(&rt, rt.alloc(), blanks);
+    Ok(())
+}
+
+/// Sends eight frames, and counts them.
+fn sends_eight<N: RollName + MeterName, R: Wait + Abort>(
+    mut caller: Party<'_, N, R>,
+    socket: SocketId,
+    sent: &AtomicU64,
+) -> Pass<N> {
+    for number in 0..8 {
+        caller.sends(socket, 0x123, number);
+        sent.store(number + 1, Ordering::SeqCst);
+    }
+    caller.leave()
+}
+
+/// Takes blocks of three entries twice, each time once the sender waits, and sees it go on to its end.
+fn takes_twice<N: RollName + MeterName, R: Wait + Abort + Clock>(
+    taker: Party<'_, N, R>,
+    sent: &AtomicU64,
+) -> Pass<N> {
+    lets_some_by(&taker, sent, 2);
+    takes_block(&taker, 0, 3);
+    lets_some_by(&taker, sent, 5);
+    takes_block(&taker, 3, 3);
+    lets_some_by(&taker, sent, 8);
+    taker.leave()
+}
+
+/// So many frames are sent, and no more until a block is taken. A wait for more entries than the tail holds ends then.
+fn lets_some_by<N: RollName + MeterName, R: Wait + Abort + Clock>(
+    taker: &Party<'_, N, R>,
+    sent: &AtomicU64,
+    count: u64,
+) {
+    let (rt, station) = (taker.rt, taker.station);
+    assert!(rt; station.wait_entries(rt, 100, Duration::from_secs(100)) == Wake::Ready);
+    assert!(rt; reaches(rt, sent, count));
+    pause(rt);
+    assert!(rt; sent.load(Ordering::SeqCst) == count);
+}
+
+/// A call waits while the tail has three entries, and goes on once they are taken.
+fn waits_for_places<
+    N: RollName + MeterName + Send + Sync,
+    R: Threads + Wait + Abort + Clock + Sync,
+>(rt: &R, alloc: Global, blanks: Blanks)
+    requires { (blanks.roll ≡ N.roll 0) × (blanks.meter ≡ N.meter 0) }
+{
+    let station = made_short::<N, _>(rt, alloc, blanks);
+    let mut caller = entered(rt, alloc, &station);
+    let taker = entered(rt, alloc, &station);
+    let socket = caller.open(0, 4);
+    let sent = AtomicU64::new(0);
+    let (pass, other) = join(
+        rt,
+        || sends_eight(caller, socket, &sent),
+        || takes_twice(taker, &sent),
+    );
+    let passes = two(rt, alloc, pass, other);
+    let settled = settled(rt, station, passes, Vec::new(alloc));
+    assert!(rt; settled.history.handed() == 6 && settled.history.entries().len() == 3);
+}
+
+/// A driver takes the lock for its step, and sets a flag.
+fn drives_once<N: RollName + MeterName, R: Wait + Abort>(
+    mut caller: Party<'_, N, R>,
+    driven: &AtomicU64,
+) -> Pass<N> {
+    let rt = caller.rt;
+    let Some(mut hold) = caller.station.hold_work(rt) else {
+        panic!(rt; "no work");
+    };
+    driven.store(1, Ordering::SeqCst);
+    let tried = hold.step(caller.alloc, &mut caller.pass, moment(rt, 1));
+    assert!(rt; matches!(tried, Ok(Attempt::Tried(_))));
+    drop(hold);
+    caller.leave()
+}
+
+/// Takes a block once the driver waits, and sees it go on.
+fn lets_drive<'s, N: RollName + MeterName, R: Wait + Abort + Clock>(
+    taker: Party<'s, N, R>,
+    driven: &AtomicU64,
+) -> Party<'s, N, R> {
+    let rt = taker.rt;
+    pause(rt);
+    assert!(rt; driven.load(Ordering::SeqCst) == 0);
+    takes_block(&taker, 0, 3);
+    assert!(rt; reaches(rt, driven, 1));
+    taker
+}
+
+/// A driver waits for places as well, but not where there is no work and the station was stopped.
+fn driver_waits<N: RollName + MeterName + Send + Sync, R: Threads + Wait + Abort + Clock + Sync>(
+    rt: &R,
+    alloc: Global,
+    blanks: Blanks,
+)
+    requires { (blanks.roll ≡ N.roll 0) × (blanks.meter ≡ N.meter 0) }
+{
+    let station = made_short::<N, _>(rt, alloc, blanks);
+    let mut caller = entered(rt, alloc, &station);
+    let driver = entered(rt, alloc, &station);
+    let socket = caller.open(0, 4);
+    assert!(rt; caller.open(1, 4) == SocketId(1));
+    caller.sends(socket, 0x123, 0);
+    let driven = AtomicU64::new(0);
+    let (_, mut caller) = join(
+        rt,
+        || drives_once(driver, &driven),
+        || lets_drive(caller, &driven),
+    );
+    assert!(rt; matches!(caller.receive(SocketId(1)), Ok(Some(_))));
+    assert!(rt; caller.set_option(socket, Opt::Join(true)).is_ok());
+    station.stop(rt);
+    assert!(rt; station.hold_work(rt).is_none());
+    takes_block(&caller, 3, 3);
+}
+
 /// Once nobody takes entries any more no call waits for a place, and nobody for entries.
 fn goes_on_to_the_end<N: RollName + MeterName, R: Wait + Abort + Clock>(
     rt: &R,
@@ -265,6 +431,20 @@ fn limited(limit: u32) -> BusConfig {
 fn a_hold_finds_no_place_in_a_full_tail(rt: HostRuntime) -> Result<(), Fail> {
     let blanks = Blanks::new(rt.alloc(), 2)?;
     finds_no_place::<Brand, _>(&rt, rt.alloc(), blanks);
+    Ok(())
+}
+
+#[test]
+fn a_call_waits_until_a_block_is_taken(rt: HostRuntime) -> Result<(), Fail> {
+    let blanks = Blanks::new(rt.alloc(), 2)?;
+    waits_for_places::<Brand, _>(&rt, rt.alloc(), blanks);
+    Ok(())
+}
+
+#[test]
+fn a_driver_waits_until_a_block_is_taken(rt: HostRuntime) -> Result<(), Fail> {
+    let blanks = Blanks::new(rt.alloc(), 2)?;
+    driver_waits::<Brand, _>(&rt, rt.alloc(), blanks);
     Ok(())
 }
 
