@@ -1,3 +1,3 @@
 pub mod Rooms
-pub mod Scribing
+pub mod Keeping
 pub mod Batching

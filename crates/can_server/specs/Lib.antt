@@ -3,4 +3,4 @@ pub mod Driving
 pub mod Returning
 pub mod Openings
 pub mod Batches
-pub mod Scribing
+pub mod Keeping

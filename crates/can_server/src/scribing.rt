@@ -2,7 +2,7 @@
 ghost use Rattle.std.specs.Prelude.{◌≡◌, length, IfOk};
 ghost use Rattle.can_bus.specs.Long.{HasTail};
 ghost use Rattle.can_station.specs.Passes.{InSome};
-ghost use Rattle.can_server.specs.Scribing.{KeepsAll};
+ghost use Rattle.can_server.specs.Keeping.{KeepsAll};
 
 use can_bus::LongRingBus;
 use can_fault::FaultSource;

@@ -34,6 +34,6 @@ returns-clause-served g c = λ whole.
       configured = served-configured _ _ _ _ c.in_ok-benches.ensures.made c.in_ok-settled.ensures.configured;
       legal = c.in_ok-settled.ensures.legal;
       heard = c.in_ok-settled.ensures.listening.0;
-      address = c.in_ok-settled.ensures.listening.1.0;
-      wrote = Appends-trans _ _ _ _ _ c.in_ok-settled.ensures.listening.1.1 all;
+      address = c.in_ok-settled.ensures.listening.1;
+      wrote = Appends-trans _ _ _ _ _ c.in_ok-settled.ensures.listening.2 all;
     }

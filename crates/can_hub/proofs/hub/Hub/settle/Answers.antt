@@ -37,7 +37,7 @@ loop-wire-init g c =
 pub returns-in_default-settle-clause-refused : goal.returns-in_default-settle-clause-refused
 returns-in_default-settle-clause-refused g c =
     let before = c.loop-wire.invariant.0 in
-    let i = c.loop-wire.invariant.1.1 in
+    let i = c.loop-wire.invariant.2 in
     let own = c.in-Some-next.own in
     let done = c.loop-wire.settled.items in
     let numbered = subst (λ (ws : List BusSeen). NumberedFrom (length done) ws) c.in-Some.ensures.steps.0 i.numbered in
@@ -60,8 +60,8 @@ returns-in_default-settle-clause-refused g c =
 pub loop-wire-preserved : goal.loop-wire-preserved
 loop-wire-preserved g c =
     let before = c.loop-wire.invariant.0 in
-    let gone = c.loop-wire.invariant.1.0 in
-    let i = c.loop-wire.invariant.1.1 in
+    let gone = c.loop-wire.invariant.1 in
+    let i = c.loop-wire.invariant.2 in
     let own = c.in-Some-next.own in
     let done = c.loop-wire.settled.items in
     let new = c.push_reserved.new.self.items in
@@ -97,15 +97,15 @@ loop-wire-preserved g c =
 pub returns-clause-settled : goal.returns-clause-settled
 returns-clause-settled g c =
     let before = c.loop-wire.invariant.0 in
-    let i = c.loop-wire.invariant.1.1 in
+    let i = c.loop-wire.invariant.2 in
     let none = emptied (into_iter_items c.loop-wire.lists) (omega (arith, c.in-None.ensures.steps.0, i.same, i.passes)) in
     let all : before ≡ c.args.passes.items = sym (append-nil before) ∙ ap (λ (r : List (Vec PassSeen Global)). before ++ r) (sym none) ∙ i.lists in
     subst (λ (ps : List (Vec PassSeen Global)). AllSettleIn g.B.Journaled.left ps c.loop-wire.settled.items) all i.settled
 
 pub returns-clause-configured : goal.returns-clause-configured
 returns-clause-configured g c =
-    let gone = c.loop-wire.invariant.1.0 in
-    let i = c.loop-wire.invariant.1.1 in
+    let gone = c.loop-wire.invariant.1 in
+    let i = c.loop-wire.invariant.2 in
     let none = emptied (into_iter_items c.loop-wire.wire-iterator) (omega (arith, c.in-None.ensures.steps.0, i.wires)) in
     let all : gone ≡ c.args.self = sym (append-nil gone) ∙ ap (λ (r : List BusSeen). gone ++ r) (sym none) ∙ i.buses in
     subst (λ (bs : List BusSeen). AllConfigured g.B.Journaled.left bs c.loop-wire.settled.items) all i.configured

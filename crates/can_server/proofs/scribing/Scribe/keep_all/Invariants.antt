@@ -1,6 +1,6 @@
 use Rattle.std.proofs.Common.{◌≡◌, List}
 use Rattle.can_event.specs.declared.entry.Entry.{Entry}
-use Rattle.can_server.specs.Scribing.{KeepsBlocks, count_in}
+use Rattle.can_server.specs.Keeping.{KeepsBlocks, count_in}
 use Rattle.can_server.proofs.scribing.Scribe.keep_all.Given as goal
 
 abbrev pub invariant-loop : goal.invariant-loop
