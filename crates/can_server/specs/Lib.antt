@@ -3,4 +3,3 @@ pub mod Driving
 pub mod Returning
 pub mod Openings
 pub mod Batches
-pub mod Keeping

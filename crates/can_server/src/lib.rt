@@ -5,13 +5,10 @@
 //! an interface has a frame to send or counts towards its restart. At the end all passes are handed back, for the hub
 //! to settle.
 //!
-//! Over buses of long runs [`serve_long`] has a thread more for each bus, a [`Scribe`], which takes the entries of the bus in
-//! blocks and gives them to a [`Keeper`] of its host.
-//!
 //! Of the threads it is proved that one list of passes is handed back for each bus, and that a server that is closed
 //! lets nobody in ([`Guests`]). The sessions are can_dialog's, each with a pass of its own; what one says, and the texts
 //! of its items, go out in order, each once ([`Batch`]). Which first bytes of a connection are a request of HTTP, which is
-//! closed, is [`FirstBytes`]. A keeper is given blocks that follow one another. Not promised: that a peer gets anything, how long anybody waits, that no two wait for each
+//! closed, is [`FirstBytes`]. Not promised: that a peer gets anything, how long anybody waits, that no two wait for each
 //! other.
 #![tactic(auto)]
 
@@ -24,7 +21,6 @@ pub mod guests;
 pub mod notice;
 pub mod opening;
 mod returned;
-pub mod scribing;
 mod server;
 pub mod serving;
 mod sessions;
@@ -37,5 +33,4 @@ pub use door::{Door, Listener};
 pub use guests::{Guests, NotAdmitted};
 pub use notice::Notice;
 pub use opening::{FirstBytes, Opening};
-pub use scribing::{Keeper, Scribe};
-pub use serving::{Clock, serve, serve_long};
+pub use serving::{Clock, serve};

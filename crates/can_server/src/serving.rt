@@ -4,9 +4,8 @@ use crate::door::Door;
 use crate::guests::Guests;
 use crate::notice::Notice;
 use crate::returned::Returned;
-use crate::scribing::{Keeper, Scribe};
 use crate::server::Server;
-use can_bus::{Journaled, LongEnd, LongRingBus};
+use can_bus::Journaled;
 use can_fault::FaultSource;
 use can_frame::Moment;
 use can_hub::Hub;
@@ -18,7 +17,7 @@ use std::os::unix::net::UnixStream;
 use std::sync::atomic::AtomicBool;
 use std::sync::{Mutex, Wait};
 use std::thread::Threads;
-use std::{thread, time};
+use std::time;
 
 /// The most passes of a bus.
 const MOST_PASSES: u32 = 4096;
@@ -101,46 +100,6 @@ pub fn serve<
     drop(server);
     served?;
     Ok(returned.into_inner().into_lists(hub.count()))
-}
-
-/// Serves as `serve` does, over the buses of long runs, each of which has a scribe.
-///
-/// The scribes go on until the threads of `serve` are over, and then give their keepers the last entries. `AllocError` as by
-/// `serve`; then they are over, too.
-pub fn serve_long<
-    N: RollName + MeterName + Send + Sync,
-    F: FaultSource + Drop + Send,
-    G: Gate + Drop + Send + Sync,
-    C: Clock + Sync,
-    K: Keeper + Drop + Send,
-    R: Threads + Wait + time::Clock + Sync,
->(
-    rt: &R,
-    alloc: Global,
-    hub: &Hub<N, F, G, LongRingBus, LongEnd>,
-    doors: &[Door],
-    host: &C,
-    until: Option<&UnixStream>,
-    scribes: &mut [Scribe<K>],
-) -> Result<Vec<Vec<Pass<N>>>, AllocError>
-    requires { length scribes.old ≡ length hub.now }
-    ensures { IfOk result (λ passes. length passes.items ≡ length hub.now) }
-{
-    thread::scope(thread::scope_env(), rt, |scope| {
-        let mut is_started = true;
-        for (bus, scribe) in scribes.iter_mut().enumerate() {
-            let station = hub.station(bus);
-            is_started &= scope.spawn(move || scribe.keep_all(rt, station)).is_ok();
-        }
-        let served = if is_started {
-            serve(rt, alloc, hub, doors, host, until)
-        } else {
-            hub.stop_all(rt);
-            Err(AllocError)
-        };
-        hub.end_entries(rt);
-        served
-    })
 }
 
 /// The most passes that the sessions of these doors and a driver take of one bus.

@@ -10,7 +10,6 @@ mod held;
 mod hubs;
 mod limits;
 mod local_clients;
-mod long_servers;
 mod notices;
 mod peers;
 mod ports;
