@@ -1,9 +1,9 @@
 -- Items that are received one after another, and their texts.
-use Rattle.std.proofs.Common.{◌≡◌, ◌≢◌, ℕ, zero, suc, ◌+◌, ◌<◌, ◌≤◌, Bool, true, false, List, [], ◌∷◌, ◌++◌, length, take, drop, get_or, set, min, Option, refl, sym, ap, subst, ◌∙◌, append-nil, append_assoc, add-one, take-append-drop, inl, inr, arith}
+use Rattle.std.proofs.Common.{◌≡◌, ◌≢◌, ℕ, zero, suc, ◌+◌, ◌<◌, ◌≤◌, ◌==◌, Bool, true, false, List, [], ◌∷◌, ◌++◌, length, take, drop, get_or, set, min, Option, refl, sym, ap, subst, ◌∙◌, append-nil, append_assoc, add-one, take-append-drop, inl, inr, arith}
 use Rattle.std.specs.List.{flat_map}
 use Rattle.std.specs.Io.KnownBytes.{Appends}
 use Rattle.std.proofs.KnownBytes.{Appends-trans}
-use Rattle.std.proofs.lemmas.Bool.{cases_lt}
+use Rattle.std.proofs.lemmas.Bool.{eqb-false, eqb-true}
 use Rattle.std.proofs.lemmas.List.{take_more, take_more_set}
 use Rattle.std.proofs.lemmas.List.Concat.{flat_map-append}
 use Rattle.can_server.specs.declared.batch.Room.{Room}
@@ -49,35 +49,44 @@ module _ {P : Type 0} (step : P → (call : Call) → Reply call → P → Type 
         let plays : Plays step (delivery stage) mid q (text_of room) false = subst (λ (b : Bool). Plays step (delivery stage) mid q (text_of room) b) is received in
         (i, texts_of (take i rooms), mid, text_of room, low, given, plays, text_set rooms i room below)
 
-  module _ (q : P) (most items used : ℕ) (rooms seen : List Room) (same : seen ≡ rooms) (uses : used ≡ min most (items + 1)) (within : items ≤ most) (all : items ≡ most → Gives step most stage p (texts_of (take most rooms)) q true) (few : items < most → Gives step most stage p (texts_of (take (items + 1) rooms)) q false) where
+  module _ (q : P) (most items used : ℕ) (rooms front : List Room) (same : front ≡ take used rooms) (uses : used ≡ min most (items + 1)) (within : items ≤ most) (all : items ≡ most → Gives step most stage p (texts_of (take most rooms)) q true) (few : items < most → Gives step most stage p (texts_of (take (items + 1) rooms)) q false) where
     -- the rooms that were used have the texts of all items
-    pub used_all : items ≡ most → Gives step most stage p (texts_of (take used seen)) q true
+    used_all : items ≡ most → Gives step most stage p (texts_of front) q true
     used_all is =
         let n : most ≡ used = omega (arith, uses, is) in
-        subst (λ (rs : List Room). Gives step most stage p (texts_of (take used rs)) q true) (sym same) (subst (λ (k : ℕ). Gives step most stage p (texts_of (take k rooms)) q true) n (all is))
+        subst (λ (rs : List Room). Gives step most stage p (texts_of rs) q true) (sym same) (subst (λ (k : ℕ). Gives step most stage p (texts_of (take k rooms)) q true) n (all is))
 
     -- or also that of the receive that gave none
-    pub used_few : items < most → Gives step most stage p (texts_of (take used seen)) q false
+    used_few : items < most → Gives step most stage p (texts_of front) q false
     used_few low =
         let n : items + 1 ≡ used = omega (arith, uses, low) in
-        subst (λ (rs : List Room). Gives step most stage p (texts_of (take used rs)) q false) (sym same) (subst (λ (k : ℕ). Gives step most stage p (texts_of (take k rooms)) q false) n (few low))
+        subst (λ (rs : List Room). Gives step most stage p (texts_of rs) q false) (sym same) (subst (λ (k : ℕ). Gives step most stage p (texts_of (take k rooms)) q false) n (few low))
+
+    used_as : (is_all : Bool) → (is_all ≡ true → items ≡ most) → (is_all ≡ false → items < most) → Gives step most stage p (texts_of front) q is_all
+    used_as true full less = used_all (full refl)
+    used_as false full less = used_few (less refl)
+
+    -- whichever of the two it is
+    pub used_rooms : Gives step most stage p (texts_of front) q (items == most)
+    used_rooms = used_as (items == most) (λ e. eqb-true items most e) (λ e. (let other : items ≢ most = eqb-false items most e in omega (arith, other, within)))
+
+-- the first rooms are the same, whatever comes after them
+pub take_front : {X : Type 0} (n : ℕ) (xs ys : List X) → n ≤ length xs → take n (xs ++ ys) ≡ take n xs
+take_front zero xs ys le = refl
+take_front (suc n) [] ys le = absurd (omega (arith, le))
+take_front {X = X} (suc n) (x ∷ xs) ys le = ap (λ (l : List X). x ∷ l) (take_front n xs ys (omega (arith, le)))
 
 module _ {W : Type 0} (contents : W → Option (List ℕ)) (old : W) (rooms : List Room) where
   -- the texts of some rooms: those that a writer took, and those that wait for it
   abbrev pub Waits : ℕ → W → List ℕ → Type 0
   Waits i out text = (gone : List ℕ) × Appends (contents old) (contents out) gone × (gone ++ text ≡ texts_of (take i rooms))
 
-  -- the writer took them
-  pub gone_out : (i : ℕ) (out new : W) (text none : List ℕ) → Waits i out text → Appends (contents out) (contents new) text → none ≡ [] → Waits i new none
-  gone_out i out new text none (gone, took, is) more empty =
-      (gone ++ text, Appends-trans (contents old) (contents out) (contents new) gone text took more, ap (λ (t : List ℕ). (gone ++ text) ++ t) empty ∙ append-nil (gone ++ text) ∙ is)
-
-  -- it took the first of them
+  -- the writer took the first of them
   pub front_out : (i n : ℕ) (out new : W) (text rest : List ℕ) → Waits i out text → Appends (contents out) (contents new) (take n text) → rest ≡ drop n text → Waits i new rest
   front_out i n out new text rest (gone, took, is) more left = (
     gone ++ take n text,
     Appends-trans (contents old) (contents out) (contents new) gone (take n text) took more,
-    ap (λ (t : List ℕ). (gone ++ take n text) ++ t) left ∙ sym (append_assoc gone (take n text) (drop n text)) ∙ ap (λ (t : List ℕ). gone ++ t) (take-append-drop n text) ∙ is,
+    ap (λ (t : List ℕ). (gone ++ take n text) ++ t) left ∙ append_assoc gone (take n text) (drop n text) ∙ ap (λ (t : List ℕ). gone ++ t) (take-append-drop n text) ∙ is,
   )
 
   -- one text more waits

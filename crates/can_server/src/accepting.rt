@@ -4,7 +4,6 @@ use crate::guests::NotAdmitted;
 use crate::notice::Notice;
 use crate::server::Server;
 use crate::serving::Clock;
-use can_bus::Journaled;
 use can_fault::FaultSource;
 use can_frame::Moment;
 use can_hub::Tally;
@@ -54,9 +53,7 @@ impl<
     G: Gate + Drop + Send + Sync,
     C: Clock + Sync,
     R: Threads + Wait + time::Clock + Sync,
-    B: Journaled<Left = L> + Send,
-    L: Drop + Sync,
-> Server<'a, N, F, G, C, R, B, L> {
+> Server<'a, N, F, G, C, R> {
     /// Accepts as many connections as the door has sessions, each served by a thread of its own, closes the door and
     /// waits for their ends. It accepts no more once the server is closed.
     pub fn accept_all(&self, door: &Door) {
@@ -90,9 +87,7 @@ impl<
     G: Gate + Drop,
     C: Clock,
     R: Wait + time::Clock,
-    B: Journaled<Left = L>,
-    L: Drop,
-> Server<'a, N, F, G, C, R, B, L> {
+> Server<'a, N, F, G, C, R> {
     /// Waits at a door for the next connection, and takes it in. After one that could not be accepted the door rests, and
     /// tries again.
     fn next_guest(&self, door: &Door, session: u32) -> Next {

@@ -8,7 +8,7 @@ use crate::notice::Notice;
 use crate::server::Server;
 use crate::serving::Clock;
 use can_attempt::Class;
-use can_bus::{Attempt, Journaled};
+use can_bus::Attempt;
 use can_fault::FaultSource;
 use can_frame::{Iface, IfaceSet};
 use can_meter::MeterName;
@@ -41,9 +41,7 @@ impl<
     G: Gate + Drop,
     C: Clock,
     R: Wait + time::Clock,
-    B: Journaled<Left = L>,
-    L: Drop,
-> Server<'a, N, F, G, C, R, B, L> {
+> Server<'a, N, F, G, C, R> {
     /// Steps a bus while an interface has a frame to send or counts towards its restart, until its station is stopped,
     /// and hands the pass back. Then it reports a full record, and refused memory, to the host.
     pub fn drive(&self, bus: usize) {
@@ -94,7 +92,7 @@ impl<
 
     /// Steps a bus up to this many times in one hold of its lock, while an interface has a frame to send or counts towards
     /// its restart. The attempt in which an interface went bus off, or was restarted, is the last.
-    fn step_some(&self, mut hold: Hold<'_, N, F, G, B>, most: u32, pass: &mut Pass<N>) -> Stepped {
+    fn step_some(&self, mut hold: Hold<'_, N, F, G>, most: u32, pass: &mut Pass<N>) -> Stepped {
         for _ in 0..most {
             if !hold.has_work() {
                 break;

@@ -2,7 +2,6 @@ use crate::door::Door;
 use crate::guests::Guests;
 use crate::returned::Returned;
 use crate::serving::Clock;
-use can_bus::Journaled;
 use can_fault::FaultSource;
 use can_hub::Hub;
 use can_meter::MeterName;
@@ -19,19 +18,10 @@ use std::{thread, time};
 
 /// What all threads of a server share.
 #[derive(Drop)]
-pub struct Server<
-    'a,
-    N: RollName + MeterName,
-    F: FaultSource + Drop,
-    G: Gate + Drop,
-    C,
-    R,
-    B: Journaled<Left = L>,
-    L: Drop,
-> {
+pub struct Server<'a, N: RollName + MeterName, F: FaultSource + Drop, G: Gate + Drop, C, R> {
     pub rt: &'a R,
     pub alloc: Global,
-    pub hub: &'a Hub<N, F, G, B, L>,
+    pub hub: &'a Hub<N, F, G>,
     pub host: &'a C,
     pub guests: &'a Mutex<Guests>,
     pub returned: &'a Mutex<Returned<N>>,
@@ -46,9 +36,7 @@ impl<
     G: Gate + Drop + Send + Sync,
     C: Clock + Sync,
     R: Threads + Wait + time::Clock + Sync,
-    B: Journaled<Left = L> + Send,
-    L: Drop + Sync,
-> Server<'a, N, F, G, C, R, B, L> {
+> Server<'a, N, F, G, C, R> {
     /// Serves to the end: the drivers run until all sessions are over.
     pub fn run(&self, doors: &[Door], until: Option<&UnixStream>) -> Result<(), AllocError> {
         thread::scope(thread::scope_env(), self.rt, |scope| {
@@ -93,9 +81,7 @@ impl<
     G: Gate + Drop,
     C: Clock,
     R: Wait + time::Clock,
-    B: Journaled<Left = L>,
-    L: Drop,
-> Server<'a, N, F, G, C, R, B, L> {
+> Server<'a, N, F, G, C, R> {
     /// Ends all other threads: no session is at work any more.
     fn finish(&self, until: Option<&UnixStream>) {
         let _ = self.guests.lock(self.rt).close();

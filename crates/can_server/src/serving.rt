@@ -5,7 +5,6 @@ use crate::guests::Guests;
 use crate::notice::Notice;
 use crate::returned::Returned;
 use crate::server::Server;
-use can_bus::Journaled;
 use can_fault::FaultSource;
 use can_frame::Moment;
 use can_hub::Hub;
@@ -67,12 +66,10 @@ pub fn serve<
     G: Gate + Drop + Send + Sync,
     C: Clock + Sync,
     R: Threads + Wait + time::Clock + Sync,
-    B: Journaled<Left = L> + Send,
-    L: Drop + Sync,
 >(
     rt: &R,
     alloc: Global,
-    hub: &Hub<N, F, G, B, L>,
+    hub: &Hub<N, F, G>,
     doors: &[Door],
     host: &C,
     until: Option<&UnixStream>,

@@ -4,7 +4,6 @@ use crate::notice::Notice;
 use crate::server::Server;
 use crate::serving::Clock;
 use crate::talk::{Place, Talk};
-use can_bus::Journaled;
 use can_fault::FaultSource;
 use can_frame::Iface;
 use can_hub::Tally;
@@ -42,9 +41,7 @@ impl<
     G: Gate + Drop + Send + Sync,
     C: Clock + Sync,
     R: Threads + Wait + time::Clock + Sync,
-    B: Journaled<Left = L> + Send,
-    L: Drop + Sync,
-> Server<'a, N, F, G, C, R, B, L> {
+> Server<'a, N, F, G, C, R> {
     /// Runs a session to its end, and hands its pass back. Its place is free before the client sees the end.
     pub fn run_session(&self, place: usize, session: u32) {
         let Some(conn) = self.guests.lock(self.rt).conn(place) else {
@@ -83,7 +80,7 @@ impl<
 
     /// Reads what the client says. Once the session is raw, its guest keeps its place, and a thread delivers its items
     /// beside.
-    fn hear_all(&self, talk: &Mutex<Talk<'_, N, F, G, R, B, L>>, admitted: &Admitted) {
+    fn hear_all(&self, talk: &Mutex<Talk<'_, N, F, G, R>>, admitted: &Admitted) {
         let conn = &*admitted.conn;
         let Some(place) = self.hear_until_raw(talk, conn) else {
             self.tell_request(talk, admitted.session);
@@ -112,15 +109,13 @@ impl<
     G: Gate + Drop,
     C: Clock,
     R: Wait + time::Clock,
-    B: Journaled<Left = L>,
-    L: Drop,
-> Server<'a, N, F, G, C, R, B, L> {
+> Server<'a, N, F, G, C, R> {
     /// Reads to the end, if the items are delivered beside, and ends the session.
     fn hear_out(
         &self,
-        talk: &Mutex<Talk<'_, N, F, G, R, B, L>>,
+        talk: &Mutex<Talk<'_, N, F, G, R>>,
         conn: &Conn,
-        place: &Place<'_, N, F, G, B>,
+        place: &Place<'_, N, F, G>,
         delivers: bool,
     ) {
         if delivers {
@@ -133,9 +128,9 @@ impl<
     /// Reads until the session is raw: where its socket is, or none if it ended before.
     fn hear_until_raw<'t>(
         &self,
-        talk: &Mutex<Talk<'t, N, F, G, R, B, L>>,
+        talk: &Mutex<Talk<'t, N, F, G, R>>,
         conn: &Conn,
-    ) -> Option<Place<'t, N, F, G, B>> {
+    ) -> Option<Place<'t, N, F, G>> {
         for _ in self.rt.forever() {
             match self.hear(talk, conn) {
                 Heard::More => {}
@@ -152,7 +147,7 @@ impl<
     }
 
     /// Reads until the session is over, or the client is gone. A write to a client that is gone ends here.
-    fn hear_on(&self, talk: &Mutex<Talk<'_, N, F, G, R, B, L>>, conn: &Conn) {
+    fn hear_on(&self, talk: &Mutex<Talk<'_, N, F, G, R>>, conn: &Conn) {
         for _ in self.rt.forever() {
             match self.hear(talk, conn) {
                 Heard::More => {}
@@ -167,14 +162,14 @@ impl<
 
     /// Ends the waits of a station whose record is full: no call changes it any more, not even one that closes a socket.
     /// Its driver ends, and reports that to the host.
-    fn stop_full(&self, station: &Station<N, F, G, B>) {
+    fn stop_full(&self, station: &Station<N, F, G>) {
         if station.is_full() {
             station.stop(self.rt);
         }
     }
 
     /// Reports to the host that a session's client sent a request of HTTP, if it did.
-    fn tell_request(&self, talk: &Mutex<Talk<'_, N, F, G, R, B, L>>, session: u32) {
+    fn tell_request(&self, talk: &Mutex<Talk<'_, N, F, G, R>>, session: u32) {
         let is_request = talk.lock(self.rt).is_request();
         if is_request {
             self.host.tell(Notice::Requested { session });
@@ -182,7 +177,7 @@ impl<
     }
 
     /// Reports to the host that a session has restarted an interface, if it has.
-    fn tell_restart(&self, station: &Station<N, F, G, B>, restarted: Option<Iface>) {
+    fn tell_restart(&self, station: &Station<N, F, G>, restarted: Option<Iface>) {
         if let Some(iface) = restarted {
             let bus = usize::from(station.number());
             self.host.tell(Notice::Restarted { bus, iface });
@@ -190,7 +185,7 @@ impl<
     }
 
     /// Reads one piece, and carries it out.
-    fn hear(&self, talk: &Mutex<Talk<'_, N, F, G, R, B, L>>, conn: &Conn) -> Heard {
+    fn hear(&self, talk: &Mutex<Talk<'_, N, F, G, R>>, conn: &Conn) -> Heard {
         let mut piece = [0_u8; PIECE];
         let count = match conn.read(&mut piece) {
             Ok(0) | Err(_) => return Heard::Gone,
@@ -216,7 +211,7 @@ impl<
     /// Gives the client the items that wait, of which there are `waiting`. Returns whether there can be more.
     fn deliver_waiting(
         &self,
-        talk: &Mutex<Talk<'_, N, F, G, R, B, L>>,
+        talk: &Mutex<Talk<'_, N, F, G, R>>,
         conn: &Conn,
         waiting: u64,
     ) -> bool {
@@ -237,9 +232,9 @@ impl<
     /// are refused for another reason, as want of memory, the session ends.
     fn deliver_all(
         &self,
-        talk: &Mutex<Talk<'_, N, F, G, R, B, L>>,
+        talk: &Mutex<Talk<'_, N, F, G, R>>,
         conn: &Conn,
-        place: &Place<'_, N, F, G, B>,
+        place: &Place<'_, N, F, G>,
     ) {
         thread::sleep(self.rt, Duration::from_millis(BEFORE_ITEMS_MS));
         for _ in self.rt.forever() {

@@ -3,7 +3,7 @@ ghost use Rattle.std.specs.Prelude.{◌≡◌};
 use crate::batch::Batch;
 use crate::conn::{Conn, Out};
 use crate::opening::{FirstBytes, Opening};
-use can_bus::{Journaled, SocketId};
+use can_bus::SocketId;
 use can_dialog::{Session, Stage};
 use can_fault::FaultSource;
 use can_frame::{Iface, Moment};
@@ -16,47 +16,37 @@ use std::sync::Wait;
 
 /// Where the socket of a session in raw mode is, and of which interface it is one.
 #[derive(Drop)]
-pub struct Place<'a, N: RollName + MeterName, F: FaultSource + Drop, G: Gate + Drop, B: Journaled> {
-    pub station: &'a Station<N, F, G, B>,
+pub struct Place<'a, N: RollName + MeterName, F: FaultSource + Drop, G: Gate + Drop> {
+    pub station: &'a Station<N, F, G>,
     pub iface: Iface,
     pub socket: SocketId,
 }
 
 /// A session with its port: what its two threads share under a lock.
 #[derive(Drop)]
-pub struct Talk<
-    'a,
-    N: RollName + MeterName,
-    F: FaultSource + Drop,
-    G: Gate + Drop,
-    R: Wait,
-    B: Journaled<Left = L>,
-    L: Drop,
-> {
+pub struct Talk<'a, N: RollName + MeterName, F: FaultSource + Drop, G: Gate + Drop, R: Wait> {
     session: Session,
-    port: PassPort<'a, N, F, G, R, B, L>,
+    port: PassPort<'a, N, F, G, R>,
     batch: Batch,
     /// How the connection begins, and the bytes that decide it.
     opening: Opening,
     first: FirstBytes,
 }
 
-impl<
+impl<'a, N: RollName + MeterName, F: FaultSource + Drop, G: Gate + Drop, R: Wait> Talk<
     'a,
-    N: RollName + MeterName,
-    F: FaultSource + Drop,
-    G: Gate + Drop,
-    R: Wait,
-    B: Journaled<Left = L>,
-    L: Drop,
-> Talk<'a, N, F, G, R, B, L> {
+    N,
+    F,
+    G,
+    R,
+> {
     /// A session that has just begun, which writes at most this many bytes of items at once.
     pub fn new(
         rt: &'a R,
         alloc: Global,
-        hub: &'a Hub<N, F, G, B, L>,
+        hub: &'a Hub<N, F, G>,
         most_bytes: usize,
-    ) -> Result<Talk<'a, N, F, G, R, B, L>, AllocError> {
+    ) -> Result<Talk<'a, N, F, G, R>, AllocError> {
         Ok(Talk {
             session: Session::new(alloc, 0)?,
             port: PassPort::new(rt, alloc, hub),
@@ -139,12 +129,12 @@ impl<
     }
 
     /// The station that was entered.
-    pub fn station(&self) -> Option<&'a Station<N, F, G, B>> {
+    pub fn station(&self) -> Option<&'a Station<N, F, G>> {
         self.port.station()
     }
 
     /// Where the socket is, in raw mode.
-    pub fn place(&self) -> Option<Place<'a, N, F, G, B>> {
+    pub fn place(&self) -> Option<Place<'a, N, F, G>> {
         match (self.session.stage(), self.port.station()) {
             (Stage::Raw(raw), Some(station)) => Some(Place {
                 station,
