@@ -338,6 +338,8 @@ def test_files_of_one_record(tried):
     command = [tried.program, "audit", first, tried.folder / "3.rec"]
     done = subprocess.run(command, capture_output=True, text=True, timeout=WAIT, check=False)
     assert done.returncode == 1 and done.stderr.startswith(f"canbusd: cannot open {tried.folder / '3.rec'}\n")
+    first.write_bytes(data[:100])
+    second.write_bytes(data[100:])
     command = [tried.program, "audit", second, first]
     done = subprocess.run(command, capture_output=True, text=True, timeout=WAIT, check=False)
     assert done.returncode == 1 and done.stderr.startswith("canbusd: ")

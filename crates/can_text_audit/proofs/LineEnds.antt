@@ -126,6 +126,10 @@ spell_ends : (w : List ℕ) (ws : List (List ℕ)) (rest : List ℕ) → EndsNoL
 spell_ends w [] rest h = line_ends w rest h
 spell_ends w (v ∷ vs) rest h = spell_ends v vs rest (All-tail (λ b. b ≢ 10) 32 (spell (v ∷ vs) rest) (behind_part w (32 ∷ spell (v ∷ vs) rest) h))
 
+words_end : (ws : List (List ℕ)) (rest : List ℕ) → ws ≢ [] → EndsNoLine (spell ws rest) → ⊥
+words_end [] rest some h = some refl
+words_end (w ∷ ws) rest some h = spell_ends w ws rest h
+
 first_ends : (v : Version) (rest : List ℕ) → EndsNoLine (first_line v ++ rest) → ⊥
 first_ends version.One rest h = line_ends (codes "canbus record 1") rest h
 first_ends version.Two rest h = line_ends (codes "canbus record 2") rest h
@@ -136,4 +140,4 @@ pub torn_first : (torn : List ℕ) → EndsNoLine torn → LacksFirst torn
 torn_first torn h v rest is = first_ends v rest (subst EndsNoLine is h)
 
 pub torn_bus : (v : Version) (torn : List ℕ) → EndsNoLine torn → LacksBus v torn
-torn_bus v torn h c more good is = spell_ends (codes "bus") _ more (subst EndsNoLine is h)
+torn_bus v torn h c more good is = words_end (bus_words v c) more (λ none. absurd cc) (subst EndsNoLine is h)
